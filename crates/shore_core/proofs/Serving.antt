@@ -100,8 +100,7 @@ no_force_of_device n is = cc
 -- what refuses a session whose transaction may do no more than end a rollback
 module _ {T V : Type 0} {G : tail.Ghosts T} {H : disk.Ghosts V} where
   pub not_open_aside : (core : Core T V G H) (session : ℕ) (f : Fault) → IsNotOpen core session f → IsAside f
-  not_open_aside core session f (inl none) = as_aside f fault.NoTransaction none.0 tt
-  not_open_aside core session f (inr must) = as_aside f fault.MustAbort must.0 tt
+  not_open_aside core session f must = as_aside f fault.MustAbort must.0 tt
 
 -- ---- causes
 

@@ -42,7 +42,7 @@ use Rattle.shore_types.specs.declared.ids.Rid.{Rid}
 use Rattle.shore_types.specs.declared.layout.TheConstants.{MAX_RECORD_BYTES}
 use Rattle.laws_lives.specs.Sessions.{SessionTxn}
 use Rattle.laws_lives.specs.Views.{IsAmong}
-use Rattle.shore_txn.specs.Transactions.{HasTxnOf, txns_in, undos_in}
+use Rattle.shore_txn.specs.Transactions.{txns_in, undos_in}
 use Rattle.shore_txn.specs.Txns.{as_session_txn, entries_of}
 use Rattle.shore_txn.specs.UndoEntries.{AreShort, image_of, images_of, number_behind}
 use Rattle.shore_txn.specs.declared.transactions.Transactions.{Transactions}
@@ -132,15 +132,6 @@ module _ (table : Transactions) (who : ℕ) (id : Rid) (bytes cost : ℕ) (r : L
       ∙ ap (λ n. record { txn = number_of next.own; previous = previous_of (number_of next.own) log; payload = Compensation next.entry.id next.entry.before n }) (undo_next_logged log next.own logged)
       ∙ ap (λ (x : Rid × Image). record { txn = number_of next.own; previous = previous_of (number_of next.own) log; payload = Compensation x.0 x.1 (next_to_undo (number_of next.own) log) }) (next_image a kept e among is images)
       ∙ ap (λ (b : SessionTxn). record { txn = b.txn; previous = previous_of b.txn log; payload = Compensation e.0 e.1 (next_to_undo b.txn log) }) (sym (next_own a among is))
-
--- the session's transaction is there still
-pub still_there : (table new : Transactions) {who : ℕ} {Becomes : Txn → Txn → Type 0} → ((before after : Txn) → Becomes before after → after.session ≡ before.session)
-    → OneBecomes who Becomes (txns_in table) (txns_in new) → HasTxnOf who new
-still_there table new same one = (
-  as_session_txn one.after,
-  among_map as_session_txn one.after (txns_in new) (subst (IsAmong one.after) (sym one.is) (among_middle one.newer one.older one.after)),
-  same one.before one.after one.becomes ∙ one.session,
-)
 
 pub earlier_undone : (table new : Transactions) (number : ℕ) → ((t : Txn) → IsAmong t (txns_in table) → last_of t < number) → {who lsn : ℕ} {rollback : Rollback} {e : UndoEntry}
     → OneBecomes who (IsAfterUndo lsn rollback e) (txns_in table) (txns_in new) → lsn ≡ number → (t : Txn) → IsAmong t (txns_in new) → last_of t < number + 1

@@ -14,9 +14,10 @@ use Rattle.shore_model.specs.declared.rollbacks.Rollback.{Rollback}
 use Rattle.laws_calls.specs.Rollbacks.{put_back}
 use Rattle.laws_calls.specs.States.{DoesNotWait, IsOfSession, State}
 use Rattle.shore_sessions.specs.Standing.{HasControl}
-use Rattle.shore_txn.specs.Transactions.{HasTxnOf, undos_in}
+use Rattle.shore_txn.specs.Transactions.{IsSeatIn, undos_in}
 use Rattle.shore_txn.specs.Txns.{as_session_txn, entries_of}
 use Rattle.shore_txn.specs.UndoEntries.{image_of}
+use Rattle.shore_txn.specs.declared.seat.Seat.{Seat}
 use Rattle.shore_txn.specs.declared.transactions.Transactions.{Transactions}
 use Rattle.shore_txn.specs.declared.txn.Txn.{Txn}
 use Rattle.shore_core.specs.declared.core_calls.Core.{Core}
@@ -44,14 +45,14 @@ module _ {T V : Type 0} {G : tail.Ghosts T} {H : disk.Ghosts V} where
   HasCount core session count = (s : State) → HasControl (control_of core) s → (a : SessionTxn) → IsOfSession s session a → length a.undo.images ≡ count
 
   -- the steps so far: each transaction of a safe state has come down by one image a step, and what else they keep
-  pub record IsRolling (old now : Core T V G H) (session : ℕ) (rollback : Rollback) (least counter : ℕ) : Type 0 where
-    pub come : has_failed old ≡ false → InEach (λ front disk before s store. ForRollback session rollback least s (λ a.
+  pub record IsRolling (old now : Core T V G H) (seat : Seat) (rollback : Rollback) (least counter : ℕ) : Type 0 where
+    pub come : has_failed old ≡ false → InEach (λ front disk before s store. ForRollback seat.session rollback least s (λ a.
         (mid : State) × IsDownTo s a rollback (length a.undo.images + least - counter) mid × CoreComesTo now front before store mid)) old
     pub from : least ≤ counter
     pub rewinds : Rewinds old now
     pub longer : last_of old ≤ last_of now
     pub told : durable_of old ≤ last_of old
-    pub there : HasTxnOf session (txns_of old) → HasTxnOf session (txns_of now)
+    pub seated : IsSeatIn seat (txns_of now)
     pub waits : waits_of now ≡ waits_of old
     pub keeps : Keeps old now
     pub leaves : MayLeave old now
@@ -61,8 +62,8 @@ module _ {T V : Type 0} {G : tail.Ghosts T} {H : disk.Ghosts V} where
   keeps_none : (core : Core T V G H) → Keeps core core
   keeps_none core = record { volume = record { geometry = refl; honest = refl; size = refl }; durable = refl; failed = refl; first = refl }
 
-  pub rolling_first : (core : Core T V G H) (session : ℕ) (rollback : Rollback) (least : ℕ) → durable_of core ≤ last_of core → IsRolling core core session rollback least least
-  rolling_first core session rollback least told = record {
+  pub rolling_first : (core : Core T V G H) (seat : Seat) (rollback : Rollback) (least : ℕ) → IsSeatIn seat (txns_of core) → durable_of core ≤ last_of core → IsRolling core core seat rollback least least
+  rolling_first core seat rollback least seated told = record {
     come = λ running front disk before s store is safe over a idle of may at within. (
       s,
       record { kept = a.undo.images; undone = []; images = sym (append-nil a.undo.images); left = omega arith; state = inl (refl, refl) },
@@ -72,7 +73,7 @@ module _ {T V : Type 0} {G : tail.Ghosts T} {H : disk.Ghosts V} where
     rewinds = rewinds_none core;
     longer = omega arith;
     told = told;
-    there = λ has. has;
+    seated = seated;
     waits = refl;
     keeps = keeps_none core;
     leaves = nothing_leaves core;
@@ -84,8 +85,8 @@ module _ {T V : Type 0} {G : tail.Ghosts T} {H : disk.Ghosts V} where
   StepPuts now new session rollback r = has_failed now ≡ false → InEach (λ front disk before s store. (a : SessionTxn) (kept : List (Rid × Image)) (e : Rid × Image) → IsOfSession s session a
       → a.undo.images ≡ kept ++ e ∷ [] → PutsBack new a kept e rollback r front before s store) now
 
-  module _ (old now new : Core T V G H) (session : ℕ) (rollback : Rollback) (least counter count : ℕ) (rolls : IsRolling old now session rollback least counter) (counts : HasCount old session count) (less : counter < count) where
-    on_come : StepPuts now new session rollback (Ok tt) → has_failed old ≡ false → InEach (λ front disk before s store. ForRollback session rollback least s (λ a.
+  module _ (old now new : Core T V G H) (seat : Seat) (rollback : Rollback) (least counter count : ℕ) (rolls : IsRolling old now seat rollback least counter) (counts : HasCount old seat.session count) (less : counter < count) where
+    on_come : StepPuts now new seat.session rollback (Ok tt) → has_failed old ≡ false → InEach (λ front disk before s store. ForRollback seat.session rollback least s (λ a.
         (mid : State) × IsDownTo s a rollback (length a.undo.images + least - (counter + 1)) mid × CoreComesTo new front before store mid)) old
     on_come puts running front disk before s store is safe over a idle of may at within =
         let many : length a.undo.images ≡ count = counts s is.beside.parts.stands a of in
@@ -94,7 +95,7 @@ module _ {T V : Type 0} {G : tail.Ghosts T} {H : disk.Ghosts V} where
         let m = length a.undo.images + least - (counter + 1) in
         let down = rolls.come running front disk before s store is safe over a idle of may at within in
         let comes = down.2 in
-        let here = goes_on_from (geometry_of old) s safe session a of (is.beside.parts.failed_is ∙ running) idle rollback may n down.0 (omega (arith, at, many, less, from)) down.1 in
+        let here = goes_on_from (geometry_of old) s safe seat.session a of (is.beside.parts.failed_is ∙ running) idle rollback may n down.0 (omega (arith, at, many, less, from)) down.1 in
         let split = split_last here.its.undo.images m (here.left ∙ omega (arith, many, less, from)) in
         let h = puts (rolls.keeps.failed ∙ running) front comes.left before down.0 comes.after comes.is_in (subst (λ (it : Geometry). IsSafe it down.0) (sym rolls.keeps.volume.geometry) here.stays_safe) comes.over
         here.its split.0 split.1 here.owned split.2 in
@@ -104,9 +105,9 @@ module _ {T V : Type 0} {G : tail.Ghosts T} {H : disk.Ghosts V} where
           comes_then now new front before down.0 later store comes h.1,
         )
 
-    pub rolls_on : StepPuts now new session rollback (Ok tt) → Rewinds now new → last_of now ≤ last_of new → (HasTxnOf session (txns_of now) → HasTxnOf session (txns_of new)) → waits_of new ≡ waits_of now → Keeps now new → MayLeave now new → faults_of new ≡ faults_of now
-        → IsRolling old new session rollback least (counter + 1)
-    rolls_on puts rewinds longer there waits keeps leaves faults =
+    pub rolls_on : StepPuts now new seat.session rollback (Ok tt) → Rewinds now new → last_of now ≤ last_of new → IsSeatIn seat (txns_of new) → waits_of new ≡ waits_of now → Keeps now new → MayLeave now new → faults_of new ≡ faults_of now
+        → IsRolling old new seat rollback least (counter + 1)
+    rolls_on puts rewinds longer seated waits keeps leaves faults =
         let from = rolls.from in
         let so_far = rolls.longer in
         record {
@@ -115,7 +116,7 @@ module _ {T V : Type 0} {G : tail.Ghosts T} {H : disk.Ghosts V} where
           rewinds = rewinds_then old now rolls.keeps.volume.geometry rolls.keeps.durable new rolls.rewinds rewinds;
           longer = omega arith;
           told = rolls.told;
-          there = λ has. there (rolls.there has);
+          seated = seated;
           waits = waits ∙ rolls.waits;
           keeps = keeps_then old now new rolls.keeps keeps;
           leaves = leaves_rewound old now rolls.keeps.volume.geometry rolls.keeps.durable new rolls.leaves rolls.rewinds leaves;
@@ -123,8 +124,8 @@ module _ {T V : Type 0} {G : tail.Ghosts T} {H : disk.Ghosts V} where
         }
 
     -- it was refused
-    pub rolls_refused : (f : Fault) (r : Result (Unit {0}) Fault) → IsErrAnd r (λ e. e ≡ f) → StepPuts now new session rollback (Err f) → has_failed old ≡ false
-        → InEach (λ front disk before s store. ForRollback session rollback least s (λ a. Unwinds new a rollback least r front before s store)) old
+    pub rolls_refused : (f : Fault) (r : Result (Unit {0}) Fault) → IsErrAnd r (λ e. e ≡ f) → StepPuts now new seat.session rollback (Err f) → has_failed old ≡ false
+        → InEach (λ front disk before s store. ForRollback seat.session rollback least s (λ a. Unwinds new a rollback least r front before s store)) old
     rolls_refused f (Ok done) same puts running front disk before s store is safe over a idle of may at within = absurd same
     rolls_refused f (Err e) same puts running front disk before s store is safe over a idle of may at within =
         let many : length a.undo.images ≡ count = counts s is.beside.parts.stands a of in
@@ -133,7 +134,7 @@ module _ {T V : Type 0} {G : tail.Ghosts T} {H : disk.Ghosts V} where
         let m = length a.undo.images + least - (counter + 1) in
         let down = rolls.come running front disk before s store is safe over a idle of may at within in
         let comes = down.2 in
-        let here = goes_on_from (geometry_of old) s safe session a of (is.beside.parts.failed_is ∙ running) idle rollback may n down.0 (omega (arith, at, many, less, from)) down.1 in
+        let here = goes_on_from (geometry_of old) s safe seat.session a of (is.beside.parts.failed_is ∙ running) idle rollback may n down.0 (omega (arith, at, many, less, from)) down.1 in
         let split = split_last here.its.undo.images m (here.left ∙ omega (arith, many, less, from)) in
         let h = puts (rolls.keeps.failed ∙ running) front comes.left before down.0 comes.after comes.is_in (subst (λ (it : Geometry). IsSafe it down.0) (sym rolls.keeps.volume.geometry) here.stays_safe) comes.over
         here.its split.0 split.1 here.owned split.2 in
@@ -141,9 +142,9 @@ module _ {T V : Type 0} {G : tail.Ghosts T} {H : disk.Ghosts V} where
         (down.0, n, down.1, omega (arith, many, less, from), h.0, stays_behind now new front before down.0 down.0 store f comes h.1)
 
   -- what stands beside the steps so far, and one that was refused
-  pub rolls_serves : (old now new : Core T V G H) (session : ℕ) (rollback : Rollback) (least counter : ℕ) → IsRolling old now session rollback least counter → (r : Result (Unit {0}) Fault)
+  pub rolls_serves : (old now new : Core T V G H) (seat : Seat) (rollback : Rollback) (least counter : ℕ) → IsRolling old now seat rollback least counter → (r : Result (Unit {0}) Fault)
       → Serves (λ page. Unit {0}) new r now new → Serves (λ page. Unit {0}) new r old new
-  rolls_serves old now new session rollback least counter rolls r serves =
+  rolls_serves old now new seat rollback least counter rolls r serves =
       let longer = rolls.longer in
       let told = rolls.told in
       record {
@@ -161,8 +162,8 @@ module _ {T V : Type 0} {G : tail.Ghosts T} {H : disk.Ghosts V} where
       }
 
   -- .. and beside all of them
-  pub rolled_serves : (old now : Core T V G H) (session : ℕ) (rollback : Rollback) (least counter : ℕ) → IsRolling old now session rollback least counter → Serves {A = Unit {0}} (λ page. Unit {0}) now (Ok tt) old now
-  rolled_serves old now session rollback least counter rolls = record {
+  pub rolled_serves : (old now : Core T V G H) (seat : Seat) (rollback : Rollback) (least counter : ℕ) → IsRolling old now seat rollback least counter → Serves {A = Unit {0}} (λ page. Unit {0}) now (Ok tt) old now
+  rolled_serves old now seat rollback least counter rolls = record {
     volume = rolls.keeps.volume;
     durable = rolls.keeps.durable;
     first = rolls.keeps.first;
@@ -173,10 +174,10 @@ module _ {T V : Type 0} {G : tail.Ghosts T} {H : disk.Ghosts V} where
   }
 
   -- all are put back
-  pub rolls_done : (old now : Core T V G H) (session : ℕ) (rollback : Rollback) (least counter count : ℕ) → IsRolling old now session rollback least counter → HasCount old session count
+  pub rolls_done : (old now : Core T V G H) (seat : Seat) (rollback : Rollback) (least counter count : ℕ) → IsRolling old now seat rollback least counter → HasCount old seat.session count
       → count ≤ counter → (least ≤ count → counter ≡ count) → has_failed old ≡ false
-      → InEach (λ front disk before s store. ForRollback session rollback least s (λ a. Unwinds now a rollback least (Ok tt) front before s store)) old
-  rolls_done old now session rollback least counter count rolls counts all last running front disk before s store is safe over a idle of may at within =
+      → InEach (λ front disk before s store. ForRollback seat.session rollback least s (λ a. Unwinds now a rollback least (Ok tt) front before s store)) old
+  rolls_done old now seat rollback least counter count rolls counts all last running front disk before s store is safe over a idle of may at within =
       let many : length a.undo.images ≡ count = counts s is.beside.parts.stands a of in
       let down = rolls.come running front disk before s store is safe over a idle of may at within in
       let here : counter ≡ count = last (omega (arith, within, many)) in

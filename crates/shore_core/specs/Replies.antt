@@ -31,7 +31,7 @@ use Rattle.shore_types.specs.Images.{Image}
 use Rattle.shore_types.specs.declared.ids.Rid.{Rid}
 use Rattle.laws_room.specs.Claims.{SlotCounts}
 use Rattle.shore_sessions.specs.Standing.{changed}
-use Rattle.shore_txn.specs.Transactions.{HasNoTxnOf, undos_in}
+use Rattle.shore_txn.specs.Transactions.{undos_in}
 use Rattle.shore_sessions.specs.declared.waits.WaitingCall.{WaitingCall}
 use Rattle.laws_lives.specs.Views.{IsAmong}
 use Rattle.laws_calls.specs.States.{IsOfSession, State}
@@ -126,11 +126,9 @@ abbrev pub ForWriter : ℕ → List Request → Rid → State → (SessionTxn �
 ForWriter session rs id s P = (a : SessionTxn) → IsOfSession s session a → IsReached rs a.txn (Record id) EX → P a
 
 module _ {T V : Type 0} {G : tail.Ghosts T} {H : disk.Ghosts V} where
-  -- No transaction of the session may do more than end a rollback: there is none, or its rollback has begun.
+  -- the session's transaction may do no more than end its rollback, which has begun
   abbrev pub IsNotOpen : Core T V G H → ℕ → Fault → Type 0
-  IsNotOpen core session f =
-      ((f ≡ fault.NoTransaction) × HasNoTxnOf session (txns_of core))
-      ⊎ ((f ≡ fault.MustAbort) × ((a : SessionTxn) × IsAmong a (undos_in (txns_of core)) × (a.session ≡ session) × (a.undo.rolling ≢ None)))
+  IsNotOpen core session f = (f ≡ fault.MustAbort) × ((a : SessionTxn) × IsAmong a (undos_in (txns_of core)) × (a.session ≡ session) × (a.undo.rolling ≢ None))
 
   -- the volume is the same device, of the same length, and as honest
   pub record SameVolume (old new : Core T V G H) : Type 0 where

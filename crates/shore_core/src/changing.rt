@@ -8,16 +8,16 @@ ghost use Rattle.shore_page.specs.Room.{Fits};
 ghost use Rattle.shore_page.specs.Slots.{image_at_slot};
 ghost use Rattle.shore_types.specs.Images.{image_len};
 ghost use Rattle.shore_heap.specs.Heaps.{frame_of};
-ghost use Rattle.shore_txn.specs.Transactions.{HasTxnOf};
+ghost use Rattle.shore_txn.specs.Transactions.{IsSeatIn};
 
 use crate::core_calls::Core;
 use shore_disk::Disk;
 use shore_log::Tail;
 use shore_logrec::{LogRecord, Payload, change_cost, compensation_cost};
 use shore_model::{Answer, Step};
-use shore_txn::UndoEntry;
+use shore_txn::{Seat, UndoEntry};
 use shore_types::images::{bytes_of, copy_of, len_of};
-use shore_types::{Bytes, Fault, Lsn, Rid, Sequence, SessionId};
+use shore_types::{Bytes, Fault, Lsn, Rid, Sequence};
 use std::alloc::Global;
 
 impl<T: Tail, V: Disk> Core<T, V> {
@@ -27,37 +27,37 @@ impl<T: Tail, V: Disk> Core<T, V> {
     pub(crate) fn update(
         &mut self,
         alloc: Global,
-        session: SessionId,
+        seat: &Seat,
         id: Rid,
         bytes: Bytes,
     ) -> Result<Step, Fault>
         requires there { HasSlot (geometry_of self.old) id }
         requires short { length bytes ≤ MAX_RECORD_BYTES }
-        requires owner { HasTxnOf session (txns_of self.old) }
-        ensures served { has_failed self.old ≡ false → InEach (λ front disk before s store. ForWriter session (locks_of self.old).requests id s (λ a. Served a (Call.Update id bytes) result self.old self.new front before s store)) self.old }
+        requires seated { IsSeatIn seat.now (txns_of self.old) }
+        ensures served { has_failed self.old ≡ false → InEach (λ front disk before s store. ForWriter seat.now.session (locks_of self.old).requests id s (λ a. Served a (Call.Update id bytes) result self.old self.new front before s store)) self.old }
         ensures serves { ServesCall (λ page. page ≡ id.page) self.old result self.old self.new }
     {
         let before = Some(self.find(alloc, id)?);
         if !self.heap.fits(id, bytes.as_slice().len()) {
             return Err(Fault::StoreFull);
         }
-        self.change(alloc, session, id, before, Some(bytes))?;
+        self.change(alloc, seat, id, before, Some(bytes))?;
         Ok(Step::Done(Answer::Updated))
     }
 
     pub(crate) fn delete(
         &mut self,
         alloc: Global,
-        session: SessionId,
+        seat: &Seat,
         id: Rid,
     ) -> Result<Step, Fault>
         requires there { HasSlot (geometry_of self.old) id }
-        requires owner { HasTxnOf session (txns_of self.old) }
-        ensures served { has_failed self.old ≡ false → InEach (λ front disk before s store. ForWriter session (locks_of self.old).requests id s (λ a. Served a (Call.Delete id) result self.old self.new front before s store)) self.old }
+        requires seated { IsSeatIn seat.now (txns_of self.old) }
+        ensures served { has_failed self.old ≡ false → InEach (λ front disk before s store. ForWriter seat.now.session (locks_of self.old).requests id s (λ a. Served a (Call.Delete id) result self.old self.new front before s store)) self.old }
         ensures serves { ServesCall (λ page. page ≡ id.page) self.old result self.old self.new }
     {
         let before = Some(self.find(alloc, id)?);
-        self.change(alloc, session, id, before, None)?;
+        self.change(alloc, seat, id, before, None)?;
         Ok(Step::Done(Answer::Deleted))
     }
 
@@ -66,7 +66,7 @@ impl<T: Tail, V: Disk> Core<T, V> {
     pub(crate) fn change(
         &mut self,
         alloc: Global,
-        session: SessionId,
+        seat: &Seat,
         id: Rid,
         before: Option<Bytes>,
         after: Option<Bytes>,
@@ -75,15 +75,13 @@ impl<T: Tail, V: Disk> Core<T, V> {
         requires found { IsSomeAnd (frame_of (heap_of self.old) id.page) (λ f. (image_at_slot f.page.slots id.slot ≡ before) × Fits f.page.slots id.slot (image_len after)) }
         requires before { image_len before ≤ MAX_RECORD_BYTES }
         requires some { IsTrue (is_some before) ⊎ IsTrue (is_some after) }
-        requires owner { HasTxnOf session (txns_of self.old) }
-        ensures changed { has_failed self.old ≡ false → InEach (λ front disk before s store. ForWriter session (locks_of self.old).requests id s (λ a. Changes self.new a id after result front before s store)) self.old }
+        requires seated { IsSeatIn seat.now (txns_of self.old) }
+        ensures changed { has_failed self.old ≡ false → InEach (λ front disk before s store. ForWriter seat.now.session (locks_of self.old).requests id s (λ a. Changes self.new a id after result front before s store)) self.old }
         ensures no_call { MakesNoCall self.old self.new }
         ensures refused { IfErr result (λ f. (f ≡ Fault.Memory) ⊎ (f ≡ Fault.LogFull)) }
     {
-        let (txn, previous) = match self.control.txn(session) {
-            Some(own) => (own.id(), own.last()),
-            None => unreachable!(),
-        };
+        let own = self.control.txn(seat);
+        let (txn, previous) = (own.id(), own.last());
         let logged = change_cost(len_of(&before), len_of(&after));
         let undo = compensation_cost(len_of(&before));
         if !self.admits(logged + undo) {
@@ -97,7 +95,7 @@ impl<T: Tail, V: Disk> Core<T, V> {
             claim: self.heap.claim(id),
         };
         let image = copy_of(alloc, &after)?;
-        self.control.reserve_entry(alloc, session)?;
+        self.control.reserve_entry(alloc, seat)?;
         let payload = Payload::Change { id, before, after };
         let lsn = match self.tail.push(LogRecord {
             txn,
@@ -109,7 +107,7 @@ impl<T: Tail, V: Disk> Core<T, V> {
         };
         entry.lsn = lsn;
         self.heap.change(id, lsn, bytes_of(&image));
-        self.control.note_change(session, entry, logged, undo);
+        self.control.note_change(seat, entry, logged, undo);
         Ok(())
     }
 }

@@ -19,7 +19,9 @@ use shore_types::{Bytes, Fault, Geometry, Granule, Mode, PageId, Rid, StoreId};
 /// What a call asks of the lock table: a granule in a mode.
 #[derive(Clone, Copy)]
 pub(crate) struct Asked {
+    /// What is to be locked.
     pub granule: Granule,
+    /// How: the intentions above it follow from this.
     pub mode: Mode,
 }
 

@@ -3,27 +3,30 @@ ghost use Rattle.std.specs.Prelude.{◌≡◌, Ok, false};
 ghost use Rattle.shore_model.specs.declared.calls.Call.TheVariants as Call;
 ghost use Rattle.laws_calls.specs.States.{DoesNotWait};
 ghost use Rattle.shore_sessions.specs.Controls.{HasNoWait};
+ghost use Rattle.shore_txn.specs.Transactions.{IsSeatIn};
 
 use crate::core_calls::Core;
 use shore_disk::Disk;
 use shore_log::Tail;
 use shore_logrec::{LogRecord, Payload};
 use shore_model::{Step, Wait};
-use shore_types::{Fault, SessionId};
+use shore_txn::Seat;
+use shore_types::Fault;
 
 impl<T: Tail, V: Disk> Core<T, V> {
-    ghost use Rattle.shore_core.specs.Cores.{control_of, faults_of, has_failed};
+    ghost use Rattle.shore_core.specs.Cores.{control_of, faults_of, has_failed, txns_of};
     ghost use Rattle.shore_core.specs.Replies.{InEach, Reads, Replied, ServesCall};
 
     // The record of the commit was reserved for at the begin, so it is never refused for room. The transaction's claims go with it, its locks with its
     // answer.
-    pub(crate) fn commit(&mut self, session: SessionId) -> Result<Step, Fault>
-        requires { HasNoWait session (control_of self.old) }
-        ensures replied { has_failed self.old ≡ false → InEach (λ front disk before s store. DoesNotWait s session → Replied session Call.Commit result self.old self.new front before s store) self.old }
+    pub(crate) fn commit(&mut self, seat: &Seat) -> Result<Step, Fault>
+        requires free { HasNoWait seat.now.session (control_of self.old) }
+        requires seated { IsSeatIn seat.now (txns_of self.old) }
+        ensures replied { has_failed self.old ≡ false → InEach (λ front disk before s store. DoesNotWait s seat.now.session → Replied seat.now.session Call.Commit result self.old self.new front before s store) self.old }
         ensures serves { ServesCall (Reads Call.Commit) self.old result self.old self.new }
         ensures faults { faults_of self.new ≡ faults_of self.old }
     {
-        let txn = self.active(session)?;
+        let txn = self.active(seat)?;
         let record = LogRecord {
             txn: txn.id(),
             previous: txn.last(),
@@ -34,7 +37,7 @@ impl<T: Tail, V: Disk> Core<T, V> {
             Ok(number) => number,
             Err((fault, _)) => return Err(fault),
         };
-        let changes = self.control.commit(session, number);
+        let changes = self.control.commit(seat, number);
         for change in &changes {
             self.heap.release(change.id);
         }

@@ -10,7 +10,7 @@ ghost use Rattle.laws_calls.specs.StateChanges.{after_refusal, with_durable, wit
 ghost use Rattle.shore_model.specs.Calls.{IsServed};
 ghost use Rattle.laws_calls.specs.States.{DoesNotWait, State};
 ghost use Rattle.shore_sessions.specs.Controls.{HasNoWait, txns_in};
-ghost use Rattle.shore_txn.specs.Transactions.{room_in};
+ghost use Rattle.shore_txn.specs.Transactions.{HasNoTxnOf, room_in};
 ghost use Rattle.shore_txn.specs.Transactions as table;
 ghost use Rattle.shore_txn.specs.Txns.{last_of};
 ghost use Rattle.shore_txn.specs.declared.txn.Txn.{Txn};
@@ -117,13 +117,20 @@ impl<T: Tail, V: Disk> Core<T, V> {
         ensures replied { has_failed self.old ≡ false → InEach (λ front disk before s store. DoesNotWait s session → Called session call result self.old self.new front before s store) self.old }
         ensures serves { ServesCall (Reads call) (forced_at call self.old self.new) result self.old self.new }
     {
+        // It is not looked for again: no call but its end takes a transaction out, so the seat stays right.
+        let Some(seat) = self.control.seat(session) else {
+            return match call {
+                Call::Begin => self.begin(alloc, session),
+                _ => Err(Fault::NoTransaction),
+            };
+        };
         match call {
-            Call::Begin => self.begin(alloc, session),
-            Call::Commit => self.commit(session),
-            Call::Savepoint => self.savepoint(session),
-            Call::BackTo(index) => self.back_to(alloc, session, index),
-            Call::Abort => self.abort(alloc, session),
-            call => self.with_txn(alloc, session, call),
+            Call::Begin => Err(Fault::AlreadyActive),
+            Call::Commit => self.commit(&seat),
+            Call::Savepoint => self.savepoint(&seat),
+            Call::BackTo(index) => self.back_to(alloc, &seat, index),
+            Call::Abort => self.abort(alloc, &seat),
+            call => self.with_txn(alloc, &seat, call),
         }
     }
 
@@ -136,13 +143,11 @@ impl<T: Tail, V: Disk> Core<T, V> {
     }
 
     fn begin(&mut self, alloc: Global, session: SessionId) -> Result<Step, Fault>
+        requires { HasNoTxnOf session (txns_of self.old) }
         ensures replied { has_failed self.old ≡ false → InEach (λ front disk before s store. DoesNotWait s session → Replied session Call.Begin result self.old self.new front before s store) self.old }
         ensures serves { ServesCall (Reads Call.Begin) self.old result self.old self.new }
         ensures heap { heap_of self.new ≡ heap_of self.old }
     {
-        if self.control.has_txn(session) {
-            return Err(Fault::AlreadyActive);
-        }
         if self.control.count() >= MAX_TRANSACTIONS {
             return Err(Fault::TooManyTransactions);
         }

@@ -15,7 +15,7 @@ ghost use Rattle.shore_path.specs.Intending.{IntendsToWrite};
 ghost use Rattle.shore_path.specs.Walks.{acquired};
 ghost use Rattle.shore_path.specs.declared.answers.OnConflict.TheVariants.{Refuse};
 ghost use Rattle.shore_core.specs.Replies.{acquire_as, can_lock};
-ghost use Rattle.shore_txn.specs.Transactions.{HasTxnOf};
+ghost use Rattle.shore_txn.specs.Transactions.{IsSeatIn};
 ghost use Rattle.shore_types.specs.declared.layout.TheConstants.{MAX_RECORD_BYTES};
 ghost use Rattle.shore_types.specs.declared.locking.Granule.TheVariants as Granule;
 ghost use Rattle.shore_types.specs.declared.locking.Mode.TheVariants as Mode;
@@ -26,7 +26,8 @@ use shore_disk::Disk;
 use shore_log::Tail;
 use shore_model::{Answer, Step};
 use shore_path::intends_to_write;
-use shore_types::{Bytes, Fault, LogEnds, Lsn, PageId, Rid, Sequence, SessionId, StoreId, TxnId};
+use shore_txn::Seat;
+use shore_types::{Bytes, Fault, LogEnds, Lsn, PageId, Rid, Sequence, StoreId, TxnId};
 use std::alloc::Global;
 
 impl<T: Tail, V: Disk> Core<T, V> {
@@ -37,7 +38,7 @@ impl<T: Tail, V: Disk> Core<T, V> {
     pub(crate) fn insert(
         &mut self,
         alloc: Global,
-        session: SessionId,
+        seat: &Seat,
         txn: TxnId,
         store: StoreId,
         bytes: Bytes,
@@ -45,8 +46,8 @@ impl<T: Tail, V: Disk> Core<T, V> {
         requires there { HasStore (geometry_of self.old) store }
         requires short { length bytes ≤ MAX_RECORD_BYTES }
         requires quiet { is_waiting txn (locks_of self.old).requests ≡ false }
-        requires owner { HasTxnOf session (txns_of self.old) }
-        ensures served { has_failed self.old ≡ false → InEach (λ front disk before s plain. ForTxn session txn s (λ a. Served a (Call.Insert store bytes) result self.old self.new front before s plain)) self.old }
+        requires seated { IsSeatIn seat.now (txns_of self.old) }
+        ensures served { has_failed self.old ≡ false → InEach (λ front disk before s plain. ForTxn seat.now.session txn s (λ a. Served a (Call.Insert store bytes) result self.old self.new front before s plain)) self.old }
         ensures serves { ServesCall (λ page. page.store ≡ store) self.old result self.old self.new }
     {
         // Mostly the volume and the store are held with the intention to write, and are not looked at again.
@@ -57,7 +58,7 @@ impl<T: Tail, V: Disk> Core<T, V> {
         let id = PageId { store, page };
         self.lock_place(txn, Rid { page: id, slot }, intends)?;
         let id = PageId { store, page };
-        self.change(alloc, session, Rid { page: id, slot }, None, Some(bytes))?;
+        self.change(alloc, seat, Rid { page: id, slot }, None, Some(bytes))?;
         let page = PageId { store, page };
         Ok(Step::Done(Answer::Inserted(Rid { page, slot })))
     }

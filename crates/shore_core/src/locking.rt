@@ -6,7 +6,7 @@ ghost use Rattle.laws_locks.specs.CallLocks as held;
 ghost use Rattle.laws_calls.specs.CallSteps.{MayAsk};
 ghost use Rattle.laws_calls.specs.States.{DoesNotWait};
 ghost use Rattle.shore_sessions.specs.Controls.{HasNoWait};
-ghost use Rattle.shore_txn.specs.Transactions.{HasTxnOf};
+ghost use Rattle.shore_txn.specs.Transactions.{IsSeatIn};
 
 use crate::checks::{asked_by, check, on_conflict};
 use crate::core_calls::Core;
@@ -14,7 +14,8 @@ use shore_disk::Disk;
 use shore_log::Tail;
 use shore_model::{Answer, Call, Step, Wait};
 use shore_path::Acquired;
-use shore_types::{Fault, SessionId, TxnId};
+use shore_txn::Seat;
+use shore_types::{Fault, TxnId};
 use std::alloc::Global;
 
 impl<T: Tail, V: Disk> Core<T, V> {
@@ -24,35 +25,36 @@ impl<T: Tail, V: Disk> Core<T, V> {
     pub(crate) fn with_txn(
         &mut self,
         alloc: Global,
-        session: SessionId,
+        seat: &Seat,
         call: Call,
     ) -> Result<Step, Fault>
-        requires free { HasNoWait session (control_of self.old) }
-        ensures replied { IsSome (held.lock_asked_by call) → has_failed self.old ≡ false → InEach (λ front disk before s store. DoesNotWait s session → Called session call result self.old self.new front before s store) self.old }
+        requires free { HasNoWait seat.now.session (control_of self.old) }
+        requires seated { IsSeatIn seat.now (txns_of self.old) }
+        ensures replied { IsSome (held.lock_asked_by call) → has_failed self.old ≡ false → InEach (λ front disk before s store. DoesNotWait s seat.now.session → Called seat.now.session call result self.old self.new front before s store) self.old }
         ensures serves { ServesCall (Reads call) self.old result self.old self.new }
     {
-        let own = self.active(session)?;
+        let own = self.active(seat)?;
         let txn = own.id();
         // Who waits in the table has a call that waits, so this is never so.
         if self.control.is_waiting(txn) {
             return Err(Fault::Busy);
         }
-        self.take_locks(alloc, session, txn, call)
+        self.take_locks(alloc, seat, txn, call)
     }
 
     // A call from what refuses it before its locks on.
     pub(crate) fn take_locks(
         &mut self,
         alloc: Global,
-        session: SessionId,
+        seat: &Seat,
         txn: TxnId,
         call: Call,
     ) -> Result<Step, Fault>
-        requires owner { HasTxnOf session (txns_of self.old) }
-        requires free { HasNoWait session (control_of self.old) }
+        requires seated { IsSeatIn seat.now (txns_of self.old) }
+        requires free { HasNoWait seat.now.session (control_of self.old) }
         requires quiet { is_waiting txn (locks_of self.old).requests ≡ false }
         ensures asked { IsSome (held.lock_asked_by call) → has_failed self.old ≡ false → InEach (λ front disk before s store.
-            ForTxn session txn s (λ a. a.undo.rolling ≡ None → AskedFor a call result self.old self.new front before s store)) self.old }
+            ForTxn seat.now.session txn s (λ a. a.undo.rolling ≡ None → AskedFor a call result self.old self.new front before s store)) self.old }
         ensures serves { ServesCall (Reads call) self.old result self.old self.new }
     {
         check(self.heap.geometry(), &call)?;
@@ -63,16 +65,16 @@ impl<T: Tail, V: Disk> Core<T, V> {
         let on_conflict = on_conflict(&call);
         let acquired = self.control.lock(
             alloc,
-            session,
+            seat,
             txn,
             asked.granule,
             asked.mode,
             on_conflict,
         )?;
         match &acquired {
-            Acquired::Done => self.behind_locks(alloc, session, txn, call),
+            Acquired::Done => self.behind_locks(alloc, seat, txn, call),
             Acquired::Waiting(granule) => {
-                self.control.wait(session, txn, call, *granule);
+                self.control.wait(seat.session, txn, call, *granule);
                 Ok(Step::Waits(Wait::Lock(*granule)))
             }
         }
@@ -82,22 +84,22 @@ impl<T: Tail, V: Disk> Core<T, V> {
     fn behind_locks(
         &mut self,
         alloc: Global,
-        session: SessionId,
+        seat: &Seat,
         txn: TxnId,
         call: Call,
     ) -> Result<Step, Fault>
         requires may { MayAsk (geometry_of self.old) call }
         requires reached { (lock : held.Asked) → held.lock_asked_by call ≡ Some lock → IsReached (locks_of self.old).requests txn lock.granule lock.mode }
-        requires owner { HasTxnOf session (txns_of self.old) }
+        requires seated { IsSeatIn seat.now (txns_of self.old) }
         requires quiet { is_waiting txn (locks_of self.old).requests ≡ false }
-        ensures served { has_failed self.old ≡ false → InEach (λ front disk before s store. ForTxn session txn s (λ a. Served a call result self.old self.new front before s store)) self.old }
+        ensures served { has_failed self.old ≡ false → InEach (λ front disk before s store. ForTxn seat.now.session txn s (λ a. Served a call result self.old self.new front before s store)) self.old }
         ensures serves { ServesCall (Reads call) self.old result self.old self.new }
     {
         match call {
             Call::Get(id) | Call::GetForUpdate(id) => self.get(alloc, id),
-            Call::Insert(store, bytes) => self.insert(alloc, session, txn, store, bytes),
-            Call::Update(id, bytes) => self.update(alloc, session, id, bytes),
-            Call::Delete(id) => self.delete(alloc, session, id),
+            Call::Insert(store, bytes) => self.insert(alloc, seat, txn, store, bytes),
+            Call::Update(id, bytes) => self.update(alloc, seat, id, bytes),
+            Call::Delete(id) => self.delete(alloc, seat, id),
             Call::Scan(store) => self.scan(alloc, store),
             Call::Lock(..) | Call::TryLock(..) => Ok(Step::Done(Answer::Locked)),
             // These ask for no lock, so they never come here.

@@ -67,9 +67,12 @@ impl<T: Tail, V: Disk> Core<T, V> {
             → ForTxn session txn s (λ a. Resumed session result self.old self.new front before s store)) self.old }
         ensures serves { Serves (ReadsWaiting self.old session) self.old (fault_at result) self.old self.new }
     {
-        if self.control.is_waiting(txn) || !self.control.has_txn(session) {
+        if self.control.is_waiting(txn) {
             return Step::Waits(Wait::Lock(granule));
         }
+        let Some(seat) = self.control.seat(session) else {
+            return Step::Waits(Wait::Lock(granule));
+        };
         let Some(waiting) = self.control.take_wait(session) else {
             return Step::Nothing;
         };
@@ -77,7 +80,7 @@ impl<T: Tail, V: Disk> Core<T, V> {
         if let Some(cycle) = cycle {
             return Step::Refused(Fault::Deadlock { cycle });
         }
-        match self.take_locks(alloc, session, txn, call) {
+        match self.take_locks(alloc, &seat, txn, call) {
             Ok(step) => step,
             Err(fault) => self.refuse(fault),
         }

@@ -16,7 +16,7 @@ ghost use Rattle.laws_calls.specs.States.{DoesNotWait, IsOfSession, State};
 ghost use Rattle.shore_sessions.specs.Controls.{HasNoWait};
 ghost use Rattle.shore_sessions.specs.Standing.{HasControl};
 ghost use Rattle.laws_lives.specs.Views.{IsAmong};
-ghost use Rattle.shore_txn.specs.Transactions.{HasTxnOf, undos_in};
+ghost use Rattle.shore_txn.specs.Transactions.{IsSeatIn, undos_in};
 ghost use Rattle.shore_txn.specs.Transactions as table;
 ghost use Rattle.shore_txn.specs.Txns.{as_session_txn, entries_of, rolling_of};
 ghost use Rattle.shore_txn.specs.declared.txn.Txn.{Txn};
@@ -28,10 +28,10 @@ use shore_disk::Disk;
 use shore_log::Tail;
 use shore_logrec::{LogRecord, Payload, compensation_cost};
 use shore_model::{Answer, Rollback, Step};
-use shore_txn::{Txn, TxnState};
+use shore_txn::{Seat, Txn, TxnState};
 use shore_types::images::{bytes_of, copy_of, len_of};
 use shore_types::layout::MAX_SAVEPOINTS;
-use shore_types::{Fault, Lsn, Rid, SessionId};
+use shore_types::{Fault, Lsn, Rid};
 use std::alloc::Global;
 
 /// The newest change of a transaction, as it is put back: what `undo_of` reads of it, while it is in the undo list.
@@ -52,70 +52,67 @@ impl<T: Tail, V: Disk> Core<T, V> {
     ghost use Rattle.shore_core.specs.Replies.{InEach, IsNotOpen, MakesNoCall, OnlyReads, Reads, Replied, Serves, ServesCall, Stays};
     ghost use Rattle.shore_core.specs.Undoing.{Ends, PutsBack, Rewinds, Unwinds, WritesBack};
 
-    // The session's transaction, if it may do more than end a rollback.
-    pub(crate) fn active(&self, session: SessionId) -> Result<&Txn, Fault>
-        ensures some { IfOk result (λ t. IsAmong t.now (table.txns_in (txns_of self.now)) × (t.now.session ≡ session)) }
+    // The transaction at a seat, if it may do more than end a rollback.
+    pub(crate) fn active(&self, seat: &Seat) -> Result<&Txn, Fault>
+        requires { IsSeatIn seat.now (txns_of self.now) }
+        ensures some { IfOk result (λ t. IsAmong t.now (table.txns_in (txns_of self.now)) × (t.now.session ≡ seat.now.session)) }
         ensures there { IfOk result (λ t. IsAmong (as_session_txn t.now) (undos_in (txns_of self.now))) }
-        ensures of_session { IfOk result (λ t. (s : State) → HasControl (control_of self.now) s → IsOfSession s session (as_session_txn t.now)) }
+        ensures of_session { IfOk result (λ t. (s : State) → HasControl (control_of self.now) s → IsOfSession s seat.now.session (as_session_txn t.now)) }
         ensures whole { IfOk result (λ t. (as_session_txn t.now).undo.rolling ≡ None) }
-        ensures refused { IfErr result (IsNotOpen self.now session) }
+        ensures refused { IfErr result (IsNotOpen self.now seat.now.session) }
     {
-        let Some(own) = self.control.txn(session) else {
-            return Err(Fault::NoTransaction);
-        };
+        let own = self.control.txn(seat);
         match own.state() {
             TxnState::Active => Ok(own),
             TxnState::RollingBack(_) => Err(Fault::MustAbort),
         }
     }
 
-    pub(crate) fn savepoint(&mut self, session: SessionId) -> Result<Step, Fault>
-        ensures replied { has_failed self.old ≡ false → InEach (λ front disk before s store. DoesNotWait s session → Replied session Call.Savepoint result self.old self.new front before s store) self.old }
+    pub(crate) fn savepoint(&mut self, seat: &Seat) -> Result<Step, Fault>
+        requires { IsSeatIn seat.now (txns_of self.old) }
+        ensures replied { has_failed self.old ≡ false → InEach (λ front disk before s store. DoesNotWait s seat.now.session → Replied seat.now.session Call.Savepoint result self.old self.new front before s store) self.old }
         ensures serves { ServesCall (Reads Call.Savepoint) self.old result self.old self.new }
         ensures heap { heap_of self.new ≡ heap_of self.old }
     {
-        let own = self.active(session)?;
+        let own = self.active(seat)?;
         if own.savepoints() >= MAX_SAVEPOINTS {
             return Err(Fault::TooManySavepoints);
         }
-        let index = self.control.savepoint(session)?;
+        let index = self.control.savepoint(seat)?;
         Ok(Step::Done(Answer::Saved(index)))
     }
 
     pub(crate) fn back_to(
         &mut self,
         alloc: Global,
-        session: SessionId,
+        seat: &Seat,
         index: usize,
     ) -> Result<Step, Fault>
-        requires { HasNoWait session (control_of self.old) }
-        ensures replied { has_failed self.old ≡ false → InEach (λ front disk before s store. DoesNotWait s session → Replied session (Call.BackTo index) result self.old self.new front before s store) self.old }
+        requires free { HasNoWait seat.now.session (control_of self.old) }
+        requires seated { IsSeatIn seat.now (txns_of self.old) }
+        ensures replied { has_failed self.old ≡ false → InEach (λ front disk before s store. DoesNotWait s seat.now.session → Replied seat.now.session (Call.BackTo index) result self.old self.new front before s store) self.old }
         ensures serves { ServesCall (Reads (Call.BackTo index)) self.new result self.old self.new }
     {
-        let Some(own) = self.control.txn(session) else {
-            return Err(Fault::NoTransaction);
-        };
+        let own = self.control.txn(seat);
         if !may_go_back(own.state(), index) {
             return Err(Fault::MustAbort);
         }
         let Some(least) = own.mark(index) else {
             return Err(Fault::NoSavepoint);
         };
-        self.put_back(alloc, session, Rollback::To(index), least)?;
-        self.control.go_back(session, index);
+        self.put_back(alloc, seat, Rollback::To(index), least)?;
+        self.control.go_back(seat, index);
         Ok(Step::Done(Answer::WentBack))
     }
 
-    pub(crate) fn abort(&mut self, alloc: Global, session: SessionId) -> Result<Step, Fault>
-        requires { HasNoWait session (control_of self.old) }
-        ensures replied { has_failed self.old ≡ false → InEach (λ front disk before s store. DoesNotWait s session → Replied session (Call.Abort) result self.old self.new front before s store) self.old }
+    pub(crate) fn abort(&mut self, alloc: Global, seat: &Seat) -> Result<Step, Fault>
+        requires free { HasNoWait seat.now.session (control_of self.old) }
+        requires seated { IsSeatIn seat.now (txns_of self.old) }
+        ensures replied { has_failed self.old ≡ false → InEach (λ front disk before s store. DoesNotWait s seat.now.session → Replied seat.now.session (Call.Abort) result self.old self.new front before s store) self.old }
         ensures serves { ServesCall (Reads Call.Abort) self.new result self.old self.new }
     {
-        if !self.control.has_txn(session) {
-            return Err(Fault::NoTransaction);
-        }
-        self.put_back(alloc, session, Rollback::Whole, 0)?;
-        self.end(session)?;
+        self.put_back(alloc, seat, Rollback::Whole, 0)?;
+        self.end(seat)?;
         Ok(Step::Done(Answer::Aborted))
     }
 
@@ -124,23 +121,21 @@ impl<T: Tail, V: Disk> Core<T, V> {
     fn put_back(
         &mut self,
         alloc: Global,
-        session: SessionId,
+        seat: &Seat,
         rollback: Rollback,
         least: usize,
     ) -> Result<(), Fault>
-        ensures unwinds { has_failed self.old ≡ false → InEach (λ front disk before s store. (a : SessionTxn) → DoesNotWait s session → IsOfSession s session a → MayRoll a.undo rollback
+        requires { IsSeatIn seat.now (txns_of self.old) }
+        ensures unwinds { has_failed self.old ≡ false → InEach (λ front disk before s store. (a : SessionTxn) → DoesNotWait s seat.now.session → IsOfSession s seat.now.session a → MayRoll a.undo rollback
             → least ≡ least_kept a.undo rollback → least ≤ length a.undo.images → Unwinds self.new a rollback least result front before s store) self.old }
-        ensures there { HasTxnOf session (txns_of self.old) → HasTxnOf session (txns_of self.new) }
+        ensures seated { IsSeatIn seat.now (txns_of self.new) }
         ensures waits { waits_of self.new ≡ waits_of self.old }
         ensures serves { Serves (Reads Call.Abort) self.new result self.old self.new }
         ensures failed { has_failed self.new ≡ has_failed self.old }
     {
-        let count = match self.control.txn(session) {
-            Some(own) => own.undo().len(),
-            None => 0,
-        };
+        let count = self.control.txn(seat).undo().len();
         for _ in least..count {
-            self.put_back_newest(alloc, session, rollback)?;
+            self.put_back_newest(alloc, seat, rollback)?;
         }
         Ok(())
     }
@@ -150,19 +145,20 @@ impl<T: Tail, V: Disk> Core<T, V> {
     fn put_back_newest(
         &mut self,
         alloc: Global,
-        session: SessionId,
+        seat: &Seat,
         rollback: Rollback,
     ) -> Result<(), Fault>
-        ensures put_back { has_failed self.old ≡ false → InEach (λ front disk before s store. (a : SessionTxn) (kept : List (Rid × Image)) (e : Rid × Image) → IsOfSession s session a
+        requires { IsSeatIn seat.now (txns_of self.old) }
+        ensures put_back { has_failed self.old ≡ false → InEach (λ front disk before s store. (a : SessionTxn) (kept : List (Rid × Image)) (e : Rid × Image) → IsOfSession s seat.now.session a
             → a.undo.images ≡ kept ++ e ∷ [] → PutsBack self.new a kept e rollback result front before s store) self.old }
         ensures rewinds { OnOk result (Rewinds self.old self.new) }
         ensures longer { last_of self.old ≤ last_of self.new }
-        ensures there { HasTxnOf session (txns_of self.old) → HasTxnOf session (txns_of self.new) }
+        ensures seated { IsSeatIn seat.now (txns_of self.new) }
         ensures waits { waits_of self.new ≡ waits_of self.old }
         ensures serves { Serves (Reads Call.Abort) self.new result self.old self.new }
         ensures failed { has_failed self.new ≡ has_failed self.old }
     {
-        let Some(undo) = self.undo_of(alloc, session)? else {
+        let Some(undo) = self.undo_of(alloc, seat)? else {
             return Ok(());
         };
         self.reach(alloc, undo.id)?;
@@ -170,7 +166,7 @@ impl<T: Tail, V: Disk> Core<T, V> {
         if !self.heap.fits(undo.id, undo.bytes) {
             return Err(Fault::StoreFull);
         }
-        self.log_undo(session, rollback, undo)
+        self.log_undo(seat, rollback, undo)
     }
 
     // Fetches the page of an id, if it is there.
@@ -190,15 +186,16 @@ impl<T: Tail, V: Disk> Core<T, V> {
 
     // Logs the Compensation of the newest change of the session's transaction, and makes it on its page, which is in a frame and has room. All memory was
     // taken before, and behind the record nothing can fail.
-    fn log_undo(&mut self, session: SessionId, rollback: Rollback, undo: Undo) -> Result<(), Fault>
-        requires next { IsNext (txns_of self.old) session undo.id undo.bytes undo.cost undo.logged }
+    fn log_undo(&mut self, seat: &Seat, rollback: Rollback, undo: Undo) -> Result<(), Fault>
+        requires seated { IsSeatIn seat.now (txns_of self.old) }
+        requires next { IsNext (txns_of self.old) seat.now.session undo.id undo.bytes undo.cost undo.logged }
         requires there { HasPage (geometry_of self.old) undo.id.page }
         requires fits { IsSomeAnd (frame_of (heap_of self.old) undo.id.page) (λ f. Fits f.page.slots undo.id.slot undo.bytes) }
-        ensures put_back { has_failed self.old ≡ false → InEach (λ front disk before s store. (a : SessionTxn) (kept : List (Rid × Image)) (e : Rid × Image) → IsOfSession s session a
+        ensures put_back { has_failed self.old ≡ false → InEach (λ front disk before s store. (a : SessionTxn) (kept : List (Rid × Image)) (e : Rid × Image) → IsOfSession s seat.now.session a
             → a.undo.images ≡ kept ++ e ∷ [] → PutsBack self.new a kept e rollback result front before s store) self.old }
         ensures rewinds { OnOk result (Rewinds self.old self.new) }
         ensures longer { last_of self.old ≤ last_of self.new }
-        ensures there { HasTxnOf session (txns_of self.old) → HasTxnOf session (txns_of self.new) }
+        ensures seated { IsSeatIn seat.now (txns_of self.new) }
         ensures waits { waits_of self.new ≡ waits_of self.old }
         ensures no_call { MakesNoCall self.old self.new }
         ensures refused { IfErr result (λ f. f ≡ Fault.Memory) }
@@ -208,21 +205,20 @@ impl<T: Tail, V: Disk> Core<T, V> {
             Ok(lsn) => lsn,
             Err((fault, _)) => return Err(fault),
         };
-        let undone = self.control.note_compensation(session, lsn, rollback, cost);
+        let undone = self.control.note_compensation(seat, lsn, rollback, cost);
         self.heap.change(undone.id, lsn, bytes_of(&undone.before));
         self.heap.release_to(undone.id, usize::from(undone.claim));
         Ok(())
     }
 
     // What puts the newest change of a session's transaction back.
-    fn undo_of(&self, alloc: Global, session: SessionId) -> Result<Option<Undo>, Fault>
-        ensures some { IfOk result (λ o. IfSome o (λ u. IsNext (txns_of self.now) session u.id u.bytes u.cost u.logged)) }
-        ensures none { IfOk result (λ o. IfNone o ((a : SessionTxn) → IsAmong a (undos_in (txns_of self.now)) → a.session ≡ session → a.undo.images ≡ [])) }
+    fn undo_of(&self, alloc: Global, seat: &Seat) -> Result<Option<Undo>, Fault>
+        requires { IsSeatIn seat.now (txns_of self.now) }
+        ensures some { IfOk result (λ o. IfSome o (λ u. IsNext (txns_of self.now) seat.now.session u.id u.bytes u.cost u.logged)) }
+        ensures none { IfOk result (λ o. IfNone o ((a : SessionTxn) → IsAmong a (undos_in (txns_of self.now)) → a.session ≡ seat.now.session → a.undo.images ≡ [])) }
         ensures memory { IfErr result (λ f. f ≡ Fault.Memory) }
     {
-        let Some(own) = self.control.txn(session) else {
-            return Ok(None);
-        };
+        let own = self.control.txn(seat);
         let Some(newest) = own.newest() else {
             return Ok(None);
         };
@@ -245,23 +241,22 @@ impl<T: Tail, V: Disk> Core<T, V> {
 
     // Logs the End of a session's transaction, if it has logged anything, and ends it. Its room was reserved at the begin, and goes with it. All its changes
     // are put back by then; one that has any left is not ended.
-    fn end(&mut self, session: SessionId) -> Result<(), Fault>
-        requires { HasNoWait session (control_of self.old) }
-        ensures ended { has_failed self.old ≡ false → InEach (λ front disk before s store. (a : SessionTxn) → IsOfSession s session a → a.undo.images ≡ []
+    fn end(&mut self, seat: &Seat) -> Result<(), Fault>
+        requires free { HasNoWait seat.now.session (control_of self.old) }
+        requires seated { IsSeatIn seat.now (txns_of self.old) }
+        ensures ended { has_failed self.old ≡ false → InEach (λ front disk before s store. (a : SessionTxn) → IsOfSession s seat.now.session a → a.undo.images ≡ []
             → Ends self.new a result front before s store) self.old }
-        ensures refused { IfErr result (λ f. (f ≡ Fault.NoTransaction) ⊎ (f ≡ Fault.MustAbort) ⊎ (f ≡ Fault.Memory)) }
+        ensures refused { IfErr result (λ f. (f ≡ Fault.MustAbort) ⊎ (f ≡ Fault.Memory)) }
         ensures no_call { MakesNoCall self.old self.new }
         ensures heap { heap_of self.new ≡ heap_of self.old }
     {
-        let Some(own) = self.control.txn(session) else {
-            return Err(Fault::NoTransaction);
-        };
+        let own = self.control.txn(seat);
         if own.newest().is_some() {
             return Err(Fault::MustAbort);
         }
         let (txn, previous) = (own.id(), own.last());
         if previous == Lsn(0) {
-            self.control.end_abort(session, false);
+            self.control.end_abort(seat, false);
             return Ok(());
         }
         let payload = Payload::End;
@@ -271,7 +266,7 @@ impl<T: Tail, V: Disk> Core<T, V> {
             payload,
         }) {
             Ok(_) => {
-                self.control.end_abort(session, true);
+                self.control.end_abort(seat, true);
                 Ok(())
             }
             Err((fault, _)) => Err(fault),

@@ -14,11 +14,13 @@ use Rattle.laws_lives.specs.Soundness.{SessionsAgree}
 use Rattle.laws_lives.specs.Views.{IsAmong}
 use Rattle.laws_calls.specs.StateChanges.{wait_refused}
 use Rattle.laws_calls.specs.CallSteps.{commit_ended, lock_waiting}
-use Rattle.laws_calls.specs.States.{IsOfSession, State, cost_of_log}
+use Rattle.laws_calls.specs.States.{IsInTxn, IsOfSession, State, cost_of_log}
 use Rattle.shore_model.specs.declared.step.Wait.TheVariants.{Lock}
-use Rattle.shore_txn.specs.Transactions.{next_in}
+use Rattle.shore_txn.specs.Transactions.{IsSeatIn, next_in}
 use Rattle.shore_txn.specs.Transactions as table
+use Rattle.shore_txn.specs.declared.seat.Seat.{Seat}
 use Rattle.shore_txn.specs.declared.transactions.Transactions.{Transactions}
+use Rattle.shore_txn.proofs.Seats.{seat_has}
 use Rattle.shore_sessions.specs.Calls.{is_commit, names_of}
 use Rattle.shore_sessions.specs.Controls.{locks_in, txns_in, waits_in}
 use Rattle.shore_sessions.specs.Standing.{HasControl, HasTxns, HasWaits, IsLogged}
@@ -38,6 +40,12 @@ txns_kept old new s t same active next stream log was = subst (λ x. HasTxns x t
   each = subst (λ l. AllByRecursion (IsLogged l) (table.txns_in old)) (sym log) was.each;
   above = subst (λ (l : List LogRecord). AllByRecursion (λ r. r.txn < next_in old) l) (sym log) was.above;
 })
+
+-- the session of a seat is in its transaction
+pub seat_in_txn : (control : Control) (seat : Seat) → IsSeatIn seat (txns_in control) → (s : State) → HasControl control s → IsInTxn s seat.session
+seat_in_txn control seat seated s was =
+    let has = seat_has (txns_in control) seat seated in
+    (has.0, (subst (IsAmong has.0) (sym was.txns.active) has.1, has.2))
 
 module _ (old new : Control) (s : State) (was : HasControl old s) (same : txns_in new ≡ txns_in old) where
   -- a call waits for a lock

@@ -1,5 +1,5 @@
 -- Victims as they are noted one after another: what each makes of the transactions, and whose call is told.
-use Rattle.std.proofs.Common.{◌≡◌, ◌≢◌, ⊎_elim, ℕ, List, true, false, map, refl, sym, ap, subst, ◌∙◌}
+use Rattle.std.proofs.Common.{◌≡◌, ◌≢◌, ⊎_elim, ℕ, List, [], ◌∷◌, true, false, map, refl, sym, ap, subst, ◌∙◌}
 use Rattle.std.proofs.lemmas.Bool.{cases_Bool}
 use Rattle.laws_lives.specs.Sessions.{EachOnce, SessionTxn, txns_of, with_undo}
 use Rattle.laws_lives.specs.UndoLists.{undo_rolled}
@@ -11,14 +11,16 @@ use Rattle.laws_calls.specs.CallSteps.{with_requests}
 use Rattle.laws_calls.specs.States.{State, Waiting}
 use Rattle.shore_cycles.specs.declared.victims.Victim.{Victim}
 use Rattle.shore_txn.specs.ActiveTxns.{OneBecomes, sessions_of}
-use Rattle.shore_txn.specs.Transactions.{HasTxnOf, kept_in, next_in, room_in, undos_in}
+use Rattle.shore_txn.specs.Transactions.{IsSeatIn, kept_in, next_in, room_in, undos_in}
 use Rattle.shore_txn.specs.Transactions as table
 use Rattle.shore_txn.specs.Txns.{IsDoomed, last_of}
+use Rattle.shore_txn.specs.declared.seat.Seat.{Seat}
 use Rattle.shore_txn.specs.declared.transactions.Transactions.{Transactions}
 use Rattle.shore_txn.specs.declared.txn.Txn.{Txn}
 use Rattle.shore_txn.proofs.ActiveSteps.{becomes_so}
-use Rattle.shore_txn.proofs.OneOfMany.{among_map, map_among, map_with, once_same}
-use Rattle.shore_sessions.specs.Calls.{cycle_noted, is_commit, name_of, names_of}
+use Rattle.shore_txn.proofs.OneOfMany.{map_with, once_same}
+use Rattle.shore_txn.proofs.Seats.{seat_stays}
+use Rattle.shore_sessions.specs.Calls.{cycle_noted, is_commit, names_of}
 use Rattle.shore_sessions.specs.Controls.{HasNoWait, txns_in, waits_in}
 use Rattle.shore_sessions.specs.Noting.{IsNotable, KeepsOwners, HasSessionsOf, victim_noted}
 use Rattle.shore_sessions.specs.Standing.{HasTxns, HasWaits}
@@ -46,11 +48,13 @@ owners_on a b d k l = record {
   memory = λ room. l.memory (k.memory room);
 }
 
--- a session with a transaction has it still
-pub owner_stays : (session : ℕ) (old new : Transactions) → names_of (undos_in new) ≡ names_of (undos_in old) → HasTxnOf session old → HasTxnOf session new
-owner_stays session old new names has =
-    let its = map_among name_of (name_of has.0) (undos_in new) (subst (IsAmong (name_of has.0)) (sym names) (among_map name_of has.0 (undos_in old) has.1)) in
-    (its.0, its.1, ap (λ (n : ℕ × ℕ). n.0) its.2 ∙ has.2)
+-- a seat stays right
+pub seat_named : (seat : Seat) (old new : Transactions) → names_of (undos_in new) ≡ names_of (undos_in old) → IsSeatIn seat old → IsSeatIn seat new
+seat_named seat old new names = seat_stays old new seat (sessions_named (undos_in new) ∙ ap (map (λ (n : ℕ × ℕ). n.0)) names ∙ sym (sessions_named (undos_in old)))
+  where
+    sessions_named : (xs : List SessionTxn) → sessions_of xs ≡ map (λ (n : ℕ × ℕ). n.0) (names_of xs)
+    sessions_named [] = refl
+    sessions_named (a ∷ xs) = ap (λ l. a.session ∷ l) (sessions_named xs)
 
 -- ---- a transaction is doomed
 
@@ -59,8 +63,8 @@ doomed_logged t u after = record { txn = after.txn; last = after.last; entries =
 
 module _ (old new : Transactions) (session : ℕ) (one : OneBecomes session IsDoomed (table.txns_in old) (table.txns_in new))
     (undos : (a : SessionTxn) → IsAmong a (undos_in old) → a.session ≡ session → undos_in new ≡ with_undo a.txn (undo_rolled a.undo a.undo.images Whole) (undos_in old)) where
-  pub names_doomed : HasTxnOf session old → names_of (undos_in new) ≡ names_of (undos_in old)
-  names_doomed has = ap names_of (undos has.0 has.1 has.2) ∙ names-with_undo has.0.txn (undo_rolled has.0.undo has.0.undo.images Whole) (undos_in old)
+  pub names_doomed : (a : SessionTxn) → IsAmong a (undos_in old) → a.session ≡ session → names_of (undos_in new) ≡ names_of (undos_in old)
+  names_doomed a m own = ap names_of (undos a m own) ∙ names-with_undo a.txn (undo_rolled a.undo a.undo.images Whole) (undos_in old)
 
   pub lasts_doomed : map last_of (table.txns_in new) ≡ map last_of (table.txns_in old)
   lasts_doomed = ap (map last_of) one.is ∙ map_with last_of one.newer one.older one.after one.before one.becomes.last ∙ ap (map last_of) (sym one.was)

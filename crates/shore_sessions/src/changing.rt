@@ -16,10 +16,10 @@ ghost use Rattle.shore_txn.specs.ActiveTxns.{HasMore, IsBegun, OneBecomes};
 ghost use Rattle.shore_txn.specs.Transactions as table;
 ghost use Rattle.shore_txn.specs.Txns.{IsAfterChange, SameTxn};
 ghost use Rattle.shore_txn.specs.declared.txn.Txn.{Txn};
-ghost use Rattle.shore_txn.specs.Transactions.{HasNoTxnOf, HasRoomToNote, HasTxnOf, IsUnchanged, kept_in, next_in, room_in, undos_in};
+ghost use Rattle.shore_txn.specs.Transactions.{HasNoTxnOf, HasRoomToNote, IsSeatIn, IsUnchanged, kept_in, next_in, room_in, undos_in};
 
 use crate::control::Control;
-use shore_txn::UndoEntry;
+use shore_txn::{Seat, UndoEntry};
 use shore_types::{SessionId, TxnId};
 use std::alloc::{AllocError, Global};
 
@@ -46,10 +46,10 @@ impl Control {
     }
 
     /// Takes the memory for a change more of a session's transaction. If that fails nothing has changed but the memory.
-    pub fn reserve_entry(&mut self, alloc: Global, session: SessionId) -> Result<(), AllocError>
-        requires there { HasTxnOf session (txns_in self.old) }
-        ensures memory { OnOk result (HasRoomToNote session (txns_in self.new)) }
-        ensures same { OneBecomes session SameTxn (table.txns_in (txns_in self.old)) (table.txns_in (txns_in self.new)) }
+    pub fn reserve_entry(&mut self, alloc: Global, seat: &Seat) -> Result<(), AllocError>
+        requires seated { IsSeatIn seat.now (txns_in self.old) }
+        ensures memory { OnOk result (HasRoomToNote seat.now.session (txns_in self.new)) }
+        ensures same { OneBecomes seat.now.session SameTxn (table.txns_in (txns_in self.old)) (table.txns_in (txns_in self.new)) }
         ensures undos { undos_in (txns_in self.new) ≡ undos_in (txns_in self.old) }
         ensures room { room_in (txns_in self.new) ≡ room_in (txns_in self.old) }
         ensures claims { (p : PageId) → kept_in (txns_in self.new) p ≡ kept_in (txns_in self.old) p }
@@ -57,28 +57,28 @@ impl Control {
         ensures waits { waits_in self.new ≡ waits_in self.old }
         ensures stands { (s : State) → HasControl self.old s → HasControl self.new s }
     {
-        self.txns.reserve_entry(alloc, session)
+        self.txns.reserve_entry(alloc, seat)
     }
 
     /// A change of a session's transaction was logged. `logged` is what its record costs, and `undo` what that of its undo would.
     /// It stands for the state with another image at the id, if nobody else could put an image back there.
-    pub fn note_change(&mut self, session: SessionId, entry: UndoEntry, logged: u64, undo: u64)
-        requires there { HasTxnOf session (txns_in self.old) }
-        requires memory { HasRoomToNote session (txns_in self.old) }
+    pub fn note_change(&mut self, seat: &Seat, entry: UndoEntry, logged: u64, undo: u64)
+        requires seated { IsSeatIn seat.now (txns_in self.old) }
+        requires memory { HasRoomToNote seat.now.session (txns_in self.old) }
         requires short { image_len entry.before ≤ MAX_RECORD_BYTES }
         requires cost { undo ≡ compensation_cost entry.before }
         requires room { (room_in (txns_in self.old)).kept + (room_in (txns_in self.old)).reserved + logged + undo ≤ (room_in (txns_in self.old)).stream_bytes }
-        ensures noted { OneBecomes session (λ old new. IsAfterChange old entry new) (table.txns_in (txns_in self.old)) (table.txns_in (txns_in self.new)) }
+        ensures noted { OneBecomes seat.now.session (λ old new. IsAfterChange old entry new) (table.txns_in (txns_in self.old)) (table.txns_in (txns_in self.new)) }
         ensures reserved { (room_in (txns_in self.new)).reserved ≡ (room_in (txns_in self.old)).reserved + undo }
         ensures claimed { HasMore ((entry.id.slot, image_len entry.before) ∷ []) (kept_in (txns_in self.old) entry.id.page) (kept_in (txns_in self.new) entry.id.page) }
         ensures elsewhere { (p : PageId) → p ≢ entry.id.page → kept_in (txns_in self.new) p ≡ kept_in (txns_in self.old) p }
         ensures locks { locks_in self.new ≡ locks_in self.old }
         ensures waits { waits_in self.new ≡ waits_in self.old }
-        ensures stands { (s : State) (a : SessionTxn) (image : Image) (counts : SlotCounts) → HasControl self.old s → IsOfSession s session a
+        ensures stands { (s : State) (a : SessionTxn) (image : Image) (counts : SlotCounts) → HasControl self.old s → IsOfSession s seat.now.session a
             → entry.lsn ≡ 1 + length s.log → entry.before ≡ get s.sessions.records entry.id → logged ≡ cost_of (Change entry.id entry.before image)
             → Claimed s.sessions.records s.sessions.active s.counts → NoOthers s.sessions.active a.txn entry.id → entry.claim ≡ claim_at (page_slots s entry.id.page) entry.id.slot
             → HasControl self.new (changed s a entry.id image counts) }
     {
-        self.txns.note_change(session, entry, logged, undo);
+        self.txns.note_change(seat, entry, logged, undo);
     }
 }

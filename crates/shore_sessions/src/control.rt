@@ -1,5 +1,5 @@
 //! Active transactions.
-ghost use Rattle.std.specs.Prelude.{◌≡◌, ◌≢◌, ◌+◌, ◌≤◌, ◌↔◌, [], ℕ, IfNone, IfOk, IfSome, IsFalse, IsTrue, false, length, true};
+ghost use Rattle.std.specs.Prelude.{◌≡◌, ◌≢◌, ◌+◌, ◌≤◌, ◌↔◌, [], ℕ, IfNone, IfOk, IfSome, IsTrue, false, length, true};
 ghost use Rattle.std.specs.List.Sorted.{IsPermutation, IsSorted};
 ghost use Rattle.shore_types.specs.declared.layout.TheConstants.{GREATEST_CHECKPOINT, LONGEST_FRAME};
 ghost use Rattle.laws_lives.specs.Sessions.{SessionTxn};
@@ -7,8 +7,8 @@ ghost use Rattle.laws_lives.specs.Views.{IsAmong};
 ghost use Rattle.shore_locks.specs.Listing.{request_cmp};
 ghost use Rattle.shore_locks.specs.Tables.{is_waiting};
 ghost use Rattle.laws_calls.specs.CallSteps.{txn_count};
-ghost use Rattle.laws_calls.specs.States.{DoesNotWait, HasNoTxn, IsInTxn, IsOfSession, State};
-ghost use Rattle.shore_txn.specs.Transactions.{HasNoTxnOf, HasTxnOf, next_in, room_in, undos_in};
+ghost use Rattle.laws_calls.specs.States.{DoesNotWait, IsOfSession, State};
+ghost use Rattle.shore_txn.specs.Transactions.{HasNoTxnOf, IsSeatIn, next_in, room_in, undos_in};
 ghost use Rattle.shore_txn.specs.Transactions as table;
 ghost use Rattle.shore_txn.specs.Txns.{as_session_txn};
 ghost use Rattle.shore_sessions.specs.Calls.{as_waiting, commits_of, is_commit};
@@ -16,7 +16,7 @@ ghost use Rattle.shore_sessions.specs.Calls.{as_waiting, commits_of, is_commit};
 use crate::waits::{WaitingCall, Waits};
 use shore_locks::LockTable;
 use shore_model::Request;
-use shore_txn::{Transactions, Txn};
+use shore_txn::{Seat, Transactions, Txn};
 use shore_types::{SessionId, TxnId};
 use std::alloc::{AllocError, Global};
 
@@ -58,25 +58,24 @@ impl Control {
         &self.txns
     }
 
-    /// The transaction under way of a session.
-    pub fn txn(&self, session: SessionId) -> Option<&Txn>
-        ensures some { IfSome result (λ t. IsAmong t.now (table.txns_in (txns_in self.now)) × (t.now.session ≡ session)) }
-        ensures there { IfSome result (λ t. IsAmong (as_session_txn t.now) (undos_in (txns_in self.now))) }
+    /// Where the transaction under way of a session is.
+    pub fn seat(&self, session: SessionId) -> Option<Seat>
+        ensures some { IfSome result (λ seat. IsSeatIn seat (txns_in self.now) × (seat.session ≡ session)) }
         ensures none { IfNone result (HasNoTxnOf session (txns_in self.now)) }
-        ensures of_session { IfSome result (λ t. (s : State) → HasControl self.now s → IsOfSession s session (as_session_txn t.now)) }
         ensures of_none { IfNone result ((s : State) → HasControl self.now s → (a : SessionTxn) → IsOfSession s session a → ⊥) }
     {
-        self.txns.txn(session)
+        self.txns.seat(session)
     }
 
-    /// Whether a session is in a transaction under way. If not, and no call of it waits, it is in none.
-    pub fn has_txn(&self, session: SessionId) -> bool
-        ensures some { IsTrue result → HasTxnOf session (txns_in self.now) }
-        ensures none { IsFalse result → HasNoTxnOf session (txns_in self.now) }
-        ensures in_txn { IsTrue result → (s : State) → HasControl self.now s → IsInTxn s session }
-        ensures in_none { IsFalse result → (s : State) → HasControl self.now s → s.failed ≡ false → DoesNotWait s session → HasNoTxn s session }
+    /// The transaction at a seat.
+    pub fn txn(&self, seat: &Seat) -> &Txn
+        requires { IsSeatIn seat.now (txns_in self.now) }
+        ensures among { IsAmong result.now (table.txns_in (txns_in self.now)) }
+        ensures there { IsAmong (as_session_txn result.now) (undos_in (txns_in self.now)) }
+        ensures session { result.now.session ≡ seat.now.session }
+        ensures of_session { (s : State) → HasControl self.now s → IsOfSession s seat.now.session (as_session_txn result.now) }
     {
-        self.txns.txn(session).is_some()
+        self.txns.txn(seat)
     }
 
     /// How many transactions there are, with those whose commits wait.

@@ -15,7 +15,7 @@ ghost use Rattle.laws_calls.specs.CallSteps.{on_conflict_of};
 ghost use Rattle.laws_calls.specs.Events.{IsStateAfter};
 ghost use Rattle.laws_calls.specs.LockRounds.{LocksTo};
 ghost use Rattle.laws_calls.specs.States.{IsOfSession, State};
-ghost use Rattle.shore_txn.specs.Transactions.{HasTxnOf, kept_in, next_in, room_in, undos_in};
+ghost use Rattle.shore_txn.specs.Transactions.{IsSeatIn, kept_in, next_in, room_in, undos_in};
 ghost use Rattle.shore_txn.specs.Transactions as table;
 ghost use Rattle.shore_txn.specs.Txns.{last_of};
 ghost use Rattle.shore_sessions.specs.Calls.{names_of};
@@ -25,6 +25,7 @@ use crate::control::Control;
 use shore_deadlock::{Locked, Reply, Victim};
 use shore_locks::laws::tables_are_orderly;
 use shore_path::{Acquired, OnConflict};
+use shore_txn::Seat;
 use shore_types::{Fault, Granule, Mode, Sequence, SessionId, TxnId};
 use std::alloc::Global;
 
@@ -40,33 +41,33 @@ impl Control {
     pub fn lock(
         &mut self,
         alloc: Global,
-        session: SessionId,
+        seat: &Seat,
         txn: TxnId,
         granule: Granule,
         mode: Mode,
         on_conflict: OnConflict,
     ) -> Result<Acquired, Fault>
         requires quiet { is_waiting txn (locks_in self.old).requests ≡ false }
-        requires free { HasNoWait session self.old }
-        requires owner { HasTxnOf session (txns_in self.old) }
+        requires free { HasNoWait seat.now.session self.old }
+        requires seated { IsSeatIn seat.now (txns_in self.old) }
         ensures locks { (s : State) (found : List LogRecord) (es : List Entry) (a : SessionTxn) (c : Call) → HasControl self.old s → IsStateAfter found es s
-            → s.failed ≡ false → IsOfSession s session a → a.txn ≡ txn → on_conflict_of c ≡ on_conflict
+            → s.failed ≡ false → IsOfSession s seat.now.session a → a.txn ≡ txn → on_conflict_of c ≡ on_conflict
             → (new : State) × LocksTo s a c (record { granule = granule; mode = mode }) result new × HasControl self.new new }
         ensures reached { result ≡ Ok Acquired.Done → IsReached (locks_in self.new).requests txn granule mode }
         ensures quiet { ((at : Granule) → result ≢ Ok (Acquired.Waiting at)) → is_waiting txn (locks_in self.new).requests ≡ false }
         ensures plain { IfErr result IsOfNoDevice }
-        ensures owner { HasTxnOf session (txns_in self.new) }
+        ensures seated { IsSeatIn seat.now (txns_in self.new) }
         ensures names { names_of (undos_in (txns_in self.new)) ≡ names_of (undos_in (txns_in self.old)) }
         ensures lasts { map last_of (table.txns_in (txns_in self.new)) ≡ map last_of (table.txns_in (txns_in self.old)) }
         ensures next { next_in (txns_in self.new) ≡ next_in (txns_in self.old) }
         ensures room { room_in (txns_in self.new) ≡ room_in (txns_in self.old) }
         ensures claims { (p : PageId) → kept_in (txns_in self.new) p ≡ kept_in (txns_in self.old) p }
-        ensures free { HasNoWait session self.new }
+        ensures free { HasNoWait seat.now.session self.new }
         ensures memory { HasWaitRoom self.old → HasWaitRoom self.new }
     {
         match on_conflict {
             OnConflict::Refuse => self.acquire(txn, granule, mode, OnConflict::Refuse),
-            OnConflict::Wait => self.lock_or_wait(alloc, session, txn, granule, mode),
+            OnConflict::Wait => self.lock_or_wait(alloc, seat, txn, granule, mode),
         }
     }
 
@@ -74,27 +75,27 @@ impl Control {
     fn lock_or_wait(
         &mut self,
         alloc: Global,
-        session: SessionId,
+        seat: &Seat,
         txn: TxnId,
         granule: Granule,
         mode: Mode,
     ) -> Result<Acquired, Fault>
         requires quiet { is_waiting txn (locks_in self.old).requests ≡ false }
-        requires free { HasNoWait session self.old }
-        requires owner { HasTxnOf session (txns_in self.old) }
+        requires free { HasNoWait seat.now.session self.old }
+        requires seated { IsSeatIn seat.now (txns_in self.old) }
         ensures locks { (s : State) (found : List LogRecord) (es : List Entry) (a : SessionTxn) (c : Call) → HasControl self.old s → IsStateAfter found es s
-            → s.failed ≡ false → IsOfSession s session a → a.txn ≡ txn → on_conflict_of c ≡ conflict.Wait
+            → s.failed ≡ false → IsOfSession s seat.now.session a → a.txn ≡ txn → on_conflict_of c ≡ conflict.Wait
             → (new : State) × LocksTo s a c (record { granule = granule; mode = mode }) result new × HasControl self.new new }
         ensures reached { result ≡ Ok Acquired.Done → IsReached (locks_in self.new).requests txn granule mode }
         ensures quiet { ((at : Granule) → result ≢ Ok (Acquired.Waiting at)) → is_waiting txn (locks_in self.new).requests ≡ false }
         ensures refused { IfErr result RefusesToLock }
-        ensures owner { HasTxnOf session (txns_in self.new) }
+        ensures seated { IsSeatIn seat.now (txns_in self.new) }
         ensures names { names_of (undos_in (txns_in self.new)) ≡ names_of (undos_in (txns_in self.old)) }
         ensures lasts { map last_of (table.txns_in (txns_in self.new)) ≡ map last_of (table.txns_in (txns_in self.old)) }
         ensures next { next_in (txns_in self.new) ≡ next_in (txns_in self.old) }
         ensures room { room_in (txns_in self.new) ≡ room_in (txns_in self.old) }
         ensures claims { (p : PageId) → kept_in (txns_in self.new) p ≡ kept_in (txns_in self.old) p }
-        ensures free { HasNoWait session self.new }
+        ensures free { HasNoWait seat.now.session self.new }
         ensures memory { HasWaitRoom self.old → HasWaitRoom self.new }
     {
         // This does nothing: it brings the fact that the requests are orderly.
@@ -110,7 +111,7 @@ impl Control {
                     *granule,
                     mode,
                 );
-                let told = self.note_victims(session, txn, victims);
+                let told = self.note_victims(seat.session, txn, victims);
                 answer_of(answer, told)
             }
         }
@@ -165,8 +166,8 @@ impl Control {
         ensures stands { (s : State) (b : SessionTxn) (cycle : List ℕ) → HasTxns (txns_in self.old) s → IsAmong b s.sessions.active → b.session ≡ session
             → HasTxns (txns_in self.new) (victim_noted s b cycle) }
     {
-        if self.has_txn(session) {
-            self.txns.doom(session);
+        if let Some(seat) = self.txns.seat(session) {
+            self.txns.doom(&seat);
         }
     }
 }

@@ -11,7 +11,7 @@ ghost use Rattle.laws_calls.specs.StateChanges.{committed};
 ghost use Rattle.laws_calls.specs.CallSteps.{commit_ended};
 ghost use Rattle.laws_calls.specs.States.{IsOfSession, State};
 ghost use Rattle.shore_txn.specs.ActiveTxns.{HasMore, OneLeaves};
-ghost use Rattle.shore_txn.specs.Transactions.{HasTxnOf, kept_in};
+ghost use Rattle.shore_txn.specs.Transactions.{IsSeatIn, kept_in};
 ghost use Rattle.shore_txn.specs.Transactions as table;
 ghost use Rattle.shore_txn.specs.UndoEntries.{claims_on, images_of};
 ghost use Rattle.shore_sessions.specs.declared.waits.WaitingCall.{WaitingCall};
@@ -19,7 +19,7 @@ ghost use Rattle.shore_sessions.specs.declared.waits.WaitingCall.{WaitingCall};
 use crate::control::Control;
 use crate::waits::WaitingCall;
 use shore_model::{Call, Wait};
-use shore_txn::UndoEntry;
+use shore_txn::{Seat, UndoEntry};
 use shore_types::{Lsn, SessionId};
 
 impl Control {
@@ -28,21 +28,21 @@ impl Control {
 
     /// The Commit of a session's transaction was logged under this number: its call waits for the force, and its locks stay. Answers its changes,
     /// the oldest first, whose claims go now.
-    pub fn commit(&mut self, session: SessionId, number: Lsn) -> Vec<UndoEntry>
-        requires there { HasTxnOf session (txns_in self.old) }
+    pub fn commit(&mut self, seat: &Seat, number: Lsn) -> Vec<UndoEntry>
+        requires seated { IsSeatIn seat.now (txns_in self.old) }
         requires memory { HasWaitRoom self.old }
-        requires free { HasNoWait session self.old }
-        ensures left { OneLeaves session result.items (table.txns_in (txns_in self.old)) (table.txns_in (txns_in self.new)) }
+        requires free { HasNoWait seat.now.session self.old }
+        ensures left { OneLeaves seat.now.session result.items (table.txns_in (txns_in self.old)) (table.txns_in (txns_in self.new)) }
         ensures claims { (p : PageId) → HasMore (claims_on p result.items) (kept_in (txns_in self.new) p) (kept_in (txns_in self.old) p) }
-        ensures waits { (a : SessionTxn) → IsAmong a (table.undos_in (txns_in self.old)) → a.session ≡ session
-            → waits_in self.new ≡ waits_in self.old ++ record { session = session; txn = a.txn; call = Call.Commit; wait = Wait.Durable number; cycle = None } ∷ [] }
+        ensures waits { (a : SessionTxn) → IsAmong a (table.undos_in (txns_in self.old)) → a.session ≡ seat.now.session
+            → waits_in self.new ≡ waits_in self.old ++ record { session = seat.now.session; txn = a.txn; call = Call.Commit; wait = Wait.Durable number; cycle = None } ∷ [] }
         ensures locks { locks_in self.new ≡ locks_in self.old }
-        ensures undone { (s : State) (a : SessionTxn) → HasControl self.old s → IsOfSession s session a → images_of result.items ≡ a.undo.images }
-        ensures stands { (s : State) (a : SessionTxn) → HasControl self.old s → IsOfSession s session a → number ≡ 1 + length s.log → HasControl self.new (committed s a) }
+        ensures undone { (s : State) (a : SessionTxn) → HasControl self.old s → IsOfSession s seat.now.session a → images_of result.items ≡ a.undo.images }
+        ensures stands { (s : State) (a : SessionTxn) → HasControl self.old s → IsOfSession s seat.now.session a → number ≡ 1 + length s.log → HasControl self.new (committed s a) }
     {
-        let (txn, changes) = self.txns.note_commit(session);
+        let (txn, changes) = self.txns.note_commit(seat);
         self.waits.push(WaitingCall {
-            session,
+            session: seat.session,
             txn,
             call: Call::Commit,
             wait: Wait::Durable(number),

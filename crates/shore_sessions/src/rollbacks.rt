@@ -16,14 +16,14 @@ ghost use Rattle.laws_calls.specs.StateChanges.{answered};
 ghost use Rattle.laws_calls.specs.States.{IsOfSession, State};
 ghost use Rattle.shore_txn.specs.ActiveTxns.{HasMore, OneBecomes, OneLeaves};
 ghost use Rattle.shore_txn.specs.Transactions as table;
-ghost use Rattle.shore_txn.specs.Transactions.{HasTxnOf, kept_in, room_in, undos_in};
+ghost use Rattle.shore_txn.specs.Transactions.{IsSeatIn, kept_in, room_in, undos_in};
 ghost use Rattle.shore_txn.specs.Txns.{IsAfterSavepoint, IsAfterUndo, IsBackAt, SameTxn};
 ghost use Rattle.shore_txn.specs.UndoEntries.{image_of};
 
 use crate::control::Control;
 use shore_model::Rollback;
-use shore_txn::UndoEntry;
-use shore_types::{Lsn, SessionId};
+use shore_txn::{Seat, UndoEntry};
+use shore_types::Lsn;
 use std::alloc::AllocError;
 
 impl Control {
@@ -31,81 +31,81 @@ impl Control {
     ghost use Rattle.shore_sessions.specs.Standing.{HasControl, abort_ended, put_back};
 
     /// A savepoint more of a session's transaction. Answers its index. If memory is short nothing has changed.
-    pub fn savepoint(&mut self, session: SessionId) -> Result<usize, AllocError>
-        requires there { HasTxnOf session (txns_in self.old) }
-        requires few { (a : SessionTxn) → IsAmong a (undos_in (txns_in self.old)) → a.session ≡ session → length a.undo.marks < MAX_SAVEPOINTS }
-        ensures set { OnOk result (OneBecomes session IsAfterSavepoint (table.txns_in (txns_in self.old)) (table.txns_in (txns_in self.new))) }
-        ensures same { OnErr result (OneBecomes session SameTxn (table.txns_in (txns_in self.old)) (table.txns_in (txns_in self.new))) }
+    pub fn savepoint(&mut self, seat: &Seat) -> Result<usize, AllocError>
+        requires seated { IsSeatIn seat.now (txns_in self.old) }
+        requires few { (a : SessionTxn) → IsAmong a (undos_in (txns_in self.old)) → a.session ≡ seat.now.session → length a.undo.marks < MAX_SAVEPOINTS }
+        ensures set { OnOk result (OneBecomes seat.now.session IsAfterSavepoint (table.txns_in (txns_in self.old)) (table.txns_in (txns_in self.new))) }
+        ensures same { OnErr result (OneBecomes seat.now.session SameTxn (table.txns_in (txns_in self.old)) (table.txns_in (txns_in self.new))) }
         ensures room { room_in (txns_in self.new) ≡ room_in (txns_in self.old) }
         ensures claims { (p : PageId) → kept_in (txns_in self.new) p ≡ kept_in (txns_in self.old) p }
         ensures locks { locks_in self.new ≡ locks_in self.old }
         ensures waits { waits_in self.new ≡ waits_in self.old }
-        ensures stands { IfOk result (λ index. (s : State) (a : SessionTxn) → HasControl self.old s → IsOfSession s session a
+        ensures stands { IfOk result (λ index. (s : State) (a : SessionTxn) → HasControl self.old s → IsOfSession s seat.now.session a
             → (index ≡ length a.undo.marks) × HasControl self.new (answered s a call.Savepoint (Saved index) s.counts)) }
         ensures unchanged { OnErr result ((s : State) → HasControl self.old s → HasControl self.new s) }
     {
-        self.txns.savepoint(session)
+        self.txns.savepoint(seat)
     }
 
     /// The newest change of a session's transaction was put back in this rollback, and its Compensation, which costs so much, was logged under this
     /// number. Hands the change over, with what its slot claims now. It takes no memory.
     pub fn note_compensation(
         &mut self,
-        session: SessionId,
+        seat: &Seat,
         lsn: Lsn,
         rollback: Rollback,
         cost: u64,
     ) -> UndoEntry
-        requires there { HasTxnOf session (txns_in self.old) }
-        requires some { (a : SessionTxn) → IsAmong a (undos_in (txns_in self.old)) → a.session ≡ session → a.undo.images ≢ [] }
-        requires cost { (a : SessionTxn) (kept : List (Rid × Image)) (e : Rid × Image) → IsAmong a (undos_in (txns_in self.old)) → a.session ≡ session
+        requires seated { IsSeatIn seat.now (txns_in self.old) }
+        requires some { (a : SessionTxn) → IsAmong a (undos_in (txns_in self.old)) → a.session ≡ seat.now.session → a.undo.images ≢ [] }
+        requires cost { (a : SessionTxn) (kept : List (Rid × Image)) (e : Rid × Image) → IsAmong a (undos_in (txns_in self.old)) → a.session ≡ seat.now.session
             → a.undo.images ≡ kept ++ e ∷ [] → cost ≡ compensation_cost e.1 }
-        ensures undone { OneBecomes session (IsAfterUndo lsn rollback result) (table.txns_in (txns_in self.old)) (table.txns_in (txns_in self.new)) }
+        ensures undone { OneBecomes seat.now.session (IsAfterUndo lsn rollback result) (table.txns_in (txns_in self.old)) (table.txns_in (txns_in self.new)) }
         ensures reserved { (room_in (txns_in self.new)).reserved + cost ≡ (room_in (txns_in self.old)).reserved }
         ensures claimed { HasMore ((result.id.slot, image_len result.before) ∷ []) (kept_in (txns_in self.new) result.id.page) (kept_in (txns_in self.old) result.id.page) }
         ensures elsewhere { (p : PageId) → p ≢ result.id.page → kept_in (txns_in self.new) p ≡ kept_in (txns_in self.old) p }
         ensures locks { locks_in self.new ≡ locks_in self.old }
         ensures waits { waits_in self.new ≡ waits_in self.old }
-        ensures newest { (s : State) (a : SessionTxn) → HasControl self.old s → IsOfSession s session a
+        ensures newest { (s : State) (a : SessionTxn) → HasControl self.old s → IsOfSession s seat.now.session a
             → (kept : List (Rid × Image)) × (a.undo.images ≡ kept ++ image_of result ∷ []) }
-        ensures claim { (s : State) (a : SessionTxn) (kept : List (Rid × Image)) → HasControl self.old s → IsOfSession s session a
+        ensures claim { (s : State) (a : SessionTxn) (kept : List (Rid × Image)) → HasControl self.old s → IsOfSession s seat.now.session a
             → a.undo.images ≡ kept ++ image_of result ∷ [] → result.claim ≡ claim_before kept (image_of result) }
-        ensures stands { (s : State) (a : SessionTxn) (kept : List (Rid × Image)) → HasControl self.old s → IsOfSession s session a
+        ensures stands { (s : State) (a : SessionTxn) (kept : List (Rid × Image)) → HasControl self.old s → IsOfSession s seat.now.session a
             → a.undo.images ≡ kept ++ image_of result ∷ [] → lsn ≡ 1 + length s.log → HasControl self.new (put_back s a kept (image_of result) rollback) }
     {
-        self.txns.note_compensation(session, lsn, rollback, cost)
+        self.txns.note_compensation(seat, lsn, rollback, cost)
     }
 
     /// A session's transaction is back at the savepoint of this index, behind which it has no change left: the savepoints behind it are gone. It takes
     /// no memory.
-    pub fn go_back(&mut self, session: SessionId, index: usize)
-        requires there { HasTxnOf session (txns_in self.old) }
-        ensures back { OneBecomes session (IsBackAt index) (table.txns_in (txns_in self.old)) (table.txns_in (txns_in self.new)) }
+    pub fn go_back(&mut self, seat: &Seat, index: usize)
+        requires seated { IsSeatIn seat.now (txns_in self.old) }
+        ensures back { OneBecomes seat.now.session (IsBackAt index) (table.txns_in (txns_in self.old)) (table.txns_in (txns_in self.new)) }
         ensures room { room_in (txns_in self.new) ≡ room_in (txns_in self.old) }
         ensures claims { (p : PageId) → kept_in (txns_in self.new) p ≡ kept_in (txns_in self.old) p }
         ensures locks { locks_in self.new ≡ locks_in self.old }
         ensures waits { waits_in self.new ≡ waits_in self.old }
-        ensures stands { (s : State) (a : SessionTxn) → HasControl self.old s → IsOfSession s session a → images_since a.undo index ≡ []
+        ensures stands { (s : State) (a : SessionTxn) → HasControl self.old s → IsOfSession s seat.now.session a → images_since a.undo index ≡ []
             → HasControl self.new (answered s a (call.BackTo index) WentBack s.counts) }
     {
-        self.txns.go_back(session, index);
+        self.txns.go_back(seat, index);
     }
 
     /// The abort of a session's transaction has ended, which has no change left: it is in the table no more, and its locks go. Its End was appended if it
     /// is logged.
-    pub fn end_abort(&mut self, session: SessionId, logged: bool)
-        requires there { HasTxnOf session (txns_in self.old) }
-        requires empty { (a : SessionTxn) → IsAmong a (undos_in (txns_in self.old)) → a.session ≡ session → a.undo.images ≡ [] }
-        requires free { HasNoWait session self.old }
-        ensures left { OneLeaves session [] (table.txns_in (txns_in self.old)) (table.txns_in (txns_in self.new)) }
+    pub fn end_abort(&mut self, seat: &Seat, logged: bool)
+        requires seated { IsSeatIn seat.now (txns_in self.old) }
+        requires empty { (a : SessionTxn) → IsAmong a (undos_in (txns_in self.old)) → a.session ≡ seat.now.session → a.undo.images ≡ [] }
+        requires free { HasNoWait seat.now.session self.old }
+        ensures left { OneLeaves seat.now.session [] (table.txns_in (txns_in self.old)) (table.txns_in (txns_in self.new)) }
         ensures reserved { (room_in (txns_in self.new)).reserved + ENDING_COST ≡ (room_in (txns_in self.old)).reserved }
         ensures claims { (p : PageId) → kept_in (txns_in self.new) p ≡ kept_in (txns_in self.old) p }
-        ensures locks { (a : SessionTxn) → IsAmong a (undos_in (txns_in self.old)) → a.session ≡ session
+        ensures locks { (a : SessionTxn) → IsAmong a (undos_in (txns_in self.old)) → a.session ≡ seat.now.session
             → locks_in self.new ≡ record { limit = (locks_in self.old).limit; requests = released a.txn (locks_in self.old).requests } }
         ensures waits { waits_in self.new ≡ waits_in self.old }
-        ensures stands { (s : State) (a : SessionTxn) → HasControl self.old s → IsOfSession s session a → HasControl self.new (abort_ended s a logged) }
+        ensures stands { (s : State) (a : SessionTxn) → HasControl self.old s → IsOfSession s seat.now.session a → HasControl self.new (abort_ended s a logged) }
     {
-        let txn = self.txns.note_end(session, logged);
+        let txn = self.txns.note_end(seat, logged);
         self.locks.release_all(txn);
     }
 }

@@ -99,18 +99,6 @@ none_of items session none b m is =
     let i = index_of a.0 items a.1 in
     none i.0 a.0 i.2 (ap (λ (a : ActiveTxn). a.txn.session) (get_or_from_slice_get items i.0 a.0 a.0 i.1) ∙ ap (λ (t : Txn). t.session) a.2 ∙ ap (λ (b : SessionTxn). b.session) t.2 ∙ is)
 
--- a transaction that was read at an index
-pub found_at : (items : List ActiveTxn) (index : ℕ) (read : ActiveTxn) (t : Txn) (P : ActiveTxn → Type 0) → index < length items → HoldsAt P items index → read ≡ slice_index_or items index read → t ≡ read.txn
-    → P read × IsAmong t (active.txns_of items) × IsAmong (as_session_txn t) (undos_of items)
-found_at items index read t P inside holds is same =
-    let one = one_at items index inside in
-    let it : one.0 ≡ read = sym (is ∙ read_at one.1 read) in
-    let its : one.0.txn ≡ t = ap (λ (a : ActiveTxn). a.txn) it ∙ sym same in (
-      subst P it (holds_at one.1 P holds),
-      subst (λ u. IsAmong u (active.txns_of items)) its (txn_there one.1),
-      subst (λ u. IsAmong (as_session_txn u) (undos_of items)) its (session_txn_there one.1),
-    )
-
 -- one more, the newest
 pub txns_more : (old mid new : List ActiveTxn) (a : ActiveTxn) → new ≡ mid ++ a ∷ [] → mid ≡ old → active.txns_of new ≡ a.txn ∷ active.txns_of old
 txns_more old mid new a is same = ap active.txns_of is ∙ txns_parts mid [] a ∙ ap (λ l. a.txn ∷ active.txns_of l) same

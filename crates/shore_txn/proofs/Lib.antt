@@ -4,6 +4,7 @@ pub mod ClaimLemmas
 pub mod KeptLemmas
 pub mod OneOfMany
 pub mod ActiveLemmas
+pub mod Seats
 pub mod ActiveSteps
 pub mod ActivePlaces
 pub mod ActiveKept

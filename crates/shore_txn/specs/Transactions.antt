@@ -1,13 +1,14 @@
 -- What the table of transactions has.
-use Rattle.std.specs.Prelude.{◌≡◌, ◌≢◌, ℕ, List}
+use Rattle.std.specs.Prelude.{◌≡◌, ◌≢◌, ℕ, List, Some, reverse, slice_get}
 use Rattle.shore_types.specs.declared.ids.PageId.{PageId}
 use Rattle.laws_lives.specs.Sessions.{SessionTxn}
 use Rattle.laws_lives.specs.Views.{IsAmong}
 use Rattle.shore_txn.specs.declared.active.ActiveTxn.{ActiveTxn}
 use Rattle.shore_txn.specs.declared.log_room.LogRoom.{LogRoom}
+use Rattle.shore_txn.specs.declared.seat.Seat.{Seat}
 use Rattle.shore_txn.specs.declared.transactions.Transactions.{Transactions}
 use Rattle.shore_txn.specs.declared.txn.Txn.{Txn}
-use Rattle.shore_txn.specs.ActiveTxns.{CanNote, IsPlace, all_changes, changes_to, own_place, session_txns, txn_index, txns_of}
+use Rattle.shore_txn.specs.ActiveTxns.{CanNote, IsPlace, all_changes, changes_to, own_place, session_txns, sessions_of, txn_index, txns_of}
 use Rattle.shore_txn.specs.Chains.{bucket_of}
 use Rattle.shore_txn.specs.UndoEntries.{claims_on}
 
@@ -26,13 +27,17 @@ next_in table = table.next
 abbrev pub room_in : Transactions → LogRoom
 room_in table = table.room
 
--- a transaction of the session is under way
-abbrev pub HasTxnOf : ℕ → Transactions → Type 0
-HasTxnOf session table = (a : SessionTxn) × IsAmong a (undos_in table) × (a.session ≡ session)
-
--- none is
+-- no transaction of the session is under way
 abbrev pub HasNoTxnOf : ℕ → Transactions → Type 0
 HasNoTxnOf session table = (a : SessionTxn) → IsAmong a (undos_in table) → a.session ≢ session
+
+-- the sessions that have one, by the places of theirs: that of the oldest first
+abbrev pub sessions_in : Transactions → List ℕ
+sessions_in table = reverse (sessions_of (undos_in table))
+
+-- at the seat's index is the transaction of its session
+abbrev pub IsSeatIn : Seat → Transactions → Type 0
+IsSeatIn seat table = slice_get (sessions_in table) seat.index ≡ Some seat.session
 
 -- a change more of the session's transaction needs no memory
 abbrev pub HasRoomToNote : ℕ → Transactions → Type 0

@@ -9,12 +9,14 @@ mod guesses;
 pub mod laws;
 mod log_room;
 mod savepoints;
+mod seat;
 mod transactions;
 mod txn;
 mod txn_state;
 mod undo;
 
 pub use log_room::LogRoom;
+pub use seat::Seat;
 pub use transactions::Transactions;
 pub use txn::Txn;
 pub use txn_state::TxnState;

@@ -13,49 +13,49 @@ ghost use Rattle.shore_txn.specs.ActiveTxns.{HasMore, OneBecomes, OneLeaves, bac
 ghost use Rattle.shore_txn.specs.Txns.{IsAfterSavepoint, IsAfterUndo, IsBackAt, IsDoomed, SameTxn};
 ghost use Rattle.shore_txn.specs.UndoEntries.{image_of};
 
+use crate::seat::Seat;
 use crate::transactions::Transactions;
 use crate::undo::UndoEntry;
 use shore_model::Rollback;
 use shore_types::layout::ENDING_COST;
-use shore_types::{Lsn, SessionId, TxnId};
+use shore_types::{Lsn, TxnId};
 use std::alloc::AllocError;
 
 impl Transactions {
-    ghost use Rattle.shore_txn.specs.Transactions.{HasTxnOf, kept_in, next_in, room_in, txns_in, undos_in};
+    ghost use Rattle.shore_txn.specs.Transactions.{IsSeatIn, kept_in, next_in, room_in, txns_in, undos_in};
 
     /// A savepoint more of a session's transaction. Answers its index. If memory is short nothing has changed.
-    pub fn savepoint(&mut self, session: SessionId) -> Result<usize, AllocError>
-        requires there { HasTxnOf session self.old }
-        requires few { (a : SessionTxn) → IsAmong a (undos_in self.old) → a.session ≡ session → length a.undo.marks < MAX_SAVEPOINTS }
-        ensures set { OnOk result (OneBecomes session IsAfterSavepoint (txns_in self.old) (txns_in self.new)) }
-        ensures index { IfOk result (λ index. (a : SessionTxn) → IsAmong a (undos_in self.old) → a.session ≡ session → index ≡ length a.undo.marks) }
-        ensures undos { OnOk result ((a : SessionTxn) → IsAmong a (undos_in self.old) → a.session ≡ session
+    pub fn savepoint(&mut self, seat: &Seat) -> Result<usize, AllocError>
+        requires seated { IsSeatIn seat.now self.old }
+        requires few { (a : SessionTxn) → IsAmong a (undos_in self.old) → a.session ≡ seat.now.session → length a.undo.marks < MAX_SAVEPOINTS }
+        ensures set { OnOk result (OneBecomes seat.now.session IsAfterSavepoint (txns_in self.old) (txns_in self.new)) }
+        ensures index { IfOk result (λ index. (a : SessionTxn) → IsAmong a (undos_in self.old) → a.session ≡ seat.now.session → index ≡ length a.undo.marks) }
+        ensures undos { OnOk result ((a : SessionTxn) → IsAmong a (undos_in self.old) → a.session ≡ seat.now.session
             → undos_in self.new ≡ with_undo a.txn (with_mark a.undo) (undos_in self.old)) }
-        ensures same { OnErr result (OneBecomes session SameTxn (txns_in self.old) (txns_in self.new)) }
+        ensures same { OnErr result (OneBecomes seat.now.session SameTxn (txns_in self.old) (txns_in self.new)) }
         ensures unchanged { OnErr result (undos_in self.new ≡ undos_in self.old) }
         ensures claims { (p : PageId) → kept_in self.new p ≡ kept_in self.old p }
         ensures next { next_in self.new ≡ next_in self.old }
         ensures room { room_in self.new ≡ room_in self.old }
     {
-        let index = self.index_of(session);
-        self.active[index].savepoint()
+        self.active[seat.index].savepoint()
     }
 
     /// The newest change of a session's transaction was put back in this rollback, and its Compensation, which costs so much, was logged under this
     /// number: what was reserved for it pays for it. Hands the change over, whose claim goes now. It takes no memory.
     pub fn note_compensation(
         &mut self,
-        session: SessionId,
+        seat: &Seat,
         lsn: Lsn,
         rollback: Rollback,
         cost: u64,
     ) -> UndoEntry
-        requires there { HasTxnOf session self.old }
-        requires some { (a : SessionTxn) → IsAmong a (undos_in self.old) → a.session ≡ session → a.undo.images ≢ [] }
-        requires cost { (a : SessionTxn) (kept : List (Rid × Image)) (e : Rid × Image) → IsAmong a (undos_in self.old) → a.session ≡ session
+        requires seated { IsSeatIn seat.now self.old }
+        requires some { (a : SessionTxn) → IsAmong a (undos_in self.old) → a.session ≡ seat.now.session → a.undo.images ≢ [] }
+        requires cost { (a : SessionTxn) (kept : List (Rid × Image)) (e : Rid × Image) → IsAmong a (undos_in self.old) → a.session ≡ seat.now.session
             → a.undo.images ≡ kept ++ e ∷ [] → cost ≡ compensation_cost e.1 }
-        ensures undone { OneBecomes session (IsAfterUndo lsn rollback result) (txns_in self.old) (txns_in self.new) }
-        ensures undos { (a : SessionTxn) → IsAmong a (undos_in self.old) → a.session ≡ session
+        ensures undone { OneBecomes seat.now.session (IsAfterUndo lsn rollback result) (txns_in self.old) (txns_in self.new) }
+        ensures undos { (a : SessionTxn) → IsAmong a (undos_in self.old) → a.session ≡ seat.now.session
             → (kept : List (Rid × Image)) × (a.undo.images ≡ kept ++ image_of result ∷ [])
             × (undos_in self.new ≡ with_undo a.txn (undo_rolled a.undo kept rollback) (undos_in self.old)) }
         ensures claimed { HasMore ((result.id.slot, image_len result.before) ∷ []) (kept_in self.new result.id.page) (kept_in self.old result.id.page) }
@@ -65,57 +65,54 @@ impl Transactions {
         ensures kept { (room_in self.new).kept ≡ (room_in self.old).kept + cost }
         ensures stream { (room_in self.new).stream_bytes ≡ (room_in self.old).stream_bytes }
     {
-        let index = self.index_of(session);
-        let undone = self.active[index].note_compensation(lsn, rollback, cost);
+        let undone = self.active[seat.index].note_compensation(lsn, rollback, cost);
         self.room.release(cost);
         self.room.append(cost);
         undone
     }
 
     /// A session's transaction is back at the savepoint of this index: those behind it are gone. It takes no memory.
-    pub fn go_back(&mut self, session: SessionId, index: usize)
-        requires there { HasTxnOf session self.old }
-        ensures back { OneBecomes session (IsBackAt index) (txns_in self.old) (txns_in self.new) }
-        ensures undos { (a : SessionTxn) → IsAmong a (undos_in self.old) → a.session ≡ session
+    pub fn go_back(&mut self, seat: &Seat, index: usize)
+        requires seated { IsSeatIn seat.now self.old }
+        ensures back { OneBecomes seat.now.session (IsBackAt index) (txns_in self.old) (txns_in self.new) }
+        ensures undos { (a : SessionTxn) → IsAmong a (undos_in self.old) → a.session ≡ seat.now.session
             → undos_in self.new ≡ with_undo a.txn (back_at index a.undo) (undos_in self.old) }
         ensures claims { (p : PageId) → kept_in self.new p ≡ kept_in self.old p }
         ensures next { next_in self.new ≡ next_in self.old }
         ensures room { room_in self.new ≡ room_in self.old }
     {
-        let own = self.index_of(session);
-        self.active[own].go_back(index);
+        self.active[seat.index].go_back(index);
     }
 
     /// From now on a session's transaction can only be rolled back, whole: its savepoints are gone, and it asks for nothing else. Nothing of it is put
     /// back yet, and what is reserved for that stays. It takes no memory.
-    pub fn doom(&mut self, session: SessionId)
-        requires there { HasTxnOf session self.old }
-        ensures doomed { OneBecomes session IsDoomed (txns_in self.old) (txns_in self.new) }
-        ensures undos { (a : SessionTxn) → IsAmong a (undos_in self.old) → a.session ≡ session
+    pub fn doom(&mut self, seat: &Seat)
+        requires seated { IsSeatIn seat.now self.old }
+        ensures doomed { OneBecomes seat.now.session IsDoomed (txns_in self.old) (txns_in self.new) }
+        ensures undos { (a : SessionTxn) → IsAmong a (undos_in self.old) → a.session ≡ seat.now.session
             → undos_in self.new ≡ with_undo a.txn (undo_rolled a.undo a.undo.images Whole) (undos_in self.old) }
         ensures claims { (p : PageId) → kept_in self.new p ≡ kept_in self.old p }
         ensures next { next_in self.new ≡ next_in self.old }
         ensures room { room_in self.new ≡ room_in self.old }
     {
-        let own = self.index_of(session);
-        self.active[own].doom();
+        self.active[seat.index].doom();
     }
 
     /// The abort of a session's transaction has ended, which has no change left: what was reserved for its ending is free, and pays for its End if
     /// one was logged. Answers its number.
-    pub fn note_end(&mut self, session: SessionId, logged: bool) -> TxnId
-        requires there { HasTxnOf session self.old }
-        requires empty { (a : SessionTxn) → IsAmong a (undos_in self.old) → a.session ≡ session → a.undo.images ≡ [] }
-        ensures number { (a : SessionTxn) → IsAmong a (undos_in self.old) → a.session ≡ session → result ≡ a.txn }
-        ensures left { OneLeaves session [] (txns_in self.old) (txns_in self.new) }
-        ensures undos { (a : SessionTxn) → IsAmong a (undos_in self.old) → a.session ≡ session → undos_in self.new ≡ without_txn a.txn (undos_in self.old) }
+    pub fn note_end(&mut self, seat: &Seat, logged: bool) -> TxnId
+        requires seated { IsSeatIn seat.now self.old }
+        requires empty { (a : SessionTxn) → IsAmong a (undos_in self.old) → a.session ≡ seat.now.session → a.undo.images ≡ [] }
+        ensures number { (a : SessionTxn) → IsAmong a (undos_in self.old) → a.session ≡ seat.now.session → result ≡ a.txn }
+        ensures left { OneLeaves seat.now.session [] (txns_in self.old) (txns_in self.new) }
+        ensures undos { (a : SessionTxn) → IsAmong a (undos_in self.old) → a.session ≡ seat.now.session → undos_in self.new ≡ without_txn a.txn (undos_in self.old) }
         ensures claims { (p : PageId) → kept_in self.new p ≡ kept_in self.old p }
         ensures next { next_in self.new ≡ next_in self.old }
         ensures reserved { (room_in self.new).reserved + ENDING_COST ≡ (room_in self.old).reserved }
         ensures kept { (room_in self.new).kept ≡ (room_in self.old).kept + (if logged then ENDING_COST else 0) }
         ensures stream { (room_in self.new).stream_bytes ≡ (room_in self.old).stream_bytes }
     {
-        let ended = self.take_out(session);
+        let ended = self.take_out(seat);
         self.room.append(if logged { ENDING_COST } else { 0 });
         ended.txn().id()
     }

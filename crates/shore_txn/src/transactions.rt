@@ -17,6 +17,7 @@ ghost use Rattle.shore_txn.specs.declared.txn.Txn.{Txn};
 use crate::active::ActiveTxn;
 use crate::guesses::Guesses;
 use crate::log_room::LogRoom;
+use crate::seat::Seat;
 use crate::txn::Txn;
 use crate::undo::UndoEntry;
 use shore_types::layout::{ENDING_COST, LAST_TXN};
@@ -42,7 +43,7 @@ pub struct Transactions {
 }
 
 impl Transactions {
-    ghost use Rattle.shore_txn.specs.Transactions.{HasNoTxnOf, HasRoomToNote, HasTxnOf, IsUnchanged, kept_in, next_in, room_in, txns_in, undos_in};
+    ghost use Rattle.shore_txn.specs.Transactions.{HasNoTxnOf, HasRoomToNote, IsSeatIn, IsUnchanged, kept_in, next_in, room_in, txns_in, undos_in};
 
     /// A table with no transaction, whose next has this number.
     pub fn new(alloc: Global, room: LogRoom, next: u64) -> Transactions
@@ -60,14 +61,23 @@ impl Transactions {
         }
     }
 
-    /// The transaction under way of a session.
-    pub fn txn(&self, session: SessionId) -> Option<&Txn>
-        ensures some { IfSome result (λ t. IsAmong t.now (txns_in self.now) × (t.now.session ≡ session)) }
-        ensures there { IfSome result (λ t. IsAmong (as_session_txn t.now) (undos_in self.now)) }
+    /// Where the transaction under way of a session is.
+    pub fn seat(&self, session: SessionId) -> Option<Seat>
+        ensures some { IfSome result (λ seat. IsSeatIn seat self.now × (seat.session ≡ session)) }
         ensures none { IfNone result (HasNoTxnOf session self.now) }
     {
         let index = self.find(session)?;
-        Some(self.active[index].txn())
+        Some(Seat { session, index })
+    }
+
+    /// The transaction at a seat.
+    pub fn txn(&self, seat: &Seat) -> &Txn
+        requires { IsSeatIn seat.now self.now }
+        ensures among { IsAmong result.now (txns_in self.now) }
+        ensures there { IsAmong (as_session_txn result.now) (undos_in self.now) }
+        ensures session { result.now.session ≡ seat.now.session }
+    {
+        self.active[seat.index].txn()
     }
 
     /// How many transactions are under way.
@@ -117,28 +127,27 @@ impl Transactions {
     }
 
     /// Takes the memory for a change more of a session's transaction. If that fails nothing has changed but the memory.
-    pub fn reserve_entry(&mut self, alloc: Global, session: SessionId) -> Result<(), AllocError>
-        requires there { HasTxnOf session self.old }
-        ensures memory { OnOk result (HasRoomToNote session self.new) }
-        ensures same { OneBecomes session SameTxn (txns_in self.old) (txns_in self.new) }
+    pub fn reserve_entry(&mut self, alloc: Global, seat: &Seat) -> Result<(), AllocError>
+        requires seated { IsSeatIn seat.now self.old }
+        ensures memory { OnOk result (HasRoomToNote seat.now.session self.new) }
+        ensures same { OneBecomes seat.now.session SameTxn (txns_in self.old) (txns_in self.new) }
         ensures undos { undos_in self.new ≡ undos_in self.old }
         ensures claims { (p : PageId) → kept_in self.new p ≡ kept_in self.old p }
         ensures next { next_in self.new ≡ next_in self.old }
         ensures room { room_in self.new ≡ room_in self.old }
     {
-        let index = self.index_of(session);
-        self.active[index].reserve_entry(alloc)
+        self.active[seat.index].reserve_entry(alloc)
     }
 
     /// A change of a session's transaction was logged. `logged` is what its record costs, and `undo` what that of its undo would.
-    pub fn note_change(&mut self, session: SessionId, entry: UndoEntry, logged: u64, undo: u64)
-        requires there { HasTxnOf session self.old }
-        requires memory { HasRoomToNote session self.old }
+    pub fn note_change(&mut self, seat: &Seat, entry: UndoEntry, logged: u64, undo: u64)
+        requires seated { IsSeatIn seat.now self.old }
+        requires memory { HasRoomToNote seat.now.session self.old }
         requires short { image_len entry.before ≤ MAX_RECORD_BYTES }
         requires cost { undo ≡ compensation_cost entry.before }
         requires room { (room_in self.old).kept + (room_in self.old).reserved + logged + undo ≤ (room_in self.old).stream_bytes }
-        ensures noted { OneBecomes session (λ old new. IsAfterChange old entry new) (txns_in self.old) (txns_in self.new) }
-        ensures undos { (a : SessionTxn) → IsAmong a (undos_in self.old) → a.session ≡ session → undos_in self.new ≡ with_undo a.txn (with_entry a.undo entry) (undos_in self.old) }
+        ensures noted { OneBecomes seat.now.session (λ old new. IsAfterChange old entry new) (txns_in self.old) (txns_in self.new) }
+        ensures undos { (a : SessionTxn) → IsAmong a (undos_in self.old) → a.session ≡ seat.now.session → undos_in self.new ≡ with_undo a.txn (with_entry a.undo entry) (undos_in self.old) }
         ensures claimed { HasMore ((entry.id.slot, image_len entry.before) ∷ []) (kept_in self.old entry.id.page) (kept_in self.new entry.id.page) }
         ensures elsewhere { (p : PageId) → p ≢ entry.id.page → kept_in self.new p ≡ kept_in self.old p }
         ensures next { next_in self.new ≡ next_in self.old }
@@ -146,43 +155,41 @@ impl Transactions {
         ensures kept { (room_in self.new).kept ≡ (room_in self.old).kept + logged }
         ensures stream { (room_in self.new).stream_bytes ≡ (room_in self.old).stream_bytes }
     {
-        let index = self.index_of(session);
-        self.active[index].note_change(entry, undo);
+        self.active[seat.index].note_change(entry, undo);
         self.room.append(logged);
         self.room.reserve(undo);
     }
 
     /// The Commit of a session's transaction was logged: what was reserved for it is free. Answers its number, and its changes, the oldest first,
     /// whose claims go now.
-    pub fn note_commit(&mut self, session: SessionId) -> (TxnId, Vec<UndoEntry>)
-        requires there { HasTxnOf session self.old }
-        ensures number { (a : SessionTxn) → IsAmong a (undos_in self.old) → a.session ≡ session → result.0 ≡ a.txn }
-        ensures left { OneLeaves session result.1.items (txns_in self.old) (txns_in self.new) }
-        ensures undos { (a : SessionTxn) → IsAmong a (undos_in self.old) → a.session ≡ session → undos_in self.new ≡ without_txn a.txn (undos_in self.old) }
+    pub fn note_commit(&mut self, seat: &Seat) -> (TxnId, Vec<UndoEntry>)
+        requires seated { IsSeatIn seat.now self.old }
+        ensures number { (a : SessionTxn) → IsAmong a (undos_in self.old) → a.session ≡ seat.now.session → result.0 ≡ a.txn }
+        ensures left { OneLeaves seat.now.session result.1.items (txns_in self.old) (txns_in self.new) }
+        ensures undos { (a : SessionTxn) → IsAmong a (undos_in self.old) → a.session ≡ seat.now.session → undos_in self.new ≡ without_txn a.txn (undos_in self.old) }
         ensures claims { (p : PageId) → HasMore (claims_on p result.1.items) (kept_in self.new p) (kept_in self.old p) }
         ensures next { next_in self.new ≡ next_in self.old }
         ensures kept { (room_in self.new).kept ≡ (room_in self.old).kept + ENDING_COST }
         ensures reserved { (room_in self.new).reserved + ENDING_COST + compensation_costs (images_of result.1.items) ≡ (room_in self.old).reserved }
         ensures stream { (room_in self.new).stream_bytes ≡ (room_in self.old).stream_bytes }
     {
-        let decided = self.take_out(session);
+        let decided = self.take_out(seat);
         self.room.append(ENDING_COST);
         (decided.txn().id(), decided.into_undo())
     }
 
     // Takes a session's transaction out: what was reserved for it is free.
-    pub(crate) fn take_out(&mut self, session: SessionId) -> ActiveTxn
-        requires there { HasTxnOf session self.old }
-        ensures number { (a : SessionTxn) → IsAmong a (undos_in self.old) → a.session ≡ session → number_of result.txn ≡ a.txn }
-        ensures left { OneLeaves session (entries_of result.txn) (txns_in self.old) (txns_in self.new) }
+    pub(crate) fn take_out(&mut self, seat: &Seat) -> ActiveTxn
+        requires seated { IsSeatIn seat.now self.old }
+        ensures number { (a : SessionTxn) → IsAmong a (undos_in self.old) → a.session ≡ seat.now.session → number_of result.txn ≡ a.txn }
+        ensures left { OneLeaves seat.now.session (entries_of result.txn) (txns_in self.old) (txns_in self.new) }
         ensures next { next_in self.new ≡ next_in self.old }
         ensures reserved { (room_in self.new).reserved + ENDING_COST + compensation_costs (images_of (entries_of result.txn)) ≡ (room_in self.old).reserved }
         ensures kept { (room_in self.new).kept ≡ (room_in self.old).kept }
         ensures stream { (room_in self.new).stream_bytes ≡ (room_in self.old).stream_bytes }
     {
-        let index = self.index_of(session);
-        let one = self.active.remove(index);
-        self.guesses.note_from(&self.active, index);
+        let one = self.active.remove(seat.index);
+        self.guesses.note_from(&self.active, seat.index);
         self.room.release(one.txn().reserved());
         one
     }
@@ -201,17 +208,5 @@ impl Transactions {
         self.active
             .iter()
             .position(|active| active.txn().session() == session)
-    }
-
-    // .. of a session that has one.
-    pub(crate) fn index_of(&self, session: SessionId) -> usize
-        requires { HasTxnOf session self.now }
-        ensures inside { result < length self.now.active.items }
-        ensures its { HoldsAt (λ a. a.txn.session ≡ session) self.now.active.items result }
-    {
-        match self.find(session) {
-            Some(index) => index,
-            None => unreachable!(),
-        }
     }
 }

@@ -21,23 +21,11 @@ use Rattle.shore_core.proofs.Taking.{true_false}
 use Rattle.shore_core.proofs.Serving.{call_still, call_then, nothing_called, refused_as}
 use Rattle.shore_core.proofs.core_calls.Core.back_to.Goals as goal
 
-pub returns-in_default-clause-replied : goal.returns-in_default-clause-replied
-returns-in_default-clause-replied g c running front disk before s store is safe over idle =
-    let old = c.args.self.now in
-    let stands = is.beside.parts.stands in
-    let works = is.beside.parts.failed_is ∙ running in
-    let none = in_none (waits_of old) s stands.waits c.args.session works idle (λ a m. c.in_default.ensures.none a (subst (IsAmong a) stands.txns.active m)) in
-    record {
-      later = s;
-      replies = inr (inr (inr (inr (inl (works, idle, (λ clash. cc), none, refl, refl)))));
-      comes = inr (comes_same old front disk before s store is over);
-    }
-
 pub returns-then-not-may_go_back-clause-replied : goal.returns-then-not-may_go_back-clause-replied
 returns-then-not-may_go_back-clause-replied g c running front disk before s store is safe over idle =
     let old = c.args.self.now in
-    let a = as_session_txn c.in-Some.own.now in
-    let its = c.in-Some.ensures.of_session s is.beside.parts.stands in
+    let a = as_session_txn c.txn-own.result.now in
+    let its = c.txn-own.ensures.of_session s is.beside.parts.stands in
     let works = is.beside.parts.failed_is ∙ running in
     record {
       later = s;
@@ -58,13 +46,13 @@ returns-then-not-may_go_back-clause-replied g c running front disk before s stor
       comes = inr (comes_same old front disk before s store is over);
     }
 
-pub returns-in_default-mark-clause-replied : goal.returns-in_default-mark-clause-replied
-returns-in_default-mark-clause-replied g c running front disk before s store is safe over idle =
+pub returns-in_default-clause-replied : goal.returns-in_default-clause-replied
+returns-in_default-clause-replied g c running front disk before s store is safe over idle =
     let old = c.args.self.now in
-    let a = as_session_txn c.in-Some.own.now in
-    let its = c.in-Some.ensures.of_session s is.beside.parts.stands in
+    let a = as_session_txn c.txn-own.result.now in
+    let its = c.txn-own.ensures.of_session s is.beside.parts.stands in
     let works = is.beside.parts.failed_is ∙ running in
-    let past : length a.undo.marks ≤ c.args.index = mark_past a.undo.marks c.args.index (λ mark has. c.in_default-mark.not-Some mark (c.mark.ensures ∙ has)) in
+    let past : length a.undo.marks ≤ c.args.index = mark_past a.undo.marks c.args.index (λ mark has. c.in_default.not-Some mark (c.mark.ensures ∙ has)) in
     record {
       later = s;
       replies = inr (inr (inr (inr (inr (works, idle, (a, its, inr (inr (inl (c.args.index, refl, takes_back a.undo c.args.index (subst (λ (st : TxnState). (rolling_of st ≡ None) ⊎ (rolling_of st ≡ Some (To c.args.index))) c.state.ensures (c.if-not-may_go_back.ensures.0 refl)), inl (refl, past, refl))))))))));
@@ -74,18 +62,18 @@ returns-in_default-mark-clause-replied g c running front disk before s store is 
 pub returns-in_err-put_back-clause-replied : goal.returns-in_err-put_back-clause-replied
 returns-in_err-put_back-clause-replied g c running front disk before s store is safe over idle =
     let old = c.args.self.now in
-    let a = as_session_txn c.in-Some.own.now in
-    let its = c.in-Some.ensures.of_session s is.beside.parts.stands in
+    let a = as_session_txn c.txn-own.result.now in
+    let its = c.txn-own.ensures.of_session s is.beside.parts.stands in
     let works = is.beside.parts.failed_is ∙ running in
-    let inside = mark_inside a.undo.marks c.args.index c.in-Some-mark.least (sym c.mark.ensures ∙ c.in-Some-mark.is) in
+    let inside = mark_inside a.undo.marks c.args.index c.in-Some.least (sym c.mark.ensures ∙ c.in-Some.is) in
     let may : MayRoll a.undo (To c.args.index) = (inside, subst (λ (st : TxnState). (rolling_of st ≡ None) ⊎ (rolling_of st ≡ Some (To c.args.index))) c.state.ensures (c.if-not-may_go_back.ensures.0 refl)) in
-    let at = mark_is a.undo c.args.index c.in-Some-mark.least (sym c.mark.ensures ∙ c.in-Some-mark.is) in
-    let within = mark_of_within (geometry_of old) safe.found safe.entries c.args.session a its.1 s safe.after.sessions its.0 c.args.index inside in
-    interrupted_replied old c.put_back.new.self front before s store c.args.session a safe its works idle (To c.args.index) may c.in-Some-mark.least at c.from_residual.result _ c.from_residual.ensures.1
+    let at = mark_is a.undo c.args.index c.in-Some.least (sym c.mark.ensures ∙ c.in-Some.is) in
+    let within = mark_of_within (geometry_of old) safe.found safe.entries c.args.seat.now.session a its.1 s safe.after.sessions its.0 c.args.index inside in
+    interrupted_replied old c.put_back.new.self front before s store c.args.seat.now.session a safe its works idle (To c.args.index) may c.in-Some.least at c.from_residual.result _ c.from_residual.ensures.1
     (c.in_err-put_back.ensures.unwinds running front disk before s store is safe over a idle its may at (omega (arith, at, within)))
 
 pub go_back-requires : goal.go_back-requires
-go_back-requires g c = record { there = c.put_back.ensures.there (as_session_txn c.in-Some.own.now, c.in-Some.ensures.there, c.in-Some.ensures.some.1) }
+go_back-requires g c = record { seated = c.put_back.ensures.seated }
 
 pub invariant_of-self : goal.invariant_of-self
 invariant_of-self g c =
@@ -96,7 +84,7 @@ invariant_of-self g c =
       some_number = mid.some_number;
       forced = mid.forced;
       numbers = subst (λ r. next + r.reserved ≤ LAST_OPENED) (sym done.room) mid.numbers;
-      earlier = earlier_back (txns_of mid) (txns_in c.go_back.new.self) next c.args.session c.args.index mid.earlier done.back;
+      earlier = earlier_back (txns_of mid) (txns_in c.go_back.new.self) next c.args.seat.now.session c.args.index mid.earlier done.back;
     }
 
 pub returns-clause-replied : goal.returns-clause-replied
@@ -104,16 +92,16 @@ returns-clause-replied g c running front disk before s store is safe over idle =
     let old = c.args.self.now in
     let mid = c.put_back.new.self in
     let n = c.args.index in
-    let a = as_session_txn c.in-Some.own.now in
-    let its = c.in-Some.ensures.of_session s is.beside.parts.stands in
+    let a = as_session_txn c.txn-own.result.now in
+    let its = c.txn-own.ensures.of_session s is.beside.parts.stands in
     let works = is.beside.parts.failed_is ∙ running in
-    let inside = mark_inside a.undo.marks n c.in-Some-mark.least (sym c.mark.ensures ∙ c.in-Some-mark.is) in
+    let inside = mark_inside a.undo.marks n c.in-Some.least (sym c.mark.ensures ∙ c.in-Some.is) in
     let may : MayRoll a.undo (To n) = (inside, subst (λ (st : TxnState). (rolling_of st ≡ None) ⊎ (rolling_of st ≡ Some (To c.args.index))) c.state.ensures (c.if-not-may_go_back.ensures.0 refl)) in
-    let at = mark_is a.undo n c.in-Some-mark.least (sym c.mark.ensures ∙ c.in-Some-mark.is) in
-    let within = mark_of_within (geometry_of old) safe.found safe.entries c.args.session a its.1 s safe.after.sessions its.0 n inside in
+    let at = mark_is a.undo n c.in-Some.least (sym c.mark.ensures ∙ c.in-Some.is) in
+    let within = mark_of_within (geometry_of old) safe.found safe.entries c.args.seat.now.session a its.1 s safe.after.sessions its.0 n inside in
     let h = c.in_ok-put_back.ensures.unwinds running front disk before s store is safe over a idle its may at (omega (arith, at, within)) in
     let comes = h.2 in
-    let here = goes_on_from (geometry_of old) s safe c.args.session a its works idle (To n) may c.in-Some-mark.least h.0 (omega (arith, at)) h.1 in
+    let here = goes_on_from (geometry_of old) s safe c.args.seat.now.session a its works idle (To n) may c.in-Some.least h.0 (omega (arith, at)) h.1 in
     let level : length here.its.undo.images ≡ _ = here.left ∙ at ∙ sym (here.mark n refl) in
     let none = none_since here.its.undo n level in
     let later : State = answered h.0 here.its (call.BackTo n) WentBack h.0.counts in
@@ -122,18 +110,15 @@ returns-clause-replied g c running front disk before s store is safe over idle =
     (back_slots h.0 here.its n none level (geometry_of old) here.stays_safe here.owned.0) comes.is_in comes.over in
     record {
       later = answered s a (call.BackTo n) WentBack s.counts;
-      replies = goes_back_done (geometry_of old) s safe c.args.session a its works idle n may;
+      replies = goes_back_done (geometry_of old) s safe c.args.seat.now.session a its works idle n may;
       comes = subst (CoreComesTo _ front before store) (here.goes_back n refl) (comes_then mid _ front before h.0 later store comes two);
     }
-
-pub returns-in_default-clause-serves : goal.returns-in_default-clause-serves
-returns-in_default-clause-serves g c = call_still _ _ _ _ _ refl refl refl refl tt tt
 
 pub returns-then-not-may_go_back-clause-serves : goal.returns-then-not-may_go_back-clause-serves
 returns-then-not-may_go_back-clause-serves g c = call_still _ _ _ _ _ refl refl refl refl tt tt
 
-pub returns-in_default-mark-clause-serves : goal.returns-in_default-mark-clause-serves
-returns-in_default-mark-clause-serves g c = call_still _ _ _ _ _ refl refl refl refl tt tt
+pub returns-in_default-clause-serves : goal.returns-in_default-clause-serves
+returns-in_default-clause-serves g c = call_still _ _ _ _ _ refl refl refl refl tt tt
 
 pub returns-in_err-put_back-clause-serves : goal.returns-in_err-put_back-clause-serves
 returns-in_err-put_back-clause-serves g c = refused_as _ _ _ _ _ _ c.from_residual.ensures.1 c.in_err-put_back.ensures.serves c.in_err-put_back.ensures.failed

@@ -1,4 +1,4 @@
-use Rattle.std.proofs.Common.{inl, inr, refl, sym, ap, ◌∙◌, arith}
+use Rattle.std.proofs.Common.{inl, inr, refl, sym, ap, subst, ◌∙◌, arith}
 use Rattle.shore_types.specs.declared.faults.Fault.TheVariants as fault
 use Rattle.shore_types.specs.declared.layout.TheConstants.{ENDING_COST}
 use Rattle.shore_model.specs.declared.calls.Answer.TheVariants.{Began}
@@ -8,9 +8,11 @@ use Rattle.laws_lives.specs.Sessions.{txn_begun}
 use Rattle.laws_lives.specs.UndoLists.{nothing_to_undo}
 use Rattle.laws_calls.specs.States.{State, page_slots}
 use Rattle.shore_heap.proofs.Showing.{shows_same}
+use Rattle.laws_lives.specs.Views.{IsAmong}
+use Rattle.shore_sessions.proofs.WaitSteps.{in_none}
 use Rattle.shore_sessions.specs.Controls.{txns_in}
 use Rattle.shore_txn.specs.Transactions.{kept_in}
-use Rattle.shore_core.specs.Cores.{control_of, durable_of, first_of, has_failed, txns_of, waiting_of}
+use Rattle.shore_core.specs.Cores.{control_of, durable_of, first_of, has_failed, txns_of, waiting_of, waits_of}
 use Rattle.shore_core.proofs.Begun.{begun_earlier, begun_reserved}
 use Rattle.shore_core.proofs.Coming.{comes_same, over_as, pages_told}
 use Rattle.shore_core.proofs.Tables.{has_no_room, has_room, parts_moved}
@@ -19,20 +21,11 @@ use Rattle.shore_core.proofs.core_calls.Core.begin.Goals.{then-not-admits-via-th
 use Rattle.shore_core.proofs.Serving.{call_still, refused_still}
 use Rattle.shore_core.proofs.core_calls.Core.begin.Goals as goal
 
-pub returns-then-has_txn-clause-replied : goal.returns-then-has_txn-clause-replied
-returns-then-has_txn-clause-replied g c running front disk before s store is safe over idle =
-    let old = c.args.self.now in
-    record {
-      later = s;
-      replies = inr (inr (inr (inl (is.beside.parts.failed_is ∙ running, idle, refl, (inl (refl, c.has_txn.ensures.in_txn c.if-has_txn.true s is.beside.parts.stands), refl)))));
-      comes = inr (comes_same old front disk before s store is over);
-    }
-
 pub returns-then-count-ge-MAX_TRANSACTIONS-clause-replied : goal.returns-then-count-ge-MAX_TRANSACTIONS-clause-replied
 returns-then-count-ge-MAX_TRANSACTIONS-clause-replied g c running front disk before s store is safe over idle =
     let old = c.args.self.now in
     let works = is.beside.parts.failed_is ∙ running in
-    let none = c.has_txn.ensures.in_none c.if-has_txn.false s is.beside.parts.stands works idle in
+    let none = in_none (waits_of old) s is.beside.parts.stands.waits c.args.session works idle (λ a m. c.requires a (subst (IsAmong a) is.beside.parts.stands.txns.active m)) in
     let count = c.count.ensures.count s is.beside.parts.stands works in
     record {
       later = s;
@@ -44,7 +37,7 @@ pub returns-then-not-admits-clause-replied : goal.returns-then-not-admits-clause
 returns-then-not-admits-clause-replied g c running front disk before s store is safe over idle =
     let old = c.args.self.now in
     let works = is.beside.parts.failed_is ∙ running in
-    let none = c.has_txn.ensures.in_none c.if-has_txn.false s is.beside.parts.stands works idle in
+    let none = in_none (waits_of old) s is.beside.parts.stands.waits c.args.session works idle (λ a m. c.requires a (subst (IsAmong a) is.beside.parts.stands.txns.active m)) in
     let count = c.count.ensures.count s is.beside.parts.stands works in
     elim c.then-not-admits.branch [
       | then-not-admits-via-then-not-admits w ↦ record {
@@ -86,9 +79,6 @@ returns-then-not-admits-clause-replied g c running front disk before s store is 
       }
     ]
 
-pub begin-requires-clause-none : goal.begin-requires-clause-none
-begin-requires-clause-none g c = c.has_txn.ensures.none c.if-has_txn.false
-
 pub invariant_of-self : goal.invariant_of-self
 invariant_of-self g c =
     let old = c.args.self.now in
@@ -117,7 +107,7 @@ pub returns-clause-replied : goal.returns-clause-replied
 returns-clause-replied g c running front disk before s store is safe over idle =
     let old = c.args.self.now in
     let works = is.beside.parts.failed_is ∙ running in
-    let none = c.has_txn.ensures.in_none c.if-has_txn.false s is.beside.parts.stands works idle in
+    let none = in_none (waits_of old) s is.beside.parts.stands.waits c.args.session works idle (λ a m. c.requires a (subst (IsAmong a) is.beside.parts.stands.txns.active m)) in
     let count = c.count.ensures.count s is.beside.parts.stands works in
     let later : State = record s { sessions = txn_begun s.sessions c.args.session } in
     let parts = parts_moved (control_of old) c.begin.new.self (waiting_of old) (durable_of old) (has_failed old) before s later is.beside.parts (c.in_ok-txn.ensures.stands s is.beside.parts.stands) refl refl refl in
@@ -144,9 +134,6 @@ returns-clause-replied g c running front disk before s store is safe over idle =
             (shows_same old.heap (kept_in (txns_of old)) front disk (page_slots s) (page_slots later) (λ p there. begun_slots s.sessions.records s.sessions.active (record { session = c.args.session; txn = s.sessions.next_txn; undo = nothing_to_undo }) refl p (s.counts p)) (is.pages w));
       }) (over_as old _ disk s later store refl refl refl refl over);
     }
-
-pub returns-then-has_txn-clause-serves : goal.returns-then-has_txn-clause-serves
-returns-then-has_txn-clause-serves g c = call_still _ _ _ _ _ refl refl refl refl tt tt
 
 pub returns-then-count-ge-MAX_TRANSACTIONS-clause-serves : goal.returns-then-count-ge-MAX_TRANSACTIONS-clause-serves
 returns-then-count-ge-MAX_TRANSACTIONS-clause-serves g c = call_still _ _ _ _ _ refl refl refl refl tt tt

@@ -84,7 +84,7 @@ push-requires-clause-text g c =
     record {
       some = c.id.ensures.some;
       txn_fits = omega (arith, c.id.ensures.below);
-      previous_fits = omega (arith, c.last.ensures, old.earlier c.in-Some.own.now c.in-Some.ensures.some.0, old.numbers);
+      previous_fits = omega (arith, c.last.ensures, old.earlier c.txn-own.result.now c.txn-own.ensures.among, old.numbers);
       payload_fits = record {
         rid = record { store = omega arith; page = omega arith; slot = omega (arith, c.requires.there.1) };
         old = image_short c.args.before c.requires.before;
@@ -94,7 +94,7 @@ push-requires-clause-text g c =
     }
 
 pub push-requires-clause-previous : goal.push-requires-clause-previous
-push-requires-clause-previous g c = omega (arith, c.last.ensures, c.args.self.now.earlier c.in-Some.own.now c.in-Some.ensures.some.0)
+push-requires-clause-previous g c = omega (arith, c.last.ensures, c.args.self.now.earlier c.txn-own.result.now c.txn-own.ensures.among)
 
 pub invariant_of-self-in-Err-1 : goal.invariant_of-self-in-Err-1
 invariant_of-self-in-Err-1 g c =
@@ -158,13 +158,13 @@ returns-clause-changed g c running front disk before s store is safe over a of l
     let before_is = c.in_ok-copy_of.ensures ∙ sym found in
     let logged = c.change_cost-logged.ensures.cost id c.args.before image (sym c.len_of.ensures) (sym c.len_of-2.ensures) in
     let cost = costs_are s.sessions.records id c.args.before image c.change_cost-logged.result c.compensation_cost-undo.result logged (c.compensation_cost-undo.ensures.cost id c.args.before 0 (sym c.len_of-3.ensures)) found in
-    let own = c.in-Some.own.now in
+    let own = c.txn-own.result.now in
     let stands = is.beside.parts.stands in
     let own_is : as_session_txn own ≡ a =
-    once_same (λ (b : SessionTxn). b.session) _ (txns_of old).sessions (as_session_txn own) a c.in-Some.ensures.there (subst (IsAmong a) stands.txns.active of.0) (c.in-Some.ensures.some.1 ∙ sym of.1) in
+    once_same (λ (b : SessionTxn). b.session) _ (txns_of old).sessions (as_session_txn own) a c.txn-own.ensures.there (subst (IsAmong a) stands.txns.active of.0) (c.txn-own.ensures.session ∙ sym of.1) in
     let txn_is : c.id.result ≡ a.txn = c.id.ensures.number ∙ ap (λ (b : SessionTxn). b.txn) own_is in
     let previous_is : c.last.result ≡ previous_of a.txn s.log =
-    c.last.ensures ∙ (each_among (IsLogged s.log) _ stands.txns.each own c.in-Some.ensures.some.0).last ∙ ap (λ (b : SessionTxn). previous_of b.txn s.log) own_is in
+    c.last.ensures ∙ (each_among (IsLogged s.log) _ stands.txns.each own c.txn-own.ensures.among).last ∙ ap (λ (b : SessionTxn). previous_of b.txn s.log) own_is in
     let r : LogRecord = record { txn = a.txn; previous = previous_of a.txn s.log; payload = Change id (get s.sessions.records id) image } in
     let r_is : record { txn = c.id.result; previous = c.last.result; payload = Change id c.args.before image } ≡ r =
     ap (λ n. record { txn = n; previous = c.last.result; payload = Change id c.args.before image }) txn_is

@@ -17,7 +17,7 @@ use Rattle.laws_calls.specs.StateChanges.{committed}
 use Rattle.laws_calls.specs.States.{State, page_slots}
 use Rattle.shore_model.specs.declared.step.Wait.TheVariants.{Durable}
 use Rattle.shore_txn.specs.ActiveTxns.{HasMore, OneLeaves}
-use Rattle.shore_txn.specs.Transactions.{kept_in, room_in, undos_in}
+use Rattle.shore_txn.specs.Transactions.{IsSeatIn, kept_in, room_in, undos_in}
 use Rattle.shore_txn.specs.Transactions as table
 use Rattle.shore_txn.specs.Txns.{as_session_txn, last_of}
 use Rattle.shore_txn.specs.UndoEntries.{claims_on}
@@ -41,7 +41,7 @@ use Rattle.shore_core.proofs.core_calls.Core.commit.Goals as goal
 
 pub returns-in_err-txn-clause-replied : goal.returns-in_err-txn-clause-replied
 returns-in_err-txn-clause-replied g c ready front disk before s store is safe over waits_not =
-    replied_not_open c.args.self.now front disk before s store c.args.session call.Commit c.from_residual.result c.in_err-txn.field-0.0 is over inner_commit
+    replied_not_open c.args.self.now front disk before s store c.args.seat.now.session call.Commit c.from_residual.result c.in_err-txn.field-0.0 is over inner_commit
     (is.beside.parts.failed_is ∙ ready) waits_not c.from_residual.ensures.1 c.in_err-txn.ensures.refused
 
 pub loop-change-init : goal.loop-change-init
@@ -87,7 +87,7 @@ invariant_of-self g c =
 
 pub returns-in_err-reserve_wait-clause-replied : goal.returns-in_err-reserve_wait-clause-replied
 returns-in_err-reserve_wait-clause-replied g c ready front disk before s store is safe over waits_not =
-    replied_as c.args.self.now _ front before s store c.args.session call.Commit c.from_residual-in_err-reserve_wait.result fault.Memory c.from_residual-in_err-reserve_wait.ensures.1 (inl (refl, refl))
+    replied_as c.args.self.now _ front before s store c.args.seat.now.session call.Commit c.from_residual-in_err-reserve_wait.result fault.Memory c.from_residual-in_err-reserve_wait.ensures.1 (inl (refl, refl))
     (inr (comes_lacking c.args.self.now _ front disk before s store refl refl refl refl refl c.reserve_wait.ensures.txns (c.reserve_wait.ensures.stands s is.beside.parts.stands) is over))
 
 pub push-requires-clause-previous : goal.push-requires-clause-previous
@@ -111,20 +111,18 @@ invariant_of-self-in-Err-1 g c =
 
 pub returns-in-Err-clause-replied : goal.returns-in-Err-clause-replied
 returns-in-Err-clause-replied g c ready front disk before s store is safe over waits_not =
-    replied_as c.args.self.now _ front before s store c.args.session call.Commit (Err c.in-Err.fault) fault.Memory c.in-Err.ensures.refused.0 (inl (refl, refl))
+    replied_as c.args.self.now _ front before s store c.args.seat.now.session call.Commit (Err c.in-Err.fault) fault.Memory c.in-Err.ensures.refused.0 (inl (refl, refl))
     (inr (comes_lacking c.args.self.now _ front disk before s store refl c.in-Err.ensures.first c.in-Err.ensures.none_added refl refl c.reserve_wait.ensures.txns
     (c.reserve_wait.ensures.stands s is.beside.parts.stands) is over))
 
-pub commit-changes-requires-clause-there : goal.commit-changes-requires-clause-there
-commit-changes-requires-clause-there g c =
-    let a = as_session_txn c.in_ok-txn.txn.now in
-    (a, subst (λ txns. IsAmong a (undos_in txns)) (sym c.reserve_wait.ensures.txns) c.in_ok-txn.ensures.there, c.in_ok-txn.ensures.some.1)
+pub commit-changes-requires-clause-seated : goal.commit-changes-requires-clause-seated
+commit-changes-requires-clause-seated g c = subst (IsSeatIn c.args.seat.now) (sym c.reserve_wait.ensures.txns) c.requires.seated
 
 pub invariant_of-self-2 : goal.invariant_of-self-2
 invariant_of-self-2 g c =
     let old = c.args.self.now in
     let new = txns_in c.commit-changes.new.self in
-    let left = subst (λ x. OneLeaves c.args.session c.commit-changes.result.items (table.txns_in x) (table.txns_in new)) c.reserve_wait.ensures.txns c.commit-changes.ensures.left in
+    let left = subst (λ x. OneLeaves c.args.seat.now.session c.commit-changes.result.items (table.txns_in x) (table.txns_in new)) c.reserve_wait.ensures.txns c.commit-changes.ensures.left in
     let r : LogRecord = record { txn = c.id.result; previous = c.last.result; payload = Commit } in
     let next : first_of old + length (waiting_of old) + 1 ≡ g.T.Tail.first c.push.new.self + length (g.T.Tail.records c.push.new.self) =
     let long = length-append (waiting_of old) (r ∷ []) in let more = ap length c.in-Ok.ensures.added in omega (arith, long, more, c.in-Ok.ensures.first) in
@@ -194,7 +192,7 @@ returns-clause-replied g c ready front disk before s store is safe over waits_no
 
 pub returns-in_err-txn-clause-serves : goal.returns-in_err-txn-clause-serves
 returns-in_err-txn-clause-serves g c =
-    refused_still _ _ _ _ _ _ c.from_residual.ensures.1 refl refl refl refl (not_open_aside c.args.self.now c.args.session _ c.in_err-txn.ensures.refused)
+    refused_still _ _ _ _ _ _ c.from_residual.ensures.1 refl refl refl refl (not_open_aside c.args.self.now c.args.seat.now.session _ c.in_err-txn.ensures.refused)
 
 pub returns-in_err-reserve_wait-clause-serves : goal.returns-in_err-reserve_wait-clause-serves
 returns-in_err-reserve_wait-clause-serves g c = refused_still _ _ _ _ _ fault.Memory c.from_residual-in_err-reserve_wait.ensures.1 refl refl refl refl tt

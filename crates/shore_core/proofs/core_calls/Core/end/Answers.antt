@@ -17,19 +17,16 @@ use Rattle.shore_core.proofs.Undoing.{none_of, own_is}
 use Rattle.shore_core.proofs.Serving.{nothing_called}
 use Rattle.shore_core.proofs.core_calls.Core.end.Goals as goal
 
-pub returns-in_default-clause-ended : goal.returns-in_default-clause-ended
-returns-in_default-clause-ended g c running front disk before s store is safe over a of empty = absurd (c.in_default.ensures.of_none s is.beside.parts.stands a of)
-
 pub returns-then-is_some-clause-ended : goal.returns-then-is_some-clause-ended
 returns-then-is_some-clause-ended g c running front disk before s store is safe over a of empty =
-    let own = c.in-Some.own.now in
+    let own = c.txn-own.result.now in
     let newest = some_told _ c.newest.result (sym c.is_some.ensures ∙ c.if-is_some.true) c.newest.ensures.some in
-    absurd (some_left (txns_of c.args.self.now) own c.in-Some.ensures.there a (subst (IsAmong a) is.beside.parts.stands.txns.active of.0) (of.1 ∙ sym c.in-Some.ensures.some.1)
+    absurd (some_left (txns_of c.args.self.now) own c.txn-own.ensures.there a (subst (IsAmong a) is.beside.parts.stands.txns.active of.0) (of.1 ∙ sym c.txn-own.ensures.session)
     newest.1.0 newest.0.now newest.1.1 empty)
 
 pub end_abort-requires-clause-empty : goal.end_abort-requires-clause-empty
 end_abort-requires-clause-empty g c a among is =
-    none_of (txns_of c.args.self.now) c.in-Some.own.now c.in-Some.ensures.there a among (is ∙ sym c.in-Some.ensures.some.1)
+    none_of (txns_of c.args.self.now) c.txn-own.result.now c.txn-own.ensures.there a among (is ∙ sym c.txn-own.ensures.session)
     (none_told c.newest.result (sym c.is_some.ensures ∙ c.if-is_some.false) c.newest.ensures.none)
 
 pub invariant_of-self : goal.invariant_of-self
@@ -45,17 +42,17 @@ invariant_of-self g c =
 pub returns-then-eq-clause-ended : goal.returns-then-eq-clause-ended
 returns-then-eq-clause-ended g c running front disk before s store is safe over a of empty =
     let old = c.args.self.now in
-    let own = c.in-Some.own.now in
+    let own = c.txn-own.result.now in
     let stands = is.beside.parts.stands in
-    let same : a ≡ as_session_txn own = own_is (txns_of old) own c.in-Some.ensures.there a (subst (IsAmong a) stands.txns.active of.0) (of.1 ∙ sym c.in-Some.ensures.some.1) in
-    let logged = each_among (IsLogged s.log) (table.txns_in (txns_of old)) stands.txns.each own c.in-Some.ensures.some.0 in
+    let same : a ≡ as_session_txn own = own_is (txns_of old) own c.txn-own.ensures.there a (subst (IsAmong a) stands.txns.active of.0) (of.1 ∙ sym c.txn-own.ensures.session) in
+    let logged = each_among (IsLogged s.log) (table.txns_in (txns_of old)) stands.txns.each own c.txn-own.ensures.among in
     let nothing : previous_of a.txn s.log ≡ 0 =
     ap (λ (b : SessionTxn). previous_of b.txn s.log) same ∙ sym logged.last ∙ sym c.last-previous.ensures ∙ eqb-true c.last-previous.result 0 (sym c.eq.ensures ∙ c.if-eq.true) in
     ended_unlogged old _ front disk before s store is over safe.roomy.pages a of.0 empty refl refl refl refl c.end_abort.ensures.claims refl nothing (c.end_abort.ensures.stands s a stands of)
 
 pub end_abort-requires-in-Ok-clause-empty : goal.end_abort-requires-in-Ok-clause-empty
 end_abort-requires-in-Ok-clause-empty g c a among is =
-    none_of (txns_of c.args.self.now) c.in-Some.own.now c.in-Some.ensures.there a among (is ∙ sym c.in-Some.ensures.some.1)
+    none_of (txns_of c.args.self.now) c.txn-own.result.now c.txn-own.ensures.there a among (is ∙ sym c.txn-own.ensures.session)
     (none_told c.newest.result (sym c.is_some.ensures ∙ c.if-is_some.false) c.newest.ensures.none)
 
 pub invariant_of-self-in-Ok : goal.invariant_of-self-in-Ok
@@ -74,10 +71,10 @@ invariant_of-self-in-Ok g c =
 pub returns-in-Ok-clause-ended : goal.returns-in-Ok-clause-ended
 returns-in-Ok-clause-ended g c running front disk before s store is safe over a of empty =
     let old = c.args.self.now in
-    let own = c.in-Some.own.now in
+    let own = c.txn-own.result.now in
     let stands = is.beside.parts.stands in
-    let same : a ≡ as_session_txn own = own_is (txns_of old) own c.in-Some.ensures.there a (subst (IsAmong a) stands.txns.active of.0) (of.1 ∙ sym c.in-Some.ensures.some.1) in
-    let logged = each_among (IsLogged s.log) (table.txns_in (txns_of old)) stands.txns.each own c.in-Some.ensures.some.0 in
+    let same : a ≡ as_session_txn own = own_is (txns_of old) own c.txn-own.ensures.there a (subst (IsAmong a) stands.txns.active of.0) (of.1 ∙ sym c.txn-own.ensures.session) in
+    let logged = each_among (IsLogged s.log) (table.txns_in (txns_of old)) stands.txns.each own c.txn-own.ensures.among in
     let last : c.last-previous.result ≡ previous_of a.txn s.log = c.last-previous.ensures ∙ logged.last ∙ ap (λ (b : SessionTxn). previous_of b.txn s.log) (sym same) in
     let number : c.id-txn.result ≡ a.txn = c.id-txn.ensures.number ∙ ap (λ (b : SessionTxn). b.txn) (sym same) in
     let r : LogRecord = record { txn = c.id-txn.result; previous = c.last-previous.result; payload = End } in

@@ -14,7 +14,7 @@ use Rattle.shore_page.specs.Room.{Fits}
 use Rattle.shore_page.specs.Slots.{image_at_slot}
 use Rattle.shore_heap.specs.Heaps as heaps
 use Rattle.shore_heap.specs.Heaps.{frame_of}
-use Rattle.shore_txn.specs.Transactions.{HasTxnOf}
+use Rattle.shore_txn.specs.Transactions.{IsSeatIn}
 use Rattle.laws_calls.specs.StateChanges.{after_refusal}
 use Rattle.laws_calls.specs.CallSteps.{behind_place, place_outcome, with_requests}
 use Rattle.shore_sessions.specs.Controls.{locks_in, txns_in}
@@ -76,8 +76,8 @@ change-requires-clause-found g c =
     subst (λ h. IsSomeAnd (frame_of h id.page) (λ f. (image_at_slot f.page.slots id.slot ≡ None) × Fits f.page.slots id.slot (length c.args.bytes))) (sym c.in_ok-lock_place.ensures.only.heap)
     (map_some _ _ (frame_of c.find_place.new.self.heap id.page) (λ f h. (h.empty, subst (Fits f.page.slots id.slot) len h.fits)) c.in_ok-place.ensures.framed)
 
-pub change-requires-clause-owner : goal.change-requires-clause-owner
-change-requires-clause-owner g c = subst (HasTxnOf c.args.session) (sym (c.in_ok-lock_place.ensures.only.txns ∙ ap txns_in c.in_ok-place.ensures.reads.control)) c.requires.owner
+pub change-requires-clause-seated : goal.change-requires-clause-seated
+change-requires-clause-seated g c = subst (IsSeatIn c.args.seat.now) (sym (c.in_ok-lock_place.ensures.only.txns ∙ ap txns_in c.in_ok-place.ensures.reads.control)) c.requires.seated
 
 pub returns-in_err-change-clause-served : goal.returns-in_err-change-clause-served
 returns-in_err-change-clause-served g c running front disk before s plain is safe over a of number =

@@ -8,7 +8,7 @@ use Rattle.shore_types.specs.declared.layout.Geometry.{Geometry}
 use Rattle.shore_page.specs.Room.{Fits}
 use Rattle.laws_lives.specs.Views.{IsAmong}
 use Rattle.laws_calls.specs.States.{page_slots}
-use Rattle.shore_txn.specs.Transactions.{HasTxnOf, kept_in}
+use Rattle.shore_txn.specs.Transactions.{IsSeatIn, kept_in}
 use Rattle.shore_txn.specs.UndoEntries.{image_of}
 use Rattle.shore_sessions.specs.declared.control.Control.{Control}
 use Rattle.shore_core.specs.Cores.{IsSafe, geometry_of, txns_of}
@@ -40,7 +40,7 @@ returns-in_err-reach-clause-put_back g c running front disk before s store is sa
     let old = c.args.self.now in
     let undo = c.in-Some.undo in
     let next = next_found c.in_ok-undo.field-0 undo c.in-Some.is c.in_ok-undo.ensures.some in
-    let same : image_of next.entry ≡ e = newest_image (txns_of old) c.args.session next.own next.kept next.entry next.among next.session next.entries a kept e (subst (IsAmong a) is.beside.parts.stands.txns.active of.0) of.1 images in
+    let same : image_of next.entry ≡ e = newest_image (txns_of old) c.args.seat.now.session next.own next.kept next.entry next.among next.session next.entries a kept e (subst (IsAmong a) is.beside.parts.stands.txns.active of.0) of.1 images in
     let at : e.0 ≡ undo.id = ap (λ (x : Rid × Image). x.0) (sym same) ∙ sym next.id_is in
     let inside : HasPage (geometry_of old) undo.id.page = subst (λ (r : Rid). HasPage (geometry_of old) r.page) at (newest_inside (geometry_of old) s safe a of.0 kept e images) in
     puts_refused c.reach.new.self front before s store a kept e c.args.rollback c.from_residual-in_err-reach.result _ c.from_residual-in_err-reach.ensures.1
@@ -59,7 +59,7 @@ returns-then-not-fits-clause-put_back g c running front disk before s store is s
     let old = c.args.self.now in
     let undo = c.in-Some.undo in
     let next = next_found c.in_ok-undo.field-0 undo c.in-Some.is c.in_ok-undo.ensures.some in
-    let same : image_of next.entry ≡ e = newest_image (txns_of old) c.args.session next.own next.kept next.entry next.among next.session next.entries a kept e (subst (IsAmong a) is.beside.parts.stands.txns.active of.0) of.1 images in
+    let same : image_of next.entry ≡ e = newest_image (txns_of old) c.args.seat.now.session next.own next.kept next.entry next.among next.session next.entries a kept e (subst (IsAmong a) is.beside.parts.stands.txns.active of.0) of.1 images in
     let at : e.0 ≡ undo.id = ap (λ (x : Rid × Image). x.0) (sym same) ∙ sym next.id_is in
     let long : image_len e.1 ≡ undo.bytes = ap (λ (x : Rid × Image). image_len x.1) (sym same) ∙ sym next.bytes_is in
     let comes = c.in_ok-reach.ensures.stays front disk before s store is safe over in
@@ -77,7 +77,7 @@ returns-then-not-fits-clause-failed g c = c.in_ok-reach.ensures.reads.failed
 pub log_undo-requires-clause-next : goal.log_undo-requires-clause-next
 log_undo-requires-clause-next g c =
     let undo = c.in-Some.undo in
-    subst (λ (k : Control). IsNext k.txns c.args.session undo.id undo.bytes undo.cost undo.logged) (sym c.in_ok-reach.ensures.reads.control)
+    subst (λ (k : Control). IsNext k.txns c.args.seat.now.session undo.id undo.bytes undo.cost undo.logged) (sym c.in_ok-reach.ensures.reads.control)
     (next_found c.in_ok-undo.field-0 undo c.in-Some.is c.in_ok-undo.ensures.some)
 
 pub log_undo-requires-clause-there : goal.log_undo-requires-clause-there
@@ -110,14 +110,14 @@ returns-clause-serves g c =
 pub returns-clause-failed : goal.returns-clause-failed
 returns-clause-failed g c = c.log_undo.ensures.no_call.keeps.failed ∙ c.in_ok-reach.ensures.reads.failed
 
-pub returns-clause-there : goal.returns-clause-there
-returns-clause-there g c there = c.log_undo.ensures.there (subst (λ (k : Control). HasTxnOf c.args.session k.txns) (sym c.in_ok-reach.ensures.reads.control) there)
-
-pub returns-in_err-reach-clause-there : goal.returns-in_err-reach-clause-there
-returns-in_err-reach-clause-there g c there = subst (λ (k : Control). HasTxnOf c.args.session k.txns) (sym c.in_err-reach.ensures.reads.control) there
-
-pub returns-then-not-fits-clause-there : goal.returns-then-not-fits-clause-there
-returns-then-not-fits-clause-there g c there = subst (λ (k : Control). HasTxnOf c.args.session k.txns) (sym c.in_ok-reach.ensures.reads.control) there
-
 pub returns-in_default-clause-rewinds : goal.returns-in_default-clause-rewinds
 returns-in_default-clause-rewinds g c = rewinds_none c.args.self.now
+
+pub log_undo-requires-clause-seated : goal.log_undo-requires-clause-seated
+log_undo-requires-clause-seated g c = subst (λ (k : Control). IsSeatIn c.args.seat.now k.txns) (sym c.in_ok-reach.ensures.reads.control) c.requires
+
+pub returns-in_err-reach-clause-seated : goal.returns-in_err-reach-clause-seated
+returns-in_err-reach-clause-seated g c = subst (λ (k : Control). IsSeatIn c.args.seat.now k.txns) (sym c.in_err-reach.ensures.reads.control) c.requires
+
+pub returns-then-not-fits-clause-seated : goal.returns-then-not-fits-clause-seated
+returns-then-not-fits-clause-seated g c = subst (λ (k : Control). IsSeatIn c.args.seat.now k.txns) (sym c.in_ok-reach.ensures.reads.control) c.requires

@@ -14,10 +14,11 @@ use Rattle.shore_model.specs.declared.step.Step.TheVariants.{Waits}
 use Rattle.shore_model.specs.declared.step.Wait.{Wait}
 use Rattle.shore_model.specs.declared.step.Wait.TheVariants.{Lock}
 use Rattle.shore_txn.specs.Transactions as table
-use Rattle.shore_txn.specs.Transactions.{kept_in, room_in}
+use Rattle.shore_txn.specs.Transactions.{IsSeatIn, kept_in, room_in}
 use Rattle.shore_txn.specs.declared.transactions.Transactions.{Transactions}
 use Rattle.shore_sessions.proofs.WaitSteps.{call_waits}
 use Rattle.shore_sessions.specs.Calls.{as_waiting}
+use Rattle.shore_sessions.specs.Controls.{HasNoWait}
 use Rattle.shore_txn.specs.Txns as txns
 use Rattle.shore_txn.specs.declared.txn.Txn.{Txn}
 use Rattle.shore_core.specs.Cores.{first_of, geometry_of, locks_of, waiting_of, waits_of}
@@ -28,7 +29,6 @@ use Rattle.shore_core.proofs.Settling.{resumed_to_nothing}
 use Rattle.shore_core.proofs.Moving.{comes_moved, in_moved}
 use Rattle.shore_core.proofs.core_calls.Core.resume_call.Goals as goal
 use Rattle.shore_core.proofs.Serving.{serves_answered, serves_noted, serves_still}
-use Rattle.shore_core.proofs.core_calls.Core.resume_call.Goals.{then-is_waiting-via-then-is_waiting, then-is_waiting-via-else-is_waiting+then-not-has_txn}
 
 pub returns-then-is_waiting-clause-step : goal.returns-then-is_waiting-clause-step
 returns-then-is_waiting-clause-step g c running front disk before s store is safe over w m same waits a its number =
@@ -37,10 +37,7 @@ returns-then-is_waiting-clause-step g c running front disk before s store is saf
     let works = is.beside.parts.failed_is ∙ running in
     let held : is_waiting a.txn s.locks.requests ≡ is_waiting c.args.txn (locks_of old).requests =
     ap (λ t. is_waiting t s.locks.requests) number ∙ ap (λ (t : Table). is_waiting c.args.txn t.requests) was.locks in
-    let blocked : is_waiting a.txn s.locks.requests ≡ true = elim c.then-is_waiting.branch [
-      | then-is_waiting-via-then-is_waiting b ↦ held ∙ sym b.if-is_waiting.ensures
-      | then-is_waiting-via-else-is_waiting+then-not-has_txn b ↦ absurd (b.if-not-has_txn.ensures.none refl a (subst (IsAmong a) was.txns.active its.0) its.1)
-    ] in
+    let blocked : is_waiting a.txn s.locks.requests ≡ true = held ∙ sym c.if-is_waiting.ensures in
     let at = c.args.granule in
     record {
       later = s;
@@ -72,31 +69,41 @@ invariant_of-self g c =
 
 pub returns-in_default-clause-step : goal.returns-in_default-clause-step
 returns-in_default-clause-step g c running front disk before s store is safe over w m same waits a its number =
-    absurd ((c.in_default.ensures.same s is.beside.parts.stands).0 w m same)
+    absurd (c.in_default.ensures.of_none s is.beside.parts.stands a its)
+
+pub take_locks-requires-clause-seated : goal.take_locks-requires-clause-seated
+take_locks-requires-clause-seated g c = subst (IsSeatIn c.in-Some.seat) (sym c.take_wait.ensures.txns) c.in-Some.ensures.some.0
+
+pub take_locks-requires-clause-free : goal.take_locks-requires-clause-free
+take_locks-requires-clause-free g c = subst (λ n. HasNoWait n c.take_wait.new.self) (sym c.in-Some.ensures.some.1) c.take_wait.ensures.free
+
+pub returns-in_default-take_wait-clause-step : goal.returns-in_default-take_wait-clause-step
+returns-in_default-take_wait-clause-step g c running front disk before s store is safe over w m same waits a its number =
+    absurd ((c.in_default-take_wait.ensures.same s is.beside.parts.stands).0 w m same)
 
 pub returns-in-Some-cycle-clause-step : goal.returns-in-Some-cycle-clause-step
 returns-in-Some-cycle-clause-step g c running front disk before s store is safe over w m same waits a its number =
     let old = c.args.self.now in
     let was = is.beside.parts.stands in
-    let v = c.in-Some.waiting in
-    let there : IsAmong (as_waiting v) s.waiting = call_waits (waits_of old) s was.waits v c.in-Some.ensures.some.0 in
-    let one : w ≡ as_waiting v = safe.after.waits.once w (as_waiting v) m there (same ∙ sym c.in-Some.ensures.some.1) in
+    let v = c.in-Some-take_wait.waiting in
+    let there : IsAmong (as_waiting v) s.waiting = call_waits (waits_of old) s was.waits v c.in-Some-take_wait.ensures.some.0 in
+    let one : w ≡ as_waiting v = safe.after.waits.once w (as_waiting v) m there (same ∙ sym c.in-Some-take_wait.ensures.some.1) in
     let waited : v.wait ≡ Lock c.args.granule = sym (ap (λ (x : Waiting). x.wait) one) ∙ waits in
     let woken : State = wait_refused s c.args.session in
-    let stands = c.in-Some.ensures.stands s was (λ works. asks_lock v c.args.granule waited) in
+    let stands = c.in-Some-take_wait.ensures.stands s was (λ works. asks_lock v c.args.granule waited) in
     record {
       later = woken;
       moves = inl (record {
         running = is.beside.parts.failed_is ∙ running;
         waited = as_waiting v;
         there = there;
-        of = c.in-Some.ensures.some.1;
+        of = c.in-Some-take_wait.ensures.some.1;
         cycle = c.in-Some-cycle.cycle;
         victim = c.in-Some-cycle.is;
         told = refl;
         is = refl;
       });
-      comes = comes_moved old _ front disk before s woken store refl refl refl refl refl (λ p. ap (λ (t : Transactions). kept_in t p) c.in-Some.ensures.txns) stands refl refl refl (λ p. refl) is over;
+      comes = comes_moved old _ front disk before s woken store refl refl refl refl refl (λ p. ap (λ (t : Transactions). kept_in t p) c.in-Some-take_wait.ensures.txns) stands refl refl refl (λ p. refl) is over;
     }
 
 pub returns-in-Ok-clause-step : goal.returns-in-Ok-clause-step
@@ -104,24 +111,24 @@ returns-in-Ok-clause-step g c running front disk before s store is safe over w m
     let old = c.args.self.now in
     let was = is.beside.parts.stands in
     let works = is.beside.parts.failed_is ∙ running in
-    let v = c.in-Some.waiting in
-    let there : IsAmong (as_waiting v) s.waiting = call_waits (waits_of old) s was.waits v c.in-Some.ensures.some.0 in
-    let one : w ≡ as_waiting v = safe.after.waits.once w (as_waiting v) m there (same ∙ sym c.in-Some.ensures.some.1) in
+    let v = c.in-Some-take_wait.waiting in
+    let there : IsAmong (as_waiting v) s.waiting = call_waits (waits_of old) s was.waits v c.in-Some-take_wait.ensures.some.0 in
+    let one : w ≡ as_waiting v = safe.after.waits.once w (as_waiting v) m there (same ∙ sym c.in-Some-take_wait.ensures.some.1) in
     let spared : v.cycle ≡ None = none_of v.cycle c.in_default-cycle.not-Some in
     let waited : v.wait ≡ Lock c.args.granule = sym (ap (λ (x : Waiting). x.wait) one) ∙ waits in
     let lock = lock_waits _ s (as_waiting v) c.args.granule safe.after.waits there waited in
     let asks : IsSome (lock_asked_by v.call) = subst IsSome (sym lock.asked) refl in
-    let whole = waits_whole safe.found safe.entries s safe.after (as_waiting v) there spared c.args.granule a waited (its.0, its.1 ∙ sym c.in-Some.ensures.some.1) in
+    let whole = waits_whole safe.found safe.entries s safe.after (as_waiting v) there spared c.args.granule a waited (its.0, its.1 ∙ sym c.in-Some-take_wait.ensures.some.1) in
     let quiet : is_waiting a.txn s.locks.requests ≡ false =
     ap (λ t. is_waiting t s.locks.requests) number ∙ ap (λ (t : Table). is_waiting c.args.txn t.requests) was.locks ∙ sym c.if-is_waiting.ensures in
     let woken : State = wait_refused s c.args.session in
-    let stands = c.in-Some.ensures.stands s was (λ works. asks_lock v c.args.granule waited) in
+    let stands = c.in-Some-take_wait.ensures.stands s was (λ works. asks_lock v c.args.granule waited) in
     let r = c.in-Ok.ensures.asked asks running front disk before woken store
-    (in_moved old _ front disk before s woken store refl refl refl refl refl (λ p. ap (λ (t : Transactions). kept_in t p) c.in-Some.ensures.txns) stands refl refl refl (λ p. refl) is)
-    (safe_woken (geometry_of old) s safe c.args.session a its quiet) (over_as old _ disk s woken store refl refl refl refl over) a its number whole in
+    (in_moved old _ front disk before s woken store refl refl refl refl refl (λ p. ap (λ (t : Transactions). kept_in t p) c.in-Some-take_wait.ensures.txns) stands refl refl refl (λ p. refl) is)
+    (safe_woken (geometry_of old) s safe c.args.session a its quiet) (over_as old _ disk s woken store refl refl refl refl over) a (its.0, its.1 ∙ sym c.in-Some.ensures.some.1) number whole in
     record {
       later = r.later;
-      moves = asked_resumes _ _ front before s store a (Ok c.in-Ok.step) c.args.session (as_waiting v) c.args.granule works there c.in-Some.ensures.some.1 waited spared
+      moves = asked_resumes _ _ front before s store a (Ok c.in-Ok.step) c.args.session (as_waiting v) c.args.granule works there c.in-Some-take_wait.ensures.some.1 waited spared
           (safe.asks (as_waiting v) c.args.granule there waited) its quiet r;
       comes = r.comes;
     }
@@ -131,25 +138,25 @@ returns-in-Err-clause-step g c running front disk before s store is safe over w 
     let old = c.args.self.now in
     let was = is.beside.parts.stands in
     let works = is.beside.parts.failed_is ∙ running in
-    let v = c.in-Some.waiting in
-    let there : IsAmong (as_waiting v) s.waiting = call_waits (waits_of old) s was.waits v c.in-Some.ensures.some.0 in
-    let one : w ≡ as_waiting v = safe.after.waits.once w (as_waiting v) m there (same ∙ sym c.in-Some.ensures.some.1) in
+    let v = c.in-Some-take_wait.waiting in
+    let there : IsAmong (as_waiting v) s.waiting = call_waits (waits_of old) s was.waits v c.in-Some-take_wait.ensures.some.0 in
+    let one : w ≡ as_waiting v = safe.after.waits.once w (as_waiting v) m there (same ∙ sym c.in-Some-take_wait.ensures.some.1) in
     let spared : v.cycle ≡ None = none_of v.cycle c.in_default-cycle.not-Some in
     let waited : v.wait ≡ Lock c.args.granule = sym (ap (λ (x : Waiting). x.wait) one) ∙ waits in
     let lock = lock_waits _ s (as_waiting v) c.args.granule safe.after.waits there waited in
     let asks : IsSome (lock_asked_by v.call) = subst IsSome (sym lock.asked) refl in
-    let whole = waits_whole safe.found safe.entries s safe.after (as_waiting v) there spared c.args.granule a waited (its.0, its.1 ∙ sym c.in-Some.ensures.some.1) in
+    let whole = waits_whole safe.found safe.entries s safe.after (as_waiting v) there spared c.args.granule a waited (its.0, its.1 ∙ sym c.in-Some-take_wait.ensures.some.1) in
     let quiet : is_waiting a.txn s.locks.requests ≡ false =
     ap (λ t. is_waiting t s.locks.requests) number ∙ ap (λ (t : Table). is_waiting c.args.txn t.requests) was.locks ∙ sym c.if-is_waiting.ensures in
     let woken : State = wait_refused s c.args.session in
-    let stands = c.in-Some.ensures.stands s was (λ works. asks_lock v c.args.granule waited) in
+    let stands = c.in-Some-take_wait.ensures.stands s was (λ works. asks_lock v c.args.granule waited) in
     let r = c.in-Err.ensures.asked asks running front disk before woken store
-    (in_moved old _ front disk before s woken store refl refl refl refl refl (λ p. ap (λ (t : Transactions). kept_in t p) c.in-Some.ensures.txns) stands refl refl refl (λ p. refl) is)
-    (safe_woken (geometry_of old) s safe c.args.session a its quiet) (over_as old _ disk s woken store refl refl refl refl over) a its number whole in
+    (in_moved old _ front disk before s woken store refl refl refl refl refl (λ p. ap (λ (t : Transactions). kept_in t p) c.in-Some-take_wait.ensures.txns) stands refl refl refl (λ p. refl) is)
+    (safe_woken (geometry_of old) s safe c.args.session a its quiet) (over_as old _ disk s woken store refl refl refl refl over) a (its.0, its.1 ∙ sym c.in-Some.ensures.some.1) number whole in
     record {
       later = after_refusal c.in-Err.fault r.later;
       moves = subst (λ (x : Step). SettledResume (geometry_of old) s c.args.session x (after_refusal c.in-Err.fault r.later)) (sym c.refuse.ensures.refused)
-          (asked_resumes _ _ front before s store a (Err c.in-Err.fault) c.args.session (as_waiting v) c.args.granule works there c.in-Some.ensures.some.1 waited spared
+          (asked_resumes _ _ front before s store a (Err c.in-Err.fault) c.args.session (as_waiting v) c.args.granule works there c.in-Some-take_wait.ensures.some.1 waited spared
           (safe.asks (as_waiting v) c.args.granule there waited) its quiet r);
       comes = c.refuse.ensures.left front before r.later store r.comes;
     }
@@ -159,6 +166,9 @@ returns-then-is_waiting-clause-serves g c = serves_still _ _ _ _ _ refl refl ref
 
 pub returns-in_default-clause-serves : goal.returns-in_default-clause-serves
 returns-in_default-clause-serves g c = serves_still _ _ _ _ _ refl refl refl refl tt
+
+pub returns-in_default-take_wait-clause-serves : goal.returns-in_default-take_wait-clause-serves
+returns-in_default-take_wait-clause-serves g c = serves_still _ _ _ _ _ refl refl refl refl tt
 
 pub returns-in-Some-cycle-clause-serves : goal.returns-in-Some-cycle-clause-serves
 returns-in-Some-cycle-clause-serves g c = serves_still _ _ _ _ _ refl refl refl refl tt
@@ -184,7 +194,7 @@ returns-in-Ok-clause-serves g c =
 pub returns-in-Err-clause-serves : goal.returns-in-Err-clause-serves
 returns-in-Err-clause-serves g c =
     let old = c.args.self.now in
-    let v = c.in-Some.waiting in
+    let v = c.in-Some-take_wait.waiting in
     let serves = c.in-Err.ensures.serves.beside in
     let first : Serves (ReadsWaiting old c.args.session) old (Err c.in-Err.fault) old c.take_locks.new.self = record {
       volume = record { geometry = serves.volume.geometry; honest = serves.volume.honest; size = serves.volume.size };
@@ -193,7 +203,7 @@ returns-in-Err-clause-serves g c =
       any_moment = serves.any_moment;
       damaged = λ front disk holds d offset is.
           let why = serves.damaged front disk holds d offset is in
-          let page = why.1 in (why.0, (page.0, (v, c.in-Some.ensures.some.0, c.in-Some.ensures.some.1, page.1), page.2, page.3, page.4));
+          let page = why.1 in (why.0, (page.0, (v, c.in-Some-take_wait.ensures.some.0, c.in-Some-take_wait.ensures.some.1, page.1), page.2, page.3, page.4));
       forced = serves.forced;
       cause = serves.cause;
     } in

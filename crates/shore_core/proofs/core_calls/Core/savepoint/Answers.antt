@@ -22,7 +22,7 @@ use Rattle.shore_core.proofs.core_calls.Core.savepoint.Goals as goal
 
 pub returns-in_err-own-clause-replied : goal.returns-in_err-own-clause-replied
 returns-in_err-own-clause-replied g c running front disk before s store is safe over idle =
-    replied_not_open c.args.self.now front disk before s store c.args.session call.Savepoint c.from_residual.result c.in_err-own.field-0.0 is over inner_savepoint
+    replied_not_open c.args.self.now front disk before s store c.args.seat.now.session call.Savepoint c.from_residual.result c.in_err-own.field-0.0 is over inner_savepoint
     (is.beside.parts.failed_is ∙ running) idle c.from_residual.ensures.1 c.in_err-own.ensures.refused
 
 pub returns-then-savepoints-ge-MAX_SAVEPOINTS-clause-replied : goal.returns-then-savepoints-ge-MAX_SAVEPOINTS-clause-replied
@@ -36,9 +36,6 @@ returns-then-savepoints-ge-MAX_SAVEPOINTS-clause-replied g c running front disk 
       replies = inr (inr (inr (inr (inr (is.beside.parts.failed_is ∙ running, idle, (a, its, inr (inl (c.in_ok-own.ensures.whole, inr (inr (inr (refl, (refl, many, refl))))))))))));
       comes = inr (comes_same old front disk before s store is over);
     }
-
-pub savepoint-requires-clause-there : goal.savepoint-requires-clause-there
-savepoint-requires-clause-there g c = (as_session_txn c.in_ok-own.own.now, c.in_ok-own.ensures.there, c.in_ok-own.ensures.some.1)
 
 pub savepoint-requires-clause-few : goal.savepoint-requires-clause-few
 savepoint-requires-clause-few g c a m of =
@@ -56,12 +53,12 @@ invariant_of-self g c =
       some_number = old.some_number;
       forced = old.forced;
       numbers = subst (λ r. next + r.reserved ≤ LAST_OPENED) (sym done.room) old.numbers;
-      earlier = earlier_marked (txns_of old) (txns_in c.savepoint.new.self) next old.earlier c.args.session c.savepoint.result done.set done.same;
+      earlier = earlier_marked (txns_of old) (txns_in c.savepoint.new.self) next old.earlier c.args.seat.now.session c.savepoint.result done.set done.same;
     }
 
 pub returns-in_err-index-clause-replied : goal.returns-in_err-index-clause-replied
 returns-in_err-index-clause-replied g c running front disk before s store is safe over idle =
-    replied_as c.args.self.now _ front before s store c.args.session call.Savepoint c.from_residual-in_err-index.result fault.Memory c.from_residual-in_err-index.ensures.1 (inl (refl, refl))
+    replied_as c.args.self.now _ front before s store c.args.seat.now.session call.Savepoint c.from_residual-in_err-index.result fault.Memory c.from_residual-in_err-index.ensures.1 (inl (refl, refl))
     (inr (comes_moved c.args.self.now _ front disk before s s store refl refl refl refl refl c.savepoint.ensures.claims (c.in_err-index.ensures.unchanged s is.beside.parts.stands) refl refl refl
     (λ p. refl) is over))
 
@@ -83,7 +80,7 @@ returns-clause-replied g c running front disk before s store is safe over idle =
 
 pub returns-in_err-own-clause-serves : goal.returns-in_err-own-clause-serves
 returns-in_err-own-clause-serves g c =
-    refused_still _ _ _ _ _ _ c.from_residual.ensures.1 refl refl refl refl (not_open_aside c.args.self.now c.args.session _ c.in_err-own.ensures.refused)
+    refused_still _ _ _ _ _ _ c.from_residual.ensures.1 refl refl refl refl (not_open_aside c.args.self.now c.args.seat.now.session _ c.in_err-own.ensures.refused)
 
 pub returns-then-savepoints-ge-MAX_SAVEPOINTS-clause-serves : goal.returns-then-savepoints-ge-MAX_SAVEPOINTS-clause-serves
 returns-then-savepoints-ge-MAX_SAVEPOINTS-clause-serves g c = call_still _ _ _ _ _ refl refl refl refl tt tt

@@ -75,7 +75,7 @@ returns-in_err-acquired-clause-asked g c asks running front disk before s store 
     let may : MayAsk (geometry_of old) call = subst (λ (it : Geometry). MayAsk it call) c.geometry.ensures (c.in_ok-check.ensures.may asks) in
     let quiet : is_waiting a.txn s.locks.requests ≡ false =
     ap (λ t. is_waiting t s.locks.requests) number ∙ ap (λ (t : Table). is_waiting c.args.txn t.requests) was.locks ∙ c.requires.quiet in
-    let idle : DoesNotWait s a.session = idle_of (control_of old) s a c.args.session was c.requires.free its.1 in
+    let idle : DoesNotWait s a.session = idle_of (control_of old) s a c.args.seat.now.session was c.requires.free its.1 in
     let locked = c.in_err-acquired.ensures.locks s safe.found safe.entries a call (c.reserve_wait.ensures.stands s was) safe.after works its number (sym c.on_conflict-on_conflict.ensures) in
     let at_first : MayLock safe.found safe.entries a s = record { after = safe.after; active = its.0; idle = idle; running = works } in
     let same = locked_pages (geometry_of old) a call lock (sym c.in-Some.ensures) may whole s
@@ -125,7 +125,7 @@ returns-in-Done-clause-asked g c asks running front disk before s store is safe 
     let may : MayAsk (geometry_of old) call = subst (λ (it : Geometry). MayAsk it call) c.geometry.ensures (c.in_ok-check.ensures.may asks) in
     let quiet : is_waiting a.txn s.locks.requests ≡ false =
     ap (λ t. is_waiting t s.locks.requests) number ∙ ap (λ (t : Table). is_waiting c.args.txn t.requests) was.locks ∙ c.requires.quiet in
-    let idle : DoesNotWait s a.session = idle_of (control_of old) s a c.args.session was c.requires.free its.1 in
+    let idle : DoesNotWait s a.session = idle_of (control_of old) s a c.args.seat.now.session was c.requires.free its.1 in
     let locked = c.in_ok-acquired.ensures.locks s safe.found safe.entries a call (c.reserve_wait.ensures.stands s was) safe.after works its number (sym c.on_conflict-on_conflict.ensures) in
     let done : LocksTo s a call lock (Ok acquire.Done) locked.0 = subst (λ (x : Acquired). LocksTo s a call lock (Ok x) locked.0) c.in-Done.is locked.1 in
     let at_first : MayLock safe.found safe.entries a s = record { after = safe.after; active = its.0; idle = idle; running = works } in
@@ -157,7 +157,7 @@ returns-in-Waiting-clause-asked g c asks running front disk before s store is sa
     let may : MayAsk (geometry_of old) call = subst (λ (it : Geometry). MayAsk it call) c.geometry.ensures (c.in_ok-check.ensures.may asks) in
     let quiet : is_waiting a.txn s.locks.requests ≡ false =
     ap (λ t. is_waiting t s.locks.requests) number ∙ ap (λ (t : Table). is_waiting c.args.txn t.requests) was.locks ∙ c.requires.quiet in
-    let idle : DoesNotWait s a.session = idle_of (control_of old) s a c.args.session was c.requires.free its.1 in
+    let idle : DoesNotWait s a.session = idle_of (control_of old) s a c.args.seat.now.session was c.requires.free its.1 in
     let locked = c.in_ok-acquired.ensures.locks s safe.found safe.entries a call (c.reserve_wait.ensures.stands s was) safe.after works its number (sym c.on_conflict-on_conflict.ensures) in
     let waits : LocksTo s a call lock (Ok (acquire.Waiting at)) locked.0 = subst (λ (x : Acquired). LocksTo s a call lock (Ok x) locked.0) c.in-Waiting.is locked.1 in
     let at_first : MayLock safe.found safe.entries a s = record { after = safe.after; active = its.0; idle = idle; running = works } in

@@ -7,33 +7,30 @@ use Rattle.shore_core.proofs.Undoing.{none_of, short_last, some_short}
 use Rattle.shore_core.proofs.core_calls.Core.undo_of.Goals as goal
 
 pub returns-in_default-clause-none : goal.returns-in_default-clause-none
-returns-in_default-clause-none g c a among is = absurd (c.in_default.ensures.none a among is)
-
-pub returns-in_default-newest-clause-none : goal.returns-in_default-newest-clause-none
-returns-in_default-newest-clause-none g c a among is =
-    let t = c.in-Some.own.now in
-    none_of (txns_of c.args.self.now) t c.in-Some.ensures.there a among (is ∙ sym c.in-Some.ensures.some.1) c.in_default-newest.ensures.none
+returns-in_default-clause-none g c a among is =
+    let t = c.txn-own.result.now in
+    none_of (txns_of c.args.self.now) t c.txn-own.ensures.there a among (is ∙ sym c.txn-own.ensures.session) c.in_default.ensures.none
 
 pub compensation_cost-requires : goal.compensation_cost-requires
 compensation_cost-requires g c =
-    some_short c.in-Some-newest.newest.now.before (short_last c.in-Some.own.now _ c.in-Some-newest.newest.now c.in-Some-newest.ensures.some.1) _ c.len_of.ensures
+    some_short c.in-Some.newest.now.before (short_last c.txn-own.result.now _ c.in-Some.newest.now c.in-Some.ensures.some.1) _ c.len_of.ensures
 
 pub returns-clause-some : goal.returns-clause-some
 returns-clause-some g c =
-    let own = c.in-Some.own.now in
-    let e = c.in-Some-newest.newest.now in
+    let own = c.txn-own.result.now in
+    let e = c.in-Some.newest.now in
     let copy = c.in_ok-copy_of.ensures in
     record {
       own = own;
-      among = c.in-Some.ensures.some.0;
-      there = c.in-Some.ensures.there;
-      session = c.in-Some.ensures.some.1;
+      among = c.txn-own.ensures.among;
+      there = c.txn-own.ensures.there;
+      session = c.txn-own.ensures.session;
       some = omega (arith, c.id.ensures.some, c.id.ensures.number);
       below = omega (arith, c.id.ensures.below, c.id.ensures.number);
       behind = omega (arith, c.undo_next.ensures, c.undo_next.type_inv);
-      kept = c.in-Some-newest.ensures.some.0;
+      kept = c.in-Some.ensures.some.0;
       entry = e;
-      entries = c.in-Some-newest.ensures.some.1;
+      entries = c.in-Some.ensures.some.1;
       id_is = refl;
       bytes_is = c.image_len.ensures;
       cost_is = c.compensation_cost.ensures.cost e.id e.before 0 (sym c.len_of.ensures) ∙ sym (compensation_bytes e.id e.before 0);

@@ -15,7 +15,7 @@ use Rattle.shore_sessions.proofs.control.Control.commit.Goals as goal
 
 pub returns-clause-undone : goal.returns-clause-undone
 returns-clause-undone c s a was its =
-    undone (txns_in c.args.self.now) c.note_commit-txn.new.self s was.txns c.args.session c.note_commit-txn.result.1.items a c.note_commit-txn.ensures.left its.0 its.1
+    undone (txns_in c.args.self.now) c.note_commit-txn.new.self s was.txns c.args.seat.now.session c.note_commit-txn.result.1.items a c.note_commit-txn.ensures.left its.0 its.1
 
 pub returns-clause-stands : goal.returns-clause-stands
 returns-clause-stands c s a was its number =
@@ -28,7 +28,7 @@ returns-clause-stands c s a was its number =
     ∙ ap (λ n. calls ++ record { session = a.session; txn = n; call = call.Commit; wait = Durable c.args.number; cycle = None } ∷ []) number_is
     ∙ ap (λ n. calls ++ record { session = a.session; txn = a.txn; call = call.Commit; wait = Durable n; cycle = None } ∷ []) number in
     record {
-      txns = txns_committed (txns_in c.args.self.now) c.note_commit-txn.new.self s was.txns c.args.session c.note_commit-txn.result.1.items a done.left its.0 its.1
+      txns = txns_committed (txns_in c.args.self.now) c.note_commit-txn.new.self s was.txns c.args.seat.now.session c.note_commit-txn.result.1.items a done.left its.0 its.1
           (done.undos a here its.1) done.next done.kept done.stream;
       waits = subst (λ cs. HasWaits cs (committed s a)) (sym pushed)
           (waits_committed calls s was.waits a its.0 (subst (λ ts. EachOnce (txns_of ts)) (sym was.txns.active) c.args.self.now.txns.numbers)
@@ -38,4 +38,4 @@ returns-clause-stands c s a was its number =
 
 pub returns-clause-waits : goal.returns-clause-waits
 returns-clause-waits c a m own =
-    c.push.ensures ∙ ap (λ n. waits_in c.args.self.now ++ record { session = c.args.session; txn = n; call = call.Commit; wait = Durable c.args.number; cycle = None } ∷ []) (c.note_commit-txn.ensures.number a m own)
+    c.push.ensures ∙ ap (λ n. waits_in c.args.self.now ++ record { session = c.args.seat.now.session; txn = n; call = call.Commit; wait = Durable c.args.number; cycle = None } ∷ []) (c.note_commit-txn.ensures.number a m own)

@@ -23,7 +23,7 @@ returns-clause-stands c s a was its none =
     let new : State = answered s a (call.BackTo index) WentBack s.counts in
     let undo = undo_after_answer s.sessions.records a.undo (call.BackTo index) WentBack in
     record {
-      txns = txns_still (txns_in c.args.self.now) c.go_back.new.self s was.txns new c.args.session (becomes_so (back_logged index) done.back)
+      txns = txns_still (txns_in c.args.self.now) c.go_back.new.self s was.txns new c.args.seat.now.session (becomes_so (back_logged index) done.back)
           (ap (with_undo a.txn undo) was.txns.active
           ∙ ap (λ l. with_undo a.txn (back_at index (record a.undo { images = l })) (undos_in (txns_in c.args.self.now))) (all_left (mark_of a.undo index) a.undo.images none)
           ∙ sym (done.undos a (subst (IsAmong a) was.txns.active its.0) its.1))

@@ -16,7 +16,7 @@ use Rattle.shore_sessions.specs.declared.waits.WaitingCall.{WaitingCall}
 use Rattle.shore_sessions.proofs.LockRounds.{IsStart, settles_to}
 use Rattle.shore_sessions.proofs.LockRefusals.{done_so, refuses_so}
 use Rattle.shore_sessions.proofs.LockStarts.{starts, stands_for}
-use Rattle.shore_sessions.proofs.NotedVictims.{owner_stays}
+use Rattle.shore_sessions.proofs.NotedVictims.{seat_named}
 use Rattle.shore_sessions.proofs.TriedLocks.{waits_for_none}
 use Rattle.shore_sessions.proofs.WaitSteps.{free_waits_not}
 use Rattle.shore_sessions.proofs.control.Control.lock_or_wait.Goals as goal
@@ -55,10 +55,10 @@ settled c =
     (lets_wait (locks_in c.args.self.now) c.args.txn c.args.granule c.args.mode (Ok c.in_ok-acquire.field-0) c.acquire.new.self.locks c.tables_are_orderly.ensures c.requires.quiet
     (c.in_ok-acquire.ensures.answer, c.acquire.ensures.locks) c.in-Waiting.field-0 (ap Ok c.in-Waiting.is))
 
-pub returns-in-Waiting-clause-owner : goal.returns-in-Waiting-clause-owner
-returns-in-Waiting-clause-owner c =
-    owner_stays c.args.session (txns_in c.args.self.now) (txns_in c.note_victims-told.new.self)
-    (c.note_victims-told.ensures.keeps.names ∙ ap (λ txns. names_of (undos_in txns)) c.acquire.ensures.txns) c.requires.owner
+pub returns-in-Waiting-clause-seated : goal.returns-in-Waiting-clause-seated
+returns-in-Waiting-clause-seated c =
+    seat_named c.args.seat.now (txns_in c.args.self.now) (txns_in c.note_victims-told.new.self)
+    (c.note_victims-told.ensures.keeps.names ∙ ap (λ txns. names_of (undos_in txns)) c.acquire.ensures.txns) c.requires.seated
 
 pub returns-in-Waiting-clause-reached : goal.returns-in-Waiting-clause-reached
 returns-in-Waiting-clause-reached c done =
@@ -83,7 +83,7 @@ returns-in-Waiting-clause-locks c s found es a call was state works its number m
     let answer = c.settle-answer.result.answer in
     let victims = c.settle-answer.result.victims.items in
     let asked : Asked = record { granule = c.args.granule; mode = c.args.mode } in
-    let idle = free_waits_not (waits_in control) s was.waits c.args.session c.requires.free in
+    let idle = free_waits_not (waits_in control) s was.waits c.args.seat.now.session c.requires.free in
     let start : IsStart a call asked may_wait s = starts found es s state works a call asked may_wait its.0
     (subst (λ (x : Table). is_waiting a.txn x.requests ≡ false) (sym was.locks) (subst (λ t. is_waiting t (locks_in control).requests ≡ false) (sym number) c.requires.quiet))
     (λ w m same. idle w m (same ∙ its.1)) in
@@ -93,10 +93,10 @@ returns-in-Waiting-clause-locks c s found es a call was state works its number m
     let comes = settles_to a call asked may_wait s start answer victims c.settle-answer.new.table settles in
     let told : answer_of answer (told_cycle a.txn None victims) ≡ c.answer_of.result =
     ap (λ t. answer_of answer (told_cycle t None victims)) number ∙ ap (answer_of answer) (sym c.note_victims-told.ensures.told) ∙ sym c.answer_of.ensures in
-    let noted : AreNoted c.args.session c.args.txn s victims comes.new =
-    subst (λ t. AreNoted c.args.session t s victims comes.new) number (subst (λ n. AreNoted n a.txn s victims comes.new) its.1 comes.noted) in
+    let noted : AreNoted c.args.seat.now.session c.args.txn s victims comes.new =
+    subst (λ t. AreNoted c.args.seat.now.session t s victims comes.new) number (subst (λ n. AreNoted n a.txn s victims comes.new) its.1 comes.noted) in
     let stands = c.note_victims-told.ensures.stands s comes.new (stands_for found es s state works control _ was.txns was.waits c.acquire.ensures.txns c.acquire.ensures.waits)
-    (subst (All (λ (w : WaitingCall). w.session ≢ c.args.session)) (sym c.acquire.ensures.waits) c.requires.free) noted in (
+    (subst (All (λ (w : WaitingCall). w.session ≢ c.args.seat.now.session)) (sym c.acquire.ensures.waits) c.requires.free) noted in (
       comes.new,
       subst (λ answered. LocksTo s a call asked answered comes.new) told comes.locks_to,
       record { txns = stands.txns; waits = stands.waits; locks = comes.locks ∙ sym c.note_victims-told.ensures.keeps.locks },

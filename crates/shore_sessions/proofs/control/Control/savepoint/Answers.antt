@@ -22,10 +22,10 @@ use Rattle.shore_sessions.proofs.control.Control.savepoint.Goals as goal
 pub returns-clause-stands : goal.returns-clause-stands
 returns-clause-stands c = each c.savepoint.result c.savepoint.ensures.set c.savepoint.ensures.index c.savepoint.ensures.undos
   where
-    each : (r : Result ℕ AllocError) → OnOk r (OneBecomes c.args.session IsAfterSavepoint (table.txns_in (txns_in c.args.self.now)) (table.txns_in c.savepoint.new.self))
-        → IfOk r (λ index. (a : SessionTxn) → IsAmong a (undos_in (txns_in c.args.self.now)) → a.session ≡ c.args.session → index ≡ length a.undo.marks)
-        → OnOk r ((a : SessionTxn) → IsAmong a (undos_in (txns_in c.args.self.now)) → a.session ≡ c.args.session → undos_in c.savepoint.new.self ≡ with_undo a.txn (with_mark a.undo) (undos_in (txns_in c.args.self.now)))
-        → IfOk r (λ index. (s : State) (a : SessionTxn) → HasControl c.args.self.now s → IsOfSession s c.args.session a
+    each : (r : Result ℕ AllocError) → OnOk r (OneBecomes c.args.seat.now.session IsAfterSavepoint (table.txns_in (txns_in c.args.self.now)) (table.txns_in c.savepoint.new.self))
+        → IfOk r (λ index. (a : SessionTxn) → IsAmong a (undos_in (txns_in c.args.self.now)) → a.session ≡ c.args.seat.now.session → index ≡ length a.undo.marks)
+        → OnOk r ((a : SessionTxn) → IsAmong a (undos_in (txns_in c.args.self.now)) → a.session ≡ c.args.seat.now.session → undos_in c.savepoint.new.self ≡ with_undo a.txn (with_mark a.undo) (undos_in (txns_in c.args.self.now)))
+        → IfOk r (λ index. (s : State) (a : SessionTxn) → HasControl c.args.self.now s → IsOfSession s c.args.seat.now.session a
         → (index ≡ length a.undo.marks) × HasControl (record c.args.self.now { txns = c.savepoint.new.self }) (answered s a call.Savepoint (Saved index) s.counts))
     each (Err e) none more undos = none
     each (Ok index) one its undos = λ s a was own.
@@ -33,7 +33,7 @@ returns-clause-stands c = each c.savepoint.result c.savepoint.ensures.set c.save
         let new : State = answered s a call.Savepoint (Saved index) s.counts in (
           its a here own.1,
           record {
-            txns = txns_still (txns_in c.args.self.now) c.savepoint.new.self s was.txns new c.args.session (becomes_so savepoint_logged one)
+            txns = txns_still (txns_in c.args.self.now) c.savepoint.new.self s was.txns new c.args.seat.now.session (becomes_so savepoint_logged one)
                 (ap (with_undo a.txn (with_mark a.undo)) was.txns.active ∙ sym (undos a here own.1)) refl refl refl c.savepoint.ensures.next c.savepoint.ensures.room;
             waits = waits_kept (waits_in c.args.self.now) s was.waits new refl refl (λ f. f)
                 (λ n m. subst (IsAmong n) (sym (names-with_undo a.txn (with_mark a.undo) s.sessions.active)) m);
@@ -44,11 +44,11 @@ returns-clause-stands c = each c.savepoint.result c.savepoint.ensures.set c.save
 pub returns-clause-unchanged : goal.returns-clause-unchanged
 returns-clause-unchanged c = each c.savepoint.result c.savepoint.ensures.same c.savepoint.ensures.unchanged
   where
-    each : (r : Result ℕ AllocError) → OnErr r (OneBecomes c.args.session SameTxn (table.txns_in (txns_in c.args.self.now)) (table.txns_in c.savepoint.new.self))
+    each : (r : Result ℕ AllocError) → OnErr r (OneBecomes c.args.seat.now.session SameTxn (table.txns_in (txns_in c.args.self.now)) (table.txns_in c.savepoint.new.self))
         → OnErr r (undos_in c.savepoint.new.self ≡ undos_in (txns_in c.args.self.now)) → OnErr r ((s : State) → HasControl c.args.self.now s → HasControl (record c.args.self.now { txns = c.savepoint.new.self }) s)
     each (Ok index) none undos = none
     each (Err e) one undos = λ s was. record {
-      txns = txns_same (txns_in c.args.self.now) c.savepoint.new.self s was.txns c.args.session one undos c.savepoint.ensures.next c.savepoint.ensures.room;
+      txns = txns_same (txns_in c.args.self.now) c.savepoint.new.self s was.txns c.args.seat.now.session one undos c.savepoint.ensures.next c.savepoint.ensures.room;
       waits = was.waits;
       locks = was.locks;
     }

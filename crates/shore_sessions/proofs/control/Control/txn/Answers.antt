@@ -1,7 +1,7 @@
-use Rattle.std.proofs.Common.{subst}
+use Rattle.std.proofs.Common.{sym, subst}
 use Rattle.laws_lives.specs.Views.{IsAmong}
-use Rattle.shore_sessions.proofs.Answered.{none_so}
+use Rattle.shore_txn.specs.Txns.{as_session_txn}
 use Rattle.shore_sessions.proofs.control.Control.txn.Goals as goal
 
-pub returns-clause-of_none : goal.returns-clause-of_none
-returns-clause-of_none c = none_so c.txn.result (λ none s was a its. none a (subst (IsAmong a) was.txns.active its.0) its.1) c.txn.ensures.none
+pub returns-clause-of_session : goal.returns-clause-of_session
+returns-clause-of_session c s was = (subst (IsAmong (as_session_txn c.txn.result.now)) (sym was.txns.active) c.txn.ensures.there, c.txn.ensures.session)

@@ -3,17 +3,21 @@ use Rattle.shore_model.specs.declared.rollbacks.Rollback.TheVariants.{Whole}
 use Rattle.shore_txn.specs.Txns.{IsDoomed}
 use Rattle.shore_txn.proofs.ActiveSteps.{becomes_so, claims_still, doomed_keeps, kept_still, session_doomed, undos_by}
 use Rattle.shore_txn.proofs.Lending.{kept_in, lent_becomes}
+use Rattle.shore_txn.proofs.Seats.{seat_inside}
 use Rattle.shore_txn.proofs.transactions.Transactions.doom.Goals as goal
+
+pub index_mut-requires : goal.index_mut-requires
+index_mut-requires c = seat_inside c.args.self.now c.args.seat.now c.requires.seated
 
 pub returns-clause-doomed : goal.returns-clause-doomed
 returns-clause-doomed c =
-    lent_becomes c.args.self.now c.index_of-own.result c.args.session c.index_of-own.ensures.inside c.index_of-own.ensures.its c.index_mut.result.now c.index_mut.ensures.value
+    lent_becomes c.args.self.now c.args.seat.now c.requires.seated c.index_mut.result.now c.index_mut.ensures.value
     c.doom.new.self IsDoomed c.doom.ensures
 
 pub invariant_of-self : goal.invariant_of-self
 invariant_of-self c =
     let old = c.args.self.now in
-    let doomed = lent_becomes old c.index_of-own.result c.args.session c.index_of-own.ensures.inside c.index_of-own.ensures.its c.index_mut.result.now c.index_mut.ensures.value
+    let doomed = lent_becomes old c.args.seat.now c.requires.seated c.index_mut.result.now c.index_mut.ensures.value
     c.doom.new.self IsDoomed c.doom.ensures in
     let now = kept_still (becomes_so doomed_keeps doomed) old.room.reserved old.next (kept_in old) in
     record { some = old.some; sum = now.sum; numbers = now.numbers; sessions = now.sessions; below = now.below }

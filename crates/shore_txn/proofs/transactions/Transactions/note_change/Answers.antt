@@ -3,22 +3,26 @@ use Rattle.laws_room.specs.LogRooms.{owed}
 use Rattle.shore_txn.specs.ActiveTxns.{CanNote, undos_of}
 use Rattle.shore_txn.specs.Txns.{IsAfterChange, as_session_txn}
 use Rattle.shore_txn.specs.declared.active.ActiveTxn.{ActiveTxn}
-use Rattle.shore_txn.proofs.ActiveLemmas.{active_there, holds_at, one_at, read_at, session_txn_there}
+use Rattle.shore_txn.proofs.ActiveLemmas.{active_there, read_at, session_txn_there}
 use Rattle.shore_txn.proofs.ActiveSteps.{AreKept, becomes_at, claims_elsewhere, claims_noted, kept_noted, undos_noted}
 use Rattle.shore_txn.proofs.OneOfMany.{owed_among}
+use Rattle.shore_txn.proofs.Seats.{seat_inside, seat_one}
 use Rattle.shore_txn.proofs.transactions.Transactions.note_change.Goals as goal
+
+pub index_mut-requires : goal.index_mut-requires
+index_mut-requires c = seat_inside c.args.self.now c.args.seat.now c.requires.seated
 
 pub note_change-requires-clause-room : goal.note_change-requires-clause-room
 note_change-requires-clause-room c =
     let items = c.args.self.now.active.items in
-    let one = one_at items c.index_of-index.result c.index_of-index.ensures.inside in
+    let one = seat_one c.args.self.now c.args.seat.now c.requires.seated in
     let it : c.index_mut.result.now ≡ one.0 = c.index_mut.ensures.value ∙ read_at one.1 c.index_mut.result.now in
-    subst CanNote (sym it) (c.requires.memory one.0 (active_there one.1) (holds_at one.1 (λ a. a.txn.session ≡ c.args.session) c.index_of-index.ensures.its))
+    subst CanNote (sym it) (c.requires.memory one.0 (active_there one.1) one.2)
 
 pub note_change-requires-clause-sum : goal.note_change-requires-clause-sum
 note_change-requires-clause-sum c =
     let old = c.args.self.now in
-    let one = one_at old.active.items c.index_of-index.result c.index_of-index.ensures.inside in
+    let one = seat_one old c.args.seat.now c.requires.seated in
     let it : c.index_mut.result.now ≡ one.0 = c.index_mut.ensures.value ∙ read_at one.1 c.index_mut.result.now in
     let its : c.index_mut.result.now.txn.reserved ≡ one.0.txn.reserved = ap (λ (a : ActiveTxn). a.txn.reserved) it in
     let owes : one.0.txn.reserved ≡ owed (as_session_txn one.0.txn) = one.0.txn.owed in
@@ -28,7 +32,7 @@ note_change-requires-clause-sum c =
 pub invariant_of-self : goal.invariant_of-self
 invariant_of-self c =
     let old = c.args.self.now in
-    let one = one_at old.active.items c.index_of-index.result c.index_of-index.ensures.inside in
+    let one = seat_one old c.args.seat.now c.requires.seated in
     let it : c.index_mut.result.now ≡ one.0 = c.index_mut.ensures.value ∙ read_at one.1 c.index_mut.result.now in
     let after = subst (λ (a : ActiveTxn). IsAfterChange a.txn c.args.entry c.note_change.new.self.txn) it c.note_change.ensures in
     let was : AreKept (undos_of old.active.items) old.room.reserved old.next = record { sum = old.sum; numbers = old.numbers; sessions = old.sessions; below = old.below } in
@@ -38,10 +42,10 @@ invariant_of-self c =
 pub returns-clause-noted : goal.returns-clause-noted
 returns-clause-noted c =
     let old = c.args.self.now in
-    let one = one_at old.active.items c.index_of-index.result c.index_of-index.ensures.inside in
+    let one = seat_one old c.args.seat.now c.requires.seated in
     let it : c.index_mut.result.now ≡ one.0 = c.index_mut.ensures.value ∙ read_at one.1 c.index_mut.result.now in
-    becomes_at one.1 c.note_change.new.self c.args.session (λ t u. IsAfterChange t c.args.entry u)
-    (holds_at one.1 (λ a. a.txn.session ≡ c.args.session) c.index_of-index.ensures.its)
+    becomes_at one.1 c.note_change.new.self c.args.seat.now.session (λ t u. IsAfterChange t c.args.entry u)
+    one.2
     (subst (λ (a : ActiveTxn). IsAfterChange a.txn c.args.entry c.note_change.new.self.txn) it c.note_change.ensures)
 
 pub returns-clause-undos : goal.returns-clause-undos

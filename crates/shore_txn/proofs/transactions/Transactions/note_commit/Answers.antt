@@ -8,7 +8,7 @@ use Rattle.shore_txn.proofs.transactions.Transactions.note_commit.Goals as goal
 
 pub returns-clause-left : goal.returns-clause-left
 returns-clause-left c =
-    subst (λ (es : List UndoEntry). OneLeaves c.args.session es (txns_in c.args.self.now) (txns_in c.take_out-decided.new.self)) (sym c.into_undo.ensures) c.take_out-decided.ensures.left
+    subst (λ (es : List UndoEntry). OneLeaves c.args.seat.now.session es (txns_in c.args.self.now) (txns_in c.take_out-decided.new.self)) (sym c.into_undo.ensures) c.take_out-decided.ensures.left
 
 pub returns-clause-undos : goal.returns-clause-undos
 returns-clause-undos c a m its = let old = c.args.self.now in undos_without (returns-clause-left c) a old.numbers old.sessions m its

@@ -7,35 +7,39 @@ use Rattle.shore_txn.specs.declared.undo.UndoEntry.{UndoEntry}
 use Rattle.shore_txn.proofs.ActiveSteps.{claims_beside, claims_undone, kept_undone, owed_more, undos_undone}
 use Rattle.shore_txn.proofs.Lending.{kept_in, lent_becomes, lent_session, lent_there}
 use Rattle.shore_txn.proofs.OneOfMany.{owed_among}
+use Rattle.shore_txn.proofs.Seats.{seat_inside}
 use Rattle.shore_txn.proofs.transactions.Transactions.note_compensation.Goals as goal
 
 some_entries : (es : List UndoEntry) → images_of es ≢ [] → 0 < length es
 some_entries [] some = absurd (some refl)
 some_entries (e ∷ es) some = omega arith
 
+pub index_mut-requires : goal.index_mut-requires
+index_mut-requires c = seat_inside c.args.self.now c.args.seat.now c.requires.seated
+
 pub note_compensation-undone-requires-clause-some : goal.note_compensation-undone-requires-clause-some
 note_compensation-undone-requires-clause-some c =
     let old = c.args.self.now in
     let lent = c.index_mut.result.now in
     some_entries (entries_of lent.txn)
-    (c.requires.some (as_session_txn lent.txn) (lent_there old c.index_of-index.result c.args.session c.index_of-index.ensures.inside c.index_of-index.ensures.its lent c.index_mut.ensures.value)
-    (lent_session old c.index_of-index.result c.args.session c.index_of-index.ensures.inside c.index_of-index.ensures.its lent c.index_mut.ensures.value))
+    (c.requires.some (as_session_txn lent.txn) (lent_there old c.args.seat.now c.requires.seated lent c.index_mut.ensures.value)
+    (lent_session old c.args.seat.now c.requires.seated lent c.index_mut.ensures.value))
 
 pub note_compensation-undone-requires-clause-cost : goal.note_compensation-undone-requires-clause-cost
 note_compensation-undone-requires-clause-cost c kept e is =
     let old = c.args.self.now in
     let lent = c.index_mut.result.now in
     c.requires.cost (as_session_txn lent.txn) (images_of kept) (image_of e)
-    (lent_there old c.index_of-index.result c.args.session c.index_of-index.ensures.inside c.index_of-index.ensures.its lent c.index_mut.ensures.value)
-    (lent_session old c.index_of-index.result c.args.session c.index_of-index.ensures.inside c.index_of-index.ensures.its lent c.index_mut.ensures.value)
+    (lent_there old c.args.seat.now c.requires.seated lent c.index_mut.ensures.value)
+    (lent_session old c.args.seat.now c.requires.seated lent c.index_mut.ensures.value)
     (ap images_of is ∙ map-append image_of kept (e ∷ []))
 
 pub release-requires : goal.release-requires
 release-requires c =
     let old = c.args.self.now in
     let lent = c.index_mut.result.now in
-    let there = lent_there old c.index_of-index.result c.args.session c.index_of-index.ensures.inside c.index_of-index.ensures.its lent c.index_mut.ensures.value in
-    let its = lent_session old c.index_of-index.result c.args.session c.index_of-index.ensures.inside c.index_of-index.ensures.its lent c.index_mut.ensures.value in
+    let there = lent_there old c.args.seat.now c.requires.seated lent c.index_mut.ensures.value in
+    let its = lent_session old c.args.seat.now c.requires.seated lent c.index_mut.ensures.value in
     let undone = c.note_compensation-undone.result in
     let new = c.note_compensation-undone.new.self.txn in
     let cost = c.requires.cost (as_session_txn lent.txn) (images_of (entries_of new)) (image_of undone) there its
@@ -49,20 +53,20 @@ pub invariant_of-self : goal.invariant_of-self
 invariant_of-self c =
     let old = c.args.self.now in
     let lent = c.index_mut.result.now in
-    let there = lent_there old c.index_of-index.result c.args.session c.index_of-index.ensures.inside c.index_of-index.ensures.its lent c.index_mut.ensures.value in
-    let its = lent_session old c.index_of-index.result c.args.session c.index_of-index.ensures.inside c.index_of-index.ensures.its lent c.index_mut.ensures.value in
+    let there = lent_there old c.args.seat.now c.requires.seated lent c.index_mut.ensures.value in
+    let its = lent_session old c.args.seat.now c.requires.seated lent c.index_mut.ensures.value in
     let undone = c.note_compensation-undone.result in
     let new = c.note_compensation-undone.new.self.txn in
     let cost = c.requires.cost (as_session_txn lent.txn) (images_of (entries_of new)) (image_of undone) there its
     (ap images_of c.note_compensation-undone.ensures.entries ∙ map-append image_of (entries_of new) (undone ∷ [])) in
-    let becomes = lent_becomes old c.index_of-index.result c.args.session c.index_of-index.ensures.inside c.index_of-index.ensures.its lent c.index_mut.ensures.value
+    let becomes = lent_becomes old c.args.seat.now c.requires.seated lent c.index_mut.ensures.value
     c.note_compensation-undone.new.self (IsAfterUndo c.args.lsn c.args.rollback undone) c.note_compensation-undone.ensures in
     let now = kept_undone becomes old.room.reserved old.next c.append.new.self.reserved (omega (arith, cost, c.release.ensures.reserved, c.append.ensures.others.0)) (kept_in old) in
     record { some = old.some; sum = now.sum; numbers = now.numbers; sessions = now.sessions; below = now.below }
 
 pub returns-clause-undone : goal.returns-clause-undone
 returns-clause-undone c =
-    lent_becomes c.args.self.now c.index_of-index.result c.args.session c.index_of-index.ensures.inside c.index_of-index.ensures.its c.index_mut.result.now c.index_mut.ensures.value
+    lent_becomes c.args.self.now c.args.seat.now c.requires.seated c.index_mut.result.now c.index_mut.ensures.value
     c.note_compensation-undone.new.self (IsAfterUndo c.args.lsn c.args.rollback c.note_compensation-undone.result) c.note_compensation-undone.ensures
 
 pub returns-clause-undos : goal.returns-clause-undos

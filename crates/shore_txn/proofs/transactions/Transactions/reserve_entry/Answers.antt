@@ -4,14 +4,18 @@ use Rattle.laws_lives.specs.Views.{IsAmong}
 use Rattle.shore_txn.specs.ActiveTxns.{CanNote, undos_of}
 use Rattle.shore_txn.specs.Txns.{SameTxn}
 use Rattle.shore_txn.specs.declared.active.ActiveTxn.{ActiveTxn}
-use Rattle.shore_txn.proofs.ActiveLemmas.{holds_at, one_at, read_at, room_at}
+use Rattle.shore_txn.proofs.ActiveLemmas.{read_at, room_at}
 use Rattle.shore_txn.proofs.ActiveSteps.{AreKept, becomes_at, claims_stay, undos_stay}
+use Rattle.shore_txn.proofs.Seats.{seat_inside, seat_one}
 use Rattle.shore_txn.proofs.transactions.Transactions.reserve_entry.Goals as goal
+
+pub index_mut-requires : goal.index_mut-requires
+index_mut-requires c = seat_inside c.args.self.now c.args.seat.now c.requires.seated
 
 pub invariant_of-self : goal.invariant_of-self
 invariant_of-self c =
     let old = c.args.self.now in
-    let one = one_at old.active.items c.index_of-index.result c.index_of-index.ensures.inside in
+    let one = seat_one old c.args.seat.now c.requires.seated in
     let it : c.index_mut.result.now ≡ one.0 = c.index_mut.ensures.value ∙ read_at one.1 c.index_mut.result.now in
     let same = undos_stay (becomes_at one.1 c.reserve_entry.new.self one.0.txn.session SameTxn refl (subst (λ (a : ActiveTxn). SameTxn a.txn c.reserve_entry.new.self.txn) it c.reserve_entry.ensures.same)) in
     let was : AreKept (undos_of old.active.items) old.room.reserved old.next = record { sum = old.sum; numbers = old.numbers; sessions = old.sessions; below = old.below } in
@@ -22,17 +26,17 @@ pub returns-clause-memory : goal.returns-clause-memory
 returns-clause-memory c = each c.reserve_entry.result c.reserve_entry.ensures.room
   where
     each : (r : Result (Unit {0}) AllocError) → OnOk r (CanNote c.reserve_entry.new.self)
-        → OnOk r ((x : ActiveTxn) → IsAmong x (set c.args.self.now.active.items c.index_of-index.result c.reserve_entry.new.self) → x.txn.session ≡ c.args.session → CanNote x)
+        → OnOk r ((x : ActiveTxn) → IsAmong x (set c.args.self.now.active.items c.args.seat.now.index c.reserve_entry.new.self) → x.txn.session ≡ c.args.seat.now.session → CanNote x)
     each (Err e) none = tt
     each (Ok x) room =
-        let one = one_at c.args.self.now.active.items c.index_of-index.result c.index_of-index.ensures.inside in
-        room_at one.1 c.args.self.now.sessions c.reserve_entry.new.self c.args.session (holds_at one.1 (λ a. a.txn.session ≡ c.args.session) c.index_of-index.ensures.its) room
+        let one = seat_one c.args.self.now c.args.seat.now c.requires.seated in
+        room_at one.1 c.args.self.now.sessions c.reserve_entry.new.self c.args.seat.now.session one.2 room
 
 pub returns-clause-same : goal.returns-clause-same
 returns-clause-same c =
-    let one = one_at c.args.self.now.active.items c.index_of-index.result c.index_of-index.ensures.inside in
+    let one = seat_one c.args.self.now c.args.seat.now c.requires.seated in
     let it : c.index_mut.result.now ≡ one.0 = c.index_mut.ensures.value ∙ read_at one.1 c.index_mut.result.now in
-    becomes_at one.1 c.reserve_entry.new.self c.args.session SameTxn (holds_at one.1 (λ a. a.txn.session ≡ c.args.session) c.index_of-index.ensures.its)
+    becomes_at one.1 c.reserve_entry.new.self c.args.seat.now.session SameTxn one.2
     (subst (λ (a : ActiveTxn). SameTxn a.txn c.reserve_entry.new.self.txn) it c.reserve_entry.ensures.same)
 
 pub returns-clause-undos : goal.returns-clause-undos

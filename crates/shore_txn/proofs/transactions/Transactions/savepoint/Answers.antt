@@ -10,14 +10,18 @@ use Rattle.shore_txn.specs.Txns.{IsAfterSavepoint, SameTxn, as_session_txn, mark
 use Rattle.shore_txn.proofs.ActiveSteps.{KeepsChanges, claims_still, kept_still, same_keeps, savepoint_keeps, session_marked, undos_by, undos_stay}
 use Rattle.shore_txn.proofs.Lending.{kept_in, lent_becomes, lent_session, lent_there}
 use Rattle.shore_txn.proofs.OneOfMany.{once_same}
+use Rattle.shore_txn.proofs.Seats.{seat_inside}
 use Rattle.shore_txn.proofs.transactions.Transactions.savepoint.Goals as goal
+
+pub index_mut-requires : goal.index_mut-requires
+index_mut-requires c = seat_inside c.args.self.now c.args.seat.now c.requires.seated
 
 pub savepoint-requires : goal.savepoint-requires
 savepoint-requires c =
     let old = c.args.self.now in
     let few = c.requires.few (as_session_txn c.index_mut.result.now.txn)
-    (lent_there old c.index_of-index.result c.args.session c.index_of-index.ensures.inside c.index_of-index.ensures.its c.index_mut.result.now c.index_mut.ensures.value)
-    (lent_session old c.index_of-index.result c.args.session c.index_of-index.ensures.inside c.index_of-index.ensures.its c.index_mut.result.now c.index_mut.ensures.value) in
+    (lent_there old c.args.seat.now c.requires.seated c.index_mut.result.now c.index_mut.ensures.value)
+    (lent_session old c.args.seat.now c.requires.seated c.index_mut.result.now c.index_mut.ensures.value) in
     record { few = few }
 
 -- whether it is set or not
@@ -28,7 +32,7 @@ keeps (Err e) t u set same = same_keeps t u same
 pub invariant_of-self : goal.invariant_of-self
 invariant_of-self c =
     let old = c.args.self.now in
-    let kept = lent_becomes old c.index_of-index.result c.args.session c.index_of-index.ensures.inside c.index_of-index.ensures.its c.index_mut.result.now c.index_mut.ensures.value
+    let kept = lent_becomes old c.args.seat.now c.requires.seated c.index_mut.result.now c.index_mut.ensures.value
     c.savepoint.new.self KeepsChanges (keeps c.savepoint.result c.index_mut.result.now.txn c.savepoint.new.self.txn c.savepoint.ensures.set c.savepoint.ensures.same) in
     let now = kept_still kept old.room.reserved old.next (kept_in old) in
     record { some = old.some; sum = now.sum; numbers = now.numbers; sessions = now.sessions; below = now.below }
@@ -37,8 +41,8 @@ pub returns-clause-set : goal.returns-clause-set
 returns-clause-set c = each c.savepoint.result c.savepoint.ensures.set
   where
     each : (r : Result ℕ AllocError) → OnOk r (IsAfterSavepoint c.index_mut.result.now.txn c.savepoint.new.self.txn)
-        → OnOk r (OneBecomes c.args.session IsAfterSavepoint (txns_in c.args.self.now) (active.txns_of (set c.args.self.now.active.items c.index_of-index.result c.savepoint.new.self)))
-    each (Ok index) set = lent_becomes c.args.self.now c.index_of-index.result c.args.session c.index_of-index.ensures.inside c.index_of-index.ensures.its c.index_mut.result.now c.index_mut.ensures.value
+        → OnOk r (OneBecomes c.args.seat.now.session IsAfterSavepoint (txns_in c.args.self.now) (active.txns_of (set c.args.self.now.active.items c.args.seat.now.index c.savepoint.new.self)))
+    each (Ok index) set = lent_becomes c.args.self.now c.args.seat.now c.requires.seated c.index_mut.result.now c.index_mut.ensures.value
         c.savepoint.new.self IsAfterSavepoint set
     each (Err e) none = none
 
@@ -46,8 +50,8 @@ pub returns-clause-same : goal.returns-clause-same
 returns-clause-same c = each c.savepoint.result c.savepoint.ensures.same
   where
     each : (r : Result ℕ AllocError) → OnErr r (SameTxn c.index_mut.result.now.txn c.savepoint.new.self.txn)
-        → OnErr r (OneBecomes c.args.session SameTxn (txns_in c.args.self.now) (active.txns_of (set c.args.self.now.active.items c.index_of-index.result c.savepoint.new.self)))
-    each (Err e) same = lent_becomes c.args.self.now c.index_of-index.result c.args.session c.index_of-index.ensures.inside c.index_of-index.ensures.its c.index_mut.result.now c.index_mut.ensures.value
+        → OnErr r (OneBecomes c.args.seat.now.session SameTxn (txns_in c.args.self.now) (active.txns_of (set c.args.self.now.active.items c.args.seat.now.index c.savepoint.new.self)))
+    each (Err e) same = lent_becomes c.args.self.now c.args.seat.now c.requires.seated c.index_mut.result.now c.index_mut.ensures.value
         c.savepoint.new.self SameTxn same
     each (Ok index) none = none
 
@@ -57,36 +61,36 @@ returns-clause-index c = each c.savepoint.result c.savepoint.ensures.index
     lent : SessionTxn
     lent = as_session_txn c.index_mut.result.now.txn
 
-    is_lent : (a : SessionTxn) → IsAmong a (undos_in c.args.self.now) → a.session ≡ c.args.session → lent ≡ a
+    is_lent : (a : SessionTxn) → IsAmong a (undos_in c.args.self.now) → a.session ≡ c.args.seat.now.session → lent ≡ a
     is_lent a m its =
         let old = c.args.self.now in
         once_same (λ (b : SessionTxn). b.session) (undos_in old) old.sessions lent a
-        (lent_there old c.index_of-index.result c.args.session c.index_of-index.ensures.inside c.index_of-index.ensures.its c.index_mut.result.now c.index_mut.ensures.value) m
-        (lent_session old c.index_of-index.result c.args.session c.index_of-index.ensures.inside c.index_of-index.ensures.its c.index_mut.result.now c.index_mut.ensures.value ∙ sym its)
+        (lent_there old c.args.seat.now c.requires.seated c.index_mut.result.now c.index_mut.ensures.value) m
+        (lent_session old c.args.seat.now c.requires.seated c.index_mut.result.now c.index_mut.ensures.value ∙ sym its)
 
     each : (r : Result ℕ AllocError) → IfOk r (λ index. index ≡ length (marks_of c.index_mut.result.now.txn))
-        → IfOk r (λ index. (a : SessionTxn) → IsAmong a (undos_in c.args.self.now) → a.session ≡ c.args.session → index ≡ length a.undo.marks)
+        → IfOk r (λ index. (a : SessionTxn) → IsAmong a (undos_in c.args.self.now) → a.session ≡ c.args.seat.now.session → index ≡ length a.undo.marks)
     each (Ok index) is = λ a m its. is ∙ ap (λ (b : SessionTxn). length b.undo.marks) (is_lent a m its)
     each (Err e) none = none
 
 pub returns-clause-undos : goal.returns-clause-undos
 returns-clause-undos c = each c.savepoint.result (returns-clause-set c)
   where
-    each : (r : Result ℕ AllocError) → OnOk r (OneBecomes c.args.session IsAfterSavepoint (txns_in c.args.self.now) (active.txns_of (set c.args.self.now.active.items c.index_of-index.result c.savepoint.new.self)))
-        → OnOk r ((a : SessionTxn) → IsAmong a (undos_in c.args.self.now) → a.session ≡ c.args.session
-        → undos_of (set c.args.self.now.active.items c.index_of-index.result c.savepoint.new.self) ≡ with_undo a.txn (with_mark a.undo) (undos_in c.args.self.now))
+    each : (r : Result ℕ AllocError) → OnOk r (OneBecomes c.args.seat.now.session IsAfterSavepoint (txns_in c.args.self.now) (active.txns_of (set c.args.self.now.active.items c.args.seat.now.index c.savepoint.new.self)))
+        → OnOk r ((a : SessionTxn) → IsAmong a (undos_in c.args.self.now) → a.session ≡ c.args.seat.now.session
+        → undos_of (set c.args.self.now.active.items c.args.seat.now.index c.savepoint.new.self) ≡ with_undo a.txn (with_mark a.undo) (undos_in c.args.self.now))
     each (Ok index) one = undos_by one with_mark (session_marked one.before one.after one.becomes) c.args.self.now.numbers c.args.self.now.sessions
     each (Err e) none = none
 
 pub returns-clause-unchanged : goal.returns-clause-unchanged
 returns-clause-unchanged c = each c.savepoint.result (returns-clause-same c)
   where
-    each : (r : Result ℕ AllocError) → OnErr r (OneBecomes c.args.session SameTxn (txns_in c.args.self.now) (active.txns_of (set c.args.self.now.active.items c.index_of-index.result c.savepoint.new.self)))
-        → OnErr r (undos_of (set c.args.self.now.active.items c.index_of-index.result c.savepoint.new.self) ≡ undos_in c.args.self.now)
+    each : (r : Result ℕ AllocError) → OnErr r (OneBecomes c.args.seat.now.session SameTxn (txns_in c.args.self.now) (active.txns_of (set c.args.self.now.active.items c.args.seat.now.index c.savepoint.new.self)))
+        → OnErr r (undos_of (set c.args.self.now.active.items c.args.seat.now.index c.savepoint.new.self) ≡ undos_in c.args.self.now)
     each (Err e) one = undos_stay one
     each (Ok index) none = none
 
 pub returns-clause-claims : goal.returns-clause-claims
 returns-clause-claims c =
-    claims_still (lent_becomes c.args.self.now c.index_of-index.result c.args.session c.index_of-index.ensures.inside c.index_of-index.ensures.its c.index_mut.result.now c.index_mut.ensures.value
+    claims_still (lent_becomes c.args.self.now c.args.seat.now c.requires.seated c.index_mut.result.now c.index_mut.ensures.value
     c.savepoint.new.self KeepsChanges (keeps c.savepoint.result c.index_mut.result.now.txn c.savepoint.new.self.txn c.savepoint.ensures.set c.savepoint.ensures.same))
