@@ -47,13 +47,13 @@ use Rattle.laws_calls.specs.States.{IsOfSession, State, Waiting}
 -- ---- which requests a call of a transaction leaves
 
 -- those of its place too
-record PlaceLocks (l : State) (a : SessionTxn) (c : Call) (new : State) : Type 0 where
-  store : ℕ
-  bytes : List ℕ
-  id : Rid
-  insert : c ≡ call.Insert store bytes
-  of_store : id.page.store ≡ store
-  is : new.locks ≡ (behind_place l a id).locks
+pub record PlaceLocks (l : State) (a : SessionTxn) (c : Call) (new : State) : Type 0 where
+  pub store : ℕ
+  pub bytes : List ℕ
+  pub id : Rid
+  pub insert : c ≡ call.Insert store bytes
+  pub of_store : id.page.store ≡ store
+  pub is : new.locks ≡ (behind_place l a id).locks
 
 abbrev LocksBehind : State → SessionTxn → Call → State → Type 0
 LocksBehind l a c new = (new.locks ≡ l.locks) ⊎ PlaceLocks l a c new
@@ -91,7 +91,7 @@ module _ (g : Geometry) (l : State) (a : SessionTxn) where
   refusals_lock _ f new h = absurd h
 
 -- none, that of the call, or behind it those of its place too
-abbrev LocksOf : State → SessionTxn → Call → State → Type 0
+abbrev pub LocksOf : State → SessionTxn → Call → State → Type 0
 LocksOf s a c new = (new.locks ≡ s.locks) ⊎ ((lock : Asked) × (lock_asked_by c ≡ Some lock)
     × ((new.locks ≡ (behind_lock s a c lock).locks) ⊎ (((lock_outcome s a c lock).answer ≡ Ok acquire.Done) × PlaceLocks (behind_lock s a c lock) a c new)))
 
@@ -100,7 +100,7 @@ with_lock : (g : Geometry) (s : State) (a : SessionTxn) (c : Call) (locked new :
 with_lock g s a c locked new had h =
     inr (had.0, had.1, ⊎_elim (λ same. inl (same ∙ ap (λ (x : State). x.locks) had.3)) (λ placed. inr (had.2, subst (λ (l : State). PlaceLocks l a c new) had.3 placed)) h)
 
-goes_on_locks : (g : Geometry) (s : State) (a : SessionTxn) (c : Call) (step : Step) (new : State) → CallGoesOn g s a c step new → LocksOf s a c new
+pub goes_on_locks : (g : Geometry) (s : State) (a : SessionTxn) (c : Call) (step : Step) (new : State) → CallGoesOn g s a c step new → LocksOf s a c new
 goes_on_locks g s a c (Done answer) new h = with_lock g s a c h.0 new h.1 (answers_lock g h.0 a c answer new h.2)
 goes_on_locks g s a c (Waits wait) new h = inr (h.0, h.2, inl (ap (λ (x : State). x.locks) h.5))
 goes_on_locks g s a c (Refused f) new (inl h) = ⊎_elim

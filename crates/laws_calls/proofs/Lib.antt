@@ -8,11 +8,13 @@ pub mod Cancelled
 pub mod Causes
 pub mod Comings
 pub mod CycleSteps
+pub mod DeadlockRun
 pub mod Decided
 pub mod Elements
 pub mod EndedWaits
 pub mod GoingOn
 pub mod Growing
+pub mod GrownLocks
 pub mod Links
 pub mod LockRefusals
 pub mod LockRounds
@@ -59,6 +61,7 @@ pub mod SettledCycles
 pub mod SettledDeadlocks
 pub mod SettledEnds
 pub mod SettledLeavings
+pub mod SettledLocks
 pub mod SettledRefusals
 pub mod SettledRollbacks
 pub mod SettledStates
@@ -68,6 +71,7 @@ pub mod StepPassages
 pub mod TakenLocks
 pub mod TakenVictims
 pub mod ToldCycles
+pub mod ToldLater
 pub mod Unwinding
 pub mod VictimLaws
 pub mod VictimSteps

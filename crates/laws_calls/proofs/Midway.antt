@@ -178,7 +178,7 @@ module _ (g : Geometry) (found : List LogRecord) (es : List Entry) (session n : 
     pub at : Granule
     pub waits : WaitsAt session n c at x
 
-  paused_next : (x new : State) (e : Interlude) → IsPaused x → Intervenes g session x e new → IsPaused new
+  pub paused_next : (x new : State) (e : Interlude) → IsPaused x → Intervenes g session x e new → IsPaused new
   paused_next x new (Takes b v) k h = record {
     stays = victim_stays found es x k.stays h.0.txn v new h.2.0;
     at = k.at;

@@ -164,7 +164,7 @@ module _ (g : Geometry) (s new : State) (session : ℕ) where
 
   -- ---- no call comes to nothing
 
-  call_nothing : (c : Call) → CallStep g s session c Nothing new → ⊥
+  pub call_nothing : (c : Call) → CallStep g s session c Nothing new → ⊥
   call_nothing c (inl h) = let clash = h.0 in cc
   call_nothing c (inr (inl h)) = let clash = h.1 in cc
   call_nothing c (inr (inr (inl h))) = let clash = h.2 in cc

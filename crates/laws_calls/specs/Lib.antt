@@ -11,8 +11,10 @@ pub mod LockRounds
 pub mod Events
 pub mod Midway
 pub mod Causes
+pub mod StoodCycles
 pub mod Shapes
 pub mod LockChanges
 pub mod WorkedRun
 pub mod WorkedSessions
+pub mod WorkedDeadlock
 pub mod WorkedRollbacks

@@ -90,6 +90,12 @@ victims_among [] = []
 victims_among (Takes b v ∷ between) = b ∷ victims_among between
 victims_among (WaitsAnew at ∷ between) = victims_among between
 
+-- .. with the cycles that they are told
+abbrev pub cycles_among : List Interlude → List Victim
+cycles_among [] = []
+cycles_among (Takes b v ∷ between) = v ∷ cycles_among between
+cycles_among (WaitsAnew at ∷ between) = cycles_among between
+
 -- each of these is doomed
 abbrev pub all_doomed : Sessions → List SessionTxn → Sessions
 all_doomed s [] = s

@@ -8,6 +8,7 @@ pub mod locks;
 pub mod progress;
 pub mod refusals;
 pub mod rollbacks;
+pub mod settled_locks;
 pub mod settled_refusals;
 pub mod settled_rollbacks;
 pub mod settled_waits;

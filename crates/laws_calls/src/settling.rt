@@ -1,9 +1,11 @@
 //! What calls and resumes come to as a whole, with the victims that break the cycles of waits: what they keep, how waits begin and end, and that no cycle is left.
-ghost use Rattle.std.specs.Prelude.{◌≡◌, ◌++◌, ℕ, List, [], None, IsTrue};
+ghost use Rattle.std.specs.Prelude.{◌≡◌, ◌≤◌, ◌++◌, ◌∷◌, ℕ, List, [], None, IsTrue};
 ghost use Rattle.shore_types.specs.declared.faults.Device.{Device};
 ghost use Rattle.shore_types.specs.declared.faults.Fault.{Fault};
 ghost use Rattle.shore_types.specs.declared.faults.Fault.TheVariants as fault;
 ghost use Rattle.shore_types.specs.declared.layout.Geometry.{Geometry};
+ghost use Rattle.shore_types.specs.declared.locking.Granule.TheVariants.{Volume};
+ghost use Rattle.shore_types.specs.declared.locking.Mode.TheVariants.{EX};
 ghost use Rattle.shore_model.specs.declared.calls.Answer.{Answer};
 ghost use Rattle.shore_model.specs.declared.calls.Call.{Call};
 ghost use Rattle.shore_model.specs.declared.histories.Entry.{Entry};
@@ -15,10 +17,12 @@ ghost use Rattle.shore_model.specs.declared.step.Step.TheVariants.{Done, Refused
 ghost use Rattle.shore_model.specs.declared.step.Wait.{Wait};
 ghost use Rattle.shore_model.specs.declared.step.Wait.TheVariants.{Durable};
 ghost use Rattle.laws_calls.specs.CallHistories.{IsOpened, IsRoomyState};
-ghost use Rattle.laws_calls.specs.Events.{IsStateAfter, ManagerEvent, EventsMove, entries_of_resume};
+ghost use Rattle.laws_calls.specs.Events.{IsStateAfter, ManagerEvent, EventsMove, MovesMaking, entries_of_resume};
 ghost use Rattle.laws_calls.specs.LockedStates.{entries_of_call};
 ghost use Rattle.laws_calls.specs.Settling.{SettledCall, SettledResume};
 ghost use Rattle.laws_calls.specs.States.{DoesNotWait, State, Waiting, next_number};
+ghost use Rattle.laws_calls.specs.WorkedDeadlock.{a_deadlock, told_in_a_deadlock};
+ghost use Rattle.laws_calls.specs.WorkedRun.{opened_empty};
 
 /// What each call and each resume come to, victims or not, goes on with the history, by the entry of the call that was made or went on.
 pub fn settled_calls_keep_state()
@@ -72,4 +76,12 @@ pub fn settled_calls_leave_no_cycle()
         HasNoCycle old.locks.requests → SettledResume g old session step new → HasNoCycle new.locks.requests }
     ensures events { (g : Geometry) (found : List LogRecord) (first last : State) (events : List ManagerEvent) →
         IsOpened found first → first.locks.requests ≡ [] → EventsMove g first events last → HasNoCycle last.locks.requests }
+{}
+
+/// The conditions of victims can be met: two sessions share the volume, and each asks for all of it. The second to ask closes a cycle, and the younger transaction
+/// is its victim: its session is told so as it is resumed, and aborts, and the other one has its lock.
+pub fn a_deadlock_comes_through()
+    ensures { (g : Geometry) (stream_bytes : ℕ) → 100000 ≤ stream_bytes → (last : State) × (made : List Entry) × IsOpened [] (opened_empty stream_bytes)
+        × MovesMaking g (opened_empty stream_bytes) a_deadlock last made × (made ≡ told_in_a_deadlock)
+        × (last.sessions.held ≡ record { txn = 1; granule = Volume; mode = EX } ∷ []) }
 {}
