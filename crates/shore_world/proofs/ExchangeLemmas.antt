@@ -8,6 +8,7 @@ use Rattle.shore_types.specs.declared.faults.Fault.TheVariants.{Device}
 use Rattle.shore_types.specs.declared.layout.Geometry.{Geometry}
 use Rattle.shore_disk.specs.declared.device.Disk.{Ghosts}
 use Rattle.shore_model.specs.declared.calls.Answer.{Answer}
+use Rattle.shore_model.specs.declared.calls.Answer.TheVariants as answer
 use Rattle.shore_model.specs.declared.calls.Call.{Call}
 use Rattle.shore_model.specs.declared.calls.Call.TheVariants as call
 use Rattle.shore_model.specs.declared.calls.Exchange.{Exchange}
@@ -66,6 +67,56 @@ waited_in ws [] = ws
 waited_in ws (e ∷ events) = waited_in (waited_behind_move ws e) events
 
 -- what is told of a run's moves is what is told of its events
+failure_tells : (ws : Waited) (f : Fault) (later : List ManagerEvent) → told_in ws (failure_by f ++ later) ≡ told_in ws later
+failure_tells ws Device later = refl
+failure_tells ws _ later = refl
+
+forced_tells : (ws : Waited) (a : Answer) (later : List ManagerEvent) → told_in ws (forced_by a ++ later) ≡ told_in ws later
+forced_tells ws (answer.Forced n) later = refl
+forced_tells ws _ later = refl
+
+event_tells : (ws : Waited) (e : Event) (step : Step) (later : List ManagerEvent)
+    → told_in ws (moves_by e step ++ later) ≡ told_by ws e step ++ told_in (waited_behind ws e step) later
+event_tells ws (event.Call session c) step later = refl
+event_tells ws (event.Resume session) step later = refl
+event_tells ws event.ForceStage (Done a) later = refl
+event_tells ws event.ForceStage (Refused f) later = failure_tells ws f later
+event_tells ws event.ForceStage (Waits wait) later = refl
+event_tells ws event.ForceStage Nothing later = refl
+event_tells ws event.ForceOpen (Done a) later = forced_tells ws a later
+event_tells ws event.ForceOpen (Refused f) later = failure_tells ws f later
+event_tells ws event.ForceOpen (Waits wait) later = refl
+event_tells ws event.ForceOpen Nothing later = refl
+event_tells ws event.FlushStep (Done a) later = refl
+event_tells ws event.FlushStep (Refused f) later = failure_tells ws f later
+event_tells ws event.FlushStep (Waits wait) later = refl
+event_tells ws event.FlushStep Nothing later = refl
+
+-- .. and so it is with the calls that wait
+failure_waits : (ws : Waited) (f : Fault) (later : List ManagerEvent) → waited_in ws (failure_by f ++ later) ≡ waited_in ws later
+failure_waits ws Device later = refl
+failure_waits ws _ later = refl
+
+forced_waits : (ws : Waited) (a : Answer) (later : List ManagerEvent) → waited_in ws (forced_by a ++ later) ≡ waited_in ws later
+forced_waits ws (answer.Forced n) later = refl
+forced_waits ws _ later = refl
+
+event_waits : (ws : Waited) (e : Event) (step : Step) (later : List ManagerEvent) → waited_in ws (moves_by e step ++ later) ≡ waited_in (waited_behind ws e step) later
+event_waits ws (event.Call session c) step later = refl
+event_waits ws (event.Resume session) step later = refl
+event_waits ws event.ForceStage (Done a) later = refl
+event_waits ws event.ForceStage (Refused f) later = failure_waits ws f later
+event_waits ws event.ForceStage (Waits wait) later = refl
+event_waits ws event.ForceStage Nothing later = refl
+event_waits ws event.ForceOpen (Done a) later = forced_waits ws a later
+event_waits ws event.ForceOpen (Refused f) later = failure_waits ws f later
+event_waits ws event.ForceOpen (Waits wait) later = refl
+event_waits ws event.ForceOpen Nothing later = refl
+event_waits ws event.FlushStep (Done a) later = refl
+event_waits ws event.FlushStep (Refused f) later = failure_waits ws f later
+event_waits ws event.FlushStep (Waits wait) later = refl
+event_waits ws event.FlushStep Nothing later = refl
+
 module _ {L V : Type 0} {G : Ghosts L} {H : Ghosts V} where
   between_tells : (old new : World L V G H) (ws : Waited) (failures later : List ManagerEvent) → Between old failures new → told_in ws (failures ++ later) ≡ told_in ws later
   between_tells old new ws [] later like = refl
@@ -74,34 +125,6 @@ module _ {L V : Type 0} {G : Ghosts L} {H : Ghosts V} where
   between_tells old new ws (Resumed session step ∷ failures) later between = absurd between
   between_tells old new ws (Forced n ∷ failures) later between = absurd between
 
-  failure_tells : (ws : Waited) (f : Fault) (later : List ManagerEvent) → told_in ws (failure_by f ++ later) ≡ told_in ws later
-  failure_tells ws Device later = refl
-  failure_tells ws _ later = refl
-
-  forced_tells : (ws : Waited) (answer : Answer) (later : List ManagerEvent) → told_in ws (forced_by answer ++ later) ≡ told_in ws later
-  forced_tells ws _ later = refl
-
-  event_tells : (ws : Waited) (e : Event) (step : Step) (later : List ManagerEvent)
-      → told_in ws (moves_by e step ++ later) ≡ told_by ws e step ++ told_in (waited_behind ws e step) later
-  event_tells ws (event.Call session c) step later = refl
-  event_tells ws (event.Resume session) step later = refl
-  event_tells ws event.ForceStage (Done answer) later = refl
-  event_tells ws event.ForceStage (Refused f) later = failure_tells ws f later
-  event_tells ws event.ForceStage (Waits wait) later = refl
-  event_tells ws event.ForceStage Nothing later = refl
-  event_tells ws event.ForceOpen (Done answer) later = forced_tells ws answer later
-  event_tells ws event.ForceOpen (Refused f) later = failure_tells ws f later
-  event_tells ws event.ForceOpen (Waits wait) later = refl
-  event_tells ws event.ForceOpen Nothing later = refl
-  event_tells ws event.FlushStep (Done answer) later = refl
-  event_tells ws event.FlushStep (Refused f) later = failure_tells ws f later
-  event_tells ws event.FlushStep (Waits wait) later = refl
-  event_tells ws event.FlushStep Nothing later = refl
-
-  none_later : (ws : Waited) (moves : List ManagerEvent) → told_in ws (moves ++ []) ≡ told_in ws moves
-  none_later ws moves = ap (told_in ws) (append-nil moves)
-
-  -- .. and so it is with the calls that wait
   between_waits : (old new : World L V G H) (ws : Waited) (failures later : List ManagerEvent) → Between old failures new → waited_in ws (failures ++ later) ≡ waited_in ws later
   between_waits old new ws [] later like = refl
   between_waits old new ws (HasFailed ∷ failures) later (mid, fails, rest) = between_waits mid new ws failures later rest
@@ -109,35 +132,9 @@ module _ {L V : Type 0} {G : Ghosts L} {H : Ghosts V} where
   between_waits old new ws (Resumed session step ∷ failures) later between = absurd between
   between_waits old new ws (Forced n ∷ failures) later between = absurd between
 
-  failure_waits : (ws : Waited) (f : Fault) (later : List ManagerEvent) → waited_in ws (failure_by f ++ later) ≡ waited_in ws later
-  failure_waits ws Device later = refl
-  failure_waits ws _ later = refl
-
-  forced_waits : (ws : Waited) (answer : Answer) (later : List ManagerEvent) → waited_in ws (forced_by answer ++ later) ≡ waited_in ws later
-  forced_waits ws _ later = refl
-
-  event_waits : (ws : Waited) (e : Event) (step : Step) (later : List ManagerEvent) → waited_in ws (moves_by e step ++ later) ≡ waited_in (waited_behind ws e step) later
-  event_waits ws (event.Call session c) step later = refl
-  event_waits ws (event.Resume session) step later = refl
-  event_waits ws event.ForceStage (Done answer) later = refl
-  event_waits ws event.ForceStage (Refused f) later = failure_waits ws f later
-  event_waits ws event.ForceStage (Waits wait) later = refl
-  event_waits ws event.ForceStage Nothing later = refl
-  event_waits ws event.ForceOpen (Done answer) later = forced_waits ws answer later
-  event_waits ws event.ForceOpen (Refused f) later = failure_waits ws f later
-  event_waits ws event.ForceOpen (Waits wait) later = refl
-  event_waits ws event.ForceOpen Nothing later = refl
-  event_waits ws event.FlushStep (Done answer) later = refl
-  event_waits ws event.FlushStep (Refused f) later = failure_waits ws f later
-  event_waits ws event.FlushStep (Waits wait) later = refl
-  event_waits ws event.FlushStep Nothing later = refl
-
   pub runs_wait : (old : World L V G H) (ws : Waited) (events : List Event) (steps : List Step) (moves : List ManagerEvent) (new : World L V G H) → Runs old events steps moves new
       → waited_in ws moves ≡ waited_after ws events steps
-  runs_wait old ws [] [] moves new between = ap (waited_in ws) (sym (append-nil moves)) ∙ between_waits old new ws moves [] between ∙ nothing_waits ws
-    where
-      nothing_waits : (ws : Waited) → waited_in ws [] ≡ ws
-      nothing_waits ws = refl
+  runs_wait old ws [] [] moves new between = ap (waited_in ws) (sym (append-nil moves)) ∙ between_waits old new ws moves [] between
   runs_wait old ws (e ∷ events) (step ∷ steps) moves new (start, mid, failures, later, between, made, rest, is) =
       ap (waited_in ws) is ∙ between_waits old start ws failures (moves_by e step ++ later) between ∙ event_waits ws e step later
       ∙ runs_wait mid (waited_behind ws e step) events steps later new rest
@@ -146,10 +143,7 @@ module _ {L V : Type 0} {G : Ghosts L} {H : Ghosts V} where
 
   pub runs_told : (old : World L V G H) (ws : Waited) (events : List Event) (steps : List Step) (moves : List ManagerEvent) (new : World L V G H) → Runs old events steps moves new
       → told_in ws moves ≡ exchanges_of ws events steps
-  runs_told old ws [] [] moves new between = sym (none_later ws moves) ∙ between_tells old new ws moves [] between ∙ nothing_told ws
-    where
-      nothing_told : (ws : Waited) → told_in ws [] ≡ []
-      nothing_told ws = refl
+  runs_told old ws [] [] moves new between = ap (told_in ws) (sym (append-nil moves)) ∙ between_tells old new ws moves [] between
   runs_told old ws (e ∷ events) (step ∷ steps) moves new (start, mid, failures, later, between, made, rest, is) =
       ap (told_in ws) is ∙ between_tells old start ws failures (moves_by e step ++ later) between ∙ event_tells ws e step later
       ∙ ap (λ (l : Told). told_by ws e step ++ l) (runs_told mid (waited_behind ws e step) events steps later new rest)
@@ -210,6 +204,26 @@ same_or_idle g s new session c step h = rounds h.first h.mid h.calls h.rounds h.
 some_same : (x y : Waiting) → Some x ≡ Some y → x ≡ y
 some_same x y is = cc
 
+-- the call that waits for a session is among those that wait, and is its
+waits_not : (session : ℕ) (ws : List Waiting) → call_waiting session ws ≡ None → (w : Waiting) → IsAmong w ws → w.session ≢ session
+waits_not session [] none w there = absurd there
+waits_not session (x ∷ ws) none w there = test (x.session == session) refl none (λ found. waits_not session ws found w) there
+  where
+    test : (b : Bool) → (x.session == session) ≡ b → cond b (Some x) (call_waiting session ws) ≡ None → (call_waiting session ws ≡ None → IsAmong w ws → w.session ≢ session)
+        → IsAmong w (x ∷ ws) → w.session ≢ session
+    test true e found rest there = absurd cc
+    test false e found rest (inl same) = λ is. eqb-false x.session session e (ap (λ (v : Waiting). v.session) same ∙ is)
+    test false e found rest (inr later) = rest found later
+
+waits_so : (session : ℕ) (ws : List Waiting) (w : Waiting) → call_waiting session ws ≡ Some w → IsAmong w ws × (w.session ≡ session)
+waits_so session [] w some = absurd cc
+waits_so session (x ∷ ws) w some = test (x.session == session) refl some (waits_so session ws w)
+  where
+    test : (b : Bool) → (x.session == session) ≡ b → cond b (Some x) (call_waiting session ws) ≡ Some w → (call_waiting session ws ≡ Some w → IsAmong w ws × (w.session ≡ session))
+        → IsAmong w (x ∷ ws) × (w.session ≡ session)
+    test true e is rest = let same : x ≡ w = some_same x w is in (inl same, ap (λ (v : Waiting). v.session) (sym same) ∙ eqb-true x.session session e)
+    test false e is rest = let found = rest is in (inr found.0, found.1)
+
 -- ---- one event
 
 module _ (g : Geometry) (found : List LogRecord) (es : List Entry) (s : State) (k : IsStateAfter found es s) (ws : Waited) (last : AreLast ws s) where
@@ -268,23 +282,6 @@ module _ (g : Geometry) (found : List LogRecord) (es : List Entry) (s : State) (
       → exchanges_in (entries_of_resume s session step) ≡ told_of_waiting session (last_waited session ws) step
   resume_told session step new h = by (call_waiting session s.waiting) refl
     where
-      waits_not : (ws : List Waiting) → call_waiting session ws ≡ None → (w : Waiting) → IsAmong w ws → w.session ≢ session
-      waits_not [] none w there = absurd there
-      waits_not (x ∷ ws) none w there = test (x.session == session) refl none there
-        where
-          test : (b : Bool) → (x.session == session) ≡ b → cond b (Some x) (call_waiting session ws) ≡ None → IsAmong w (x ∷ ws) → w.session ≢ session
-          test true e found there = absurd cc
-          test false e found (inl same) = λ is. eqb-false x.session session e (ap (λ (v : Waiting). v.session) (sym same) ∙ is)
-          test false e found (inr later) = waits_not ws found w later
-
-      waits_so : (ws : List Waiting) (w : Waiting) → call_waiting session ws ≡ Some w → IsAmong w ws × (w.session ≡ session)
-      waits_so [] w some = absurd cc
-      waits_so (x ∷ ws) w some = test (x.session == session) refl some
-        where
-          test : (b : Bool) → (x.session == session) ≡ b → cond b (Some x) (call_waiting session ws) ≡ Some w → IsAmong w (x ∷ ws) × (w.session ≡ session)
-          test true e is = let same : x ≡ w = some_same x w is in (inl (sym same), ap (λ (v : Waiting). v.session) (sym same) ∙ eqb-true x.session session e)
-          test false e is = let rest = waits_so ws w is in (inr rest.0, rest.1)
-
       told_nothing : (o : Option Call) → told_of_waiting session o Nothing ≡ []
       told_nothing None = refl
       told_nothing (Some c) = refl
@@ -292,9 +289,9 @@ module _ (g : Geometry) (found : List LogRecord) (es : List Entry) (s : State) (
       by : (o : Option Waiting) → call_waiting session s.waiting ≡ o → exchanges_in (entries_of_waiting s o step) ≡ told_of_waiting session (last_waited session ws) step
       by None none =
           sym (told_nothing (last_waited session ws))
-          ∙ ap (told_of_waiting session (last_waited session ws)) (sym (nothing_waits session step new (λ w there. waits_not s.waiting none w there) h))
+          ∙ ap (told_of_waiting session (last_waited session ws)) (sym (nothing_waits session step new (λ w there. waits_not session s.waiting none w there) h))
       by (Some w) some =
-          let is = waits_so s.waiting w some in
+          let is = waits_so session s.waiting w some in
           let which : last_waited session ws ≡ Some (resumed_call w.call w.wait) = ap (λ n. last_waited n ws) (sym is.1) ∙ last w is.0 in
           resumed_told w step ∙ ap (λ n. told_of n (resumed_call w.call w.wait) step) is.1 ∙ ap (λ (o : Option Call). told_of_waiting session o step) (sym which)
 

@@ -159,13 +159,13 @@ now_since : (bytes : List ℕ) (calls : List Call) (t : ℕ) (c : List ℕ) → 
 now_since bytes [] t c left = left
 now_since bytes (call ∷ older) t c left = inl left
 
-pub lost_at_last : (g : Geometry) (log_front front : List ℕ) (first : Moment) (moments : List Moment) (last : Moment) → Path g log_front front first moments last → (c d : List ℕ)
-    → may_leave last.log c → may_leave last.volume d → IsLostAlong first moments c d
-lost_at_last g log_front front first [] last path c d of_log of_volume =
+pub lost_at_last : (g : Geometry) (of_log_front of_front : List ℕ) (begun : Moment) (moments : List Moment) (last : Moment) → Path g of_log_front of_front begun moments last → (c d : List ℕ)
+    → may_leave last.log c → may_leave last.volume d → IsLostAlong begun moments c d
+lost_at_last g log_f front_f begun [] last path c d of_log of_volume =
     let log_left = subst (λ (m : Moment). may_leave m.log c) path.0 of_log in
     let volume_left = subst (λ (m : Moment). may_leave m.volume d) path.0 of_volume in
-    (now_since first.log.first first.log.calls (moment first.log) c log_left, now_since first.volume.first first.volume.calls (moment first.volume) d volume_left)
-lost_at_last g log_front front first (next ∷ later) last path c d of_log of_volume = inr (lost_at_last g log_front front next later last path.1 c d of_log of_volume)
+    (now_since begun.log.first begun.log.calls (moment begun.log) c log_left, now_since begun.volume.first begun.volume.calls (moment begun.volume) d volume_left)
+lost_at_last g log_f front_f begun (next ∷ later) last path c d of_log of_volume = inr (lost_at_last g log_f front_f next later last path.1 c d of_log of_volume)
 
 -- ---- an open that was refused behind its barriers, before its restart
 

@@ -5,7 +5,6 @@ use Rattle.shore_types.specs.declared.layout.Geometry.{Geometry}
 use Rattle.shore_disk.specs.declared.device.Disk.{Ghosts}
 use Rattle.shore_model.specs.declared.calls.Call.{Call}
 use Rattle.shore_model.specs.declared.histories.Entry.{Entry}
-use Rattle.shore_model.specs.declared.locks.Hold.{Hold}
 use Rattle.shore_model.specs.declared.requests.Request.{Request}
 use Rattle.shore_model.specs.Locks.{Harmony, WellRooted}
 use Rattle.shore_model.specs.declared.log_records.LogRecord.{LogRecord}
@@ -14,7 +13,7 @@ use Rattle.shore_model.specs.Histories.{IsHistory, Sound}
 use Rattle.shore_model.specs.Logs.{logged_writes}
 use Rattle.shore_model.specs.Records.{Records, overlays, scan_of}
 use Rattle.shore_model.specs.Requests.{HasNoCycle, held_by_all}
-use Rattle.shore_nodes.specs.Tables.{Table}
+use Rattle.shore_locks.specs.Tables.{Table}
 use Rattle.shore_path.proofs.Intentions.{well_rooted}
 use Rattle.laws_lives.proofs.InPlace.{is_overlaid}
 use Rattle.laws_lives.proofs.LoggedInPlace.{stand_logged}
@@ -109,9 +108,9 @@ module _ {L V : Type 0} {G : Ghosts L} {H : Ghosts V} (w : World L V G H) (o : R
       is k.front k.disk s k.now.store k.at.is_in
       (up_safe (geometry_in w) (stream_bytes_in w) k.found k.log_front k.front es w k.now as_up) k.at.over
       ∙ ap (scan_of store) (
-        is_overlaid (stand_logged k.under_way.state.sessions.sound k.under_way.state.sessions.log)
-        ∙ ap (λ (r : Records). overlays (serial_after r es) (map (logged_writes s.log) (txns_of s.sessions.active))) (sym k.opening)
-        ∙ ap (λ (l : List LogRecord). overlays (serial_after o es) (map (logged_writes l) (txns_of s.sessions.active))) same_log
+      is_overlaid (stand_logged k.under_way.state.sessions.sound k.under_way.state.sessions.log)
+      ∙ ap (λ (r : Records). overlays (serial_after r es) (map (logged_writes s.log) (txns_of s.sessions.active))) (sym k.opening)
+      ∙ ap (λ (l : List LogRecord). overlays (serial_after o es) (map (logged_writes l) (txns_of s.sessions.active))) same_log
       )
 
   -- each of these is one that a session is in, and not decided

@@ -410,8 +410,8 @@ module _ {L V : Type 0} {G : Ghosts L} {H : Ghosts V} (g : Geometry) (rs : List 
       (up_safe g (size log - LOG_FRONT_BYTES) rs (take LOG_FRONT_BYTES (seen log)) (take GATE_AT (seen volume)) [] w (record { state = opens.opened.first; store = opens.way.last.store }) up)
       opens.opened.at.over
       ∙ ap (scan_of store)
-        (open_shows_found (found_state rs pages) came.works opens.way.last.store opens.opened.first.sessions
-        (found_may_be_found g (size log - LOG_FRONT_BYTES) rs pages stood.opened) came.restarts opens.opened.redone opens.opened.no_losers opens.opened.over.sessions)
+      (open_shows_found (found_state rs pages) came.works opens.way.last.store opens.opened.first.sessions
+      (found_may_be_found g (size log - LOG_FRONT_BYTES) rs pages stood.opened) came.restarts opens.opened.redone opens.opened.no_losers opens.opened.over.sessions)
 
   pub opened_in_harmony : Harmony (held_by_all (requests_in w)) × WellRooted (held_by_all (requests_in w))
   opened_in_harmony = in_harmony w (records_told rs) [] [] opened_manager

@@ -60,11 +60,13 @@ pub fn committed_work_survives_every_crash<L: Disk, V: Disk>()
 {}
 
 /// Each way to come from one open to the next is among those of `AreStays`. Behind a loss of power the devices hold one pair of images that was left, all of
-/// it stable (`crash`). If the process ended at a moment at which these pairs could be left, nothing is lost of what was written (`ended`). A manager may
-/// hand its devices back (`closed`), and so does an open that is refused (`refused`).
+/// it stable: of a manager (`crash`), or of an open that it cut off (`cut`). A manager may hand its devices back with no loss of power (`closed`), and so does
+/// an open that is refused (`refused`).
 pub fn pairs_are_found_again<L: Disk, V: Disk>()
-    ensures crash { (left : List ℕ → List ℕ → Type 0) (log volume : History) (log_image volume_image : List ℕ) → left log_image volume_image → Stands log log_image →
-        Stands volume volume_image → AreFound (size log) (size volume) left log volume }
+    ensures crash { (w : World L V L.Disk V.Disk) (log volume : History) (log_image volume_image : List ℕ) → AreLeft w log_image volume_image → Stands log log_image →
+        Stands volume volume_image → AreFound (size log) (size volume) (AreLeft w) log volume }
+    ensures cut { (log volume log_now volume_now : History) (log_image volume_image : List ℕ) → LeftByOpen log volume log_image volume_image → Stands log_now log_image →
+        Stands volume_now volume_image → AreFound (size log_now) (size volume_now) (LeftByOpen log volume) log_now volume_now }
     ensures closed { (w : World L V L.Disk V.Disk) → AreFound (size (history_in w)) (size (volume_history_in w)) (AreLeft w) (history_in w) (volume_history_in w) }
     ensures refused { (log volume log_now volume_now : History) (fault : Fault) (l : L) (v : V) → L.Disk.history l ≡ log_now → V.Disk.history v ≡ volume_now →
         ((g : Geometry) (rs : List LogRecord) (pages : LoggedPages) → StandsFor g (size log) (size volume) rs pages (seen log) (seen volume) →
