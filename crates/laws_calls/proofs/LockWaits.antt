@@ -172,13 +172,13 @@ module _ (g : Geometry) (P : ℕ → Call → Wait → Type 0) (moves : (session
       h.6
 
   -- a call of a session as a whole, and a resume
-  pub settled_call_waits_on : (s new : State) (session : ℕ) (c : Call) → MayWait g P session c → (step : Step) → SettledCall g s session c step new → WaitsHave P s → WaitsHave P new
-  settled_call_waits_on s new session c may step h k = settles h.mid new session h.first h.rounds step h.settles (called s h.mid session c may h.first h.calls k)
+  pub call_waits_have : (s new : State) (session : ℕ) (c : Call) → MayWait g P session c → (step : Step) → SettledCall g s session c step new → WaitsHave P s → WaitsHave P new
+  call_waits_have s new session c may step h k = settles h.mid new session h.first h.rounds step h.settles (called s h.mid session c may h.first h.calls k)
 
-  pub settled_resume_waits_on : (s new : State) (session : ℕ) (step : Step) → SettledResume g s session step new → WaitsHave P s → WaitsHave P new
-  settled_resume_waits_on s new session step (inl h) k = told s new session step h k
-  settled_resume_waits_on s new session step (inr (inl h)) k = resumes s new session step h.0 k
-  settled_resume_waits_on s new session step (inr (inr h)) k = settles h.mid new session h.first h.rounds step h.settles (resumes s h.mid session h.first h.resumes k)
+  pub resume_waits_have : (s new : State) (session : ℕ) (step : Step) → SettledResume g s session step new → WaitsHave P s → WaitsHave P new
+  resume_waits_have s new session step (inl h) k = told s new session step h k
+  resume_waits_have s new session step (inr (inl h)) k = resumes s new session step h.0 k
+  resume_waits_have s new session step (inr (inr h)) k = settles h.mid new session h.first h.rounds step h.settles (resumes s h.mid session h.first h.resumes k)
 
   -- an event of the manager
   abbrev pub MayWaitIn : ManagerEvent → Type 0
@@ -188,8 +188,8 @@ module _ (g : Geometry) (P : ℕ → Call → Wait → Type 0) (moves : (session
   MayWaitIn HasFailed = Unit {0}
 
   pub event_waits_on : (s new : State) (e : ManagerEvent) → MayWaitIn e → EventMoves g s e new → WaitsHave P s → WaitsHave P new
-  event_waits_on s new (Called session c step) may h k = settled_call_waits_on s new session c may step h.1 k
-  event_waits_on s new (Resumed session step) may h k = settled_resume_waits_on s new session step h k
+  event_waits_on s new (Called session c step) may h k = call_waits_have s new session c may step h.1 k
+  event_waits_on s new (Resumed session step) may h k = resume_waits_have s new session step h k
   event_waits_on s new (Forced n) may h k = as_before s new (ap (λ (s : State). s.waiting) h.2) k
   event_waits_on s new HasFailed may h k = as_before s new (ap (λ (s : State). s.waiting) h) k
 

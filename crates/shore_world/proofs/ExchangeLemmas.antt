@@ -21,7 +21,7 @@ use Rattle.shore_model.specs.declared.step.Wait.TheVariants.{Durable, Lock}
 use Rattle.shore_types.specs.declared.locking.Granule.{Granule}
 use Rattle.shore_cycles.specs.declared.victims.Victim.{Victim}
 use Rattle.laws_lives.specs.Views.{IsAmong}
-use Rattle.laws_calls.proofs.LockWaits.{MayWait, WaitsHave, settled_call_waits_on, settled_resume_waits_on}
+use Rattle.laws_calls.proofs.LockWaits.{MayWait, WaitsHave, call_waits_have, resume_waits_have}
 use Rattle.laws_calls.proofs.SettledEnds.{idle_in, settled_call_ends}
 use Rattle.laws_calls.specs.CallSteps.{CallStep, MayAsk, ResumeStep}
 use Rattle.laws_calls.specs.Events.{Called, Forced, HasFailed, IsStateAfter, ManagerEvent, Resumed, EventMoves, call_waiting, entries_of, entries_of_resume, entries_of_waiting}
@@ -229,7 +229,7 @@ waits_so session (x ∷ ws) w some = test (x.session == session) refl some (wait
 module _ (g : Geometry) (found : List LogRecord) (es : List Entry) (s : State) (k : IsStateAfter found es s) (ws : Waited) (last : AreLast ws s) where
   begun : (session : ℕ) (c : Call) (step : Step) (new : State) → DoesNotWait s session → SettledCall g s session c step new → AreLast ((session, c) ∷ ws) new
   begun session c step new idle h =
-      settled_call_waits_on g (IsLastOf ((session, c) ∷ ws)) (same_lock ((session, c) ∷ ws)) s new session c (may_begin g ws session c) step h (begin_last ws s session c idle last)
+      call_waits_have g (IsLastOf ((session, c) ∷ ws)) (same_lock ((session, c) ∷ ws)) s new session c (may_begin g ws session c) step h (begin_last ws s session c idle last)
 
   -- it was answered or refused
   ended : (session : ℕ) (c : Call) (step : Step) (new : State) → (DoesNotWait s session → DoesNotWait new session) → SettledCall g s session c step new → AreLast ws new
@@ -248,7 +248,7 @@ module _ (g : Geometry) (found : List LogRecord) (es : List Entry) (s : State) (
 
   pub event_last : (e : ManagerEvent) (new : State) → EventMoves g s e new → AreLast (waited_behind_move ws e) new
   event_last (Called session c step) new h = call_last session c step new h.1
-  event_last (Resumed session step) new h = settled_resume_waits_on g (IsLastOf ws) (same_lock ws) s new session step h last
+  event_last (Resumed session step) new h = resume_waits_have g (IsLastOf ws) (same_lock ws) s new session step h last
   event_last (Forced n) new h = subst (AreLast ws) (sym h.2) last
   event_last HasFailed new h = subst (AreLast ws) (sym h) last
 
