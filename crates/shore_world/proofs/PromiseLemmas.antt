@@ -35,7 +35,7 @@ use Rattle.shore_world.proofs.StoredLemmas.{IsUpAt, run_run, up_safe}
 -- who is among the numbers of transactions is one of them
 among_txns : (t : ℕ) (active : List SessionTxn) → IsAmong t (txns_of active) → (a : SessionTxn) × IsAmong a active × (a.txn ≡ t)
 among_txns t [] there = absurd there
-among_txns t (a ∷ active) (inl same) = (a, inl refl, sym same)
+among_txns t (a ∷ active) (inl same) = (a, inl refl, same)
 among_txns t (a ∷ active) (inr later) = let rest = among_txns t active later in (rest.0, inr rest.1, rest.2)
 
 module _ {L V : Type 0} {G : Ghosts L} {H : Ghosts V} (w : World L V G H) (o : Records) (es : List Entry) (ws : List (ℕ × Call)) (k : IsManagerOf w o es ws) where

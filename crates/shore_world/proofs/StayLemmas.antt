@@ -110,10 +110,13 @@ module _ {L V : Type 0} {G : Ghosts L} {H : Ghosts V} where
     ended = of.ended;
   }
 
-module _ {L V : Type 0} {G : Ghosts L} {H : Ghosts V} (g : Geometry) (log_bytes volume_bytes : ℕ) where
-  abbrev bytes : ℕ
-  bytes = log_bytes - LOG_FRONT_BYTES
+-- what is read of devices of these lengths stands for what it stands for of devices of their own
+pub at_its_lengths : (g : Geometry) (log_bytes volume_bytes : ℕ) (log volume : History) → (size log ≡ log_bytes) × (size volume ≡ volume_bytes) → (rs : List LogRecord)
+    (pages : LoggedPages) (c d : List ℕ) → StandsFor g log_bytes volume_bytes rs pages c d → StandsFor g (size log) (size volume) rs pages c d
+at_its_lengths g log_bytes volume_bytes log volume lengths rs pages c d stood =
+    subst (λ n. StandsFor g n (size volume) rs pages c d) (sym lengths.0) (subst (λ n. StandsFor g log_bytes n rs pages c d) (sym lengths.1) stood)
 
+module _ {L V : Type 0} {G : Ghosts L} {H : Ghosts V} (g : Geometry) (log_bytes volume_bytes : ℕ) where
   -- ---- a world that was opened
 
   module _ (rs : List LogRecord) (pages : LoggedPages) (log volume : History) (lengths : (size log ≡ log_bytes) × (size volume ≡ volume_bytes))
@@ -139,22 +142,22 @@ module _ {L V : Type 0} {G : Ghosts L} {H : Ghosts V} (g : Geometry) (log_bytes 
     long : size opens.way.log_behind ≡ log_bytes
     long = ap size opens.way.barriers.0.leaves.later.1 ∙ lengths.0
 
-    as_long : size last.log - LOG_FRONT_BYTES ≡ bytes
+    as_long : size last.log - LOG_FRONT_BYTES ≡ log_bytes - LOG_FRONT_BYTES
     as_long = ap (λ n. n - LOG_FRONT_BYTES) ((path_long g log_front front start opens.way.moments last opens.way.path).0 ∙ long)
 
     abbrev pub first : StoredState
     first = record { state = opened.first; store = last.store }
 
-    pub from : IsOpenedFrom bytes last.store.log opened.first
+    pub from : IsOpenedFrom (log_bytes - LOG_FRONT_BYTES) last.store.log opened.first
     from = subst (λ n. IsOpenedFrom n last.store.log opened.first) as_long opened.from
 
-    pub up_at : IsUpAt g bytes rs log_front front [] w first
+    pub up_at : IsUpAt g (log_bytes - LOG_FRONT_BYTES) rs log_front front [] w first
     up_at = record {
       disk = opened.disk;
       at = opened.at;
       geometry = opened.geometry;
       long = ap (λ (h : History). size h - LOG_FRONT_BYTES) opened.histories.0 ∙ as_long;
-      under_way = opens_under_way g bytes (found_state rs pages) (found_may_be_found g bytes rs pages stood.opened) stood.opened.roomy reached.works last.store
+      under_way = opens_under_way g (log_bytes - LOG_FRONT_BYTES) (found_state rs pages) (found_may_be_found g (log_bytes - LOG_FRONT_BYTES) rs pages stood.opened) stood.opened.roomy reached.works last.store
           opened.first reached.restarts opened.redone opened.no_losers opened.over from;
     }
 
@@ -162,19 +165,13 @@ module _ {L V : Type 0} {G : Ghosts L} {H : Ghosts V} (g : Geometry) (log_bytes 
   pub none_waiting : {w : World L V G H} {log volume : History} {rs : List LogRecord} {pages : LoggedPages} (opens : HasOpened w g log volume rs pages) → AreLast [] opens.opened.first
   none_waiting opens w there = absurd (subst (IsAmong w) opens.opened.over.waiting there)
 
-  -- what is read of devices of these lengths stands for what it stands for of devices of their own
-  at_its_lengths : (log volume : History) → (size log ≡ log_bytes) × (size volume ≡ volume_bytes) → (rs : List LogRecord) (pages : LoggedPages) (c d : List ℕ)
-      → StandsFor g log_bytes volume_bytes rs pages c d → StandsFor g (size log) (size volume) rs pages c d
-  at_its_lengths log volume lengths rs pages c d stood =
-      subst (λ n. StandsFor g n (size volume) rs pages c d) (sym lengths.0) (subst (λ n. StandsFor g log_bytes n rs pages c d) (sym lengths.1) stood)
-
   -- ---- one manager
 
   -- its run over plain data, and what it leaves
   pub record HasStayed (rs : List LogRecord) (pages : LoggedPages) (m : Manager L V G H) (log_left volume_left : List ℕ) : Type 0 where
     pub run : StoredRun
     pub of : IsRunOf m run
-    pub up : IsStoredUp g bytes (found_state rs pages) run
+    pub up : IsStoredUp g (log_bytes - LOG_FRONT_BYTES) (found_state rs pages) run
     pub stands : StandsFor g log_bytes volume_bytes (take run.survive run.last.store.log) run.pages log_left volume_left
     pub never_full : NoForceIsFull m.events m.steps
 
@@ -182,7 +179,7 @@ module _ {L V : Type 0} {G : Ghosts L} {H : Ghosts V} (g : Geometry) (log_bytes 
       (stood : StandsFor g log_bytes volume_bytes rs pages (seen m.log) (seen m.volume)) (is : IsManager m) (log_left volume_left : List ℕ)
       (crash : AreLeft m.ended log_left volume_left) where
     opens : HasOpened m.opened g m.log m.volume rs pages
-    opens = is.opens g rs pages (at_its_lengths m.log m.volume lengths rs pages (seen m.log) (seen m.volume) stood)
+    opens = is.opens g rs pages (at_its_lengths g log_bytes volume_bytes m.log m.volume lengths rs pages (seen m.log) (seen m.volume) stood)
 
     abbrev m_front : List ℕ
     m_front = log_front rs pages m.log m.volume lengths stood m.opened opens
@@ -193,20 +190,20 @@ module _ {L V : Type 0} {G : Ghosts L} {H : Ghosts V} (g : Geometry) (log_bytes 
     abbrev m_first : StoredState
     m_first = first rs pages m.log m.volume lengths stood m.opened opens
 
-    m_up : IsUpAt g bytes rs m_front m_volume_front [] m.opened m_first
+    m_up : IsUpAt g (log_bytes - LOG_FRONT_BYTES) rs m_front m_volume_front [] m.opened m_first
     m_up = up_at rs pages m.log m.volume lengths stood m.opened opens
 
-    ran : HasRun g bytes rs m_front m_volume_front [] m_first m.moves m.ended
-    ran = run_run g bytes rs m_front m_volume_front [] m.opened m_first m_up m.events m.steps m.moves m.ended (all_served m.events is.served) is.runs
+    ran : HasRun g (log_bytes - LOG_FRONT_BYTES) rs m_front m_volume_front [] m_first m.moves m.ended
+    ran = run_run g (log_bytes - LOG_FRONT_BYTES) rs m_front m_volume_front [] m.opened m_first m_up m.events m.steps m.moves m.ended (all_served m.events is.served) is.runs
 
     ran_told : HasTold [] (managed ran.events) ran.last.state ran.made
-    ran_told = have_told g bytes rs [] [] m_first m_up.under_way (none_waiting opens) ran.events ran.last ran.made ran.stored
+    ran_told = have_told g (log_bytes - LOG_FRONT_BYTES) rs [] [] m_first m_up.under_way (none_waiting opens) ran.events ran.last ran.made ran.stored
 
     lost : StandLost g log_bytes volume_bytes ran.last.store (seen m.log) (seen m.volume) log_left volume_left
     lost =
-        let left = left_of g bytes rs m_front m_volume_front ran.made m.ended ran.last ran.up log_left volume_left crash in
+        let left = left_of g (log_bytes - LOG_FRONT_BYTES) rs m_front m_volume_front ran.made m.ended ran.last ran.up log_left volume_left crash in
         left_stand g log_bytes volume_bytes rs pages (seen m.log) (seen m.volume) stood ran.last.store
-        (under_way_sound g bytes rs ran.made ran.last ran.up.under_way) log_left volume_left left.log left.volume
+        (under_way_sound g (log_bytes - LOG_FRONT_BYTES) rs ran.made ran.last ran.up.under_way) log_left volume_left left.log left.volume
 
     pub has_stayed : HasStayed rs pages m log_left volume_left
     has_stayed =
@@ -244,18 +241,18 @@ module _ {L V : Type 0} {G : Ghosts L} {H : Ghosts V} (g : Geometry) (log_bytes 
             begin = refl;
           };
           stands = lost.stands;
-          never_full = run_never_full g bytes rs m_front m_volume_front [] m.opened m_first m_up m.events m.steps m.moves m.ended (all_served m.events is.served) is.runs;
+          never_full = run_never_full g (log_bytes - LOG_FRONT_BYTES) rs m_front m_volume_front [] m.opened m_first m_up m.events m.steps m.moves m.ended (all_served m.events is.served) is.runs;
         }
 
   -- ---- any number of stays, from a format
 
   -- the stays over plain data, and what the last one may leave
   pub record HaveStayed (stays : List (Stay L V G H)) (log_left volume_left : List ℕ) : Type 0 where
-    pub opened : MayBeOpened g bytes [] (λ p. empty_page)
+    pub opened : MayBeOpened g (log_bytes - LOG_FRONT_BYTES) [] (λ p. empty_page)
     pub over : List StoredStay
     pub last : List LogRecord
     pub last_pages : LoggedPages
-    pub are : AreStoredStays g bytes [] (λ p. empty_page) over last last_pages
+    pub are : AreStoredStays g (log_bytes - LOG_FRONT_BYTES) [] (λ p. empty_page) over last last_pages
     pub of : AreRunsOf stays (runs_of [] over)
     pub stands : StandsFor g log_bytes volume_bytes last last_pages log_left volume_left
 
@@ -284,7 +281,7 @@ module _ {L V : Type 0} {G : Ghosts L} {H : Ghosts V} (g : Geometry) (log_bytes 
     tried_has c d left_by =
         let so_far = as_read in
         ⊎_elim (λ early. early_has c d early) (λ later. later_has c d later.0 later.1)
-        (left_by g so_far.last so_far.last_pages (at_its_lengths log volume found.lengths so_far.last so_far.last_pages (seen log) (seen volume) so_far.stands))
+        (left_by g so_far.last so_far.last_pages (at_its_lengths g log_bytes volume_bytes log volume found.lengths so_far.last so_far.last_pages (seen log) (seen volume) so_far.stands))
       where
         early_has : (c d : List ℕ) → may_leave log c × may_leave volume d → HaveStayed (before ++ Tried log volume ∷ []) c d
         early_has c d early =
@@ -311,7 +308,7 @@ module _ {L V : Type 0} {G : Ghosts L} {H : Ghosts V} (g : Geometry) (log_bytes 
               over = so_far.over ++ stored.Cut one.cut ∷ [];
               last = after;
               last_pages = one.cut.pages;
-              are = stays_on g bytes [] (λ p. empty_page) so_far.over (stored.Cut one.cut ∷ []) so_far.last after so_far.last_pages one.cut.pages so_far.are (one.is_cut, (refl, refl));
+              are = stays_on g (log_bytes - LOG_FRONT_BYTES) [] (λ p. empty_page) so_far.over (stored.Cut one.cut ∷ []) so_far.last after so_far.last_pages one.cut.pages so_far.are (one.is_cut, (refl, refl));
               of = subst (AreRunsOf (before ++ Tried log volume ∷ [])) (sym (runs_behind_cut [] so_far.over one.cut))
                   (tried_adds_none before (runs_of [] so_far.over) log volume so_far.of);
               stands = one.stands;
@@ -329,7 +326,7 @@ module _ {L V : Type 0} {G : Ghosts L} {H : Ghosts V} (g : Geometry) (log_bytes 
         over = so_far.over ++ stored.Up one.run ∷ [];
         last = after;
         last_pages = one.run.pages;
-        are = stays_on g bytes [] (λ p. empty_page) so_far.over (stored.Up one.run ∷ []) so_far.last after so_far.last_pages one.run.pages so_far.are (one.up, (refl, refl));
+        are = stays_on g (log_bytes - LOG_FRONT_BYTES) [] (λ p. empty_page) so_far.over (stored.Up one.run ∷ []) so_far.last after so_far.last_pages one.run.pages so_far.are (one.up, (refl, refl));
         of = subst (AreRunsOf (before ++ Up m ∷ [])) (sym (runs_behind_up [] so_far.over one.run))
             (manager_adds_its_run before (runs_of [] so_far.over) m (record one.run { restart = restart }) so_far.of (restarted_run m one.run restart one.of));
         stands = one.stands;

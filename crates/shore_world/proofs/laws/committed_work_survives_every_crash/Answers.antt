@@ -21,5 +21,6 @@ returns-clause-shown c d g log_bytes volume_bytes stays log volume w are opens =
       have_lived g log_bytes volume_bytes stays (seen log) (seen volume) stayed,
       opened_manager g stayed.last stayed.last_pages log volume stood w opened,
       opened_shows g stayed.last stayed.last_pages log volume stood w opened,
-      opened_in_harmony g stayed.last stayed.last_pages log volume stood w opened,
+      (opened_in_harmony g stayed.last stayed.last_pages log volume stood w opened).0,
+      (opened_in_harmony g stayed.last stayed.last_pages log volume stood w opened).1,
     )
