@@ -45,12 +45,7 @@ impl<T: Tail, V: Disk> Core<T, V> {
         Ok(Step::Done(Answer::Updated))
     }
 
-    pub(crate) fn delete(
-        &mut self,
-        alloc: Global,
-        seat: &Seat,
-        id: Rid,
-    ) -> Result<Step, Fault>
+    pub(crate) fn delete(&mut self, alloc: Global, seat: &Seat, id: Rid) -> Result<Step, Fault>
         requires there { HasSlot (geometry_of self.old) id }
         requires seated { IsSeatIn seat.now (txns_of self.old) }
         ensures served { has_failed self.old ≡ false → InEach (λ front disk before s store. ForWriter seat.now.session (locks_of self.old).requests id s (λ a. Served a (Call.Delete id) result self.old self.new front before s store)) self.old }

@@ -119,10 +119,7 @@ impl<T: Tail, V: Disk> Core<T, V> {
     {
         // It is not looked for again: no call but its end takes a transaction out, so the seat stays right.
         let Some(seat) = self.control.seat(session) else {
-            return match call {
-                Call::Begin => self.begin(alloc, session),
-                _ => Err(Fault::NoTransaction),
-            };
+            return self.without_txn(alloc, session, &call);
         };
         match call {
             Call::Begin => Err(Fault::AlreadyActive),
@@ -131,6 +128,18 @@ impl<T: Tail, V: Disk> Core<T, V> {
             Call::BackTo(index) => self.back_to(alloc, &seat, index),
             Call::Abort => self.abort(alloc, &seat),
             call => self.with_txn(alloc, &seat, call),
+        }
+    }
+
+    // A call of a session that has no transaction.
+    fn without_txn(&mut self, alloc: Global, session: SessionId, call: &Call) -> Result<Step, Fault>
+        requires { HasNoTxnOf session (txns_of self.old) }
+        ensures replied { has_failed self.old ≡ false → InEach (λ front disk before s store. DoesNotWait s session → Called session call.now result self.old self.new front before s store) self.old }
+        ensures serves { ServesCall (Reads call.now) (forced_at call.now self.old self.new) result self.old self.new }
+    {
+        match call {
+            Call::Begin => self.begin(alloc, session),
+            _ => Err(Fault::NoTransaction),
         }
     }
 

@@ -22,12 +22,7 @@ impl<T: Tail, V: Disk> Core<T, V> {
     ghost use Rattle.shore_core.specs.Cores.{control_of, geometry_of, has_failed, locks_of, txns_of};
     ghost use Rattle.shore_core.specs.Replies.{AskedFor, Called, ForTxn, InEach, Reads, Served, ServesCall};
 
-    pub(crate) fn with_txn(
-        &mut self,
-        alloc: Global,
-        seat: &Seat,
-        call: Call,
-    ) -> Result<Step, Fault>
+    pub(crate) fn with_txn(&mut self, alloc: Global, seat: &Seat, call: Call) -> Result<Step, Fault>
         requires free { HasNoWait seat.now.session (control_of self.old) }
         requires seated { IsSeatIn seat.now (txns_of self.old) }
         ensures replied { IsSome (held.lock_asked_by call) → has_failed self.old ≡ false → InEach (λ front disk before s store. DoesNotWait s seat.now.session → Called seat.now.session call result self.old self.new front before s store) self.old }
@@ -63,14 +58,9 @@ impl<T: Tail, V: Disk> Core<T, V> {
         };
         self.control.reserve_wait()?;
         let on_conflict = on_conflict(&call);
-        let acquired = self.control.lock(
-            alloc,
-            seat,
-            txn,
-            asked.granule,
-            asked.mode,
-            on_conflict,
-        )?;
+        let acquired = self
+            .control
+            .lock(alloc, seat, txn, asked.granule, asked.mode, on_conflict)?;
         match &acquired {
             Acquired::Done => self.behind_locks(alloc, seat, txn, call),
             Acquired::Waiting(granule) => {

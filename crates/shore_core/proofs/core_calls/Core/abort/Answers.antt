@@ -1,4 +1,4 @@
-use Rattle.std.proofs.Common.{◌≢◌, List, All, refl, sym, subst, ◌∙◌, arith}
+use Rattle.std.proofs.Common.{◌≢◌, inl, inr, List, All, refl, sym, subst, ◌∙◌, arith}
 use Rattle.shore_types.specs.declared.layout.Geometry.{Geometry}
 use Rattle.shore_model.specs.declared.rollbacks.Rollback.TheVariants.{Whole}
 use Rattle.shore_sessions.proofs.ControlSteps.{seat_in_txn}

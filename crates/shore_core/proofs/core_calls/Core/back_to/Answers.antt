@@ -3,16 +3,14 @@ use Rattle.shore_types.specs.declared.layout.TheConstants.{LAST_OPENED}
 use Rattle.shore_model.specs.declared.calls.Answer.TheVariants.{WentBack}
 use Rattle.shore_model.specs.declared.calls.Call.TheVariants as call
 use Rattle.laws_lives.specs.UndoLists.{MayRoll}
-use Rattle.laws_lives.specs.Views.{IsAmong}
 use Rattle.shore_model.specs.declared.rollbacks.Rollback.TheVariants.{To}
 use Rattle.laws_calls.proofs.RollingCalls.{mark_of_within}
 use Rattle.laws_calls.specs.StateChanges.{answered}
 use Rattle.laws_calls.specs.States.{State}
-use Rattle.shore_sessions.proofs.WaitSteps.{in_none}
 use Rattle.shore_sessions.specs.Controls.{txns_in}
 use Rattle.shore_txn.specs.Txns.{as_session_txn, rolling_of}
 use Rattle.shore_txn.specs.declared.txn_state.TxnState.{TxnState}
-use Rattle.shore_core.specs.Cores.{CoreComesTo, first_of, geometry_of, txns_of, waiting_of, waits_of}
+use Rattle.shore_core.specs.Cores.{CoreComesTo, first_of, geometry_of, txns_of, waiting_of}
 use Rattle.shore_core.proofs.Coming.{comes_same, comes_then}
 use Rattle.shore_core.proofs.Moving.{comes_moved}
 use Rattle.shore_core.proofs.Rolling.{goes_back_done, goes_on_from, none_since}

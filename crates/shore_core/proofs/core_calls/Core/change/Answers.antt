@@ -82,9 +82,9 @@ pub push-requires-clause-text : goal.push-requires-clause-text
 push-requires-clause-text g c =
     let old = c.args.self.now in
     record {
-      some = c.id.ensures.some;
-      txn_fits = omega (arith, c.id.ensures.below);
-      previous_fits = omega (arith, c.last.ensures, old.earlier c.txn-own.result.now c.txn-own.ensures.among, old.numbers);
+      some = c.id-txn.ensures.some;
+      txn_fits = omega (arith, c.id-txn.ensures.below);
+      previous_fits = omega (arith, c.last-previous.ensures, old.earlier c.txn-own.result.now c.txn-own.ensures.among, old.numbers);
       payload_fits = record {
         rid = record { store = omega arith; page = omega arith; slot = omega (arith, c.requires.there.1) };
         old = image_short c.args.before c.requires.before;
@@ -94,7 +94,7 @@ push-requires-clause-text g c =
     }
 
 pub push-requires-clause-previous : goal.push-requires-clause-previous
-push-requires-clause-previous g c = omega (arith, c.last.ensures, c.args.self.now.earlier c.txn-own.result.now c.txn-own.ensures.among)
+push-requires-clause-previous g c = omega (arith, c.last-previous.ensures, c.args.self.now.earlier c.txn-own.result.now c.txn-own.ensures.among)
 
 pub invariant_of-self-in-Err-1 : goal.invariant_of-self-in-Err-1
 invariant_of-self-in-Err-1 g c =
@@ -162,12 +162,12 @@ returns-clause-changed g c running front disk before s store is safe over a of l
     let stands = is.beside.parts.stands in
     let own_is : as_session_txn own ≡ a =
     once_same (λ (b : SessionTxn). b.session) _ (txns_of old).sessions (as_session_txn own) a c.txn-own.ensures.there (subst (IsAmong a) stands.txns.active of.0) (c.txn-own.ensures.session ∙ sym of.1) in
-    let txn_is : c.id.result ≡ a.txn = c.id.ensures.number ∙ ap (λ (b : SessionTxn). b.txn) own_is in
-    let previous_is : c.last.result ≡ previous_of a.txn s.log =
-    c.last.ensures ∙ (each_among (IsLogged s.log) _ stands.txns.each own c.txn-own.ensures.among).last ∙ ap (λ (b : SessionTxn). previous_of b.txn s.log) own_is in
+    let txn_is : c.id-txn.result ≡ a.txn = c.id-txn.ensures.number ∙ ap (λ (b : SessionTxn). b.txn) own_is in
+    let previous_is : c.last-previous.result ≡ previous_of a.txn s.log =
+    c.last-previous.ensures ∙ (each_among (IsLogged s.log) _ stands.txns.each own c.txn-own.ensures.among).last ∙ ap (λ (b : SessionTxn). previous_of b.txn s.log) own_is in
     let r : LogRecord = record { txn = a.txn; previous = previous_of a.txn s.log; payload = Change id (get s.sessions.records id) image } in
-    let r_is : record { txn = c.id.result; previous = c.last.result; payload = Change id c.args.before image } ≡ r =
-    ap (λ n. record { txn = n; previous = c.last.result; payload = Change id c.args.before image }) txn_is
+    let r_is : record { txn = c.id-txn.result; previous = c.last-previous.result; payload = Change id c.args.before image } ≡ r =
+    ap (λ n. record { txn = n; previous = c.last-previous.result; payload = Change id c.args.before image }) txn_is
     ∙ ap (λ n. record { txn = a.txn; previous = n; payload = Change id c.args.before image }) previous_is
     ∙ ap (λ (b : Image). record { txn = a.txn; previous = previous_of a.txn s.log; payload = Change id b image }) (sym found) in
     let number : c.in-Ok.lsn ≡ 1 + length s.log = c.in-Ok.ensures.number ∙ sym (next_is old.control (waiting_of old) (durable_of old) (has_failed old) before s is.beside.parts (first_of old) is.beside.first 0) in
