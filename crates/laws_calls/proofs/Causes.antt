@@ -1,8 +1,7 @@
 -- Each refusal of a call is earned in the state in which the call asks.
 use Rattle.std.proofs.Common.{◌≡◌, ◌⊎◌, inl, inr, ⊎_elim, ◌<◌, ℕ, List, false, Some, None, refl, sym, ap, subst, ◌∙◌, Err}
 use Rattle.std.specs.FinMap.{get}
-use Rattle.std.specs.Prelude.{Result, IfErr, IsFalse}
-use Rattle.shore_types.specs.Locking.{level_of}
+use Rattle.std.specs.Prelude.{Result, IfErr}
 use Rattle.shore_types.specs.declared.faults.Fault.{Fault}
 use Rattle.shore_types.specs.declared.faults.Fault.TheVariants as fault
 use Rattle.shore_types.specs.declared.ids.Rid.{Rid}
@@ -12,7 +11,6 @@ use Rattle.shore_types.specs.declared.locking.Granule.TheVariants as granule
 use Rattle.shore_types.specs.declared.locking.Mode.{Mode}
 use Rattle.shore_types.specs.declared.locking.Mode.TheVariants.{EX}
 use Rattle.shore_model.specs.Alone.{record_named_by}
-use Rattle.shore_model.specs.Modes.{is_allowed}
 use Rattle.shore_model.specs.declared.calls.Call.{Call}
 use Rattle.shore_model.specs.declared.calls.Call.TheVariants as call
 use Rattle.shore_model.specs.declared.histories.Entry.{Entry}
@@ -31,9 +29,8 @@ use Rattle.laws_lives.specs.Sessions.{SessionTxn}
 use Rattle.laws_calls.proofs.SessionInversions.{insert_asks, same_fault}
 use Rattle.laws_calls.proofs.TakenLocks.{leaves}
 use Rattle.laws_calls.proofs.GoingOn.{never_waiting}
-use Rattle.laws_calls.proofs.WrongRefusals.{refused_early}
-use Rattle.laws_calls.specs.CallSteps.{BeginStep, CallGoesOn, CallStep, InnerStep, RefusesBehind, RefusesEarly, RefusesGranule, RefusesRead, behind_lock, behind_place, on_conflict_of, place_outcome}
-use Rattle.laws_calls.specs.Causes.{EarnsRefusal}
+use Rattle.laws_calls.specs.CallSteps.{BeginStep, CallGoesOn, CallStep, InnerStep, IsTooLong, RefusesBehind, RefusesEarly, RefusesGranule, RefusesId, RefusesLock, RefusesRead, behind_lock, behind_place, on_conflict_of, place_outcome}
+use Rattle.laws_calls.specs.Causes.{EarnsRefusal, bytes_put_by, granule_named_by}
 use Rattle.laws_calls.specs.LockedStates.{IsSessionsState}
 use Rattle.laws_calls.specs.Rollbacks.{IsInterrupted, IsUnwound}
 use Rattle.laws_calls.specs.Shapes.{store_lock, store_locked}
@@ -44,29 +41,6 @@ use Rattle.laws_calls.specs.States.{IsOfSession, State}
 read_split : (s : State) (id : Rid) (f : Fault) → RefusesRead s id f → ((f ≡ fault.NoRecord) × (get s.sessions.records id ≡ None)) ⊎ IsPageFault s f
 read_split s id fault.NoRecord h = inl (refl, h)
 read_split s id _ h = inr h
-
--- ---- before the locks
-
-no_bad_granule : (g : Geometry) (at : Granule) → RefusesGranule g at fault.BadMode → ⊥
-no_bad_granule g granule.Volume h = h
-no_bad_granule g (granule.Store store) h = let clash = h.0 in cc
-no_bad_granule g (granule.Page page) h = ⊎_elim (λ x. let clash = x.0 in absurd cc) (λ x. let clash = x.0 in absurd cc) h
-no_bad_granule g (granule.Record id) h = h
-
--- a mode that the granule may not be asked in
-abbrev HasBadMode : Call → Type 0
-HasBadMode c = (lock : Asked) × (lock_asked_by c ≡ Some lock) × IsFalse (is_allowed (level_of lock.granule) lock.mode)
-
-bad_mode : (g : Geometry) (c : Call) → RefusesEarly g c fault.BadMode → HasBadMode c
-bad_mode g (call.Lock at mode) h = ⊎_elim (λ x. (record { granule = at; mode = mode }, refl, x.1)) (λ x. absurd (no_bad_granule g at x.1)) h
-bad_mode g (call.TryLock at mode) h = ⊎_elim (λ x. (record { granule = at; mode = mode }, refl, x.1)) (λ x. absurd (no_bad_granule g at x.1)) h
-bad_mode g (call.Get id) h = absurd h
-bad_mode g (call.GetForUpdate id) h = absurd h
-bad_mode g (call.Insert store bytes) h = ⊎_elim (λ x. let clash = x.0 in absurd cc) (λ x. let clash = x.1 in absurd cc) h
-bad_mode g (call.Update id bytes) h = ⊎_elim (λ x. let clash = x.0 in absurd cc) (λ x. absurd x.1) h
-bad_mode g (call.Delete id) h = absurd h
-bad_mode g (call.Scan store) h = let clash = h.0 in absurd cc
-bad_mode g _ h = absurd h
 
 -- a try, or a call that may wait
 try_or_wait : (c : Call) → ((at : Granule) × (mode : Mode) × (c ≡ call.TryLock at mode)) ⊎ (on_conflict_of c ≡ conflict.Wait)
@@ -94,13 +68,46 @@ module _ (g : Geometry) (s : State) (session : ℕ) (c : Call) where
   as_told : (f exact : Fault) → f ≡ exact → Earns exact → Earns f
   as_told f exact is h = subst Earns (sym is) h
 
-  early_earns : (f : Fault) → RefusesEarly g c f → Earns f
-  early_earns fault.NoStore h = h
-  early_earns fault.NoPage h = h
-  early_earns fault.NoRecord h = inl h
-  early_earns fault.TooLong h = h
-  early_earns fault.BadMode h = bad_mode g c h
-  early_earns f h = absurd (refused_early g c f h)
+  id_earns : (id : Rid) → granule_named_by c ≡ Some (granule.Record id) → record_named_by c ≡ Some id → (f : Fault) → RefusesId g id f → Earns f
+  id_earns id named its fault.NoStore h = (granule.Record id, id.page.store, named, refl, h)
+  id_earns id named its fault.NoPage h = (granule.Record id, id.page, named, refl, h)
+  id_earns id named its fault.NoRecord h = (id, its, inr h.1)
+  id_earns id named its f h = absurd h
+
+  granule_earns : (at : Granule) → granule_named_by c ≡ Some at → ((id : Rid) → at ≡ granule.Record id → record_named_by c ≡ Some id) → (f : Fault) → RefusesGranule g at f → Earns f
+  granule_earns granule.Volume named its f h = absurd h
+  granule_earns (granule.Store store) named its f h = as_told f fault.NoStore h.0 (granule.Store store, store, named, refl, h.1)
+  granule_earns (granule.Page page) named its f h = ⊎_elim
+      (λ none. as_told f fault.NoStore none.0 (granule.Page page, page.store, named, refl, none.1))
+      (λ none. as_told f fault.NoPage none.0 (granule.Page page, page, named, refl, (none.1, none.2)))
+      h
+  granule_earns (granule.Record id) named its f h = id_earns id named (its id refl) f h
+
+  lock_asked_earns : (at : Granule) (mode : Mode) → granule_named_by c ≡ Some at → lock_asked_by c ≡ Some (record { granule = at; mode = mode })
+      → ((id : Rid) → at ≡ granule.Record id → record_named_by c ≡ Some id) → (f : Fault) → RefusesLock g at mode f → Earns f
+  lock_asked_earns at mode named asked its f h = ⊎_elim
+      (λ bad. as_told f fault.BadMode bad.0 (record { granule = at; mode = mode }, asked, bad.1))
+      (λ none. granule_earns at named its f none.1)
+      h
+
+  long_earns : (bytes : List ℕ) → bytes_put_by c ≡ Some bytes → (f : Fault) → IsTooLong bytes f → Earns f
+  long_earns bytes put f h = as_told f fault.TooLong h.0 (bytes, put, h.1)
+
+  early_earns : (d : Call) → c ≡ d → (f : Fault) → RefusesEarly g d f → Earns f
+  early_earns (call.Get id) is f h = id_earns id (ap granule_named_by is) (ap record_named_by is) f h
+  early_earns (call.GetForUpdate id) is f h = id_earns id (ap granule_named_by is) (ap record_named_by is) f h
+  early_earns (call.Insert store bytes) is f h = ⊎_elim
+      (long_earns bytes (ap bytes_put_by is) f)
+      (λ none. as_told f fault.NoStore none.1 (granule.Store store, store, ap granule_named_by is, refl, none.2))
+      h
+  early_earns (call.Update id bytes) is f h = ⊎_elim (long_earns bytes (ap bytes_put_by is) f) (λ none. id_earns id (ap granule_named_by is) (ap record_named_by is) f none.1) h
+  early_earns (call.Delete id) is f h = id_earns id (ap granule_named_by is) (ap record_named_by is) f h
+  early_earns (call.Scan store) is f h = as_told f fault.NoStore h.0 (granule.Store store, store, ap granule_named_by is, refl, h.1)
+  early_earns (call.Lock at mode) is f h =
+      lock_asked_earns at mode (ap granule_named_by is) (ap lock_asked_by is) (λ id same. ap record_named_by (is ∙ ap (λ (x : Granule). call.Lock x mode) same)) f h
+  early_earns (call.TryLock at mode) is f h =
+      lock_asked_earns at mode (ap granule_named_by is) (ap lock_asked_by is) (λ id same. ap record_named_by (is ∙ ap (λ (x : Granule). call.TryLock x mode) same)) f h
+  early_earns _ is f h = absurd h
 
   -- ---- pages
 
@@ -111,7 +118,7 @@ module _ (g : Geometry) (s : State) (session : ℕ) (c : Call) where
 
   read_earns : (l : State) (id : Rid) (f : Fault) → l.durable ≡ s.durable → l.sessions.records ≡ s.sessions.records → record_named_by c ≡ Some id → RefusesRead l id f → Earns f
   read_earns l id f durable records named h = ⊎_elim
-      (λ none. as_told f fault.NoRecord none.0 (inr (id, named, ap (λ m. get m id) (sym records) ∙ none.1)))
+      (λ none. as_told f fault.NoRecord none.0 (id, named, inl (ap (λ m. get m id) (sym records) ∙ none.1)))
       (page_earns l f durable)
       (read_split l id f h)
 
@@ -207,7 +214,7 @@ module _ (g : Geometry) (found : List LogRecord) (es : List Entry) (s : State) (
 
   inner_earns : (a : SessionTxn) → IsOfSession s session a → is_waiting a.txn s.locks.requests ≡ false → (f : Fault) (new : State) → InnerStep g s a c (Refused f) new → EarnsRefusal g s session c f
   inner_earns a of quiet f new (inl h) = as_told g s session c f fault.MustAbort (same_fault f fault.MustAbort h.2) (h.0, (a, of, h.1))
-  inner_earns a of quiet f new (inr (inl (whole, inl h))) = as_told g s session c f h.0 (same_fault f h.0 h.2) (early_earns g s session c h.0 h.1)
+  inner_earns a of quiet f new (inr (inl (whole, inl h))) = as_told g s session c f h.0 (same_fault f h.0 h.2) (early_earns g s session c c refl h.0 h.1)
   inner_earns a of quiet f new (inr (inl (whole, inr (inl h)))) = goes_earns a of quiet f new h.1
   inner_earns a of quiet f new (inr (inl (whole, inr (inr (inl h))))) = absurd h.1
   inner_earns a of quiet f new (inr (inl (whole, inr (inr (inr h))))) = as_told g s session c f fault.TooManySavepoints h.1.0 (h.0, (a, of, h.1.1))

@@ -1,23 +1,24 @@
 -- What a call is refused for: each fault by its cause, in the state in which the call asks.
-use Rattle.std.specs.Prelude.{◌≡◌, ◌≢◌, ◌⊎◌, ◌<◌, ◌≤◌, ℕ, List, None, Some, IsFalse, IsTrue, length}
-use Rattle.std.specs.FinMap.{get}
+use Rattle.std.specs.Prelude.{◌≡◌, ◌≢◌, ◌⊎◌, ◌<◌, ◌≤◌, ℕ, List, Option, None, Some, IsFalse, IsTrue, length}
 use Rattle.shore_types.specs.Locking.{level_of}
 use Rattle.shore_types.specs.declared.faults.Fault.{Fault}
 use Rattle.shore_types.specs.declared.faults.Fault.TheVariants as fault
+use Rattle.shore_types.specs.Layout.{HasPage, HasStore}
+use Rattle.shore_types.specs.declared.ids.PageId.{PageId}
 use Rattle.shore_types.specs.declared.ids.Rid.{Rid}
 use Rattle.shore_types.specs.declared.layout.Geometry.{Geometry}
-use Rattle.shore_types.specs.declared.layout.TheConstants.{MAX_SAVEPOINTS, MAX_TRANSACTIONS}
+use Rattle.shore_types.specs.declared.layout.TheConstants.{MAX_RECORD_BYTES, MAX_SAVEPOINTS, MAX_TRANSACTIONS}
 use Rattle.shore_types.specs.declared.locking.Granule.{Granule}
 use Rattle.shore_types.specs.declared.locking.Granule.TheVariants as granule
 use Rattle.shore_types.specs.declared.locking.Mode.{Mode}
-use Rattle.shore_model.specs.Alone.{record_named_by}
+use Rattle.shore_model.specs.Alone.{IsAbsent, record_named_by}
 use Rattle.shore_model.specs.Modes.{is_allowed}
 use Rattle.shore_model.specs.declared.calls.Call.{Call}
 use Rattle.shore_model.specs.declared.calls.Call.TheVariants as call
 use Rattle.shore_path.specs.Acquires.{IsBlockedBy, IsFullOnPath}
 use Rattle.laws_locks.specs.CallLocks.{Asked, lock_asked_by}
 use Rattle.laws_lives.specs.Sessions.{SessionTxn}
-use Rattle.laws_calls.specs.CallSteps.{HasPlace, IsPlaceOf, RefusesEarly, ServesTxn, behind_lock, behind_place, txn_count}
+use Rattle.laws_calls.specs.CallSteps.{HasPlace, IsPlaceOf, ServesTxn, behind_lock, behind_place, txn_count}
 use Rattle.laws_calls.specs.Rollbacks.{TakesCall}
 use Rattle.laws_calls.specs.Shapes.{store_locked}
 use Rattle.laws_calls.specs.StateChanges.{CanLog, FitsAt}
@@ -26,6 +27,64 @@ use Rattle.laws_calls.specs.States.{DoesNotWait, HasNoTxn, IsInTxn, IsOfSession,
 -- the session is in a transaction under way of which this holds
 abbrev pub InItsTxn : State → ℕ → (SessionTxn → Type 0) → Type 0
 InItsTxn s session P = (a : SessionTxn) × IsOfSession s session a × P a
+
+-- ---- what a call names
+
+abbrev pub store_of_granule : Granule → Option ℕ
+store_of_granule granule.Volume = None
+store_of_granule (granule.Store store) = Some store
+store_of_granule (granule.Page page) = Some page.store
+store_of_granule (granule.Record id) = Some id.page.store
+
+abbrev pub page_of_granule : Granule → Option PageId
+page_of_granule granule.Volume = None
+page_of_granule (granule.Store store) = None
+page_of_granule (granule.Page page) = Some page
+page_of_granule (granule.Record id) = Some id.page
+
+-- the granule that a call names, if it does
+abbrev pub granule_named_by : Call → Option Granule
+granule_named_by (call.Get id) = Some (granule.Record id)
+granule_named_by (call.GetForUpdate id) = Some (granule.Record id)
+granule_named_by (call.Insert store bytes) = Some (granule.Store store)
+granule_named_by (call.Update id bytes) = Some (granule.Record id)
+granule_named_by (call.Delete id) = Some (granule.Record id)
+granule_named_by (call.Scan store) = Some (granule.Store store)
+granule_named_by (call.Lock at mode) = Some at
+granule_named_by (call.TryLock at mode) = Some at
+granule_named_by call.Begin = None
+granule_named_by call.Savepoint = None
+granule_named_by (call.BackTo index) = None
+granule_named_by call.Commit = None
+granule_named_by call.Abort = None
+granule_named_by (call.Prepare global) = None
+granule_named_by (call.Resolve global outcome) = None
+granule_named_by call.InDoubt = None
+
+-- the bytes that it puts into a record, if it does
+abbrev pub bytes_put_by : Call → Option (List ℕ)
+bytes_put_by (call.Insert store bytes) = Some bytes
+bytes_put_by (call.Update id bytes) = Some bytes
+bytes_put_by (call.Get id) = None
+bytes_put_by (call.GetForUpdate id) = None
+bytes_put_by (call.Delete id) = None
+bytes_put_by (call.Scan store) = None
+bytes_put_by (call.Lock at mode) = None
+bytes_put_by (call.TryLock at mode) = None
+bytes_put_by call.Begin = None
+bytes_put_by call.Savepoint = None
+bytes_put_by (call.BackTo index) = None
+bytes_put_by call.Commit = None
+bytes_put_by call.Abort = None
+bytes_put_by (call.Prepare global) = None
+bytes_put_by (call.Resolve global outcome) = None
+bytes_put_by call.InDoubt = None
+
+-- a granule that it names has this of it
+abbrev pub NamesOne : {A : Type 0} → (Granule → Option A) → Call → (A → Type 0) → Type 0
+NamesOne {A} part c P = (at : Granule) × (x : A) × (granule_named_by c ≡ Some at) × (part at ≡ Some x) × P x
+
+-- ---- what is lacking
 
 -- an insert finds, behind the lock of its store, no id that serves; an update's image does not fit its page
 abbrev pub LacksPlace : Geometry → State → ℕ → Call → Type 0
@@ -84,10 +143,10 @@ abbrev pub EarnsRefusal : Geometry → State → ℕ → Call → Fault → Type
 EarnsRefusal g s session c fault.NoTransaction = (c ≢ call.Begin) × HasNoTxn s session
 EarnsRefusal g s session c fault.AlreadyActive = (c ≡ call.Begin) × IsInTxn s session
 EarnsRefusal g s session c fault.TooManyTransactions = (c ≡ call.Begin) × (MAX_TRANSACTIONS ≤ txn_count s)
-EarnsRefusal g s session c fault.NoStore = RefusesEarly g c fault.NoStore
-EarnsRefusal g s session c fault.NoPage = RefusesEarly g c fault.NoPage
-EarnsRefusal g s session c fault.NoRecord = RefusesEarly g c fault.NoRecord ⊎ ((id : Rid) × (record_named_by c ≡ Some id) × (get s.sessions.records id ≡ None))
-EarnsRefusal g s session c fault.TooLong = RefusesEarly g c fault.TooLong
+EarnsRefusal g s session c fault.NoStore = NamesOne store_of_granule c (λ store. HasStore g store → ⊥)
+EarnsRefusal g s session c fault.NoPage = NamesOne page_of_granule c (λ page. HasStore g page.store × (HasPage g page → ⊥))
+EarnsRefusal g s session c fault.NoRecord = (id : Rid) × (record_named_by c ≡ Some id) × IsAbsent s.sessions.records id
+EarnsRefusal g s session c fault.TooLong = (bytes : List ℕ) × (bytes_put_by c ≡ Some bytes) × (MAX_RECORD_BYTES < length bytes)
 EarnsRefusal g s session c fault.StoreFull = LacksPlace g s session c
 EarnsRefusal g s session c fault.LogFull = LacksLog g s session c
 EarnsRefusal g s session c fault.LockTableFull = LacksNode g s session c
