@@ -83,3 +83,4 @@ pub mod WrongRefusals
 pub mod WrongResumes
 pub mod WrongRollbacks
 pub mod WrongWaits
+pub mod Rooted

@@ -32,6 +32,8 @@ use Rattle.shore_world.specs.Crashes.{AreLeft, AreLeftBetween}
 use Rattle.shore_world.specs.Events.{IsServedEvent}
 use Rattle.shore_world.specs.EventMoves.{failure_by, moves_by}
 use Rattle.shore_world.specs.Managers.{NoForceIsFull}
+use Rattle.shore_world.specs.Promises.{IsStateOf}
+use Rattle.shore_locks.specs.Tables.{Table}
 use Rattle.shore_world.specs.Worlds.{Between, WorldComesTo, EventStep, ForceRefused, HasFailedToRead, IsAt, IsLike, LeavesAtAnyMoment, OpenRefused, Runs, Steps, SurvivesCrashes, durable_in, geometry_in, list_in, stream_bytes_in}
 
 -- ---- one event
@@ -118,7 +120,7 @@ module _ {L V : Type 0} {G : Ghosts L} {H : Ghosts V} (g : Geometry) (stream_byt
   still_long old new moment k = ap (λ (h : History). size h - LOG_FRONT_BYTES) (moment.log log_front k).later.1
 
   module _ (es : List Entry) (old : World L V G H) (m : StoredState) (up : IsUpAt es old m) where
-    one_run : (new : World L V G H) → geometry_in new ≡ geometry_in old → LeavesAtAnyMoment old new → (later : State) (comes : WorldComesTo new log_front front m.store later)
+    abbrev one_run : (new : World L V G H) → geometry_in new ≡ geometry_in old → LeavesAtAnyMoment old new → (later : State) (comes : WorldComesTo new log_front front m.store later)
         (moves : List ManagerEvent) → StoredAs g m later comes.after moves → HasRun es m moves new
     one_run new geometry moment later comes moves is = record {
       events = is.stored ∷ [];
@@ -153,6 +155,37 @@ module _ {L V : Type 0} {G : Ghosts L} {H : Ghosts V} (g : Geometry) (stream_byt
         let moved = subst (λ (x : Geometry). EventStep x m.state e step come.later) up.geometry come.moves in
         one_run new one.moves.geometry one.moves.any_moment come.later comes (moves_by e step)
         (one_stored g m comes.works comes.after comes.work come.later comes.at.over.kept.stored e step served moved)
+
+  -- an event leads to a state, in which the world is then
+  pub record HasMoved (es : List Entry) (old : World L V G H) (m : StoredState) (e : Event) (step : Step) (new : World L V G H) : Type 0 where
+    pub later : State
+    pub moves : EventStep g m.state e step later
+    pub run : HasRun es m (moves_by e step) new
+    pub same : run.last.state ≡ later
+
+  pub moves_to : (es : List Entry) (old : World L V G H) (m : StoredState) → IsUpAt es old m → (e : Event) (step : Step) (new : World L V G H) → IsServedEvent e → Steps old e step new
+      → HasMoved es old m e step new
+  moves_to es old m up e step new served one =
+      let come = one.moves.state log_front front up.disk m.state m.store up.at (up_safe es old m up) in
+      let comes = come.comes in
+      let moved = subst (λ (x : Geometry). EventStep x m.state e step come.later) up.geometry come.moves in
+      record {
+        later = come.later;
+        moves = moved;
+        run = one_run es old m up new one.moves.geometry one.moves.any_moment come.later comes (moves_by e step)
+            (one_stored g m comes.works comes.after comes.work come.later comes.at.over.kept.stored e step served moved);
+        same = refl;
+      }
+
+  -- what can be seen of the state
+  pub seen_of : (es : List Entry) (w : World L V G H) (m : StoredState) → IsUpAt es w m → IsStateOf w m.state
+  seen_of es w m up = record {
+    requests = ap (λ (t : Table). t.requests) up.at.is_in.beside.parts.stands.locks;
+    log = up.at.is_in.beside.parts.log;
+    durable = up.at.is_in.beside.parts.durable_is;
+    failed = up.at.is_in.beside.parts.failed_is;
+    dumps = λ store pairs is. is front up.disk m.state m.store up.at.is_in (up_safe es w m up) up.at.over;
+  }
 
   run_on : (es : List Entry) (m : StoredState) (moves later : List ManagerEvent) (mid new : World L V G H) (one : HasRun es m moves mid)
       → HasRun (es ++ one.made) one.last later new → HasRun es m (moves ++ later) new

@@ -14,7 +14,10 @@ use Rattle.laws_runs.specs.SoundStores.{IsUnderWay}
 use Rattle.laws_runs.specs.StoredRuns.{StoredState}
 use Rattle.shore_world.specs.declared.world.World.{World}
 use Rattle.shore_world.specs.Exchanges.{AreLast}
-use Rattle.shore_world.specs.Worlds.{IsAt, geometry_in, stream_bytes_in}
+use Rattle.laws_calls.specs.SessionWaits.{AllWaitThere}
+use Rattle.laws_calls.specs.States.{State}
+use Rattle.shore_world.specs.Lives.{DumpsShow}
+use Rattle.shore_world.specs.Worlds.{IsAt, durable_in, failed_in, geometry_in, list_in, requests_in, stream_bytes_in}
 
 -- The world is a manager that opened with these records in place, and since then has come to these entries of its history, and to these calls with which
 -- sessions began to wait, the newest first. What else is here a reader of the promises need not know: an open makes such a world, and each run of one another.
@@ -28,7 +31,20 @@ pub record IsManagerOf {L V : Type 0} {G : Ghosts L} {H : Ghosts V} (w : World L
   pub at : IsAt w log_front front disk now.state now.store
   pub under_way : IsUnderWay (geometry_in w) (stream_bytes_in w) found es now
   pub waited : AreLast ws now.state
+  pub there : AllWaitThere now.state
 
 -- each of these transactions is not ended: a session is in it, and it is not decided
 abbrev pub AreUnended : List Entry → List ℕ → Type 0
 AreUnended es ts = (t : ℕ) → IsAmong t ts → (session : ℕ) × (session_state session free es ≡ in_txn t) × AllByRecursion (λ d. decided_txn d ≢ t) (decisions es)
+
+-- The world is in this state, as far as it can be seen: its lock requests, its log, what of it is durable, whether a device has failed, and what dumps show.
+pub record IsStateOf {L V : Type 0} {G : Ghosts L} {H : Ghosts V} (w : World L V G H) (s : State) : Type 0 where
+  pub requests : s.locks.requests ≡ requests_in w
+  pub log : s.log ≡ list_in w
+  pub durable : s.durable ≡ durable_in w
+  pub failed : s.failed ≡ failed_in w
+  pub dumps : DumpsShow w s.sessions.records
+
+-- it was before an event, and this is it behind that
+abbrev pub AreStatesOf : {L V : Type 0} {G : Ghosts L} {H : Ghosts V} → World L V G H → State → World L V G H → State → Type 0
+AreStatesOf old s new later = IsStateOf old s × IsStateOf new later

@@ -1,24 +1,43 @@
 //! What is promised of a world without a loss of power, event by event, in the words of a history, its records and its locks. Each law is stated as the
 //! contract of an empty function. `IsManagerOf` has all that is hidden: an open makes such a world (`committed_work_survives_every_crash`), and each run
 //! of one makes another (`runs_are_histories`).
-ghost use Rattle.std.specs.Prelude.{◌≡◌, ◌++◌, ℕ, List, All, map};
-ghost use Rattle.shore_model.specs.declared.calls.Call.{Call};
-ghost use Rattle.shore_model.specs.declared.histories.Entry.{Entry};
-ghost use Rattle.shore_model.specs.declared.step.Step.{Step};
+ghost use Rattle.std.specs.Prelude.{◌≡◌, ◌≢◌, ◌⊎◌, ◌+◌, ◌<◌, ◌++◌, ℕ, List, [], All, IsTrue, None, Some, false, length, map};
+ghost use Rattle.shore_types.specs.declared.faults.Fault.{Fault};
+ghost use Rattle.shore_types.specs.declared.faults.Fault.TheVariants.{Deadlock, Failed, Memory};
+ghost use Rattle.shore_types.specs.declared.locking.Granule.{Granule};
+ghost use Rattle.shore_model.specs.Calls.{IsServed};
 ghost use Rattle.shore_model.specs.Histories.{IsHistory, Sound};
 ghost use Rattle.shore_model.specs.Locks.{Harmony, WellRooted};
 ghost use Rattle.shore_model.specs.Logs.{logged_writes};
 ghost use Rattle.shore_model.specs.Records.{Records, overlays};
 ghost use Rattle.shore_model.specs.Requests.{HasNoCycle, held_by_all};
+ghost use Rattle.shore_model.specs.declared.calls.Answer.TheVariants.{Aborted, Committed};
+ghost use Rattle.shore_model.specs.declared.calls.Call.TheVariants.{Abort, Commit};
+ghost use Rattle.shore_model.specs.declared.calls.Call.{Call};
+ghost use Rattle.shore_model.specs.declared.histories.Entry.{Entry};
+ghost use Rattle.shore_model.specs.declared.rollbacks.Rollback.{Rollback};
+ghost use Rattle.shore_model.specs.declared.step.Step.TheVariants.{Done, Refused, Waits};
+ghost use Rattle.shore_model.specs.declared.step.Step.{Step};
+ghost use Rattle.shore_model.specs.declared.step.Wait.TheVariants.{Durable, Lock};
+ghost use Rattle.shore_locks.specs.Grants.{released};
+ghost use Rattle.shore_locks.specs.Tables.{is_waiting};
+ghost use Rattle.laws_lives.specs.Sessions.{SessionTxn};
 ghost use Rattle.laws_lives.specs.Soundness.{history_from, serial_after};
+ghost use Rattle.laws_lives.specs.Views.{IsAmong};
+ghost use Rattle.laws_calls.specs.Causes.{EarnsRefusal};
 ghost use Rattle.laws_calls.specs.Events.{ManagerEvent};
+ghost use Rattle.laws_calls.specs.LockChanges.{ChangesLocks};
+ghost use Rattle.laws_calls.specs.Midway.{AsksAgainIn, AsksIn, HasItsWait, Interlude, Intervene, IsItsCycle, IsMidway, but_doomed, cycles_among, victims_among};
+ghost use Rattle.laws_calls.specs.Shapes.{ForItsTxn, IsLackOfRoom, rollback_of};
+ghost use Rattle.laws_calls.specs.States.{IsOfSession, State, Waiting};
+ghost use Rattle.shore_world.specs.declared.event.Event.TheVariants as event;
 ghost use Rattle.shore_world.specs.declared.event.Event.{Event};
 ghost use Rattle.shore_world.specs.declared.world.World.{World};
 ghost use Rattle.shore_world.specs.Events.{IsServedEvent};
 ghost use Rattle.shore_world.specs.Exchanges.{exchanges_in, exchanges_of, waited_after};
 ghost use Rattle.shore_world.specs.Lives.{DumpsShow};
-ghost use Rattle.shore_world.specs.Promises.{AreUnended, IsManagerOf};
-ghost use Rattle.shore_world.specs.Worlds.{Runs, list_in, requests_in};
+ghost use Rattle.shore_world.specs.Promises.{AreStatesOf, AreUnended, IsManagerOf, IsStateOf};
+ghost use Rattle.shore_world.specs.Worlds.{Runs, Steps, durable_in, geometry_in, list_in, requests_in};
 
 use shore_disk::Disk;
 
@@ -49,4 +68,77 @@ pub fn histories_are_sound<L: Disk, V: Disk>()
 pub fn records_are_in_place<L: Disk, V: Disk>()
     ensures { (w : World L V L.Disk V.Disk) (o : Records) (es : List Entry) (ws : List (ℕ × Call)) → IsManagerOf w o es ws →
         (ts : List ℕ) × AreUnended es ts × DumpsShow w (overlays (serial_after o es) (map (logged_writes (list_in w)) ts)) }
+{}
+
+/// Undo is never refused: neither an abort nor a way back is refused by `StoreFull`, `LogFull`, `LockTableFull` or as a victim.
+pub fn undo_is_never_refused<L: Disk, V: Disk>()
+    ensures { (w new : World L V L.Disk V.Disk) (o : Records) (es : List Entry) (ws : List (ℕ × Call)) (session : ℕ) (c : Call) (r : Rollback) (f : Fault) →
+        IsManagerOf w o es ws → IsServed c → Steps w (event.Call session c) (Refused f) new → rollback_of c ≡ Some r → IsLackOfRoom f → ⊥ }
+{}
+
+/// Refusals are earned: `EarnsRefusal` says for each fault what its cause is, in the state in which the call asked last (`AsksIn`, `AsksAgainIn`): the one
+/// that can be seen before the event, or one that victims have left in the midst of it. A `Deadlock` is told with a cycle of waits that stood within
+/// this very event, or was to be told before. `Memory` has its cause outside; of `Device`, `Damaged` and `NeedForce` the clauses `cause`, `damaged` and
+/// `unforced` of `World::step` say more.
+pub fn refusals_are_earned<L: Disk, V: Disk>()
+    ensures call { (w new : World L V L.Disk V.Disk) (o : Records) (es : List Entry) (ws : List (ℕ × Call)) (session : ℕ) (c : Call) (f : Fault) →
+        IsManagerOf w o es ws → IsServed c → Steps w (event.Call session c) (Refused f) new → ((cycle : List ℕ) → f ≢ Deadlock cycle) → f ≢ Memory →
+        (s : State) × IsStateOf w s × ((last : State) × AsksIn (geometry_in w) s session c last × EarnsRefusal (geometry_in w) last session c f) }
+    ensures resume { (w new : World L V L.Disk V.Disk) (o : Records) (es : List Entry) (ws : List (ℕ × Call)) (session : ℕ) (f : Fault) →
+        IsManagerOf w o es ws → Steps w (event.Resume session) (Refused f) new → ((cycle : List ℕ) → f ≢ Deadlock cycle) → f ≢ Memory →
+        (s : State) × IsStateOf w s × ((waited : Waiting) × IsAmong waited s.waiting × (waited.session ≡ session) × ((IsTrue s.failed × (f ≡ Failed))
+        ⊎ ((last : State) × AsksAgainIn (geometry_in w) s session last × EarnsRefusal (geometry_in w) last session waited.call f))) }
+    ensures victim { (w new : World L V L.Disk V.Disk) (o : Records) (es : List Entry) (ws : List (ℕ × Call)) (session : ℕ) (c : Call) (cycle : List ℕ) →
+        IsManagerOf w o es ws → IsServed c → Steps w (event.Call session c) (Refused (Deadlock cycle)) new →
+        (s : State) × IsStateOf w s × ((between : List Interlude) × (mid : State) × IsMidway (geometry_in w) s session c between mid × IsItsCycle mid session cycle) }
+    ensures told { (w new : World L V L.Disk V.Disk) (o : Records) (es : List Entry) (ws : List (ℕ × Call)) (session : ℕ) (cycle : List ℕ) →
+        IsManagerOf w o es ws → Steps w (event.Resume session) (Refused (Deadlock cycle)) new →
+        (s : State) × IsStateOf w s × (((waited : Waiting) × IsAmong waited s.waiting × (waited.session ≡ session) × (waited.cycle ≡ Some cycle))
+        ⊎ ((between : List Interlude) × (mid : State) × Intervene (geometry_in w) session s between mid × IsItsCycle mid session cycle)) }
+{}
+
+/// A refused call, but for a rollback, and a refused resume leave all as it was, but for locks, the calls that wait, and the transactions that were taken as
+/// victims on the way, which are doomed.
+pub fn refused_calls_change_locks_and_victims_alone<L: Disk, V: Disk>()
+    ensures call { (w new : World L V L.Disk V.Disk) (o : Records) (es : List Entry) (ws : List (ℕ × Call)) (session : ℕ) (c : Call) (f : Fault) →
+        IsManagerOf w o es ws → IsServed c → Steps w (event.Call session c) (Refused f) new → rollback_of c ≡ None →
+        (s : State) × (later : State) × AreStatesOf w s new later
+        × ((between : List Interlude) × ((between ≡ []) ⊎ ((mid : State) × IsMidway (geometry_in w) s session c between mid)) × (later ≡ but_doomed s (victims_among between) later)) }
+    ensures resume { (w new : World L V L.Disk V.Disk) (o : Records) (es : List Entry) (ws : List (ℕ × Call)) (session : ℕ) (f : Fault) →
+        IsManagerOf w o es ws → Steps w (event.Resume session) (Refused f) new →
+        (s : State) × (later : State) × AreStatesOf w s new later
+        × ((between : List Interlude) × ((mid : State) × Intervene (geometry_in w) session s between mid) × (later ≡ but_doomed s (victims_among between) later)) }
+{}
+
+/// Waits are true: who waits for a lock has a request that waits at that very granule. Only a commit waits for a record: for its own, the last of the log,
+/// which is not durable then.
+pub fn waits_are_true<L: Disk, V: Disk>()
+    ensures lock { (w new : World L V L.Disk V.Disk) (o : Records) (es : List Entry) (ws : List (ℕ × Call)) (session : ℕ) (c : Call) (at : Granule) →
+        IsManagerOf w o es ws → IsServed c → Steps w (event.Call session c) (Waits (Lock at)) new →
+        (later : State) × IsStateOf new later × HasItsWait later session at }
+    ensures resumed { (w new : World L V L.Disk V.Disk) (o : Records) (es : List Entry) (ws : List (ℕ × Call)) (session : ℕ) (at : Granule) →
+        IsManagerOf w o es ws → Steps w (event.Resume session) (Waits (Lock at)) new →
+        (later : State) × IsStateOf new later × HasItsWait later session at }
+    ensures record_of { (w new : World L V L.Disk V.Disk) (o : Records) (es : List Entry) (ws : List (ℕ × Call)) (session n : ℕ) (c : Call) →
+        IsManagerOf w o es ws → IsServed c → Steps w (event.Call session c) (Waits (Durable n)) new →
+        (c ≡ Commit) × (n ≡ 1 + length (list_in w)) × (durable_in new < n) }
+{}
+
+/// Locks only as asked: by a call the requests stay; or an abort is answered, and all of its transaction's go; or they change as the call asks, whatever victims
+/// were taken on the way (`ChangesLocks`). So it is by a resume, for the call that waited; or a commit is answered, and all of its transaction's go.
+pub fn locks_change_only_as_asked<L: Disk, V: Disk>()
+    ensures call { (w new : World L V L.Disk V.Disk) (o : Records) (es : List Entry) (ws : List (ℕ × Call)) (session : ℕ) (c : Call) (step : Step) →
+        IsManagerOf w o es ws → IsServed c → Steps w (event.Call session c) step new →
+        (s : State) × (later : State) × AreStatesOf w s new later × ((later.locks.requests ≡ s.locks.requests)
+        ⊎ (((c ≡ Abort) × (step ≡ Done Aborted) × ((a : SessionTxn) × IsOfSession s session a × (later.locks.requests ≡ released a.txn s.locks.requests)))
+        ⊎ ((a : SessionTxn) × IsOfSession s session a × ((between : List Interlude) × ((between ≡ []) ⊎ ((mid : State) × IsMidway (geometry_in w) s session c between mid))
+        × ChangesLocks s.locks.requests a.txn c (cycles_among between) later.locks.requests)))) }
+    ensures resume { (w new : World L V L.Disk V.Disk) (o : Records) (es : List Entry) (ws : List (ℕ × Call)) (session : ℕ) (step : Step) →
+        IsManagerOf w o es ws → Steps w (event.Resume session) step new →
+        (s : State) × (later : State) × AreStatesOf w s new later × (ForItsTxn s session (λ a. is_waiting a.txn s.locks.requests ≡ false) →
+        (later.locks.requests ≡ s.locks.requests)
+        ⊎ (((step ≡ Done Committed) × ((a : SessionTxn) × IsAmong a s.sessions.committing × (a.session ≡ session) × (later.locks.requests ≡ released a.txn s.locks.requests)))
+        ⊎ ((waited : Waiting) × IsAmong waited s.waiting × (waited.session ≡ session) × ((a : SessionTxn) × IsOfSession s session a
+        × ((between : List Interlude) × ((mid : State) × Intervene (geometry_in w) session s between mid)
+        × ChangesLocks s.locks.requests a.txn waited.call (cycles_among between) later.locks.requests))))) }
 {}

@@ -1,13 +1,13 @@
 use Rattle.std.proofs.Common.{sym, subst}
 use Rattle.shore_model.specs.Locks.{WellRooted}
-use Rattle.shore_path.proofs.Intentions.{well_rooted}
+use Rattle.laws_calls.proofs.Rooted.{stay_rooted}
 use Rattle.laws_calls.proofs.laws.locks_stay_in_harmony.Goals as goal
 
 pub returns-clause-held : goal.returns-clause-held
 returns-clause-held d found es s k = k.sessions.locks.held
 
 pub returns-clause-rooted : goal.returns-clause-rooted
-returns-clause-rooted d found es s k = subst WellRooted (sym k.sessions.locks.held) (well_rooted s.locks.requests k.sessions.locks.rooted)
+returns-clause-rooted d found es s k = stay_rooted found es s k
 
 pub returns-clause-harmony : goal.returns-clause-harmony
 returns-clause-harmony d found es s k = k.sessions.sound.stand.harmony
