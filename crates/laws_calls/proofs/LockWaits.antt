@@ -1,9 +1,11 @@
--- A call that waits for a lock was not to be refused before it asked, whatever happens.
+-- What holds of a call that begins to wait holds of each call that waits, whatever happens: as that a call which waits for a lock was not to be refused
+-- before it asked.
 use Rattle.std.proofs.Common.{◌≡◌, inl, inr, ⊎_elim, ℕ, List, [], ◌∷◌, Bool, true, false, Some, refl, sym, ap, subst, ◌∙◌, cond}
 use Rattle.std.specs.Prelude.{◌==◌, not}
 use Rattle.shore_types.specs.declared.layout.Geometry.{Geometry}
 use Rattle.shore_types.specs.declared.locking.Granule.{Granule}
 use Rattle.shore_model.specs.declared.calls.Call.{Call}
+use Rattle.shore_model.specs.declared.calls.Call.TheVariants as call
 use Rattle.shore_model.specs.declared.log_records.LogRecord.{LogRecord}
 use Rattle.shore_cycles.specs.declared.victims.Victim.{Victim}
 use Rattle.shore_model.specs.declared.rollbacks.Rollback.TheVariants.{Whole}
@@ -21,7 +23,7 @@ use Rattle.laws_calls.specs.CallHistories.{IsOpened}
 use Rattle.laws_calls.specs.Events.{Called, Forced, HasFailed, ManagerEvent, Resumed, EventMoves, EventsMove}
 use Rattle.laws_calls.specs.StateChanges.{commit_waiting, wait_refused}
 use Rattle.laws_calls.specs.CallSteps.{AbortStep, BeginStep, CommitStep, CallGoesOn, InnerStep, MayAsk, ResumesWait, CallStep, ResumeStep, behind_lock, lock_waiting}
-use Rattle.laws_calls.specs.Settling.{SettledResume, Settles}
+use Rattle.laws_calls.specs.Settling.{SettledCall, SettledResume, Settles}
 use Rattle.laws_calls.specs.Shapes.{LockWaitsMayAsk}
 use Rattle.laws_calls.specs.States.{State, Waiting, next_number, without_waiting}
 use Rattle.laws_calls.specs.Victims.{TakesVictim, TakesVictims, TellsVictim, with_cycle}
@@ -40,92 +42,103 @@ was_waiting n (x ∷ ws) w there = by (x.session == n) (λ later. was_waiting n 
 record WaitedSo (w : Waiting) (ws : List Waiting) : Type 0 where
   was : Waiting
   there : IsAmong was ws
+  of : was.session ≡ w.session
   its : was.call ≡ w.call
   wait : was.wait ≡ w.wait
 
 waited_so : (n : ℕ) (cycle : List ℕ) (ws : List Waiting) (w : Waiting) → IsAmong w (with_cycle n cycle ws) → WaitedSo w ws
 waited_so n cycle [] w there = absurd there
-waited_so n cycle (x ∷ ws) w there = by (x.session == n) (λ later. let h = waited_so n cycle ws w later in record { was = h.was; there = inr h.there; its = h.its; wait = h.wait }) there
+waited_so n cycle (x ∷ ws) w there = by (x.session == n) (λ later. let h = waited_so n cycle ws w later in record { was = h.was; there = inr h.there; of = h.of; its = h.its; wait = h.wait }) there
   where
     by : (b : Bool) → (IsAmong w (with_cycle n cycle ws) → WaitedSo w (x ∷ ws))
         → IsAmong w (cond b (record { session = x.session; call = x.call; wait = x.wait; cycle = Some cycle }) x ∷ with_cycle n cycle ws) → WaitedSo w (x ∷ ws)
-    by true rest (inl same) = record { was = x; there = inl refl; its = ap (λ (v : Waiting). v.call) same; wait = ap (λ (v : Waiting). v.wait) same }
+    by true rest (inl same) = record { was = x; there = inl refl; of = ap (λ (v : Waiting). v.session) same; its = ap (λ (v : Waiting). v.call) same; wait = ap (λ (v : Waiting). v.wait) same }
     by true rest (inr later) = rest later
-    by false rest (inl same) = record { was = x; there = inl refl; its = ap (λ (v : Waiting). v.call) same; wait = ap (λ (v : Waiting). v.wait) same }
+    by false rest (inl same) = record { was = x; there = inl refl; of = ap (λ (v : Waiting). v.session) same; its = ap (λ (v : Waiting). v.call) same; wait = ap (λ (v : Waiting). v.wait) same }
     by false rest (inr later) = rest later
 
-module _ (g : Geometry) where
+-- what has to hold of a session, its call, and what that waits for, holds of each call that waits
+abbrev pub WaitsHave : (ℕ → Call → Wait → Type 0) → State → Type 0
+WaitsHave P s = (w : Waiting) → IsAmong w s.waiting → P w.session w.call w.wait
+
+-- .. and of this call of a session, if it begins to wait
+pub record MayWait (g : Geometry) (P : ℕ → Call → Wait → Type 0) (session : ℕ) (c : Call) : Type 0 where
+  pub locks : (at : Granule) → MayAsk g c → P session c (Lock at)
+  pub commits : (n : ℕ) → c ≡ call.Commit → P session c (Durable n)
+
+module _ (g : Geometry) (P : ℕ → Call → Wait → Type 0) (moves : (session : ℕ) (c : Call) (at later : Granule) → P session c (Lock at) → P session c (Lock later)) where
   -- the same calls wait
-  as_before : (s new : State) → new.waiting ≡ s.waiting → LockWaitsMayAsk g s → LockWaitsMayAsk g new
+  as_before : (s new : State) → new.waiting ≡ s.waiting → WaitsHave P s → WaitsHave P new
   as_before s new is k w there = k w (subst (IsAmong w) is there)
 
   -- but for a session's
-  but_one : (s new : State) (n : ℕ) → new.waiting ≡ without_waiting n s.waiting → LockWaitsMayAsk g s → LockWaitsMayAsk g new
+  but_one : (s new : State) (n : ℕ) → new.waiting ≡ without_waiting n s.waiting → WaitsHave P s → WaitsHave P new
   but_one s new n is k w there = k w (was_waiting n s.waiting w (subst (IsAmong w) is there))
 
   -- and one more
-  and_one : (s new : State) (v : Waiting) → new.waiting ≡ v ∷ s.waiting → ((at : Granule) → v.wait ≡ Lock at → MayAsk g v.call) → LockWaitsMayAsk g s → LockWaitsMayAsk g new
+  and_one : (s new : State) (v : Waiting) → new.waiting ≡ v ∷ s.waiting → P v.session v.call v.wait → WaitsHave P s → WaitsHave P new
   and_one s new v is asks k w there = by (subst (IsAmong w) is there)
     where
-      by : IsAmong w (v ∷ s.waiting) → (at : Granule) → w.wait ≡ Lock at → MayAsk g w.call
-      by (inl same) at e = subst (λ (x : Waiting). MayAsk g x.call) same (asks at (ap (λ (x : Waiting). x.wait) same ∙ e))
-      by (inr later) at e = k w later at e
+      by : IsAmong w (v ∷ s.waiting) → P w.session w.call w.wait
+      by (inl same) = subst (λ (x : Waiting). P x.session x.call x.wait) same asks
+      by (inr later) = k w later
 
-  goes_on : (s new : State) (a : SessionTxn) (c : Call) → MayAsk g c → (step : Step) → CallGoesOn g s a c step new → LockWaitsMayAsk g s → LockWaitsMayAsk g new
+  goes_on : (s new : State) (a : SessionTxn) (c : Call) → ((at : Granule) → P a.session c (Lock at)) → (step : Step) → CallGoesOn g s a c step new → WaitsHave P s → WaitsHave P new
   goes_on s new a c may (Done answer) h =
       let t = answered_from g s a c new answer h in as_before s new (answers_wait g (behind_lock s a c t.lock) a new c answer t.behind)
-  goes_on s new a c may (Waits wait) h = and_one s new (lock_waiting a c h.1) (ap (λ (s : State). s.waiting) h.5) (λ at e. may)
+  goes_on s new a c may (Waits wait) h = and_one s new (lock_waiting a c h.1) (ap (λ (s : State). s.waiting) h.5) (may h.1)
   goes_on s new a c may (Refused f) h = as_before s new (ap (λ (s : State). s.waiting) (goes_leaves g s new a c f h))
   goes_on s new a c may Nothing h = absurd h
 
-  begins : (s new : State) (session : ℕ) (step : Step) → BeginStep s session step new → LockWaitsMayAsk g s → LockWaitsMayAsk g new
+  begins : (s new : State) (session : ℕ) (step : Step) → BeginStep s session step new → WaitsHave P s → WaitsHave P new
   begins s new session (Done answer) h = as_before s new (ap (λ (s : State). s.waiting) h.4)
   begins s new session (Refused f) h = as_before s new (ap (λ (s : State). s.waiting) h.1)
   begins s new session (Waits wait) h = absurd h
   begins s new session Nothing h = absurd h
 
-  commits : (s new : State) (a : SessionTxn) (step : Step) → CommitStep s a step new → LockWaitsMayAsk g s → LockWaitsMayAsk g new
-  commits s new a (Waits wait) h =
-      and_one s new (commit_waiting a.session (next_number s)) (ap (λ (s : State). s.waiting) h.1) (λ at e. absurd (durable_no_lock (next_number s) at e))
-  commits s new a (Done answer) h = absurd h
-  commits s new a (Refused f) h = absurd h
-  commits s new a Nothing h = absurd h
+  commits : (s new : State) (a : SessionTxn) → ((n : ℕ) → P a.session call.Commit (Durable n)) → (step : Step) → CommitStep s a step new → WaitsHave P s → WaitsHave P new
+  commits s new a may (Waits wait) h = and_one s new (commit_waiting a.session (next_number s)) (ap (λ (s : State). s.waiting) h.1) (may (next_number s))
+  commits s new a may (Done answer) h = absurd h
+  commits s new a may (Refused f) h = absurd h
+  commits s new a may Nothing h = absurd h
 
-  aborts : (s new : State) (a : SessionTxn) (step : Step) → AbortStep s a step new → LockWaitsMayAsk g s → LockWaitsMayAsk g new
+  aborts : (s new : State) (a : SessionTxn) (step : Step) → AbortStep s a step new → WaitsHave P s → WaitsHave P new
   aborts s new a (Done answer) h = as_before s new (ap (λ (s : State). s.waiting) h.1)
   aborts s new a (Refused f) h = as_before s new (interrupted_table s a Whole f new h).waiting
   aborts s new a (Waits wait) h = absurd h
   aborts s new a Nothing h = absurd h
 
-  inner : (s new : State) (a : SessionTxn) (c : Call) (step : Step) → InnerStep g s a c step new → LockWaitsMayAsk g s → LockWaitsMayAsk g new
-  inner s new a c step (inl h) = as_before s new (ap (λ (s : State). s.waiting) h.3)
-  inner s new a c step (inr (inl (whole, inl h))) = as_before s new (ap (λ (s : State). s.waiting) h.3)
-  inner s new a c step (inr (inl (whole, inr (inl h)))) = goes_on s new a c h.0 step h.1
-  inner s new a c step (inr (inl (whole, inr (inr (inl h))))) = commits s new a step h.1
-  inner s new a c step (inr (inl (whole, inr (inr (inr h))))) = as_before s new (savepoint_table s a step new h.1).waiting
-  inner s new a c step (inr (inr (inl h))) = as_before s new (back_table s a h.0 step new h.3).waiting
-  inner s new a c step (inr (inr (inr h))) = aborts s new a step h.1
+  inner : (s new : State) (a : SessionTxn) (c : Call) → MayWait g P a.session c → (step : Step) → InnerStep g s a c step new → WaitsHave P s → WaitsHave P new
+  inner s new a c may step (inl h) = as_before s new (ap (λ (s : State). s.waiting) h.3)
+  inner s new a c may step (inr (inl (whole, inl h))) = as_before s new (ap (λ (s : State). s.waiting) h.3)
+  inner s new a c may step (inr (inl (whole, inr (inl h)))) = goes_on s new a c (λ at. may.locks at h.0) step h.1
+  inner s new a c may step (inr (inl (whole, inr (inr (inl h))))) = commits s new a (λ n. subst (λ (x : Call). P a.session x (Durable n)) h.0 (may.commits n h.0)) step h.1
+  inner s new a c may step (inr (inl (whole, inr (inr (inr h))))) = as_before s new (savepoint_table s a step new h.1).waiting
+  inner s new a c may step (inr (inr (inl h))) = as_before s new (back_table s a h.0 step new h.3).waiting
+  inner s new a c may step (inr (inr (inr h))) = aborts s new a step h.1
 
-  called : (s new : State) (session : ℕ) (c : Call) (step : Step) → CallStep g s session c step new → LockWaitsMayAsk g s → LockWaitsMayAsk g new
-  called s new session c step (inl h) = as_before s new (ap (λ (s : State). s.waiting) h.1)
-  called s new session c step (inr (inl h)) = as_before s new (ap (λ (s : State). s.waiting) h.2)
-  called s new session c step (inr (inr (inl h))) = as_before s new (ap (λ (s : State). s.waiting) h.3)
-  called s new session c step (inr (inr (inr (inl h)))) = begins s new session step h.3
-  called s new session c step (inr (inr (inr (inr (inl h))))) = as_before s new (ap (λ (s : State). s.waiting) h.5)
-  called s new session c step (inr (inr (inr (inr (inr h))))) =
-      inner s new h.2.0 c step h.2.2
+  called : (s new : State) (session : ℕ) (c : Call) → MayWait g P session c → (step : Step) → CallStep g s session c step new → WaitsHave P s → WaitsHave P new
+  called s new session c may step (inl h) = as_before s new (ap (λ (s : State). s.waiting) h.1)
+  called s new session c may step (inr (inl h)) = as_before s new (ap (λ (s : State). s.waiting) h.2)
+  called s new session c may step (inr (inr (inl h))) = as_before s new (ap (λ (s : State). s.waiting) h.3)
+  called s new session c may step (inr (inr (inr (inl h)))) = begins s new session step h.3
+  called s new session c may step (inr (inr (inr (inr (inl h))))) = as_before s new (ap (λ (s : State). s.waiting) h.5)
+  called s new session c may step (inr (inr (inr (inr (inr h))))) =
+      inner s new h.2.0 c (subst (λ n. MayWait g P n c) (sym h.2.1.1) may) step h.2.2
 
   resumed : (s new : State) (w : Waiting) → IsAmong w s.waiting → (wait : Wait) → w.wait ≡ wait → (step : Step) → ResumesWait g s w wait step new
-      → LockWaitsMayAsk g s → LockWaitsMayAsk g new
+      → WaitsHave P s → WaitsHave P new
   resumed s new w there (Durable n) is step (inl h) k = as_before s new (ap (λ (s : State). s.waiting) h.2) k
   resumed s new w there (Durable n) is step (inr h) k = but_one s new h.2.0.session (ap (λ (s : State). s.waiting) h.2.3) k
   resumed s new w there (Lock at) is step h k =
       ⊎_elim
       (λ still. as_before s new (ap (λ (s : State). s.waiting) still.2) k)
-      (λ goes. goes_on (wait_refused s w.session) new h.0 w.call (k w there at is) step goes.1 (but_one s (wait_refused s w.session) w.session refl k))
+      (λ goes. goes_on (wait_refused s w.session) new h.0 w.call
+      (λ later. subst (λ n. P n w.call (Lock later)) (sym h.1.1) (moves w.session w.call at later (subst (P w.session w.call) is (k w there)))) step goes.1
+      (but_one s (wait_refused s w.session) w.session refl k))
       h.2
 
-  resumes : (s new : State) (session : ℕ) (step : Step) → ResumeStep g s session step new → LockWaitsMayAsk g s → LockWaitsMayAsk g new
+  resumes : (s new : State) (session : ℕ) (step : Step) → ResumeStep g s session step new → WaitsHave P s → WaitsHave P new
   resumes s new session step (inl h) k = as_before s new (ap (λ (s : State). s.waiting) h.2) k
   resumes s new session step (inr h) k =
       ⊎_elim
@@ -134,44 +147,73 @@ module _ (g : Geometry) where
       h.3
 
   -- victims, and rounds of them
-  victim : (s new : State) (t : ℕ) (v : Victim) → TakesVictim s t v new → LockWaitsMayAsk g s → LockWaitsMayAsk g new
-  victim s new t v h k w there at e =
+  victim : (s new : State) (t : ℕ) (v : Victim) → TakesVictim s t v new → WaitsHave P s → WaitsHave P new
+  victim s new t v h k w there =
       let was = waited_so h.txn.session v.cycle s.waiting w (subst (IsAmong w) (ap (λ (x : State). x.waiting) h.is) there) in
-      subst (MayAsk g) was.its (k was.was was.there at (was.wait ∙ e))
+      subst (λ n. P n w.call w.wait) was.of (subst (λ (c : Call). P was.was.session c w.wait) was.its (subst (P was.was.session was.was.call) was.wait (k was.was was.there)))
 
-  victims : (s new : State) (t : ℕ) (vs : List Victim) → TakesVictims s t vs new → LockWaitsMayAsk g s → LockWaitsMayAsk g new
-  victims s new t [] h k = subst (LockWaitsMayAsk g) (sym h) k
+  victims : (s new : State) (t : ℕ) (vs : List Victim) → TakesVictims s t vs new → WaitsHave P s → WaitsHave P new
+  victims s new t [] h k = subst (WaitsHave P) (sym h) k
   victims s new t (v ∷ vs) h k = victims h.0 new t vs h.2 (victim s h.0 t v h.1 k)
 
-  told : (s new : State) (session : ℕ) (step : Step) → TellsVictim s session step new → LockWaitsMayAsk g s → LockWaitsMayAsk g new
+  told : (s new : State) (session : ℕ) (step : Step) → TellsVictim s session step new → WaitsHave P s → WaitsHave P new
   told s new session step h = but_one s new session (ap (λ (x : State). x.waiting) h.is)
 
-  settles : (s new : State) (session : ℕ) (first : Step) (rounds : List (List Victim)) (step : Step) → Settles g s session first rounds step new → LockWaitsMayAsk g s → LockWaitsMayAsk g new
-  settles s new session first [] step h k = subst (LockWaitsMayAsk g) (sym h.2) k
+  settles : (s new : State) (session : ℕ) (first : Step) (rounds : List (List Victim)) (step : Step) → Settles g s session first rounds step new → WaitsHave P s → WaitsHave P new
+  settles s new session first [] step h k = subst (WaitsHave P) (sym h.2) k
   settles s new session first (vs ∷ rounds) step h k =
       let broken = victims s h.2 h.0.txn vs h.5 k in
       ⊎_elim
       (λ ends. ⊎_elim
-      (λ still. subst (LockWaitsMayAsk g) (sym still.3) broken)
+      (λ still. subst (WaitsHave P) (sym still.3) broken)
       (λ end. ⊎_elim (λ its. told h.2 new session step its broken) (λ back. but_one h.2 new h.0.session (ap (λ (x : State). x.waiting) back.1.1) broken) end)
       ends.1)
       (λ goes. settles goes.1 new session goes.0 rounds step goes.4 (resumes h.2 goes.1 session goes.0 goes.3 broken))
       h.6
 
-  settled : (s new : State) (session : ℕ) (step : Step) → SettledResume g s session step new → LockWaitsMayAsk g s → LockWaitsMayAsk g new
-  settled s new session step (inl h) k = told s new session step h k
-  settled s new session step (inr (inl h)) k = resumes s new session step h.0 k
-  settled s new session step (inr (inr h)) k = settles h.mid new session h.first h.rounds step h.settles (resumes s h.mid session h.first h.resumes k)
+  -- a call of a session as a whole, and a resume
+  pub settled_call_waits_on : (s new : State) (session : ℕ) (c : Call) → MayWait g P session c → (step : Step) → SettledCall g s session c step new → WaitsHave P s → WaitsHave P new
+  settled_call_waits_on s new session c may step h k = settles h.mid new session h.first h.rounds step h.settles (called s h.mid session c may h.first h.calls k)
 
-  event : (s new : State) (e : ManagerEvent) → EventMoves g s e new → LockWaitsMayAsk g s → LockWaitsMayAsk g new
-  event s new (Called session c step) h k = settles h.1.mid new session h.1.first h.1.rounds step h.1.settles (called s h.1.mid session c h.1.first h.1.calls k)
-  event s new (Resumed session step) h k = settled s new session step h k
-  event s new (Forced n) h k = as_before s new (ap (λ (s : State). s.waiting) h.2) k
-  event s new HasFailed h k = as_before s new (ap (λ (s : State). s.waiting) h) k
+  pub settled_resume_waits_on : (s new : State) (session : ℕ) (step : Step) → SettledResume g s session step new → WaitsHave P s → WaitsHave P new
+  settled_resume_waits_on s new session step (inl h) k = told s new session step h k
+  settled_resume_waits_on s new session step (inr (inl h)) k = resumes s new session step h.0 k
+  settled_resume_waits_on s new session step (inr (inr h)) k = settles h.mid new session h.first h.rounds step h.settles (resumes s h.mid session h.first h.resumes k)
+
+  -- an event of the manager
+  abbrev pub MayWaitIn : ManagerEvent → Type 0
+  MayWaitIn (Called session c step) = MayWait g P session c
+  MayWaitIn (Resumed session step) = Unit {0}
+  MayWaitIn (Forced n) = Unit {0}
+  MayWaitIn HasFailed = Unit {0}
+
+  pub event_waits_on : (s new : State) (e : ManagerEvent) → MayWaitIn e → EventMoves g s e new → WaitsHave P s → WaitsHave P new
+  event_waits_on s new (Called session c step) may h k = settled_call_waits_on s new session c may step h.1 k
+  event_waits_on s new (Resumed session step) may h k = settled_resume_waits_on s new session step h k
+  event_waits_on s new (Forced n) may h k = as_before s new (ap (λ (s : State). s.waiting) h.2) k
+  event_waits_on s new HasFailed may h k = as_before s new (ap (λ (s : State). s.waiting) h) k
+
+-- ---- a call that waits for a lock was not to be refused before it asked
+
+module _ (g : Geometry) where
+  abbrev asked_for : ℕ → Call → Wait → Type 0
+  asked_for session c wait = (at : Granule) → wait ≡ Lock at → MayAsk g c
+
+  same_call : (session : ℕ) (c : Call) (at later : Granule) → asked_for session c (Lock at) → asked_for session c (Lock later)
+  same_call session c at later asked other is = asked at refl
+
+  may : (session : ℕ) (c : Call) → MayWait g asked_for session c
+  may session c = record { locks = λ at may other is. may; commits = λ n is at e. absurd (durable_no_lock n at e) }
+
+  may_in : (e : ManagerEvent) → MayWaitIn g asked_for same_call e
+  may_in (Called session c step) = may session c
+  may_in (Resumed session step) = tt
+  may_in (Forced n) = tt
+  may_in HasFailed = tt
 
   pub waits_may_ask : (s last : State) (events : List ManagerEvent) → EventsMove g s events last → LockWaitsMayAsk g s → LockWaitsMayAsk g last
   waits_may_ask s last [] h k = subst (LockWaitsMayAsk g) (sym h) k
-  waits_may_ask s last (e ∷ events) h k = waits_may_ask h.0 last events h.2 (event s h.0 e h.1 k)
+  waits_may_ask s last (e ∷ events) h k = waits_may_ask h.0 last events h.2 (event_waits_on g asked_for same_call s h.0 e (may_in e) h.1 k)
 
   pub opened_may_ask : (found : List LogRecord) (s : State) → IsOpened found s → LockWaitsMayAsk g s
   opened_may_ask found s h w there = absurd (subst (IsAmong w) h.waiting there)

@@ -43,7 +43,7 @@ quiet_free rs t each quiet cycle closed =
 cancelled_each : (rs : List Request) (t u : ℕ) → IsOrderly rs → IsOnEachCycle rs t → IsOnEachCycle (cancelled u rs) t
 cancelled_each rs t u orderly each cycle closed = each cycle (cycle_as (cancelled u rs) rs cycle (λ a b in_a in_b h. cancelled_adds_none rs u a b orderly h) closed)
 
-none_in_none : (rs : List Request) → rs ≡ [] → HasNoCycle rs
+pub none_in_none : (rs : List Request) → rs ≡ [] → HasNoCycle rs
 none_in_none rs none [] closed = closed
 none_in_none rs none (u ∷ us) closed =
     let next = member_waits rs (u ∷ us) u closed (inl refl) in

@@ -245,7 +245,7 @@ module _ (g : Geometry) (found : List LogRecord) (es : List Entry) (s : State) (
     pub settled_call_fails : (f : Fault) → SettledCall g s session c (Refused f) new → Fails f new
     settled_call_fails f h = fails_in (Refused f) h.first h.mid h.calls h.rounds h.settles f refl
 
-    idle_in : (step first : Step) (mid : State) → ((f : Fault) → step ≢ Refused f) → CallStep g s session c first mid → (rounds : List (List Victim)) → Settles g mid session first rounds step new
+    pub idle_in : (step first : Step) (mid : State) → ((f : Fault) → step ≢ Refused f) → CallStep g s session c first mid → (rounds : List (List Victim)) → Settles g mid session first rounds step new
         → DoesNotWait s session
     idle_in step first mid taken calls [] h = idle_before g s mid session c first (λ f refused. taken f (h.1 ∙ refused)) calls
     idle_in step first mid taken calls (vs ∷ rounds) h =

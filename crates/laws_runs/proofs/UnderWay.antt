@@ -19,6 +19,8 @@ use Rattle.laws_lives.proofs.Works.{all_work}
 use Rattle.laws_lives.specs.Stretches.{MayBeFound}
 use Rattle.laws_lives.specs.WholeLogs.{HasNoPrepare}
 use Rattle.laws_calls.proofs.LockWaits.{waits_may_ask}
+use Rattle.laws_calls.proofs.SettledCycles.{events_free, none_in_none}
+use Rattle.laws_calls.specs.Events.{EventsMove}
 use Rattle.laws_calls.specs.Shapes.{LockWaitsMayAsk}
 use Rattle.laws_calls.specs.States.{State}
 use Rattle.laws_runs.proofs.Runs.{events_come, opened}
@@ -73,6 +75,7 @@ module _ (g : Geometry) (stream_bytes : ℕ) (s : RecoveryState) (f : MayBeFound
       record {
         state = opened g s f no_run is_no_run;
         asks = λ w there. absurd (subst (IsAmong w) opens.waiting there);
+        no_cycle = none_in_none first.locks.requests opens.locks;
         stored = opens.stored;
         roomy = opens_roomy g stream_bytes ready.log first from (whole_roomy g stream_bytes ready.durable ready.log room);
         leaves = opens_leaving g stream_bytes ready.log first from first.durable (subst (λ n. AreRoomy g stream_bytes n ready.log) opens.stored.durable room) (undone_lawful s.log restarted.1.turns ready.log restarted.1.undone f.lawful) no_losers;
@@ -108,6 +111,13 @@ moves_ask : (g : Geometry) (m : StoredState) (events : List StoredEvent) (last :
 moves_ask g m [] last made k h = subst (λ (x : StoredState). LockWaitsMayAsk g x.state) (sym h.0) k
 moves_ask g m (e ∷ events) last made k h = moves_ask g h.0 events last h.1 (step_asks g m e h.0 k h.2) h.3
 
+-- without its store
+pub plain_moves : (g : Geometry) (m : StoredState) (events : List StoredEvent) (last : StoredState) (made : List Entry) → StoredMoves g m events last made
+    → EventsMove g m.state (managed events) last.state
+plain_moves g m [] last made h = ap (λ (x : StoredState). x.state) h.0
+plain_moves g m (Manage e works ∷ events) last made h = (h.0.state, h.2.0, plain_moves g h.0 events last h.1 h.3)
+plain_moves g m (Tend works ∷ events) last made h = subst (λ (s : State). EventsMove g s (managed events) last.state) h.2.0 (plain_moves g h.0 events last h.1 h.3)
+
 module _ (g : Geometry) (stream_bytes : ℕ) (found : List LogRecord) where
   pub moves_under_way : (es : List Entry) (m : StoredState) (events : List StoredEvent) (last : StoredState) (made : List Entry) → IsUnderWay g stream_bytes found es m
       → StoredMoves g m events last made → IsUnderWay g stream_bytes found (es ++ made) last
@@ -118,6 +128,7 @@ module _ (g : Geometry) (stream_bytes : ℕ) (found : List LogRecord) where
       record {
         state = come.state;
         asks = moves_ask g m events last made k.asks h;
+        no_cycle = events_free g found es m.state (managed events) last.state k.state k.no_cycle (plain_moves g m events last made h);
         stored = come.stored;
         roomy = room.0;
         leaves = room.1;

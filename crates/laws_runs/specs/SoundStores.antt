@@ -4,6 +4,7 @@ use Rattle.shore_types.specs.declared.layout.Geometry.{Geometry}
 use Rattle.shore_model.specs.declared.histories.Entry.{Entry}
 use Rattle.shore_model.specs.declared.log_records.LogRecord.{LogRecord}
 use Rattle.shore_model.specs.Logs.{Lawful}
+use Rattle.shore_model.specs.Requests.{HasNoCycle}
 use Rattle.laws_lives.specs.Pages.{AreAsOfOwnNumbers, LoggedPages}
 use Rattle.laws_lives.specs.Recovery.{CrashMayLeave, IsRecoverable, RecoveryState}
 use Rattle.laws_lives.specs.WholeLogs.{HasNoPrepare}
@@ -39,10 +40,11 @@ pub record IsLost (s : RecoveryState) (survive : ℕ) (pages : LoggedPages) : Ty
   pub shows : CrashMayLeave s pages
 
 -- A manager under way over its store, these entries after its restart found this log: it is in a state after its calls, its calls that wait for locks
--- may ask for them, and there is room on pages and in the log; the store has its log, and every record of it is done on its page.
+-- may ask for them and wait in no cycle, and there is room on pages and in the log; the store has its log, and every record of it is done on its page.
 pub record IsUnderWay (g : Geometry) (stream_bytes : ℕ) (found : List LogRecord) (es : List Entry) (m : StoredState) : Type 0 where
   pub state : IsStateAfter found es m.state
   pub asks : LockWaitsMayAsk g m.state
+  pub no_cycle : HasNoCycle m.state.locks.requests
   pub stored : IsStored m.state m.store
   pub roomy : IsRoomyState m.state
   pub leaves : LeavesRoomyLogs g stream_bytes m.state

@@ -1,3 +1,4 @@
+pub mod Barriers
 pub mod Causes
 pub mod Fronts
 pub mod Pairs

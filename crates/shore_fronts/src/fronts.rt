@@ -3,11 +3,12 @@ ghost use Rattle.std.specs.Prelude.{◌≡◌, ◌⊎◌, ◌≤◌, ◌↔◌, 
 ghost use Rattle.shore_types.specs.Layout.{IsInLimits};
 ghost use Rattle.shore_types.specs.declared.layout.Geometry.{Geometry};
 ghost use Rattle.shore_disk.specs.Cause.{HasCause};
-ghost use Rattle.shore_disk.specs.Device.{size, seen, noted, synced};
+ghost use Rattle.shore_disk.specs.Device.{size, seen};
 ghost use Rattle.shore_gate.specs.Checks.{IsFromOutside};
 ghost use Rattle.shore_gate.specs.Anchor as anchors;
 ghost use Rattle.shore_gate.specs.Anchor.{Counts, offset_of};
 ghost use Rattle.shore_gate.specs.declared.anchors.Slot.{Slot};
+ghost use Rattle.shore_fronts.specs.Barriers.{IsBeforeBarrier, IsBehindBarrier};
 ghost use Rattle.shore_fronts.specs.Causes.{HasCauseOfPair};
 ghost use Rattle.shore_fronts.specs.Fronts.{IsLogLength, first_anchor, first_checked, is_first};
 ghost use Rattle.shore_fronts.specs.Pairs.{AreFronts, ArePaired, HaveFronts, RefusesFronts, RefusesLabels};
@@ -46,13 +47,11 @@ pub fn read_fronts<L: Disk, V: Disk>(
     ensures refused { IsTrue (L.is_honest log.old) → IsTrue (V.is_honest volume.old)
         → IfErr result (λ fault. IsFromOutside fault ⊎ RefusesFronts (L.history log.old) (V.history volume.old) fault) }
 
-    // Both have synced; at an error each has synced or has done nothing.
-    ensures log_synced { IsTrue (L.is_honest log.old) → OnOk result (L.history log.new ≡ noted (L.history log.old) synced) }
-    ensures volume_synced { IsTrue (V.is_honest volume.old) → OnOk result (V.history volume.new ≡ noted (V.history volume.old) synced) }
-    ensures log_still { IsTrue (L.is_honest log.old)
-        → OnErr result ((L.history log.new ≡ L.history log.old) ⊎ (L.history log.new ≡ noted (L.history log.old) synced)) }
-    ensures volume_still { IsTrue (V.is_honest volume.old)
-        → OnErr result ((V.history volume.new ≡ V.history volume.old) ⊎ (V.history volume.new ≡ noted (V.history volume.old) synced)) }
+    // Then a crash leaves of both what is read, and nothing else; and at each moment of the call, also at an error, what it could have left before.
+    ensures log_behind { IsTrue (L.is_honest log.old) → OnOk result (IsBehindBarrier (L.history log.old) (L.history log.new)) }
+    ensures volume_behind { IsTrue (V.is_honest volume.old) → OnOk result (IsBehindBarrier (V.history volume.old) (V.history volume.new)) }
+    ensures log_before { IsTrue (L.is_honest log.old) → IsBeforeBarrier (L.history log.old) (L.history log.new) }
+    ensures volume_before { IsTrue (V.is_honest volume.old) → IsBeforeBarrier (V.history volume.old) (V.history volume.new) }
 
     ensures long { IfOk result (λ fronts. IsLogLength (size (L.history log.old)) × (size (V.history volume.old) ≡ volume_bytes fronts.geometry)) }
     ensures limits { IfOk result (λ fronts. IsInLimits fronts.geometry × (fronts.of_pages ≡ fronts.geometry)) }

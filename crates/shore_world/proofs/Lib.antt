@@ -16,3 +16,5 @@ pub mod ShownPages
 pub mod OpenPaths
 pub mod OpenedLemmas
 pub mod RestartNames
+pub mod ExchangeLemmas
+pub mod PromiseLemmas

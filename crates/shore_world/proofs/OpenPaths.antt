@@ -7,9 +7,9 @@ use Rattle.shore_types.specs.declared.faults.Device.TheVariants.{Volume}
 use Rattle.shore_types.specs.declared.faults.Fault.{Fault}
 use Rattle.shore_types.specs.declared.ids.PageId.{PageId}
 use Rattle.shore_types.specs.Layout.{HasPage}
-use Rattle.shore_disk.specs.Device.{History, LeavesOnly, Stands, may_leave, noted, seen, size, synced}
+use Rattle.shore_disk.specs.Device.{Call, History, LeavesOnly, LeftAfter, LeftSince, Stands, may_leave, moment, seen, size}
 use Rattle.shore_disk.specs.declared.device.Disk.{Ghosts}
-use Rattle.shore_disk.proofs.Moments.{at_end, joined, widened}
+use Rattle.shore_disk.proofs.Moments.{at_end, started, widened}
 use Rattle.shore_gate.specs.Label.{HoldsLabel}
 use Rattle.shore_model.specs.declared.log_records.LogRecord.{LogRecord}
 use Rattle.shore_frames.specs.Frames.{Gives}
@@ -26,10 +26,11 @@ use Rattle.shore_heap.specs.Heaps as heaps
 use Rattle.laws_lives.specs.Pages.{LoggedPages}
 use Rattle.laws_lives.specs.Recovery.{RecoveryState}
 use Rattle.laws_runs.specs.SoundStores.{found_state}
+use Rattle.shore_fronts.specs.Barriers.{IsBehindBarrier}
 use Rattle.shore_fronts.specs.Fronts.{HasFront}
 use Rattle.shore_fronts.specs.Pairs.{HaveFronts}
 use Rattle.shore_fronts.specs.Volumes.{volume_label}
-use Rattle.laws_images.specs.Moments.{GivesPrefix, Moment, Path, ShowsLeft}
+use Rattle.laws_images.specs.Moments.{GivesPrefix, IsLostAlong, Moment, Path, ShowsLeft}
 use Rattle.laws_images.specs.StandsFor.{StandsFor, begun_on}
 use Rattle.shore_gate.specs.Checks.{IsFromOutside}
 use Rattle.shore_types.specs.declared.faults.Fault.TheVariants as fault
@@ -40,13 +41,13 @@ use Rattle.shore_restart.specs.Turns.{IsBadRecord, LacksRoom}
 use Rattle.shore_world.proofs.RestartRefusals.{refused_from_outside}
 use Rattle.shore_world.proofs.ShownPages.{found_over, shown_by, texts_told, told_images}
 use Rattle.shore_restart.proofs.Paths.{path_on, step_log, step_volume}
-use Rattle.shore_world.specs.Opens.{OpensAlong}
-use Rattle.shore_world.proofs.WorldLemmas.{synced_only, synced_stands}
+use Rattle.shore_world.specs.Opens.{OpenWay, OpensAlong}
 
--- a device that is synced at most holds what it held
-pub still_stands : (old new : History) (image : List ℕ) → (new ≡ old) ⊎ (new ≡ noted old synced) → Stands old image → Stands new image
-still_stands old new image (inl same) stands = subst (λ (h : History). Stands h image) (sym same) stands
-still_stands old new image (inr is) stands = subst (Stands new) stands.read (synced_stands old new is)
+module _ (g : Geometry) (log volume : History) (rs : List LogRecord) (pages : LoggedPages) (log_behind volume_behind : History)
+    (barred : IsBehindBarrier log log_behind × IsBehindBarrier volume volume_behind) where
+  abbrev pub way_of : (moments : List Moment) (last : Moment) → Path g (take LOG_FRONT_BYTES (seen log)) (take GATE_AT (seen volume)) (begun_on log_behind volume_behind rs pages) moments last
+      → OpenWay g log volume rs pages
+  way_of moments last path = record { log_behind = log_behind; volume_behind = volume_behind; barriers = barred; moments = moments; last = last; path = path }
 
 module _ (g : Geometry) (log_bytes volume_bytes : ℕ) (rs : List LogRecord) (pages : LoggedPages) (log_image volume_image : List ℕ)
     (stood : StandsFor g log_bytes volume_bytes rs pages log_image volume_image) where
@@ -98,18 +99,16 @@ module _ (g : Geometry) (log_bytes volume_bytes : ℕ) (rs : List LogRecord) (pa
     abbrev pub first : Moment
     first = begun_on log volume rs pages
 
-    -- a device that is synced at most leaves what it was opened with
-    pub log_synced : (now : History) → (now ≡ log) ⊎ (now ≡ noted log synced) → LeavesOnly log now (GivesPrefix log_front s)
-    log_synced now is = widened log now (may_leave log) (GivesPrefix log_front s) (synced_only log now is) (λ c left. log_covered c (log_stands.only c left))
+    -- a device that was only read leaves what it was opened with
+    pub log_read : (now : History) → now ≡ log → LeavesOnly log now (GivesPrefix log_front s)
+    log_read now same = subst (λ (h : History). LeavesOnly log h (GivesPrefix log_front s)) (sym same) (started log (GivesPrefix log_front s) (λ c left. log_covered c (log_stands.only c left)))
 
-    pub volume_synced : (now : History) → (now ≡ volume) ⊎ (now ≡ noted volume synced) → LeavesOnly volume now (ShowsLeft g front s)
-    volume_synced now is = widened volume now (may_leave volume) (ShowsLeft g front s) (synced_only volume now is) (λ c left. volume_covered c (volume_stands.only c left))
+    pub volume_read : (now : History) → now ≡ volume → LeavesOnly volume now (ShowsLeft g front s)
+    volume_read now same = subst (λ (h : History). LeavesOnly volume h (ShowsLeft g front s)) (sym same) (started volume (ShowsLeft g front s) (λ c left. volume_covered c (volume_stands.only c left)))
 
     -- .. and so does a replay
-    pub volume_replayed : (mid now : History) → (mid ≡ volume) ⊎ (mid ≡ noted volume synced) → LeavesOnly mid now (ShowsBehind g front texts) → LeavesOnly volume now (ShowsLeft g front s)
-    volume_replayed mid now is replay =
-        joined volume mid now (ShowsLeft g front s) (volume_synced mid is)
-        (widened mid now (ShowsBehind g front texts) (ShowsLeft g front s) replay (λ c shows. (pages, (λ p. inl refl), (texts, shows, stood.volume.shows.2))))
+    pub volume_replayed : (now : History) → LeavesOnly volume now (ShowsBehind g front texts) → LeavesOnly volume now (ShowsLeft g front s)
+    volume_replayed now replay = widened volume now (ShowsBehind g front texts) (ShowsLeft g front s) replay (λ c shows. (pages, (λ p. inl refl), (texts, shows, stood.volume.shows.2)))
 
     -- where both devices stand then
     abbrev pub at : History → History → Moment
@@ -130,19 +129,6 @@ module _ (g : Geometry) (log_bytes volume_bytes : ℕ) (rs : List LogRecord) (pa
         → Path g log_front front first (at log_now volume ∷ at log_now volume_now ∷ moments) last
     way_on log_now volume_now of_log of_volume moments last on =
         path_on g log_front front first (at log_now volume ∷ at log_now volume_now ∷ []) (at log_now volume_now) moments last (way log_now volume_now of_log of_volume) on
-
-    -- an open that was refused before its restart, or by it
-    pub stopped : {L V : Type 0} {G : Ghosts L} {H : Ghosts V} (f : Fault) (log_now : L) (volume_now : V) → LeavesOnly log (G.history log_now) (GivesPrefix log_front s)
-        → LeavesOnly volume (H.history volume_now) (ShowsLeft g front s) → OpensAlong {L = L} {V = V} {G = G} {H = H} (Err (f, log_now, volume_now)) g log volume log_image volume_image rs pages
-    stopped {G = G} {H = H} f log_now volume_now of_log of_volume = record {
-      moments = at (G.history log_now) volume ∷ at (G.history log_now) (H.history volume_now) ∷ [];
-      last = at (G.history log_now) (H.history volume_now);
-      path = way (G.history log_now) (H.history volume_now) of_log of_volume;
-      of_log = refl;
-      of_volume = refl;
-      opened = tt;
-      undone = tt;
-    }
 
   -- ---- what a restart finds
 
@@ -165,3 +151,33 @@ module _ (g : Geometry) (log_bytes volume_bytes : ℕ) (rs : List LogRecord) (pa
       (λ n at. subst (λ (l : List LogRecord). IsBadRecord g l n) list (subst (λ (x : Geometry). IsBadRecord x (records_of_log log) n) geometry (bad n at)))
       (λ at. subst (λ (l : List LogRecord). LacksRoom l (log_bytes - LOG_FRONT_BYTES)) list (subst (λ n. LacksRoom (records_of_log log) (n - LOG_FRONT_BYTES)) long (room at)))
       page force memory on_page on_log
+
+-- ---- power lost at the end of a way
+
+-- now is one of the moments since any other
+now_since : (bytes : List ℕ) (calls : List Call) (t : ℕ) (c : List ℕ) → LeftAfter bytes calls c → LeftSince bytes calls t c
+now_since bytes [] t c left = left
+now_since bytes (call ∷ older) t c left = inl left
+
+pub lost_at_last : (g : Geometry) (of_log_front of_front : List ℕ) (begun : Moment) (moments : List Moment) (last : Moment) → Path g of_log_front of_front begun moments last → (c d : List ℕ)
+    → may_leave last.log c → may_leave last.volume d → IsLostAlong begun moments c d
+lost_at_last g log_f front_f begun [] last path c d of_log of_volume =
+    let log_left = subst (λ (m : Moment). may_leave m.log c) path.0 of_log in
+    let volume_left = subst (λ (m : Moment). may_leave m.volume d) path.0 of_volume in
+    (now_since begun.log.first begun.log.calls (moment begun.log) c log_left, now_since begun.volume.first begun.volume.calls (moment begun.volume) d volume_left)
+lost_at_last g log_f front_f begun (next ∷ later) last path c d of_log of_volume = inr (lost_at_last g log_f front_f next later last path.1 c d of_log of_volume)
+
+-- ---- an open that was refused behind its barriers, before its restart
+
+module _ (g : Geometry) (log volume : History) (rs : List LogRecord) (pages : LoggedPages)
+    (stood : StandsFor g (size log) (size volume) rs pages (seen log) (seen volume)) (log_behind volume_behind : History)
+    (barred : IsBehindBarrier log log_behind × IsBehindBarrier volume volume_behind) where
+  pub stopped : {L V : Type 0} (G : Ghosts L) (H : Ghosts V) (f : Fault) (log_now : L) (volume_now : V)
+      → LeavesOnly log_behind (G.history log_now) (GivesPrefix (take LOG_FRONT_BYTES (seen log)) (found_state rs pages))
+      → LeavesOnly volume_behind (H.history volume_now) (ShowsLeft g (take GATE_AT (seen volume)) (found_state rs pages))
+      → OpensAlong {L = L} {V = V} {G = G} {H = H} (Err (f, log_now, volume_now)) g log volume rs pages
+  stopped G H f log_now volume_now of_log of_volume =
+      let end : Moment = record { log = G.history log_now; volume = H.history volume_now; store = found_state rs pages } in
+      let mid : Moment = record { log = G.history log_now; volume = volume_behind; store = found_state rs pages } in
+      let path = way g (size log) (size volume) rs pages (seen log) (seen volume) stood log_behind volume_behind barred.0.stands barred.1.stands (G.history log_now) (H.history volume_now) of_log of_volume in
+      inr (way_of g log volume rs pages log_behind volume_behind barred (mid ∷ end ∷ []) end path, refl, refl)

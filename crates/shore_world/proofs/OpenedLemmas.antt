@@ -1,5 +1,5 @@
 -- The world that an open answers, by what its restart has left.
-use Rattle.std.proofs.Common.{◌≡◌, inl, ◌-◌, ◌≤◌, ℕ, List, [], length, refl}
+use Rattle.std.proofs.Common.{◌≡◌, inl, ◌-◌, ◌≤◌, ◌∙◌, ℕ, List, [], length, refl}
 use Rattle.shore_types.specs.declared.layout.Geometry.{Geometry}
 use Rattle.shore_types.specs.declared.layout.TheConstants.{LOG_FRONT_BYTES}
 use Rattle.shore_disk.specs.Device.{size}
@@ -16,7 +16,7 @@ use Rattle.laws_images.specs.Moments.{Moment, Path}
 use Rattle.laws_images.proofs.Paths.{path_restarts}
 use Rattle.shore_restart.specs.Opened.{OpensIn}
 use Rattle.shore_restart.specs.Standing.{IsAtRest}
-use Rattle.shore_core.specs.Cores.{heap_of}
+use Rattle.shore_core.specs.Cores.{heap_of, locks_of}
 use Rattle.shore_world.specs.Opens.{IsOpenedAt}
 use Rattle.shore_world.specs.declared.world.World.{World}
 use Rattle.shore_world.specs.Worlds.{geometry_in, history_in, volume_history_in}
@@ -29,8 +29,8 @@ module _ {L V : Type 0} {G : Ghosts L} {H : Ghosts V} (w : World L V G H) (g : G
 
   pub opened_at : (found : List LogRecord) (ready : RecoveryState) → geometry_in w ≡ g → ready.redone ≡ length ready.log → HasNoLosers ready.log → IsAtRest log_front w.log ready
       → (left : ℕ → List ℕ) → OpensIn w.core front left found (records_of_log w.log) (size (history_in w) - LOG_FRONT_BYTES) ready → IsRecoverable ready → IsRestartOf found ready
-      → IsOpenedAt w g log_front front (moment_in ready)
-  opened_at found ready geometry redone quiet rest left opens kept restart = record {
+      → locks_of w.core ≡ record { limit = g.max_locks; requests = [] } → IsOpenedAt w g log_front front (moment_in ready)
+  opened_at found ready geometry redone quiet rest left opens kept restart locks = record {
     geometry = geometry;
     histories = (refl, refl);
     redone = redone;
@@ -49,13 +49,15 @@ module _ {L V : Type 0} {G : Ghosts L} {H : Ghosts V} (w : World L V G H) (g : G
     };
     over = opens.opened;
     from = opened_over (size (history_in w) - LOG_FRONT_BYTES) found ready opens.first kept redone restart opens.opened opens.stream opens.counts opens.next;
+    locks = opens.is_in.beside.parts.stands.locks ∙ locks;
   }
 
   -- the way tells that the store is the found one, restarted
   pub opened_along : (first : Moment) (moments : List Moment) (ready : RecoveryState) → IsRecoverable first.store → length first.store.log ≤ first.store.durable
       → Path g log_front front first moments (moment_in ready) → geometry_in w ≡ g → ready.redone ≡ length ready.log → HasNoLosers ready.log → IsAtRest log_front w.log ready
-      → (left : ℕ → List ℕ) → OpensIn w.core front left first.store.log (records_of_log w.log) (size (history_in w) - LOG_FRONT_BYTES) ready → IsOpenedAt w g log_front front (moment_in ready)
-  opened_along first moments ready recoverable durable path geometry redone quiet rest left opens =
+      → (left : ℕ → List ℕ) → OpensIn w.core front left first.store.log (records_of_log w.log) (size (history_in w) - LOG_FRONT_BYTES) ready
+      → locks_of w.core ≡ record { limit = g.max_locks; requests = [] } → IsOpenedAt w g log_front front (moment_in ready)
+  opened_along first moments ready recoverable durable path geometry redone quiet rest left opens locks =
       let reached = path_restarts g log_front front first moments (moment_in ready) path in
       let come = events_restart first.store.log first.store reached.works ready recoverable (record { turns = []; undone = refl; durable = durable }) reached.restarts in
-      opened_at first.store.log ready geometry redone quiet rest left opens come.0 come.1
+      opened_at first.store.log ready geometry redone quiet rest left opens come.0 come.1 locks

@@ -146,6 +146,7 @@ no_force {G = G} old new e step other device report moves same flushed earned un
   forced = λ n is done. absurd (subst IsOfPages is other);
   idle = λ is nothing. absurd (subst IsOfPages is other);
   shut = λ is nothing. absurd (subst IsOfPages is other);
+  quiet = λ is. device;
   full = λ is refused room. subst IsOfPages is other;
   flushed = flushed;
   report = report;

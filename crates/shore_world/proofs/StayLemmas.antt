@@ -1,191 +1,414 @@
 -- Stays of the power on two devices are stays over plain data.
-use Rattle.std.proofs.Common.{◌≡◌, ℕ, ◌-◌, List, [], ◌∷◌, ◌++◌, refl, sym, ◌∙◌, ap, subst, take}
+use Rattle.std.proofs.Common.{◌≡◌, ◌⊎◌, inl, inr, ⊎_elim, ℕ, ◌-◌, List, [], ◌∷◌, ◌++◌, refl, sym, ◌∙◌, ap, subst, take, append_assoc, append-nil}
 use Rattle.std.specs.Prelude.{All}
 use Rattle.std.specs.List.{AllByRecursion}
 use Rattle.std.proofs.lemmas.List.Elements.{recursion_from_All}
 use Rattle.shore_types.specs.declared.layout.Geometry.{Geometry}
 use Rattle.shore_types.specs.declared.layout.TheConstants.{LOG_FRONT_BYTES}
-use Rattle.shore_disk.specs.Device.{History, size}
+use Rattle.shore_disk.specs.Device.{History, may_leave, seen, size}
 use Rattle.shore_disk.specs.declared.device.Disk.{Ghosts}
+use Rattle.shore_disk.proofs.Moments.{at_end, seen_left}
 use Rattle.shore_dwrite.specs.declared.places.TheConstants.{GATE_AT}
 use Rattle.shore_model.specs.declared.log_records.LogRecord.{LogRecord}
-use Rattle.laws_lives.specs.Pages.{LoggedPages}
+use Rattle.shore_model.specs.Locks.{Harmony, WellRooted}
+use Rattle.shore_model.specs.Logs.{records_told}
+use Rattle.shore_model.specs.Records.{scan_of}
+use Rattle.shore_model.specs.Requests.{held_by_all}
+use Rattle.laws_lives.specs.Pages.{LoggedPages, empty_page}
 use Rattle.laws_lives.specs.Recovery.{RecoveryEvent}
+use Rattle.laws_lives.specs.Views.{IsAmong}
+use Rattle.laws_lives.proofs.Openings.{open_shows_found}
+use Rattle.laws_lives.proofs.WholeLogs.{tells_the_committed}
+use Rattle.laws_lives.specs.LogTells.{records_committed}
 use Rattle.laws_runs.specs.StoredRuns.{StoredRun, StoredState}
 use Rattle.laws_runs.specs.RoomyStates.{IsOpenedFrom}
 use Rattle.laws_runs.proofs.SoundStores.{found_may_be_found}
+use Rattle.laws_runs.proofs.StaySteps.{are_a_life, come, keep_what_was_found, show_what_was_told}
 use Rattle.laws_runs.proofs.UnderWay.{opens_under_way, under_way_sound}
-use Rattle.laws_runs.specs.SoundStores.{found_state}
-use Rattle.laws_runs.specs.Stays.{AreStoredStays, IsStoredUp, StoredStay, runs_of, work_cut_off}
+use Rattle.laws_runs.specs.SoundStores.{IsUnderWay, MayBeOpened, found_state, managed}
+use Rattle.laws_runs.specs.Stays.{AreStoredStays, IsStoredCut, IsStoredUp, StoredCut, StoredStay, runs_of, work_cut_off}
 use Rattle.laws_runs.specs.Stays as stored
-use Rattle.laws_images.proofs.Left.{StandLost, left_stand}
+use Rattle.laws_images.proofs.Left.{StandLost, formatted_stand, left_stand}
 use Rattle.laws_images.proofs.Paths.{HasReached, cut_off_as, path_long, path_restarts}
-use Rattle.laws_images.specs.Moments.{Moment, Path}
+use Rattle.laws_images.specs.Moments.{IsLostAlong, Moment, Path}
 use Rattle.laws_images.specs.StandsFor.{StandsFor, begun_on}
+use Rattle.shore_format.specs.Pairs.{AreFormatted}
 use Rattle.shore_world.specs.declared.event.Event.{Event}
+use Rattle.shore_world.specs.declared.world.World.{World}
+use Rattle.shore_world.specs.Crashes.{AreLeft}
 use Rattle.shore_world.specs.Events.{IsServedEvent}
-use Rattle.shore_world.specs.Managers.{AreRunsOf, AreStays, Cut, IsManager, IsRunOf, Manager, NoForceIsFull, Stay, Up}
-use Rattle.shore_world.specs.Opens.{IsOpenedAt}
-use Rattle.shore_world.proofs.StoredLemmas.{HasRun, IsUpAt, left_of, run_never_full, run_run}
+use Rattle.shore_world.specs.Exchanges.{AreLast}
+use Rattle.shore_world.specs.Lives.{DumpsShow, HaveLived}
+use Rattle.shore_world.specs.Managers.{AreFound, AreRunsOf, AreStays, IsManager, IsRunOf, Manager, NoForceIsFull, Stay, Tried, Up}
+use Rattle.shore_world.specs.Promises.{IsManagerOf}
+use Rattle.shore_world.specs.Worlds.{requests_in, stream_bytes_in}
+use Rattle.shore_world.specs.Opens.{HasOpened, IsOpenedAt, LeftByOpen, OpenWay}
+use Rattle.shore_world.proofs.PromiseLemmas.{in_harmony}
+use Rattle.shore_world.proofs.ExchangeLemmas.{HasTold, have_told, runs_told, told_in}
+use Rattle.shore_world.proofs.StoredLemmas.{HasRun, IsUpAt, left_of, run_never_full, run_run, up_safe}
 
 pub all_served : (events : List Event) → All IsServedEvent events → AllByRecursion IsServedEvent events
 all_served events served = recursion_from_All IsServedEvent events served
 
+-- ---- lists of stays, from their end
+
+stays_on : (g : Geometry) (bytes : ℕ) (rs : List LogRecord) (pages : LoggedPages) (over more : List StoredStay) (mid last : List LogRecord) (mid_pages last_pages : LoggedPages)
+    → AreStoredStays g bytes rs pages over mid mid_pages → AreStoredStays g bytes mid mid_pages more last last_pages → AreStoredStays g bytes rs pages (over ++ more) last last_pages
+stays_on g bytes rs pages [] more mid last mid_pages last_pages are later =
+    subst (λ (l : List LogRecord). AreStoredStays g bytes l pages more last last_pages) are.0
+    (subst (λ (p : LoggedPages). AreStoredStays g bytes mid p more last last_pages) are.1 later)
+stays_on g bytes rs pages (stored.Cut c ∷ over) more mid last mid_pages last_pages are later =
+    (are.0, stays_on g bytes (take c.survive c.reached.log) c.pages over more mid last mid_pages last_pages are.1 later)
+stays_on g bytes rs pages (stored.Up r ∷ over) more mid last mid_pages last_pages are later =
+    (are.0, stays_on g bytes (take r.survive r.last.store.log) r.pages over more mid last mid_pages last_pages are.1 later)
+
+-- an open that lost power adds no run
+runs_behind_cut : (before : List RecoveryEvent) (over : List StoredStay) (c : StoredCut) → runs_of before (over ++ stored.Cut c ∷ []) ≡ runs_of before over
+runs_behind_cut before [] c = refl
+runs_behind_cut before (stored.Cut d ∷ over) c = runs_behind_cut (before ++ work_cut_off d) over c
+runs_behind_cut before (stored.Up r ∷ over) c = ap (λ (l : List StoredRun). record r { restart = before ++ r.restart } ∷ l) (runs_behind_cut [] over c)
+
+-- what opens have done that lost power, behind the last run
+abbrev work_behind : List RecoveryEvent → List StoredStay → List RecoveryEvent
+work_behind before [] = before
+work_behind before (stored.Cut c ∷ over) = work_behind (before ++ work_cut_off c) over
+work_behind before (stored.Up r ∷ over) = work_behind [] over
+
+-- a manager adds its own
+runs_behind_up : (before : List RecoveryEvent) (over : List StoredStay) (r : StoredRun)
+    → runs_of before (over ++ stored.Up r ∷ []) ≡ runs_of before over ++ record r { restart = work_behind before over ++ r.restart } ∷ []
+runs_behind_up before [] r = refl
+runs_behind_up before (stored.Cut c ∷ over) r = runs_behind_up (before ++ work_cut_off c) over r
+runs_behind_up before (stored.Up q ∷ over) r = ap (λ (l : List StoredRun). record q { restart = before ++ q.restart } ∷ l) (runs_behind_up [] over r)
+
+module _ {L V : Type 0} {G : Ghosts L} {H : Ghosts V} where
+  tried_adds_none : (stays : List (Stay L V G H)) (runs : List StoredRun) (log volume : History) → AreRunsOf stays runs → AreRunsOf (stays ++ Tried log volume ∷ []) runs
+  tried_adds_none [] [] log volume are = tt
+  tried_adds_none [] (run ∷ runs) log volume are = absurd are
+  tried_adds_none (Tried l v ∷ stays) runs log volume are = tried_adds_none stays runs log volume are
+  tried_adds_none (Up m ∷ stays) [] log volume are = absurd are
+  tried_adds_none (Up m ∷ stays) (run ∷ runs) log volume are = (are.0, tried_adds_none stays runs log volume are.1)
+
+  manager_adds_its_run : (stays : List (Stay L V G H)) (runs : List StoredRun) (m : Manager L V G H) (run : StoredRun) → AreRunsOf stays runs → IsRunOf m run
+      → AreRunsOf (stays ++ Up m ∷ []) (runs ++ run ∷ [])
+  manager_adds_its_run [] [] m run are is = (is, tt)
+  manager_adds_its_run [] (r ∷ runs) m run are is = absurd are
+  manager_adds_its_run (Tried l v ∷ stays) runs m run are is = manager_adds_its_run stays runs m run are is
+  manager_adds_its_run (Up n ∷ stays) [] m run are is = absurd are
+  manager_adds_its_run (Up n ∷ stays) (r ∷ runs) m run are is = (are.0, manager_adds_its_run stays runs m run are.1 is)
+
+  -- a restart before it makes no other run of it
+  restarted_run : (m : Manager L V G H) (run : StoredRun) (restart : List RecoveryEvent) → IsRunOf m run → IsRunOf m (record run { restart = restart })
+  restarted_run m run restart of = record {
+    log_front = of.log_front;
+    front = of.front;
+    first_disk = of.first_disk;
+    last_disk = of.last_disk;
+    opened = of.opened;
+    moves = of.moves;
+    told = of.told;
+    ended = of.ended;
+  }
+
+-- what is read of devices of these lengths stands for what it stands for of devices of their own
+pub at_its_lengths : (g : Geometry) (log_bytes volume_bytes : ℕ) (log volume : History) → (size log ≡ log_bytes) × (size volume ≡ volume_bytes) → (rs : List LogRecord)
+    (pages : LoggedPages) (c d : List ℕ) → StandsFor g log_bytes volume_bytes rs pages c d → StandsFor g (size log) (size volume) rs pages c d
+at_its_lengths g log_bytes volume_bytes log volume lengths rs pages c d stood =
+    subst (λ n. StandsFor g n (size volume) rs pages c d) (sym lengths.0) (subst (λ n. StandsFor g log_bytes n rs pages c d) (sym lengths.1) stood)
+
 module _ {L V : Type 0} {G : Ghosts L} {H : Ghosts V} (g : Geometry) (log_bytes volume_bytes : ℕ) where
-  -- ---- one manager
+  -- ---- a world that was opened
 
-  -- its run over plain data, and what its crash leaves
-  pub record HasStayed (rs : List LogRecord) (pages : LoggedPages) (m : Manager L V G H) : Type 0 where
-    pub run : StoredRun
-    pub of : IsRunOf m run
-    pub up : IsStoredUp g (log_bytes - LOG_FRONT_BYTES) (found_state rs pages) run
-    pub stands : StandsFor g log_bytes volume_bytes (take run.survive run.last.store.log) run.pages m.log_left m.volume_left
-    pub never_full : NoForceIsFull m.events m.steps
+  module _ (rs : List LogRecord) (pages : LoggedPages) (log volume : History) (lengths : (size log ≡ log_bytes) × (size volume ≡ volume_bytes))
+      (stood : StandsFor g log_bytes volume_bytes rs pages (seen log) (seen volume)) (w : World L V G H) (opens : HasOpened w g log volume rs pages) where
+    abbrev pub log_front : List ℕ
+    log_front = take LOG_FRONT_BYTES (seen log)
 
-  module _ (rs : List LogRecord) (pages : LoggedPages) (log_image volume_image : List ℕ) (stood : StandsFor g log_bytes volume_bytes rs pages log_image volume_image)
-      (m : Manager L V G H) (is : IsManager log_bytes volume_bytes log_image volume_image m) where
-    abbrev log_front : List ℕ
-    log_front = take LOG_FRONT_BYTES log_image
-
-    abbrev front : List ℕ
-    front = take GATE_AT volume_image
-
-    abbrev stream_bytes : ℕ
-    stream_bytes = log_bytes - LOG_FRONT_BYTES
+    abbrev pub front : List ℕ
+    front = take GATE_AT (seen volume)
 
     abbrev last : Moment
-    last = (is.opens g rs pages stood).1
+    last = opens.way.last
 
-    path : Path g log_front front (begun_on m.log m.volume rs pages) (is.opens g rs pages stood).0 last
-    path = (is.opens g rs pages stood).2
+    abbrev start : Moment
+    start = begun_on opens.way.log_behind opens.way.volume_behind rs pages
 
-    abbrev opened : IsOpenedAt m.opened g log_front front last
-    opened = (is.opens g rs pages stood).3
+    abbrev opened : IsOpenedAt w g log_front front last
+    opened = opens.opened
 
-    reached : HasReached g log_front front (found_state rs pages) last.store
-    reached = path_restarts g log_front front (begun_on m.log m.volume rs pages) (is.opens g rs pages stood).0 last path
+    pub reached : HasReached g log_front front (found_state rs pages) last.store
+    reached = path_restarts g log_front front start opens.way.moments last opens.way.path
 
-    as_long : size last.log - LOG_FRONT_BYTES ≡ stream_bytes
-    as_long =
-        ap (λ n. n - LOG_FRONT_BYTES)
-        ((path_long g log_front front (begun_on m.log m.volume rs pages) (is.opens g rs pages stood).0 last path).0 ∙ is.found.lengths.0)
+    long : size opens.way.log_behind ≡ log_bytes
+    long = ap size opens.way.barriers.0.leaves.later.1 ∙ lengths.0
 
-    abbrev first : StoredState
+    as_long : size last.log - LOG_FRONT_BYTES ≡ log_bytes - LOG_FRONT_BYTES
+    as_long = ap (λ n. n - LOG_FRONT_BYTES) ((path_long g log_front front start opens.way.moments last opens.way.path).0 ∙ long)
+
+    abbrev pub first : StoredState
     first = record { state = opened.first; store = last.store }
 
-    from : IsOpenedFrom stream_bytes last.store.log opened.first
+    pub from : IsOpenedFrom (log_bytes - LOG_FRONT_BYTES) last.store.log opened.first
     from = subst (λ n. IsOpenedFrom n last.store.log opened.first) as_long opened.from
 
-    up_at : IsUpAt g stream_bytes rs log_front front [] m.opened first
+    pub up_at : IsUpAt g (log_bytes - LOG_FRONT_BYTES) rs log_front front [] w first
     up_at = record {
       disk = opened.disk;
       at = opened.at;
       geometry = opened.geometry;
       long = ap (λ (h : History). size h - LOG_FRONT_BYTES) opened.histories.0 ∙ as_long;
-      under_way = opens_under_way g stream_bytes (found_state rs pages) (found_may_be_found g stream_bytes rs pages stood.opened) stood.opened.roomy reached.works last.store
+      under_way = opens_under_way g (log_bytes - LOG_FRONT_BYTES) (found_state rs pages) (found_may_be_found g (log_bytes - LOG_FRONT_BYTES) rs pages stood.opened) stood.opened.roomy reached.works last.store
           opened.first reached.restarts opened.redone opened.no_losers opened.over from;
     }
 
-    ran : HasRun g stream_bytes rs log_front front [] first m.moves m.ended
-    ran = run_run g stream_bytes rs log_front front [] m.opened first up_at m.events m.steps m.moves m.ended (all_served m.events is.served) is.runs
+  -- no call waits in a world that was opened
+  pub none_waiting : {w : World L V G H} {log volume : History} {rs : List LogRecord} {pages : LoggedPages} (opens : HasOpened w g log volume rs pages) → AreLast [] opens.opened.first
+  none_waiting opens w there = absurd (subst (IsAmong w) opens.opened.over.waiting there)
 
-    lost : StandLost g log_bytes volume_bytes ran.last.store log_image volume_image m.log_left m.volume_left
+  -- ---- one manager
+
+  -- its run over plain data, and what it leaves
+  pub record HasStayed (rs : List LogRecord) (pages : LoggedPages) (m : Manager L V G H) (log_left volume_left : List ℕ) : Type 0 where
+    pub run : StoredRun
+    pub of : IsRunOf m run
+    pub up : IsStoredUp g (log_bytes - LOG_FRONT_BYTES) (found_state rs pages) run
+    pub stands : StandsFor g log_bytes volume_bytes (take run.survive run.last.store.log) run.pages log_left volume_left
+    pub never_full : NoForceIsFull m.events m.steps
+
+  module _ (rs : List LogRecord) (pages : LoggedPages) (m : Manager L V G H) (lengths : (size m.log ≡ log_bytes) × (size m.volume ≡ volume_bytes))
+      (stood : StandsFor g log_bytes volume_bytes rs pages (seen m.log) (seen m.volume)) (is : IsManager m) (log_left volume_left : List ℕ)
+      (crash : AreLeft m.ended log_left volume_left) where
+    opens : HasOpened m.opened g m.log m.volume rs pages
+    opens = is.opens g rs pages (at_its_lengths g log_bytes volume_bytes m.log m.volume lengths rs pages (seen m.log) (seen m.volume) stood)
+
+    abbrev m_front : List ℕ
+    m_front = log_front rs pages m.log m.volume lengths stood m.opened opens
+
+    abbrev m_volume_front : List ℕ
+    m_volume_front = front rs pages m.log m.volume lengths stood m.opened opens
+
+    abbrev m_first : StoredState
+    m_first = first rs pages m.log m.volume lengths stood m.opened opens
+
+    m_up : IsUpAt g (log_bytes - LOG_FRONT_BYTES) rs m_front m_volume_front [] m.opened m_first
+    m_up = up_at rs pages m.log m.volume lengths stood m.opened opens
+
+    ran : HasRun g (log_bytes - LOG_FRONT_BYTES) rs m_front m_volume_front [] m_first m.moves m.ended
+    ran = run_run g (log_bytes - LOG_FRONT_BYTES) rs m_front m_volume_front [] m.opened m_first m_up m.events m.steps m.moves m.ended (all_served m.events is.served) is.runs
+
+    ran_told : HasTold [] (managed ran.events) ran.last.state ran.made
+    ran_told = have_told g (log_bytes - LOG_FRONT_BYTES) rs [] [] m_first m_up.under_way (none_waiting opens) ran.events ran.last ran.made ran.stored
+
+    lost : StandLost g log_bytes volume_bytes ran.last.store (seen m.log) (seen m.volume) log_left volume_left
     lost =
-        let left = left_of g stream_bytes rs log_front front ran.made m.ended ran.last ran.up m.log_left m.volume_left is.crash in
-        left_stand g log_bytes volume_bytes rs pages log_image volume_image stood ran.last.store
-        (under_way_sound g stream_bytes rs ran.made ran.last ran.up.under_way) m.log_left m.volume_left left.log left.volume
+        let left = left_of g (log_bytes - LOG_FRONT_BYTES) rs m_front m_volume_front ran.made m.ended ran.last ran.up log_left volume_left crash in
+        left_stand g log_bytes volume_bytes rs pages (seen m.log) (seen m.volume) stood ran.last.store
+        (under_way_sound g (log_bytes - LOG_FRONT_BYTES) rs ran.made ran.last ran.up.under_way) log_left volume_left left.log left.volume
 
-    pub has_stayed : HasStayed rs pages m
-    has_stayed = record {
-      run = record {
-        restart = reached.works;
-        ready = last.store;
-        first = opened.first;
-        events = ran.events;
-        last = ran.last;
-        made = ran.made;
-        survive = lost.survive;
-        pages = lost.pages;
-        begin = 0;
-      };
-      of = record {
-        log_front = log_front;
-        front = front;
-        first_disk = opened.disk;
-        last_disk = ran.up.disk;
-        opened = opened.at;
-        moves = ran.same;
-        ended = ran.up.at;
-      };
-      up = record {
-        restarts = reached.restarts;
-        redone = opened.redone;
-        no_losers = opened.no_losers;
-        opens = opened.over;
-        from = from;
-        moves = ran.stored;
-        lost = lost.lost;
-        begin = refl;
-      };
-      stands = lost.stands;
-      never_full = run_never_full g stream_bytes rs log_front front [] m.opened first up_at m.events m.steps m.moves m.ended (all_served m.events is.served) is.runs;
-    }
+    pub has_stayed : HasStayed rs pages m log_left volume_left
+    has_stayed =
+        let came = reached rs pages m.log m.volume lengths stood m.opened opens in
+        record {
+          run = record {
+            restart = came.works;
+            ready = opens.way.last.store;
+            first = opens.opened.first;
+            events = ran.events;
+            last = ran.last;
+            made = ran.made;
+            survive = lost.survive;
+            pages = lost.pages;
+            begin = 0;
+          };
+          of = record {
+            log_front = m_front;
+            front = m_volume_front;
+            first_disk = opens.opened.disk;
+            last_disk = ran.up.disk;
+            opened = opens.opened.at;
+            moves = ran.same;
+            told = ran_told.told ∙ ap (told_in []) ran.same ∙ runs_told m.opened [] m.events m.steps m.moves m.ended is.runs;
+            ended = ran.up.at;
+          };
+          up = record {
+            restarts = came.restarts;
+            redone = opens.opened.redone;
+            no_losers = opens.opened.no_losers;
+            opens = opens.opened.over;
+            from = from rs pages m.log m.volume lengths stood m.opened opens;
+            moves = ran.stored;
+            lost = lost.lost;
+            begin = refl;
+          };
+          stands = lost.stands;
+          never_full = run_never_full g (log_bytes - LOG_FRONT_BYTES) rs m_front m_volume_front [] m.opened m_first m_up m.events m.steps m.moves m.ended (all_served m.events is.served) is.runs;
+        }
 
-  -- ---- any number of stays
+  -- ---- any number of stays, from a format
 
-  -- the stays over plain data, and what the last one leaves
-  pub record HaveStayed (rs : List LogRecord) (pages : LoggedPages) (stays : List (Stay L V G H)) (log_last volume_last : List ℕ) : Type 0 where
+  -- the stays over plain data, and what the last one may leave
+  pub record HaveStayed (stays : List (Stay L V G H)) (log_left volume_left : List ℕ) : Type 0 where
+    pub opened : MayBeOpened g (log_bytes - LOG_FRONT_BYTES) [] (λ p. empty_page)
     pub over : List StoredStay
     pub last : List LogRecord
     pub last_pages : LoggedPages
-    pub are : AreStoredStays g (log_bytes - LOG_FRONT_BYTES) rs pages over last last_pages
-    pub of : (before : List RecoveryEvent) → AreRunsOf stays (runs_of before over)
-    pub stands : StandsFor g log_bytes volume_bytes last last_pages log_last volume_last
+    pub are : AreStoredStays g (log_bytes - LOG_FRONT_BYTES) [] (λ p. empty_page) over last last_pages
+    pub of : AreRunsOf stays (runs_of [] over)
+    pub stands : StandsFor g log_bytes volume_bytes last last_pages log_left volume_left
 
-  pub have_stayed : (rs : List LogRecord) (pages : LoggedPages) (log_image volume_image : List ℕ) → StandsFor g log_bytes volume_bytes rs pages log_image volume_image
-      → (stays : List (Stay L V G H)) (log_last volume_last : List ℕ) → AreStays log_bytes volume_bytes log_image volume_image stays log_last volume_last
-      → HaveStayed rs pages stays log_last volume_last
-  have_stayed rs pages log_image volume_image stood [] log_last volume_last are = record {
+  -- each pair of images that may be left then
+  abbrev pub EachHasStayed : List (Stay L V G H) → (List ℕ → List ℕ → Type 0) → Type 0
+  EachHasStayed stays left = (c d : List ℕ) → left c d → HaveStayed stays c d
+
+  formatted_has : EachHasStayed [] (AreFormatted g log_bytes volume_bytes)
+  formatted_has c d formatted = record {
+    opened = (formatted_stand g log_bytes volume_bytes c d formatted).opened;
     over = [];
-    last = rs;
-    last_pages = pages;
+    last = [];
+    last_pages = λ p. empty_page;
     are = (refl, refl);
-    of = λ before. tt;
-    stands =
-        subst (λ (c : List ℕ). StandsFor g log_bytes volume_bytes rs pages c volume_last) (sym are.0)
-        (subst (StandsFor g log_bytes volume_bytes rs pages log_image) (sym are.1) stood);
+    of = tt;
+    stands = formatted_stand g log_bytes volume_bytes c d formatted;
   }
-  have_stayed rs pages log_image volume_image stood (Cut c ∷ stays) log_last volume_last are =
-      let crash = are.0.crash g rs pages stood in
-      let one = cut_off_as g log_bytes volume_bytes rs pages log_image volume_image stood c.log c.volume crash.0 crash.1 crash.2 c.log_left c.volume_left crash.3 in
-      let rest = have_stayed (take one.cut.survive one.cut.reached.log) one.cut.pages c.log_left c.volume_left one.stands stays log_last volume_last are.1 in
+
+  module _ (before : List (Stay L V G H)) (left : List ℕ → List ℕ → Type 0) (has : EachHasStayed before left) (log volume : History)
+      (found : AreFound log_bytes volume_bytes left log volume) where
+    -- what is read is among what may be left
+    pub as_read : HaveStayed before (seen log) (seen volume)
+    as_read = has (seen log) (seen volume) (found.among (seen log) (seen volume) (seen_left log.first log.calls) (seen_left volume.first volume.calls))
+
+    tried_has : EachHasStayed (before ++ Tried log volume ∷ []) (LeftByOpen log volume)
+    tried_has c d left_by =
+        let so_far = as_read in
+        ⊎_elim (λ early. early_has c d early) (λ later. later_has c d later.0 later.1)
+        (left_by g so_far.last so_far.last_pages (at_its_lengths g log_bytes volume_bytes log volume found.lengths so_far.last so_far.last_pages (seen log) (seen volume) so_far.stands))
+      where
+        early_has : (c d : List ℕ) → may_leave log c × may_leave volume d → HaveStayed (before ++ Tried log volume ∷ []) c d
+        early_has c d early =
+            let so_far = has c d (found.among c d early.0 early.1) in
+            record {
+              opened = so_far.opened;
+              over = so_far.over;
+              last = so_far.last;
+              last_pages = so_far.last_pages;
+              are = so_far.are;
+              of = tried_adds_none before (runs_of [] so_far.over) log volume so_far.of;
+              stands = so_far.stands;
+            }
+
+        later_has : (c d : List ℕ) (way : OpenWay g log volume as_read.last as_read.last_pages)
+            → IsLostAlong (begun_on way.log_behind way.volume_behind as_read.last as_read.last_pages) way.moments c d → HaveStayed (before ++ Tried log volume ∷ []) c d
+        later_has c d way lost =
+            let so_far = as_read in
+            let one = cut_off_as g log_bytes volume_bytes so_far.last so_far.last_pages (seen log) (seen volume) so_far.stands way.log_behind way.volume_behind way.moments way.last
+            way.path c d lost in
+            let after = take one.cut.survive one.cut.reached.log in
+            record {
+              opened = so_far.opened;
+              over = so_far.over ++ stored.Cut one.cut ∷ [];
+              last = after;
+              last_pages = one.cut.pages;
+              are = stays_on g (log_bytes - LOG_FRONT_BYTES) [] (λ p. empty_page) so_far.over (stored.Cut one.cut ∷ []) so_far.last after so_far.last_pages one.cut.pages so_far.are (one.is_cut, (refl, refl));
+              of = subst (AreRunsOf (before ++ Tried log volume ∷ [])) (sym (runs_behind_cut [] so_far.over one.cut))
+                  (tried_adds_none before (runs_of [] so_far.over) log volume so_far.of);
+              stands = one.stands;
+            }
+
+  manager_has : (before : List (Stay L V G H)) (left : List ℕ → List ℕ → Type 0) → EachHasStayed before left → (m : Manager L V G H)
+      → AreFound log_bytes volume_bytes left m.log m.volume → IsManager m → EachHasStayed (before ++ Up m ∷ []) (AreLeft m.ended)
+  manager_has before left has m found is c d crash =
+      let so_far = as_read before left has m.log m.volume found in
+      let one = has_stayed so_far.last so_far.last_pages m found.lengths so_far.stands is c d crash in
+      let after = take one.run.survive one.run.last.store.log in
+      let restart = work_behind [] so_far.over ++ one.run.restart in
       record {
-        over = stored.Cut one.cut ∷ rest.over;
-        last = rest.last;
-        last_pages = rest.last_pages;
-        are = (one.is_cut, rest.are);
-        of = λ before. rest.of (before ++ work_cut_off one.cut);
-        stands = rest.stands;
+        opened = so_far.opened;
+        over = so_far.over ++ stored.Up one.run ∷ [];
+        last = after;
+        last_pages = one.run.pages;
+        are = stays_on g (log_bytes - LOG_FRONT_BYTES) [] (λ p. empty_page) so_far.over (stored.Up one.run ∷ []) so_far.last after so_far.last_pages one.run.pages so_far.are (one.up, (refl, refl));
+        of = subst (AreRunsOf (before ++ Up m ∷ [])) (sym (runs_behind_up [] so_far.over one.run))
+            (manager_adds_its_run before (runs_of [] so_far.over) m (record one.run { restart = restart }) so_far.of (restarted_run m one.run restart one.of));
+        stands = one.stands;
       }
-  have_stayed rs pages log_image volume_image stood (Up m ∷ stays) log_last volume_last are =
-      let one = has_stayed rs pages log_image volume_image stood m are.0 in
-      let rest = have_stayed (take one.run.survive one.run.last.store.log) one.run.pages m.log_left m.volume_left one.stands stays log_last volume_last are.1 in
+
+  stays_have : (before : List (Stay L V G H)) (left : List ℕ → List ℕ → Type 0) → EachHasStayed before left → (stays : List (Stay L V G H)) (log_last volume_last : History)
+      → AreStays log_bytes volume_bytes left stays log_last volume_last
+      → EachHasStayed (before ++ stays) (λ c d. may_leave log_last c × may_leave volume_last d) × ((size log_last ≡ log_bytes) × (size volume_last ≡ volume_bytes))
+  stays_have before left has [] log_last volume_last found = (
+    λ c d may. subst (λ (l : List (Stay L V G H)). HaveStayed l c d) (sym (append-nil before)) (has c d (found.among c d may.0 may.1)),
+    found.lengths,
+  )
+  stays_have before left has (Tried log volume ∷ stays) log_last volume_last are =
+      subst (λ (l : List (Stay L V G H)). EachHasStayed l (λ c d. may_leave log_last c × may_leave volume_last d) × ((size log_last ≡ log_bytes) × (size volume_last ≡ volume_bytes)))
+      (append_assoc before (Tried log volume ∷ []) stays)
+      (stays_have (before ++ Tried log volume ∷ []) (LeftByOpen log volume) (tried_has before left has log volume are.0) stays log_last volume_last are.1)
+  stays_have before left has (Up m ∷ stays) log_last volume_last are =
+      subst (λ (l : List (Stay L V G H)). EachHasStayed l (λ c d. may_leave log_last c × may_leave volume_last d) × ((size log_last ≡ log_bytes) × (size volume_last ≡ volume_bytes)))
+      (append_assoc before (Up m ∷ []) stays)
+      (stays_have (before ++ Up m ∷ []) (AreLeft m.ended) (manager_has before left has m are.0 are.1) stays log_last volume_last are.2)
+
+  -- from a format to the devices that are found in the end
+  pub have_stayed : (stays : List (Stay L V G H)) (log_last volume_last : History) → AreStays log_bytes volume_bytes (AreFormatted g log_bytes volume_bytes) stays log_last volume_last
+      → EachHasStayed stays (λ c d. may_leave log_last c × may_leave volume_last d) × ((size log_last ≡ log_bytes) × (size volume_last ≡ volume_bytes))
+  have_stayed stays log_last volume_last are = stays_have [] (AreFormatted g log_bytes volume_bytes) formatted_has stays log_last volume_last are
+
+-- ---- as a life
+
+module _ {L V : Type 0} {G : Ghosts L} {H : Ghosts V} (g : Geometry) (log_bytes volume_bytes : ℕ) (stays : List (Stay L V G H)) (log_left volume_left : List ℕ)
+    (stayed : HaveStayed g log_bytes volume_bytes stays log_left volume_left) where
+  nothing_opened : MayBeOpened g (log_bytes - LOG_FRONT_BYTES) [] (λ p. empty_page)
+  nothing_opened = stayed.opened
+
+  pub have_lived : HaveLived g stays stayed.last stayed.last_pages
+  have_lived =
+      let b = log_bytes - LOG_FRONT_BYTES in
+      let all = come g b [] (λ p. empty_page) nothing_opened stayed.over stayed.last stayed.last_pages stayed.are in
       record {
-        over = stored.Up one.run ∷ rest.over;
-        last = rest.last;
-        last_pages = rest.last_pages;
-        are = (one.up, rest.are);
-        of = λ before. (
-          record {
-            log_front = one.of.log_front;
-            front = one.of.front;
-            first_disk = one.of.first_disk;
-            last_disk = one.of.last_disk;
-            opened = one.of.opened;
-            moves = one.of.moves;
-            ended = one.of.ended;
-          },
-          rest.of [],
-        );
-        stands = rest.stands;
+        runs = runs_of [] stayed.over;
+        of = stayed.of;
+        end = all.last;
+        are = all.are;
+        works = all.works;
+        restarts = all.restarts;
+        life = are_a_life g b [] (λ p. empty_page) nothing_opened stayed.over stayed.last stayed.last_pages stayed.are;
+        shown = show_what_was_told g b [] (λ p. empty_page) nothing_opened stayed.over stayed.last stayed.last_pages stayed.are;
+        fixed = keep_what_was_found g b [] (λ p. empty_page) nothing_opened stayed.over stayed.last stayed.last_pages stayed.are;
       }
+
+-- ---- what an open at the end shows
+
+module _ {L V : Type 0} {G : Ghosts L} {H : Ghosts V} (g : Geometry) (rs : List LogRecord) (pages : LoggedPages) (log volume : History)
+    (stood : StandsFor g (size log) (size volume) rs pages (seen log) (seen volume)) (w : World L V G H) (opens : HasOpened w g log volume rs pages) where
+  up : IsUpAt g (size log - LOG_FRONT_BYTES) rs (take LOG_FRONT_BYTES (seen log)) (take GATE_AT (seen volume)) [] w (record { state = opens.opened.first; store = opens.way.last.store })
+  up = up_at g (size log) (size volume) rs pages log volume (refl, refl) stood w opens
+
+  tells_all : records_told rs ≡ records_committed rs
+  tells_all = tells_the_committed rs stood.opened.no_prepare
+
+  pub opened_manager : IsManagerOf w (records_told rs) [] []
+  opened_manager = record {
+    found = rs;
+    opening = tells_all;
+    log_front = take LOG_FRONT_BYTES (seen log);
+    front = take GATE_AT (seen volume);
+    disk = opens.opened.disk;
+    now = record { state = opens.opened.first; store = opens.way.last.store };
+    at = opens.opened.at;
+    waited = none_waiting g (size log) (size volume) opens;
+    under_way = subst (λ (x : Geometry). IsUnderWay x (stream_bytes_in w) rs [] (record { state = opens.opened.first; store = opens.way.last.store })) (sym up.geometry)
+        (subst (λ n. IsUnderWay g n rs [] (record { state = opens.opened.first; store = opens.way.last.store })) (sym up.long) up.under_way);
+  }
+
+  pub opened_shows : DumpsShow w (records_told rs)
+  opened_shows store pairs is =
+      let came = reached g (size log) (size volume) rs pages log volume (refl, refl) stood w opens in
+      is (take GATE_AT (seen volume)) opens.opened.disk opens.opened.first opens.way.last.store opens.opened.at.is_in
+      (up_safe g (size log - LOG_FRONT_BYTES) rs (take LOG_FRONT_BYTES (seen log)) (take GATE_AT (seen volume)) [] w (record { state = opens.opened.first; store = opens.way.last.store }) up)
+      opens.opened.at.over
+      ∙ ap (scan_of store)
+      (open_shows_found (found_state rs pages) came.works opens.way.last.store opens.opened.first.sessions
+      (found_may_be_found g (size log - LOG_FRONT_BYTES) rs pages stood.opened) came.restarts opens.opened.redone opens.opened.no_losers opens.opened.over.sessions)
+
+  pub opened_in_harmony : Harmony (held_by_all (requests_in w)) × WellRooted (held_by_all (requests_in w))
+  opened_in_harmony = in_harmony w (records_told rs) [] [] opened_manager

@@ -100,8 +100,8 @@ module _ {L V : Type 0} {G : Ghosts L} {H : Ghosts V} (g : Geometry) (stream_byt
     pub same : managed events ≡ moves
     pub up : IsUpAt (es ++ made) new last
 
-  safe : (es : List Entry) (w : World L V G H) (m : StoredState) → IsUpAt es w m → IsSafe (geometry_in w) m.state
-  safe es w m up =
+  pub up_safe : (es : List Entry) (w : World L V G H) (m : StoredState) → IsUpAt es w m → IsSafe (geometry_in w) m.state
+  up_safe es w m up =
       subst (λ (x : Geometry). IsSafe x m.state) (sym up.geometry)
       (record {
         found = found;
@@ -137,18 +137,18 @@ module _ {L V : Type 0} {G : Ghosts L} {H : Ghosts V} (g : Geometry) (stream_byt
 
     like_run : (new : World L V G H) → IsLike old new → HasRun es m [] new
     like_run new like =
-        let comes = like.state log_front front up.disk m.state m.store up.at (safe es old m up) in
+        let comes = like.state log_front front up.disk m.state m.store up.at (up_safe es old m up) in
         one_run new like.geometry like.any_moment m.state comes [] (tended g m comes.works comes.after comes.work m.state comes.at.over.kept.stored refl)
 
     failure_run : (new : World L V G H) → HasFailedToRead old new → HasRun es m (HasFailed ∷ []) new
     failure_run new fails =
-        let comes = fails.state log_front front up.disk m.state m.store up.at (safe es old m up) in
+        let comes = fails.state log_front front up.disk m.state m.store up.at (up_safe es old m up) in
         one_run new fails.geometry fails.any_moment (with_failure m.state) comes (HasFailed ∷ [])
         (managed_as g m comes.works comes.after comes.work (with_failure m.state) comes.at.over.kept.stored HasFailed refl)
 
     event_run : (e : Event) (step : Step) (new : World L V G H) → IsServedEvent e → Steps old e step new → HasRun es m (moves_by e step) new
     event_run e step new served one =
-        let come = one.moves.state log_front front up.disk m.state m.store up.at (safe es old m up) in
+        let come = one.moves.state log_front front up.disk m.state m.store up.at (up_safe es old m up) in
         let comes = come.comes in
         let moved = subst (λ (x : Geometry). EventStep x m.state e step come.later) up.geometry come.moves in
         one_run new one.moves.geometry one.moves.any_moment come.later comes (moves_by e step)

@@ -273,13 +273,14 @@ module _ {L V : Type 0} {G : Ghosts L} {H : Ghosts V} where
       (λ front disk s store is over safe. record { later = s; moves = moves s is.beside; is_in = is; told = inl over })
 
   -- what is staged is the longest list of what is not durable
-  pub has_staged : (old new : World L V G H) (mid : LogDev L G) (n number : ℕ) → number ≡ n → durable_in old ≡ mid.forced → mid.records.items ≡ list_in old
+  pub has_staged : (old new : World L V G H) (mid : LogDev L G) (n number : ℕ) → old.log.staged ≡ None → number ≡ n → durable_in old ≡ mid.forced → mid.records.items ≡ list_in old
       → IsLongest (waiting mid) (number - mid.forced) → IsSomeAnd new.log.staged (λ frame. frame.count ≡ number - mid.forced)
       → ((front : List ℕ) → SurvivesCrashes old front → IsStaged new.log front (take (number - mid.forced) (waiting mid))) → HasStaged old new n
-  has_staged old new mid n number same forced list longest under_way staged =
+  has_staged old new mid n number none same forced list longest under_way staged =
       let rest : waiting mid ≡ drop (durable_in old) (list_in old) = ap (λ k. drop k mid.records.items) (sym forced) ∙ ap (drop (durable_in old)) list in
       let count : number - mid.forced ≡ n - durable_in old = ap (λ k. k - mid.forced) same ∙ ap (λ k. n - k) (sym forced) in
       record {
+        none_before = none;
         longest = subst (λ k. IsLongest (drop (durable_in old) (list_in old)) k) count (subst (λ (l : List LogRecord). IsLongest l (number - mid.forced)) rest longest);
         under_way = subst (λ k. IsSomeAnd new.log.staged (λ frame. frame.count ≡ k)) count under_way;
         on_device = λ front k. subst (λ j. IsStaged new.log front (take j (drop (durable_in old) (list_in old)))) count
@@ -297,14 +298,3 @@ module _ {L V : Type 0} {G : Ghosts L} {H : Ghosts V} where
   -- a world on a settled log
   pub settled_kept : (w : World L V G H) (front : List ℕ) → IsSettled w.log front → w.log.staged ≡ None → SurvivesCrashes w front
   settled_kept w front settled none = record { images = λ c left. stable_gives w front c (settled_gives w.log front settled c left); ready = λ running. inl (settled, none) }
-
--- ---- an open
-
--- a device that was synced at most leaves what it could have left before
-pub synced_only : (old new : History) → (new ≡ old) ⊎ (new ≡ noted old synced) → LeavesOnly old new (may_leave old)
-synced_only old new (inl same) = subst (λ (h : History). LeavesOnly old h (may_leave old)) (sym same) (started old (may_leave old) (λ c left. left))
-synced_only old new (inr is) = sync_leaves {E = Unit {0}} (Ok tt) old new (may_leave old) is (λ c left. left)
-
--- and holds what is read
-pub synced_stands : (old new : History) → new ≡ noted old synced → Stands new (seen old)
-synced_stands old new is = subst (λ (h : History). Stands h (seen old)) (sym is) (record { read = refl; only = λ c left. left })

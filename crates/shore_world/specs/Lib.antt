@@ -1,8 +1,11 @@
 pub mod Crashes
 pub mod Events
 pub mod EventMoves
+pub mod Exchanges
 pub mod OpenedVolumes
 pub mod Opens
 pub mod Refusals
 pub mod Worlds
 pub mod Managers
+pub mod Lives
+pub mod Promises

@@ -1,12 +1,10 @@
--- Managers one after another over one pair of devices: each opens what the crash before it left, and an open may itself lose power. Each condition
--- is what a contract says of the call that it names.
-use Rattle.std.specs.Prelude.{◌≡◌, ◌≢◌, ℕ, List, [], ◌∷◌, All, take}
+-- Managers one after another over one pair of devices, and opens between that came to none. The power may be lost at any moment, in opens too, or the
+-- devices be opened again without that. Each condition is what a contract says of the call that it names.
+use Rattle.std.specs.Prelude.{◌≡◌, ◌≢◌, ℕ, List, [], ◌∷◌, All}
 use Rattle.shore_types.specs.declared.faults.Fault.TheVariants.{LogFull}
 use Rattle.shore_types.specs.declared.layout.Geometry.{Geometry}
-use Rattle.shore_types.specs.declared.layout.TheConstants.{LOG_FRONT_BYTES}
-use Rattle.shore_disk.specs.Device.{History}
+use Rattle.shore_disk.specs.Device.{History, may_leave, seen, size}
 use Rattle.shore_disk.specs.declared.device.Disk.{Ghosts}
-use Rattle.shore_dwrite.specs.declared.places.TheConstants.{GATE_AT}
 use Rattle.shore_model.specs.declared.log_records.LogRecord.{LogRecord}
 use Rattle.laws_lives.specs.Pages.{LoggedPages}
 use Rattle.laws_runs.specs.StoredRuns.{StoredRun}
@@ -14,14 +12,14 @@ use Rattle.shore_model.specs.declared.step.Step.{Step}
 use Rattle.shore_model.specs.declared.step.Step.TheVariants.{Refused}
 use Rattle.laws_calls.specs.Events.{ManagerEvent}
 use Rattle.laws_runs.specs.SoundStores.{managed}
-use Rattle.laws_images.specs.Moments.{IsLostAlong, Moment, Path}
-use Rattle.laws_images.specs.StandsFor.{StandsFor, begun_on}
+use Rattle.laws_images.specs.StandsFor.{StandsFor}
 use Rattle.shore_world.specs.declared.event.Event.{Event}
 use Rattle.shore_world.specs.declared.event.Event.TheVariants as event
 use Rattle.shore_world.specs.declared.world.World.{World}
 use Rattle.shore_world.specs.Crashes.{AreLeft}
 use Rattle.shore_world.specs.Events.{IsServedEvent}
-use Rattle.shore_world.specs.Opens.{AreFound, IsOpenedAt}
+use Rattle.shore_world.specs.Exchanges.{exchanges_in, exchanges_of}
+use Rattle.shore_world.specs.Opens.{HasOpened, LeftByOpen}
 use Rattle.shore_world.specs.Worlds.{IsAt, Runs}
 
 -- no force of these was refused by `LogFull`
@@ -31,24 +29,10 @@ NoForceIsFull [] [] = Unit {0}
 NoForceIsFull [] (step ∷ steps) = ⊥
 NoForceIsFull (e ∷ es) [] = ⊥
 
--- ---- one stay of the power
+-- ---- one stay
 
--- an open in which power was lost, whether it had been refused by then or not: the calls of the devices that it was opened on, and what was left
-pub record CutOff : Type 0 where
-  pub log : History
-  pub volume : History
-  pub log_left : List ℕ
-  pub volume_left : List ℕ
-
--- Power was lost at some moment of what an open says of its way.
-pub record IsCutOff (log_bytes volume_bytes : ℕ) (log_image volume_image : List ℕ) (c : CutOff) : Type 0 where
-  pub found : AreFound log_bytes volume_bytes log_image volume_image c.log c.volume
-  pub crash : (g : Geometry) (rs : List LogRecord) (pages : LoggedPages) → StandsFor g log_bytes volume_bytes rs pages log_image volume_image
-      → (path : List Moment) × (last : Moment) × Path g (take LOG_FRONT_BYTES log_image) (take GATE_AT volume_image) (begun_on c.log c.volume rs pages) path last
-      × IsLostAlong (begun_on c.log c.volume rs pages) path c.log_left c.volume_left
-
--- One manager on a pair: it is opened on devices with these calls behind them and makes these events, which are these moves of the
--- manager over plain data; and then a crash leaves an image of each.
+-- One manager on a pair: it is opened on devices with these calls behind them and makes these events, which are these moves of the manager over plain
+-- data.
 pub record Manager (L V : Type 0) (G : Ghosts L) (H : Ghosts V) : Type 0 where
   pub log : History
   pub volume : History
@@ -57,35 +41,39 @@ pub record Manager (L V : Type 0) (G : Ghosts L) (H : Ghosts V) : Type 0 where
   pub steps : List Step
   pub moves : List ManagerEvent
   pub ended : World L V G H
-  pub log_left : List ℕ
-  pub volume_left : List ℕ
 
--- It is opened at the end of the way of an open, makes its events, and loses power at any moment.
-pub record IsManager {L V : Type 0} {G : Ghosts L} {H : Ghosts V} (log_bytes volume_bytes : ℕ) (log_image volume_image : List ℕ) (m : Manager L V G H) : Type 0 where
-  pub found : AreFound log_bytes volume_bytes log_image volume_image m.log m.volume
-  pub opens : (g : Geometry) (rs : List LogRecord) (pages : LoggedPages) → StandsFor g log_bytes volume_bytes rs pages log_image volume_image
-      → (path : List Moment) × (last : Moment) × Path g (take LOG_FRONT_BYTES log_image) (take GATE_AT volume_image) (begun_on m.log m.volume rs pages) path last
-      × IsOpenedAt m.opened g (take LOG_FRONT_BYTES log_image) (take GATE_AT volume_image) last
+-- It is opened at the end of the way of an open, and makes its events.
+pub record IsManager {L V : Type 0} {G : Ghosts L} {H : Ghosts V} (m : Manager L V G H) : Type 0 where
+  pub opens : (g : Geometry) (rs : List LogRecord) (pages : LoggedPages) → StandsFor g (size m.log) (size m.volume) rs pages (seen m.log) (seen m.volume)
+      → HasOpened m.opened g m.log m.volume rs pages
   pub served : All IsServedEvent m.events
   pub runs : Runs m.opened m.events m.steps m.moves m.ended
-  pub crash : AreLeft m.ended m.log_left m.volume_left
 
--- `Cut`: an open that lost power; `Up`: a manager that was opened, and lost power later
+-- `Tried`: an open that came to no manager, of devices with these calls behind them; `Up`: a manager
 pub data Stay (L V : Type 0) (G : Ghosts L) (H : Ghosts V) : Type 0 where
-  Cut : CutOff → Stay L V G H
+  Tried : History → History → Stay L V G H
   Up : Manager L V G H → Stay L V G H
 
--- each opens what the crash before it left
-abbrev pub AreStays : {L V : Type 0} {G : Ghosts L} {H : Ghosts V} → ℕ → ℕ → List ℕ → List ℕ → List (Stay L V G H) → List ℕ → List ℕ → Type 0
-AreStays log_bytes volume_bytes log_image volume_image [] log_last volume_last = (log_last ≡ log_image) × (volume_last ≡ volume_image)
-AreStays log_bytes volume_bytes log_image volume_image (Cut c ∷ stays) log_last volume_last =
-    IsCutOff log_bytes volume_bytes log_image volume_image c × AreStays log_bytes volume_bytes c.log_left c.volume_left stays log_last volume_last
-AreStays log_bytes volume_bytes log_image volume_image (Up m ∷ stays) log_last volume_last =
-    IsManager log_bytes volume_bytes log_image volume_image m × AreStays log_bytes volume_bytes m.log_left m.volume_left stays log_last volume_last
+-- ---- one after another
+
+-- What the next open finds: devices of these lengths, a crash of which leaves only such pairs of images as the stay before could leave together at some
+-- moment. So it is if the power was lost then, and they hold one such pair; if the process ended then; and if the stay ended and handed the devices back.
+pub record AreFound (log_bytes volume_bytes : ℕ) (left : List ℕ → List ℕ → Type 0) (log volume : History) : Type 0 where
+  pub lengths : (size log ≡ log_bytes) × (size volume ≡ volume_bytes)
+  pub among : (log_image volume_image : List ℕ) → may_leave log log_image → may_leave volume volume_image → left log_image volume_image
+
+-- From devices of which at first these pairs of images may be left, to those that are found in the end.
+abbrev pub AreStays : {L V : Type 0} {G : Ghosts L} {H : Ghosts V} → ℕ → ℕ → (List ℕ → List ℕ → Type 0) → List (Stay L V G H) → History → History → Type 0
+AreStays log_bytes volume_bytes left [] log_last volume_last = AreFound log_bytes volume_bytes left log_last volume_last
+AreStays log_bytes volume_bytes left (Tried log volume ∷ stays) log_last volume_last =
+    AreFound log_bytes volume_bytes left log volume × AreStays log_bytes volume_bytes (LeftByOpen log volume) stays log_last volume_last
+AreStays log_bytes volume_bytes left (Up m ∷ stays) log_last volume_last =
+    AreFound log_bytes volume_bytes left m.log m.volume × IsManager m × AreStays log_bytes volume_bytes (AreLeft m.ended) stays log_last volume_last
 
 -- ---- as runs of the manager over plain data
 
--- The run is one from a state that the manager was opened in to one that it ended in, by its moves.
+-- The run is one from a state that the manager was opened in to one that it ended in, by its moves. The calls and answers of its history are those of the
+-- manager's events.
 pub record IsRunOf {L V : Type 0} {G : Ghosts L} {H : Ghosts V} (m : Manager L V G H) (run : StoredRun) : Type 0 where
   pub log_front : List ℕ
   pub front : List ℕ
@@ -93,12 +81,13 @@ pub record IsRunOf {L V : Type 0} {G : Ghosts L} {H : Ghosts V} (m : Manager L V
   pub last_disk : ℕ → List ℕ
   pub opened : IsAt m.opened log_front front first_disk run.first run.ready
   pub moves : managed run.events ≡ m.moves
+  pub told : exchanges_in run.made ≡ exchanges_of [] m.events m.steps
   pub ended : IsAt m.ended log_front front last_disk run.last.state run.last.store
 
--- each manager has its run; an open that lost power is part of the run behind it
+-- each manager has its run; an open that came to none is part of the run behind it, if it got past its barriers
 abbrev pub AreRunsOf : {L V : Type 0} {G : Ghosts L} {H : Ghosts V} → List (Stay L V G H) → List StoredRun → Type 0
 AreRunsOf [] [] = Unit {0}
 AreRunsOf [] (run ∷ runs) = ⊥
-AreRunsOf (Cut c ∷ stays) runs = AreRunsOf stays runs
+AreRunsOf (Tried log volume ∷ stays) runs = AreRunsOf stays runs
 AreRunsOf (Up m ∷ stays) [] = ⊥
 AreRunsOf (Up m ∷ stays) (run ∷ runs) = IsRunOf m run × AreRunsOf stays runs

@@ -1,10 +1,12 @@
--- What an open says of its way, if its devices stand for a log: from moment to moment, by steps of a restart, to the world that it answers.
-use Rattle.std.specs.Prelude.{◌≡◌, ◌-◌, ◌≤◌, ℕ, List, Result, IfOk, OnOk, length, take}
+-- What an open says of its way, if what is read of its devices stands for a log: past both barriers, and from moment to moment, by steps of a restart, to
+-- the world that it answers.
+use Rattle.std.specs.Prelude.{◌≡◌, ◌⊎◌, ◌-◌, ◌≤◌, ℕ, List, [], Result, Ok, Err, length, take}
 use Rattle.shore_types.specs.declared.faults.Fault.{Fault}
 use Rattle.shore_types.specs.declared.layout.Geometry.{Geometry}
 use Rattle.shore_types.specs.declared.layout.TheConstants.{LOG_FRONT_BYTES}
-use Rattle.shore_disk.specs.Device.{History, Stands, size}
+use Rattle.shore_disk.specs.Device.{History, may_leave, seen, size}
 use Rattle.shore_disk.specs.declared.device.Disk.{Ghosts}
+use Rattle.shore_fronts.specs.Barriers.{IsBeforeBarrier, IsBehindBarrier}
 use Rattle.shore_dwrite.specs.declared.places.TheConstants.{GATE_AT}
 use Rattle.shore_model.specs.declared.log_records.LogRecord.{LogRecord}
 use Rattle.shore_analysis.specs.declared.analysis.Tables.{Tables}
@@ -14,19 +16,36 @@ use Rattle.laws_lives.specs.Undo.{HasNoLosers}
 use Rattle.laws_runs.specs.StoredRuns.{IsOpenedOver}
 use Rattle.laws_runs.specs.RoomyStates.{IsOpenedFrom}
 use Rattle.laws_calls.specs.States.{State}
-use Rattle.laws_images.specs.Moments.{Moment, Path}
-use Rattle.laws_images.specs.StandsFor.{begun_on}
+use Rattle.laws_images.specs.Moments.{IsLostAlong, Moment, Path}
+use Rattle.laws_images.specs.StandsFor.{StandsFor, begun_on}
 use Rattle.shore_restart.specs.declared.passes.Report.{Report}
 use Rattle.shore_restart.specs.Turns.{IsUndoneSoFar}
 use Rattle.shore_world.specs.declared.world.World.{World}
-use Rattle.shore_world.specs.Worlds.{IsAt, geometry_in, history_in, log_in, volume_history_in, volume_in}
+use Rattle.shore_world.specs.Worlds.{IsAt, geometry_in, history_in, volume_history_in}
 
--- the devices have these lengths, and hold these images, all of them stable
-pub record AreFound (log_bytes volume_bytes : ℕ) (log_image volume_image : List ℕ) (log volume : History) : Type 0 where
-  pub lengths : (size log ≡ log_bytes) × (size volume ≡ volume_bytes)
-  pub stands : Stands log log_image × Stands volume volume_image
+-- ---- the way
 
--- The world is what a restart has made of its last moment: all is redone, nobody is left to be undone, and it shows the records in place.
+-- From devices with these calls behind them, of which a log and pages are read: both pass their barriers, and from there it goes by steps of a restart.
+pub record OpenWay (g : Geometry) (log volume : History) (rs : List LogRecord) (pages : LoggedPages) : Type 0 where
+  pub log_behind : History
+  pub volume_behind : History
+  pub barriers : IsBehindBarrier log log_behind × IsBehindBarrier volume volume_behind
+  pub moments : List Moment
+  pub last : Moment
+  pub path : Path g (take LOG_FRONT_BYTES (seen log)) (take GATE_AT (seen volume)) (begun_on log_behind volume_behind rs pages) moments last
+
+-- What a crash may leave of two devices at some moment of an open of them, or behind one that was refused, if what is read of them stands for a log and
+-- pages: what they could have left before the call, until both barriers have answered; and from then on what is lost on the way.
+abbrev pub LeftByOpen : History → History → List ℕ → List ℕ → Type 0
+LeftByOpen log volume log_left volume_left =
+    (g : Geometry) (rs : List LogRecord) (pages : LoggedPages) → StandsFor g (size log) (size volume) rs pages (seen log) (seen volume)
+    → (may_leave log log_left × may_leave volume volume_left)
+    ⊎ ((way : OpenWay g log volume rs pages) × IsLostAlong (begun_on way.log_behind way.volume_behind rs pages) way.moments log_left volume_left)
+
+-- ---- its end
+
+-- The world is what a restart has made of its last moment: all is redone, nobody is left to be undone, and it shows the records in place. Nobody asks for a
+-- lock, and there may be as many requests as the geometry says.
 pub record IsOpenedAt {L V : Type 0} {G : Ghosts L} {H : Ghosts V} (w : World L V G H) (g : Geometry) (log_front front : List ℕ) (last : Moment) : Type 0 where
   pub geometry : geometry_in w ≡ g
   pub histories : (history_in w ≡ last.log) × (volume_history_in w ≡ last.volume)
@@ -37,17 +56,21 @@ pub record IsOpenedAt {L V : Type 0} {G : Ghosts L} {H : Ghosts V} (w : World L 
   pub at : IsAt w log_front front disk first last.store
   pub over : IsOpenedOver last.store first
   pub from : IsOpenedFrom (size last.log - LOG_FRONT_BYTES) last.store.log first
+  pub locks : first.locks ≡ record { limit = g.max_locks; requests = [] }
 
--- The open of devices that hold these images, of which a log and pages are said: its way, and at Ok the world at its end. Its losers have taken their
--- turns in their order.
-pub record OpensAlong {L V : Type 0} {G : Ghosts L} {H : Ghosts V} (result : Result (World L V G H) (Fault × L × V)) (g : Geometry) (log volume : History) (log_image volume_image : List ℕ) (rs : List LogRecord) (pages : LoggedPages) : Type 0 where
-  pub moments : List Moment
-  pub last : Moment
-  pub path : Path g (take LOG_FRONT_BYTES log_image) (take GATE_AT volume_image) (begun_on log volume rs pages) moments last
-  pub of_log : last.log ≡ G.history (log_in result)
-  pub of_volume : last.volume ≡ H.history (volume_in result)
-  pub opened : IfOk result (λ w. IsOpenedAt w g (take LOG_FRONT_BYTES log_image) (take GATE_AT volume_image) last)
-  pub undone : OnOk result (IsUndoneSoFar rs last.store.log)
+-- The world is there at the end of the way, on which the losers have taken their turns in their order.
+pub record HasOpened {L V : Type 0} {G : Ghosts L} {H : Ghosts V} (w : World L V G H) (g : Geometry) (log volume : History) (rs : List LogRecord) (pages : LoggedPages) : Type 0 where
+  pub way : OpenWay g log volume rs pages
+  pub opened : IsOpenedAt w g (take LOG_FRONT_BYTES (seen log)) (take GATE_AT (seen volume)) way.last
+  pub undone : IsUndoneSoFar rs way.last.store.log
+
+-- What an open comes to: a world at the end of its way; or it is refused, and hands the devices back before both barriers have answered, or from where its
+-- way has led.
+abbrev pub OpensAlong : {L V : Type 0} {G : Ghosts L} {H : Ghosts V} → Result (World L V G H) (Fault × L × V) → Geometry → History → History → List LogRecord → LoggedPages → Type 0
+OpensAlong (Ok w) g log volume rs pages = HasOpened w g log volume rs pages
+OpensAlong {G = G} {H = H} (Err refused) g log volume rs pages =
+    (IsBeforeBarrier log (G.history refused.1) × IsBeforeBarrier volume (H.history refused.2))
+    ⊎ ((way : OpenWay g log volume rs pages) × (way.last.log ≡ G.history refused.1) × (way.last.volume ≡ H.history refused.2))
 
 -- What a restart tells of a log that it found: how many records it has, how many of them pages lacked, and how many transactions it had to end.
 pub record IsReportOf (found : List LogRecord) (report : Report) : Type 0 where

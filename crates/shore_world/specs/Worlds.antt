@@ -2,12 +2,15 @@
 use Rattle.std.specs.Prelude.{◌≡◌, ◌⊎◌, ℕ, ◌+◌, ◌-◌, ◌<◌, ◌≤◌, List, [], ◌∷◌, ◌++◌, Bool, false, IsTrue, IsSome, IsSomeAnd, MatchResult, None, Result, Ok, Err, length, take, drop}
 use Rattle.shore_types.specs.declared.faults.Fault.{Fault}
 use Rattle.shore_types.specs.declared.faults.Fault.TheVariants.{Device, Failed, Memory, LogFull}
+use Rattle.shore_types.specs.declared.ids.Rid.{Rid}
 use Rattle.shore_types.specs.declared.layout.Geometry.{Geometry}
 use Rattle.shore_types.specs.declared.layout.TheConstants.{LOG_FRONT_BYTES, LONGEST_FRAME}
 use Rattle.shore_disk.specs.Device.{History, size, may_leave, LeavesOnly}
 use Rattle.shore_disk.specs.declared.device.Disk.{Ghosts}
 use Rattle.shore_model.specs.declared.calls.Answer.TheVariants.{Staged, Forced}
 use Rattle.shore_model.specs.declared.log_records.LogRecord.{LogRecord}
+use Rattle.shore_model.specs.Records.{scan_of}
+use Rattle.shore_model.specs.declared.requests.Request.{Request}
 use Rattle.shore_model.specs.declared.step.Step.{Step}
 use Rattle.shore_model.specs.declared.step.Step.TheVariants.{Done, Refused, Nothing}
 use Rattle.laws_calls.specs.Events.{Called, HasFailed, ManagerEvent, Resumed}
@@ -52,6 +55,10 @@ module _ {L V : Type 0} {G : Ghosts L} {H : Ghosts V} where
   abbrev pub geometry_in : World L V G H → Geometry
   geometry_in w = cores.geometry_of w.core
 
+  -- the requests of its lock table
+  abbrev pub requests_in : World L V G H → List Request
+  requests_in w = (cores.locks_of w.core).requests
+
   -- how many frames it has for pages
   abbrev pub frames_in : World L V G H → ℕ
   frames_in w = limit_of (cores.heap_of w.core)
@@ -75,6 +82,11 @@ module _ {L V : Type 0} {G : Ghosts L} {H : Ghosts V} where
   -- .. and over this store of plain data, which has its log and its pages
   abbrev pub IsOverStore : World L V G H → (ℕ → List ℕ) → State → RecoveryState → Type 0
   IsOverStore w disk s store = IsOver disk w.core s store
+
+  -- a dump of the store answers these: its records in place, in whatever state the world is
+  abbrev pub IsDumpOf : World L V G H → ℕ → List (Rid × List ℕ) → Type 0
+  IsDumpOf w store pairs = (front : List ℕ) (disk : ℕ → List ℕ) (s : State) (kept : RecoveryState) → IsInState w front disk s → IsSafe (geometry_in w) s
+      → IsOverStore w disk s kept → pairs ≡ scan_of store s.sessions.records
 
   -- the log is of this length, without its front
   abbrev pub stream_bytes_in : World L V G H → ℕ
@@ -171,8 +183,9 @@ module _ {L V : Type 0} {G : Ghosts L} {H : Ghosts V} where
     pub kept : SurvivesCrashes w log_front
     pub room : cost_of_log (list_in w) + LONGEST_FRAME ≤ stream_bytes_in w
 
-  -- A frame is under way now: it has the longest list of the records not yet durable that one frame holds, the last of this number.
+  -- No frame was under way, and one is now: it has the longest list of the records not yet durable that one frame holds, the last of this number.
   pub record HasStaged (old new : World L V G H) (n : ℕ) : Type 0 where
+    pub none_before : old.log.staged ≡ None
     pub longest : IsLongest (drop (durable_in old) (list_in old)) (n - durable_in old)
     pub under_way : IsSomeAnd new.log.staged (λ frame. frame.count ≡ n - durable_in old)
     pub on_device : (front : List ℕ) → SurvivesCrashes old front → IsStaged new.log front (take (n - durable_in old) (drop (durable_in old) (list_in old)))
@@ -202,6 +215,8 @@ module _ {L V : Type 0} {G : Ghosts L} {H : Ghosts V} where
     -- nothing is staged only if every record is durable or a frame is under way, and no gate is opened only if none is
     pub idle : e ≡ event.ForceStage → step ≡ Nothing → IsIdle old
     pub shut : e ≡ event.ForceOpen → step ≡ Nothing → old.log.staged ≡ None
+    -- .. and whatever comes to nothing makes no call of the log device
+    pub quiet : step ≡ Nothing → new.log.device ≡ old.log.device
     pub full : e ≡ event.ForceStage → step ≡ Refused LogFull → ¬ HasForceRoom old
     pub flushed : e ≡ event.FlushStep → HasFlushed old step new
     pub report : report_in new ≡ report_in old

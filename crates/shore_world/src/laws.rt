@@ -1,28 +1,31 @@
 //! What the contracts of the calls come to over whole lives of a pair of devices. Each law is stated as the contract of an empty function.
-ghost use Rattle.std.specs.Prelude.{◌≡◌, ◌-◌, ◌++◌, ℕ, List, [], All};
-ghost use Rattle.std.specs.FinMap.{empty};
+ghost use Rattle.std.specs.Prelude.{◌≡◌, ◌-◌, ◌++◌, ℕ, List, [], All, Err};
+ghost use Rattle.shore_types.specs.declared.faults.Fault.{Fault};
 ghost use Rattle.shore_types.specs.declared.layout.Geometry.{Geometry};
 ghost use Rattle.shore_types.specs.declared.layout.TheConstants.{LOG_FRONT_BYTES};
+ghost use Rattle.shore_disk.specs.Device.{History, Stands, may_leave, seen, size};
 ghost use Rattle.shore_model.specs.declared.histories.Entry.{Entry};
 ghost use Rattle.shore_model.specs.declared.log_records.LogRecord.{LogRecord};
-ghost use Rattle.shore_model.specs.Lives.{IsLife};
-ghost use Rattle.laws_lives.specs.Soundness.{opening_with};
-ghost use Rattle.laws_lives.specs.Pages.{LoggedPages};
-ghost use Rattle.laws_lives.specs.Recovery.{RecoveryEvent, RecoveryState};
-ghost use Rattle.laws_lives.specs.Restarts.{RestartsTo};
-ghost use Rattle.laws_lives.specs.Stretches.{just_formatted, opening_told};
 ghost use Rattle.shore_model.specs.declared.step.Step.{Step};
+ghost use Rattle.shore_model.specs.Locks.{Harmony, WellRooted};
+ghost use Rattle.shore_model.specs.Logs.{records_told};
+ghost use Rattle.shore_model.specs.Requests.{held_by_all};
+ghost use Rattle.laws_lives.specs.Pages.{LoggedPages};
 ghost use Rattle.laws_calls.specs.Events.{ManagerEvent};
-ghost use Rattle.laws_runs.specs.StoredRuns.{AreFixed, AreStoredRuns, RunsShow, StoredEvent, StoredMoves, StoredRun, StoredState, lists_found, spans_of_runs};
+ghost use Rattle.laws_runs.specs.StoredRuns.{StoredEvent, StoredMoves, StoredRun, StoredState};
 ghost use Rattle.shore_format.specs.Pairs.{AreFormatted};
 ghost use Rattle.laws_runs.specs.SoundStores.{IsUnderWay, found_state, managed};
 ghost use Rattle.laws_runs.specs.Stays.{IsStoredUp};
 ghost use Rattle.laws_images.specs.StandsFor.{StandsFor};
 ghost use Rattle.shore_world.specs.declared.event.Event.{Event};
 ghost use Rattle.shore_world.specs.declared.world.World.{World};
+ghost use Rattle.shore_world.specs.Crashes.{AreLeft};
 ghost use Rattle.shore_world.specs.Events.{IsServedEvent};
-ghost use Rattle.shore_world.specs.Managers.{AreRunsOf, AreStays, IsManager, IsRunOf, Manager, NoForceIsFull, Stay};
-ghost use Rattle.shore_world.specs.Worlds.{IsAt, Runs, geometry_in, stream_bytes_in};
+ghost use Rattle.shore_world.specs.Lives.{DumpsShow, HaveLived};
+ghost use Rattle.shore_world.specs.Managers.{AreFound, AreStays, IsManager, IsRunOf, Manager, NoForceIsFull, Stay};
+ghost use Rattle.shore_world.specs.Opens.{HasOpened, LeftByOpen, OpensAlong};
+ghost use Rattle.shore_world.specs.Promises.{IsManagerOf};
+ghost use Rattle.shore_world.specs.Worlds.{IsAt, Runs, geometry_in, history_in, requests_in, stream_bytes_in, volume_history_in};
 
 use shore_disk::Disk;
 
@@ -37,24 +40,44 @@ pub fn runs_are_stored_runs<L: Disk, V: Disk>()
         × IsAt new log_front front left last.state last.store × IsUnderWay (geometry_in old) (stream_bytes_in old) found (es ++ made) last }
 {}
 
-/// Format, and then any number of opens, runs and crashes at any moment, in opens too, both devices losing power at once. The pair that is left stands for
-/// a log, and for pages with whatever of undecided transactions was written back: so its open answers unless a device or an allocation fails. What that log
-/// tells is the empty store with the committed transactions of each run applied in turn, those of a prefix of the run's decisions that
-/// holds every acknowledged one, each transaction alone, in the order of the commits. Each open on the way showed the records of its life so far, on which what came behind it goes
+/// Format, and then any number of stays: managers, and opens that came to none. Each ends at any moment, in opens too: both devices lose power at once, or the
+/// process ends, or the devices are handed back; and then they are opened again. Whatever pair of images may be left in the end, it stands for a log, and for
+/// pages with whatever of undecided transactions was written back (`left`): so its open answers unless a device or an allocation fails. What that log
+/// tells is the empty store with the committed transactions of each manager applied in turn, those of a prefix of its decisions that holds every acknowledged
+/// one, each transaction alone, in the order of the commits. Each open on the way showed the records of its life so far, on which what came behind it goes
 /// on, and the log that it found is a prefix of every later one: nothing that an open has shown is taken back.
-/// `log_first` and `volume_first` are what the format leaves, `log_last` and `volume_last` what is left in the end.
+/// If the pair is opened then (`shown`), the world is a manager that begins with what this log tells: dumps of it, store by store, are these records, and the
+/// locks that are held are in harmony and well rooted.
 pub fn committed_work_survives_every_crash<L: Disk, V: Disk>()
-    ensures { (g : Geometry) (log_bytes volume_bytes : ℕ) (log_first volume_first log_last volume_last : List ℕ) (stays : List (Stay L V L.Disk V.Disk)) →
-        AreFormatted g log_bytes volume_bytes log_first volume_first → AreStays log_bytes volume_bytes log_first volume_first stays log_last volume_last →
-        (rs : List LogRecord) × (pages : LoggedPages) × (runs : List StoredRun) × (end : RecoveryState) × StandsFor g log_bytes volume_bytes rs pages log_last volume_last
-        × AreRunsOf stays runs × AreStoredRuns g just_formatted runs end × ((works : List RecoveryEvent) × RestartsTo end works (found_state rs pages))
-        × IsLife (opening_with empty) (spans_of_runs just_formatted runs) (opening_told rs) × RunsShow (opening_with empty) just_formatted runs
-        × AreFixed (lists_found just_formatted runs) rs }
+    ensures left { (g : Geometry) (log_bytes volume_bytes : ℕ) (stays : List (Stay L V L.Disk V.Disk)) (log volume : History) (log_image volume_image : List ℕ) →
+        AreStays log_bytes volume_bytes (AreFormatted g log_bytes volume_bytes) stays log volume → may_leave log log_image → may_leave volume volume_image →
+        (rs : List LogRecord) × (pages : LoggedPages) × StandsFor g log_bytes volume_bytes rs pages log_image volume_image × HaveLived g stays rs pages }
+    ensures shown { (g : Geometry) (log_bytes volume_bytes : ℕ) (stays : List (Stay L V L.Disk V.Disk)) (log volume : History) (w : World L V L.Disk V.Disk) →
+        AreStays log_bytes volume_bytes (AreFormatted g log_bytes volume_bytes) stays log volume →
+        ((rs : List LogRecord) (pages : LoggedPages) → StandsFor g (size log) (size volume) rs pages (seen log) (seen volume) → HasOpened w g log volume rs pages) →
+        (rs : List LogRecord) × (pages : LoggedPages) × HaveLived g stays rs pages × IsManagerOf w (records_told rs) [] []
+        × DumpsShow w (records_told rs) × Harmony (held_by_all (requests_in w)) × WellRooted (held_by_all (requests_in w)) }
+{}
+
+/// Each way to come from one open to the next is among those of `AreStays`. Behind a loss of power the devices hold one pair of images that was left, all of
+/// it stable: of a manager (`crash`), or of an open that it cut off (`cut`). A manager may hand its devices back with no loss of power (`closed`), and so does
+/// an open that is refused (`refused`).
+pub fn pairs_are_found_again<L: Disk, V: Disk>()
+    ensures crash { (w : World L V L.Disk V.Disk) (log volume : History) (log_image volume_image : List ℕ) → AreLeft w log_image volume_image → Stands log log_image →
+        Stands volume volume_image → AreFound (size log) (size volume) (AreLeft w) log volume }
+    ensures cut { (log volume log_now volume_now : History) (log_image volume_image : List ℕ) → LeftByOpen log volume log_image volume_image → Stands log_now log_image →
+        Stands volume_now volume_image → AreFound (size log_now) (size volume_now) (LeftByOpen log volume) log_now volume_now }
+    ensures closed { (w : World L V L.Disk V.Disk) → AreFound (size (history_in w)) (size (volume_history_in w)) (AreLeft w) (history_in w) (volume_history_in w) }
+    ensures refused { (log volume log_now volume_now : History) (fault : Fault) (l : L) (v : V) → L.Disk.history l ≡ log_now → V.Disk.history v ≡ volume_now →
+        ((g : Geometry) (rs : List LogRecord) (pages : LoggedPages) → StandsFor g (size log) (size volume) rs pages (seen log) (seen volume) →
+        OpensAlong {G = L.Disk} {H = V.Disk} (Err (fault, l, v)) g log volume rs pages) →
+        (log_image volume_image : List ℕ) → may_leave log_now log_image → may_leave volume_now volume_image → LeftByOpen log volume log_image volume_image }
 {}
 
 /// A manager on a pair that stands for a log and pages is a stay of the power over plain data, and no force of it is refused by `LogFull`.
 pub fn runs_stay_in_bounds<L: Disk, V: Disk>()
-    ensures { (g : Geometry) (log_bytes volume_bytes : ℕ) (rs : List LogRecord) (pages : LoggedPages) (log_image volume_image : List ℕ) (manager : Manager L V L.Disk V.Disk) →
-        StandsFor g log_bytes volume_bytes rs pages log_image volume_image → IsManager log_bytes volume_bytes log_image volume_image manager →
-        ((run : StoredRun) × IsRunOf manager run × IsStoredUp g (log_bytes - LOG_FRONT_BYTES) (found_state rs pages) run) × NoForceIsFull manager.events manager.steps }
+    ensures { (g : Geometry) (rs : List LogRecord) (pages : LoggedPages) (manager : Manager L V L.Disk V.Disk) →
+        StandsFor g (size manager.log) (size manager.volume) rs pages (seen manager.log) (seen manager.volume) → IsManager manager →
+        ((run : StoredRun) × IsRunOf manager run × IsStoredUp g (size manager.log - LOG_FRONT_BYTES) (found_state rs pages) run)
+        × NoForceIsFull manager.events manager.steps }
 {}

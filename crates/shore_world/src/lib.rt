@@ -6,6 +6,7 @@
 mod event;
 pub mod laws;
 mod opening;
+pub mod promises;
 mod world;
 
 pub use event::Event;

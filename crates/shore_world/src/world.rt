@@ -2,7 +2,6 @@
 ghost use Rattle.std.specs.List.Sorted.{IsPermutation, IsSorted};
 ghost use Rattle.std.specs.Prelude.{◌≡◌, ◌≢◌, ◌⊎◌, ◌+◌, ◌-◌, ◌≤◌, ◌++◌, ℕ, List, [], ◌∷◌, All, IsTrue, IfOk, IfErr, IsErrAnd, MatchResult, OnOk, OnErr, Err, None, length, take};
 ghost use Rattle.shore_types.specs.Layout.{HasStore};
-ghost use Rattle.shore_model.specs.Records.{scan_of};
 ghost use Rattle.shore_locks.specs.Listing.{request_cmp};
 ghost use Rattle.shore_disk.specs.Device.{size, seen, may_leave, LeavesOnly};
 ghost use Rattle.shore_disk.specs.Cause.{HasCause};
@@ -41,7 +40,7 @@ pub struct World<L: Disk, V: Disk> {
 }
 
 impl<L: Disk, V: Disk> World<L, V> {
-    ghost use Rattle.shore_world.specs.Worlds.{IsInState, IsOverStore, EventMovesWorld, HasForced, HasStaged, HasFailedToRead, IsLike, Steps, Runs, HasForceRoom, IsIdle, durable_in, failed_in, frames_in, geometry_in, list_in, report_in, fault_in, log_in, volume_in};
+    ghost use Rattle.shore_world.specs.Worlds.{IsDumpOf, IsInState, IsOverStore, EventMovesWorld, HasForced, HasStaged, HasFailedToRead, IsLike, Steps, Runs, HasForceRoom, IsIdle, durable_in, failed_in, frames_in, geometry_in, list_in, report_in, requests_in, fault_in, log_in, volume_in};
     ghost use Rattle.shore_world.specs.Opens.{IsReportOf, OpensAlong};
     ghost use Rattle.shore_frames.specs.Frames.{Gives};
     ghost use Rattle.shore_world.specs.Refusals.{RefusesOpen};
@@ -50,7 +49,6 @@ impl<L: Disk, V: Disk> World<L, V> {
     ghost use Rattle.shore_fronts.specs.Causes.{HasCauseOfPair};
     ghost use Rattle.shore_fronts.specs.Pairs.{HaveFronts};
     ghost use Rattle.shore_gate.specs.Checks.{IsFromOutside};
-    ghost use Rattle.shore_disk.specs.Device.{Stands};
     ghost use Rattle.shore_dwrite.specs.Shown.{Shows};
     ghost use Rattle.laws_lives.specs.Pages.{LoggedPages};
     ghost use Rattle.shore_model.specs.declared.log_records.LogRecord.{LogRecord};
@@ -79,31 +77,30 @@ impl<L: Disk, V: Disk> World<L, V> {
         ensures geometry { IsTrue (L.is_honest log) → IsTrue (V.is_honest volume) → (g : Geometry) → HaveFronts g (L.history log) (V.history volume)
             → IfOk result (λ w. geometry_in w ≡ g) }
 
-        // Of images that stand for a log and pages it makes its way by steps of a restart, at each moment of which a crash leaves what may be
-        // opened again; the world at its end has all records done and no loser.
-        ensures along { IsTrue (L.is_honest log) → IsTrue (V.is_honest volume) → (g : Geometry) (rs : List LogRecord) (pages : LoggedPages) (log_image volume_image : List ℕ)
-            → Stands (L.history log) log_image → Stands (V.history volume) volume_image
-            → StandsFor g (size (L.history log)) (size (V.history volume)) rs pages log_image volume_image
-            → OpensAlong result g (L.history log) (V.history volume) log_image volume_image rs pages }
+        // If what is read of the devices stands for a log and pages, it passes both barriers and makes its way by steps of a restart, at each moment of
+        // which a crash leaves what may be opened again; the world at its end has all records done and no loser.
+        ensures along { IsTrue (L.is_honest log) → IsTrue (V.is_honest volume) → (g : Geometry) (rs : List LogRecord) (pages : LoggedPages)
+            → StandsFor g (size (L.history log)) (size (V.history volume)) rs pages (seen (L.history log)) (seen (V.history volume))
+            → OpensAlong result g (L.history log) (V.history volume) rs pages }
 
         // It tells what its restart did with the log that the frames give.
         ensures report { IsTrue (L.is_honest log) → (rs : List LogRecord) → Gives rs (seen (L.history log)) → IfOk result (λ w. IsReportOf rs (report_in w)) }
         // .. of which so many were missing on the pages.
-        ensures redone { IsTrue (L.is_honest log) → IsTrue (V.is_honest volume) → (g : Geometry) (rs : List LogRecord) (pages : LoggedPages) (log_image volume_image : List ℕ)
-            → Stands (L.history log) log_image → Stands (V.history volume) volume_image
-            → StandsFor g (size (L.history log)) (size (V.history volume)) rs pages log_image volume_image → IfOk result (λ w. (report_in w).redone ≡ missing_on rs pages) }
+        ensures redone { IsTrue (L.is_honest log) → IsTrue (V.is_honest volume) → (g : Geometry) (rs : List LogRecord) (pages : LoggedPages)
+            → StandsFor g (size (L.history log)) (size (V.history volume)) rs pages (seen (L.history log)) (seen (V.history volume))
+            → IfOk result (λ w. (report_in w).redone ≡ missing_on rs pages) }
         ensures frames { IfOk result (λ w. frames_in w ≡ frames) }
 
         // What is opened was in order: the frames give the log, and the volume shows pages.
         ensures in_order { IsTrue (L.is_honest log) → IsTrue (V.is_honest volume) → IfOk result (λ w. ((rs : List LogRecord) × Gives rs (seen (L.history log)))
             × ((pages : ℕ → List ℕ) × Shows (geometry_in w) (seen (V.history volume)) pages)) }
 
-        // What is refused goes by the checks in their order. Images that stand for a log and pages are opened, unless a device or an allocation fails.
+        // What is refused goes by the checks in their order. What stands for a log and pages is opened, unless a device or an allocation fails.
         ensures refused { IsTrue (L.is_honest log) → IsTrue (V.is_honest volume)
             → IfErr result (λ e. IsFromOutside e.0 ⊎ RefusesOpen (L.history log) (V.history volume) (L.history e.1) e.0) }
-        ensures stands { IsTrue (L.is_honest log) → IsTrue (V.is_honest volume) → (g : Geometry) (rs : List LogRecord) (pages : LoggedPages) (log_image volume_image : List ℕ)
-            → Stands (L.history log) log_image → Stands (V.history volume) volume_image
-            → StandsFor g (size (L.history log)) (size (V.history volume)) rs pages log_image volume_image → IfErr result (λ e. IsFromOutside e.0) }
+        ensures stands { IsTrue (L.is_honest log) → IsTrue (V.is_honest volume) → (g : Geometry) (rs : List LogRecord) (pages : LoggedPages)
+            → StandsFor g (size (L.history log)) (size (V.history volume)) rs pages (seen (L.history log)) (seen (V.history volume))
+            → IfErr result (λ e. IsFromOutside e.0) }
 
         ensures honest { (L.is_honest (log_in result) ≡ L.is_honest log) × (V.is_honest (volume_in result) ≡ V.is_honest volume) }
         ensures size { (size (L.history (log_in result)) ≡ size (L.history log)) × (size (V.history (volume_in result)) ≡ size (V.history volume)) }
@@ -163,8 +160,7 @@ impl<L: Disk, V: Disk> World<L, V> {
     /// may be refused by `Device`, `Damaged` and `Memory`, and by `NeedForce(n)` if a page needs a frame that is free once the log is forced up to
     /// number n; and by `NoStore` and, once a device has failed, by `Failed`.
     pub fn dump(&mut self, alloc: Global, store: StoreId) -> Result<Pairs, Fault>
-        ensures shown { (front : List ℕ) (disk : ℕ → List ℕ) (s : State) (kept : RecoveryState) → IsInState self.old front disk s → IsSafe (geometry_in self.old) s
-            → IsOverStore self.old disk s kept → IfOk result (λ pairs. pairs ≡ scan_of store s.sessions.records) }
+        ensures shown { IfOk result (λ pairs. IsDumpOf self.old store pairs) }
 
         // An answer by `Device` or `Damaged` is the failure of a running manager, and changes nothing else; any other changes nothing that a call or
         // a crash could tell. So runs before and behind a dump join.
@@ -211,8 +207,7 @@ impl<L: Disk, V: Disk> World<L, V> {
 
     /// All requests of the lock table, granted or waiting, by granule and then by transaction.
     pub fn nodes(&self, alloc: Global) -> Result<Vec<Request>, AllocError>
-        ensures all { (front : List ℕ) (disk : ℕ → List ℕ) (s : State) → IsInState self.now front disk s
-            → IfOk result (λ all. IsPermutation s.locks.requests all.items) }
+        ensures all { IfOk result (λ all. IsPermutation (requests_in self.now) all.items) }
         ensures order { IfOk result (λ all. IsSorted request_cmp all.items) }
     {
         self.core.nodes(alloc)
@@ -239,6 +234,7 @@ impl<L: Disk, V: Disk> World<L, V> {
         ensures volume { heap_of self.new.core ≡ heap_of self.old.core }
         ensures report { report_in self.new ≡ report_in self.old }
         ensures idle { result ≡ Step.Nothing → IsIdle self.old }
+        ensures quiet { result ≡ Step.Nothing → self.new.log.device ≡ self.old.log.device }
         ensures full { result ≡ Step.Refused Fault.LogFull → ¬ HasForceRoom self.old }
         ensures damaged { Earns self.old.core (ReadBy self.old.core Event.ForceStage) (fault_at result) }
         ensures unforced { NeedsForce self.old.core (fault_at result) }
@@ -266,6 +262,7 @@ impl<L: Disk, V: Disk> World<L, V> {
         ensures volume { heap_of self.new.core ≡ heap_of self.old.core }
         ensures report { report_in self.new ≡ report_in self.old }
         ensures shut { result ≡ Step.Nothing → self.old.log.staged ≡ None }
+        ensures quiet { result ≡ Step.Nothing → self.new.log.device ≡ self.old.log.device }
         ensures damaged { Earns self.old.core (ReadBy self.old.core Event.ForceOpen) (fault_at result) }
         ensures unforced { NeedsForce self.old.core (fault_at result) }
         ensures cause { HasCause (fault_at result) (L.faults self.old.log.device) (L.faults self.new.log.device) }

@@ -1,9 +1,10 @@
-use Rattle.std.proofs.Common.{◌≡◌, ℕ, List, IsTrue, subst, sym, ap, ◌∙◌}
+use Rattle.std.proofs.Common.{◌≡◌, ℕ, List, IsTrue, refl, subst, sym, ap, ◌∙◌}
 use Rattle.std.proofs.lemmas.Result.{err_from_is_err_and}
 use Rattle.shore_disk.specs.Device.{History, noted, seen, synced}
 use Rattle.shore_gate.specs.Anchor.{Counts}
 use Rattle.shore_fronts.specs.Fronts.{first_anchor}
 use Rattle.shore_fronts.specs.Pairs.{ArePaired}
+use Rattle.shore_fronts.proofs.BarrierLemmas.{behind, not_called, once_synced}
 use Rattle.shore_fronts.proofs.fronts.read_fronts.Goals as goal
 
 pub returns-in_err-anchor_offset-clause-only : goal.returns-in_err-anchor_offset-clause-only
@@ -29,3 +30,41 @@ returns-clause-found g c of_log of_volume =
       counts.2,
       c.in_ok-geometry.ensures.limits.1,
     )
+
+-- ---- the barrier
+
+pub returns-in_err-sync-clause-log_before : goal.returns-in_err-sync-clause-log_before
+returns-in_err-sync-clause-log_before g c of_log = not_called _ _ (c.in_err-sync.ensures.synced of_log)
+
+pub returns-in_err-sync-clause-volume_before : goal.returns-in_err-sync-clause-volume_before
+returns-in_err-sync-clause-volume_before g c of_volume = not_called _ _ refl
+
+pub returns-in_err-sync-2-clause-log_before : goal.returns-in_err-sync-2-clause-log_before
+returns-in_err-sync-2-clause-log_before g c of_log = once_synced _ _ (c.in_ok-sync.ensures.synced of_log)
+
+pub returns-in_err-sync-2-clause-volume_before : goal.returns-in_err-sync-2-clause-volume_before
+returns-in_err-sync-2-clause-volume_before g c of_volume = not_called _ _ (c.in_err-sync-2.ensures.synced of_volume)
+
+pub returns-in_err-geometry-clause-log_before : goal.returns-in_err-geometry-clause-log_before
+returns-in_err-geometry-clause-log_before g c of_log = once_synced _ _ (c.read_labels.ensures.log_same (subst IsTrue (sym c.sync.ensures.honest) of_log) ∙ c.in_ok-sync.ensures.synced of_log)
+
+pub returns-in_err-geometry-clause-volume_before : goal.returns-in_err-geometry-clause-volume_before
+returns-in_err-geometry-clause-volume_before g c of_volume = once_synced _ _ (c.read_labels.ensures.volume_same (subst IsTrue (sym c.sync-2.ensures.honest) of_volume) ∙ c.in_ok-sync-2.ensures.synced of_volume)
+
+pub returns-in_err-anchor_offset-clause-log_before : goal.returns-in_err-anchor_offset-clause-log_before
+returns-in_err-anchor_offset-clause-log_before g c of_log = once_synced _ _ (c.read_anchor.ensures.same (subst IsTrue (sym c.read_labels.ensures.honest.0) (subst IsTrue (sym c.sync.ensures.honest) of_log)) ∙ c.read_labels.ensures.log_same (subst IsTrue (sym c.sync.ensures.honest) of_log) ∙ c.in_ok-sync.ensures.synced of_log)
+
+pub returns-in_err-anchor_offset-clause-volume_before : goal.returns-in_err-anchor_offset-clause-volume_before
+returns-in_err-anchor_offset-clause-volume_before g c of_volume = once_synced _ _ (c.read_labels.ensures.volume_same (subst IsTrue (sym c.sync-2.ensures.honest) of_volume) ∙ c.in_ok-sync-2.ensures.synced of_volume)
+
+pub returns-clause-log_before : goal.returns-clause-log_before
+returns-clause-log_before g c of_log = once_synced _ _ (c.read_anchor.ensures.same (subst IsTrue (sym c.read_labels.ensures.honest.0) (subst IsTrue (sym c.sync.ensures.honest) of_log)) ∙ c.read_labels.ensures.log_same (subst IsTrue (sym c.sync.ensures.honest) of_log) ∙ c.in_ok-sync.ensures.synced of_log)
+
+pub returns-clause-volume_before : goal.returns-clause-volume_before
+returns-clause-volume_before g c of_volume = once_synced _ _ (c.read_labels.ensures.volume_same (subst IsTrue (sym c.sync-2.ensures.honest) of_volume) ∙ c.in_ok-sync-2.ensures.synced of_volume)
+
+pub returns-clause-log_behind : goal.returns-clause-log_behind
+returns-clause-log_behind g c of_log = behind _ _ (c.read_anchor.ensures.same (subst IsTrue (sym c.read_labels.ensures.honest.0) (subst IsTrue (sym c.sync.ensures.honest) of_log)) ∙ c.read_labels.ensures.log_same (subst IsTrue (sym c.sync.ensures.honest) of_log) ∙ c.in_ok-sync.ensures.synced of_log)
+
+pub returns-clause-volume_behind : goal.returns-clause-volume_behind
+returns-clause-volume_behind g c of_volume = behind _ _ (c.read_labels.ensures.volume_same (subst IsTrue (sym c.sync-2.ensures.honest) of_volume) ∙ c.in_ok-sync-2.ensures.synced of_volume)

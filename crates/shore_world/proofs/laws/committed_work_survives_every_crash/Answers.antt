@@ -1,27 +1,26 @@
 use Rattle.std.proofs.Common.{◌-◌, []}
 use Rattle.shore_types.specs.declared.layout.TheConstants.{LOG_FRONT_BYTES}
-use Rattle.laws_lives.specs.Pages.{empty_page}
-use Rattle.laws_runs.proofs.StaySteps.{are_a_life, come, keep_what_was_found, show_what_was_told}
-use Rattle.laws_runs.specs.Stays.{runs_of}
-use Rattle.laws_images.proofs.Left.{formatted_stand}
-use Rattle.shore_world.proofs.StayLemmas.{have_stayed}
+use Rattle.shore_disk.proofs.Moments.{seen_left}
+use Rattle.shore_disk.specs.Device.{seen}
+use Rattle.shore_world.proofs.StayLemmas.{at_its_lengths, have_lived, have_stayed, opened_in_harmony, opened_manager, opened_shows}
 use Rattle.shore_world.proofs.laws.committed_work_survives_every_crash.Goals as goal
 
-pub returns : goal.returns
-returns c d g log_bytes volume_bytes log_first volume_first log_last volume_last stays formatted are =
-    let stood = formatted_stand g log_bytes volume_bytes log_first volume_first formatted in
-    let stayed = have_stayed g log_bytes volume_bytes [] (λ p. empty_page) log_first volume_first stood stays log_last volume_last are in
-    let bytes = log_bytes - LOG_FRONT_BYTES in
-    let all = come g bytes [] (λ p. empty_page) stood.opened stayed.over stayed.last stayed.last_pages stayed.are in (
+pub returns-clause-left : goal.returns-clause-left
+returns-clause-left c d g log_bytes volume_bytes stays log volume log_image volume_image are log_left volume_left =
+    let stayed = (have_stayed g log_bytes volume_bytes stays log volume are).0 log_image volume_image (log_left, volume_left) in
+    (stayed.last, stayed.last_pages, stayed.stands, have_lived g log_bytes volume_bytes stays log_image volume_image stayed)
+
+pub returns-clause-shown : goal.returns-clause-shown
+returns-clause-shown c d g log_bytes volume_bytes stays log volume w are opens =
+    let all = have_stayed g log_bytes volume_bytes stays log volume are in
+    let stayed = all.0 (seen log) (seen volume) (seen_left log.first log.calls, seen_left volume.first volume.calls) in
+    let stood = at_its_lengths g log_bytes volume_bytes log volume all.1 stayed.last stayed.last_pages (seen log) (seen volume) stayed.stands in
+    let opened = opens stayed.last stayed.last_pages stood in (
       stayed.last,
       stayed.last_pages,
-      runs_of [] stayed.over,
-      all.last,
-      stayed.stands,
-      stayed.of [],
-      all.are,
-      (all.works, all.restarts),
-      are_a_life g bytes [] (λ p. empty_page) stood.opened stayed.over stayed.last stayed.last_pages stayed.are,
-      show_what_was_told g bytes [] (λ p. empty_page) stood.opened stayed.over stayed.last stayed.last_pages stayed.are,
-      keep_what_was_found g bytes [] (λ p. empty_page) stood.opened stayed.over stayed.last stayed.last_pages stayed.are,
+      have_lived g log_bytes volume_bytes stays (seen log) (seen volume) stayed,
+      opened_manager g stayed.last stayed.last_pages log volume stood w opened,
+      opened_shows g stayed.last stayed.last_pages log volume stood w opened,
+      (opened_in_harmony g stayed.last stayed.last_pages log volume stood w opened).0,
+      (opened_in_harmony g stayed.last stayed.last_pages log volume stood w opened).1,
     )

@@ -2,12 +2,13 @@ use Rattle.std.proofs.Common.{◌≡◌, inl, inr, refl}
 use Rattle.shore_log.specs.Settled.{records_of_log}
 use Rattle.shore_core.specs.Cores.{has_failed}
 use Rattle.shore_world.specs.Worlds.{failed_in}
-use Rattle.shore_world.proofs.DumpLemmas.{dumped_fails, dumped_like, failed_before, never_true, same_truth}
+use Rattle.shore_world.proofs.DumpLemmas.{dumped_fails, dumped_like, failed_before, is_dump, never_true, same_truth}
 use Rattle.shore_world.proofs.WorldLemmas.{same_list}
 use Rattle.shore_world.proofs.world.World.dump.Goals as goal
 
 pub returns-clause-shown : goal.returns-clause-shown
-returns-clause-shown g c front disk s store is safe over = c.dump.ensures.shown front disk (records_of_log c.args.self.now.log) s store is safe over
+returns-clause-shown g c =
+    is_dump c.args.self.now c.args.store c.dump.result (λ front disk s kept is safe over. c.dump.ensures.shown front disk (records_of_log c.args.self.now.log) s kept is safe over)
 
 pub returns-clause-refused : goal.returns-clause-refused
 returns-clause-refused g c front disk s store is safe over = c.dump.ensures.refused front disk (records_of_log c.args.self.now.log) s store is safe over

@@ -170,5 +170,5 @@ returns-in-Ok-Some-clause-staged g c n is =
     let emptied : waiting_of c.hand_over.new.self ≡ [] = c.in_default.ensures.emptied in
     let list : mid.records.items ≡ list_in old =
     sym (append-nil mid.records.items) ∙ sym (ap (λ (l : List LogRecord). mid.records.items ++ l) emptied) ∙ c.hand_over.ensures.list in
-    has_staged old _ mid n number same forced list longest.1 (is_some_and _ _ _ frame refl)
+    has_staged old _ mid n number none same forced list longest.1 (is_some_and _ _ _ frame refl)
     (λ front k. rw c.in-Ok-Some.field-0-is at (c.in-Ok-Some.ensures.staged front (c.hand_over.ensures.settled front (ready_settled old front none (k.ready running))) waits))

@@ -1,4 +1,4 @@
-use Rattle.std.proofs.Common.{◌≡◌, ◌-◌, ◌∷◌, inl, inr, ℕ, List, Err, arith, IsTrue, length, take, refl, sym, ◌∙◌, ap, subst}
+use Rattle.std.proofs.Common.{◌≡◌, ◌-◌, ◌∷◌, [], inl, inr, ℕ, List, Err, arith, IsTrue, length, take, refl, sym, ◌∙◌, ap, subst}
 use Rattle.shore_types.specs.declared.layout.Geometry.{Geometry}
 use Rattle.shore_disk.specs.Device.{History, seen, size}
 use Rattle.shore_dwrite.specs.Checks.{RefusesArea}
@@ -30,11 +30,10 @@ use Rattle.shore_restart.specs.Turns.{IsUndoneSoFar, LacksRoom}
 use Rattle.shore_world.proofs.RestartNames.{names_of, settled_left}
 use Rattle.shore_world.proofs.AreaLemmas.{shown_not_refused}
 use Rattle.shore_world.proofs.OpenLemmas.{outside_or_not, pair_still_after, still_after, told_of}
-use Rattle.shore_world.proofs.OpenPaths.{found, have_fronts, log_synced, replay_at, restart_outside, shown, shown_at, still_stands, stopped, texts, texts_at, volume_replayed, volume_synced, way_on}
+use Rattle.shore_world.proofs.OpenPaths.{found, have_fronts, log_read, replay_at, restart_outside, shown, shown_at, stopped, texts, texts_at, volume_read, volume_replayed, way_of, way_on}
 use Rattle.shore_world.proofs.OpenedLemmas.{opened_along}
 use Rattle.shore_world.proofs.RestartRefusals.{bad_misfit}
 use Rattle.shore_world.proofs.ShownPages.{found_over, shown_by, texts_shown, texts_told, told_images}
-use Rattle.shore_world.proofs.WorldLemmas.{synced_stands}
 use Rattle.shore_world.proofs.world.World.open.Goals as goal
 
 pub returns-in-Err-clause-refused : goal.returns-in-Err-clause-refused
@@ -47,7 +46,7 @@ returns-in-Err-clause-refused g c honest of_volume =
 pub returns-in-Err-open-clause-refused : goal.returns-in-Err-open-clause-refused
 returns-in-Err-open-clause-refused g c honest of_volume =
     let later = subst IsTrue (sym c.read_fronts.ensures.honest.0) honest in
-    let same : seen (g.L.Disk.history c.read_fronts.new.log) ≡ seen (g.L.Disk.history c.args.log) = ap (λ (h : History). seen h) (c.in-Ok.ensures.log_synced honest) in
+    let same : seen (g.L.Disk.history c.read_fronts.new.log) ≡ seen (g.L.Disk.history c.args.log) = (c.in-Ok.ensures.log_behind honest).stands.read in
     elim c.in-Err-open.ensures.refused [
       | inl device ↦ inl (inl device)
       | inr (inl memory) ↦ inl (inr memory)
@@ -65,7 +64,7 @@ returns-in-Err-open-clause-refused g c honest of_volume =
 pub returns-in-Err-open_volume-clause-refused : goal.returns-in-Err-open_volume-clause-refused
 returns-in-Err-open_volume-clause-refused g c honest of_volume =
     let volume_later = subst IsTrue (sym c.read_fronts.ensures.honest.1) of_volume in
-    elim (c.in-Err-open_volume.ensures.refused volume_later _ (synced_stands _ _ (c.in-Ok.ensures.volume_synced of_volume))) [
+    elim (c.in-Err-open_volume.ensures.refused volume_later _ ((c.in-Ok.ensures.volume_behind of_volume).stands)) [
       | inl outside ↦ inl outside
       | inr bad ↦ inr (inr (
         c.in-Ok.fronts.geometry,
@@ -75,65 +74,71 @@ returns-in-Err-open_volume-clause-refused g c honest of_volume =
     ]
 
 pub returns-in-Err-clause-along : goal.returns-in-Err-clause-along
-returns-in-Err-clause-along g c of_log of_volume geometry rs pages log_image volume_image log_stands volume_stands stood =
-    let log = g.L.Disk.history c.args.log in
-    let volume = g.V.Disk.history c.args.volume in
-    let log_now = g.L.Disk.history c.read_fronts.new.log in
-    let volume_now = g.V.Disk.history c.read_fronts.new.volume in
-    stopped geometry (size log) (size volume) rs pages log_image volume_image stood log volume log_stands volume_stands c.in-Err.fault c.read_fronts.new.log c.read_fronts.new.volume
-    (log_synced geometry (size log) (size volume) rs pages log_image volume_image stood log volume log_stands volume_stands log_now (c.in-Err.ensures.log_still of_log))
-    (volume_synced geometry (size log) (size volume) rs pages log_image volume_image stood log volume log_stands volume_stands volume_now (c.in-Err.ensures.volume_still of_volume))
+returns-in-Err-clause-along g c of_log of_volume geometry rs pages stood = inl (
+  c.read_fronts.ensures.log_before of_log,
+  c.read_fronts.ensures.volume_before of_volume,
+)
 
 pub returns-in-Err-open-clause-along : goal.returns-in-Err-open-clause-along
-returns-in-Err-open-clause-along g c of_log of_volume geometry rs pages log_image volume_image log_stands volume_stands stood =
+returns-in-Err-open-clause-along g c of_log of_volume geometry rs pages stood =
     let log = g.L.Disk.history c.args.log in
     let volume = g.V.Disk.history c.args.volume in
     let later = subst IsTrue (sym c.read_fronts.ensures.honest.0) of_log in
-    stopped geometry (size log) (size volume) rs pages log_image volume_image stood log volume log_stands volume_stands c.in-Err-open.fault c.in-Err-open.log c.read_fronts.new.volume
-    (log_synced geometry (size log) (size volume) rs pages log_image volume_image stood log volume log_stands volume_stands _ (inr (c.in-Err-open.ensures.same later ∙ c.in-Ok.ensures.log_synced of_log)))
-    (volume_synced geometry (size log) (size volume) rs pages log_image volume_image stood log volume log_stands volume_stands _ (inr (c.in-Ok.ensures.volume_synced of_volume)))
+    let log_behind = g.L.Disk.history c.read_fronts.new.log in
+    let volume_behind = g.V.Disk.history c.read_fronts.new.volume in
+    let log_barred = c.in-Ok.ensures.log_behind of_log in
+    let volume_barred = c.in-Ok.ensures.volume_behind of_volume in
+    let log_held = log_barred.stands in
+    let held = volume_barred.stands in
+    stopped geometry log volume rs pages stood log_behind volume_behind (log_barred, volume_barred) g.L.Disk g.V.Disk c.in-Err-open.fault c.in-Err-open.log c.read_fronts.new.volume
+    (log_read geometry (size log) (size volume) rs pages (seen log) (seen volume) stood log_behind volume_behind log_held held _ (c.in-Err-open.ensures.same later))
+    (volume_read geometry (size log) (size volume) rs pages (seen log) (seen volume) stood log_behind volume_behind log_held held _ refl)
 
 pub returns-in-Err-open-clause-stands : goal.returns-in-Err-open-clause-stands
-returns-in-Err-open-clause-stands g c of_log of_volume geometry rs pages log_image volume_image log_stands volume_stands stood =
+returns-in-Err-open-clause-stands g c of_log of_volume geometry rs pages stood =
     let later = subst IsTrue (sym c.read_fronts.ensures.honest.0) of_log in
-    let same : seen (g.L.Disk.history c.read_fronts.new.log) ≡ seen (g.L.Disk.history c.args.log) = ap (λ (h : History). seen h) (c.in-Ok.ensures.log_synced of_log) in
-    c.in-Err-open.ensures.undamaged later (omega (arith, c.in-Ok.ensures.long.0.1, c.read_fronts.ensures.size.0)) rs (subst (Gives rs) (sym (same ∙ log_stands.read)) stood.log.log)
+    let same : seen (g.L.Disk.history c.read_fronts.new.log) ≡ seen (g.L.Disk.history c.args.log) = (c.in-Ok.ensures.log_behind of_log).stands.read in
+    c.in-Err-open.ensures.undamaged later (omega (arith, c.in-Ok.ensures.long.0.1, c.read_fronts.ensures.size.0)) rs (subst (Gives rs) (sym same) stood.log.log)
 
 pub returns-in-Err-open_volume-clause-along : goal.returns-in-Err-open_volume-clause-along
-returns-in-Err-open_volume-clause-along g c of_log of_volume geometry rs pages log_image volume_image log_stands volume_stands stood =
+returns-in-Err-open_volume-clause-along g c of_log of_volume geometry rs pages stood =
     let log = g.L.Disk.history c.args.log in
     let volume = g.V.Disk.history c.args.volume in
-    let log_read = log_stands.read in
-    let volume_read = volume_stands.read in
+    let log_image = seen log in
+    let volume_image = seen volume in
+    let log_behind = g.L.Disk.history c.read_fronts.new.log in
+    let volume_behind = g.V.Disk.history c.read_fronts.new.volume in
     let log_later = subst IsTrue (sym c.read_fronts.ensures.honest.0) of_log in
     let later = subst IsTrue (sym c.read_fronts.ensures.honest.1) of_volume in
-    let log_synced_is = c.in-Ok.ensures.log_synced of_log in
-    let volume_synced_is = c.in-Ok.ensures.volume_synced of_volume in
-    let fronts = have_fronts geometry (size log) (size volume) rs pages log_image volume_image stood log volume refl refl log_read volume_read in
+    let log_barred = c.in-Ok.ensures.log_behind of_log in
+    let volume_barred = c.in-Ok.ensures.volume_behind of_volume in
+    let fronts = have_fronts geometry (size log) (size volume) rs pages log_image volume_image stood log volume refl refl refl refl in
     let at : c.in-Ok.fronts.of_pages ≡ geometry = c.in-Ok.ensures.limits.1 ∙ c.in-Ok.ensures.only of_log of_volume geometry fronts in
-    let held = still_stands volume (g.V.Disk.history c.read_fronts.new.volume) volume_image (inr volume_synced_is) volume_stands in
-    stopped geometry (size log) (size volume) rs pages log_image volume_image stood log volume log_stands volume_stands c.in-Err-open_volume.fault c.into_device.result c.in-Err-open_volume.volume
-    (log_synced geometry (size log) (size volume) rs pages log_image volume_image stood log volume log_stands volume_stands (g.L.Disk.history c.into_device.result)
-    (inr (ap g.L.Disk.history c.into_device.ensures ∙ c.in-Ok-open.ensures.same log_later ∙ log_synced_is)))
-    (volume_replayed geometry (size log) (size volume) rs pages log_image volume_image stood log volume log_stands volume_stands (g.V.Disk.history c.read_fronts.new.volume)
-    (g.V.Disk.history c.in-Err-open_volume.volume) (inr volume_synced_is)
+    let log_held = log_barred.stands in
+    let held = volume_barred.stands in
+    stopped geometry log volume rs pages stood log_behind volume_behind (log_barred, volume_barred) g.L.Disk g.V.Disk c.in-Err-open_volume.fault c.into_device.result c.in-Err-open_volume.volume
+    (log_read geometry (size log) (size volume) rs pages log_image volume_image stood log_behind volume_behind log_held held (g.L.Disk.history c.into_device.result)
+    (ap g.L.Disk.history c.into_device.ensures ∙ c.in-Ok-open.ensures.same log_later))
+    (volume_replayed geometry (size log) (size volume) rs pages log_image volume_image stood log_behind volume_behind log_held held (g.V.Disk.history c.in-Err-open_volume.volume)
     (replay_at geometry (size log) (size volume) rs pages log_image volume_image stood c.in-Ok.fronts.of_pages at (g.V.Disk.history c.read_fronts.new.volume) (g.V.Disk.history c.in-Err-open_volume.volume)
     (c.in-Err-open_volume.ensures.any_moment later volume_image (texts geometry (size log) (size volume) rs pages log_image volume_image stood) held
     (shown_at geometry (size log) (size volume) rs pages log_image volume_image stood c.in-Ok.fronts.of_pages at))))
 
 pub returns-in-Err-open_volume-clause-stands : goal.returns-in-Err-open_volume-clause-stands
-returns-in-Err-open_volume-clause-stands g c of_log of_volume geometry rs pages log_image volume_image log_stands volume_stands stood =
+returns-in-Err-open_volume-clause-stands g c of_log of_volume geometry rs pages stood =
     let log = g.L.Disk.history c.args.log in
     let volume = g.V.Disk.history c.args.volume in
-    let log_read = log_stands.read in
-    let volume_read = volume_stands.read in
+    let log_image = seen log in
+    let volume_image = seen volume in
+    let log_behind = g.L.Disk.history c.read_fronts.new.log in
+    let volume_behind = g.V.Disk.history c.read_fronts.new.volume in
     let log_later = subst IsTrue (sym c.read_fronts.ensures.honest.0) of_log in
     let later = subst IsTrue (sym c.read_fronts.ensures.honest.1) of_volume in
-    let log_synced_is = c.in-Ok.ensures.log_synced of_log in
-    let volume_synced_is = c.in-Ok.ensures.volume_synced of_volume in
-    let fronts = have_fronts geometry (size log) (size volume) rs pages log_image volume_image stood log volume refl refl log_read volume_read in
+    let log_barred = c.in-Ok.ensures.log_behind of_log in
+    let volume_barred = c.in-Ok.ensures.volume_behind of_volume in
+    let fronts = have_fronts geometry (size log) (size volume) rs pages log_image volume_image stood log volume refl refl refl refl in
     let at : c.in-Ok.fronts.of_pages ≡ geometry = c.in-Ok.ensures.limits.1 ∙ c.in-Ok.ensures.only of_log of_volume geometry fronts in
-    let held = still_stands volume (g.V.Disk.history c.read_fronts.new.volume) volume_image (inr volume_synced_is) volume_stands in
+    let held = volume_barred.stands in
     elim (c.in-Err-open_volume.ensures.refused later volume_image held) [
       | inl outside ↦ outside
       | inr bad ↦ absurd (shown_not_refused geometry volume_image (texts geometry (size log) (size volume) rs pages log_image volume_image stood) c.in-Err-open_volume.fault
@@ -141,19 +146,21 @@ returns-in-Err-open_volume-clause-stands g c of_log of_volume geometry rs pages 
     ]
 
 pub returns-in-Ok-restart-clause-along : goal.returns-in-Ok-restart-clause-along
-returns-in-Ok-restart-clause-along g c of_log of_volume geometry rs pages log_image volume_image log_stands volume_stands stood =
+returns-in-Ok-restart-clause-along g c of_log of_volume geometry rs pages stood =
     let log = g.L.Disk.history c.args.log in
     let volume = g.V.Disk.history c.args.volume in
-    let log_read = log_stands.read in
-    let volume_read = volume_stands.read in
+    let log_image = seen log in
+    let volume_image = seen volume in
+    let log_behind = g.L.Disk.history c.read_fronts.new.log in
+    let volume_behind = g.V.Disk.history c.read_fronts.new.volume in
     let log_later = subst IsTrue (sym c.read_fronts.ensures.honest.0) of_log in
     let later = subst IsTrue (sym c.read_fronts.ensures.honest.1) of_volume in
-    let log_synced_is = c.in-Ok.ensures.log_synced of_log in
-    let volume_synced_is = c.in-Ok.ensures.volume_synced of_volume in
-    let fronts = have_fronts geometry (size log) (size volume) rs pages log_image volume_image stood log volume refl refl log_read volume_read in
+    let log_barred = c.in-Ok.ensures.log_behind of_log in
+    let volume_barred = c.in-Ok.ensures.volume_behind of_volume in
+    let fronts = have_fronts geometry (size log) (size volume) rs pages log_image volume_image stood log volume refl refl refl refl in
     let at : c.in-Ok.fronts.of_pages ≡ geometry = c.in-Ok.ensures.limits.1 ∙ c.in-Ok.ensures.only of_log of_volume geometry fronts in
-    let log_held = still_stands log (g.L.Disk.history c.read_fronts.new.log) log_image (inr log_synced_is) log_stands in
-    let held = still_stands volume (g.V.Disk.history c.read_fronts.new.volume) volume_image (inr volume_synced_is) volume_stands in
+    let log_held = log_barred.stands in
+    let held = volume_barred.stands in
     let dev = c.in-Ok-open.log in
     let heap = c.in-Ok-open_volume.heap in
     let none = c.in-Ok-open.ensures.none_waits in
@@ -164,36 +171,32 @@ returns-in-Ok-restart-clause-along g c of_log of_volume geometry rs pages log_im
     let heap_at : heaps.geometry_of heap ≡ geometry = c.in-Ok-open_volume.ensures.geometry ∙ at in
     let is = found geometry (size log) (size volume) rs pages log_image volume_image stood dev heap (c.in-Ok-open.ensures.settled log_later log_image log_held) none.0 none.1 list heap_at
     c.in-Ok-open_volume.ensures.none shows in
-    let of_dev = log_synced geometry (size log) (size volume) rs pages log_image volume_image stood log volume log_stands volume_stands (g.L.Disk.history dev.device)
-    (inr (c.in-Ok-open.ensures.same log_later ∙ log_synced_is)) in
-    let of_heap = volume_replayed geometry (size log) (size volume) rs pages log_image volume_image stood log volume log_stands volume_stands (g.V.Disk.history c.read_fronts.new.volume)
-    (heaps.history_of heap) (inr volume_synced_is)
+    let of_dev = log_read geometry (size log) (size volume) rs pages log_image volume_image stood log_behind volume_behind log_held held (g.L.Disk.history dev.device)
+    (c.in-Ok-open.ensures.same log_later) in
+    let of_heap = volume_replayed geometry (size log) (size volume) rs pages log_image volume_image stood log_behind volume_behind log_held held (heaps.history_of heap)
     (replay_at geometry (size log) (size volume) rs pages log_image volume_image stood c.in-Ok.fronts.of_pages at (g.V.Disk.history c.read_fronts.new.volume) (heaps.history_of heap)
     (c.in-Ok-open_volume.ensures.any_moment later volume_image (texts geometry (size log) (size volume) rs pages log_image volume_image stood) held
     (shown_at geometry (size log) (size volume) rs pages log_image volume_image stood c.in-Ok.fronts.of_pages at))) in
     let went = c.in-Ok-restart.ensures.restarts (take 4096 log_image) (take 4096 volume_image) (texts geometry (size log) (size volume) rs pages log_image volume_image stood) (found_state rs pages) is in
     let end : Moment = record { log = g.L.Disk.history c.restart.new.log.device; volume = heaps.history_of (heap_of c.in-Ok-restart.core); store = went.ready } in
     let on = subst (λ (x : Geometry). Path x (take 4096 log_image) (take 4096 volume_image) (record { log = g.L.Disk.history dev.device; volume = heaps.history_of heap; store = found_state rs pages }) went.moments end) heap_at went.path in
-    let moments = record { log = g.L.Disk.history dev.device; volume = volume; store = found_state rs pages }
+    let moments = record { log = g.L.Disk.history dev.device; volume = volume_behind; store = found_state rs pages }
     ∷ record { log = g.L.Disk.history dev.device; volume = heaps.history_of heap; store = found_state rs pages } ∷ went.moments in
-    let path = way_on geometry (size log) (size volume) rs pages log_image volume_image stood log volume log_stands volume_stands (g.L.Disk.history dev.device) (heaps.history_of heap) of_dev of_heap went.moments end on in
+    let path = way_on geometry (size log) (size volume) rs pages log_image volume_image stood log_behind volume_behind log_held held (g.L.Disk.history dev.device) (heaps.history_of heap) of_dev of_heap went.moments end on in
     let opens = went.opens stood.opened.lawful in
     record {
-      moments = moments;
-      last = end;
-      path = path;
-      of_log = refl;
-      of_volume = refl;
-      opened = opened_along _ geometry (take 4096 log_image) (take 4096 volume_image) (begun_on log volume rs pages) moments went.ready is.stands.recoverable (omega arith) path
+      way = way_of geometry log volume rs pages log_behind volume_behind (log_barred, volume_barred) moments end path;
+      opened = opened_along _ geometry (take 4096 log_image) (take 4096 volume_image) (begun_on log_behind volume_behind rs pages) moments went.ready is.stands.recoverable (omega arith) path
           (c.in-Ok-restart.ensures.volume.geometry ∙ heap_at) opens.0 opens.1 opens.3 opens.4
-          (subst (λ (l : List LogRecord). OpensIn c.in-Ok-restart.core (take 4096 volume_image) opens.4 l (records_of_log c.restart.new.log) (stream_bytes_of c.restart.new.log) went.ready) list opens.5);
+          (subst (λ (l : List LogRecord). OpensIn c.in-Ok-restart.core (take 4096 volume_image) opens.4 l (records_of_log c.restart.new.log) (stream_bytes_of c.restart.new.log) went.ready) list opens.5)
+          (c.in-Ok-restart.ensures.locks ∙ ap (λ (x : Geometry). record { limit = x.max_locks; requests = [] }) heap_at);
       undone = subst (IsUndoneSoFar rs) (sym opens.3.records) (subst (λ (l : List LogRecord). IsUndoneSoFar l (records_of_log c.restart.new.log)) list c.in-Ok-restart.ensures.undone);
     }
 
 pub returns-in-Ok-restart-clause-report : goal.returns-in-Ok-restart-clause-report
 returns-in-Ok-restart-clause-report g c of_log rs gives =
     let log_later = subst IsTrue (sym c.read_fronts.ensures.honest.0) of_log in
-    let same : seen (g.L.Disk.history c.read_fronts.new.log) ≡ seen (g.L.Disk.history c.args.log) = ap (λ (h : History). seen h) (c.in-Ok.ensures.log_synced of_log) in
+    let same : seen (g.L.Disk.history c.read_fronts.new.log) ≡ seen (g.L.Disk.history c.args.log) = (c.in-Ok.ensures.log_behind of_log).stands.read in
     let list : records_of_log c.in-Ok-open.log ≡ rs = c.in-Ok-open.ensures.only log_later rs (subst (Gives rs) (sym same) gives) in
     let told = c.in-Ok-restart.ensures.report in
     record {
@@ -205,19 +208,21 @@ returns-in-Ok-restart-clause-report g c of_log rs gives =
     }
 
 pub returns-in-Ok-restart-clause-redone : goal.returns-in-Ok-restart-clause-redone
-returns-in-Ok-restart-clause-redone g c of_log of_volume geometry rs pages log_image volume_image log_stands volume_stands stood =
+returns-in-Ok-restart-clause-redone g c of_log of_volume geometry rs pages stood =
     let log = g.L.Disk.history c.args.log in
     let volume = g.V.Disk.history c.args.volume in
-    let log_read = log_stands.read in
-    let volume_read = volume_stands.read in
+    let log_image = seen log in
+    let volume_image = seen volume in
+    let log_behind = g.L.Disk.history c.read_fronts.new.log in
+    let volume_behind = g.V.Disk.history c.read_fronts.new.volume in
     let log_later = subst IsTrue (sym c.read_fronts.ensures.honest.0) of_log in
     let later = subst IsTrue (sym c.read_fronts.ensures.honest.1) of_volume in
-    let log_synced_is = c.in-Ok.ensures.log_synced of_log in
-    let volume_synced_is = c.in-Ok.ensures.volume_synced of_volume in
-    let fronts = have_fronts geometry (size log) (size volume) rs pages log_image volume_image stood log volume refl refl log_read volume_read in
+    let log_barred = c.in-Ok.ensures.log_behind of_log in
+    let volume_barred = c.in-Ok.ensures.volume_behind of_volume in
+    let fronts = have_fronts geometry (size log) (size volume) rs pages log_image volume_image stood log volume refl refl refl refl in
     let at : c.in-Ok.fronts.of_pages ≡ geometry = c.in-Ok.ensures.limits.1 ∙ c.in-Ok.ensures.only of_log of_volume geometry fronts in
-    let log_held = still_stands log (g.L.Disk.history c.read_fronts.new.log) log_image (inr log_synced_is) log_stands in
-    let held = still_stands volume (g.V.Disk.history c.read_fronts.new.volume) volume_image (inr volume_synced_is) volume_stands in
+    let log_held = log_barred.stands in
+    let held = volume_barred.stands in
     let dev = c.in-Ok-open.log in
     let heap = c.in-Ok-open_volume.heap in
     let none = c.in-Ok-open.ensures.none_waits in
@@ -237,27 +242,29 @@ pub returns-in-Ok-restart-clause-in_order : goal.returns-in-Ok-restart-clause-in
 returns-in-Ok-restart-clause-in_order g c of_log of_volume =
     let log_later = subst IsTrue (sym c.read_fronts.ensures.honest.0) of_log in
     let later = subst IsTrue (sym c.read_fronts.ensures.honest.1) of_volume in
-    let same : seen (g.L.Disk.history c.read_fronts.new.log) ≡ seen (g.L.Disk.history c.args.log) = ap (λ (h : History). seen h) (c.in-Ok.ensures.log_synced of_log) in
-    let shown = c.in-Ok-open_volume.ensures.in_order later _ (synced_stands _ _ (c.in-Ok.ensures.volume_synced of_volume)) in
+    let same : seen (g.L.Disk.history c.read_fronts.new.log) ≡ seen (g.L.Disk.history c.args.log) = (c.in-Ok.ensures.log_behind of_log).stands.read in
+    let shown = c.in-Ok-open_volume.ensures.in_order later _ ((c.in-Ok.ensures.volume_behind of_volume).stands) in
     let at = c.in-Ok-restart.ensures.volume.geometry ∙ c.in-Ok-open_volume.ensures.geometry in (
       (records_of_log c.in-Ok-open.log, subst (Gives (records_of_log c.in-Ok-open.log)) same (c.in-Ok-open.ensures.found log_later)),
       (shown.0, subst (λ (x : Geometry). Shows x (seen (g.V.Disk.history c.args.volume)) shown.0) (sym at) shown.1),
     )
 
 pub returns-in-Err-restart-clause-along : goal.returns-in-Err-restart-clause-along
-returns-in-Err-restart-clause-along g c of_log of_volume geometry rs pages log_image volume_image log_stands volume_stands stood =
+returns-in-Err-restart-clause-along g c of_log of_volume geometry rs pages stood =
     let log = g.L.Disk.history c.args.log in
     let volume = g.V.Disk.history c.args.volume in
-    let log_read = log_stands.read in
-    let volume_read = volume_stands.read in
+    let log_image = seen log in
+    let volume_image = seen volume in
+    let log_behind = g.L.Disk.history c.read_fronts.new.log in
+    let volume_behind = g.V.Disk.history c.read_fronts.new.volume in
     let log_later = subst IsTrue (sym c.read_fronts.ensures.honest.0) of_log in
     let later = subst IsTrue (sym c.read_fronts.ensures.honest.1) of_volume in
-    let log_synced_is = c.in-Ok.ensures.log_synced of_log in
-    let volume_synced_is = c.in-Ok.ensures.volume_synced of_volume in
-    let fronts = have_fronts geometry (size log) (size volume) rs pages log_image volume_image stood log volume refl refl log_read volume_read in
+    let log_barred = c.in-Ok.ensures.log_behind of_log in
+    let volume_barred = c.in-Ok.ensures.volume_behind of_volume in
+    let fronts = have_fronts geometry (size log) (size volume) rs pages log_image volume_image stood log volume refl refl refl refl in
     let at : c.in-Ok.fronts.of_pages ≡ geometry = c.in-Ok.ensures.limits.1 ∙ c.in-Ok.ensures.only of_log of_volume geometry fronts in
-    let log_held = still_stands log (g.L.Disk.history c.read_fronts.new.log) log_image (inr log_synced_is) log_stands in
-    let held = still_stands volume (g.V.Disk.history c.read_fronts.new.volume) volume_image (inr volume_synced_is) volume_stands in
+    let log_held = log_barred.stands in
+    let held = volume_barred.stands in
     let dev = c.in-Ok-open.log in
     let heap = c.in-Ok-open_volume.heap in
     let none = c.in-Ok-open.ensures.none_waits in
@@ -268,10 +275,9 @@ returns-in-Err-restart-clause-along g c of_log of_volume geometry rs pages log_i
     let heap_at : heaps.geometry_of heap ≡ geometry = c.in-Ok-open_volume.ensures.geometry ∙ at in
     let is = found geometry (size log) (size volume) rs pages log_image volume_image stood dev heap (c.in-Ok-open.ensures.settled log_later log_image log_held) none.0 none.1 list heap_at
     c.in-Ok-open_volume.ensures.none shows in
-    let of_dev = log_synced geometry (size log) (size volume) rs pages log_image volume_image stood log volume log_stands volume_stands (g.L.Disk.history dev.device)
-    (inr (c.in-Ok-open.ensures.same log_later ∙ log_synced_is)) in
-    let of_heap = volume_replayed geometry (size log) (size volume) rs pages log_image volume_image stood log volume log_stands volume_stands (g.V.Disk.history c.read_fronts.new.volume)
-    (heaps.history_of heap) (inr volume_synced_is)
+    let of_dev = log_read geometry (size log) (size volume) rs pages log_image volume_image stood log_behind volume_behind log_held held (g.L.Disk.history dev.device)
+    (c.in-Ok-open.ensures.same log_later) in
+    let of_heap = volume_replayed geometry (size log) (size volume) rs pages log_image volume_image stood log_behind volume_behind log_held held (heaps.history_of heap)
     (replay_at geometry (size log) (size volume) rs pages log_image volume_image stood c.in-Ok.fronts.of_pages at (g.V.Disk.history c.read_fronts.new.volume) (heaps.history_of heap)
     (c.in-Ok-open_volume.ensures.any_moment later volume_image (texts geometry (size log) (size volume) rs pages log_image volume_image stood) held
     (shown_at geometry (size log) (size volume) rs pages log_image volume_image stood c.in-Ok.fronts.of_pages at))) in
@@ -279,16 +285,14 @@ returns-in-Err-restart-clause-along g c of_log of_volume geometry rs pages log_i
     let end : Moment = record { log = g.L.Disk.history c.restart.new.log.device; volume = heaps.history_of c.in-Err-restart.heap; store = went.ready } in
     let on = subst (λ (x : Geometry). Path x (take 4096 log_image) (take 4096 volume_image) (record { log = g.L.Disk.history dev.device; volume = heaps.history_of heap; store = found_state rs pages }) went.moments end) heap_at went.path in
     let honest_now = subst IsTrue (sym (c.in-Err-restart.ensures.log.honest ∙ c.in-Ok-open.ensures.honest)) log_later in
-    record {
-      moments = record { log = g.L.Disk.history dev.device; volume = volume; store = found_state rs pages }
-          ∷ record { log = g.L.Disk.history dev.device; volume = heaps.history_of heap; store = found_state rs pages } ∷ went.moments;
-      last = end;
-      path = way_on geometry (size log) (size volume) rs pages log_image volume_image stood log volume log_stands volume_stands (g.L.Disk.history dev.device) (heaps.history_of heap) of_dev of_heap went.moments end on;
-      of_log = sym (ap g.L.Disk.history c.into_device-in-Err-restart-2.ensures ∙ c.fault_of-fault.ensures.still honest_now);
-      of_volume = sym (ap g.V.Disk.history (c.into_device-volume.ensures ∙ ap pages_of.device_of c.into_device-in-Err-restart.ensures));
-      opened = tt;
-      undone = tt;
-    }
+    let moments = record { log = g.L.Disk.history dev.device; volume = volume_behind; store = found_state rs pages }
+    ∷ record { log = g.L.Disk.history dev.device; volume = heaps.history_of heap; store = found_state rs pages } ∷ went.moments in
+    let path = way_on geometry (size log) (size volume) rs pages log_image volume_image stood log_behind volume_behind log_held held (g.L.Disk.history dev.device) (heaps.history_of heap) of_dev of_heap went.moments end on in
+    inr (
+      way_of geometry log volume rs pages log_behind volume_behind (log_barred, volume_barred) moments end path,
+      sym (ap g.L.Disk.history c.into_device-in-Err-restart-2.ensures ∙ c.fault_of-fault.ensures.still honest_now),
+      sym (ap g.V.Disk.history (c.into_device-volume.ensures ∙ ap pages_of.device_of c.into_device-in-Err-restart.ensures)),
+    )
 
 pub returns-in-Err-restart-clause-refused : goal.returns-in-Err-restart-clause-refused
 returns-in-Err-restart-clause-refused g c of_log of_volume = elim (outside_or_not c.fault_of-fault.result) [
@@ -301,7 +305,7 @@ returns-in-Err-restart-clause-refused g c of_log of_volume = elim (outside_or_no
       let geometry = c.in-Ok.fronts.geometry in
       let front = c.in-Ok.ensures.found of_log of_volume in
       let log_later = subst IsTrue (sym c.read_fronts.ensures.honest.0) of_log in
-      let same : seen (g.L.Disk.history c.read_fronts.new.log) ≡ seen log = ap (λ (h : History). seen h) (c.in-Ok.ensures.log_synced of_log) in
+      let same : seen (g.L.Disk.history c.read_fronts.new.log) ≡ seen log = (c.in-Ok.ensures.log_behind of_log).stands.read in
       inr (inr (
         c.in-Ok.fronts.geometry,
         front.0,
@@ -311,8 +315,8 @@ returns-in-Err-restart-clause-refused g c of_log of_volume = elim (outside_or_no
           none = λ rs pages stood.
               let later = subst IsTrue (sym c.read_fronts.ensures.honest.1) of_volume in
               let at : c.in-Ok.fronts.of_pages ≡ geometry = c.in-Ok.ensures.limits.1 in
-              let log_held = synced_stands log (g.L.Disk.history c.read_fronts.new.log) (c.in-Ok.ensures.log_synced of_log) in
-              let held = synced_stands volume (g.V.Disk.history c.read_fronts.new.volume) (c.in-Ok.ensures.volume_synced of_volume) in
+              let log_held = (c.in-Ok.ensures.log_behind of_log).stands in
+              let held = (c.in-Ok.ensures.volume_behind of_volume).stands in
               let dev = c.in-Ok-open.log in
               let heap = c.in-Ok-open_volume.heap in
               let none = c.in-Ok-open.ensures.none_waits in
@@ -333,8 +337,8 @@ returns-in-Err-restart-clause-refused g c of_log of_volume = elim (outside_or_no
           names =
               let later = subst IsTrue (sym c.read_fronts.ensures.honest.1) of_volume in
               let at : c.in-Ok.fronts.of_pages ≡ geometry = c.in-Ok.ensures.limits.1 in
-              let log_held = synced_stands log (g.L.Disk.history c.read_fronts.new.log) (c.in-Ok.ensures.log_synced of_log) in
-              let held = synced_stands volume (g.V.Disk.history c.read_fronts.new.volume) (c.in-Ok.ensures.volume_synced of_volume) in
+              let log_held = (c.in-Ok.ensures.log_behind of_log).stands in
+              let held = (c.in-Ok.ensures.volume_behind of_volume).stands in
               let dev = c.in-Ok-open.log in
               let heap = c.in-Ok-open_volume.heap in
               let none = c.in-Ok-open.ensures.none_waits in
@@ -378,19 +382,21 @@ returns-in-Err-restart-clause-refused g c of_log of_volume = elim (outside_or_no
 ]
 
 pub returns-in-Err-restart-clause-stands : goal.returns-in-Err-restart-clause-stands
-returns-in-Err-restart-clause-stands g c of_log of_volume geometry rs pages log_image volume_image log_stands volume_stands stood =
+returns-in-Err-restart-clause-stands g c of_log of_volume geometry rs pages stood =
     let log = g.L.Disk.history c.args.log in
     let volume = g.V.Disk.history c.args.volume in
-    let log_read = log_stands.read in
-    let volume_read = volume_stands.read in
+    let log_image = seen log in
+    let volume_image = seen volume in
+    let log_behind = g.L.Disk.history c.read_fronts.new.log in
+    let volume_behind = g.V.Disk.history c.read_fronts.new.volume in
     let log_later = subst IsTrue (sym c.read_fronts.ensures.honest.0) of_log in
     let later = subst IsTrue (sym c.read_fronts.ensures.honest.1) of_volume in
-    let log_synced_is = c.in-Ok.ensures.log_synced of_log in
-    let volume_synced_is = c.in-Ok.ensures.volume_synced of_volume in
-    let fronts = have_fronts geometry (size log) (size volume) rs pages log_image volume_image stood log volume refl refl log_read volume_read in
+    let log_barred = c.in-Ok.ensures.log_behind of_log in
+    let volume_barred = c.in-Ok.ensures.volume_behind of_volume in
+    let fronts = have_fronts geometry (size log) (size volume) rs pages log_image volume_image stood log volume refl refl refl refl in
     let at : c.in-Ok.fronts.of_pages ≡ geometry = c.in-Ok.ensures.limits.1 ∙ c.in-Ok.ensures.only of_log of_volume geometry fronts in
-    let log_held = still_stands log (g.L.Disk.history c.read_fronts.new.log) log_image (inr log_synced_is) log_stands in
-    let held = still_stands volume (g.V.Disk.history c.read_fronts.new.volume) volume_image (inr volume_synced_is) volume_stands in
+    let log_held = log_barred.stands in
+    let held = volume_barred.stands in
     let dev = c.in-Ok-open.log in
     let heap = c.in-Ok-open_volume.heap in
     let none = c.in-Ok-open.ensures.none_waits in

@@ -1,0 +1,34 @@
+-- What stands behind a world that is a manager: the one hidden state that the promises speak of.
+use Rattle.std.specs.Prelude.{◌≡◌, ◌≢◌, ℕ, List}
+use Rattle.std.specs.List.{AllByRecursion}
+use Rattle.shore_disk.specs.declared.device.Disk.{Ghosts}
+use Rattle.shore_model.specs.declared.calls.Call.{Call}
+use Rattle.shore_model.specs.declared.histories.Entry.{Entry}
+use Rattle.shore_model.specs.declared.log_records.LogRecord.{LogRecord}
+use Rattle.laws_lives.specs.LogTells.{records_committed}
+use Rattle.laws_lives.specs.Soundness.{decided_txn, in_txn}
+use Rattle.laws_lives.specs.Views.{IsAmong}
+use Rattle.shore_model.specs.Histories.{decisions, free, session_state}
+use Rattle.shore_model.specs.Records.{Records}
+use Rattle.laws_runs.specs.SoundStores.{IsUnderWay}
+use Rattle.laws_runs.specs.StoredRuns.{StoredState}
+use Rattle.shore_world.specs.declared.world.World.{World}
+use Rattle.shore_world.specs.Exchanges.{AreLast}
+use Rattle.shore_world.specs.Worlds.{IsAt, geometry_in, stream_bytes_in}
+
+-- The world is a manager that opened with these records in place, and since then has come to these entries of its history, and to these calls with which
+-- sessions began to wait, the newest first. What else is here a reader of the promises need not know: an open makes such a world, and each run of one another.
+pub record IsManagerOf {L V : Type 0} {G : Ghosts L} {H : Ghosts V} (w : World L V G H) (o : Records) (es : List Entry) (ws : List (ℕ × Call)) : Type 0 where
+  pub found : List LogRecord
+  pub opening : o ≡ records_committed found
+  pub log_front : List ℕ
+  pub front : List ℕ
+  pub disk : ℕ → List ℕ
+  pub now : StoredState
+  pub at : IsAt w log_front front disk now.state now.store
+  pub under_way : IsUnderWay (geometry_in w) (stream_bytes_in w) found es now
+  pub waited : AreLast ws now.state
+
+-- each of these transactions is not ended: a session is in it, and it is not decided
+abbrev pub AreUnended : List Entry → List ℕ → Type 0
+AreUnended es ts = (t : ℕ) → IsAmong t ts → (session : ℕ) × (session_state session free es ≡ in_txn t) × AllByRecursion (λ d. decided_txn d ≢ t) (decisions es)
