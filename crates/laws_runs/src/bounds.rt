@@ -33,8 +33,8 @@ pub fn formats_are_roomy()
     ensures { (g : Geometry) (stream_bytes : ℕ) → LONGEST_FRAME ≤ stream_bytes → stream_bytes ≤ MAX_LOG_BYTES → AreRoomy g stream_bytes 0 [] }
 {}
 
-/// What a crash leaves of a log of which the prefixes that may be left are roomy is such a log, all of it durable; and so is a log of which more is durable.
-/// The whole log is roomy in any case.
+/// What a crash leaves of a log of which the prefixes that may be left are roomy is such a log, all of it durable; and so is a log of which more is
+/// durable. The whole log is roomy in any case.
 pub fn prefixes_stay_roomy()
     ensures prefix { (g : Geometry) (stream_bytes least n : ℕ) (log : List LogRecord) → least ≤ n → AreRoomy g stream_bytes least log →
         AreRoomy g stream_bytes n (take n log) }
@@ -68,9 +68,9 @@ pub fn events_leave_roomy_logs()
         LeavesRoomyLogs g stream_bytes s → AreRecords g s.sessions.records }
 {}
 
-/// A manager that restarts and opens over its store, from a log of which the prefixes that a crash may leave are roomy, has room in its last state, and its crash leaves such a
-/// log again; so do any number of managers one after another, with power lost in restarts too. That a manager opens from the log of its restart
-/// (`IsOpenedFrom`) is what its open has to promise.
+/// A manager that restarts and opens over its store, from a log of which the prefixes that a crash may leave are roomy, has room in its last state,
+/// and its crash leaves such a log again; so do any number of managers one after another, with power lost in restarts too. That a manager opens from
+/// the log of its restart (`IsOpenedFrom`) is what its open has to promise.
 pub fn managers_leave_roomy_logs()
     ensures restart { (g : Geometry) (stream_bytes : ℕ) (s ready : RecoveryState) (events : List RecoveryEvent) → AreRoomy g stream_bytes s.durable s.log →
         RestartsTo s events ready → AreRoomy g stream_bytes ready.durable ready.log }

@@ -28,7 +28,8 @@ pub fn undo_goes_on()
     ensures longer { (g : Geometry) (rs : List LogRecord) (r : LogRecord) → AreMeant g rs → MayBeNext g rs r → AreMeant g (rs ++ r ∷ []) }
 {}
 
-/// A record of undo more: the log is still the one that was found, with turns of undo behind it. So it is of turns in their order, which are turns of undo.
+/// A record of undo more: the log is still the one that was found, with turns of undo behind it. So it is with turns in their order, which are turns
+/// of undo.
 pub fn turns_of_undo_go_on()
     ensures begins { (found : List LogRecord) → IsUndoneTo found [] found }
     ensures in_order { (found : List LogRecord) (turns : List ℕ) (log : List LogRecord) (t : ℕ) → IsUndoneInOrder found turns log → IsLoser log t → IsNextToUndo log t
@@ -38,8 +39,8 @@ pub fn turns_of_undo_go_on()
         → IsUndoneTo found (turns ++ t ∷ []) (log ++ undo_record log t ∷ []) }
 {}
 
-/// An End follows its loser's last Compensation at once: if a loser had something to be undone when it was next, and has nothing behind that, nobody else
-/// is next.
+/// An End follows its loser's last Compensation at once: if a loser had something to be undone when it was next, and has nothing behind that, nobody
+/// else is next.
 pub fn ends_follow_at_once()
     ensures { (log : List LogRecord) (t u : ℕ) → IsLoser log t → IsNextToUndo log t → 0 < undo_next_of (unanswered t log)
         → unanswered t (log ++ undo_record log t ∷ []) ≡ [] → IsLoser (log ++ undo_record log t ∷ []) u → IsNextToUndo (log ++ undo_record log t ∷ []) u → u ≡ t }
