@@ -73,7 +73,7 @@ module _ (g : Geometry) (s new : State) (session : ℕ) where
 
   -- ---- what does not fail
 
-  abbrev Runs : Fault → Type 0
+  abbrev pub Runs : Fault → Type 0
   Runs f = (f ≢ fault.Device) × ((device : Device) (offset : ℕ) → f ≢ fault.Damaged device offset)
 
   after_runs : (l : State) (f : Fault) → Runs f → (after_refusal f l).failed ≡ l.failed
@@ -101,7 +101,7 @@ module _ (g : Geometry) (s new : State) (session : ℕ) where
   memory_runs a c (inr h) =
       ⊎_elim (λ same. ap (λ (s : State). s.failed) same) (λ more. ap (λ (s : State). s.failed) more.5) h.2 ∙ ap (λ (s : State). s.failed) h.1.3
 
-  goes_runs : (a : SessionTxn) (c : Call) (f : Fault) → Runs f → CallGoesOn g s a c (Refused f) new → new.failed ≡ s.failed
+  pub goes_runs : (a : SessionTxn) (c : Call) (f : Fault) → Runs f → CallGoesOn g s a c (Refused f) new → new.failed ≡ s.failed
   goes_runs a c f runs (inl h) = memory_runs a c h.1
   goes_runs a c f runs (inr (inl h)) = ap (λ (s : State). s.failed) h.3
   goes_runs a c f runs (inr (inr h)) = behind_runs h.0 a c f runs h.2 ∙ ap (λ (s : State). s.failed) h.1.3

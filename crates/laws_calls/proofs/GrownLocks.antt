@@ -126,6 +126,19 @@ module _ (rs : List Request) (t : ℕ) (target : Granule) (mode : Mode) (vs : Li
     weaker = λ u g m enough. enough;
   }
 
+  -- .. what it waits for being asked already
+  pub grown_waiting : IsOrderly rs
+      → ((r : Request) → waiting_request t rs ≡ Some r → Contains (path target) r.granule × (r.wanted ≡ Some (wanted_mode r.held (asked_of target mode r.granule)))) → Grown rs
+  grown_waiting orderly asks = record {
+    own = λ g. inl refl;
+    pending = λ r some.
+        let waits = waits_as t rs r some in
+        let held : mode_held t r.granule rs ≡ r.held = subst (λ u. mode_held u r.granule rs ≡ r.held) waits.by (held_as rs orderly.one_each r waits.there) in
+        ((asks r some).0, (asks r some).1 ∙ ap (λ h. Some (wanted_mode h (asked_of target mode r.granule))) (sym held));
+    others = spares_self t vs rs;
+    weaker = λ u g m enough. enough;
+  }
+
   same_request : (o : Option Request) (q r : Request) → o ≡ Some q → o ≡ Some r → q ≡ r
   same_request o q r d e = cc
 

@@ -60,6 +60,7 @@ pub mod SettledComings
 pub mod SettledCycles
 pub mod SettledDeadlocks
 pub mod SettledEnds
+pub mod SettledFailures
 pub mod SettledLeavings
 pub mod SettledLocks
 pub mod SettledRefusals

@@ -1,12 +1,13 @@
 -- The locks of sessions change as a call as a whole asks: whatever victims were taken on the way.
 use Rattle.std.proofs.Common.{◌≡◌, ◌⊎◌, inl, inr, ⊎_elim, ℕ, List, [], ◌∷◌, true, false, Some, refl, sym, ap, subst, ◌∙◌, Ok}
-use Rattle.std.specs.Prelude.{is_some}
+use Rattle.std.specs.Prelude.{Contains, is_some}
 use Rattle.std.proofs.lemmas.Bool.{cases_Bool}
 use Rattle.shore_types.specs.declared.layout.Geometry.{Geometry}
 use Rattle.shore_types.specs.declared.locking.Granule.{Granule}
 use Rattle.shore_model.specs.declared.calls.Answer.TheVariants.{Aborted, Committed}
 use Rattle.shore_model.specs.declared.calls.Call.{Call}
 use Rattle.shore_model.specs.declared.calls.Call.TheVariants as call
+use Rattle.shore_model.specs.Locks.{path}
 use Rattle.shore_model.specs.declared.histories.Entry.{Entry}
 use Rattle.shore_model.specs.declared.log_records.LogRecord.{LogRecord}
 use Rattle.shore_model.specs.declared.requests.Request.{Request}
@@ -17,14 +18,15 @@ use Rattle.shore_model.specs.declared.step.Wait.TheVariants.{Durable, Lock}
 use Rattle.shore_locks.proofs.Members.{Contains-In, In-Contains}
 use Rattle.shore_locks.proofs.Outcomes.{any_from}
 use Rattle.shore_locks.proofs.Tables.{fit_of}
-use Rattle.shore_locks.specs.Grants.{cancelled, granted, released, withdrawn}
-use Rattle.shore_locks.specs.Tables.{Table, is_waiting}
+use Rattle.shore_locks.specs.Grants.{cancelled, granted, released, wanted_mode, withdrawn}
+use Rattle.shore_locks.specs.Tables.{Table, is_waiting, waiting_request}
 use Rattle.shore_cycles.proofs.VictimLemmas.{first_victim, later_spared}
 use Rattle.shore_cycles.specs.Blockers.{is_victim}
 use Rattle.shore_cycles.specs.declared.victims.Victim.{Victim}
 use Rattle.shore_deadlock.proofs.Sparing.{Spares, spares_acquired, spares_on}
 use Rattle.shore_deadlock.specs.Locking.{OnlyGrantsOthers}
 use Rattle.shore_path.specs.Acquires.{GrowsAsAsked}
+use Rattle.shore_path.specs.Walks.{asked_of}
 use Rattle.shore_path.specs.declared.answers.Acquired.TheVariants as acquire
 use Rattle.shore_path.specs.declared.answers.OnConflict.TheVariants as conflict
 use Rattle.shore_types.specs.declared.locking.Granule.TheVariants as granule
@@ -36,7 +38,7 @@ use Rattle.laws_lives.specs.Views.{IsAmong}
 use Rattle.laws_calls.proofs.AskedLocks.{PlaceLocks, begin_keeps_locks, commit_keeps_locks, goes_on_locks}
 use Rattle.laws_calls.proofs.Decided.{both_ways}
 use Rattle.laws_calls.proofs.GoingOn.{never_waiting}
-use Rattle.laws_calls.proofs.GrownLocks.{Grown, grown_acquired, grown_cancelled, grown_from}
+use Rattle.laws_calls.proofs.GrownLocks.{Grown, grown_acquired, grown_cancelled, grown_from, grown_waiting}
 use Rattle.laws_calls.proofs.Midway.{CallCameTo, CameTo, IsPaused, paused_at_first, paused_next, settled_call_to, settled_resume_to}
 use Rattle.laws_calls.proofs.SessionInversions.{durable_no_lock, same_lock, waits_in}
 use Rattle.laws_calls.proofs.SessionResumes.{woken}
@@ -49,8 +51,8 @@ use Rattle.laws_calls.specs.Events.{IsStateAfter}
 use Rattle.laws_calls.specs.LockChanges.{ChangesLocks}
 use Rattle.laws_calls.specs.LockedStates.{IsSessionsState}
 use Rattle.laws_calls.specs.Midway.{EndsFrom, Interlude, Intervene, IsMidway, Takes, WaitsAnew, cycles_among}
+use Rattle.laws_calls.specs.SessionWaits.{WaitsThere}
 use Rattle.laws_calls.specs.Settling.{SettledCall, SettledResume, WaitsForNoLock}
-use Rattle.laws_calls.specs.Shapes.{ForItsTxn}
 use Rattle.laws_calls.specs.StateChanges.{wait_refused}
 use Rattle.laws_calls.specs.States.{IsOfSession, State, Waiting}
 
@@ -304,7 +306,7 @@ module _ (g : Geometry) (found : List LogRecord) (es : List Entry) (s : State) (
 
 -- ---- a resume
 
-module _ (g : Geometry) (found : List LogRecord) (es : List Entry) (s : State) (k : IsStateAfter found es s) (session : ℕ) (quiet : ForItsTxn s session (λ a. is_waiting a.txn s.locks.requests ≡ false)) where
+module _ (g : Geometry) (found : List LogRecord) (es : List Entry) (s : State) (k : IsStateAfter found es s) (session : ℕ) (there : WaitsThere s session) where
   -- The requests stay; or a commit is answered, and all of its transaction's go; or they change as the call asks that waited.
   abbrev pub LocksSettleAgain : Step → State → Type 0
   LocksSettleAgain step new =
@@ -346,6 +348,16 @@ module _ (g : Geometry) (found : List LogRecord) (es : List Entry) (s : State) (
       (λ runs. wait_settles h.0 h.1 h.2 h.0.wait refl step new runs.1)
       h.3
 
+  -- what it waits for is asked
+  asks_so : (w : Waiting) → IsAmong w s.waiting → w.session ≡ session → (at : Granule) → w.wait ≡ Lock at → (lock : Asked) → lock_asked_by w.call ≡ Some lock
+      → (a : SessionTxn) → IsOfSession s session a → (r : Request) → waiting_request a.txn s.locks.requests ≡ Some r
+      → Contains (path lock.granule) r.granule × (r.wanted ≡ Some (wanted_mode r.held (asked_of lock.granule lock.mode r.granule)))
+  asks_so w m its at waits lock asked a of r some =
+      let request = there w m its at waits a of r some in
+      subst (λ (x : Granule). Contains (path lock.granule) x × (r.wanted ≡ Some (wanted_mode r.held (asked_of lock.granule lock.mode x)))) (sym request.there)
+      (subst (λ (l : Asked). Contains (path l.granule) at × (r.wanted ≡ Some (wanted_mode r.held (asked_of l.granule l.mode at)))) (sym (same_lock (lock_asked_by w.call) lock request.lock asked request.asked))
+      (request.on, request.wanted))
+
   way_settles : (step : Step) (new : State) → HasWaited s session → CameTo g session s step new → LocksSettleAgain step new
   way_settles step new was came =
       let w = was.waits.waited in
@@ -362,7 +374,7 @@ module _ (g : Geometry) (found : List LogRecord) (es : List Entry) (s : State) (
       } in
       let vs = cycles_among came.between in
       let last = grown_midway g found es session a.txn w.call locks.lock locks.asked s.locks.requests vs s came.between came.from (all_in came.between) p
-      (grown_from s.locks.requests a.txn locks.lock.granule locks.lock.mode vs (quiet a of)) came.intervene in
+      (grown_waiting s.locks.requests a.txn locks.lock.granule locks.lock.mode vs k.sessions.locks.orderly (asks_so w was.waits.there was.waits.of was.at was.waits.lock locks.lock locks.asked a of)) came.intervene in
       inr (inr (
         w,
         was.waits.there,

@@ -99,7 +99,7 @@ waiter_of t s = by (waiting_request t s.locks.requests) refl
 its_wait_at : (s : State) (session : ℕ) (at : Granule) → AllWaitThere s → (w : Waiting) → IsAmong w s.waiting → w.session ≡ session → w.wait ≡ Lock at
     → (a : SessionTxn) → IsOfSession s session a → is_waiting a.txn s.locks.requests ≡ true → HasItsWait s session at
 its_wait_at s session at there w m its lock a of waits =
-    let r = waiter_of a.txn s waits in record { txn = a; of = of; request = r.0; waits = r.1; there = there session w m its at lock a of r.0 r.1 }
+    let r = waiter_of a.txn s waits in record { txn = a; of = of; request = r.0; waits = r.1; there = (there session w m its at lock a of r.0 r.1).there }
 
 module _ (g : Geometry) (found : List LogRecord) (es : List Entry) (s : State) (k : IsStateAfter found es s) (was : AllWaitThere s) (session : ℕ) (at : Granule) (new : State) where
   pub settled_call_waits_at : (c : Call) → SettledCall g s session c (Waits (Lock at)) new → HasItsWait new session at

@@ -1,4 +1,4 @@
--- A request with which a transaction waits is at the granule for which its session's call waits: each step keeps that.
+-- A request with which a transaction waits is its session's call's, at the granule for which that waits: each step keeps that.
 use Rattle.std.proofs.Common.{◌≡◌, ◌≢◌, ◌⊎◌, inl, inr, ⊎_elim, ◌++◌, ℕ, List, ◌∷◌, true, false, Option, Some, None, refl, sym, ap, subst, ◌∙◌}
 use Rattle.std.specs.Prelude.{◌==◌, is_some}
 use Rattle.std.proofs.lemmas.Bool.{cases_Bool, eqb-false, eqb-true}
@@ -45,7 +45,7 @@ use Rattle.laws_calls.specs.Events.{IsStateAfter, entries_of_resume}
 use Rattle.laws_calls.specs.LockChanges.{TakesAsAsked}
 use Rattle.laws_calls.specs.LockedStates.{IsSessionsState}
 use Rattle.laws_calls.specs.Rollbacks.{BackToStep, IsInterrupted, IsUnwound, SavepointStep}
-use Rattle.laws_calls.specs.SessionWaits.{AllWaitThere, WaitsThere}
+use Rattle.laws_calls.specs.SessionWaits.{AllWaitThere, IsItsRequest, WaitsThere}
 use Rattle.laws_calls.specs.Shapes.{with_locks_of}
 use Rattle.laws_calls.specs.StateChanges.{after_refusal, commit_waiting, wait_refused}
 use Rattle.laws_calls.specs.States.{DoesNotWait, IsOfSession, State, Waiting, next_number, without_waiting}
@@ -211,7 +211,7 @@ module _ (g : Geometry) (s new : State) (session : ℕ) where
 
 -- of a session whose call and transaction were there, with no request of it that begins to wait
 there_kept : (s new : State) (session : ℕ) → IsOrderly s.locks.requests
-    → ((w : Waiting) → IsAmong w new.waiting → w.session ≡ session → (v : Waiting) × IsAmong v s.waiting × (v.session ≡ session) × (v.wait ≡ w.wait))
+    → ((w : Waiting) → IsAmong w new.waiting → w.session ≡ session → (v : Waiting) × IsAmong v s.waiting × (v.session ≡ session) × (v.wait ≡ w.wait) × (v.call ≡ w.call))
     → ((b : SessionTxn) → IsOfSession new session b → (a : SessionTxn) × IsOfSession s session a × (a.txn ≡ b.txn))
     → ((a : SessionTxn) → IsOfSession s session a → (r : Request) → In r new.locks.requests → r.txn ≡ a.txn → is_some r.wanted ≡ true → In r s.locks.requests)
     → WaitsThere s session → WaitsThere new session
@@ -220,14 +220,15 @@ there_kept s new session orderly waited were stood k w m of at lock b its r is =
     let a = were b its in
     let waits = waits_as b.txn new.locks.requests r is in
     let own = waits.by ∙ sym a.2 in
-    k v.0 v.1 v.2 at (v.3 ∙ lock) a.0 a.1 r (found_waiting a.0.txn s.locks.requests orderly r (stood a.0 a.1 r waits.there own waits.wants) own waits.wants)
+    subst (λ (c : Call). IsItsRequest c at r) v.4
+    (k v.0 v.1 v.2 at (v.3 ∙ lock) a.0 a.1 r (found_waiting a.0.txn s.locks.requests orderly r (stood a.0 a.1 r waits.there own waits.wants) own waits.wants))
 
 -- whoever waits, if no request begins to wait
-pub all_there : (s new : State) → IsOrderly s.locks.requests → ((w : Waiting) → IsAmong w new.waiting → (v : Waiting) × IsAmong v s.waiting × (v.session ≡ w.session) × (v.wait ≡ w.wait))
+pub all_there : (s new : State) → IsOrderly s.locks.requests → ((w : Waiting) → IsAmong w new.waiting → (v : Waiting) × IsAmong v s.waiting × (v.session ≡ w.session) × (v.wait ≡ w.wait) × (v.call ≡ w.call))
     → AllWereUnderWay s new → NoneWaitsAnew s.locks.requests new.locks.requests → AllWaitThere s → AllWaitThere new
 all_there s new orderly waited were stood k session =
     there_kept s new session orderly
-    (λ w m of. let v = waited w m in (v.0, v.1, v.2 ∙ of, v.3))
+    (λ w m of. let v = waited w m in (v.0, v.1, v.2 ∙ of, v.3, v.4))
     (λ b its. let a = were b its.0 in (a.0, (a.1.0, a.1.1 ∙ its.1), a.2))
     (λ a its r there own wants. stood r there wants)
     (k session)
@@ -243,19 +244,22 @@ module _ (g : Geometry) (found : List LogRecord) (es : List Entry) (s : State) (
   lock_at : (wait : Wait) (there : Granule) → Lock at ≡ Lock there → at ≡ there
   lock_at wait there e = cc
 
-  pub fresh : (request : Request) × (waiting_request a.txn new.locks.requests ≡ Some request) × (request.granule ≡ at)
+  pub fresh : (request : Request) × (waiting_request a.txn new.locks.requests ≡ Some request) × IsItsRequest c at request
   fresh =
       let waits = (leaves found es s k a mem quiet (on_conflict_of c) h.0.granule h.0.mode).waits h.1 h.3 in
-      let there : at ≡ h.1 = lock_at (Lock at) h.1 h.4 in
-      (waits.1.request, ap (λ (x : State). waiting_request a.txn x.locks.requests) h.5 ∙ waits.1.waits, waits.1.at ∙ sym there)
+      let there : at ≡ h.1 = lock_at (Lock at) h.1 h.4 in (
+        waits.1.request,
+        ap (λ (x : State). waiting_request a.txn x.locks.requests) h.5 ∙ waits.1.waits,
+        subst (λ (x : Granule). IsItsRequest c x waits.1.request) (sym there) (record { lock = h.0; asked = h.2; there = waits.1.at; on = waits.0; wanted = waits.1.wanted }),
+      )
 
   pub fresh_active : IsAmong a new.sessions.active
   fresh_active = subst (λ (x : State). IsAmong a x.sessions.active) (sym h.5) mem
 
 -- the fresh wait of a session's call
-module _ (found : List LogRecord) (es : List Entry) (new : State) (k : IsStateAfter found es new) (session : ℕ) (a : SessionTxn) (of : IsOfSession new session a) (at : Granule)
-    (fresh : (request : Request) × (waiting_request a.txn new.locks.requests ≡ Some request) × (request.granule ≡ at))
-    (w : Waiting) (there : IsAmong w new.waiting) (its : w.session ≡ session) (lock : w.wait ≡ Lock at) where
+module _ (found : List LogRecord) (es : List Entry) (new : State) (k : IsStateAfter found es new) (session : ℕ) (a : SessionTxn) (of : IsOfSession new session a) (at : Granule) (c : Call)
+    (fresh : (request : Request) × (waiting_request a.txn new.locks.requests ≡ Some request) × IsItsRequest c at request)
+    (w : Waiting) (there : IsAmong w new.waiting) (its : w.session ≡ session) (asks : w.call ≡ c) (lock : w.wait ≡ Lock at) where
   same_granule : (x y : Granule) → Lock x ≡ Lock y → x ≡ y
   same_granule x y e = cc
 
@@ -264,7 +268,9 @@ module _ (found : List LogRecord) (es : List Entry) (new : State) (k : IsStateAf
       let one = k.waits.once w v there m (its ∙ sym mine) in
       let same : a.txn ≡ b.txn = one_txn k.sessions.agree a b (inl of.0) (inl ofb.0) (of.1 ∙ sym ofb.1) in
       let request = same_request (waiting_request b.txn new.locks.requests) fresh.0 r (ap (λ t. waiting_request t new.locks.requests) (sym same) ∙ fresh.1) is in
-      ap (λ (x : Request). x.granule) (sym request) ∙ fresh.2 ∙ same_granule at to (sym lock ∙ ap (λ (x : Waiting). x.wait) one ∙ waits)
+      subst (λ (x : Request). IsItsRequest v.call to x) request
+      (subst (λ (x : Granule). IsItsRequest v.call x fresh.0) (same_granule at to (sym lock ∙ ap (λ (x : Waiting). x.wait) one ∙ waits))
+      (subst (λ (d : Call). IsItsRequest d at fresh.0) (sym asks ∙ ap (λ (x : Waiting). x.call) one) fresh.2))
 
 module _ (g : Geometry) (found : List LogRecord) (es : List Entry) (s : State) (k : IsStateAfter found es s) (session : ℕ) (c : Call) where
   -- another's requests are only granted
@@ -319,8 +325,8 @@ module _ (g : Geometry) (found : List LogRecord) (es : List Entry) (s : State) (
           ⊎_elim
           (λ asks.
           let quiet = k.sessions.locks.waits t.running t.txn t.of.0 (λ w m spared same. t.idle w m (same ∙ t.of.1)) in
-          fresh_there found _ new later session t.txn (fresh_active g found es s k.sessions t.txn t.of.0 quiet c at new asks.1, t.of.1) at
-          (fresh g found es s k.sessions t.txn t.of.0 quiet c at new asks.1) (record { session = session; call = c; wait = Lock at; cycle = None }) (call_waits g s new session c (Lock at) h) refl refl)
+          fresh_there found _ new later session t.txn (fresh_active g found es s k.sessions t.txn t.of.0 quiet c at new asks.1, t.of.1) at c
+          (fresh g found es s k.sessions t.txn t.of.0 quiet c at new asks.1) (record { session = session; call = c; wait = Lock at; cycle = None }) (call_waits g s new session c (Lock at) h) refl refl refl)
           (λ commits. absurd (durable_no_lock _ at (sym commits.1.0)))
           t.how
 
@@ -330,7 +336,7 @@ module _ (g : Geometry) (found : List LogRecord) (es : List Entry) (s : State) (
       (λ other.
       let apart = eqb-false v session other in
       there_kept s new v k.sessions.locks.orderly
-      (λ w m of. (w, call_waited g s new session c step h w m (λ same. apart (sym of ∙ same)), of, refl))
+      (λ w m of. (w, call_waited g s new session c step h w m (λ same. apart (sym of ∙ same)), of, refl, refl))
       (λ b its. let a = call_were g s new session c step h b its.0 (λ same. apart (sym its.1 ∙ same)) in (a.0, (a.1.0, a.1.1 ∙ its.1), a.2))
       (λ a its r there own wants. call_stood step new h a its.0 (λ same. apart (sym its.1 ∙ same)) r there own wants)
       (was v))
@@ -366,8 +372,8 @@ module _ (g : Geometry) (found : List LogRecord) (es : List Entry) (s : State) (
     goes_own Nothing h = absurd h
     goes_own (Waits (Durable n)) h = absurd (durable_no_lock n h.1 h.4)
     goes_own (Waits (Lock at)) h =
-        fresh_there found later new stays session a (fresh_active g found es s k a of.0 quiet c at new h, of.1) at (fresh g found es s k a of.0 quiet c at new h)
-        (lock_waiting a c h.1) (subst (λ (x : State). IsAmong (lock_waiting a c h.1) x.waiting) (sym h.5) (inl refl)) of.1 (sym h.4)
+        fresh_there found later new stays session a (fresh_active g found es s k a of.0 quiet c at new h, of.1) at c (fresh g found es s k a of.0 quiet c at new h)
+        (lock_waiting a c h.1) (subst (λ (x : State). IsAmong (lock_waiting a c h.1) x.waiting) (sym h.5) (inl refl)) of.1 refl (sym h.4)
 
     pub goes_there : (step : Step) → CallGoesOn g s a c step new → AllWaitThere s → AllWaitThere new
     goes_there step h was v = ⊎_elim
@@ -375,7 +381,7 @@ module _ (g : Geometry) (found : List LogRecord) (es : List Entry) (s : State) (
         (λ other.
         let apart = eqb-false v session other in
         there_kept s new v k.locks.orderly
-        (λ w m its. (w, goes_waited step h w m (λ same. apart (sym its ∙ same)), its, refl))
+        (λ w m its. (w, goes_waited step h w m (λ same. apart (sym its ∙ same)), its, refl, refl))
         (λ b its. let w = goes_were g s a c step new h b its.0 in (w.0, (w.1.0, w.1.1 ∙ its.1), w.2))
         (λ b its r there own wants. goes_stood step h b its.0 (λ same. apart (sym its.1 ∙ same)) r there own wants)
         (was v))
@@ -384,8 +390,8 @@ module _ (g : Geometry) (found : List LogRecord) (es : List Entry) (s : State) (
 -- ---- a resume
 
 -- who waits without a session's call waited
-still_waited : (s : State) (n : ℕ) (w : Waiting) → IsAmong w (without_waiting n s.waiting) → (v : Waiting) × IsAmong v s.waiting × (v.session ≡ w.session) × (v.wait ≡ w.wait)
-still_waited s n w m = (w, (waits_on n w s.waiting m).0, refl, refl)
+still_waited : (s : State) (n : ℕ) (w : Waiting) → IsAmong w (without_waiting n s.waiting) → (v : Waiting) × IsAmong v s.waiting × (v.session ≡ w.session) × (v.wait ≡ w.wait) × (v.call ≡ w.call)
+still_waited s n w m = (w, (waits_on n w s.waiting m).0, refl, refl, refl)
 
 module _ (g : Geometry) (found : List LogRecord) (es : List Entry) (s : State) (k : IsStateAfter found es s) (session : ℕ) (step : Step) (new : State) (resumes : ResumeStep g s session step new)
     (was : AllWaitThere s) where
@@ -423,8 +429,8 @@ module _ (found : List LogRecord) (es : List Entry) (s : State) (k : IsStateAfte
   victim_there t v new h = subst AllWaitThere (sym h.is)
       (all_there s (victim_taken s h.txn v.cycle) k.sessions.locks.orderly waited (λ b. was_with s h.txn.txn _ b) (cancelled_none h.txn.txn s.locks.requests k.sessions.locks.orderly.one_each) was)
     where
-      waited : (w : Waiting) → IsAmong w (with_cycle h.txn.session v.cycle s.waiting) → (x : Waiting) × IsAmong x s.waiting × (x.session ≡ w.session) × (x.wait ≡ w.wait)
-      waited w m = let x = waited_so h.txn.session v.cycle s.waiting w m in (x.was, x.there, x.session, x.wait)
+      waited : (w : Waiting) → IsAmong w (with_cycle h.txn.session v.cycle s.waiting) → (x : Waiting) × IsAmong x s.waiting × (x.session ≡ w.session) × (x.wait ≡ w.wait) × (x.call ≡ w.call)
+      waited w m = let x = waited_so h.txn.session v.cycle s.waiting w m in (x.was, x.there, x.session, x.wait, x.its)
 
   pub told_there : (session : ℕ) (step : Step) (new : State) → TellsVictim s session step new → AllWaitThere new
   told_there session step new h = subst AllWaitThere (sym h.is) (all_there s (wait_refused s session) k.sessions.locks.orderly (still_waited s session) (was_it s) (λ r there wants. there) was)

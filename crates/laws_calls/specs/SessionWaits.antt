@@ -2,8 +2,12 @@
 use Rattle.std.specs.Prelude.{◌≡◌, ◌<◌, ◌≤◌, ◌⊎◌, ℕ, None, Some, Contains, false, length, take}
 use Rattle.shore_types.specs.declared.locking.Granule.{Granule}
 use Rattle.shore_model.specs.declared.histories.Decision.TheVariants as decision
+use Rattle.shore_model.specs.declared.calls.Call.{Call}
 use Rattle.shore_model.specs.declared.requests.Request.{Request}
+use Rattle.shore_model.specs.Locks.{path}
+use Rattle.shore_locks.specs.Grants.{wanted_mode}
 use Rattle.shore_locks.specs.Tables.{waiting_request}
+use Rattle.shore_path.specs.Walks.{asked_of}
 use Rattle.laws_locks.specs.CallLocks.{Asked, lock_asked_by}
 use Rattle.laws_lives.specs.LogPrefixes.{decisions_in}
 use Rattle.laws_lives.specs.Sessions.{SessionTxn}
@@ -41,10 +45,18 @@ pub record WaitsOfSessions (base : ℕ) (s : State) : Type 0 where
   pub once : (v w : Waiting) → IsAmong v s.waiting → IsAmong w s.waiting → v.session ≡ w.session → v ≡ w
   pub all : s.failed ≡ false → (a : SessionTxn) → IsAmong a s.sessions.committing → (n : ℕ) × IsAmong (commit_waiting a.session n) s.waiting
 
--- A request with which the transaction of a session waits is at the granule for which the session's call waits.
+-- a request at a granule on the path to a call's lock, for the mode that the call asks there, joined to the one held
+pub record IsItsRequest (c : Call) (at : Granule) (r : Request) : Type 0 where
+  pub lock : Asked
+  pub asked : lock_asked_by c ≡ Some lock
+  pub there : r.granule ≡ at
+  pub on : Contains (path lock.granule) at
+  pub wanted : r.wanted ≡ Some (wanted_mode r.held (asked_of lock.granule lock.mode at))
+
+-- A request with which the transaction of a session waits is its call's, at the granule for which the call waits.
 abbrev pub WaitsThere : State → ℕ → Type 0
 WaitsThere s session = (w : Waiting) → IsAmong w s.waiting → w.session ≡ session → (at : Granule) → w.wait ≡ Lock at
-    → (a : SessionTxn) → IsOfSession s session a → (r : Request) → waiting_request a.txn s.locks.requests ≡ Some r → r.granule ≡ at
+    → (a : SessionTxn) → IsOfSession s session a → (r : Request) → waiting_request a.txn s.locks.requests ≡ Some r → IsItsRequest w.call at r
 
 -- so it is of each session
 abbrev pub AllWaitThere : State → Type 0

@@ -1,7 +1,8 @@
 //! Refusals of calls and resumes as a whole, with the victims that break cycles: each has its cause, in the state in which the call asked last.
 ghost use Rattle.std.specs.Prelude.{◌≡◌, ◌≢◌, ◌⊎◌, ℕ, IsTrue, List, [], None, Some};
+ghost use Rattle.shore_types.specs.declared.faults.Device.{Device};
 ghost use Rattle.shore_types.specs.declared.faults.Fault.{Fault};
-ghost use Rattle.shore_types.specs.declared.faults.Fault.TheVariants.{Deadlock, Failed, Memory};
+ghost use Rattle.shore_types.specs.declared.faults.Fault.TheVariants as fault;
 ghost use Rattle.shore_types.specs.declared.layout.Geometry.{Geometry};
 ghost use Rattle.shore_model.specs.declared.calls.Call.{Call};
 ghost use Rattle.shore_model.specs.declared.histories.Entry.{Entry};
@@ -24,11 +25,11 @@ ghost use Rattle.laws_calls.specs.Victims.{TellsVictim};
 /// transaction is a victim is told below; `Memory` has its cause outside of the state.
 pub fn settled_refusals_are_earned()
     ensures call { (g : Geometry) (found : List LogRecord) (es : List Entry) (s new : State) (session : ℕ) (c : Call) (f : Fault) → IsStateAfter found es s →
-        ((cycle : List ℕ) → f ≢ Deadlock cycle) → f ≢ Memory → SettledCall g s session c (Refused f) new →
+        ((cycle : List ℕ) → f ≢ fault.Deadlock cycle) → f ≢ fault.Memory → SettledCall g s session c (Refused f) new →
         (last : State) × AsksIn g s session c last × CallStep g last session c (Refused f) new × EarnsRefusal g last session c f }
     ensures resume { (g : Geometry) (found : List LogRecord) (es : List Entry) (s new : State) (session : ℕ) (f : Fault) → IsStateAfter found es s → LockWaitsMayAsk g s →
-        ((cycle : List ℕ) → f ≢ Deadlock cycle) → f ≢ Memory → SettledResume g s session (Refused f) new →
-        (w : Waiting) × IsAmong w s.waiting × (w.session ≡ session) × ((IsTrue s.failed × (f ≡ Failed))
+        ((cycle : List ℕ) → f ≢ fault.Deadlock cycle) → f ≢ fault.Memory → SettledResume g s session (Refused f) new →
+        (w : Waiting) × IsAmong w s.waiting × (w.session ≡ session) × ((IsTrue s.failed × (f ≡ fault.Failed))
         ⊎ ((last : State) × AsksAgainIn g s session last × CallStep g last session w.call (Refused f) new × EarnsRefusal g last session w.call f)) }
 {}
 
@@ -36,14 +37,14 @@ pub fn settled_refusals_are_earned()
 /// resume is told one that stood in its midst, or that its session was to be told already.
 pub fn told_cycles_stood()
     ensures call { (g : Geometry) (found : List LogRecord) (es : List Entry) (s new : State) (session : ℕ) (c : Call) (cycle : List ℕ) → IsStateAfter found es s →
-        SettledCall g s session c (Refused (Deadlock cycle)) new →
+        SettledCall g s session c (Refused (fault.Deadlock cycle)) new →
         (between : List Interlude) × (x : State) × IsMidway g s session c between x × IsItsCycle x session cycle
-        × ((later : List Interlude) × (from : State) × Intervene g session x later from × TellsVictim from session (Refused (Deadlock cycle)) new) }
+        × ((later : List Interlude) × (from : State) × Intervene g session x later from × TellsVictim from session (Refused (fault.Deadlock cycle)) new) }
     ensures resume { (g : Geometry) (found : List LogRecord) (es : List Entry) (s new : State) (session : ℕ) (cycle : List ℕ) → IsStateAfter found es s → LockWaitsMayAsk g s →
-        SettledResume g s session (Refused (Deadlock cycle)) new →
+        SettledResume g s session (Refused (fault.Deadlock cycle)) new →
         ((w : Waiting) × IsAmong w s.waiting × (w.session ≡ session) × (w.cycle ≡ Some cycle))
         ⊎ ((between : List Interlude) × (x : State) × Intervene g session s between x × IsItsCycle x session cycle
-        × ((later : List Interlude) × (from : State) × Intervene g session x later from × TellsVictim from session (Refused (Deadlock cycle)) new)) }
+        × ((later : List Interlude) × (from : State) × Intervene g session x later from × TellsVictim from session (Refused (fault.Deadlock cycle)) new)) }
 {}
 
 /// A cycle that a session is to be told, after any events from an open on, stood within one of them: it was a cycle of waits then, of which the session's
@@ -54,10 +55,15 @@ pub fn cycles_to_be_told_stood()
 {}
 
 /// A refused call, but for a rollback, and a refused resume leave the records in place, the log, the slots of the pages, what is durable and each undo list as they
-/// were, but for those of the transactions that were taken as victims on the way: these are doomed. Locks may have been taken, and requests taken back.
+/// were, but for those of the transactions that were taken as victims on the way: these are doomed. Locks may have been taken, and requests taken back. Unless a
+/// device failed or a page was damaged, the manager runs on if it ran.
 pub fn settled_refusals_leave_all_but_locks_and_victims()
     ensures call { (g : Geometry) (s new : State) (session : ℕ) (c : Call) (f : Fault) → rollback_of c ≡ None → SettledCall g s session c (Refused f) new →
         (between : List Interlude) × ((between ≡ []) ⊎ ((x : State) × IsMidway g s session c between x)) × (new ≡ but_doomed s (victims_among between) new) }
     ensures resume { (g : Geometry) (s new : State) (session : ℕ) (f : Fault) → SettledResume g s session (Refused f) new →
         (between : List Interlude) × ((x : State) × Intervene g session s between x) × (new ≡ but_doomed s (victims_among between) new) }
+    ensures call_runs { (g : Geometry) (s new : State) (session : ℕ) (c : Call) (f : Fault) → f ≢ fault.Device → ((device : Device) (offset : ℕ) → f ≢ fault.Damaged device offset) →
+        SettledCall g s session c (Refused f) new → new.failed ≡ s.failed }
+    ensures resume_runs { (g : Geometry) (s new : State) (session : ℕ) (f : Fault) → f ≢ fault.Device → ((device : Device) (offset : ℕ) → f ≢ fault.Damaged device offset) →
+        SettledResume g s session (Refused f) new → new.failed ≡ s.failed }
 {}

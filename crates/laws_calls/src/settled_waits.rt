@@ -19,7 +19,7 @@ ghost use Rattle.laws_calls.specs.Settling.{SettledCall, SettledResume};
 ghost use Rattle.laws_calls.specs.StateChanges.{committed};
 ghost use Rattle.laws_calls.specs.States.{IsOfSession, State, Waiting, next_number};
 
-/// A request with which a transaction waits is at the granule for which its session's call waits: so it is after an open, and after any events.
+/// A request with which a transaction waits is its session's call's, at the granule for which that waits: so it is after an open, and after any events.
 pub fn requests_wait_where_calls_say()
     ensures call { (g : Geometry) (found : List LogRecord) (es : List Entry) (s new : State) (session : ℕ) (c : Call) (step : Step) → IsStateAfter found es s →
         AllWaitThere s → SettledCall g s session c step new → AllWaitThere new }

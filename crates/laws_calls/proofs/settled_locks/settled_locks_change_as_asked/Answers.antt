@@ -5,4 +5,4 @@ pub returns-clause-call : goal.returns-clause-call
 returns-clause-call d g found es s new session c step k h = settled_call_locks g found es s k session c step new h
 
 pub returns-clause-resume : goal.returns-clause-resume
-returns-clause-resume d g found es s new session step k quiet h = settled_resume_locks g found es s k session quiet step new h
+returns-clause-resume d g found es s new session step k there h = settled_resume_locks g found es s k session (there session) step new h
