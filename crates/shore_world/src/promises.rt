@@ -1,7 +1,7 @@
 //! What is promised of a world without a loss of power, event by event, in the words of a history, its records and its locks. Each law is stated as the
 //! contract of an empty function. `IsManagerOf` has all that is hidden: an open makes such a world (`committed_work_survives_every_crash`), and each run
 //! of one makes another (`runs_are_histories`).
-ghost use Rattle.std.specs.Prelude.{◌≡◌, ◌≢◌, ◌⊎◌, ◌+◌, ◌<◌, ◌++◌, ℕ, List, [], All, IsTrue, None, Some, false, length, map};
+ghost use Rattle.std.specs.Prelude.{◌≡◌, ◌≢◌, ◌⊎◌, ◌+◌, ◌<◌, ◌++◌, ℕ, List, [], All, IsTrue, None, Some, length, map};
 ghost use Rattle.shore_types.specs.declared.faults.Fault.{Fault};
 ghost use Rattle.shore_types.specs.declared.faults.Fault.TheVariants.{Deadlock, Failed, Memory};
 ghost use Rattle.shore_types.specs.declared.locking.Granule.{Granule};
@@ -20,7 +20,6 @@ ghost use Rattle.shore_model.specs.declared.step.Step.TheVariants.{Done, Refused
 ghost use Rattle.shore_model.specs.declared.step.Step.{Step};
 ghost use Rattle.shore_model.specs.declared.step.Wait.TheVariants.{Durable, Lock};
 ghost use Rattle.shore_locks.specs.Grants.{released};
-ghost use Rattle.shore_locks.specs.Tables.{is_waiting};
 ghost use Rattle.laws_lives.specs.Sessions.{SessionTxn};
 ghost use Rattle.laws_lives.specs.Soundness.{history_from, serial_after};
 ghost use Rattle.laws_lives.specs.Views.{IsAmong};
@@ -28,7 +27,7 @@ ghost use Rattle.laws_calls.specs.Causes.{EarnsRefusal};
 ghost use Rattle.laws_calls.specs.Events.{ManagerEvent};
 ghost use Rattle.laws_calls.specs.LockChanges.{ChangesLocks};
 ghost use Rattle.laws_calls.specs.Midway.{AsksAgainIn, AsksIn, HasItsWait, Interlude, Intervene, IsItsCycle, IsMidway, but_doomed, cycles_among, victims_among};
-ghost use Rattle.laws_calls.specs.Shapes.{ForItsTxn, IsLackOfRoom, rollback_of};
+ghost use Rattle.laws_calls.specs.Shapes.{IsLackOfRoom, rollback_of};
 ghost use Rattle.laws_calls.specs.States.{IsOfSession, State, Waiting};
 ghost use Rattle.shore_world.specs.declared.event.Event.TheVariants as event;
 ghost use Rattle.shore_world.specs.declared.event.Event.{Event};
@@ -135,8 +134,7 @@ pub fn locks_change_only_as_asked<L: Disk, V: Disk>()
         × ChangesLocks s.locks.requests a.txn c (cycles_among between) later.locks.requests)))) }
     ensures resume { (w new : World L V L.Disk V.Disk) (o : Records) (es : List Entry) (ws : List (ℕ × Call)) (session : ℕ) (step : Step) →
         IsManagerOf w o es ws → Steps w (event.Resume session) step new →
-        (s : State) × (later : State) × AreStatesOf w s new later × (ForItsTxn s session (λ a. is_waiting a.txn s.locks.requests ≡ false) →
-        (later.locks.requests ≡ s.locks.requests)
+        (s : State) × (later : State) × AreStatesOf w s new later × ((later.locks.requests ≡ s.locks.requests)
         ⊎ (((step ≡ Done Committed) × ((a : SessionTxn) × IsAmong a s.sessions.committing × (a.session ≡ session) × (later.locks.requests ≡ released a.txn s.locks.requests)))
         ⊎ ((waited : Waiting) × IsAmong waited s.waiting × (waited.session ≡ session) × ((a : SessionTxn) × IsOfSession s session a
         × ((between : List Interlude) × ((mid : State) × Intervene (geometry_in w) session s between mid)

@@ -12,4 +12,4 @@ returns-clause-call c d w new o es ws session call step k served one =
 pub returns-clause-resume : goal.returns-clause-resume
 returns-clause-resume c d w new o es ws session step k one =
     let went = stepped w o es ws k (event.Resume session) step new tt one in
-    (k.now.state, went.later, went.states, λ quiet. settled_resume_locks (geometry_in w) k.found es k.now.state (after w o es ws k) session quiet step went.later went.moves)
+    (k.now.state, went.later, went.states, settled_resume_locks (geometry_in w) k.found es k.now.state (after w o es ws k) session (k.there session) step went.later went.moves)
