@@ -395,7 +395,7 @@ module _ {L V : Type 0} {G : Ghosts L} {H : Ghosts V} (g : Geometry) (rs : List 
     disk = opens.opened.disk;
     now = record { state = opens.opened.first; store = opens.way.last.store };
     at = opens.opened.at;
-    waited = none_waiting opens;
+    waited = λ w there. absurd (subst (IsAmong w) opens.opened.over.waiting there);
     there = λ session w there. absurd (subst (IsAmong w) opens.opened.over.waiting there);
     under_way = subst (λ (x : Geometry). IsUnderWay x (stream_bytes_in w) rs [] (record { state = opens.opened.first; store = opens.way.last.store })) (sym up.geometry)
         (subst (λ n. IsUnderWay g n rs [] (record { state = opens.opened.first; store = opens.way.last.store })) (sym up.long) up.under_way);
