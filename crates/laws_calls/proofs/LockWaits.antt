@@ -1,6 +1,6 @@
 -- What holds of a call that begins to wait holds of each call that waits, whatever happens: as that a call which waits for a lock was not to be refused
 -- before it asked.
-use Rattle.std.proofs.Common.{◌≡◌, inl, inr, ⊎_elim, ℕ, List, [], ◌∷◌, Bool, true, false, Some, refl, sym, ap, subst, ◌∙◌, cond}
+use Rattle.std.proofs.Common.{◌≡◌, inl, inr, ⊎_elim, ℕ, List, [], ◌∷◌, Bool, true, false, Some, refl, sym, ap, subst, cond}
 use Rattle.std.specs.Prelude.{◌==◌, not}
 use Rattle.shore_types.specs.declared.layout.Geometry.{Geometry}
 use Rattle.shore_types.specs.declared.locking.Granule.{Granule}

@@ -8,7 +8,7 @@ ghost use Rattle.shore_types.specs.declared.ids.Rid.{Rid};
 ghost use Rattle.shore_types.specs.declared.layout.Geometry.{Geometry};
 ghost use Rattle.shore_model.specs.declared.log_records.LogRecord.{LogRecord};
 ghost use Rattle.shore_model.specs.Logs.{image_in};
-ghost use Rattle.laws_lives.specs.Pages.{LoggedPages, PagesLackNone, empty_page};
+ghost use Rattle.laws_lives.specs.Pages.{LoggedPages, empty_page};
 ghost use Rattle.laws_lives.specs.Recovery.{AppendRecord, CrashMayLeave, ForceLog, IsRecoverable, LeadsTo, RecoveryEvent, RecoveryState, RedoRecord, after_append, after_force, after_redo};
 ghost use Rattle.laws_lives.specs.Restarts.{RestartsTo};
 ghost use Rattle.laws_lives.specs.ManagerSteps.{WorksTo};

@@ -18,9 +18,8 @@ ghost use Rattle.shore_sessions.specs.Standing.{HasControl};
 ghost use Rattle.laws_lives.specs.Views.{IsAmong};
 ghost use Rattle.shore_txn.specs.Transactions.{IsSeatIn, undos_in};
 ghost use Rattle.shore_txn.specs.Transactions as table;
-ghost use Rattle.shore_txn.specs.Txns.{as_session_txn, entries_of, rolling_of};
+ghost use Rattle.shore_txn.specs.Txns.{as_session_txn, rolling_of};
 ghost use Rattle.shore_txn.specs.declared.txn.Txn.{Txn};
-ghost use Rattle.shore_txn.specs.declared.undo.UndoEntry.{UndoEntry};
 ghost use Rattle.shore_core.specs.Undoing.{IsNext};
 
 use crate::core_calls::Core;

@@ -1,5 +1,5 @@
 -- What a sync leaves of a device.
-use Rattle.std.proofs.Common.{◌≡◌, ◌⊎◌, inl, inr, refl, sym, ◌∙◌, subst, Ok}
+use Rattle.std.proofs.Common.{◌≡◌, refl, sym, subst, Ok}
 use Rattle.shore_disk.specs.Device.{History, Stands, may_leave, noted, seen, synced}
 use Rattle.shore_disk.proofs.Moments.{started, sync_leaves}
 use Rattle.shore_fronts.specs.Barriers.{IsBeforeBarrier, IsBehindBarrier}

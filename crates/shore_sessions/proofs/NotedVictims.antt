@@ -11,7 +11,7 @@ use Rattle.laws_calls.specs.CallSteps.{with_requests}
 use Rattle.laws_calls.specs.States.{State, Waiting}
 use Rattle.shore_cycles.specs.declared.victims.Victim.{Victim}
 use Rattle.shore_txn.specs.ActiveTxns.{OneBecomes, sessions_of}
-use Rattle.shore_txn.specs.Transactions.{IsSeatIn, kept_in, next_in, room_in, undos_in}
+use Rattle.shore_txn.specs.Transactions.{IsSeatIn, next_in, room_in, undos_in}
 use Rattle.shore_txn.specs.Transactions as table
 use Rattle.shore_txn.specs.Txns.{IsDoomed, last_of}
 use Rattle.shore_txn.specs.declared.seat.Seat.{Seat}

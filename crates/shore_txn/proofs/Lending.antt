@@ -2,7 +2,7 @@
 use Rattle.std.proofs.Common.{◌≡◌, set, sym, ap, subst, ◌∙◌}
 use Rattle.std.specs.List.{slice_index_or}
 use Rattle.laws_lives.specs.Views.{IsAmong}
-use Rattle.shore_txn.specs.ActiveTxns.{OneBecomes, undos_of}
+use Rattle.shore_txn.specs.ActiveTxns.{OneBecomes}
 use Rattle.shore_txn.specs.Transactions.{IsSeatIn, txns_in, undos_in}
 use Rattle.shore_txn.specs.ActiveTxns as active
 use Rattle.shore_txn.specs.Txns.{as_session_txn}

@@ -1,5 +1,5 @@
 -- The calls and answers in a manager's history are those of its events.
-use Rattle.std.proofs.Common.{◌≡◌, ◌≢◌, ◌⊎◌, inl, inr, ⊎_elim, ℕ, List, [], ◌∷◌, ◌++◌, Bool, true, false, cond, Option, None, Some, Ok, Err, filter_map, refl, sym, ◌∙◌, ap, subst, append-nil}
+use Rattle.std.proofs.Common.{◌≡◌, ◌≢◌, ◌⊎◌, inl, inr, ⊎_elim, ℕ, List, [], ◌∷◌, ◌++◌, Bool, true, false, cond, Option, None, Some, refl, sym, ◌∙◌, ap, subst, append-nil}
 use Rattle.std.specs.Prelude.{◌==◌}
 use Rattle.std.specs.List.{cons_option}
 use Rattle.std.proofs.lemmas.Bool.{eq-eqb, eqb-false, eqb-true, ne_eqb}
@@ -21,16 +21,16 @@ use Rattle.shore_model.specs.declared.step.Wait.TheVariants.{Durable, Lock}
 use Rattle.shore_types.specs.declared.locking.Granule.{Granule}
 use Rattle.shore_cycles.specs.declared.victims.Victim.{Victim}
 use Rattle.laws_lives.specs.Views.{IsAmong}
-use Rattle.laws_calls.proofs.LockWaits.{MayWait, WaitsHave, call_waits_have, resume_waits_have}
+use Rattle.laws_calls.proofs.LockWaits.{MayWait, call_waits_have, resume_waits_have}
 use Rattle.laws_calls.proofs.SettledEnds.{idle_in, settled_call_ends}
-use Rattle.laws_calls.specs.CallSteps.{CallStep, MayAsk, ResumeStep}
+use Rattle.laws_calls.specs.CallSteps.{CallStep, ResumeStep}
 use Rattle.laws_calls.specs.Events.{Called, Forced, HasFailed, IsStateAfter, ManagerEvent, Resumed, EventMoves, call_waiting, entries_of, entries_of_resume, entries_of_waiting}
-use Rattle.laws_calls.specs.LockedStates.{entries_of_call, entries_of_resumed, entries_of_wait, resumed_call}
+use Rattle.laws_calls.specs.LockedStates.{entries_of_call, entries_of_resumed, resumed_call}
 use Rattle.laws_calls.specs.Settling.{SettledCall, SettledResume, Settles}
 use Rattle.laws_calls.specs.States.{DoesNotWait, State, Waiting}
 use Rattle.laws_runs.proofs.UnderWay.{step_under_way}
 use Rattle.laws_runs.specs.SoundStores.{IsUnderWay, managed}
-use Rattle.laws_runs.specs.StoredRuns.{Manage, StoredEvent, StoredMoves, StoredState, Tend, entries_made}
+use Rattle.laws_runs.specs.StoredRuns.{Manage, StoredEvent, StoredMoves, StoredState, Tend}
 use Rattle.shore_world.specs.declared.event.Event.{Event}
 use Rattle.shore_world.specs.declared.event.Event.TheVariants as event
 use Rattle.shore_world.specs.declared.world.World.{World}

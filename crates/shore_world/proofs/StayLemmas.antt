@@ -1,5 +1,5 @@
 -- Stays of the power on two devices are stays over plain data.
-use Rattle.std.proofs.Common.{◌≡◌, ◌⊎◌, inl, inr, ⊎_elim, ℕ, ◌-◌, List, [], ◌∷◌, ◌++◌, refl, sym, ◌∙◌, ap, subst, take, append_assoc, append-nil}
+use Rattle.std.proofs.Common.{◌≡◌, ◌⊎◌, ⊎_elim, ℕ, ◌-◌, List, [], ◌∷◌, ◌++◌, refl, sym, ◌∙◌, ap, subst, take, append_assoc, append-nil}
 use Rattle.std.specs.Prelude.{All}
 use Rattle.std.specs.List.{AllByRecursion}
 use Rattle.std.proofs.lemmas.List.Elements.{recursion_from_All}
@@ -7,7 +7,7 @@ use Rattle.shore_types.specs.declared.layout.Geometry.{Geometry}
 use Rattle.shore_types.specs.declared.layout.TheConstants.{LOG_FRONT_BYTES}
 use Rattle.shore_disk.specs.Device.{History, may_leave, seen, size}
 use Rattle.shore_disk.specs.declared.device.Disk.{Ghosts}
-use Rattle.shore_disk.proofs.Moments.{at_end, seen_left}
+use Rattle.shore_disk.proofs.Moments.{seen_left}
 use Rattle.shore_dwrite.specs.declared.places.TheConstants.{GATE_AT}
 use Rattle.shore_model.specs.declared.log_records.LogRecord.{LogRecord}
 use Rattle.shore_model.specs.Locks.{Harmony, WellRooted}
@@ -26,11 +26,11 @@ use Rattle.laws_runs.proofs.SoundStores.{found_may_be_found}
 use Rattle.laws_runs.proofs.StaySteps.{are_a_life, come, keep_what_was_found, show_what_was_told}
 use Rattle.laws_runs.proofs.UnderWay.{opens_under_way, under_way_sound}
 use Rattle.laws_runs.specs.SoundStores.{IsUnderWay, MayBeOpened, found_state, managed}
-use Rattle.laws_runs.specs.Stays.{AreStoredStays, IsStoredCut, IsStoredUp, StoredCut, StoredStay, runs_of, work_cut_off}
+use Rattle.laws_runs.specs.Stays.{AreStoredStays, IsStoredUp, StoredCut, StoredStay, runs_of, work_cut_off}
 use Rattle.laws_runs.specs.Stays as stored
 use Rattle.laws_images.proofs.Left.{StandLost, formatted_stand, left_stand}
 use Rattle.laws_images.proofs.Paths.{HasReached, cut_off_as, path_long, path_restarts}
-use Rattle.laws_images.specs.Moments.{IsLostAlong, Moment, Path}
+use Rattle.laws_images.specs.Moments.{IsLostAlong, Moment}
 use Rattle.laws_images.specs.StandsFor.{StandsFor, begun_on}
 use Rattle.shore_format.specs.Pairs.{AreFormatted}
 use Rattle.shore_world.specs.declared.event.Event.{Event}

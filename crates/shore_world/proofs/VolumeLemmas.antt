@@ -16,7 +16,7 @@ use Rattle.laws_heaps.specs.LoggedHeaps.{LeavesStore}
 use Rattle.laws_heaps.proofs.Flushes.{left_amid}
 use Rattle.laws_heaps.proofs.LoggedLeft.{left_settled}
 use Rattle.shore_core.specs.Cores as cores
-use Rattle.shore_core.specs.Cores.{FailsOver, IsKept, IsSafe, durable_of, heap_of}
+use Rattle.shore_core.specs.Cores.{FailsOver, IsKept, durable_of, heap_of}
 use Rattle.shore_core.specs.Flushing.{AreFlushes}
 use Rattle.shore_core.specs.Replies.{MayLeave}
 use Rattle.laws_images.specs.Moments.{GivesPrefixOf, ShowsLeft}

@@ -1,5 +1,3 @@
-use Rattle.std.proofs.Common.{sym, subst}
-use Rattle.shore_model.specs.Locks.{WellRooted}
 use Rattle.laws_calls.proofs.Rooted.{stay_rooted}
 use Rattle.laws_calls.proofs.laws.locks_stay_in_harmony.Goals as goal
 

@@ -1,5 +1,4 @@
-use Rattle.std.proofs.Common.{◌-◌, []}
-use Rattle.shore_types.specs.declared.layout.TheConstants.{LOG_FRONT_BYTES}
+use Rattle.std.proofs.Common.{◌-◌}
 use Rattle.shore_disk.proofs.Moments.{seen_left}
 use Rattle.shore_disk.specs.Device.{seen}
 use Rattle.shore_world.proofs.StayLemmas.{at_its_lengths, have_lived, have_stayed, opened_in_harmony, opened_manager, opened_shows}

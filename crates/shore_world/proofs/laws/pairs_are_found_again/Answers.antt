@@ -1,4 +1,4 @@
-use Rattle.std.proofs.Common.{◌≡◌, inl, inr, ⊎_elim, List, ℕ, refl, sym, subst}
+use Rattle.std.proofs.Common.{inl, inr, ⊎_elim, List, ℕ, refl, sym, subst}
 use Rattle.shore_disk.proofs.Moments.{at_end}
 use Rattle.shore_disk.specs.Device.{History, may_leave}
 use Rattle.shore_world.specs.Crashes.{AreLeft}

@@ -4,7 +4,7 @@ use Rattle.std.specs.declared.alloc.AllocError.{AllocError}
 use Rattle.laws_lives.specs.Sessions.{SessionTxn, with_undo}
 use Rattle.laws_lives.specs.Views.{IsAmong}
 use Rattle.shore_txn.specs.ActiveTxns as active
-use Rattle.shore_txn.specs.ActiveTxns.{OneBecomes, session_txns, undos_of, with_mark}
+use Rattle.shore_txn.specs.ActiveTxns.{OneBecomes, undos_of, with_mark}
 use Rattle.shore_txn.specs.Transactions.{txns_in, undos_in}
 use Rattle.shore_txn.specs.Txns.{IsAfterSavepoint, SameTxn, as_session_txn, marks_of}
 use Rattle.shore_txn.proofs.ActiveSteps.{KeepsChanges, claims_still, kept_still, same_keeps, savepoint_keeps, session_marked, undos_by, undos_stay}
