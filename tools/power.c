@@ -1,0 +1,94 @@
+/* Preloaded by tools/check-power: notes what a loss of power may take back of the files that a program writes. For each file, and for each folder in which one is made, there is a
+   file of notes in the folder that POWER_NOTES names, called by the inode: one note after another, each a head and its bytes. POWER_SKIPS names one kind of call that then does nothing. */
+#define _GNU_SOURCE
+#include <dlfcn.h>
+#include <fcntl.h>
+#include <libgen.h>
+#include <stdarg.h>
+#include <stdio.h>
+#include <stdlib.h>
+#include <string.h>
+#include <sys/stat.h>
+#include <sys/uio.h>
+#include <unistd.h>
+
+enum kind { REPLACED = 'r', RESIZED = 'l', NAMED = 'n', BYTES_SYNCED = 'b', SYNCED = 's' };
+
+struct head {
+    long kind, at, count;
+};
+
+#define SYSTEM(name, result, ...) ((result(*)(__VA_ARGS__))dlsym(RTLD_NEXT, name))
+
+static int skips(const char *kind) {
+    const char *skipped = getenv("POWER_SKIPS");
+    return skipped && strcmp(skipped, kind) == 0;
+}
+
+/* One call of the system, so that a kill leaves no half of a note. */
+static void note(const struct stat *of, enum kind kind, long at, const void *bytes, long count) {
+    char path[4096];
+    snprintf(path, sizeof path, "%s/%lu", getenv("POWER_NOTES"), (unsigned long)of->st_ino);
+    int notes = SYSTEM("open", int, const char *, int, mode_t)(path, O_WRONLY | O_CREAT | O_APPEND, 0600);
+    struct head head = {kind, at, count};
+    struct iovec parts[2] = {{&head, sizeof head}, {(void *)bytes, count}};
+    if (notes < 0 || writev(notes, parts, 2) != (ssize_t)sizeof head + count) abort();
+    close(notes);
+}
+
+/* Bytes beyond the end are zeros. */
+static void note_what_is_there(int file, enum kind kind, long at, long count) {
+    struct stat of;
+    char *bytes = calloc(1, count + 1);
+    if (!bytes || fstat(file, &of) != 0 || pread(file, bytes, count, at) < 0) abort();
+    note(&of, kind, at, bytes, count);
+    free(bytes);
+}
+
+static int is_file(int file) {
+    struct stat of;
+    return fstat(file, &of) == 0 && S_ISREG(of.st_mode);
+}
+
+ssize_t pwrite(int file, const void *bytes, size_t count, off_t at) {
+    if (is_file(file)) note_what_is_there(file, REPLACED, at, count);
+    return SYSTEM("pwrite", ssize_t, int, const void *, size_t, off_t)(file, bytes, count, at);
+}
+
+int ftruncate(int file, off_t length) {
+    struct stat of;
+    if (fstat(file, &of) != 0) abort();
+    note_what_is_there(file, RESIZED, 0, of.st_size);
+    return SYSTEM("ftruncate", int, int, off_t)(file, length);
+}
+
+static int sync_by(const char *name, int file, enum kind kind) {
+    struct stat of;
+    if (fstat(file, &of) != 0) abort();
+    if (skips(S_ISDIR(of.st_mode) ? "folder" : name)) return 0;
+    int status = SYSTEM(name, int, int)(file);
+    if (status == 0) note(&of, kind, 0, "", 0);
+    return status;
+}
+
+int fdatasync(int file) { return sync_by("fdatasync", file, BYTES_SYNCED); }
+
+int fsync(int file) { return sync_by("fsync", file, SYNCED); }
+
+int open(const char *path, int flags, ...) {
+    va_list rest;
+    va_start(rest, flags);
+    mode_t mode = flags & O_CREAT ? va_arg(rest, mode_t) : 0;
+    va_end(rest);
+    int is_new = flags & O_CREAT && access(path, F_OK) != 0;
+    int file = SYSTEM("open", int, const char *, int, mode_t)(path, flags, mode);
+    if (file >= 0 && is_new) {
+        struct stat of;
+        char folder[4096], name[4096];
+        snprintf(folder, sizeof folder, "%s", path);
+        snprintf(name, sizeof name, "%s", path);
+        if (stat(dirname(folder), &of) != 0) abort();
+        note(&of, NAMED, 0, basename(name), strlen(basename(name)));
+    }
+    return file;
+}
