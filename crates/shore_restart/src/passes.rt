@@ -1,5 +1,5 @@
 //! The passes of a restart over its two devices: analysis, redo, undo, and the force of undo's records.
-ghost use Rattle.std.specs.Prelude.{◌≡◌, ◌⊎◌, ◌<◌, ◌≤◌, ℕ, List, IfErr, IfOk, OnOk, length};
+ghost use Rattle.std.specs.Prelude.{◌≡◌, ◌≢◌, ◌⊎◌, ◌<◌, ◌≤◌, ℕ, List, IfErr, IfOk, OnOk, length};
 ghost use Rattle.shore_disk.specs.Cause.{HasCause};
 ghost use Rattle.shore_types.specs.declared.faults.Fault.{Fault};
 ghost use Rattle.shore_types.specs.declared.faults.Fault.TheVariants as Fault;
@@ -81,8 +81,8 @@ pub fn run_passes<L: Disk, V: Disk>(
         → IfOk result (λ left. left.report.redone ≡ missing_on s.log s.in_place) }
     ensures bad { (log_front front : List ℕ) (disk : ℕ → List ℕ) (s : RecoveryState) → IsFound log_front front disk log.old heap.old s
         → IfErr result (λ error. (n : ℕ) → error ≡ RestartError.BadRecord n → IsBadRecord (geometry_of heap.old) (records_of_log log.old) n) }
-    ensures meant { IfErr result (λ error. (n : ℕ) → error ≡ RestartError.BadRecord n
-        → IsFirstUnmeant (geometry_of heap.old) (records_of_log log.old) n ⊎ AreMeant (geometry_of heap.old) (records_of_log log.old)) }
+    ensures meant { IfErr result (λ error. error ≢ RestartError.Memory → AreMeant (geometry_of heap.old) (records_of_log log.old)
+        ⊎ ((n : ℕ) × (error ≡ RestartError.BadRecord n) × IsFirstUnmeant (geometry_of heap.old) (records_of_log log.old) n)) }
     ensures no_room { IfErr result (λ error. error ≡ RestartError.NoRoom → LacksRoom (records_of_log log.old) (stream_bytes_of log.old)) }
     ensures device { (log_front front : List ℕ) (disk : ℕ → List ℕ) (s : RecoveryState) → IsFound log_front front disk log.old heap.old s
         → IfErr result (λ error. (f : Fault) → error ≡ RestartError.Page f → f ≡ Fault.Device) }

@@ -1,5 +1,5 @@
 //! A restart, from what an open has found to a core.
-ghost use Rattle.std.specs.Prelude.{◌≡◌, ◌⊎◌, ◌<◌, ◌≤◌, ◌+◌, [], ℕ, List, IfErr, IfOk, OnOk, length};
+ghost use Rattle.std.specs.Prelude.{◌≡◌, ◌≢◌, ◌⊎◌, ◌<◌, ◌≤◌, ◌+◌, [], ℕ, List, IfErr, IfOk, OnOk, length};
 ghost use Rattle.shore_disk.specs.Cause.{HasCause};
 ghost use Rattle.shore_types.specs.declared.faults.Fault.{Fault};
 ghost use Rattle.shore_types.specs.declared.faults.Fault.TheVariants as Fault;
@@ -55,9 +55,9 @@ pub fn restart<L: Disk, V: Disk>(
     ensures device { (log_front front : List ℕ) (disk : ℕ → List ℕ) (s : RecoveryState) → IsFound log_front front disk log.old heap s
         → IfErr result (λ refused. (f : Fault) → refused.0 ≡ RestartError.Page f → f ≡ Fault.Device) }
     ensures log_device { (log_front : List ℕ) → IsQuiet log_front log.old → StaysQuiet (answer_of result) log_front log.old log.new }
-    // .. and whatever the pages hold, a record is named that is the first which does not mean what it has to, unless all do.
-    ensures meant { IfErr result (λ refused. (n : ℕ) → refused.0 ≡ RestartError.BadRecord n
-        → IsFirstUnmeant (geometry_of heap) (records_of_log log.old) n ⊎ AreMeant (geometry_of heap) (records_of_log log.old)) }
+    // .. and whatever the pages hold, what the records mean comes first: it is refused by the first that does not mean what it has to, unless all do.
+    ensures meant { IfErr result (λ refused. refused.0 ≢ RestartError.Memory → AreMeant (geometry_of heap) (records_of_log log.old)
+        ⊎ ((n : ℕ) × (refused.0 ≡ RestartError.BadRecord n) × IsFirstUnmeant (geometry_of heap) (records_of_log log.old) n)) }
     // .. and a page is named that has no text of it with a number up to the log's last.
     ensures bad_number { IfErr result (λ refused. (n : ℕ) → refused.0 ≡ RestartError.BadRecord n → (0 < n) × (n ≤ length (records_of_log log.old))) }
     ensures any_pages { (front : List ℕ) (disk : ℕ → List ℕ) → IsHeld front disk heap (length (records_of_log log.old))

@@ -22,6 +22,7 @@ use Rattle.shore_restart.specs.declared.errors.RestartError.{RestartError}
 use Rattle.shore_restart.specs.declared.errors.RestartError.TheVariants as error
 use Rattle.shore_restart.specs.Held.{IsHeld, IsPageFault}
 use Rattle.shore_restart.specs.Quiet.{StaysQuiet}
+use Rattle.shore_analysis.specs.Meant.{AreMeant}
 use Rattle.shore_restart.specs.Turns.{LacksRoom}
 use Rattle.shore_world.specs.Refusals.{IsNamedFor, NamesAnchor, NamesPage, NamesRecord}
 
@@ -54,18 +55,19 @@ settled_left log_front old new e n is quiet all = elim quiet.quiet [
 pub names_of : (g : Geometry) (rs : List LogRecord) (stream_bytes anchor : ℕ) (volume left : History) (pages : ℕ → List ℕ) → Shows g (seen volume) pages → (e : RestartError) (f : Fault) → (IsFromOutside f → ⊥)
     → (e ≡ error.NoRoom → LacksRoom rs stream_bytes) → ((n : ℕ) → e ≡ error.BadRecord n → (0 < n) × (n ≤ length rs)) → ((h : Fault) → e ≡ error.Page h → IsPageFault g pages (length rs) h)
     → ((h : Fault) → e ≡ error.Log h → h ≡ fault.Device) → ((n : ℕ) → e ≡ error.BadRecord n → IsNamedFor g rs volume n)
+    → ((e ≡ error.NoRoom) ⊎ ((h : Fault) × (e ≡ error.Page h)) → AreMeant g rs)
     → (e ≡ error.Memory → f ≡ fault.Memory) → (e ≡ error.NoRoom → f ≡ fault.Damaged device.Log anchor)
     → ((n : ℕ) → e ≡ error.BadRecord n → (f ≡ fault.Device) ⊎ ((offset : ℕ) × (f ≡ fault.Damaged device.Log offset) × (0 < n → n ≤ length rs → IsFrameOf LOG_FRONT_BYTES (seen left) n offset)))
     → ((h : Fault) → e ≡ error.Page h → f ≡ h) → ((h : Fault) → e ≡ error.Log h → f ≡ h)
-    → NamesRecord g rs volume left f ⊎ NamesAnchor rs stream_bytes anchor f ⊎ NamesPage g rs volume f
-names_of g rs stream_bytes anchor volume left pages shows error.Memory f isnt lacks within page force named memory room record_of on_page on_log = absurd (isnt (inr (memory refl)))
-names_of g rs stream_bytes anchor volume left pages shows error.NoRoom f isnt lacks within page force named memory room record_of on_page on_log = inr (inl (room refl, lacks refl))
-names_of g rs stream_bytes anchor volume left pages shows (error.BadRecord n) f isnt lacks within page force named memory room record_of on_page on_log = elim (record_of n refl) [
+    → NamesRecord g rs volume left f ⊎ NamesAnchor g rs stream_bytes anchor f ⊎ NamesPage g rs volume f
+names_of g rs stream_bytes anchor volume left pages shows error.Memory f isnt lacks within page force named meant memory room record_of on_page on_log = absurd (isnt (inr (memory refl)))
+names_of g rs stream_bytes anchor volume left pages shows error.NoRoom f isnt lacks within page force named meant memory room record_of on_page on_log = inr (inl (room refl, meant (inl refl), lacks refl))
+names_of g rs stream_bytes anchor volume left pages shows (error.BadRecord n) f isnt lacks within page force named meant memory room record_of on_page on_log = elim (record_of n refl) [
   | inl device ↦ absurd (isnt (inl device))
   | inr (offset, is, frame) ↦ let w = within n refl in inl (n, offset, w.0, w.1, is, frame w.0 w.1, named n refl)
 ]
-names_of g rs stream_bytes anchor volume left pages shows (error.Page h) f isnt lacks within page force named memory room record_of on_page on_log = elim (page h refl) [
+names_of g rs stream_bytes anchor volume left pages shows (error.Page h) f isnt lacks within page force named meant memory room record_of on_page on_log = elim (page h refl) [
   | inl device ↦ absurd (isnt (inl (on_page h refl ∙ device)))
-  | inr (id, there, is, none) ↦ inr (inr (pages, shows, (id, there, on_page h refl ∙ is, none)))
+  | inr (id, there, is, none) ↦ inr (inr (meant (inr (h, refl)), pages, shows, (id, there, on_page h refl ∙ is, none)))
 ]
-names_of g rs stream_bytes anchor volume left pages shows (error.Log h) f isnt lacks within page force named memory room record_of on_page on_log = absurd (isnt (inl (on_log h refl ∙ force h refl)))
+names_of g rs stream_bytes anchor volume left pages shows (error.Log h) f isnt lacks within page force named meant memory room record_of on_page on_log = absurd (isnt (inl (on_log h refl ∙ force h refl)))

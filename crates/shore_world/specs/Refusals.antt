@@ -39,13 +39,13 @@ abbrev pub NamesRecord : Geometry → List LogRecord → History → History →
 NamesRecord g rs volume left fault = (n : ℕ) × (offset : ℕ) × (0 < n) × (n ≤ length rs) × (fault ≡ Damaged Log offset) × IsFrameOf LOG_FRONT_BYTES (seen left) n offset
     × IsNamedFor g rs volume n
 
--- by the anchor that counts: the log lacks room for itself or for the records of undo
-abbrev pub NamesAnchor : List LogRecord → ℕ → ℕ → Fault → Type 0
-NamesAnchor rs stream_bytes anchor fault = (fault ≡ Damaged Log anchor) × LacksRoom rs stream_bytes
+-- by the anchor that counts: all records mean what they have to, and the log lacks room for itself or for the records of undo
+abbrev pub NamesAnchor : Geometry → List LogRecord → ℕ → ℕ → Fault → Type 0
+NamesAnchor g rs stream_bytes anchor fault = (fault ≡ Damaged Log anchor) × AreMeant g rs × LacksRoom rs stream_bytes
 
--- by a page: what the volume shows as that is no text of it with a number up to the log's last
+-- by a page: all records mean what they have to, and what the volume shows as that is no text of it with a number up to the log's last
 abbrev pub NamesPage : Geometry → List LogRecord → History → Fault → Type 0
-NamesPage g rs volume fault = (pages : ℕ → List ℕ) × Shows g (seen volume) pages
+NamesPage g rs volume fault = AreMeant g rs × (pages : ℕ → List ℕ) × Shows g (seen volume) pages
     × ((id : PageId) × HasPage g id × (fault ≡ Damaged Volume (page_offset (page_number g id))) × HasNoPage (pages (page_number g id)) id (length rs))
 
 -- The frames give a log, and no restart may be handed it with what the volume shows: the devices stand for no log and pages. It is told by a
@@ -54,7 +54,7 @@ pub record RefusesRestart (g : Geometry) (anchor : ℕ) (log volume left : Histo
   pub rs : List LogRecord
   pub gives : Gives rs (seen log)
   pub none : (rs : List LogRecord) (pages : LoggedPages) → StandsFor g (size log) (size volume) rs pages (seen log) (seen volume) → ⊥
-  pub names : NamesRecord g rs volume left fault ⊎ NamesAnchor rs (size log - LOG_FRONT_BYTES) anchor fault ⊎ NamesPage g rs volume fault
+  pub names : NamesRecord g rs volume left fault ⊎ NamesAnchor g rs (size log - LOG_FRONT_BYTES) anchor fault ⊎ NamesPage g rs volume fault
 
 -- By the first check of the fronts that is not passed; if all are, by the first byte of the log where neither a closed gate nor a frame stands; if
 -- there is none, by an open double-write area that is not in order; and if it is, or is shut, by the restart, and only if the devices stand for nothing.

@@ -3,7 +3,7 @@ use Rattle.shore_dwrite.proofs.Moves.{if_err}
 use Rattle.shore_types.specs.declared.layout.Geometry.{Geometry}
 use Rattle.shore_model.specs.declared.log_records.LogRecord.{LogRecord}
 use Rattle.shore_log.specs.Settled.{records_of_log}
-use Rattle.shore_analysis.specs.Meant.{AreMeant}
+use Rattle.shore_analysis.specs.Meant.{AreMeant, IsFirstUnmeant}
 use Rattle.shore_analysis.specs.Tables.{AreTables}
 use Rattle.shore_restart.specs.declared.errors.RestartError.TheVariants.{NoRoom}
 use Rattle.shore_restart.specs.Errors.{DoesNotFit}
@@ -245,17 +245,32 @@ returns-in_err-idle_control-clause-bad_number g c =
     if_err c.from_residual-in_err-idle_control.result c.from_residual-in_err-idle_control.ensures.1
     (λ error same n is. let clash = sym c.in_err-idle_control.ensures.refused ∙ sym same ∙ is in absurd cc)
 
+-- ---- what the records mean comes first
+
+pub returns-in_err-tables-clause-meant : goal.returns-in_err-tables-clause-meant
+returns-in_err-tables-clause-meant g c =
+    if_err c.from_residual.result c.from_residual.ensures.1 (λ error same some. elim c.in_err-tables.ensures.refused [
+      | inl memory ↦ absurd (some (same ∙ memory))
+      | inr bad ↦ inr (
+        bad.0,
+        same ∙ bad.1,
+        subst (λ (g : Geometry). IsFirstUnmeant g (records_of_log c.args.log.now) bad.0) c.geometry.ensures (subst (λ (rs : List LogRecord). IsFirstUnmeant c.geometry.result.now rs bad.0) c.records.ensures.log bad.2),
+      )
+    ])
+
+pub returns-in_default-clause-meant : goal.returns-in_default-clause-meant
+returns-in_default-clause-meant g c some = inl (subst (λ (g : Geometry). AreMeant g (records_of_log c.args.log.now)) c.geometry.ensures (subst (AreMeant c.geometry.result.now) c.records.ensures.log c.in_ok-tables.ensures.meant))
+
 pub returns-in_err-redone-clause-meant : goal.returns-in_err-redone-clause-meant
 returns-in_err-redone-clause-meant g c =
-    if_err c.from_residual-in_err-redone.result c.from_residual-in_err-redone.ensures.1 (λ error same n is.
-    inr (subst (λ (g : Geometry). AreMeant g (records_of_log c.args.log.now)) c.geometry.ensures (subst (AreMeant c.geometry.result.now) c.records.ensures.log c.in_ok-tables.ensures.meant)))
+    if_err c.from_residual-in_err-redone.result c.from_residual-in_err-redone.ensures.1 (λ error same some.
+    inl (subst (λ (g : Geometry). AreMeant g (records_of_log c.args.log.now)) c.geometry.ensures (subst (AreMeant c.geometry.result.now) c.records.ensures.log c.in_ok-tables.ensures.meant)))
 
 pub returns-in_err-undo_all-clause-meant : goal.returns-in_err-undo_all-clause-meant
 returns-in_err-undo_all-clause-meant g c =
-    if_err c.from_residual-in_err-undo_all.result c.from_residual-in_err-undo_all.ensures.1 (λ error same n is.
-    inr (subst (λ (g : Geometry). AreMeant g (records_of_log c.args.log.now)) c.geometry.ensures (subst (AreMeant c.geometry.result.now) c.records.ensures.log c.in_ok-tables.ensures.meant)))
+    if_err c.from_residual-in_err-undo_all.result c.from_residual-in_err-undo_all.ensures.1 (λ error same some.
+    inl (subst (λ (g : Geometry). AreMeant g (records_of_log c.args.log.now)) c.geometry.ensures (subst (AreMeant c.geometry.result.now) c.records.ensures.log c.in_ok-tables.ensures.meant)))
 
 pub returns-in_err-idle_control-clause-meant : goal.returns-in_err-idle_control-clause-meant
 returns-in_err-idle_control-clause-meant g c =
-    if_err c.from_residual-in_err-idle_control.result c.from_residual-in_err-idle_control.ensures.1
-    (λ error same n is. let clash = sym c.in_err-idle_control.ensures.refused ∙ sym same ∙ is in absurd cc)
+    if_err c.from_residual-in_err-idle_control.result c.from_residual-in_err-idle_control.ensures.1 (λ error same some. absurd (some (same ∙ c.in_err-idle_control.ensures.refused)))

@@ -25,6 +25,7 @@ use Rattle.shore_types.specs.declared.faults.Device.TheVariants.{Log as DeviceLo
 use Rattle.shore_types.specs.declared.faults.Fault.TheVariants.{Damaged}
 use Rattle.shore_gate.specs.Anchor.{offset_of}
 use Rattle.shore_dwrite.specs.Shown.{Shows}
+use Rattle.shore_restart.proofs.BadNumbers.{one_number}
 use Rattle.shore_restart.specs.Held.{IsPageFault}
 use Rattle.shore_restart.specs.Turns.{IsUndoneSoFar, LacksRoom}
 use Rattle.shore_world.proofs.RestartNames.{names_of, settled_left}
@@ -353,9 +354,9 @@ returns-in-Err-restart-clause-refused g c of_log of_volume = elim (outside_or_no
               (subst (λ (x : Geometry). Shows x volume_image shown.0) at shown.1) c.in-Err-restart.error c.fault_of-fault.result isnt
               (λ is. subst (λ (n : ℕ). LacksRoom rs (n - 4096)) (c.in-Ok-open.ensures.size ∙ c.read_fronts.ensures.size.0) (e.no_room is)) e.bad_number
               (λ h is. subst (λ (x : Geometry). IsPageFault x shown.0 (length rs) h) heap_at (e.any_pages (take 4096 volume_image) shown.0 is_held h is)) quiet.named
-              (λ n is. elim (e.meant n is) [
-                | inl unmeant ↦ inl (subst (λ (x : Geometry). IsFirstUnmeant x rs n) heap_at unmeant)
-                | inr meant ↦ inr (
+              (λ n is. elim (e.meant (λ memory. let clash = sym memory ∙ is in cc)) [
+                | inr unmeant ↦ inl (subst (λ (k : ℕ). IsFirstUnmeant geometry rs k) (one_number unmeant.0 n (sym unmeant.1 ∙ is)) (subst (λ (x : Geometry). IsFirstUnmeant x rs unmeant.0) heap_at unmeant.2))
+                | inl meant ↦ inr (
                   subst (λ (x : Geometry). AreMeant x rs) heap_at meant,
                   λ pages logged.
                       let shows = c.in-Ok-open_volume.ensures.shows later volume_image (texts_shown geometry rs pages volume_image logged) (λ p. (pages p).number) (told_images rs pages) held
@@ -365,6 +366,15 @@ returns-in-Err-restart-clause-refused g c of_log of_volume = elim (outside_or_no
                       bad_misfit (heaps.geometry_of heap) rs n meant
                       (e.bad (take 4096 log_image) (take 4096 volume_image) (texts_shown geometry rs pages volume_image logged) (found_state rs pages) is_found n is),
                 )
+              ]) (λ other. elim other [
+                | inl no_room ↦ elim (e.meant (λ memory. let clash = sym memory ∙ no_room in cc)) [
+                  | inl meant ↦ subst (λ (x : Geometry). AreMeant x rs) heap_at meant
+                  | inr unmeant ↦ let clash = sym no_room ∙ unmeant.1 in absurd cc
+                ]
+                | inr page ↦ elim (e.meant (λ memory. let clash = sym memory ∙ page.1 in cc)) [
+                  | inl meant ↦ subst (λ (x : Geometry). AreMeant x rs) heap_at meant
+                  | inr unmeant ↦ let clash = sym page.1 ∙ unmeant.1 in absurd cc
+                ]
               ])
               f.memory (λ is. f.room is ∙ ap (λ (n : ℕ). Damaged DeviceLog n) front.1)
               (λ n is. elim (f.record_of n is) [
