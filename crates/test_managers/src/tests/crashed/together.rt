@@ -138,15 +138,15 @@ fn from_seed_6(rt: HostRuntime) -> Result<(), Fail> {
         &rt,
         6,
         Deadlocks {
-            told_at_once: 80,
-            told_going_on: 3,
-            told_behind: 133,
-            let_through: 5,
-            waiting_on: 120,
+            told_at_once: 95,
+            told_going_on: 6,
+            told_behind: 141,
+            let_through: 7,
+            waiting_on: 129,
             of_several: 13,
-            longer: 32,
-            refused: 87,
-            lost: 2,
+            longer: 47,
+            refused: 102,
+            lost: 6,
         },
     )
 }
