@@ -176,15 +176,15 @@ fn from_seed_8(rt: HostRuntime) -> Result<(), Fail> {
         &rt,
         8,
         Deadlocks {
-            told_at_once: 96,
-            told_going_on: 4,
-            told_behind: 142,
-            let_through: 6,
+            told_at_once: 72,
+            told_going_on: 3,
+            told_behind: 138,
+            let_through: 5,
             waiting_on: 125,
-            of_several: 21,
-            longer: 33,
-            refused: 78,
-            lost: 6,
+            of_several: 20,
+            longer: 36,
+            refused: 77,
+            lost: 0,
         },
     )
 }
