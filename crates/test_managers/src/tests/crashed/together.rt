@@ -120,14 +120,14 @@ fn from_seed_5(rt: HostRuntime) -> Result<(), Fail> {
         5,
         Deadlocks {
             told_at_once: 70,
-            told_going_on: 2,
-            told_behind: 157,
-            let_through: 11,
-            waiting_on: 133,
-            of_several: 24,
-            longer: 38,
-            refused: 67,
-            lost: 2,
+            told_going_on: 1,
+            told_behind: 119,
+            let_through: 7,
+            waiting_on: 106,
+            of_several: 15,
+            longer: 37,
+            refused: 86,
+            lost: 6,
         },
     )
 }
