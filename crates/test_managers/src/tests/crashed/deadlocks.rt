@@ -285,8 +285,35 @@ impl Victims {
     }
 }
 
-// The requests are those that the rounds have left. Answers whether the one that asks is a victim.
+// The requests are those that the rounds have left, if the victims are taken as they asked, or else the greatest first: one that is taken may let another
+// through that would have been a victim. Answers whether the one that asks is a victim.
 fn check_rounds(
+    alloc: Global,
+    asking: &Asking<'_>,
+    lock: Lock,
+    found: &[TxnId],
+) -> Result<bool, Trouble> {
+    match check_in_order(alloc, asking, lock, found) {
+        Err(_) => check_in_order(alloc, asking, lock, &greatest_first(alloc, found)?),
+        as_asked => as_asked,
+    }
+}
+
+fn greatest_first(alloc: Global, txns: &[TxnId]) -> Result<Vec<TxnId>, AllocError> {
+    let mut order = Vec::new(alloc);
+    for _ in txns {
+        let mut greatest = TxnId(0);
+        for txn in txns {
+            if *txn > greatest && !order.contains(txn) {
+                greatest = *txn;
+            }
+        }
+        order.push(greatest)?;
+    }
+    Ok(order)
+}
+
+fn check_in_order(
     alloc: Global,
     asking: &Asking<'_>,
     lock: Lock,
