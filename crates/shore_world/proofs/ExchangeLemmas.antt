@@ -101,7 +101,7 @@ forced_waits : (ws : Waited) (a : Answer) (later : List ManagerEvent) → waited
 forced_waits ws (answer.Forced n) later = refl
 forced_waits ws _ later = refl
 
-event_waits : (ws : Waited) (e : Event) (step : Step) (later : List ManagerEvent) → waited_in ws (moves_by e step ++ later) ≡ waited_in (waited_behind ws e step) later
+pub event_waits : (ws : Waited) (e : Event) (step : Step) (later : List ManagerEvent) → waited_in ws (moves_by e step ++ later) ≡ waited_in (waited_behind ws e step) later
 event_waits ws (event.Call session c) step later = refl
 event_waits ws (event.Resume session) step later = refl
 event_waits ws event.ForceStage (Done a) later = refl

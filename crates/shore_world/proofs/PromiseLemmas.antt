@@ -1,5 +1,7 @@
 -- What a world that is a manager keeps, by the laws over plain data.
-use Rattle.std.proofs.Common.{◌≡◌, inl, inr, List, [], ◌∷◌, ◌++◌, ℕ, map, refl, sym, ap, subst, ◌∙◌}
+use Rattle.std.proofs.Common.{◌≡◌, ◌≢◌, ◌<◌, ◌⊎◌, Bool, true, false, inl, inr, ⊎_elim, List, [], ◌∷◌, ◌++◌, ℕ, map, refl, sym, ap, subst, append-nil, ◌∙◌, arith}
+use Rattle.std.specs.Prelude.{◌==◌}
+use Rattle.std.proofs.lemmas.Bool.{eqb-false, eqb-true}
 use Rattle.std.specs.List.{AllByRecursion}
 use Rattle.shore_types.specs.declared.layout.Geometry.{Geometry}
 use Rattle.shore_disk.specs.declared.device.Disk.{Ghosts}
@@ -9,30 +11,32 @@ use Rattle.shore_model.specs.declared.histories.Entry.{Entry}
 use Rattle.shore_model.specs.Locks.{Harmony, WellRooted}
 use Rattle.shore_model.specs.declared.log_records.LogRecord.{LogRecord}
 use Rattle.shore_model.specs.declared.step.Step.{Step}
-use Rattle.shore_model.specs.Histories.{IsHistory, Sound}
+use Rattle.shore_model.specs.Histories.{IsHistory, Sound, free, session_state}
+use Rattle.shore_model.specs.declared.sessions.SessionState.{SessionState}
 use Rattle.shore_model.specs.Logs.{logged_writes}
 use Rattle.shore_model.specs.Records.{Records, overlays, scan_of}
 use Rattle.shore_model.specs.Requests.{HasNoCycle, held_by_all}
 use Rattle.shore_locks.specs.Tables.{Table}
 use Rattle.laws_lives.proofs.InPlace.{is_overlaid}
 use Rattle.laws_lives.proofs.LoggedInPlace.{stand_logged}
-use Rattle.laws_lives.specs.Sessions.{SessionTxn, txns_of}
+use Rattle.laws_lives.specs.Sessions.{IsCurrent, IsInNoTxn, SessionTxn, txns_of}
 use Rattle.laws_lives.specs.Soundness.{history_from, in_txn, serial_after}
 use Rattle.laws_lives.specs.Views.{IsAmong}
+use Rattle.laws_lives.proofs.Members.{txn_among}
 use Rattle.laws_calls.proofs.Rooted.{stay_rooted}
 use Rattle.laws_calls.proofs.SettledThere.{events_there}
 use Rattle.laws_calls.specs.Events.{IsStateAfter, ManagerEvent}
-use Rattle.laws_calls.specs.States.{State}
 use Rattle.laws_runs.proofs.UnderWay.{plain_moves}
 use Rattle.laws_runs.specs.SoundStores.{IsUnderWay, managed}
 use Rattle.shore_world.specs.declared.event.Event.{Event}
 use Rattle.shore_world.specs.declared.world.World.{World}
+use Rattle.shore_world.specs.EventMoves.{moves_by}
 use Rattle.shore_world.specs.Events.{IsServedEvent}
-use Rattle.shore_world.specs.Exchanges.{AreLast, exchanges_in, exchanges_of, waited_after}
+use Rattle.shore_world.specs.Exchanges.{AreLast, exchanges_in, exchanges_of, waited_after, waited_behind}
 use Rattle.shore_world.specs.Lives.{DumpsShow}
-use Rattle.shore_world.specs.Promises.{AreStatesOf, AreUnended, IsManagerOf, IsStateOf}
+use Rattle.shore_world.specs.Promises.{AreUnended, GoesOnAs, IsManagerOf, IsStateOf}
 use Rattle.shore_world.specs.Worlds.{EventStep, Runs, Steps, geometry_in, list_in, requests_in, stream_bytes_in}
-use Rattle.shore_world.proofs.ExchangeLemmas.{Waited, have_told, runs_told, runs_wait, told_in, waited_in}
+use Rattle.shore_world.proofs.ExchangeLemmas.{Waited, event_waits, have_told, runs_told, runs_wait, told_in, waited_in}
 use Rattle.shore_world.proofs.StoredLemmas.{HasRun, IsUpAt, moves_to, run_run, seen_of, up_safe}
 
 -- who is among the numbers of transactions is one of them
@@ -40,6 +44,20 @@ among_txns : (t : ℕ) (active : List SessionTxn) → IsAmong t (txns_of active)
 among_txns t [] there = absurd there
 among_txns t (a ∷ active) (inl same) = (a, inl refl, same)
 among_txns t (a ∷ active) (inr later) = let rest = among_txns t active later in (rest.0, inr rest.1, rest.2)
+
+-- a session has a transaction among these, or none
+of_session : (session : ℕ) (xs : List SessionTxn) → ((a : SessionTxn) × IsAmong a xs × (a.session ≡ session)) ⊎ ((a : SessionTxn) → IsAmong a xs → a.session ≢ session)
+of_session session [] = inr (λ a there. absurd there)
+of_session session (x ∷ xs) = test (x.session == session) refl (of_session session xs)
+  where
+    test : (b : Bool) → (x.session == session) ≡ b → ((a : SessionTxn) × IsAmong a xs × (a.session ≡ session)) ⊎ ((a : SessionTxn) → IsAmong a xs → a.session ≢ session)
+        → ((a : SessionTxn) × IsAmong a (x ∷ xs) × (a.session ≡ session)) ⊎ ((a : SessionTxn) → IsAmong a (x ∷ xs) → a.session ≢ session)
+    test true e rest = inl (x, inl refl, eqb-true x.session session e)
+    test false e (inl found) = inl (found.0, inr found.1, found.2)
+    test false e (inr none) = inr (λ a there is. ⊎_elim (λ same. eqb-false x.session session e (ap (λ (b : SessionTxn). b.session) same ∙ is)) (λ later. none a later is) there)
+
+none_is : (t : ℕ) → 0 < t → 0 ≡ t → ⊥
+none_is t some is = omega arith
 
 module _ {L V : Type 0} {G : Ghosts L} {H : Ghosts V} (w : World L V G H) (o : Records) (es : List Entry) (ws : List (ℕ × Call)) (k : IsManagerOf w o es ws) where
   -- the requests of the state are the world's
@@ -68,28 +86,30 @@ module _ {L V : Type 0} {G : Ghosts L} {H : Ghosts V} (w : World L V G H) (o : R
     pub manager : IsManagerOf new o (es ++ made) waited
     pub is_told : exchanges_in made ≡ told
 
+  ran_manager : (moves : List ManagerEvent) (new : World L V G H) (ran : HasRun (geometry_in w) (stream_bytes_in w) k.found k.log_front k.front es k.now moves new)
+      → (waited : Waited) → waited_in ws moves ≡ waited → IsManagerOf new o (es ++ ran.made) waited
+  ran_manager moves new ran waited is =
+      let told = have_told (geometry_in w) (stream_bytes_in w) k.found es ws k.now k.under_way k.waited ran.events ran.last ran.made ran.stored in
+      record {
+        found = k.found;
+        opening = k.opening;
+        log_front = k.log_front;
+        front = k.front;
+        disk = ran.up.disk;
+        now = ran.last;
+        at = ran.up.at;
+        under_way = subst (λ (g : Geometry). IsUnderWay g (stream_bytes_in new) k.found (es ++ ran.made) ran.last) (sym ran.up.geometry)
+            (subst (λ n. IsUnderWay (geometry_in w) n k.found (es ++ ran.made) ran.last) (sym ran.up.long) ran.up.under_way);
+        waited = subst (λ (l : Waited). AreLast l ran.last.state) (ap (waited_in ws) ran.same ∙ is) told.waits;
+        there = events_there (geometry_in w) k.found es k.now.state (managed ran.events) ran.last.state k.under_way.state k.there
+            (plain_moves (geometry_in w) k.now ran.events ran.last ran.made ran.stored);
+      }
+
   ran_on : (moves : List ManagerEvent) (new : World L V G H) → HasRun (geometry_in w) (stream_bytes_in w) k.found k.log_front k.front es k.now moves new
       → HasGoneOn new (waited_in ws moves) (told_in ws moves)
   ran_on moves new ran =
       let told = have_told (geometry_in w) (stream_bytes_in w) k.found es ws k.now k.under_way k.waited ran.events ran.last ran.made ran.stored in
-      record {
-        made = ran.made;
-        manager = record {
-          found = k.found;
-          opening = k.opening;
-          log_front = k.log_front;
-          front = k.front;
-          disk = ran.up.disk;
-          now = ran.last;
-          at = ran.up.at;
-          under_way = subst (λ (g : Geometry). IsUnderWay g (stream_bytes_in new) k.found (es ++ ran.made) ran.last) (sym ran.up.geometry)
-              (subst (λ n. IsUnderWay (geometry_in w) n k.found (es ++ ran.made) ran.last) (sym ran.up.long) ran.up.under_way);
-          waited = subst (λ (l : List ManagerEvent). AreLast (waited_in ws l) ran.last.state) ran.same told.waits;
-          there = events_there (geometry_in w) k.found es k.now.state (managed ran.events) ran.last.state k.under_way.state k.there
-              (plain_moves (geometry_in w) k.now ran.events ran.last ran.made ran.stored);
-        };
-        is_told = told.told ∙ ap (told_in ws) ran.same;
-      }
+      record { made = ran.made; manager = ran_manager moves new ran (waited_in ws moves) refl; is_told = told.told ∙ ap (told_in ws) ran.same }
 
   pub goes_on : (events : List Event) (steps : List Step) (moves : List ManagerEvent) (new : World L V G H) → AllByRecursion IsServedEvent events → Runs w events steps moves new
       → HasGoneOn new (waited_after ws events steps) (exchanges_of ws events steps)
@@ -104,21 +124,22 @@ module _ {L V : Type 0} {G : Ghosts L} {H : Ghosts V} (w : World L V G H) (o : R
   g = geometry_in w
 
   pub record HasStepped (e : Event) (step : Step) (new : World L V G H) : Type 0 where
-    pub later : State
-    pub moves : EventStep g k.now.state e step later
-    pub states : AreStatesOf w k.now.state new later
+    pub on : GoesOnAs new o es ws e step
+    pub moves : EventStep g k.now.state e step on.manager.now.state
 
   pub stepped : (e : Event) (step : Step) (new : World L V G H) → IsServedEvent e → Steps w e step new → HasStepped e step new
+  unfolding as_up ran_manager
   stepped e step new served one =
       let moved = moves_to g (stream_bytes_in w) k.found k.log_front k.front es w k.now as_up e step new served one in
+      let waits : waited_in ws (moves_by e step) ≡ waited_behind ws e step = ap (waited_in ws) (sym (append-nil (moves_by e step))) ∙ event_waits ws e step [] in
       record {
-        later = moved.later;
-        moves = moved.moves;
-        states = (
-          seen_of g (stream_bytes_in w) k.found k.log_front k.front es w k.now as_up,
-          subst (IsStateOf new) moved.same (seen_of g (stream_bytes_in w) k.found k.log_front k.front (es ++ moved.run.made) new moved.run.last moved.run.up),
-        );
+        on = record { made = moved.run.made; manager = ran_manager (moves_by e step) new moved.run (waited_behind ws e step) waits };
+        moves = subst (EventStep g k.now.state e step) (sym moved.same) moved.moves;
       }
+
+  -- what can be seen of the state
+  pub seen : IsStateOf w k.now.state
+  seen = seen_of g (stream_bytes_in w) k.found k.log_front k.front es w k.now as_up
 
   pub after : IsStateAfter k.found es k.now.state
   after = k.under_way.state
@@ -159,3 +180,30 @@ module _ {L V : Type 0} {G : Ghosts L} {H : Ghosts V} (w : World L V G H) (o : R
         k.under_way.state.sessions.agree.current a.0 (inl a.1) ∙ ap in_txn a.2,
         k.under_way.state.sessions.sound.undecided t there,
       )
+
+  -- whoever is in a transaction by the history is in one that is under way, or whose commit is
+  its_number : (session t : ℕ) → session_state session free es ≡ in_txn t → (a : SessionTxn) → IsCurrent k.now.state.sessions a → a.session ≡ session → a.txn ≡ t
+  its_number session t is a current same =
+      ap (λ (x : SessionState). x.txn) (sym (k.under_way.state.sessions.agree.current a current) ∙ ap (λ (n : ℕ). session_state n free es) same ∙ is)
+
+  is_in_one : (session t : ℕ) → session_state session free es ≡ in_txn t → 0 < t → IsInNoTxn k.now.state.sessions session → ⊥
+  is_in_one session t is some none = none_is t some (ap (λ (x : SessionState). x.txn) (sym (k.under_way.state.sessions.agree.idle session none) ∙ is))
+
+  among_these : (session t : ℕ) → session_state session free es ≡ in_txn t → (xs : List SessionTxn) → ((a : SessionTxn) → IsAmong a xs → IsCurrent k.now.state.sessions a)
+      → IsAmong t (txns_of xs) ⊎ ((a : SessionTxn) → IsAmong a xs → a.session ≢ session)
+  among_these session t is xs current = ⊎_elim
+      (λ found. inl (subst (λ (n : ℕ). IsAmong n (txns_of xs)) (its_number session t is found.0 (current found.0 found.1) found.2) (txn_among found.0 xs found.1)))
+      (λ none. inr none)
+      (of_session session xs)
+
+  pub each_there : (session t : ℕ) → session_state session free es ≡ in_txn t → 0 < t
+      → IsAmong t under_way_of ⊎ IsAmong t (txns_of k.now.state.sessions.committing)
+  each_there session t is some =
+      let s = k.now.state.sessions in
+      ⊎_elim
+      (λ active. inl active)
+      (λ none. ⊎_elim
+      (λ commits. inr commits)
+      (λ none_commits. absurd (is_in_one session t is some (λ a current. ⊎_elim (none a) (none_commits a) current)))
+      (among_these session t is s.committing (λ a there. inr there)))
+      (among_these session t is s.active (λ a there. inl there))

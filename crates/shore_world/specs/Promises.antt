@@ -1,10 +1,11 @@
 -- What stands behind a world that is a manager: the one hidden state that the promises speak of.
-use Rattle.std.specs.Prelude.{◌≡◌, ◌≢◌, ℕ, List}
+use Rattle.std.specs.Prelude.{◌≡◌, ◌≢◌, ◌++◌, ℕ, List}
 use Rattle.std.specs.List.{AllByRecursion}
 use Rattle.shore_disk.specs.declared.device.Disk.{Ghosts}
 use Rattle.shore_model.specs.declared.calls.Call.{Call}
 use Rattle.shore_model.specs.declared.histories.Entry.{Entry}
 use Rattle.shore_model.specs.declared.log_records.LogRecord.{LogRecord}
+use Rattle.shore_model.specs.declared.step.Step.{Step}
 use Rattle.laws_lives.specs.LogTells.{records_committed}
 use Rattle.laws_lives.specs.Soundness.{decided_txn, in_txn}
 use Rattle.laws_lives.specs.Views.{IsAmong}
@@ -12,8 +13,9 @@ use Rattle.shore_model.specs.Histories.{decisions, free, session_state}
 use Rattle.shore_model.specs.Records.{Records}
 use Rattle.laws_runs.specs.SoundStores.{IsUnderWay}
 use Rattle.laws_runs.specs.StoredRuns.{StoredState}
+use Rattle.shore_world.specs.declared.event.Event.{Event}
 use Rattle.shore_world.specs.declared.world.World.{World}
-use Rattle.shore_world.specs.Exchanges.{AreLast}
+use Rattle.shore_world.specs.Exchanges.{AreLast, waited_behind}
 use Rattle.laws_calls.specs.SessionWaits.{AllWaitThere}
 use Rattle.laws_calls.specs.States.{State}
 use Rattle.shore_world.specs.Lives.{DumpsShow}
@@ -45,6 +47,7 @@ pub record IsStateOf {L V : Type 0} {G : Ghosts L} {H : Ghosts V} (w : World L V
   pub failed : s.failed ≡ failed_in w
   pub dumps : DumpsShow w s.sessions.records
 
--- it was before an event, and this is it behind that
-abbrev pub AreStatesOf : {L V : Type 0} {G : Ghosts L} {H : Ghosts V} → World L V G H → State → World L V G H → State → Type 0
-AreStatesOf old s new later = IsStateOf old s × IsStateOf new later
+-- Behind an event the world is a manager again, and goes on with the history that it had.
+pub record GoesOnAs {L V : Type 0} {G : Ghosts L} {H : Ghosts V} (new : World L V G H) (o : Records) (es : List Entry) (ws : List (ℕ × Call)) (e : Event) (step : Step) : Type 0 where
+  pub made : List Entry
+  pub manager : IsManagerOf new o (es ++ made) (waited_behind ws e step)

@@ -2,11 +2,12 @@
 //! contract of an empty function. `IsManagerOf` has all that is hidden: an open makes such a world (`committed_work_survives_every_crash`), and each run
 //! of one makes another (`runs_are_histories`).
 ghost use Rattle.std.specs.Prelude.{◌≡◌, ◌≢◌, ◌⊎◌, ◌+◌, ◌<◌, ◌++◌, ℕ, List, [], All, IsTrue, None, Some, length, map};
+ghost use Rattle.shore_types.specs.declared.faults.Device.{Device};
 ghost use Rattle.shore_types.specs.declared.faults.Fault.{Fault};
-ghost use Rattle.shore_types.specs.declared.faults.Fault.TheVariants.{Deadlock, Failed, Memory};
+ghost use Rattle.shore_types.specs.declared.faults.Fault.TheVariants as fault;
 ghost use Rattle.shore_types.specs.declared.locking.Granule.{Granule};
 ghost use Rattle.shore_model.specs.Calls.{IsServed};
-ghost use Rattle.shore_model.specs.Histories.{IsHistory, Sound};
+ghost use Rattle.shore_model.specs.Histories.{IsHistory, Sound, free, session_state};
 ghost use Rattle.shore_model.specs.Locks.{Harmony, WellRooted};
 ghost use Rattle.shore_model.specs.Logs.{logged_writes};
 ghost use Rattle.shore_model.specs.Records.{Records, overlays};
@@ -20,23 +21,25 @@ ghost use Rattle.shore_model.specs.declared.step.Step.TheVariants.{Done, Refused
 ghost use Rattle.shore_model.specs.declared.step.Step.{Step};
 ghost use Rattle.shore_model.specs.declared.step.Wait.TheVariants.{Durable, Lock};
 ghost use Rattle.shore_locks.specs.Grants.{released};
-ghost use Rattle.laws_lives.specs.Sessions.{SessionTxn};
-ghost use Rattle.laws_lives.specs.Soundness.{history_from, serial_after};
+ghost use Rattle.laws_lives.specs.Sessions.{SessionTxn, txns_of};
+ghost use Rattle.laws_lives.specs.Soundness.{history_from, in_txn, serial_after};
 ghost use Rattle.laws_lives.specs.Views.{IsAmong};
+ghost use Rattle.laws_calls.specs.CallSteps.{CallStep};
 ghost use Rattle.laws_calls.specs.Causes.{EarnsRefusal};
 ghost use Rattle.laws_calls.specs.Events.{ManagerEvent};
 ghost use Rattle.laws_calls.specs.LockChanges.{ChangesLocks};
 ghost use Rattle.laws_calls.specs.Midway.{AsksAgainIn, AsksIn, HasItsWait, Interlude, Intervene, IsItsCycle, IsMidway, but_doomed, cycles_among, victims_among};
 ghost use Rattle.laws_calls.specs.Shapes.{IsLackOfRoom, rollback_of};
 ghost use Rattle.laws_calls.specs.States.{IsOfSession, State, Waiting};
+ghost use Rattle.laws_calls.specs.Victims.{TellsVictim};
 ghost use Rattle.shore_world.specs.declared.event.Event.TheVariants as event;
 ghost use Rattle.shore_world.specs.declared.event.Event.{Event};
 ghost use Rattle.shore_world.specs.declared.world.World.{World};
 ghost use Rattle.shore_world.specs.Events.{IsServedEvent};
 ghost use Rattle.shore_world.specs.Exchanges.{exchanges_in, exchanges_of, waited_after};
 ghost use Rattle.shore_world.specs.Lives.{DumpsShow};
-ghost use Rattle.shore_world.specs.Promises.{AreStatesOf, AreUnended, IsManagerOf, IsStateOf};
-ghost use Rattle.shore_world.specs.Worlds.{Runs, Steps, durable_in, geometry_in, list_in, requests_in};
+ghost use Rattle.shore_world.specs.Promises.{AreUnended, GoesOnAs, IsManagerOf, IsStateOf};
+ghost use Rattle.shore_world.specs.Worlds.{Runs, Steps, durable_in, failed_in, geometry_in, list_in, requests_in};
 
 use shore_disk::Disk;
 
@@ -62,11 +65,16 @@ pub fn histories_are_sound<L: Disk, V: Disk>()
         IsHistory (history_from o es) × Sound (history_from o es) }
 {}
 
-/// Records in place: a dump shows the serial records, overlaid with what each transaction that is not ended has logged last at each id. That is what it has
-/// written, unless a rollback of it is under way.
+/// Records in place: a dump shows the serial records, overlaid with what each transaction under way has logged last at each id. That is what it has written,
+/// unless a rollback of it is under way. None of these is decided, and whoever is in a transaction by the history is in one of these, or its commit is.
 pub fn records_are_in_place<L: Disk, V: Disk>()
-    ensures { (w : World L V L.Disk V.Disk) (o : Records) (es : List Entry) (ws : List (ℕ × Call)) → IsManagerOf w o es ws →
-        (ts : List ℕ) × AreUnended es ts × DumpsShow w (overlays (serial_after o es) (map (logged_writes (list_in w)) ts)) }
+    ensures shown { (w : World L V L.Disk V.Disk) (o : Records) (es : List Entry) (ws : List (ℕ × Call)) → (k : IsManagerOf w o es ws) →
+        DumpsShow w (overlays (serial_after o es) (map (logged_writes (list_in w)) (txns_of k.now.state.sessions.active))) }
+    ensures unended { (w : World L V L.Disk V.Disk) (o : Records) (es : List Entry) (ws : List (ℕ × Call)) → (k : IsManagerOf w o es ws) →
+        AreUnended es (txns_of k.now.state.sessions.active) }
+    ensures all { (w : World L V L.Disk V.Disk) (o : Records) (es : List Entry) (ws : List (ℕ × Call)) (session t : ℕ) → (k : IsManagerOf w o es ws) →
+        session_state session free es ≡ in_txn t → 0 < t →
+        IsAmong t (txns_of k.now.state.sessions.active) ⊎ IsAmong t (txns_of k.now.state.sessions.committing) }
 {}
 
 /// Undo is never refused: neither an abort nor a way back is refused by `StoreFull`, `LogFull`, `LockTableFull` or as a victim.
@@ -75,68 +83,90 @@ pub fn undo_is_never_refused<L: Disk, V: Disk>()
         IsManagerOf w o es ws → IsServed c → Steps w (event.Call session c) (Refused f) new → rollback_of c ≡ Some r → IsLackOfRoom f → ⊥ }
 {}
 
-/// Refusals are earned: `EarnsRefusal` says for each fault what its cause is, in the state in which the call asked last (`AsksIn`, `AsksAgainIn`): the one
-/// that can be seen before the event, or one that victims have left in the midst of it. A `Deadlock` is told with a cycle of waits that stood within
-/// this very event, or was to be told before. `Memory` has its cause outside; of `Device`, `Damaged` and `NeedForce` the clauses `cause`, `damaged` and
-/// `unforced` of `World::step` say more.
+/// Refusals are earned: `EarnsRefusal` says for each fault what its cause is, in the state in which the call asked last (`AsksIn`, `AsksAgainIn`), from which one
+/// step leads to what is left (`CallStep`): so it is the first cause in the order of a call. That is the state before the event, or one that victims have
+/// left in the midst of it. A `Deadlock` is told with a cycle of waits that stood within this very event, or was to be told before. `Memory` has its
+/// cause outside; of `Device`, `Damaged` and `NeedForce` the clauses `cause`, `damaged` and `unforced` of `World::step` say more.
 pub fn refusals_are_earned<L: Disk, V: Disk>()
     ensures call { (w new : World L V L.Disk V.Disk) (o : Records) (es : List Entry) (ws : List (ℕ × Call)) (session : ℕ) (c : Call) (f : Fault) →
-        IsManagerOf w o es ws → IsServed c → Steps w (event.Call session c) (Refused f) new → ((cycle : List ℕ) → f ≢ Deadlock cycle) → f ≢ Memory →
-        (s : State) × IsStateOf w s × ((last : State) × AsksIn (geometry_in w) s session c last × EarnsRefusal (geometry_in w) last session c f) }
+        (k : IsManagerOf w o es ws) → IsServed c → Steps w (event.Call session c) (Refused f) new → ((cycle : List ℕ) → f ≢ fault.Deadlock cycle) → f ≢ fault.Memory →
+        (on : GoesOnAs new o es ws (event.Call session c) (Refused f)) × ((last : State) × AsksIn (geometry_in w) k.now.state session c last
+        × CallStep (geometry_in w) last session c (Refused f) on.manager.now.state × EarnsRefusal (geometry_in w) last session c f) }
     ensures resume { (w new : World L V L.Disk V.Disk) (o : Records) (es : List Entry) (ws : List (ℕ × Call)) (session : ℕ) (f : Fault) →
-        IsManagerOf w o es ws → Steps w (event.Resume session) (Refused f) new → ((cycle : List ℕ) → f ≢ Deadlock cycle) → f ≢ Memory →
-        (s : State) × IsStateOf w s × ((waited : Waiting) × IsAmong waited s.waiting × (waited.session ≡ session) × ((IsTrue s.failed × (f ≡ Failed))
-        ⊎ ((last : State) × AsksAgainIn (geometry_in w) s session last × EarnsRefusal (geometry_in w) last session waited.call f))) }
+        (k : IsManagerOf w o es ws) → Steps w (event.Resume session) (Refused f) new → ((cycle : List ℕ) → f ≢ fault.Deadlock cycle) → f ≢ fault.Memory →
+        (on : GoesOnAs new o es ws (event.Resume session) (Refused f)) × ((waited : Waiting) × IsAmong waited k.now.state.waiting × (waited.session ≡ session)
+        × ((IsTrue k.now.state.failed × (f ≡ fault.Failed)) ⊎ ((last : State) × AsksAgainIn (geometry_in w) k.now.state session last
+        × CallStep (geometry_in w) last session waited.call (Refused f) on.manager.now.state × EarnsRefusal (geometry_in w) last session waited.call f))) }
     ensures victim { (w new : World L V L.Disk V.Disk) (o : Records) (es : List Entry) (ws : List (ℕ × Call)) (session : ℕ) (c : Call) (cycle : List ℕ) →
-        IsManagerOf w o es ws → IsServed c → Steps w (event.Call session c) (Refused (Deadlock cycle)) new →
-        (s : State) × IsStateOf w s × ((between : List Interlude) × (mid : State) × IsMidway (geometry_in w) s session c between mid × IsItsCycle mid session cycle) }
+        (k : IsManagerOf w o es ws) → IsServed c → Steps w (event.Call session c) (Refused (fault.Deadlock cycle)) new →
+        (on : GoesOnAs new o es ws (event.Call session c) (Refused (fault.Deadlock cycle))) × ((between : List Interlude) × (mid : State)
+        × IsMidway (geometry_in w) k.now.state session c between mid × IsItsCycle mid session cycle × ((later : List Interlude) × (from : State)
+        × Intervene (geometry_in w) session mid later from × TellsVictim from session (Refused (fault.Deadlock cycle)) on.manager.now.state)) }
     ensures told { (w new : World L V L.Disk V.Disk) (o : Records) (es : List Entry) (ws : List (ℕ × Call)) (session : ℕ) (cycle : List ℕ) →
-        IsManagerOf w o es ws → Steps w (event.Resume session) (Refused (Deadlock cycle)) new →
-        (s : State) × IsStateOf w s × (((waited : Waiting) × IsAmong waited s.waiting × (waited.session ≡ session) × (waited.cycle ≡ Some cycle))
-        ⊎ ((between : List Interlude) × (mid : State) × Intervene (geometry_in w) session s between mid × IsItsCycle mid session cycle)) }
+        (k : IsManagerOf w o es ws) → Steps w (event.Resume session) (Refused (fault.Deadlock cycle)) new →
+        (on : GoesOnAs new o es ws (event.Resume session) (Refused (fault.Deadlock cycle)))
+        × (((waited : Waiting) × IsAmong waited k.now.state.waiting × (waited.session ≡ session) × (waited.cycle ≡ Some cycle))
+        ⊎ ((between : List Interlude) × (mid : State) × Intervene (geometry_in w) session k.now.state between mid × IsItsCycle mid session cycle × ((later : List Interlude)
+        × (from : State) × Intervene (geometry_in w) session mid later from × TellsVictim from session (Refused (fault.Deadlock cycle)) on.manager.now.state))) }
 {}
 
 /// A refused call, but for a rollback, and a refused resume leave all as it was, but for locks, the calls that wait, and the transactions that were taken as
-/// victims on the way, which are doomed.
+/// victims on the way, which are doomed. Unless a device failed or a page was damaged the manager runs on if it ran, whatever the call was.
 pub fn refused_calls_change_locks_and_victims_alone<L: Disk, V: Disk>()
     ensures call { (w new : World L V L.Disk V.Disk) (o : Records) (es : List Entry) (ws : List (ℕ × Call)) (session : ℕ) (c : Call) (f : Fault) →
-        IsManagerOf w o es ws → IsServed c → Steps w (event.Call session c) (Refused f) new → rollback_of c ≡ None →
-        (s : State) × (later : State) × AreStatesOf w s new later
-        × ((between : List Interlude) × ((between ≡ []) ⊎ ((mid : State) × IsMidway (geometry_in w) s session c between mid)) × (later ≡ but_doomed s (victims_among between) later)) }
+        (k : IsManagerOf w o es ws) → IsServed c → Steps w (event.Call session c) (Refused f) new → rollback_of c ≡ None →
+        (on : GoesOnAs new o es ws (event.Call session c) (Refused f)) × ((between : List Interlude)
+        × ((between ≡ []) ⊎ ((mid : State) × IsMidway (geometry_in w) k.now.state session c between mid))
+        × (on.manager.now.state ≡ but_doomed k.now.state (victims_among between) on.manager.now.state)) }
     ensures resume { (w new : World L V L.Disk V.Disk) (o : Records) (es : List Entry) (ws : List (ℕ × Call)) (session : ℕ) (f : Fault) →
-        IsManagerOf w o es ws → Steps w (event.Resume session) (Refused f) new →
-        (s : State) × (later : State) × AreStatesOf w s new later
-        × ((between : List Interlude) × ((mid : State) × Intervene (geometry_in w) session s between mid) × (later ≡ but_doomed s (victims_among between) later)) }
+        (k : IsManagerOf w o es ws) → Steps w (event.Resume session) (Refused f) new →
+        (on : GoesOnAs new o es ws (event.Resume session) (Refused f)) × ((between : List Interlude)
+        × ((mid : State) × Intervene (geometry_in w) session k.now.state between mid)
+        × (on.manager.now.state ≡ but_doomed k.now.state (victims_among between) on.manager.now.state)) }
+    ensures call_runs { (w new : World L V L.Disk V.Disk) (o : Records) (es : List Entry) (ws : List (ℕ × Call)) (session : ℕ) (c : Call) (f : Fault) →
+        IsManagerOf w o es ws → IsServed c → Steps w (event.Call session c) (Refused f) new → f ≢ fault.Device → ((device : Device) (offset : ℕ) → f ≢ fault.Damaged device offset) →
+        failed_in new ≡ failed_in w }
+    ensures resume_runs { (w new : World L V L.Disk V.Disk) (o : Records) (es : List Entry) (ws : List (ℕ × Call)) (session : ℕ) (f : Fault) →
+        IsManagerOf w o es ws → Steps w (event.Resume session) (Refused f) new → f ≢ fault.Device → ((device : Device) (offset : ℕ) → f ≢ fault.Damaged device offset) →
+        failed_in new ≡ failed_in w }
 {}
 
 /// Waits are true: who waits for a lock has a request that waits at that very granule. Only a commit waits for a record: for its own, the last of the log,
-/// which is not durable then.
+/// which is not durable then; and as it is resumed it waits on only as long as that is so.
 pub fn waits_are_true<L: Disk, V: Disk>()
     ensures lock { (w new : World L V L.Disk V.Disk) (o : Records) (es : List Entry) (ws : List (ℕ × Call)) (session : ℕ) (c : Call) (at : Granule) →
         IsManagerOf w o es ws → IsServed c → Steps w (event.Call session c) (Waits (Lock at)) new →
-        (later : State) × IsStateOf new later × HasItsWait later session at }
+        (on : GoesOnAs new o es ws (event.Call session c) (Waits (Lock at))) × HasItsWait on.manager.now.state session at }
     ensures resumed { (w new : World L V L.Disk V.Disk) (o : Records) (es : List Entry) (ws : List (ℕ × Call)) (session : ℕ) (at : Granule) →
         IsManagerOf w o es ws → Steps w (event.Resume session) (Waits (Lock at)) new →
-        (later : State) × IsStateOf new later × HasItsWait later session at }
+        (on : GoesOnAs new o es ws (event.Resume session) (Waits (Lock at))) × HasItsWait on.manager.now.state session at }
     ensures record_of { (w new : World L V L.Disk V.Disk) (o : Records) (es : List Entry) (ws : List (ℕ × Call)) (session n : ℕ) (c : Call) →
         IsManagerOf w o es ws → IsServed c → Steps w (event.Call session c) (Waits (Durable n)) new →
         (c ≡ Commit) × (n ≡ 1 + length (list_in w)) × (durable_in new < n) }
+    ensures record_on { (w new : World L V L.Disk V.Disk) (o : Records) (es : List Entry) (ws : List (ℕ × Call)) (session n : ℕ) →
+        (k : IsManagerOf w o es ws) → Steps w (event.Resume session) (Waits (Durable n)) new →
+        (waited : Waiting) × IsAmong waited k.now.state.waiting × (waited.session ≡ session) × (waited.wait ≡ Durable n) × (durable_in w < n) }
 {}
 
 /// Locks only as asked: by a call the requests stay; or an abort is answered, and all of its transaction's go; or they change as the call asks, whatever victims
 /// were taken on the way (`ChangesLocks`). So it is by a resume, for the call that waited; or a commit is answered, and all of its transaction's go.
 pub fn locks_change_only_as_asked<L: Disk, V: Disk>()
     ensures call { (w new : World L V L.Disk V.Disk) (o : Records) (es : List Entry) (ws : List (ℕ × Call)) (session : ℕ) (c : Call) (step : Step) →
-        IsManagerOf w o es ws → IsServed c → Steps w (event.Call session c) step new →
-        (s : State) × (later : State) × AreStatesOf w s new later × ((later.locks.requests ≡ s.locks.requests)
-        ⊎ (((c ≡ Abort) × (step ≡ Done Aborted) × ((a : SessionTxn) × IsOfSession s session a × (later.locks.requests ≡ released a.txn s.locks.requests)))
-        ⊎ ((a : SessionTxn) × IsOfSession s session a × ((between : List Interlude) × ((between ≡ []) ⊎ ((mid : State) × IsMidway (geometry_in w) s session c between mid))
-        × ChangesLocks s.locks.requests a.txn c (cycles_among between) later.locks.requests)))) }
+        (k : IsManagerOf w o es ws) → IsServed c → Steps w (event.Call session c) step new → (requests_in new ≡ requests_in w)
+        ⊎ (((c ≡ Abort) × (step ≡ Done Aborted) × ((a : SessionTxn) × IsOfSession k.now.state session a × (requests_in new ≡ released a.txn (requests_in w))))
+        ⊎ ((a : SessionTxn) × IsOfSession k.now.state session a × ((between : List Interlude)
+        × ((between ≡ []) ⊎ ((mid : State) × IsMidway (geometry_in w) k.now.state session c between mid))
+        × ChangesLocks (requests_in w) a.txn c (cycles_among between) (requests_in new)))) }
     ensures resume { (w new : World L V L.Disk V.Disk) (o : Records) (es : List Entry) (ws : List (ℕ × Call)) (session : ℕ) (step : Step) →
-        IsManagerOf w o es ws → Steps w (event.Resume session) step new →
-        (s : State) × (later : State) × AreStatesOf w s new later × ((later.locks.requests ≡ s.locks.requests)
-        ⊎ (((step ≡ Done Committed) × ((a : SessionTxn) × IsAmong a s.sessions.committing × (a.session ≡ session) × (later.locks.requests ≡ released a.txn s.locks.requests)))
-        ⊎ ((waited : Waiting) × IsAmong waited s.waiting × (waited.session ≡ session) × ((a : SessionTxn) × IsOfSession s session a
-        × ((between : List Interlude) × ((mid : State) × Intervene (geometry_in w) session s between mid)
-        × ChangesLocks s.locks.requests a.txn waited.call (cycles_among between) later.locks.requests))))) }
+        (k : IsManagerOf w o es ws) → Steps w (event.Resume session) step new → (requests_in new ≡ requests_in w)
+        ⊎ (((step ≡ Done Committed) × ((a : SessionTxn) × IsAmong a k.now.state.sessions.committing × (a.session ≡ session) × (requests_in new ≡ released a.txn (requests_in w))))
+        ⊎ ((waited : Waiting) × IsAmong waited k.now.state.waiting × (waited.session ≡ session) × ((a : SessionTxn) × IsOfSession k.now.state session a
+        × ((between : List Interlude) × ((mid : State) × Intervene (geometry_in w) session k.now.state between mid)
+        × ChangesLocks (requests_in w) a.txn waited.call (cycles_among between) (requests_in new))))) }
+{}
+
+/// What can be seen of the state of a manager, of which the promises speak: its lock requests, its log, what of it is durable, whether a device has failed, and
+/// what dumps show.
+pub fn states_are_seen<L: Disk, V: Disk>()
+    ensures { (w : World L V L.Disk V.Disk) (o : Records) (es : List Entry) (ws : List (ℕ × Call)) → (k : IsManagerOf w o es ws) → IsStateOf w k.now.state }
 {}

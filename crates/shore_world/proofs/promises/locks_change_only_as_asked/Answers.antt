@@ -1,15 +1,51 @@
-use Rattle.shore_world.specs.declared.event.Event.TheVariants as event
+use Rattle.std.proofs.Common.{◌≡◌, ◌⊎◌, ◌++◌, List, [], ℕ, subst}
+use Rattle.shore_types.specs.declared.layout.Geometry.{Geometry}
+use Rattle.shore_model.specs.declared.calls.Answer.TheVariants.{Aborted, Committed}
+use Rattle.shore_model.specs.declared.calls.Call.{Call}
+use Rattle.shore_model.specs.declared.calls.Call.TheVariants.{Abort}
+use Rattle.shore_model.specs.declared.requests.Request.{Request}
+use Rattle.shore_model.specs.declared.step.Step.{Step}
+use Rattle.shore_model.specs.declared.step.Step.TheVariants.{Done}
+use Rattle.shore_locks.specs.Grants.{released}
+use Rattle.laws_lives.specs.Sessions.{SessionTxn}
+use Rattle.laws_lives.specs.Views.{IsAmong}
+use Rattle.laws_calls.specs.LockChanges.{ChangesLocks}
+use Rattle.laws_calls.specs.Midway.{Interlude, Intervene, IsMidway, cycles_among}
+use Rattle.laws_calls.specs.States.{IsOfSession, State, Waiting}
 use Rattle.laws_calls.proofs.SettledLocks.{settled_call_locks, settled_resume_locks}
-use Rattle.shore_world.specs.Worlds.{geometry_in}
-use Rattle.shore_world.proofs.PromiseLemmas.{after, stepped}
+use Rattle.shore_world.specs.declared.event.Event.TheVariants as event
+use Rattle.shore_world.specs.Exchanges.{waited_behind}
+use Rattle.shore_world.specs.Worlds.{geometry_in, requests_in}
+use Rattle.shore_world.proofs.PromiseLemmas.{after, seen, stepped}
 use Rattle.shore_world.proofs.promises.locks_change_only_as_asked.Goals as goal
 
+-- what the law says of a call, and of a resume, of any requests before it and behind it
+abbrev ByCall : Geometry → State → ℕ → Call → Step → List Request → List Request → Type 0
+ByCall g s session c step old new =
+    (new ≡ old)
+    ⊎ (((c ≡ Abort) × (step ≡ Done Aborted) × ((a : SessionTxn) × IsOfSession s session a × (new ≡ released a.txn old)))
+    ⊎ ((a : SessionTxn) × IsOfSession s session a × ((between : List Interlude) × ((between ≡ []) ⊎ ((mid : State) × IsMidway g s session c between mid))
+    × ChangesLocks old a.txn c (cycles_among between) new)))
+
+abbrev ByResume : Geometry → State → ℕ → Step → List Request → List Request → Type 0
+ByResume g s session step old new =
+    (new ≡ old)
+    ⊎ (((step ≡ Done Committed) × ((a : SessionTxn) × IsAmong a s.sessions.committing × (a.session ≡ session) × (new ≡ released a.txn old)))
+    ⊎ ((waited : Waiting) × IsAmong waited s.waiting × (waited.session ≡ session) × ((a : SessionTxn) × IsOfSession s session a
+    × ((between : List Interlude) × ((mid : State) × Intervene g session s between mid) × ChangesLocks old a.txn waited.call (cycles_among between) new))))
+
 pub returns-clause-call : goal.returns-clause-call
-returns-clause-call c d w new o es ws session call step k served one =
+returns-clause-call d f w new o es ws session call step k served one =
     let went = stepped w o es ws k (event.Call session call) step new served one in
-    (k.now.state, went.later, went.states, settled_call_locks (geometry_in w) k.found es k.now.state (after w o es ws k) session call step went.later went.moves)
+    let later = seen new o (es ++ went.on.made) (waited_behind ws (event.Call session call) step) went.on.manager in
+    let P = ByCall (geometry_in w) k.now.state session call step in
+    subst (λ (rs : List Request). P rs (requests_in new)) (seen w o es ws k).requests (subst (P k.now.state.locks.requests) later.requests
+    (settled_call_locks (geometry_in w) k.found es k.now.state (after w o es ws k) session call step went.on.manager.now.state went.moves))
 
 pub returns-clause-resume : goal.returns-clause-resume
-returns-clause-resume c d w new o es ws session step k one =
+returns-clause-resume d f w new o es ws session step k one =
     let went = stepped w o es ws k (event.Resume session) step new tt one in
-    (k.now.state, went.later, went.states, settled_resume_locks (geometry_in w) k.found es k.now.state (after w o es ws k) session (k.there session) step went.later went.moves)
+    let later = seen new o (es ++ went.on.made) (waited_behind ws (event.Resume session) step) went.on.manager in
+    let P = ByResume (geometry_in w) k.now.state session step in
+    subst (λ (rs : List Request). P rs (requests_in new)) (seen w o es ws k).requests (subst (P k.now.state.locks.requests) later.requests
+    (settled_resume_locks (geometry_in w) k.found es k.now.state (after w o es ws k) session (k.there session) step went.on.manager.now.state went.moves))

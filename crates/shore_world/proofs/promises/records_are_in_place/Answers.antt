@@ -1,5 +1,11 @@
-use Rattle.shore_world.proofs.PromiseLemmas.{dumps, each_unended, under_way_of}
+use Rattle.shore_world.proofs.PromiseLemmas.{dumps, each_there, each_unended}
 use Rattle.shore_world.proofs.promises.records_are_in_place.Goals as goal
 
-pub returns : goal.returns
-returns c d w o es ws k = (under_way_of w o es ws k, each_unended w o es ws k, dumps w o es ws k)
+pub returns-clause-shown : goal.returns-clause-shown
+returns-clause-shown c d w o es ws k = dumps w o es ws k
+
+pub returns-clause-unended : goal.returns-clause-unended
+returns-clause-unended c d w o es ws k = each_unended w o es ws k
+
+pub returns-clause-all : goal.returns-clause-all
+returns-clause-all c d w o es ws session t k is some = each_there w o es ws k session t is some

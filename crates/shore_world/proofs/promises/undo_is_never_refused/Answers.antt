@@ -8,4 +8,4 @@ use Rattle.shore_world.proofs.promises.undo_is_never_refused.Goals as goal
 pub returns : goal.returns
 returns c d w new o es ws session call r f k served one is lacks =
     let went = stepped w o es ws k (event.Call session call) (Refused f) new served one in
-    settled_undo_has_room (geometry_in w) k.now.state went.later session call r f is lacks went.moves
+    settled_undo_has_room (geometry_in w) k.now.state went.on.manager.now.state session call r f is lacks went.moves
