@@ -106,6 +106,7 @@ impl<L: Disk, V: Disk> World<L, V> {
         ensures size { (size (L.history (log_in result)) ≡ size (L.history log)) × (size (V.history (volume_in result)) ≡ size (V.history volume)) }
         ensures cause { HasCauseOfPair (fault_in result) (L.faults log) (L.faults (log_in result)) (V.faults volume) (V.faults (volume_in result)) }
     {
+        // Four parts are opened, and each refusal hands back both devices, of which all clauses speak: so its proof keeps more steps than others do.
         let Fronts {
             of_pages,
             anchor_offset,
