@@ -151,6 +151,20 @@ pub(crate) fn on_conflict(call: &Call) -> OnConflict
 {
     match call {
         Call::TryLock(..) => OnConflict::Refuse,
-        _ => OnConflict::Wait,
+        Call::Get(_)
+        | Call::GetForUpdate(_)
+        | Call::Insert(..)
+        | Call::Update(..)
+        | Call::Delete(_)
+        | Call::Scan(_)
+        | Call::Lock(..)
+        | Call::Begin
+        | Call::Savepoint
+        | Call::BackTo(_)
+        | Call::Commit
+        | Call::Abort
+        | Call::Prepare(_)
+        | Call::Resolve(..)
+        | Call::InDoubt => OnConflict::Wait,
     }
 }
