@@ -46,6 +46,7 @@ impl<L: Disk, V: Disk> World<L, V> {
     ghost use Rattle.shore_world.specs.Refusals.{RefusesOpen};
     ghost use Rattle.shore_restart.specs.Missing.{missing_on};
     ghost use Rattle.laws_images.specs.StandsFor.{StandsFor};
+    ghost use Rattle.shore_fronts.specs.Barriers.{IsBeforeBarrier};
     ghost use Rattle.shore_fronts.specs.Causes.{HasCauseOfPair};
     ghost use Rattle.shore_fronts.specs.Pairs.{HaveFronts};
     ghost use Rattle.shore_gate.specs.Checks.{IsFromOutside};
@@ -101,6 +102,10 @@ impl<L: Disk, V: Disk> World<L, V> {
         ensures stands { IsTrue (L.is_honest log) → IsTrue (V.is_honest volume) → (g : Geometry) (rs : List LogRecord) (pages : LoggedPages)
             → StandsFor g (size (L.history log)) (size (V.history volume)) rs pages (seen (L.history log)) (seen (V.history volume))
             → IfErr result (λ e. IsFromOutside e.0) }
+
+        // Where no label and anchor of one pair stand, nothing is changed: a crash leaves of both devices what it could have left before.
+        ensures kept { IsTrue (L.is_honest log) → IsTrue (V.is_honest volume) → ((g : Geometry) → HaveFronts g (L.history log) (V.history volume) → ⊥)
+            → IfErr result (λ e. IsBeforeBarrier (L.history log) (L.history e.1) × IsBeforeBarrier (V.history volume) (V.history e.2)) }
 
         ensures honest { (L.is_honest (log_in result) ≡ L.is_honest log) × (V.is_honest (volume_in result) ≡ V.is_honest volume) }
         ensures size { (size (L.history (log_in result)) ≡ size (L.history log)) × (size (V.history (volume_in result)) ≡ size (V.history volume)) }

@@ -445,3 +445,15 @@ returns-in-Err-restart-clause-cause g c =
     (subst (λ n. HasCauseOfPair {T = World g.row.L.Denot g.row.V.Denot g.L.Disk g.V.Disk} (Err f.result) (g.L.Disk.faults c.args.log) (g.L.Disk.faults f.new.log.device) (g.V.Disk.faults c.args.volume) n) (sym volume_now)
     (subst (λ n. HasCauseOfPair {T = World g.row.L.Denot g.row.V.Denot g.L.Disk g.V.Disk} (Err f.result) n (g.L.Disk.faults f.new.log.device) (g.V.Disk.faults c.args.volume) (heaps.faults_of c.in-Err-restart.heap)) log_same
     (subst (λ n. HasCauseOfPair {T = World g.row.L.Denot g.row.V.Denot g.L.Disk g.V.Disk} (Err f.result) (g.L.Disk.faults c.in-Ok-open.log.device) (g.L.Disk.faults f.new.log.device) n (heaps.faults_of c.in-Err-restart.heap)) heap_same told)))
+
+pub returns-in-Err-clause-kept : goal.returns-in-Err-clause-kept
+returns-in-Err-clause-kept g c of_log of_volume none = (c.read_fronts.ensures.log_before of_log, c.read_fronts.ensures.volume_before of_volume)
+
+pub returns-in-Err-open-clause-kept : goal.returns-in-Err-open-clause-kept
+returns-in-Err-open-clause-kept g c of_log of_volume none = absurd (none c.in-Ok.fronts.geometry (c.in-Ok.ensures.found of_log of_volume).0)
+
+pub returns-in-Err-open_volume-clause-kept : goal.returns-in-Err-open_volume-clause-kept
+returns-in-Err-open_volume-clause-kept g c of_log of_volume none = absurd (none c.in-Ok.fronts.geometry (c.in-Ok.ensures.found of_log of_volume).0)
+
+pub returns-in-Err-restart-clause-kept : goal.returns-in-Err-restart-clause-kept
+returns-in-Err-restart-clause-kept g c of_log of_volume none = absurd (none c.in-Ok.fronts.geometry (c.in-Ok.ensures.found of_log of_volume).0)
