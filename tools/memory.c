@@ -1,0 +1,47 @@
+/* Preloaded by tools/check-memory: counts what a program asks of malloc and realloc, and refuses the one whose number MEMORY_FAILS has. As the program ends, the count is written to the
+   file that MEMORY_COUNT names. */
+#define _GNU_SOURCE
+#include <dlfcn.h>
+#include <errno.h>
+#include <stdio.h>
+#include <stdlib.h>
+
+static unsigned long asked, failing;
+
+static void *(*system_malloc)(size_t);
+static void *(*system_realloc)(void *, size_t);
+
+__attribute__((constructor)) static void begin(void) {
+    system_malloc = (void *(*)(size_t))dlsym(RTLD_NEXT, "malloc");
+    system_realloc = (void *(*)(void *, size_t))dlsym(RTLD_NEXT, "realloc");
+    const char *number = getenv("MEMORY_FAILS");
+    asked = 0;
+    failing = number ? strtoul(number, 0, 10) : 0;
+}
+
+__attribute__((destructor)) static void end(void) {
+    const char *path = getenv("MEMORY_COUNT");
+    unsigned long count = asked;
+    FILE *file = path ? fopen(path, "w") : 0;
+    if (file) {
+        fprintf(file, "%lu", count);
+        fclose(file);
+    }
+}
+
+static int is_refused(void) {
+    asked++;
+    if (asked != failing) return 0;
+    errno = ENOMEM;
+    return 1;
+}
+
+void *malloc(size_t bytes) {
+    if (!system_malloc) begin();
+    return is_refused() ? 0 : system_malloc(bytes);
+}
+
+void *realloc(void *old, size_t bytes) {
+    if (!system_realloc) begin();
+    return is_refused() ? 0 : system_realloc(old, bytes);
+}
