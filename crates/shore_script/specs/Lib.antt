@@ -1,4 +1,7 @@
 pub mod Bytes
 pub mod Commands
+pub mod Ids
 pub mod Limits
+pub mod Lines
+pub mod Reading
 pub mod Words

@@ -1,63 +1,79 @@
--- The words by which lines of the script ask.
-use Rattle.std.specs.Prelude.{◌≡◌, ◌⊎◌, ℕ, List, [], ◌∷◌, drop, codes}
-use Rattle.std.specs.Borrow.{Bor}
+-- The words of the script's lines, and what they ask for.
+use Rattle.std.specs.Prelude.{◌≡◌, ◌^◌, ◌++◌, ℕ, List, [], ◌∷◌, Option, None, Some, codes}
 use Rattle.shore_disk.specs.declared.memory.Pick.{Pick}
 use Rattle.shore_disk.specs.declared.memory.Pick.TheVariants as pick
 use Rattle.shore_model.specs.declared.calls.Call.{Call}
 use Rattle.shore_model.specs.declared.calls.Call.TheVariants as call
+use Rattle.shore_types.specs.Names.{device_name, mode_name}
+use Rattle.shore_script.specs.Bytes.{SpellsBytes}
+use Rattle.shore_script.specs.Ids.{IsNumber, IsRecord, IsGranule}
 use Rattle.shore_script.specs.declared.command.Command.{Command}
 use Rattle.shore_script.specs.declared.command.Command.TheVariants as command
-use Rattle.shore_script.specs.declared.command.Command.TheVariants.{Ask}
+
+-- one space between two words
+abbrev pub spaced : List ℕ → List (List ℕ) → List ℕ
+spaced word [] = word
+spaced word (next ∷ words) = word ++ (codes " " ++ spaced next words)
+
+-- this word alone
+abbrev pub IsAlone : List (List ℕ) → List ℕ → Type 0
+IsAlone [] word = ⊥
+IsAlone (first ∷ []) word = first ≡ word
+IsAlone (first ∷ second ∷ words) word = ⊥
+
+-- this word, and behind it one that is in the relation
+abbrev pub HasOne : List (List ℕ) → List ℕ → (List ℕ → Type 0) → Type 0
+HasOne [] word P = ⊥
+HasOne (first ∷ []) word P = ⊥
+HasOne (first ∷ second ∷ []) word P = (first ≡ word) × P second
+HasOne (first ∷ second ∷ third ∷ words) word P = ⊥
+
+-- this word, and behind it two, each in its relation
+abbrev pub HasTwo : List (List ℕ) → List ℕ → (List ℕ → Type 0) → (List ℕ → Type 0) → Type 0
+HasTwo [] word P Q = ⊥
+HasTwo (first ∷ []) word P Q = ⊥
+HasTwo (first ∷ second ∷ []) word P Q = ⊥
+HasTwo (first ∷ second ∷ third ∷ []) word P Q = (first ≡ word) × P second × Q third
+HasTwo (first ∷ second ∷ third ∷ fourth ∷ words) word P Q = ⊥
+
+-- the words ask for the call; none ask for what is not served yet
+abbrev pub AskCall : List (List ℕ) → Call → Type 0
+AskCall words call.Begin = IsAlone words (codes "begin")
+AskCall words (call.Get id) = HasOne words (codes "get") (λ word. IsRecord word id)
+AskCall words (call.GetForUpdate id) = HasOne words (codes "getu") (λ word. IsRecord word id)
+AskCall words (call.Insert store bytes) = HasTwo words (codes "insert") (λ word. IsNumber (2 ^ 32) word store) (λ word. SpellsBytes word bytes)
+AskCall words (call.Update id bytes) = HasTwo words (codes "update") (λ word. IsRecord word id) (λ word. SpellsBytes word bytes)
+AskCall words (call.Delete id) = HasOne words (codes "delete") (λ word. IsRecord word id)
+AskCall words (call.Scan store) = HasOne words (codes "scan") (λ word. IsNumber (2 ^ 32) word store)
+AskCall words (call.Lock granule mode) = HasTwo words (codes "lock") (λ word. IsGranule word granule) (λ word. word ≡ mode_name mode)
+AskCall words (call.TryLock granule mode) = HasTwo words (codes "try") (λ word. IsGranule word granule) (λ word. word ≡ mode_name mode)
+AskCall words call.Commit = IsAlone words (codes "commit")
+AskCall words call.Savepoint = IsAlone words (codes "savepoint")
+AskCall words (call.BackTo index) = HasOne words (codes "back") (λ word. IsNumber (2 ^ 64) word index)
+AskCall words call.Abort = IsAlone words (codes "abort")
+AskCall words (call.Prepare global) = ⊥
+AskCall words (call.Resolve global outcome) = ⊥
+AskCall words call.InDoubt = ⊥
 
 abbrev pub pick_word : Pick → List ℕ
 pick_word pick.Old = codes "old"
 pick_word pick.New = codes "new"
 pick_word pick.Noise = codes "noise"
 
--- the word that asks for the call; no line asks for what is not served yet
-abbrev pub AsksCall : List ℕ → Call → Type 0
-AsksCall word call.Begin = word ≡ codes "begin"
-AsksCall word (call.Get id) = word ≡ codes "get"
-AsksCall word (call.GetForUpdate id) = word ≡ codes "getu"
-AsksCall word (call.Insert store bytes) = word ≡ codes "insert"
-AsksCall word (call.Update id bytes) = word ≡ codes "update"
-AsksCall word (call.Delete id) = word ≡ codes "delete"
-AsksCall word (call.Scan store) = word ≡ codes "scan"
-AsksCall word (call.Lock granule mode) = word ≡ codes "lock"
-AsksCall word (call.TryLock granule mode) = word ≡ codes "try"
-AsksCall word call.Commit = word ≡ codes "commit"
-AsksCall word call.Savepoint = word ≡ codes "savepoint"
-AsksCall word (call.BackTo index) = word ≡ codes "back"
-AsksCall word call.Abort = word ≡ codes "abort"
-AsksCall word (call.Prepare global) = ⊥
-AsksCall word (call.Resolve global outcome) = ⊥
-AsksCall word call.InDoubt = ⊥
+-- a crash may pick an image
+abbrev pub AskCrash : List (List ℕ) → Option Pick → Type 0
+AskCrash words None = IsAlone words (codes "crash")
+AskCrash words (Some pick) = HasOne words (codes "crash") (λ word. word ≡ pick_word pick)
 
--- the word that asks for what is no call
-abbrev pub AsksPlain : List ℕ → Command → Type 0
-AsksPlain word (command.Ask session call) = ⊥
-AsksPlain word command.Nothing = ⊥
-AsksPlain word command.Force = word ≡ codes "force"
-AsksPlain word command.Flush = word ≡ codes "flush"
-AsksPlain word (command.Crash pick) = word ≡ codes "crash"
-AsksPlain word (command.Fuse fuse) = word ≡ codes "fuse"
-AsksPlain word (command.NextFuse fuse) = word ≡ codes "nextfuse"
-AsksPlain word command.Dump = word ≡ codes "dump"
-AsksPlain word command.Log = word ≡ codes "log"
-AsksPlain word command.Locks = word ≡ codes "locks"
-
--- the first of these words asks for the call
-abbrev pub FirstAsksCall : List (Bor (List ℕ)) → Call → Type 0
-FirstAsksCall [] call = ⊥
-FirstAsksCall (word ∷ words) call = AsksCall word.now call
-
-abbrev pub FirstAsksPlain : List (Bor (List ℕ)) → Command → Type 0
-FirstAsksPlain [] command = ⊥
-FirstAsksPlain (word ∷ words) command = AsksPlain word.now command
-
--- a session's number, and then the word of a call
-abbrev pub SecondAsksCall : List (Bor (List ℕ)) → Command → Type 0
-SecondAsksCall words command = (session : ℕ) × (call : Call) × (command ≡ Ask session call) × FirstAsksCall (drop 1 words) call
-
-abbrev pub Asks : List (Bor (List ℕ)) → Command → Type 0
-Asks words command = FirstAsksPlain words command ⊎ SecondAsksCall words command
+-- the words ask for what is no call
+abbrev pub AskPlain : List (List ℕ) → Command → Type 0
+AskPlain words (command.Ask session call) = ⊥
+AskPlain words command.Nothing = ⊥
+AskPlain words command.Force = IsAlone words (codes "force")
+AskPlain words command.Flush = IsAlone words (codes "flush")
+AskPlain words (command.Crash pick) = AskCrash words pick
+AskPlain words (command.Fuse fuse) = HasTwo words (codes "fuse") (λ word. word ≡ device_name fuse.device) (λ word. IsNumber (2 ^ 64) word fuse.calls)
+AskPlain words (command.NextFuse fuse) = HasTwo words (codes "nextfuse") (λ word. word ≡ device_name fuse.device) (λ word. IsNumber (2 ^ 64) word fuse.calls)
+AskPlain words command.Dump = IsAlone words (codes "dump")
+AskPlain words command.Log = IsAlone words (codes "log")
+AskPlain words command.Locks = IsAlone words (codes "locks")

@@ -1,11 +1,11 @@
 //! A line of the script.
-ghost use Rattle.std.specs.Prelude.{◌≡◌, ◌≢◌, IfNone, IfOk, IfSome, codes};
+ghost use Rattle.std.specs.Prelude.{◌≡◌, ◌∷◌, [], IfOk, IfSome, codes};
 ghost use Rattle.shore_model.specs.Calls.{IsServed};
 ghost use Rattle.shore_script.specs.Commands.{IsServedCommand};
-ghost use Rattle.shore_script.specs.Words.{Asks, AsksCall, AsksPlain, FirstAsksCall, FirstAsksPlain, pick_word};
-ghost use Rattle.shore_disk.specs.declared.memory.Pick.{Pick as PickData};
+ghost use Rattle.shore_script.specs.Lines.{InWords, IsCallOf, IsLineOf, TextAsks};
+ghost use Rattle.shore_script.specs.Reading.{Reads};
+ghost use Rattle.shore_script.specs.Words.{AskCall, AskPlain, pick_word};
 ghost use Rattle.shore_types.specs.Names.{device_name};
-ghost use Rattle.shore_types.specs.declared.faults.Device.{Device as DeviceData};
 
 use crate::fuses::Fuse;
 use crate::lines::MAX_LINE_BYTES;
@@ -14,9 +14,6 @@ use shore_disk::Pick;
 use shore_model::Call;
 use shore_types::{Device, SessionId};
 use std::alloc::{AllocError, Global};
-
-/// The most words of a command.
-const MAX_WORDS: usize = 4;
 
 /// What a line of the script asks for.
 #[derive(Drop)]
@@ -45,7 +42,8 @@ pub enum Command {
 
 /// What a line asks for. `Ok(None)`: it is too long, no UTF-8 or no line of the script.
 pub fn read_line(alloc: Global, line: &[u8]) -> Result<Option<Command>, AllocError>
-    ensures { IfOk result (λ found. IfSome found IsServedCommand) }
+    ensures served { IfOk result (λ found. IfSome found IsServedCommand) }
+    ensures asks { IfOk result (Reads (IsLineOf line.now)) }
 {
     if line.len() > MAX_LINE_BYTES {
         return Ok(None);
@@ -57,55 +55,79 @@ pub fn read_line(alloc: Global, line: &[u8]) -> Result<Option<Command>, AllocErr
 }
 
 fn parse(alloc: Global, line: &str) -> Result<Option<Command>, AllocError>
-    ensures { IfOk result (λ found. IfSome found IsServedCommand) }
+    ensures served { IfOk result (λ found. IfSome found IsServedCommand) }
+    ensures asks { IfOk result (Reads (TextAsks line.now)) }
 {
     if line.is_empty() || line.starts_with('#') {
         return Ok(Some(Command::Nothing));
     }
-    // All that stands behind the words of a command is one word more, which no command has.
-    let words: Vec<&str> = line.splitn(MAX_WORDS + 1, ' ').collect(alloc)?;
-    command_of(alloc, words.as_slice())
-}
-
-fn command_of(alloc: Global, words: &[&str]) -> Result<Option<Command>, AllocError>
-    ensures served { IfOk result (λ found. IfSome found IsServedCommand) }
-    ensures words { IfOk result (λ found. IfSome found (Asks words.now)) }
-{
-    match words {
-        [first, call @ ..] => match words::session(first) {
-            Some(session) => match call_of(alloc, call)? {
-                Some(call) => Ok(Some(Command::Ask(session, call))),
-                None => Ok(None),
-            },
-            None => Ok(plain_command(words)),
+    match line.split_once(' ') {
+        Some((first, rest)) => match words::session(first) {
+            Some(session) => session_command(alloc, session, rest),
+            None => Ok(plain_command(line)),
         },
-        [] => Ok(None),
+        None => Ok(plain_command(line)),
     }
 }
 
-fn plain_command(words: &[&str]) -> Option<Command>
-    ensures served { IfSome result IsServedCommand }
-    ensures word { IfSome result (FirstAsksPlain words.now) }
+// A call of the session.
+fn session_command(
+    alloc: Global,
+    session: SessionId,
+    text: &str,
+) -> Result<Option<Command>, AllocError>
+    ensures served { IfOk result (λ found. IfSome found IsServedCommand) }
+    ensures asks { IfOk result (Reads (IsCallOf text.now session)) }
 {
-    match words {
-        [word] => match *word {
-            "force" => Some(Command::Force),
-            "flush" => Some(Command::Flush),
-            "crash" => Some(Command::Crash(None)),
-            "dump" => Some(Command::Dump),
-            "log" => Some(Command::Log),
-            "locks" => Some(Command::Locks),
-            _ => None,
+    match call_of(alloc, text)? {
+        Some(call) => Ok(Some(Command::Ask(session, call))),
+        None => Ok(None),
+    }
+}
+
+// What is no call.
+fn plain_command(text: &str) -> Option<Command>
+    ensures served { IfSome result IsServedCommand }
+    ensures asks { Reads (InWords AskPlain text.now) result }
+{
+    match text.split_once(' ') {
+        Some((word, rest)) => match rest.split_once(' ') {
+            Some((device, calls)) => fuse_command(word, device, calls),
+            None => crash_command(word, rest),
         },
-        [word, pick] if *word == "crash" => Some(Command::Crash(Some(pick_of(pick)?))),
-        [word, device, calls] => fuse_command(word, device, calls),
+        None => command_of_a_word(text),
+    }
+}
+
+fn command_of_a_word(word: &str) -> Option<Command>
+    ensures served { IfSome result IsServedCommand }
+    ensures asks { Reads (AskPlain (word.now ∷ [])) result }
+{
+    match word {
+        "force" => Some(Command::Force),
+        "flush" => Some(Command::Flush),
+        "crash" => Some(Command::Crash(None)),
+        "dump" => Some(Command::Dump),
+        "log" => Some(Command::Log),
+        "locks" => Some(Command::Locks),
+        _ => None,
+    }
+}
+
+fn crash_command(word: &str, pick: &str) -> Option<Command>
+    ensures served { IfSome result IsServedCommand }
+    ensures asks { Reads (AskPlain (word.now ∷ pick.now ∷ [])) result }
+{
+    let pick = pick_of(pick)?;
+    match word {
+        "crash" => Some(Command::Crash(Some(pick))),
         _ => None,
     }
 }
 
 fn fuse_command(word: &str, device: &str, calls: &str) -> Option<Command>
     ensures served { IfSome result IsServedCommand }
-    ensures word { IfSome result (AsksPlain word.now) }
+    ensures asks { Reads (AskPlain (word.now ∷ device.now ∷ calls.now ∷ [])) result }
 {
     let fuse = Fuse {
         device: device_of(device)?,
@@ -119,8 +141,7 @@ fn fuse_command(word: &str, device: &str, calls: &str) -> Option<Command>
 }
 
 fn device_of(word: &str) -> Option<Device>
-    ensures some { IfSome result (λ device. word.now ≡ device_name device) }
-    ensures none { IfNone result ((device : DeviceData) → word.now ≢ device_name device) }
+    ensures { Reads (λ device. word.now ≡ device_name device) result }
 {
     match word {
         "log" => Some(Device::Log),
@@ -130,8 +151,7 @@ fn device_of(word: &str) -> Option<Device>
 }
 
 fn pick_of(word: &str) -> Option<Pick>
-    ensures some { IfSome result (λ pick. word.now ≡ pick_word pick) }
-    ensures none { IfNone result ((pick : PickData) → word.now ≢ pick_word pick) }
+    ensures { Reads (λ pick. word.now ≡ pick_word pick) result }
 {
     match word {
         "old" => Some(Pick::Old),
@@ -141,33 +161,22 @@ fn pick_of(word: &str) -> Option<Pick>
     }
 }
 
-fn call_of(alloc: Global, words: &[&str]) -> Result<Option<Call>, AllocError>
+fn call_of(alloc: Global, text: &str) -> Result<Option<Call>, AllocError>
     ensures served { IfOk result (λ found. IfSome found IsServed) }
-    ensures word { IfOk result (λ found. IfSome found (FirstAsksCall words.now)) }
+    ensures asks { IfOk result (Reads (InWords AskCall text.now)) }
 {
-    match words {
-        [word, store, bytes] if *word == "insert" => insert_of(alloc, store, bytes),
-        [word, record, bytes] if *word == "update" => update_of(alloc, record, bytes),
-        words => Ok(plain_call_of(words)),
-    }
-}
-
-// The calls that have no bytes.
-fn plain_call_of(words: &[&str]) -> Option<Call>
-    ensures served { IfSome result IsServed }
-    ensures word { IfSome result (FirstAsksCall words.now) }
-{
-    match words {
-        [word] => call_of_a_word(word),
-        [word, object] => call_with(word, object),
-        [word, granule, mode] => lock_of(word, granule, mode),
-        _ => None,
+    match text.split_once(' ') {
+        Some((word, rest)) => match rest.split_once(' ') {
+            Some((first, second)) => call_with_two(alloc, word, first, second),
+            None => Ok(call_with_one(word, rest)),
+        },
+        None => Ok(call_of_a_word(text)),
     }
 }
 
 fn call_of_a_word(word: &str) -> Option<Call>
     ensures served { IfSome result IsServed }
-    ensures word { IfSome result (AsksCall word.now) }
+    ensures asks { Reads (AskCall (word.now ∷ [])) result }
 {
     match word {
         "begin" => Some(Call::Begin),
@@ -178,9 +187,9 @@ fn call_of_a_word(word: &str) -> Option<Call>
     }
 }
 
-fn call_with(word: &str, object: &str) -> Option<Call>
+fn call_with_one(word: &str, object: &str) -> Option<Call>
     ensures served { IfSome result IsServed }
-    ensures word { IfSome result (AsksCall word.now) }
+    ensures asks { Reads (AskCall (word.now ∷ object.now ∷ [])) result }
 {
     match word {
         "back" => Some(Call::BackTo(words::index(object)?)),
@@ -192,21 +201,41 @@ fn call_with(word: &str, object: &str) -> Option<Call>
     }
 }
 
-fn lock_of(word: &str, granule: &str, mode: &str) -> Option<Call>
-    ensures served { IfSome result IsServed }
-    ensures word { IfSome result (AsksCall word.now) }
+fn call_with_two(
+    alloc: Global,
+    word: &str,
+    first: &str,
+    second: &str,
+) -> Result<Option<Call>, AllocError>
+    ensures served { IfOk result (λ found. IfSome found IsServed) }
+    ensures asks { IfOk result (Reads (AskCall (word.now ∷ first.now ∷ second.now ∷ []))) }
 {
-    let (granule, mode) = (words::granule(granule)?, words::mode(mode)?);
     match word {
-        "lock" => Some(Call::Lock(granule, mode)),
-        "try" => Some(Call::TryLock(granule, mode)),
-        _ => None,
+        "insert" => insert_of(alloc, first, second),
+        "update" => update_of(alloc, first, second),
+        "lock" => Ok(lock_of(first, second)),
+        "try" => Ok(try_of(first, second)),
+        _ => Ok(None),
     }
+}
+
+fn lock_of(granule: &str, mode: &str) -> Option<Call>
+    ensures served { IfSome result IsServed }
+    ensures asks { Reads (AskCall (codes "lock" ∷ granule.now ∷ mode.now ∷ [])) result }
+{
+    Some(Call::Lock(words::granule(granule)?, words::mode(mode)?))
+}
+
+fn try_of(granule: &str, mode: &str) -> Option<Call>
+    ensures served { IfSome result IsServed }
+    ensures asks { Reads (AskCall (codes "try" ∷ granule.now ∷ mode.now ∷ [])) result }
+{
+    Some(Call::TryLock(words::granule(granule)?, words::mode(mode)?))
 }
 
 fn insert_of(alloc: Global, store: &str, bytes: &str) -> Result<Option<Call>, AllocError>
     ensures served { IfOk result (λ found. IfSome found IsServed) }
-    ensures word { IfOk result (λ found. IfSome found (AsksCall (codes "insert"))) }
+    ensures asks { IfOk result (Reads (AskCall (codes "insert" ∷ store.now ∷ bytes.now ∷ []))) }
 {
     let Some(store) = words::store(store) else {
         return Ok(None);
@@ -217,11 +246,11 @@ fn insert_of(alloc: Global, store: &str, bytes: &str) -> Result<Option<Call>, Al
     }
 }
 
-fn update_of(alloc: Global, record: &str, bytes: &str) -> Result<Option<Call>, AllocError>
+fn update_of(alloc: Global, id: &str, bytes: &str) -> Result<Option<Call>, AllocError>
     ensures served { IfOk result (λ found. IfSome found IsServed) }
-    ensures word { IfOk result (λ found. IfSome found (AsksCall (codes "update"))) }
+    ensures asks { IfOk result (Reads (AskCall (codes "update" ∷ id.now ∷ bytes.now ∷ []))) }
 {
-    let Some(id) = words::record(record) else {
+    let Some(id) = words::record(id) else {
         return Ok(None);
     };
     match words::bytes(alloc, bytes)? {

@@ -1,10 +1,10 @@
 //! The words of a script line: numbers, ids and bytes.
-ghost use Rattle.std.specs.Prelude.{◌≡◌, ◌≢◌, ◌≤◌, ◌⊎◌, ◌∷◌, [], ℕ, IfNone, IfOk, IfSome, IsErr, MatchOption, Ok, false, replicate};
+ghost use Rattle.std.specs.Prelude.{◌≡◌, ◌^◌, IfOk};
 ghost use Rattle.std.specs.List.{list_any};
-ghost use Rattle.hex.specs.Hex.{decode_of};
-ghost use Rattle.shore_script.specs.Bytes.{HasUpper, is_upper};
+ghost use Rattle.shore_script.specs.Bytes.{AreCopies, IsPair, IsPairs, SpellsBytes, is_upper};
+ghost use Rattle.shore_script.specs.Ids.{IsGranule, IsNumber, IsPage, IsRecord, IsSession};
+ghost use Rattle.shore_script.specs.Reading.{Reads};
 ghost use Rattle.shore_types.specs.Names.{mode_name};
-ghost use Rattle.shore_types.specs.declared.locking.Mode.{Mode};
 
 use hex::FromHexError;
 use shore_types::{Bytes, Granule, Mode, PageId, Rid, Sequence, SessionId, StoreId};
@@ -16,7 +16,9 @@ const MOST_COPIES: u64 = 99_999;
 const MOST_SESSIONS: u32 = 999;
 
 /// A decimal number with no sign and no leading zero.
-pub fn number(word: &str) -> Option<u64> {
+pub fn number(word: &str) -> Option<u64>
+    ensures { Reads (IsNumber (2 ^ 64) word.now) result }
+{
     // `parse` takes a plus sign and leading zeros.
     if word.starts_with('+') || (word.starts_with('0') && word.len() > 1) {
         return None;
@@ -24,18 +26,22 @@ pub fn number(word: &str) -> Option<u64> {
     word.parse::<u64>().ok()
 }
 
-fn short_number(word: &str) -> Option<u32> {
+fn short_number(word: &str) -> Option<u32>
+    ensures { Reads (IsNumber (2 ^ 32) word.now) result }
+{
     u32::try_from(number(word)?).ok()
 }
 
 /// The index of a savepoint.
-pub fn index(word: &str) -> Option<usize> {
+pub fn index(word: &str) -> Option<usize>
+    ensures { Reads (IsNumber (2 ^ 64) word.now) result }
+{
     Some(number(word)? as usize)
 }
 
 /// A session, 1 to 999.
 pub fn session(word: &str) -> Option<SessionId>
-    ensures { IfSome result (λ id. (1 ≤ id) × (id ≤ 999)) }
+    ensures { Reads (IsSession word.now) result }
 {
     let id = short_number(word)?;
     if 1 <= id && id <= MOST_SESSIONS {
@@ -46,12 +52,16 @@ pub fn session(word: &str) -> Option<SessionId>
 }
 
 /// A store, as `0`.
-pub fn store(word: &str) -> Option<StoreId> {
+pub fn store(word: &str) -> Option<StoreId>
+    ensures { Reads (IsNumber (2 ^ 32) word.now) result }
+{
     Some(StoreId(short_number(word)?))
 }
 
 /// A granule: the volume `v`, a store, a page as `0.1`, or a record.
-pub fn granule(word: &str) -> Option<Granule> {
+pub fn granule(word: &str) -> Option<Granule>
+    ensures { Reads (IsGranule word.now) result }
+{
     if word == "v" {
         return Some(Granule::Volume);
     }
@@ -64,12 +74,16 @@ pub fn granule(word: &str) -> Option<Granule> {
     Some(Granule::Store(store(word)?))
 }
 
-fn page(word: &str) -> Option<PageId> {
+fn page(word: &str) -> Option<PageId>
+    ensures { Reads (IsPage word.now) result }
+{
     let (store_word, page_word) = word.split_once('.')?;
     page_of(store_word, page_word)
 }
 
-fn page_of(store_word: &str, page_word: &str) -> Option<PageId> {
+fn page_of(store_word: &str, page_word: &str) -> Option<PageId>
+    ensures { Reads (λ page. IsNumber (2 ^ 32) store_word.now page.store × IsNumber (2 ^ 32) page_word.now page.page) result }
+{
     Some(PageId {
         store: store(store_word)?,
         page: short_number(page_word)?,
@@ -78,8 +92,7 @@ fn page_of(store_word: &str, page_word: &str) -> Option<PageId> {
 
 /// A mode of a lock.
 pub fn mode(word: &str) -> Option<Mode>
-    ensures some { IfSome result (λ mode. word.now ≡ mode_name mode) }
-    ensures none { IfNone result ((mode : Mode) → word.now ≢ mode_name mode) }
+    ensures { Reads (λ mode. word.now ≡ mode_name mode) result }
 {
     match word {
         "IS" => Some(Mode::IS),
@@ -93,7 +106,9 @@ pub fn mode(word: &str) -> Option<Mode>
 }
 
 /// A record, as `0.1.2`.
-pub fn record(word: &str) -> Option<Rid> {
+pub fn record(word: &str) -> Option<Rid>
+    ensures { Reads (IsRecord word.now) result }
+{
     let (store_word, rest) = word.split_once('.')?;
     let (page_word, slot_word) = rest.split_once('.')?;
     let page = page_of(store_word, page_word)?;
@@ -103,7 +118,9 @@ pub fn record(word: &str) -> Option<Rid> {
 
 /// Bytes: pairs of lower-case hexadecimal digits, `HH*N` for so many times one byte, or `-` for none.
 /// `Ok(None)`: the word is none of these.
-pub fn bytes(alloc: Global, word: &str) -> Result<Option<Bytes>, AllocError> {
+pub fn bytes(alloc: Global, word: &str) -> Result<Option<Bytes>, AllocError>
+    ensures { IfOk result (Reads (SpellsBytes word.now)) }
+{
     if word == "-" {
         return Ok(Some(Sequence::new(alloc)));
     }
@@ -115,7 +132,7 @@ pub fn bytes(alloc: Global, word: &str) -> Result<Option<Bytes>, AllocError> {
 
 // A byte by its pair of digits, as often as a number says.
 fn copies(alloc: Global, pair: &str, count: &str) -> Result<Option<Bytes>, AllocError>
-    ensures { IfOk result (λ found. IfSome found (λ copies. (byte : ℕ) × (n : ℕ) × (decode_of pair.now ≡ Ok (byte ∷ [])) × (copies ≡ replicate n byte))) }
+    ensures { IfOk result (Reads (AreCopies pair.now count.now)) }
 {
     let (Some(byte), Some(count)) = (one_byte(alloc, pair)?, number(count)) else {
         return Ok(None);
@@ -128,7 +145,7 @@ fn copies(alloc: Global, pair: &str, count: &str) -> Result<Option<Bytes>, Alloc
 }
 
 fn one_byte(alloc: Global, pair: &str) -> Result<Option<u8>, AllocError>
-    ensures { IfOk result (λ found. IfSome found (λ byte. decode_of pair.now ≡ Ok (byte ∷ []))) }
+    ensures { IfOk result (Reads (IsPair pair.now)) }
 {
     Ok(match pairs(alloc, pair)? {
         Some(found) => match found.as_slice() {
@@ -141,15 +158,17 @@ fn one_byte(alloc: Global, pair: &str) -> Result<Option<u8>, AllocError>
 
 // The bytes of some pairs of lower-case digits: "aa" is the byte 0xAA. None if the word is no such text.
 fn pairs(alloc: Global, word: &str) -> Result<Option<Bytes>, AllocError>
-    ensures { IfOk result (λ found. MatchOption found ((word.now ≡ []) ⊎ HasUpper word.now ⊎ IsErr (decode_of word.now)) (λ bytes. (word.now ≢ []) × (list_any is_upper word.now ≡ false) × (decode_of word.now ≡ Ok bytes))) }
+    ensures { IfOk result (Reads (IsPairs word.now)) }
 {
     if word.is_empty() || has_upper(word.as_bytes()) {
         return Ok(None);
     }
     match hex::decode(alloc, word.as_bytes()) {
         Ok(bytes) => Ok(Some(Sequence::from_vec(bytes))),
-        Err(FromHexError::OutOfMemory) => Err(AllocError),
-        Err(_) => Ok(None),
+        Err(error) => match error {
+            FromHexError::OutOfMemory => Err(AllocError),
+            _ => Ok(None),
+        },
     }
 }
 

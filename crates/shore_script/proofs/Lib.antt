@@ -1,0 +1,7 @@
+pub mod Cuts
+pub mod Digits
+pub mod Hexes
+pub mod Names
+pub mod Spaceless
+pub mod Splits
+pub mod Starred

@@ -1,0 +1,193 @@
+-- No word of the script has a space.
+use Rattle.std.proofs.Common.{◌≡◌, ℕ, zero, suc, ◌^◌, ◌<◌, ◌≤◌, List, [], ◌∷◌, ◌++◌, length, get_or, refl, sym, subst, ◌∙◌, Option, None, Some, codes, arith}
+use Rattle.std.specs.Fmt.{decimal}
+use Rattle.shore_disk.specs.declared.memory.Pick.{Pick}
+use Rattle.shore_disk.specs.declared.memory.Pick.TheVariants as pick
+use Rattle.shore_model.specs.declared.calls.Call.{Call}
+use Rattle.shore_model.specs.declared.calls.Call.TheVariants as call
+use Rattle.shore_types.specs.declared.faults.Device.{Device}
+use Rattle.shore_types.specs.declared.faults.Device.TheVariants as device
+use Rattle.shore_types.specs.declared.ids.Rid.{Rid}
+use Rattle.shore_types.specs.declared.locking.Granule.{Granule}
+use Rattle.shore_types.specs.declared.locking.Granule.TheVariants as granule
+use Rattle.shore_types.specs.Names.{device_name}
+use Rattle.shore_script.specs.declared.command.Command.{Command}
+use Rattle.shore_script.specs.declared.command.Command.TheVariants as command
+use Rattle.shore_script.specs.Bytes.{SpellsBytes}
+use Rattle.shore_script.specs.Ids.{IsGranule, IsNumber, IsRecord}
+use Rattle.shore_script.specs.Words.{AskCall, AskCrash, AskPlain, HasOne, HasTwo, IsAlone, pick_word}
+use Rattle.shore_script.proofs.Cuts.{Lacks, Lacks-append, Lacks-cons}
+use Rattle.shore_script.proofs.Digits.{decimal-Lacks}
+use Rattle.shore_script.proofs.Names.{page_name-cut, rid_name-cut}
+
+-- three words at most, and no space in any
+abbrev pub word_at : List (List ℕ) → ℕ → List ℕ
+word_at [] i = []
+word_at (word ∷ words) zero = word
+word_at (word ∷ words) (suc i) = word_at words i
+
+pub record AreSpaceless (words : List (List ℕ)) : Type 0 where
+  pub few : length words ≤ 3
+  pub first : Lacks 32 (word_at words 0)
+  pub second : Lacks 32 (word_at words 1)
+
+alone-spaceless : (words : List (List ℕ)) (word : List ℕ) → IsAlone words word → Lacks 32 word → AreSpaceless words
+alone-spaceless [] word h lacks = absurd h
+alone-spaceless (first ∷ []) word h lacks = record { few = omega arith; first = subst (Lacks 32) (sym h) lacks; second = refl }
+alone-spaceless (first ∷ second ∷ words) word h lacks = absurd h
+
+one-spaceless : (words : List (List ℕ)) (word : List ℕ) (P : List ℕ → Type 0) → HasOne words word P → Lacks 32 word → ((w : List ℕ) → P w → Lacks 32 w) → AreSpaceless words
+one-spaceless [] word P h lacks also = absurd h
+one-spaceless (first ∷ []) word P h lacks also = absurd h
+one-spaceless (first ∷ second ∷ []) word P h lacks also = record { few = omega arith; first = subst (Lacks 32) (sym h.0) lacks; second = also second h.1 }
+one-spaceless (first ∷ second ∷ third ∷ words) word P h lacks also = absurd h
+
+two-spaceless : (words : List (List ℕ)) (word : List ℕ) (P Q : List ℕ → Type 0) → HasTwo words word P Q → Lacks 32 word → ((w : List ℕ) → P w → Lacks 32 w) → AreSpaceless words
+two-spaceless [] word P Q h lacks also = absurd h
+two-spaceless (first ∷ []) word P Q h lacks also = absurd h
+two-spaceless (first ∷ second ∷ []) word P Q h lacks also = absurd h
+two-spaceless (first ∷ second ∷ third ∷ []) word P Q h lacks also = record { few = omega arith; first = subst (Lacks 32) (sym h.0) lacks; second = also second h.1 }
+two-spaceless (first ∷ second ∷ third ∷ fourth ∷ words) word P Q h lacks also = absurd h
+
+-- ---- each kind of word
+
+number-lacks : (limit : ℕ) → limit ≤ 2 ^ 64 → (n : ℕ) (word : List ℕ) → IsNumber limit word n → Lacks 32 word
+number-lacks limit low n word h = subst (Lacks 32) (sym h.0) (decimal-Lacks 32 n (omega (arith, low, h.1)) (omega arith))
+
+short-lacks : (n : ℕ) → n < 2 ^ 32 → Lacks 32 (decimal n)
+short-lacks n small = decimal-Lacks 32 n (omega arith) (omega arith)
+
+dotted : (a b : List ℕ) → Lacks 32 a → Lacks 32 b → Lacks 32 (a ++ (46 ∷ b))
+dotted a b h k = Lacks-append 32 a (46 ∷ b) h (Lacks-cons 32 46 b (λ e. omega (arith, e)) k)
+
+record-lacks : (id : Rid) (word : List ℕ) → IsRecord word id → Lacks 32 word
+record-lacks id word h =
+    subst (Lacks 32) (sym (h.0 ∙ rid_name-cut id))
+    (dotted (decimal id.page.store) (decimal id.page.page ++ (46 ∷ decimal id.slot)) (short-lacks id.page.store h.1)
+    (dotted (decimal id.page.page) (decimal id.slot) (short-lacks id.page.page h.2) (short-lacks id.slot (omega (arith, h.3)))))
+
+granule-lacks : (g : Granule) (word : List ℕ) → IsGranule word g → Lacks 32 word
+granule-lacks granule.Volume word h = subst (Lacks 32) (sym h) refl
+granule-lacks (granule.Store store) word h = number-lacks (2 ^ 32) (omega arith) store word h
+granule-lacks (granule.Page page) word h =
+    subst (Lacks 32) (sym (h.0 ∙ page_name-cut page)) (dotted (decimal page.store) (decimal page.page) (short-lacks page.store h.1) (short-lacks page.page h.2))
+granule-lacks (granule.Record id) word h = record-lacks id word h
+
+device-lacks : (d : Device) (word : List ℕ) → word ≡ device_name d → Lacks 32 word
+device-lacks device.Log word h = subst (Lacks 32) (sym h) refl
+device-lacks device.Volume word h = subst (Lacks 32) (sym h) refl
+
+pick-lacks : (p : Pick) (word : List ℕ) → word ≡ pick_word p → Lacks 32 word
+pick-lacks pick.Old word h = subst (Lacks 32) (sym h) refl
+pick-lacks pick.New word h = subst (Lacks 32) (sym h) refl
+pick-lacks pick.Noise word h = subst (Lacks 32) (sym h) refl
+
+-- ---- all words
+
+pub AskCall-spaceless : (words : List (List ℕ)) (x : Call) → AskCall words x → AreSpaceless words
+AskCall-spaceless words call.Begin h = alone-spaceless words (codes "begin") h refl
+AskCall-spaceless words (call.Get id) h = one-spaceless words (codes "get") _ h refl (record-lacks id)
+AskCall-spaceless words (call.GetForUpdate id) h = one-spaceless words (codes "getu") _ h refl (record-lacks id)
+AskCall-spaceless words (call.Insert store bytes) h = two-spaceless words (codes "insert") _ _ h refl (number-lacks (2 ^ 32) (omega arith) store)
+AskCall-spaceless words (call.Update id bytes) h = two-spaceless words (codes "update") _ _ h refl (record-lacks id)
+AskCall-spaceless words (call.Delete id) h = one-spaceless words (codes "delete") _ h refl (record-lacks id)
+AskCall-spaceless words (call.Scan store) h = one-spaceless words (codes "scan") _ h refl (number-lacks (2 ^ 32) (omega arith) store)
+AskCall-spaceless words (call.Lock granule mode) h = two-spaceless words (codes "lock") _ _ h refl (granule-lacks granule)
+AskCall-spaceless words (call.TryLock granule mode) h = two-spaceless words (codes "try") _ _ h refl (granule-lacks granule)
+AskCall-spaceless words call.Commit h = alone-spaceless words (codes "commit") h refl
+AskCall-spaceless words call.Savepoint h = alone-spaceless words (codes "savepoint") h refl
+AskCall-spaceless words (call.BackTo index) h = one-spaceless words (codes "back") _ h refl (number-lacks (2 ^ 64) (omega arith) index)
+AskCall-spaceless words call.Abort h = alone-spaceless words (codes "abort") h refl
+AskCall-spaceless words (call.Prepare global) h = absurd h
+AskCall-spaceless words (call.Resolve global outcome) h = absurd h
+AskCall-spaceless words call.InDoubt h = absurd h
+
+AskCrash-spaceless : (words : List (List ℕ)) (p : Option Pick) → AskCrash words p → AreSpaceless words
+AskCrash-spaceless words None h = alone-spaceless words (codes "crash") h refl
+AskCrash-spaceless words (Some p) h = one-spaceless words (codes "crash") _ h refl (pick-lacks p)
+
+pub AskPlain-spaceless : (words : List (List ℕ)) (x : Command) → AskPlain words x → AreSpaceless words
+AskPlain-spaceless words (command.Ask session call) h = absurd h
+AskPlain-spaceless words command.Nothing h = absurd h
+AskPlain-spaceless words command.Force h = alone-spaceless words (codes "force") h refl
+AskPlain-spaceless words command.Flush h = alone-spaceless words (codes "flush") h refl
+AskPlain-spaceless words (command.Crash pick) h = AskCrash-spaceless words pick h
+AskPlain-spaceless words (command.Fuse fuse) h = two-spaceless words (codes "fuse") _ _ h refl (device-lacks fuse.device)
+AskPlain-spaceless words (command.NextFuse fuse) h = two-spaceless words (codes "nextfuse") _ _ h refl (device-lacks fuse.device)
+AskPlain-spaceless words command.Dump h = alone-spaceless words (codes "dump") h refl
+AskPlain-spaceless words command.Log h = alone-spaceless words (codes "log") h refl
+AskPlain-spaceless words command.Locks h = alone-spaceless words (codes "locks") h refl
+
+-- ---- the word of what is no call begins with a letter
+
+letter : (first word : List ℕ) → first ≡ word → 97 ≤ get_or word 0 0 → 97 ≤ get_or first 0 0
+letter first word e h = subst (λ (w : List ℕ). 97 ≤ get_or w 0 0) (sym e) h
+
+alone-letter : (first : List ℕ) (others : List (List ℕ)) (word : List ℕ) → IsAlone (first ∷ others) word → 97 ≤ get_or word 0 0 → 97 ≤ get_or first 0 0
+alone-letter first [] word e h = letter first word e h
+alone-letter first (second ∷ words) word e h = absurd e
+
+one-letter : (first : List ℕ) (others : List (List ℕ)) (word : List ℕ) (P : List ℕ → Type 0) → HasOne (first ∷ others) word P → 97 ≤ get_or word 0 0 → 97 ≤ get_or first 0 0
+one-letter first [] word P e h = absurd e
+one-letter first (second ∷ []) word P e h = letter first word e.0 h
+one-letter first (second ∷ third ∷ words) word P e h = absurd e
+
+two-letter : (first : List ℕ) (others : List (List ℕ)) (word : List ℕ) (P Q : List ℕ → Type 0) → HasTwo (first ∷ others) word P Q → 97 ≤ get_or word 0 0 → 97 ≤ get_or first 0 0
+two-letter first [] word P Q e h = absurd e
+two-letter first (second ∷ []) word P Q e h = absurd e
+two-letter first (second ∷ third ∷ []) word P Q e h = letter first word e.0 h
+two-letter first (second ∷ third ∷ fourth ∷ words) word P Q e h = absurd e
+
+crash-letter : (first : List ℕ) (others : List (List ℕ)) (p : Option Pick) → AskCrash (first ∷ others) p → 97 ≤ get_or first 0 0
+crash-letter first others None h = alone-letter first others (codes "crash") h (omega arith)
+crash-letter first others (Some p) h = one-letter first others (codes "crash") _ h (omega arith)
+
+pub AskPlain-letter : (first : List ℕ) (others : List (List ℕ)) (x : Command) → AskPlain (first ∷ others) x → 97 ≤ get_or first 0 0
+AskPlain-letter first others (command.Ask session call) h = absurd h
+AskPlain-letter first others command.Nothing h = absurd h
+AskPlain-letter first others command.Force h = alone-letter first others (codes "force") h (omega arith)
+AskPlain-letter first others command.Flush h = alone-letter first others (codes "flush") h (omega arith)
+AskPlain-letter first others (command.Crash pick) h = crash-letter first others pick h
+AskPlain-letter first others (command.Fuse fuse) h = two-letter first others (codes "fuse") _ _ h (omega arith)
+AskPlain-letter first others (command.NextFuse fuse) h = two-letter first others (codes "nextfuse") _ _ h (omega arith)
+AskPlain-letter first others command.Dump h = alone-letter first others (codes "dump") h (omega arith)
+AskPlain-letter first others command.Log h = alone-letter first others (codes "log") h (omega arith)
+AskPlain-letter first others command.Locks h = alone-letter first others (codes "locks") h (omega arith)
+
+-- ---- bytes that no word spells
+
+pub insert_spells : (store_word word : List ℕ) → ((bytes : List ℕ) → ¬ (SpellsBytes word bytes)) → (x : Call) → ¬ (AskCall (codes "insert" ∷ store_word ∷ word ∷ []) x)
+insert_spells s w none call.Begin h = h
+insert_spells s w none (call.Get id) h = h
+insert_spells s w none (call.GetForUpdate id) h = h
+insert_spells s w none (call.Insert store bytes) h = none bytes h.2
+insert_spells s w none (call.Update id bytes) h = none bytes h.2
+insert_spells s w none (call.Delete id) h = h
+insert_spells s w none (call.Scan store) h = h
+insert_spells s w none (call.Lock granule mode) h = cc h.0
+insert_spells s w none (call.TryLock granule mode) h = cc h.0
+insert_spells s w none call.Commit h = h
+insert_spells s w none call.Savepoint h = h
+insert_spells s w none (call.BackTo index) h = h
+insert_spells s w none call.Abort h = h
+insert_spells s w none (call.Prepare global) h = h
+insert_spells s w none (call.Resolve global outcome) h = h
+insert_spells s w none call.InDoubt h = h
+
+pub update_spells : (record_word word : List ℕ) → ((bytes : List ℕ) → ¬ (SpellsBytes word bytes)) → (x : Call) → ¬ (AskCall (codes "update" ∷ record_word ∷ word ∷ []) x)
+update_spells s w none call.Begin h = h
+update_spells s w none (call.Get id) h = h
+update_spells s w none (call.GetForUpdate id) h = h
+update_spells s w none (call.Insert store bytes) h = none bytes h.2
+update_spells s w none (call.Update id bytes) h = none bytes h.2
+update_spells s w none (call.Delete id) h = h
+update_spells s w none (call.Scan store) h = h
+update_spells s w none (call.Lock granule mode) h = cc h.0
+update_spells s w none (call.TryLock granule mode) h = cc h.0
+update_spells s w none call.Commit h = h
+update_spells s w none call.Savepoint h = h
+update_spells s w none (call.BackTo index) h = h
+update_spells s w none call.Abort h = h
+update_spells s w none (call.Prepare global) h = h
+update_spells s w none (call.Resolve global outcome) h = h
+update_spells s w none call.InDoubt h = h
