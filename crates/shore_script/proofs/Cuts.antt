@@ -71,3 +71,11 @@ empty_text (x ∷ text) h = grind (arith)
 
 pub some_text : (text : List ℕ) → eqb (length text) 0 ≡ false → text ≢ []
 some_text text h e = let none : eqb (length text) 0 ≡ true = ap (λ (l : List ℕ). eqb (length l) 0) e in cc (sym h ∙ none)
+
+pub no_length : (text : List ℕ) → length text ≡ 0 → text ≡ []
+no_length [] h = refl
+no_length (x ∷ text) h = absurd (omega (arith, h))
+
+pub has_length : (text : List ℕ) → eqb (length text) 0 ≡ false → 0 < length text
+has_length [] h = absurd (some_text [] h refl)
+has_length (x ∷ text) h = omega arith

@@ -4,4 +4,5 @@ pub mod Ids
 pub mod Limits
 pub mod Lines
 pub mod Reading
+pub mod Texts
 pub mod Words

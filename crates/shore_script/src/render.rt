@@ -1,6 +1,8 @@
 //! Answers as the script prints them.
-ghost use Rattle.std.specs.Prelude.{◌≡◌, ◌≤◌, ◌+◌, ◌^◌, ◌-◌, IfOk, length, min};
+ghost use Rattle.std.specs.Prelude.{◌≡◌, ◌≤◌, ◌+◌, ◌^◌, ◌-◌, IfOk, OnOk, length, min, slice_get};
+ghost use Rattle.std.specs.Io.KnownBytes.{Appends};
 ghost use Rattle.hex.specs.Hex.{encode_lower};
+ghost use Rattle.shore_script.specs.Texts.{answer_line, answer_text, bytes_text, fault_line, kind_text, lock_line, log_line, log_lines, open_fault_line, record_line, record_lines, some_record_line, waits_line};
 ghost use Rattle.shore_script.specs.declared.render.TheConstants.{PART};
 
 use shore_model::{Answer, LogRecord, Payload, Request};
@@ -11,7 +13,9 @@ use std::io::{self, Write};
 const PART: usize = 64;
 
 /// Writes a fault's line, of a session's call or of another line.
-pub fn fault<W: Write>(out: &mut W, session: Option<SessionId>, fault: &Fault) -> io::Result<()> {
+pub fn fault<W: Write>(out: &mut W, session: Option<SessionId>, fault: &Fault) -> io::Result<()>
+    ensures { OnOk result (Appends (W.contents out.old) (W.contents out.new) (fault_line session fault.now)) }
+{
     match session {
         Some(session) => writeln!(out, "{session}: fault {fault}"),
         None => writeln!(out, "fault {fault}"),
@@ -19,37 +23,30 @@ pub fn fault<W: Write>(out: &mut W, session: Option<SessionId>, fault: &Fault) -
 }
 
 /// Writes the line of an open that was refused.
-pub fn open_fault<W: Write>(out: &mut W, fault: &Fault) -> io::Result<()> {
+pub fn open_fault<W: Write>(out: &mut W, fault: &Fault) -> io::Result<()>
+    ensures { OnOk result (Appends (W.contents out.old) (W.contents out.new) (open_fault_line fault.now)) }
+{
     writeln!(out, "open fault {fault}")
 }
 
 /// Writes the line of a session's answer, and those of a scan's pairs.
-pub fn answer<W: Write>(out: &mut W, session: SessionId, answer: &Answer) -> io::Result<()> {
+pub fn answer<W: Write>(out: &mut W, session: SessionId, answer: &Answer) -> io::Result<()>
+    ensures { OnOk result (Appends (W.contents out.old) (W.contents out.new) (answer_line session answer.now)) }
+{
     write!(out, "{session}: ")?;
+    answer_of(out, answer)
+}
+
+fn answer_of<W: Write>(out: &mut W, answer: &Answer) -> io::Result<()>
+    ensures { OnOk result (Appends (W.contents out.old) (W.contents out.new) (answer_text answer.now)) }
+{
     match answer {
         Answer::Began(txn) => writeln!(out, "began {txn}"),
-        Answer::Got(found) => {
-            out.write_all(b"bytes ")?;
-            bytes(out, found.as_slice())?;
-            out.write_all(b"\n")
-        }
+        Answer::Got(found) => got(out, found.as_slice()),
         Answer::Inserted(id) => writeln!(out, "at {id}"),
         Answer::Scanned(pairs) => scanned(out, pairs),
-        Answer::Committed => writeln!(out, "committed"),
-        _ => other_answer(out, answer),
-    }
-}
-
-fn scanned<W: Write>(out: &mut W, pairs: &Pairs) -> io::Result<()> {
-    let count = pairs.len();
-    writeln!(out, "scan {count}")?;
-    records(out, pairs)
-}
-
-// The answers of calls that have nothing to show.
-fn other_answer<W: Write>(out: &mut W, answer: &Answer) -> io::Result<()> {
-    match answer {
         Answer::Saved(index) => writeln!(out, "savepoint {index}"),
+        Answer::Committed => writeln!(out, "committed"),
         Answer::Aborted => writeln!(out, "aborted"),
         Answer::Prepared => writeln!(out, "prepared"),
         Answer::Resolved => writeln!(out, "resolved"),
@@ -57,13 +54,33 @@ fn other_answer<W: Write>(out: &mut W, answer: &Answer) -> io::Result<()> {
     }
 }
 
+fn got<W: Write>(out: &mut W, found: &[u8]) -> io::Result<()>
+    ensures { OnOk result (Appends (W.contents out.old) (W.contents out.new) (answer_text (Answer.Got found.now))) }
+{
+    out.write_all(b"bytes ")?;
+    bytes(out, found)?;
+    out.write_all(b"\n")
+}
+
+fn scanned<W: Write>(out: &mut W, pairs: &Pairs) -> io::Result<()>
+    ensures { OnOk result (Appends (W.contents out.old) (W.contents out.new) (answer_text (Answer.Scanned pairs.now))) }
+{
+    let count = pairs.len();
+    writeln!(out, "scan {count}")?;
+    records(out, pairs)
+}
+
 /// Writes the line of a session's call that begins to wait for a lock.
-pub fn waits<W: Write>(out: &mut W, session: SessionId, granule: &Granule) -> io::Result<()> {
+pub fn waits<W: Write>(out: &mut W, session: SessionId, granule: &Granule) -> io::Result<()>
+    ensures { OnOk result (Appends (W.contents out.old) (W.contents out.new) (waits_line session granule.now)) }
+{
     writeln!(out, "{session}: waits {granule}")
 }
 
 /// Writes the line of a lock: what a transaction holds of a granule, or `-`, and what it waits for.
-pub fn lock<W: Write>(out: &mut W, request: &Request) -> io::Result<()> {
+pub fn lock<W: Write>(out: &mut W, request: &Request) -> io::Result<()>
+    ensures { OnOk result (Appends (W.contents out.old) (W.contents out.new) (lock_line request.now)) }
+{
     let (granule, txn) = (&request.granule, request.txn);
     match &request.held {
         Some(held) => write!(out, "{granule} {txn} {held}")?,
@@ -76,16 +93,27 @@ pub fn lock<W: Write>(out: &mut W, request: &Request) -> io::Result<()> {
 }
 
 /// Writes a line for each record.
-pub fn records<W: Write>(out: &mut W, pairs: &Pairs) -> io::Result<()> {
+pub fn records<W: Write>(out: &mut W, pairs: &Pairs) -> io::Result<()>
+    ensures { OnOk result (Appends (W.contents out.old) (W.contents out.new) (record_lines pairs.now)) }
+{
     for index in 0..pairs.len() {
-        if let Some((id, found)) = pairs.get(index) {
-            record(out, id, found)?;
-        }
+        record_at(out, pairs, index)?;
     }
     Ok(())
 }
 
-fn record<W: Write>(out: &mut W, id: Rid, found: &[u8]) -> io::Result<()> {
+fn record_at<W: Write>(out: &mut W, pairs: &Pairs, index: usize) -> io::Result<()>
+    ensures { OnOk result (Appends (W.contents out.old) (W.contents out.new) (some_record_line (slice_get pairs.now index))) }
+{
+    match pairs.get(index) {
+        Some((id, found)) => record(out, id, found),
+        None => Ok(()),
+    }
+}
+
+fn record<W: Write>(out: &mut W, id: Rid, found: &[u8]) -> io::Result<()>
+    ensures { OnOk result (Appends (W.contents out.old) (W.contents out.new) (record_line id found.now)) }
+{
     write!(out, "{id} ")?;
     bytes(out, found)?;
     out.write_all(b"\n")
@@ -93,7 +121,8 @@ fn record<W: Write>(out: &mut W, id: Rid, found: &[u8]) -> io::Result<()> {
 
 /// Writes a line for each of these records of the log, of which the first has this number. Answers the number behind the last.
 pub fn log_records<W: Write>(out: &mut W, first: u64, records: &[LogRecord]) -> io::Result<u64>
-    ensures { IfOk result (λ behind. behind ≡ min (first + length records.now) (2 ^ 64 - 1)) }
+    ensures behind { IfOk result (λ behind. behind ≡ min (first + length records.now) (2 ^ 64 - 1)) }
+    ensures lines { OnOk result (Appends (W.contents out.old) (W.contents out.new) (log_lines first records.now)) }
 {
     let mut number = first;
     for record in records {
@@ -103,18 +132,22 @@ pub fn log_records<W: Write>(out: &mut W, first: u64, records: &[LogRecord]) -> 
     Ok(first.saturating_add(records.len() as u64))
 }
 
-fn log_record<W: Write>(out: &mut W, number: u64, record: &LogRecord) -> io::Result<()> {
-    let kind = kind_name(&record.payload);
-    let txn = record.txn;
-    let previous = record.previous;
+fn log_record<W: Write>(out: &mut W, number: u64, logged: &LogRecord) -> io::Result<()>
+    ensures { OnOk result (Appends (W.contents out.old) (W.contents out.new) (log_line number logged.now)) }
+{
+    let kind = kind_name(&logged.payload);
+    let txn = logged.txn;
+    let previous = logged.previous;
     write!(out, "{number} {kind} {txn} {previous}")?;
-    if let Payload::Compensation { undo_next, .. } = &record.payload {
+    if let Payload::Compensation { undo_next, .. } = &logged.payload {
         write!(out, " next {undo_next}")?;
     }
     out.write_all(b"\n")
 }
 
-fn kind_name(payload: &Payload) -> &'static str {
+fn kind_name(payload: &Payload) -> &'static str
+    ensures { result.now ≡ kind_text payload.now }
+{
     match payload {
         Payload::Change { .. } => "Change",
         Payload::Compensation { .. } => "Compensation",
@@ -129,7 +162,9 @@ fn kind_name(payload: &Payload) -> &'static str {
 }
 
 // Pairs of hexadecimal digits, or `-` if there is no byte.
-fn bytes<W: Write>(out: &mut W, found: &[u8]) -> io::Result<()> {
+fn bytes<W: Write>(out: &mut W, found: &[u8]) -> io::Result<()>
+    ensures { OnOk result (Appends (W.contents out.old) (W.contents out.new) (bytes_text found.now)) }
+{
     if found.is_empty() {
         return out.write_all(b"-");
     }
