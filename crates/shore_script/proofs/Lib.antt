@@ -6,3 +6,4 @@ pub mod Printing
 pub mod Spaceless
 pub mod Splits
 pub mod Starred
+pub mod Values

@@ -1,6 +1,8 @@
 pub mod Bytes
 pub mod Commands
 pub mod Ids
+pub mod Input
+pub mod Keys
 pub mod Limits
 pub mod Lines
 pub mod Reading

@@ -1,6 +1,11 @@
 //! The settings, read from a TOML text.
-ghost use Rattle.std.specs.Prelude.{◌≤◌, IfOk};
+ghost use Rattle.std.specs.Prelude.{◌≡◌, ◌≤◌, ◌∷◌, [], IfOk, IfSome, option_map};
+ghost use Rattle.std.specs.Bool.{MatchBool};
+ghost use Rattle.toml.specs.Data.{boolean, string};
+ghost use Rattle.toml.specs.View.{table_view, view};
 ghost use Rattle.shore_types.specs.Layout.{IsInLimits};
+ghost use Rattle.shore_types.specs.declared.config.Setting.TheVariants as setting;
+ghost use Rattle.shore_script.specs.Keys.{AreDevices, AreSettingsOf, AreStores, AreWritten, IsFlagOr, IsNumberOr, IsPath, NamesFiles, NamesMemory, whole, written};
 ghost use Rattle.shore_script.specs.Limits.{AreInLimits, IsFrameCount};
 
 use shore_types::layout::{MAX_LOG_BYTES, MAX_POOL_FRAMES, MIN_LOG_BYTES, MIN_POOL_FRAMES};
@@ -57,7 +62,8 @@ fn refused(setting: Setting) -> Fault {
 /// The settings of a TOML text. Each key has a default. Refused by `BadConfig`: a text that is no TOML; then the least unknown key
 /// by bytes; then the first key, in the order of the settings, with a wrong value. `Memory` if an allocation failed.
 pub fn read_settings(alloc: Global, text: &str) -> Result<Settings, Fault>
-    ensures { IfOk result AreInLimits }
+    ensures limits { IfOk result AreInLimits }
+    ensures written { IfOk result (AreSettingsOf text.now) }
 {
     let table = match toml::table_from_str(alloc, text) {
         Ok(table) => table,
@@ -69,7 +75,8 @@ pub fn read_settings(alloc: Global, text: &str) -> Result<Settings, Fault>
 }
 
 fn settings_of(alloc: Global, table: &Table) -> Result<Settings, Fault>
-    ensures { IfOk result AreInLimits }
+    ensures limits { IfOk result AreInLimits }
+    ensures written { IfOk result (AreWritten (table_view table.now)) }
 {
     let devices = devices_of(alloc, table)?;
     let pair = number_or(table, Setting::Pair, DEFAULT_PAIR)?;
@@ -88,7 +95,10 @@ fn settings_of(alloc: Global, table: &Table) -> Result<Settings, Fault>
 }
 
 fn geometry_of(alloc: Global, table: &Table, pair: u64) -> Result<Geometry, Fault>
-    ensures { IfOk result IsInLimits }
+    ensures limits { IfOk result IsInLimits }
+    ensures pair { IfOk result (λ geometry. geometry.pair ≡ pair) }
+    ensures stores { IfOk result (λ geometry. AreStores (written (table_view table.now) setting.Stores) geometry.stores) }
+    ensures max_locks { IfOk result (λ geometry. IsNumberOr DEFAULT_MAX_LOCKS (written (table_view table.now) setting.MaxLocks) geometry.max_locks) }
 {
     let max_locks = short_number_or(table, Setting::MaxLocks, DEFAULT_MAX_LOCKS);
     let geometry = Geometry {
@@ -103,7 +113,8 @@ fn geometry_of(alloc: Global, table: &Table, pair: u64) -> Result<Geometry, Faul
 }
 
 fn pool_of(table: &Table) -> Result<u32, Fault>
-    ensures { IfOk result IsFrameCount }
+    ensures limits { IfOk result IsFrameCount }
+    ensures written { IfOk result (IsNumberOr DEFAULT_POOL_FRAMES (written (table_view table.now) setting.Pool)) }
 {
     let frames = short_number_or(table, Setting::Pool, DEFAULT_POOL_FRAMES).unwrap_or(0);
     if (frames as usize) < MIN_POOL_FRAMES || frames as usize > MAX_POOL_FRAMES {
@@ -135,12 +146,16 @@ fn refuse_unknown(alloc: Global, table: &Table) -> Result<(), Fault> {
     Ok(())
 }
 
-fn value_of<'a>(table: &'a Table, setting: Setting) -> Option<&'a Value> {
+fn value_of<'a>(table: &'a Table, setting: Setting) -> Option<&'a Value>
+    ensures { option_map (λ value. view value.now) result ≡ written (table_view table.now) setting }
+{
     table.get(setting.key())
 }
 
 // Devices in memory don't use the keys of files, but these are checked.
-fn devices_of(alloc: Global, table: &Table) -> Result<Devices, Fault> {
+fn devices_of(alloc: Global, table: &Table) -> Result<Devices, Fault>
+    ensures { IfOk result (AreDevices (table_view table.now)) }
+{
     let in_files = are_files(table)?;
     let is_made_anew = flag_or(table, Setting::Format, true)?;
     if in_files {
@@ -157,10 +172,12 @@ fn devices_of(alloc: Global, table: &Table) -> Result<Devices, Fault> {
     Ok(Devices::Memory)
 }
 
-fn are_files(table: &Table) -> Result<bool, Fault> {
+fn are_files(table: &Table) -> Result<bool, Fault>
+    ensures { IfOk result (λ files. MatchBool files (NamesFiles (written (table_view table.now) setting.Devices)) (NamesMemory (written (table_view table.now) setting.Devices))) }
+{
     match value_of(table, Setting::Devices) {
         None => Ok(false),
-        Some(value) => match value.as_str() {
+        Some(value) => match text_in(value) {
             Some("memory") => Ok(false),
             Some("files") => Ok(true),
             _ => Err(refused(Setting::Devices)),
@@ -168,18 +185,37 @@ fn are_files(table: &Table) -> Result<bool, Fault> {
     }
 }
 
-fn flag_or(table: &Table, setting: Setting, default: bool) -> Result<bool, Fault> {
+fn flag_or(table: &Table, setting: Setting, default: bool) -> Result<bool, Fault>
+    ensures { IfOk result (IsFlagOr default (written (table_view table.now) setting)) }
+{
     match value_of(table, setting) {
         None => Ok(default),
-        Some(value) => value.as_bool().ok_or(refused(setting)),
+        Some(value) => flag_in(value).ok_or(refused(setting)),
     }
 }
 
-fn path_of(alloc: Global, table: &Table, setting: Setting) -> Result<Text, Fault> {
-    match value_of(table, setting).and_then(|value| value.as_str()) {
-        Some(path) => Ok(Text::of(String::from_str(alloc, path)?)),
+fn flag_in(value: &Value) -> Option<bool>
+    ensures { IfSome result (λ flag. view value.now ≡ boolean flag) }
+{
+    value.as_bool()
+}
+
+fn path_of(alloc: Global, table: &Table, setting: Setting) -> Result<Text, Fault>
+    ensures { IfOk result (IsPath (written (table_view table.now) setting)) }
+{
+    match value_of(table, setting) {
+        Some(value) => match text_in(value) {
+            Some(path) => Ok(Text::of(String::from_str(alloc, path)?)),
+            None => Err(refused(setting)),
+        },
         None => Err(refused(setting)),
     }
+}
+
+fn text_in(value: &Value) -> Option<&str>
+    ensures { IfSome result (λ text. view value.now ≡ string text.now) }
+{
+    value.as_str()
 }
 
 // A path that is not used, and may be missing.
@@ -191,42 +227,58 @@ fn check_path(table: &Table, setting: Setting) -> Result<(), Fault> {
 }
 
 // A whole number from 0.
-fn number_in(value: &Value) -> Option<u64> {
+fn number_in(value: &Value) -> Option<u64>
+    ensures { IfSome result (λ n. view value.now ≡ whole n) }
+{
     u64::try_from(value.as_integer()?).ok()
 }
 
-fn number_or(table: &Table, setting: Setting, default: u64) -> Result<u64, Fault> {
+fn number_or(table: &Table, setting: Setting, default: u64) -> Result<u64, Fault>
+    ensures { IfOk result (IsNumberOr default (written (table_view table.now) setting)) }
+{
     match value_of(table, setting) {
         None => Ok(default),
         Some(value) => number_in(value).ok_or(refused(setting)),
     }
 }
 
-fn short_number_or(table: &Table, setting: Setting, default: u32) -> Option<u32> {
+fn short_number_or(table: &Table, setting: Setting, default: u32) -> Option<u32>
+    ensures { IfSome result (IsNumberOr default (written (table_view table.now) setting)) }
+{
     match value_of(table, setting) {
         None => Some(default),
-        Some(value) => u32::try_from(number_in(value)?).ok(),
+        Some(value) => short_number_in(value),
     }
 }
 
-fn stores_of(alloc: Global, table: &Table) -> Result<Sequence<u32>, Fault> {
+fn short_number_in(value: &Value) -> Option<u32>
+    ensures { IfSome result (λ n. view value.now ≡ whole n) }
+{
+    u32::try_from(number_in(value)?).ok()
+}
+
+fn stores_of(alloc: Global, table: &Table) -> Result<Sequence<u32>, Fault>
+    ensures { IfOk result (AreStores (written (table_view table.now) setting.Stores)) }
+{
     let Some(value) = value_of(table, Setting::Stores) else {
-        return one_store(alloc).map_err(|_| Fault::Memory);
+        return Ok(one_store(alloc)?);
     };
     let Some(counts) = value.as_array() else {
         return Err(refused(Setting::Stores));
     };
     let mut stores = Sequence::new(alloc);
     for count in counts {
-        match number_in(count).and_then(|pages| u32::try_from(pages).ok()) {
-            Some(pages) => stores.push(pages).map_err(|_| Fault::Memory)?,
+        match short_number_in(count) {
+            Some(pages) => stores.push(pages)?,
             None => return Err(refused(Setting::Stores)),
         }
     }
     Ok(stores)
 }
 
-fn one_store(alloc: Global) -> Result<Sequence<u32>, AllocError> {
+fn one_store(alloc: Global) -> Result<Sequence<u32>, AllocError>
+    ensures { IfOk result (λ stores. stores ≡ DEFAULT_STORE_PAGES ∷ []) }
+{
     let mut stores = Sequence::new(alloc);
     stores.push(DEFAULT_STORE_PAGES)?;
     Ok(stores)
