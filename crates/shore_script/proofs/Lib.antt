@@ -1,5 +1,6 @@
 pub mod Cuts
 pub mod Digits
+pub mod Ends
 pub mod Hexes
 pub mod Names
 pub mod Printing

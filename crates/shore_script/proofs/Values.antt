@@ -1,7 +1,7 @@
 -- Values of a TOML text, by what is read of them.
-use Rattle.std.proofs.Common.{◌≡◌, ℕ, zero, suc, ◌<◌, pos, ℤ, Bool, List, [], ◌∷◌, ◌++◌, map, length, take, get_or, refl, sym, ap, subst, ◌∙◌, Option, None, Some, unwrap_or, arith}
+use Rattle.std.proofs.Common.{◌≡◌, ℕ, suc, ◌<◌, List, [], ◌∷◌, ◌++◌, map, length, take, get_or, refl, sym, ap, ◌∙◌, Option, Some, unwrap_or}
 use Rattle.std.proofs.Math.Seq.{take-suc}
-use Rattle.toml.specs.Data.{Data, Items, array, as_array, as_bool, as_integer, as_str, boolean, datetime, float, integer, item, push_item, string, table}
+use Rattle.toml.specs.Data.{Data, Items, array, as_array, boolean, datetime, float, integer, item, push_item, string, table}
 use Rattle.toml.specs.View.{items_of, items_view, view}
 use Rattle.toml.specs.declared.value.Value.{Value}
 use Rattle.shore_script.specs.Keys.{whole}

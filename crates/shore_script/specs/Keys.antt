@@ -1,5 +1,5 @@
 -- What the keys of the settings give.
-use Rattle.std.specs.Prelude.{◌≡◌, ℕ, pos, Bool, true, false, List, [], ◌∷◌, map, Option, None, Some, codes}
+use Rattle.std.specs.Prelude.{◌≡◌, ℕ, pos, Bool, true, List, [], ◌∷◌, map, Option, None, Some, codes}
 use Rattle.toml.specs.Data.{Data, Members, array, boolean, get_member, integer, string}
 use Rattle.toml.specs.Parse.{parse_document}
 use Rattle.toml.specs.View.{items_of}

@@ -1,6 +1,10 @@
 //! The input, line by line through a buffer of bounded size.
+ghost use Rattle.std.specs.Prelude.{◌≡◌, ◌≢◌, [], IfOk, IfSome, MatchOption};
+ghost use Rattle.std.specs.Io.BufRead.{strip_last};
+ghost use Rattle.shore_script.specs.Input.{bytes_left, first_line};
+
 use std::alloc::Global;
-use std::io::{self, BufRead, BufReader, Read};
+use std::io::{self, BufRead, BufReader, Read, Take};
 
 /// The most bytes of a script line, without its end.
 pub const MAX_LINE_BYTES: usize = 65_536;
@@ -11,8 +15,8 @@ const BORDER: &[u8] = b"---";
 /// An input, and the line that was read last.
 #[derive(Drop)]
 pub struct Lines<R> {
-    // The input, from the byte after that line on.
-    input: BufReader<R>,
+    // The input, from the byte after that line on. Its limit is set before each line.
+    input: Take<BufReader<R>>,
     // The line that was read last, without its end.
     line: Vec<u8>,
 }
@@ -20,7 +24,7 @@ pub struct Lines<R> {
 impl<R: Read + Drop> Lines<R> {
     pub fn new(alloc: Global, input: R) -> io::Result<Lines<R>> {
         let line = Vec::with_capacity(alloc, MAX_LINE_BYTES + 1)?;
-        let input = BufReader::new(alloc, input)?;
+        let input = BufReader::new(alloc, input)?.take(0);
         Ok(Lines { input, line })
     }
 
@@ -29,6 +33,7 @@ impl<R: Read + Drop> Lines<R> {
         let mut text = Vec::new(alloc);
         for _ in 0..u64::MAX {
             let before = text.len();
+            self.input.set_limit(u64::MAX);
             if self.input.read_until(b'\n', &mut text)? == 0 {
                 return Ok(None);
             }
@@ -44,10 +49,12 @@ impl<R: Read + Drop> Lines<R> {
 
     /// The next line, without its end; nothing behind the last. Of a line that has more than `MAX_LINE_BYTES` only so many bytes and one
     /// are read.
-    pub fn next_line(&mut self) -> io::Result<Option<&[u8]>> {
+    pub fn next_line(&mut self) -> io::Result<Option<&[u8]>>
+        ensures { IfOk result (λ found. IfSome (bytes_left R.remaining self.old) (λ left. MatchOption found (left ≡ []) (λ line. (left ≢ []) × (line.now ≡ first_line left)))) }
+    {
         self.line.clear();
-        let mut input = self.input.by_ref().take(MAX_LINE_BYTES as u64 + 1);
-        if input.read_until(b'\n', &mut self.line)? == 0 {
+        self.input.set_limit(MAX_LINE_BYTES as u64 + 1);
+        if self.input.read_until(b'\n', &mut self.line)? == 0 {
             return Ok(None);
         }
         Ok(Some(without_end(&self.line)))
@@ -55,11 +62,13 @@ impl<R: Read + Drop> Lines<R> {
 
     /// The next line is in memory, to its end: it is read without a wait.
     pub fn has_next_ready(&self) -> bool {
-        self.input.buffer().contains(&b'\n')
+        self.input.get_ref().buffer().contains(&b'\n')
     }
 }
 
-fn without_end(line: &[u8]) -> &[u8] {
+fn without_end(line: &[u8]) -> &[u8]
+    ensures { result.now ≡ strip_last 10 line.now }
+{
     match line {
         [line @ .., b'\n'] => line,
         line => line,

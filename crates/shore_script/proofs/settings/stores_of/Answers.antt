@@ -1,4 +1,4 @@
-use Rattle.std.proofs.Common.{◌≡◌, ℕ, suc, ◌+◌, List, map, take, sym, ap, subst, ◌∙◌, add-one, Option, Some}
+use Rattle.std.proofs.Common.{◌≡◌, ℕ, List, map, take, sym, ap, subst, ◌∙◌, add-one, Option}
 use Rattle.std.proofs.Math.Seq.{take_all}
 use Rattle.toml.specs.Data.{Data, array}
 use Rattle.toml.specs.View.{array_view, items_of, items_view, view}
