@@ -3,6 +3,7 @@ pub mod Digits
 pub mod Ends
 pub mod Hexes
 pub mod Names
+pub mod OneValue
 pub mod Printing
 pub mod Spaceless
 pub mod Splits

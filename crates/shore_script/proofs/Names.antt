@@ -18,7 +18,7 @@ rid_name-cut r =
     ∙ ap (λ (l : List ℕ). l ++ (46 ∷ decimal r.slot)) (page_name-cut r.page)
     ∙ append_assoc (decimal r.page.store) (46 ∷ decimal r.page.page) (46 ∷ decimal r.slot)
 
-dot_free : (n : ℕ) → n < 2 ^ 32 → Lacks 46 (decimal n)
+pub dot_free : (n : ℕ) → n < 2 ^ 32 → Lacks 46 (decimal n)
 dot_free n small = decimal-Lacks 46 n (omega arith) (omega arith)
 
 -- no page is named without a dot, and no record

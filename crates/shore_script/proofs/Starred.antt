@@ -13,7 +13,7 @@ pub one_is_bytes : (byte : ℕ) → byte < 256 → IsBytes (byte ∷ [])
 one_is_bytes byte small zero = small
 one_is_bytes byte small (suc i) = omega arith
 
-pair-lacks : (pair : List ℕ) (byte : ℕ) → IsPair pair byte → Lacks 42 pair
+pub pair-lacks : (pair : List ℕ) (byte : ℕ) → IsPair pair byte → Lacks 42 pair
 pair-lacks pair byte h = subst (Lacks 42) (sym h.0) (encoded-lacks 42 (omega arith) (byte ∷ []) (one_is_bytes byte h.1))
 
 pub starred_reads : (word pair count : List ℕ) → word ≡ pair ++ (42 ∷ count) → Lacks 42 pair → word ≢ codes "-" → (found : Option (List ℕ))

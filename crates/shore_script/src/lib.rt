@@ -4,6 +4,7 @@
 
 mod command;
 mod fuses;
+pub mod laws;
 mod lines;
 pub mod render;
 mod settings;
