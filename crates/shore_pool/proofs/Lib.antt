@@ -7,3 +7,4 @@ pub mod Moments
 pub mod Same
 pub mod Steps
 pub mod Choices
+pub mod Freeing

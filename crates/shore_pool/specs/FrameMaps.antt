@@ -1,5 +1,5 @@
 -- The frames of a pool as a map from the numbers of pages.
-use Rattle.std.specs.Prelude.{◌≡◌, ◌≢◌, ◌<◌, ◌≤◌, ℕ, List, Option, None, Some, Contains, IsSomeAnd, length}
+use Rattle.std.specs.Prelude.{◌≡◌, ◌≢◌, ◌<◌, ◌≤◌, ℕ, List, Option, None, Some, Contains, IsSomeAnd, length, unwrap_or}
 use Rattle.shore_model.specs.declared.log_records.DirtyPage.{DirtyPage}
 use Rattle.slab.specs.Slab.{get, slab_len}
 use Rattle.shore_pool.specs.declared.frame.Frame.{Frame}
@@ -57,6 +57,22 @@ IsNotDue frames durable key = (f : Frame) → get frames.slots key ≡ Some f �
 -- .. nor has one of the pages from a number up to another
 abbrev pub NoneDueIn : Frames → ℕ → ℕ → ℕ → Type 0
 NoneDueIn frames durable from to = (k : ℕ) (f : Frame) → frame_at frames k ≡ Some f → from ≤ k → k < to → IsDue durable f → ⊥
+
+-- the recovery number of a dirty page
+abbrev pub recovery_of : Frame → ℕ
+recovery_of f = unwrap_or f.recovery 0
+
+-- no page that is due was changed before that of this frame, since each was clean
+abbrev pub IsChangedFirst : Frames → ℕ → Frame → Type 0
+IsChangedFirst frames durable first = (k : ℕ) (f : Frame) → frame_at frames k ≡ Some f → IsDue durable f → recovery_of first ≤ recovery_of f
+
+-- .. nor was that of a key before this number
+abbrev pub IsNotBefore : Frames → ℕ → ℕ → ℕ → Type 0
+IsNotBefore frames durable recovery key = (f : Frame) → get frames.slots key ≡ Some f → IsDue durable f → recovery ≤ recovery_of f
+
+-- the frame of a key has this recovery number
+abbrev pub HasRecovery : Frames → ℕ → ℕ → Type 0
+HasRecovery frames key recovery = (f : Frame) → get frames.slots key ≡ Some f → f.recovery ≡ Some recovery
 
 -- the frame of a key is that of this page
 abbrev pub IsOfNumber : Frames → ℕ → ℕ → Type 0

@@ -14,6 +14,7 @@ use Rattle.shore_pool.specs.declared.frame.Frame.{Frame}
 use Rattle.shore_pool.specs.declared.pool.Pool.{Pool}
 use Rattle.shore_pool.specs.Changes.{settled}
 use Rattle.shore_pool.specs.FrameMaps as frames
+use Rattle.shore_pool.specs.FrameMaps.{AllDirty, IsChangedFirst, IsDue}
 use Rattle.shore_pool.specs.Pages.{AreWritten, IsPage, MayBeLeft, SamePages}
 
 abbrev pub geometry_of : {D : Type 0} {G : Ghosts D} → Pool D G → Geometry
@@ -83,3 +84,15 @@ StaysOrGoes at now = (now ≡ at) ⊎ (now ≡ option_map settled at) ⊎ (now �
 -- so does each
 abbrev pub StayOrGo : {D : Type 0} {G : Ghosts D} → Pool D G → Pool D G → Type 0
 StayOrGo old new = (k : ℕ) → StaysOrGoes (frame_at old k) (frame_at new k)
+
+-- A frame may be freed: it is clean; or none is clean, and of the pages with numbers up to this one its own was changed first.
+abbrev pub MayBeFreed : {D : Type 0} {G : Ghosts D} → Pool D G → ℕ → Frame → Type 0
+MayBeFreed pool durable f = (f.recovery ≡ None) ⊎ (AllDirty pool.frames × IsDue durable f × IsChangedFirst pool.frames durable f)
+
+-- each frame that went was one of these
+abbrev pub FreesInOrder : {D : Type 0} {G : Ghosts D} → Pool D G → Pool D G → ℕ → Type 0
+FreesInOrder old new durable = (k : ℕ) (f : Frame) → frame_at old k ≡ Some f → frame_at new k ≡ None → MayBeFreed old durable f
+
+-- the volume was written only if no frame was clean
+abbrev pub WritesIfAllDirty : {D : Type 0} {G : Ghosts D} → Pool D G → Pool D G → Type 0
+WritesIfAllDirty old new = (history_of new ≡ history_of old) ⊎ AllDirty old.frames

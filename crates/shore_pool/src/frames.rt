@@ -45,7 +45,9 @@ struct Due {
 }
 
 fn older(oldest: Option<Due>, due: Due) -> Due
-    ensures { (result ≡ due) ⊎ (oldest ≡ Some result) }
+    ensures one { (result ≡ due) ⊎ (oldest ≡ Some result) }
+    ensures first { result.recovery ≤ due.recovery }
+    ensures still { IfSome oldest (λ other. result.recovery ≤ other.recovery) }
 {
     match oldest {
         Some(other) => {
@@ -60,7 +62,7 @@ fn older(oldest: Option<Due>, due: Due) -> Due
 }
 
 impl Frames {
-    ghost use Rattle.shore_pool.specs.FrameMaps.{HasDirty, HasDirtyAt, IsDirtyPage, frame_at, count_of, limit_of, pages_of, key_of, AllDirty, IsDue, IsNotClean, IsNotDue, IsOfNumber, KeepsShape, NoneDue, NoneDueIn, SameFrames};
+    ghost use Rattle.shore_pool.specs.FrameMaps.{HasDirty, HasDirtyAt, IsDirtyPage, frame_at, count_of, limit_of, pages_of, key_of, AllDirty, HasRecovery, IsChangedFirst, IsDue, IsNotClean, IsNotDue, IsOfNumber, KeepsShape, NoneDue, NoneDueIn, SameFrames};
 
     /// No frames, with the memory for as many as the limit, of a volume of so many pages.
     pub fn new(alloc: Global, pages: usize, limit: usize) -> Result<Frames, AllocError>
@@ -260,6 +262,7 @@ impl Frames {
     /// The dirty page that was changed first since it was clean, of those with numbers up to this one.
     pub fn oldest_due(&self, durable: Lsn) -> Option<u32>
         ensures due { IfSome result (λ k. IsSomeAnd (frame_at self.now k) (IsDue durable)) }
+        ensures first { IfSome result (λ k. IsSomeAnd (frame_at self.now k) (IsChangedFirst self.now durable)) }
         ensures none { IfNone result (NoneDue self.now durable) }
     {
         let mut oldest = None;
@@ -304,6 +307,8 @@ impl Frames {
     fn due_at(&self, key: usize, durable: Lsn) -> Option<Due>
         ensures due { IfSome result (λ due. IsSomeAnd (frame_at self.now due.number) (IsDue durable)) }
         ensures number { IfSome result (λ due. IsOfNumber self.now key due.number) }
+        ensures there { IfSome result (λ due. IsSomeAnd (frame_at self.now due.number) (λ f. f.recovery ≡ Some due.recovery)) }
+        ensures recovery { IfSome result (λ due. HasRecovery self.now key due.recovery) }
         ensures none { IfNone result (IsNotDue self.now durable key) }
     {
         let frame = self.slots.get(key)?;

@@ -58,7 +58,7 @@ pub struct Pool<D: Disk> {
 
 impl<D: Disk> Pool<D> {
     ghost use Rattle.shore_pool.specs.Batches.{AreDue, AreFirstFrom};
-    ghost use Rattle.shore_pool.specs.Pools.{HasInPlace, PoolHolds, LeavesPages, NeedsForce, StayOrGo, StaysOrGoes, WroteBack, count_of, device_of, faults_of, frame_at, frame_of, geometry_of, history_of, honesty_of, limit_of};
+    ghost use Rattle.shore_pool.specs.Pools.{FreesInOrder, HasInPlace, PoolHolds, LeavesPages, NeedsForce, StayOrGo, StaysOrGoes, WritesIfAllDirty, WroteBack, count_of, device_of, faults_of, frame_at, frame_of, geometry_of, history_of, honesty_of, limit_of};
 
     /// A pool of so many frames, with all its memory but that of pages. The device is handed back if an allocation failed.
     pub fn new(alloc: Global, device: PageDev<D>, frames: usize) -> Result<Pool<D>, PageDev<D>>
@@ -131,6 +131,11 @@ impl<D: Disk> Pool<D> {
         ensures unmoved { (front : List ℕ) (disk : ℕ → List ℕ) → PoolHolds self.old front disk
             → IfErr result (λ fault. (number : ℕ) → fault ≡ Fault.NeedForce number → (k : ℕ) → frame_at self.new k ≡ frame_at self.old k) }
 
+        // A frame goes, or changes, only if all are taken: a clean one before a dirty one, and the page that was changed first before other dirty ones.
+        ensures needed { count_of self.old < limit_of self.old → (k : ℕ) (f : Frame) → frame_at self.old k ≡ Some f → frame_at self.new k ≡ Some f }
+        ensures in_order { FreesInOrder self.old self.new ends.now.durable }
+        ensures writes { (front : List ℕ) (disk : ℕ → List ℕ) → PoolHolds self.old front disk → WritesIfAllDirty self.old self.new }
+
         // A crash at any moment of the call leaves pages that are old, or those of their frames with durable numbers.
         ensures any_moment { (front : List ℕ) (disk : ℕ → List ℕ) → PoolHolds self.old front disk
             → LeavesOnly (history_of self.old) (history_of self.new) (LeavesPages self.old ends.now.durable front disk) }
@@ -163,6 +168,9 @@ impl<D: Disk> Pool<D> {
         ensures refused { IfErr result (λ fault. (fault ≡ Fault.Device) ⊎ (fault ≡ Fault.Memory)
             ⊎ ((number : ℕ) × (fault ≡ Fault.NeedForce number) × NeedsForce self.old durable number)) }
         ensures unmoved { IfErr result (λ fault. (number : ℕ) → fault ≡ Fault.NeedForce number → (k : ℕ) → frame_at self.new k ≡ frame_at self.old k) }
+        ensures in_order { FreesInOrder self.old self.new durable }
+        ensures writes { WritesIfAllDirty self.old self.new }
+        ensures needed { count_of self.old < limit_of self.old → (k : ℕ) → frame_at self.new k ≡ frame_at self.old k }
         ensures any_moment { (front : List ℕ) (disk : ℕ → List ℕ) → PoolHolds self.old front disk
             → LeavesOnly (history_of self.old) (history_of self.new) (LeavesPages self.old durable front disk) }
         ensures honest { honesty_of self.new ≡ honesty_of self.old }
@@ -306,6 +314,10 @@ impl<D: Disk> Pool<D> {
             ⊎ ((number : ℕ) × (fault ≡ Fault.NeedForce number) × NeedsForce self.old durable number)) }
         ensures unmoved { IfErr result (λ fault. (number : ℕ) → fault ≡ Fault.NeedForce number → (k : ℕ) → frame_at self.new k ≡ frame_at self.old k) }
 
+        // A clean frame goes before a dirty one, and the page that was changed first before other dirty ones.
+        ensures in_order { FreesInOrder self.old self.new durable }
+        ensures writes { WritesIfAllDirty self.old self.new }
+
         // A crash at any moment of the call leaves pages that are old, or those of their frames with durable numbers.
         ensures any_moment { (front : List ℕ) (disk : ℕ → List ℕ) → PoolHolds self.old front disk
             → LeavesOnly (history_of self.old) (history_of self.new) (LeavesPages self.old durable front disk) }
@@ -332,6 +344,7 @@ impl<D: Disk> Pool<D> {
         ensures refused { maps.AllDirty self.old.frames → IfErr result (λ fault. (fault ≡ Fault.Device) ⊎ (fault ≡ Fault.Memory)
             ⊎ ((number : ℕ) × (fault ≡ Fault.NeedForce number) × NeedsForce self.old durable number)) }
         ensures unmoved { IfErr result (λ fault. (number : ℕ) → fault ≡ Fault.NeedForce number → (k : ℕ) → frame_at self.new k ≡ frame_at self.old k) }
+        ensures oldest { maps.AllDirty self.old.frames → FreesInOrder self.old self.new durable }
         ensures any_moment { (front : List ℕ) (disk : ℕ → List ℕ) → PoolHolds self.old front disk
             → LeavesOnly (history_of self.old) (history_of self.new) (LeavesPages self.old durable front disk) }
         ensures honest { honesty_of self.new ≡ honesty_of self.old }

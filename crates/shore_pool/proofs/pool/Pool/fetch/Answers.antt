@@ -1,4 +1,4 @@
-use Rattle.std.proofs.Common.{◌≡◌, ℕ, List, Option, None, inl, inr, sym, ap, subst, ◌∙◌}
+use Rattle.std.proofs.Common.{◌≡◌, ◌⊎◌, ℕ, List, Option, None, inl, inr, sym, ap, subst, ◌∙◌}
 use Rattle.shore_disk.specs.Device.{History, LeavesOnly}
 use Rattle.shore_types.specs.declared.faults.Device.TheVariants as Device
 use Rattle.shore_types.specs.declared.faults.Fault.{Fault}
@@ -10,6 +10,7 @@ use Rattle.shore_pool.specs.declared.frame.Frame.{Frame}
 use Rattle.shore_pool.specs.FrameMaps as maps
 use Rattle.shore_pool.specs.Pages.{AreInOrder, AreWritten}
 use Rattle.shore_pool.specs.Pools.{LeavesPages, WroteBack, frame_at, geometry_of, history_of}
+use Rattle.shore_pool.proofs.Freeing.{writes_from}
 use Rattle.shore_pool.proofs.Moments.{Leaves, as_it_was, while_still}
 use Rattle.shore_pool.proofs.Same.{pages_stay}
 use Rattle.shore_pool.proofs.Steps.{alike, force_from, left_alone, match_err, no_force, none_is, wrote_from, wrote_then}
@@ -139,3 +140,24 @@ returns-in_err-read-clause-unmoved g c front disk holds =
     let same = alike (maps.frame_at old.frames) (maps.frame_at c.touch.new.self) c.touch.ensures.same in
     let w = c.in_ok-make_room.ensures.kept front disk (record { settled = holds.settled; written = subst (λ (a : ℕ → Option Frame). AreWritten a disk) (sym same) holds.written }) in
     if_err c.from_residual-in_err-read.result c.from_residual-in_err-read.ensures.1 (λ fault is number forced. absurd (no_force _ _ number _ fault is (c.in_err-read.ensures.refused front w.left w.holds) forced))
+
+pub returns-in_err-make_room-clause-writes : goal.returns-in_err-make_room-clause-writes
+returns-in_err-make_room-clause-writes g c front disk holds =
+    let old = c.args.self.now in
+    let at = maps.frame_at old.frames in
+    let now = maps.frame_at c.touch.new.self in
+    writes_from at now (history_of old) (history_of c.make_room.new.self) (alike at now c.touch.ensures.same) c.make_room.ensures.writes
+
+pub returns-in_err-read-clause-writes : goal.returns-in_err-read-clause-writes
+returns-in_err-read-clause-writes g c front disk holds =
+    let old = c.args.self.now in
+    let same = alike (maps.frame_at old.frames) (maps.frame_at c.touch.new.self) c.touch.ensures.same in
+    let w = c.in_ok-make_room.ensures.kept front disk (record { settled = holds.settled; written = subst (λ (a : ℕ → Option Frame). AreWritten a disk) (sym same) holds.written }) in
+    subst (λ (h : History). (h ≡ history_of old) ⊎ maps.AllDirty old.frames) (sym (c.read.ensures.history front w.left w.holds)) (writes_from (maps.frame_at old.frames) (maps.frame_at c.touch.new.self) (history_of old) (history_of c.make_room.new.self) same c.make_room.ensures.writes)
+
+pub returns-clause-writes : goal.returns-clause-writes
+returns-clause-writes g c front disk holds =
+    let old = c.args.self.now in
+    let same = alike (maps.frame_at old.frames) (maps.frame_at c.touch.new.self) c.touch.ensures.same in
+    let w = c.in_ok-make_room.ensures.kept front disk (record { settled = holds.settled; written = subst (λ (a : ℕ → Option Frame). AreWritten a disk) (sym same) holds.written }) in
+    subst (λ (h : History). (h ≡ history_of old) ⊎ maps.AllDirty old.frames) (sym (c.read.ensures.history front w.left w.holds)) (writes_from (maps.frame_at old.frames) (maps.frame_at c.touch.new.self) (history_of old) (history_of c.make_room.new.self) same c.make_room.ensures.writes)

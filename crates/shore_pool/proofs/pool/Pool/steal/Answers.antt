@@ -8,6 +8,7 @@ use Rattle.shore_pool.specs.FrameMaps.{IsDue}
 use Rattle.shore_pool.specs.Pools.{LeavesPages, frame_at, history_of}
 use Rattle.shore_pool.proofs.Moments.{while_still}
 use Rattle.shore_pool.proofs.Choices.{are_there, cases_contains, has_first, up_to}
+use Rattle.shore_pool.proofs.Freeing.{oldest_may, one_goes}
 use Rattle.shore_pool.proofs.Same.{all_above, one_above, pages_on, settled_clean}
 use Rattle.shore_pool.proofs.pool.Pool.steal.Goals as goal
 
@@ -76,3 +77,12 @@ returns-in-Some-any_number-clause-any_moment g c front disk holds = while_still 
 
 pub returns-in-None-clause-any_moment : goal.returns-in-None-clause-any_moment
 returns-in-None-clause-any_moment g c front disk holds = while_still c.args.self.now.device (frame_at c.args.self.now) c.args.durable front disk holds.settled
+
+pub returns-in-Some-clause-oldest : goal.returns-in-Some-clause-oldest
+returns-in-Some-clause-oldest g c dirty =
+    let n = c.in-Some.number in
+    one_goes c.args.self.now c.free.new.self c.args.durable n (oldest_may c.args.self.now c.args.durable (frame_at c.args.self.now n) dirty c.in-Some.ensures.due c.in-Some.ensures.first)
+    (λ k other. elim (cases_contains c.deref.result.now k) [
+      | inl has ↦ inr (c.free.ensures.others k other ∙ c.in_ok-write.ensures.clean k has)
+      | inr apart ↦ inl (c.free.ensures.others k other ∙ c.in_ok-write.ensures.others k apart)
+    ])
