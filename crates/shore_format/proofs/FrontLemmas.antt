@@ -143,7 +143,7 @@ made g device_bytes label tail is pair fits limits =
 
 -- ---- the moments of a format
 
-one_byte : (bytes : List ℕ) → length bytes ≡ 1 → (b : ℕ) × (bytes ≡ b ∷ [])
+pub one_byte : (bytes : List ℕ) → length bytes ≡ 1 → (b : ℕ) × (bytes ≡ b ∷ [])
 one_byte [] is = absurd (omega arith)
 one_byte (b ∷ []) is = (b, refl)
 one_byte (b ∷ d ∷ bytes) is = absurd (omega arith)

@@ -1,2 +1,3 @@
 pub mod FrontLemmas
 pub mod VolumeLemmas
+pub mod PairLemmas

@@ -8,7 +8,7 @@ ghost use Rattle.shore_fronts.specs.Fronts.{IsLogLength, log_label};
 ghost use Rattle.shore_fronts.specs.Volumes.{volume_bytes, volume_label};
 ghost use Rattle.shore_format.specs.Faults.{bad_setting};
 ghost use Rattle.shore_format.specs.Fronts.{LeftByFormat, LogStandsFor};
-ghost use Rattle.shore_format.specs.Pairs.{AreFormatted};
+ghost use Rattle.shore_format.specs.Pairs.{AreFormatted, FormatWay};
 ghost use Rattle.shore_format.specs.Volumes.{IsEmptyVolume};
 
 use crate::log::{is_log_length, log_label, write_log};
@@ -47,7 +47,12 @@ pub fn format<L: Disk, V: Disk>(
         → OnOk result ((log_image volume_image : List ℕ) → may_leave (L.history log.new) log_image → may_leave (V.history volume.new) volume_image
         → AreFormatted geometry.now (size (L.history log.old)) (size (V.history volume.old)) log_image volume_image) }
 
-    // A crash at any moment of the call leaves of each device what it could have left before, a closed gate, or what it has in the end.
+    // A crash at any moment of the call, whatever it answers, leaves a pair that is formatted, or one whose log has a closed gate, or one that it could have
+    // left before, but for that gate.
+    ensures any_moment { IsTrue (L.is_honest log.old) → IsTrue (V.is_honest volume.old)
+        → FormatWay geometry.now (record { log = L.history log.old; volume = V.history volume.old }) (record { log = L.history log.new; volume = V.history volume.new }) }
+
+    // Of each device alone it leaves what it could have left before, a closed gate, or what it has in the end.
     ensures any_log { IsTrue (L.is_honest log.old)
         → LeavesOnly (L.history log.old) (L.history log.new) (LeftByFormat (LogStandsFor geometry.now (size (L.history log.old)) []) (L.history log.old)) }
     ensures any_volume { IsTrue (V.is_honest volume.old)
@@ -104,6 +109,8 @@ fn write_pair<L: Disk, V: Disk>(
     ensures formatted { IsTrue (L.is_honest log.old) → IsTrue (V.is_honest volume.old)
         → OnOk result ((log_image volume_image : List ℕ) → may_leave (L.history log.new) log_image → may_leave (V.history volume.new) volume_image
         → AreFormatted geometry.now (size (L.history log.old)) (size (V.history volume.old)) log_image volume_image) }
+    ensures any_moment { IsTrue (L.is_honest log.old) → IsTrue (V.is_honest volume.old)
+        → FormatWay geometry.now (record { log = L.history log.old; volume = V.history volume.old }) (record { log = L.history log.new; volume = V.history volume.new }) }
     ensures any_log { IsTrue (L.is_honest log.old)
         → LeavesOnly (L.history log.old) (L.history log.new) (LeftByFormat (LogStandsFor geometry.now (size (L.history log.old)) []) (L.history log.old)) }
     ensures any_volume { IsTrue (V.is_honest volume.old)
