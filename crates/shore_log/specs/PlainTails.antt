@@ -1,5 +1,5 @@
 -- What a plain log buffer has.
-use Rattle.std.specs.Prelude.{ℕ, List}
+use Rattle.std.specs.Prelude.{◌<◌, ℕ, List, vec_capacity, vec_len}
 use Rattle.shore_model.specs.declared.log_records.LogRecord.{LogRecord}
 use Rattle.shore_log.specs.declared.tail.PlainTail.{PlainTail}
 
@@ -10,3 +10,7 @@ first_of t = t.first
 -- the records that wait
 abbrev pub waiting_in : PlainTail → List LogRecord
 waiting_in t = t.waiting.items
+
+-- a record more needs no memory
+abbrev pub HasWaitingRoom : PlainTail → Type 0
+HasWaitingRoom t = vec_len t.waiting < vec_capacity t.waiting

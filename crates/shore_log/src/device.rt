@@ -92,6 +92,7 @@ impl<D: Disk> LogDev<D> {
         ensures emptied { OnOk result (waiting_in tail.new ≡ []) }
         ensures next { first_of tail.new + length (waiting_in tail.new) ≡ first_of tail.old + length (waiting_in tail.old) }
         ensures refused { OnErr result ((records_of_log self.new ≡ records_of_log self.old) × (waiting_in tail.new ≡ waiting_in tail.old)) }
+        ensures idle { HasRecordRoom self.old (length (waiting_in tail.old)) → IsOk result }
         ensures only_memory { IfErr result (λ fault. fault ≡ Fault.Memory) }
         ensures frames { KeepsFrames self.old self.new }
         ensures device { self.new.device ≡ self.old.device }

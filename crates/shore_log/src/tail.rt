@@ -1,5 +1,5 @@
 //! The log buffer: the records that wait on their way from the core to the log device.
-ghost use Rattle.std.specs.Prelude.{◌≡◌, ◌+◌, ◌<◌, ◌≤◌, ◌^◌, [], ◌∷◌, ◌++◌, ℕ, List, All, IsTrue, length, IfOk, IfErr, OnOk, OnErr};
+ghost use Rattle.std.specs.Prelude.{◌≡◌, ◌+◌, ◌<◌, ◌≤◌, ◌^◌, [], ◌∷◌, ◌++◌, ℕ, List, All, IsTrue, length, IfOk, IfErr, IsOk, OnOk, OnErr, vec_capacity, vec_len};
 ghost use Rattle.shore_types.specs.declared.faults.Fault.TheVariants as fault;
 ghost use Rattle.shore_model.specs.declared.log_records.LogRecord.{LogRecord};
 ghost use Rattle.shore_logrec.specs.Text.{Fits};
@@ -66,6 +66,7 @@ impl PlainTail {
         ensures ok { OnOk result (records.new.items ≡ records.old.items ++ waiting_in self.old) }
         ensures emptied { OnOk result (waiting_in self.new ≡ []) }
         ensures next { first_of self.new + length (waiting_in self.new) ≡ first_of self.old + length (waiting_in self.old) }
+        ensures idle { vec_len records.old + length (waiting_in self.old) ≤ vec_capacity records.old → IsOk result }
         ensures err { OnErr result (records.new.items ≡ records.old.items) }
         ensures stay { OnErr result (waiting_in self.new ≡ waiting_in self.old) }
     {
@@ -84,13 +85,24 @@ impl PlainTail {
 }
 
 impl Tail for PlainTail {
-    ghost use Rattle.shore_log.specs.PlainTails.{first_of, waiting_in};
+    ghost use Rattle.shore_log.specs.PlainTails.{HasWaitingRoom, first_of, waiting_in};
 
     ghost first = { first_of };
 
     ghost records = { waiting_in };
 
-    fn push(&mut self, logged: LogRecord) -> Result<Lsn, (Fault, LogRecord)> {
+    fn push(&mut self, logged: LogRecord) -> Result<Lsn, (Fault, LogRecord)>
+        requires text { Fits logged }
+        requires previous { logged.previous < first_of self.old + length (waiting_in self.old) }
+        requires numbers { first_of self.old + length (waiting_in self.old) < 2 ^ 62 }
+        // It is refused only if there was no memory for a record more.
+        ensures number { IfOk result (λ n. n ≡ first_of self.old + length (waiting_in self.old)) }
+        ensures added { OnOk result (waiting_in self.new ≡ waiting_in self.old ++ logged ∷ []) }
+        ensures idle { HasWaitingRoom self.old → IsOk result }
+        ensures refused { IfErr result (λ e. (e.0 ≡ fault.Memory) × (e.1 ≡ logged)) }
+        ensures none_added { OnErr result (waiting_in self.new ≡ waiting_in self.old) }
+        ensures first { first_of self.new ≡ first_of self.old }
+    {
         let number = self.first + self.waiting.len() as u64;
         match self.waiting.push(logged) {
             Ok(()) => Ok(Lsn(number)),

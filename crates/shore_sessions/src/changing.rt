@@ -1,5 +1,5 @@
 //! Transactions that begin and change records.
-ghost use Rattle.std.specs.Prelude.{◌≡◌, ◌≢◌, ◌+◌, ◌<◌, ◌≤◌, ◌∷◌, [], ℕ, IfOk, OnErr, OnOk, length};
+ghost use Rattle.std.specs.Prelude.{◌≡◌, ◌≢◌, ◌+◌, ◌<◌, ◌≤◌, ◌∷◌, [], ℕ, IfOk, IsOk, OnErr, OnOk, length};
 ghost use Rattle.std.specs.FinMap.{get};
 ghost use Rattle.shore_types.specs.Images.{Image, image_len};
 ghost use Rattle.shore_types.specs.declared.ids.PageId.{PageId};
@@ -16,7 +16,7 @@ ghost use Rattle.shore_txn.specs.ActiveTxns.{HasMore, IsBegun, OneBecomes};
 ghost use Rattle.shore_txn.specs.Transactions as table;
 ghost use Rattle.shore_txn.specs.Txns.{IsAfterChange, SameTxn};
 ghost use Rattle.shore_txn.specs.declared.txn.Txn.{Txn};
-ghost use Rattle.shore_txn.specs.Transactions.{HasNoTxnOf, HasRoomToNote, IsSeatIn, IsUnchanged, kept_in, next_in, room_in, undos_in};
+ghost use Rattle.shore_txn.specs.Transactions.{HasNoTxnOf, HasRoomToNote, HasTxnRoom, IsSeatIn, IsUnchanged, kept_in, next_in, room_in, undos_in};
 
 use crate::control::Control;
 use shore_txn::{Seat, UndoEntry};
@@ -35,6 +35,7 @@ impl Control {
         ensures number { IfOk result (λ number. number ≡ next_in (txns_in self.old)) }
         ensures begun { OnOk result (undos_in (txns_in self.new) ≡ record { session = session; txn = next_in (txns_in self.old); undo = nothing_to_undo } ∷ undos_in (txns_in self.old)) }
         ensures listed { OnOk result ((t : Txn) × (table.txns_in (txns_in self.new) ≡ t ∷ table.txns_in (txns_in self.old)) × IsBegun (next_in (txns_in self.old)) session t) }
+        ensures idle { HasTxnRoom (txns_in self.old) → IsOk result }
         ensures refused { OnErr result (IsUnchanged (txns_in self.old) (txns_in self.new)) }
         ensures claims { (p : PageId) → kept_in (txns_in self.new) p ≡ kept_in (txns_in self.old) p }
         ensures locks { locks_in self.new ≡ locks_in self.old }
@@ -49,6 +50,7 @@ impl Control {
     pub fn reserve_entry(&mut self, alloc: Global, seat: &Seat) -> Result<(), AllocError>
         requires seated { IsSeatIn seat.now (txns_in self.old) }
         ensures memory { OnOk result (HasRoomToNote seat.now.session (txns_in self.new)) }
+        ensures idle { HasRoomToNote seat.now.session (txns_in self.old) → IsOk result }
         ensures same { OneBecomes seat.now.session SameTxn (table.txns_in (txns_in self.old)) (table.txns_in (txns_in self.new)) }
         ensures undos { undos_in (txns_in self.new) ≡ undos_in (txns_in self.old) }
         ensures room { room_in (txns_in self.new) ≡ room_in (txns_in self.old) }

@@ -1,5 +1,5 @@
 //! Savepoints, and transactions that are rolled back.
-ghost use Rattle.std.specs.Prelude.{◌≡◌, ◌≢◌, ◌+◌, ◌<◌, ◌++◌, ◌∷◌, [], List, IfOk, OnErr, OnOk, length};
+ghost use Rattle.std.specs.Prelude.{◌≡◌, ◌≢◌, ◌+◌, ◌<◌, ◌++◌, ◌∷◌, [], List, IfOk, IsOk, OnErr, OnOk, length};
 ghost use Rattle.shore_types.specs.Images.{Image, image_len};
 ghost use Rattle.shore_types.specs.declared.ids.PageId.{PageId};
 ghost use Rattle.shore_types.specs.declared.ids.Rid.{Rid};
@@ -16,7 +16,7 @@ ghost use Rattle.laws_calls.specs.StateChanges.{answered};
 ghost use Rattle.laws_calls.specs.States.{IsOfSession, State};
 ghost use Rattle.shore_txn.specs.ActiveTxns.{HasMore, OneBecomes, OneLeaves};
 ghost use Rattle.shore_txn.specs.Transactions as table;
-ghost use Rattle.shore_txn.specs.Transactions.{IsSeatIn, kept_in, room_in, undos_in};
+ghost use Rattle.shore_txn.specs.Transactions.{HasRoomToMark, IsSeatIn, kept_in, room_in, undos_in};
 ghost use Rattle.shore_txn.specs.Txns.{IsAfterSavepoint, IsAfterUndo, IsBackAt, SameTxn};
 ghost use Rattle.shore_txn.specs.UndoEntries.{image_of};
 
@@ -35,6 +35,7 @@ impl Control {
         requires seated { IsSeatIn seat.now (txns_in self.old) }
         requires few { (a : SessionTxn) → IsAmong a (undos_in (txns_in self.old)) → a.session ≡ seat.now.session → length a.undo.marks < MAX_SAVEPOINTS }
         ensures set { OnOk result (OneBecomes seat.now.session IsAfterSavepoint (table.txns_in (txns_in self.old)) (table.txns_in (txns_in self.new))) }
+        ensures idle { HasRoomToMark seat.now.session (txns_in self.old) → IsOk result }
         ensures same { OnErr result (OneBecomes seat.now.session SameTxn (table.txns_in (txns_in self.old)) (table.txns_in (txns_in self.new))) }
         ensures room { room_in (txns_in self.new) ≡ room_in (txns_in self.old) }
         ensures claims { (p : PageId) → kept_in (txns_in self.new) p ≡ kept_in (txns_in self.old) p }

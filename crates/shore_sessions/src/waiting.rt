@@ -1,5 +1,5 @@
 //! Locks that are asked for, and calls that wait.
-ghost use Rattle.std.specs.Prelude.{◌≡◌, ◌≢◌, ◌==◌, ◌∷◌, ◌++◌, [], ℕ, IfErr, IfNone, IfSome, IsSome, IsTrue, None, Ok, OnOk, false, filter, not};
+ghost use Rattle.std.specs.Prelude.{◌≡◌, ◌≢◌, ◌==◌, ◌∷◌, ◌++◌, [], ℕ, IfErr, IfNone, IfSome, IsOk, IsSome, IsTrue, None, Ok, OnOk, false, filter, not};
 ghost use Rattle.shore_types.specs.declared.locking.Granule.{Granule};
 ghost use Rattle.shore_types.specs.declared.locking.Mode.{Mode};
 ghost use Rattle.shore_model.specs.declared.calls.Call.{Call};
@@ -71,9 +71,10 @@ impl Control {
         self.acquire(txn, Granule::Record(*id), Mode::EX, OnConflict::Refuse)
     }
 
-    /// Takes the memory for a call more that waits. If that fails nothing has changed.
+    /// Takes the memory for a call more that waits, if there is none. If that fails nothing has changed.
     pub fn reserve_wait(&mut self) -> Result<(), AllocError>
         ensures memory { OnOk result (HasWaitRoom self.new) }
+        ensures idle { HasWaitRoom self.old → IsOk result }
         ensures txns { txns_in self.new ≡ txns_in self.old }
         ensures locks { locks_in self.new ≡ locks_in self.old }
         ensures waits { waits_in self.new ≡ waits_in self.old }

@@ -1,5 +1,5 @@
 //! The calls that wait.
-ghost use Rattle.std.specs.Prelude.{◌≡◌, ◌≢◌, ◌<◌, ◌≤◌, ◌^◌, ◌++◌, ◌∷◌, [], ℕ, All, AllPairs, IfNone, IfSome, IsSome, OnOk, false, filter, length, not, slice_index_or, true, ◌==◌};
+ghost use Rattle.std.specs.Prelude.{◌≡◌, ◌≢◌, ◌<◌, ◌≤◌, ◌^◌, ◌++◌, ◌∷◌, [], ℕ, All, AllPairs, IfNone, IfSome, IsOk, IsSome, OnOk, false, filter, length, not, slice_index_or, true, ◌==◌};
 ghost use Rattle.laws_lives.specs.Views.{IsAmong};
 ghost use Rattle.shore_sessions.specs.Calls.{commits_of, cycle_noted, is_commit};
 ghost use Rattle.shore_sessions.specs.declared.waits.WaitingCall.{WaitingCall};
@@ -110,6 +110,7 @@ impl Waits {
     /// Takes the memory for a call more. If that fails nothing has changed.
     pub(crate) fn reserve(&mut self) -> Result<(), AllocError>
         ensures room { OnOk result (HasCallRoom self.new) }
+        ensures idle { HasCallRoom self.old → IsOk result }
         ensures same { calls_in self.new ≡ calls_in self.old }
     {
         self.calls.reserve(1)?;

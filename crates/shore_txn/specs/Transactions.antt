@@ -1,5 +1,5 @@
 -- What the table of transactions has.
-use Rattle.std.specs.Prelude.{◌≡◌, ◌≢◌, ℕ, List, Some, reverse, slice_get}
+use Rattle.std.specs.Prelude.{◌≡◌, ◌≢◌, ◌<◌, ℕ, List, Some, reverse, slice_get, vec_capacity, vec_len}
 use Rattle.shore_types.specs.declared.ids.PageId.{PageId}
 use Rattle.laws_lives.specs.Sessions.{SessionTxn}
 use Rattle.laws_lives.specs.Views.{IsAmong}
@@ -10,6 +10,7 @@ use Rattle.shore_txn.specs.declared.transactions.Transactions.{Transactions}
 use Rattle.shore_txn.specs.declared.txn.Txn.{Txn}
 use Rattle.shore_txn.specs.ActiveTxns.{CanNote, IsPlace, all_changes, changes_to, own_place, session_txns, sessions_of, txn_index, txns_of}
 use Rattle.shore_txn.specs.Chains.{bucket_of}
+use Rattle.shore_txn.specs.Txns.{HasMarkRoom}
 use Rattle.shore_txn.specs.UndoEntries.{claims_on}
 
 -- the transactions under way, the newest first
@@ -39,9 +40,17 @@ sessions_in table = reverse (sessions_of (undos_in table))
 abbrev pub IsSeatIn : Seat → Transactions → Type 0
 IsSeatIn seat table = slice_get (sessions_in table) seat.index ≡ Some seat.session
 
--- a change more of the session's transaction needs no memory
+-- a transaction more needs no memory
+abbrev pub HasTxnRoom : Transactions → Type 0
+HasTxnRoom table = vec_len table.active < vec_capacity table.active
+
+-- a change more of the session's transaction needs none
 abbrev pub HasRoomToNote : ℕ → Transactions → Type 0
 HasRoomToNote session table = (a : ActiveTxn) → IsAmong a table.active.items → a.txn.session ≡ session → CanNote a
+
+-- nor does a savepoint more
+abbrev pub HasRoomToMark : ℕ → Transactions → Type 0
+HasRoomToMark session table = (a : ActiveTxn) → IsAmong a table.active.items → a.txn.session ≡ session → HasMarkRoom a.txn
 
 -- nothing of it is changed
 pub record IsUnchanged (old new : Transactions) : Type 0 where

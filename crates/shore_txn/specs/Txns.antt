@@ -1,6 +1,7 @@
 -- A transaction of the table, as the sessions have it.
 use Rattle.std.specs.Prelude.{◌≡◌, ◌+◌, ◌<◌, ◌++◌, ℕ, List, [], ◌∷◌, Option, None, Some, length, take}
 use Rattle.std.specs.Prelude.{vec_capacity, vec_len}
+use Rattle.smallvec.specs.SmallVec.{HasRoomFor}
 use Rattle.laws_lives.specs.Sessions.{SessionTxn}
 use Rattle.laws_lives.specs.UndoLists.{marks_kept}
 use Rattle.shore_model.specs.declared.rollbacks.Rollback.{Rollback}
@@ -44,6 +45,10 @@ last_of t = t.last
 -- an entry more needs no memory
 abbrev pub HasEntryRoom : Txn → Type 0
 HasEntryRoom t = vec_len t.undo < vec_capacity t.undo
+
+-- nor does a savepoint more
+abbrev pub HasMarkRoom : Txn → Type 0
+HasMarkRoom t = HasRoomFor t.marks 1
 
 -- a transaction with one change more
 pub record IsAfterChange (old : Txn) (entry : UndoEntry) (new : Txn) : Type 0 where

@@ -1,11 +1,11 @@
 //! A transaction of the table, with the places of its changes.
-ghost use Rattle.std.specs.Prelude.{◌≡◌, ◌-◌, ◌+◌, ◌<◌, ◌≤◌, ◌++◌, ◌∷◌, [], List, IfOk, IsSome, OnErr, OnOk, Some, get_or, length, option_to_list, slice_get, take};
+ghost use Rattle.std.specs.Prelude.{◌≡◌, ◌-◌, ◌+◌, ◌<◌, ◌≤◌, ◌++◌, ◌∷◌, [], List, IfOk, IsOk, IsSome, OnErr, OnOk, Some, get_or, length, option_to_list, slice_get, take};
 ghost use Rattle.shore_types.specs.declared.layout.TheConstants.{LAST_TXN, MAX_LOG_BYTES, MAX_RECORD_BYTES, MAX_SAVEPOINTS};
 ghost use Rattle.shore_types.specs.Images.{image_len};
 ghost use Rattle.laws_room.specs.LogRooms.{compensation_cost};
 ghost use Rattle.shore_txn.specs.Chains.{bucket_of, newest_in, page_buckets};
 ghost use Rattle.shore_txn.specs.Places.{buckets_if};
-ghost use Rattle.shore_txn.specs.Txns.{IsAfterChange, IsAfterSavepoint, IsAfterUndo, IsBackAt, IsDoomed, SameTxn, entries_of, marks_of};
+ghost use Rattle.shore_txn.specs.Txns.{HasMarkRoom, IsAfterChange, IsAfterSavepoint, IsAfterUndo, IsBackAt, IsDoomed, SameTxn, entries_of, marks_of};
 ghost use Rattle.shore_txn.specs.UndoEntries.{claims_on};
 ghost use Rattle.shore_txn.specs.declared.undo.UndoEntry.{UndoEntry};
 
@@ -50,6 +50,7 @@ impl ActiveTxn {
     /// Takes the memory for a change more. If that fails nothing is changed but the memory.
     pub(crate) fn reserve_entry(&mut self, alloc: Global) -> Result<(), AllocError>
         ensures room { OnOk result (CanNote self.new) }
+        ensures idle { CanNote self.old → IsOk result }
         ensures same { SameTxn self.old.txn self.new.txn }
     {
         self.make_chains(alloc)?;
@@ -62,6 +63,7 @@ impl ActiveTxn {
     // Makes its chains, unless it has them.
     fn make_chains(&mut self, alloc: Global) -> Result<(), AllocError>
         ensures made { OnOk result (IsSome self.new.chains) }
+        ensures idle { IsSome self.old.chains → IsOk result × (self.new ≡ self.old) }
         ensures same { self.new.txn ≡ self.old.txn }
     {
         if self.chains.is_none() {
@@ -89,6 +91,7 @@ impl ActiveTxn {
         requires few { length (marks_of self.old.txn) < MAX_SAVEPOINTS }
         ensures index { IfOk result (λ index. index ≡ length (marks_of self.old.txn)) }
         ensures set { OnOk result (IsAfterSavepoint self.old.txn self.new.txn) }
+        ensures idle { HasMarkRoom self.old.txn → IsOk result }
         ensures same { OnErr result (SameTxn self.old.txn self.new.txn) }
     {
         self.txn.savepoint()

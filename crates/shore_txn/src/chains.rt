@@ -1,5 +1,5 @@
 //! Chains of places: the changes of a page are found without a walk over those of all pages.
-ghost use Rattle.std.specs.Prelude.{◌≡◌, ◌+◌, ◌-◌, ◌<◌, ◌≤◌, ◌++◌, ◌∷◌, [], ℕ, IfOk, OnOk, get_or, length, take};
+ghost use Rattle.std.specs.Prelude.{◌≡◌, ◌+◌, ◌-◌, ◌<◌, ◌≤◌, ◌++◌, ◌∷◌, [], ℕ, IfOk, IsOk, OnOk, get_or, length, take};
 ghost use Rattle.shore_types.specs.declared.ids.PageId.{PageId};
 ghost use Rattle.shore_txn.specs.Chains as chains;
 ghost use Rattle.shore_txn.specs.Chains.{IsChained, newest_in};
@@ -47,6 +47,7 @@ impl PageChains {
     /// Takes the memory for a place more. If that fails nothing has changed.
     pub(crate) fn reserve(&mut self) -> Result<(), AllocError>
         ensures room { OnOk result (HasLinkRoom self.new) }
+        ensures idle { HasLinkRoom self.old → IsOk result }
         ensures same { buckets_in self.new ≡ buckets_in self.old }
     {
         self.links.reserve(1)?;

@@ -1,5 +1,5 @@
 //! Savepoints and rollbacks of the transactions of the table.
-ghost use Rattle.std.specs.Prelude.{◌≡◌, ◌≢◌, ◌+◌, ◌<◌, ◌++◌, ◌∷◌, [], List, IfOk, OnErr, OnOk, length, if◌then◌else◌};
+ghost use Rattle.std.specs.Prelude.{◌≡◌, ◌≢◌, ◌+◌, ◌<◌, ◌++◌, ◌∷◌, [], List, IfOk, IsOk, OnErr, OnOk, length, if◌then◌else◌};
 ghost use Rattle.shore_types.specs.Images.{Image, image_len};
 ghost use Rattle.shore_types.specs.declared.ids.PageId.{PageId};
 ghost use Rattle.shore_types.specs.declared.ids.Rid.{Rid};
@@ -22,7 +22,7 @@ use shore_types::{Lsn, TxnId};
 use std::alloc::AllocError;
 
 impl Transactions {
-    ghost use Rattle.shore_txn.specs.Transactions.{IsSeatIn, kept_in, next_in, room_in, txns_in, undos_in};
+    ghost use Rattle.shore_txn.specs.Transactions.{HasRoomToMark, IsSeatIn, kept_in, next_in, room_in, txns_in, undos_in};
 
     /// A savepoint more of a session's transaction. Answers its index. If memory is short nothing has changed.
     pub fn savepoint(&mut self, seat: &Seat) -> Result<usize, AllocError>
@@ -32,6 +32,7 @@ impl Transactions {
         ensures index { IfOk result (λ index. (a : SessionTxn) → IsAmong a (undos_in self.old) → a.session ≡ seat.now.session → index ≡ length a.undo.marks) }
         ensures undos { OnOk result ((a : SessionTxn) → IsAmong a (undos_in self.old) → a.session ≡ seat.now.session
             → undos_in self.new ≡ with_undo a.txn (with_mark a.undo) (undos_in self.old)) }
+        ensures idle { HasRoomToMark seat.now.session self.old → IsOk result }
         ensures same { OnErr result (OneBecomes seat.now.session SameTxn (txns_in self.old) (txns_in self.new)) }
         ensures unchanged { OnErr result (undos_in self.new ≡ undos_in self.old) }
         ensures claims { (p : PageId) → kept_in self.new p ≡ kept_in self.old p }

@@ -1,5 +1,5 @@
 //! The table of transactions of many sessions.
-ghost use Rattle.std.specs.Prelude.{◌≡◌, ◌≢◌, ◌+◌, ◌<◌, ◌≤◌, ◌↔◌, ◌∷◌, [], All, IfNone, IfOk, IfSome, IsTrue, OnErr, OnOk, length};
+ghost use Rattle.std.specs.Prelude.{◌≡◌, ◌≢◌, ◌+◌, ◌<◌, ◌≤◌, ◌↔◌, ◌∷◌, [], All, IfNone, IfOk, IfSome, IsOk, IsTrue, OnErr, OnOk, length};
 ghost use Rattle.std.proofs.Props.{props};
 ghost use Rattle.std.specs.List.{AllByRecursion, HoldsAt};
 ghost use Rattle.shore_types.specs.declared.ids.PageId.{PageId};
@@ -43,7 +43,7 @@ pub struct Transactions {
 }
 
 impl Transactions {
-    ghost use Rattle.shore_txn.specs.Transactions.{HasNoTxnOf, HasRoomToNote, IsSeatIn, IsUnchanged, kept_in, next_in, room_in, txns_in, undos_in};
+    ghost use Rattle.shore_txn.specs.Transactions.{HasNoTxnOf, HasRoomToNote, HasTxnRoom, IsSeatIn, IsUnchanged, kept_in, next_in, room_in, txns_in, undos_in};
 
     /// A table with no transaction, whose next has this number.
     pub fn new(alloc: Global, room: LogRoom, next: u64) -> Transactions
@@ -114,6 +114,7 @@ impl Transactions {
         ensures reserved { OnOk result ((room_in self.new).reserved ≡ (room_in self.old).reserved + ENDING_COST) }
         ensures kept { (room_in self.new).kept ≡ (room_in self.old).kept }
         ensures stream { (room_in self.new).stream_bytes ≡ (room_in self.old).stream_bytes }
+        ensures idle { HasTxnRoom self.old → IsOk result }
         ensures unchanged { OnErr result (IsUnchanged self.old self.new) }
     {
         self.active.reserve(1)?;
@@ -130,6 +131,7 @@ impl Transactions {
     pub fn reserve_entry(&mut self, alloc: Global, seat: &Seat) -> Result<(), AllocError>
         requires seated { IsSeatIn seat.now self.old }
         ensures memory { OnOk result (HasRoomToNote seat.now.session self.new) }
+        ensures idle { HasRoomToNote seat.now.session self.old → IsOk result }
         ensures same { OneBecomes seat.now.session SameTxn (txns_in self.old) (txns_in self.new) }
         ensures undos { undos_in self.new ≡ undos_in self.old }
         ensures claims { (p : PageId) → kept_in self.new p ≡ kept_in self.old p }

@@ -1,5 +1,5 @@
 //! A transaction under way.
-ghost use Rattle.std.specs.Prelude.{◌≡◌, ◌+◌, ◌<◌, ◌≤◌, ◌++◌, ◌∷◌, [], List, IfNone, IfOk, IfSome, OnErr, OnOk, Some, length, option_to_list, slice_get};
+ghost use Rattle.std.specs.Prelude.{◌≡◌, ◌+◌, ◌<◌, ◌≤◌, ◌++◌, ◌∷◌, [], List, IfNone, IfOk, IfSome, IsOk, OnErr, OnOk, Some, length, option_to_list, slice_get};
 ghost use Rattle.shore_types.specs.declared.layout.TheConstants.{ENDING_COST, LAST_TXN, MAX_LOG_BYTES, MAX_RECORD_BYTES, MAX_SAVEPOINTS};
 ghost use Rattle.shore_types.specs.Images.{image_len};
 ghost use Rattle.laws_room.specs.LogRooms.{compensation_cost, compensation_costs};
@@ -44,7 +44,7 @@ pub struct Txn {
 }
 
 impl Txn {
-    ghost use Rattle.shore_txn.specs.Txns.{HasEntryRoom, IsAfterChange, IsAfterSavepoint, IsAfterUndo, IsBackAt, IsDoomed, SameTxn, entries_of, last_of, marks_of, number_of, state_of};
+    ghost use Rattle.shore_txn.specs.Txns.{HasEntryRoom, HasMarkRoom, IsAfterChange, IsAfterSavepoint, IsAfterUndo, IsBackAt, IsDoomed, SameTxn, entries_of, last_of, marks_of, number_of, state_of};
 
     /// A transaction that has logged nothing.
     pub fn new(alloc: Global, txn: TxnId, session: SessionId) -> Txn
@@ -161,6 +161,7 @@ impl Txn {
     /// Takes the memory for an entry more. If that fails nothing has changed.
     pub fn reserve_entry(&mut self) -> Result<(), AllocError>
         ensures room { OnOk result (HasEntryRoom self.new) }
+        ensures idle { HasEntryRoom self.old → IsOk result }
         ensures same { SameTxn self.old self.new }
         ensures reserved { self.new.reserved ≡ self.old.reserved }
     {
@@ -187,6 +188,7 @@ impl Txn {
         requires few { length (marks_of self.old) < MAX_SAVEPOINTS }
         ensures index { IfOk result (λ index. index ≡ length (marks_of self.old)) }
         ensures set { OnOk result (IsAfterSavepoint self.old self.new) }
+        ensures idle { HasMarkRoom self.old → IsOk result }
         ensures same { OnErr result (SameTxn self.old self.new) }
         ensures reserved { self.new.reserved ≡ self.old.reserved }
     {

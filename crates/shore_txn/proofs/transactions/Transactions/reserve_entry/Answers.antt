@@ -4,7 +4,7 @@ use Rattle.laws_lives.specs.Views.{IsAmong}
 use Rattle.shore_txn.specs.ActiveTxns.{CanNote, undos_of}
 use Rattle.shore_txn.specs.Txns.{SameTxn}
 use Rattle.shore_txn.specs.declared.active.ActiveTxn.{ActiveTxn}
-use Rattle.shore_txn.proofs.ActiveLemmas.{read_at, room_at}
+use Rattle.shore_txn.proofs.ActiveLemmas.{active_there, read_at, room_at}
 use Rattle.shore_txn.proofs.ActiveSteps.{AreKept, becomes_at, claims_stay, undos_stay}
 use Rattle.shore_txn.proofs.Seats.{seat_inside, seat_one}
 use Rattle.shore_txn.proofs.transactions.Transactions.reserve_entry.Goals as goal
@@ -44,3 +44,9 @@ returns-clause-undos c = undos_stay (returns-clause-same c)
 
 pub returns-clause-claims : goal.returns-clause-claims
 returns-clause-claims c = claims_stay (returns-clause-same c)
+
+pub returns-clause-idle : goal.returns-clause-idle
+returns-clause-idle c room =
+    let one = seat_one c.args.self.now c.args.seat.now c.requires.seated in
+    let it : c.index_mut.result.now ≡ one.0 = c.index_mut.ensures.value ∙ read_at one.1 c.index_mut.result.now in
+    c.reserve_entry.ensures.idle (subst CanNote (sym it) (room one.0 (active_there one.1) one.2))

@@ -1,4 +1,4 @@
-use Rattle.std.proofs.Common.{◌≡◌, ℕ, Ok, Err, Result, length, sym, ap, ◌∙◌, set}
+use Rattle.std.proofs.Common.{◌≡◌, ℕ, Ok, Err, Result, length, sym, subst, ap, ◌∙◌, set}
 use Rattle.std.specs.Prelude.{IfOk, OnErr, OnOk}
 use Rattle.std.specs.declared.alloc.AllocError.{AllocError}
 use Rattle.laws_lives.specs.Sessions.{SessionTxn, with_undo}
@@ -6,11 +6,13 @@ use Rattle.laws_lives.specs.Views.{IsAmong}
 use Rattle.shore_txn.specs.ActiveTxns as active
 use Rattle.shore_txn.specs.ActiveTxns.{OneBecomes, undos_of, with_mark}
 use Rattle.shore_txn.specs.Transactions.{txns_in, undos_in}
-use Rattle.shore_txn.specs.Txns.{IsAfterSavepoint, SameTxn, as_session_txn, marks_of}
+use Rattle.shore_txn.specs.Txns.{HasMarkRoom, IsAfterSavepoint, SameTxn, as_session_txn, marks_of}
+use Rattle.shore_txn.specs.declared.active.ActiveTxn.{ActiveTxn}
+use Rattle.shore_txn.proofs.ActiveLemmas.{active_there, read_at}
 use Rattle.shore_txn.proofs.ActiveSteps.{KeepsChanges, claims_still, kept_still, same_keeps, savepoint_keeps, session_marked, undos_by, undos_stay}
 use Rattle.shore_txn.proofs.Lending.{kept_in, lent_becomes, lent_session, lent_there}
 use Rattle.shore_txn.proofs.OneOfMany.{once_same}
-use Rattle.shore_txn.proofs.Seats.{seat_inside}
+use Rattle.shore_txn.proofs.Seats.{seat_inside, seat_one}
 use Rattle.shore_txn.proofs.transactions.Transactions.savepoint.Goals as goal
 
 pub index_mut-requires : goal.index_mut-requires
@@ -94,3 +96,9 @@ pub returns-clause-claims : goal.returns-clause-claims
 returns-clause-claims c =
     claims_still (lent_becomes c.args.self.now c.args.seat.now c.requires.seated c.index_mut.result.now c.index_mut.ensures.value
     c.savepoint.new.self KeepsChanges (keeps c.savepoint.result c.index_mut.result.now.txn c.savepoint.new.self.txn c.savepoint.ensures.set c.savepoint.ensures.same))
+
+pub returns-clause-idle : goal.returns-clause-idle
+returns-clause-idle c room =
+    let one = seat_one c.args.self.now c.args.seat.now c.requires.seated in
+    let it : c.index_mut.result.now ≡ one.0 = c.index_mut.ensures.value ∙ read_at one.1 c.index_mut.result.now in
+    c.savepoint.ensures.idle (subst (λ (a : ActiveTxn). HasMarkRoom a.txn) (sym it) (room one.0 (active_there one.1) one.2))
