@@ -18,3 +18,4 @@ pub mod OpenedLemmas
 pub mod RestartNames
 pub mod ExchangeLemmas
 pub mod PromiseLemmas
+pub mod StoodLemmas

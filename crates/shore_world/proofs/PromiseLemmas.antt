@@ -25,7 +25,7 @@ use Rattle.laws_lives.specs.Views.{IsAmong}
 use Rattle.laws_lives.proofs.Members.{txn_among}
 use Rattle.laws_calls.proofs.Rooted.{stay_rooted}
 use Rattle.laws_calls.proofs.SettledThere.{events_there}
-use Rattle.laws_calls.specs.Events.{IsStateAfter, ManagerEvent}
+use Rattle.laws_calls.specs.Events.{EventsMove, IsStateAfter, ManagerEvent}
 use Rattle.laws_runs.proofs.UnderWay.{plain_moves}
 use Rattle.laws_runs.specs.SoundStores.{IsUnderWay, managed}
 use Rattle.shore_world.specs.declared.event.Event.{Event}
@@ -35,7 +35,7 @@ use Rattle.shore_world.specs.Events.{IsServedEvent}
 use Rattle.shore_world.specs.Exchanges.{AreLast, exchanges_in, exchanges_of, waited_after, waited_behind}
 use Rattle.shore_world.specs.Lives.{DumpsShow}
 use Rattle.shore_world.specs.Promises.{AreUnended, GoesOnAs, IsManagerOf, IsStateOf}
-use Rattle.shore_world.specs.Worlds.{EventStep, Runs, Steps, geometry_in, list_in, requests_in, stream_bytes_in}
+use Rattle.shore_world.specs.Worlds.{Between, EventStep, Runs, Steps, geometry_in, list_in, requests_in, stream_bytes_in}
 use Rattle.shore_world.proofs.ExchangeLemmas.{Waited, event_waits, have_told, runs_told, runs_wait, told_in, waited_in}
 use Rattle.shore_world.proofs.StoredLemmas.{HasRun, IsUpAt, moves_to, run_run, seen_of, up_safe}
 
@@ -117,6 +117,25 @@ module _ {L V : Type 0} {G : Ghosts L} {H : Ghosts V} (w : World L V G H) (o : R
       let ran = run_run (geometry_in w) (stream_bytes_in w) k.found k.log_front k.front es w k.now as_up events steps moves new served runs in
       subst (λ (l : Waited). HasGoneOn new l (exchanges_of ws events steps)) (runs_wait w ws events steps moves new runs)
       (subst (HasGoneOn new (waited_in ws moves)) (runs_told w ws events steps moves new runs) (ran_on moves new ran))
+
+  -- ---- between two events
+
+  -- it is a manager of the same history, by these moves of the manager over plain data
+  pub record HasMovedBy (moves : List ManagerEvent) (new : World L V G H) : Type 0 where
+    pub made : List Entry
+    pub manager : IsManagerOf new o (es ++ made) ws
+    pub moved : EventsMove (geometry_in w) k.now.state moves manager.now.state
+
+  pub between_on : (failures : List ManagerEvent) (new : World L V G H) → Between w failures new → HasMovedBy failures new
+  unfolding as_up ran_manager
+  between_on failures new between =
+      let ran = run_run (geometry_in w) (stream_bytes_in w) k.found k.log_front k.front es w k.now as_up [] [] failures new tt between in
+      record {
+        made = ran.made;
+        manager = ran_manager failures new ran ws (runs_wait w ws [] [] failures new between);
+        moved = subst (λ (l : List ManagerEvent). EventsMove (geometry_in w) k.now.state l ran.last.state) ran.same
+            (plain_moves (geometry_in w) k.now ran.events ran.last ran.made ran.stored);
+      }
 
   -- ---- one event
 

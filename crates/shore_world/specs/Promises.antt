@@ -1,5 +1,5 @@
 -- What stands behind a world that is a manager: the one hidden state that the promises speak of.
-use Rattle.std.specs.Prelude.{◌≡◌, ◌≢◌, ◌++◌, ℕ, List}
+use Rattle.std.specs.Prelude.{◌≡◌, ◌≢◌, ◌∷◌, ◌++◌, ℕ, List, []}
 use Rattle.std.specs.List.{AllByRecursion}
 use Rattle.shore_disk.specs.declared.device.Disk.{Ghosts}
 use Rattle.shore_model.specs.declared.calls.Call.{Call}
@@ -15,11 +15,15 @@ use Rattle.laws_runs.specs.SoundStores.{IsUnderWay}
 use Rattle.laws_runs.specs.StoredRuns.{StoredState}
 use Rattle.shore_world.specs.declared.event.Event.{Event}
 use Rattle.shore_world.specs.declared.world.World.{World}
-use Rattle.shore_world.specs.Exchanges.{AreLast, waited_behind}
+use Rattle.shore_world.specs.EventMoves.{moves_by}
+use Rattle.shore_world.specs.Exchanges.{AreLast, waited_after, waited_behind}
+use Rattle.laws_calls.specs.Events.{ManagerEvent}
+use Rattle.laws_calls.specs.Midway.{IsItsCycle}
 use Rattle.laws_calls.specs.SessionWaits.{AllWaitThere}
 use Rattle.laws_calls.specs.States.{State}
+use Rattle.laws_calls.specs.StoodCycles.{IsWithin}
 use Rattle.shore_world.specs.Lives.{DumpsShow}
-use Rattle.shore_world.specs.Worlds.{IsAt, durable_in, failed_in, geometry_in, list_in, requests_in, stream_bytes_in}
+use Rattle.shore_world.specs.Worlds.{IsAt, Runs, Steps, durable_in, failed_in, geometry_in, list_in, requests_in, stream_bytes_in}
 
 -- The world is a manager that opened with these records in place, and since then has come to these entries of its history, and to these calls with which
 -- sessions began to wait, the newest first. What else is here a reader of the promises need not know: an open makes such a world, and each run of one another.
@@ -51,3 +55,39 @@ pub record IsStateOf {L V : Type 0} {G : Ghosts L} {H : Ghosts V} (w : World L V
 pub record GoesOnAs {L V : Type 0} {G : Ghosts L} {H : Ghosts V} (new : World L V G H) (o : Records) (es : List Entry) (ws : List (ℕ × Call)) (e : Event) (step : Step) : Type 0 where
   pub made : List Entry
   pub manager : IsManagerOf new o (es ++ made) (waited_behind ws e step)
+
+-- A run comes to this event by some events before it, goes on by it, and from there by others to its end.
+pub record IsEventOf {L V : Type 0} {G : Ghosts L} {H : Ghosts V} (w : World L V G H) (events : List Event) (steps : List Step) (last : World L V G H) (before : List Event)
+    (before_steps : List Step) (start : World L V G H) (e : Event) (step : Step) (next : World L V G H) : Type 0 where
+  pub first_moves : List ManagerEvent
+  pub first : Runs w before before_steps first_moves start
+  pub one : Steps start e step next
+  pub after : List Event
+  pub after_steps : List Step
+  pub rest_moves : List ManagerEvent
+  pub rest : Runs next after after_steps rest_moves last
+  pub events_are : events ≡ before ++ e ∷ after
+  pub steps_are : steps ≡ before_steps ++ step ∷ after_steps
+
+-- In the midst of an event of a run this cycle of waits stood, of which the session's transaction was the greatest: in a state by which the event comes, from the
+-- one of the manager that the events before it left.
+pub record HasStood {L V : Type 0} {G : Ghosts L} {H : Ghosts V} (w : World L V G H) (o : Records) (es : List Entry) (ws : List (ℕ × Call)) (events : List Event) (steps : List Step)
+    (last : World L V G H) (session : ℕ) (cycle : List ℕ) : Type 0 where
+  pub before : List Event
+  pub before_steps : List Step
+  pub start : World L V G H
+  pub during : Event
+  pub step : Step
+  pub next : World L V G H
+  pub of_run : IsEventOf w events steps last before before_steps start during step next
+  pub made : List Entry
+  pub entries : List Entry
+  pub goes_on : entries ≡ es ++ made
+  pub manager : IsManagerOf start o entries (waited_after ws before before_steps)
+  pub on : GoesOnAs next o entries (waited_after ws before before_steps) during step
+  -- the event as the manager over plain data has it
+  pub move : ManagerEvent
+  pub is_move : moves_by during step ≡ move ∷ []
+  pub mid : State
+  pub within : IsWithin (geometry_in start) manager.now.state move on.manager.now.state mid
+  pub stood : IsItsCycle mid session cycle

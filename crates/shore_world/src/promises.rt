@@ -1,7 +1,7 @@
 //! What is promised of a world without a loss of power, event by event, in the words of a history, its records and its locks. Each law is stated as the
 //! contract of an empty function. `IsManagerOf` has all that is hidden: an open makes such a world (`committed_work_survives_every_crash`), and each run
 //! of one makes another (`runs_are_histories`).
-ghost use Rattle.std.specs.Prelude.{◌≡◌, ◌≢◌, ◌⊎◌, ◌+◌, ◌<◌, ◌++◌, ℕ, List, [], All, IsTrue, None, Some, length, map};
+ghost use Rattle.std.specs.Prelude.{◌≡◌, ◌≢◌, ◌⊎◌, ◌+◌, ◌<◌, ◌∷◌, ◌++◌, ℕ, List, [], All, IsTrue, None, Some, length, map};
 ghost use Rattle.shore_types.specs.declared.faults.Device.{Device};
 ghost use Rattle.shore_types.specs.declared.faults.Fault.{Fault};
 ghost use Rattle.shore_types.specs.declared.faults.Fault.TheVariants as fault;
@@ -38,7 +38,7 @@ ghost use Rattle.shore_world.specs.declared.world.World.{World};
 ghost use Rattle.shore_world.specs.Events.{IsServedEvent};
 ghost use Rattle.shore_world.specs.Exchanges.{exchanges_in, exchanges_of, waited_after};
 ghost use Rattle.shore_world.specs.Lives.{DumpsShow};
-ghost use Rattle.shore_world.specs.Promises.{AreUnended, GoesOnAs, IsManagerOf, IsStateOf};
+ghost use Rattle.shore_world.specs.Promises.{AreUnended, GoesOnAs, HasStood, IsManagerOf, IsStateOf};
 ghost use Rattle.shore_world.specs.Worlds.{Runs, Steps, durable_in, failed_in, geometry_in, list_in, requests_in};
 
 use shore_disk::Disk;
@@ -108,6 +108,14 @@ pub fn refusals_are_earned<L: Disk, V: Disk>()
         × (((waited : Waiting) × IsAmong waited k.now.state.waiting × (waited.session ≡ session) × (waited.cycle ≡ Some cycle))
         ⊎ ((between : List Interlude) × (mid : State) × Intervene (geometry_in w) session k.now.state between mid × IsItsCycle mid session cycle × ((later : List Interlude)
         × (from : State) × Intervene (geometry_in w) session mid later from × TellsVictim from session (Refused (fault.Deadlock cycle)) on.manager.now.state))) }
+{}
+
+/// A cycle that is told stood: of a run from a manager in which no call waits, as one is that was just opened, each resume that is refused with a cycle is told one
+/// that stood in the midst of an event of the run, perhaps of this very resume, and passed the session's transaction, the greatest of it.
+pub fn cycles_that_are_told_stood<L: Disk, V: Disk>()
+    ensures { (w last new : World L V L.Disk V.Disk) (o : Records) (es : List Entry) (events : List Event) (steps : List Step) (moves : List ManagerEvent) (session : ℕ) (cycle : List ℕ) →
+        IsManagerOf w o es [] → All IsServedEvent events → Runs w events steps moves last → Steps last (event.Resume session) (Refused (fault.Deadlock cycle)) new →
+        HasStood w o es [] (events ++ event.Resume session ∷ []) (steps ++ Refused (fault.Deadlock cycle) ∷ []) new session cycle }
 {}
 
 /// A refused call, but for a rollback, and a refused resume leave all as it was, but for locks, the calls that wait, and the transactions that were taken as
