@@ -19,3 +19,4 @@ pub mod RestartNames
 pub mod ExchangeLemmas
 pub mod PromiseLemmas
 pub mod StoodLemmas
+pub mod EndedLemmas

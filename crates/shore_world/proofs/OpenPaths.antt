@@ -155,7 +155,7 @@ module _ (g : Geometry) (log_bytes volume_bytes : ℕ) (rs : List LogRecord) (pa
 -- ---- power lost at the end of a way
 
 -- now is one of the moments since any other
-now_since : (bytes : List ℕ) (calls : List Call) (t : ℕ) (c : List ℕ) → LeftAfter bytes calls c → LeftSince bytes calls t c
+pub now_since : (bytes : List ℕ) (calls : List Call) (t : ℕ) (c : List ℕ) → LeftAfter bytes calls c → LeftSince bytes calls t c
 now_since bytes [] t c left = left
 now_since bytes (call ∷ older) t c left = inl left
 

@@ -1,6 +1,6 @@
 -- What an open says of its way, if what is read of its devices stands for a log: past both barriers, and from moment to moment, by steps of a restart, to
 -- the world that it answers.
-use Rattle.std.specs.Prelude.{◌≡◌, ◌⊎◌, ◌-◌, ◌≤◌, ℕ, List, [], Result, Ok, Err, length, take}
+use Rattle.std.specs.Prelude.{◌≡◌, ◌⊎◌, ◌-◌, ◌≤◌, ℕ, List, [], ◌∷◌, Result, Ok, Err, length, take}
 use Rattle.shore_types.specs.declared.faults.Fault.{Fault}
 use Rattle.shore_types.specs.declared.layout.Geometry.{Geometry}
 use Rattle.shore_types.specs.declared.layout.TheConstants.{LOG_FRONT_BYTES}
@@ -21,6 +21,7 @@ use Rattle.laws_images.specs.StandsFor.{StandsFor, begun_on}
 use Rattle.shore_restart.specs.declared.passes.Report.{Report}
 use Rattle.shore_restart.specs.Turns.{IsUndoneSoFar}
 use Rattle.shore_world.specs.declared.world.World.{World}
+use Rattle.shore_world.specs.Crashes.{IsEndedBetween}
 use Rattle.shore_world.specs.Worlds.{IsAt, geometry_in, history_in, volume_history_in}
 
 -- ---- the way
@@ -41,6 +42,20 @@ LeftByOpen log volume log_left volume_left =
     (g : Geometry) (rs : List LogRecord) (pages : LoggedPages) → StandsFor g (size log) (size volume) rs pages (seen log) (seen volume)
     → (may_leave log log_left × may_leave volume volume_left)
     ⊎ ((way : OpenWay g log volume rs pages) × IsLostAlong (begun_on way.log_behind way.volume_behind rs pages) way.moments log_left volume_left)
+
+-- The process of an open ends on the way between two of these moments, with no loss of power.
+abbrev pub IsEndedAlong : Moment → List Moment → History → History → Type 0
+IsEndedAlong first [] log volume = IsEndedBetween first.log first.log log × IsEndedBetween first.volume first.volume volume
+IsEndedAlong first (next ∷ later) log volume =
+    (IsEndedBetween first.log next.log log × IsEndedBetween first.volume next.volume volume) ⊎ IsEndedAlong next later log volume
+
+-- .. before both barriers have answered, or on the way from there, if what is read of the devices stands for a log and pages
+abbrev pub AreEndedInOpen : History → History → History → History → Type 0
+AreEndedInOpen log volume log_now volume_now =
+    (g : Geometry) (rs : List LogRecord) (pages : LoggedPages) → StandsFor g (size log) (size volume) rs pages (seen log) (seen volume)
+    → ((log_later : History) × (volume_later : History) × IsBeforeBarrier log log_later × IsBeforeBarrier volume volume_later
+    × IsEndedBetween log log_later log_now × IsEndedBetween volume volume_later volume_now)
+    ⊎ ((way : OpenWay g log volume rs pages) × IsEndedAlong (begun_on way.log_behind way.volume_behind rs pages) way.moments log_now volume_now)
 
 -- ---- its end
 

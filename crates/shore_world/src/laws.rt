@@ -19,11 +19,11 @@ ghost use Rattle.laws_runs.specs.Stays.{IsStoredUp};
 ghost use Rattle.laws_images.specs.StandsFor.{StandsFor};
 ghost use Rattle.shore_world.specs.declared.event.Event.{Event};
 ghost use Rattle.shore_world.specs.declared.world.World.{World};
-ghost use Rattle.shore_world.specs.Crashes.{AreLeft};
+ghost use Rattle.shore_world.specs.Crashes.{AreEnded, AreLeft};
 ghost use Rattle.shore_world.specs.Events.{IsServedEvent};
 ghost use Rattle.shore_world.specs.Lives.{DumpsShow, HaveLived};
 ghost use Rattle.shore_world.specs.Managers.{AreFound, AreStays, IsManager, IsRunOf, Manager, NoForceIsFull, Stay};
-ghost use Rattle.shore_world.specs.Opens.{HasOpened, LeftByOpen, OpensAlong};
+ghost use Rattle.shore_world.specs.Opens.{AreEndedInOpen, HasOpened, LeftByOpen, OpensAlong};
 ghost use Rattle.shore_world.specs.Promises.{IsManagerOf};
 ghost use Rattle.shore_world.specs.Worlds.{IsAt, Runs, geometry_in, history_in, requests_in, stream_bytes_in, volume_history_in};
 
@@ -60,8 +60,9 @@ pub fn committed_work_survives_every_crash<L: Disk, V: Disk>()
 {}
 
 /// Each way to come from one open to the next is among those of `AreStays`. Behind a loss of power the devices hold one pair of images that was left, all of
-/// it stable: of a manager (`crash`), or of an open that it cut off (`cut`). A manager may hand its devices back with no loss of power (`closed`), and so does
-/// an open that is refused (`refused`).
+/// it stable: of a manager (`crash`), or of an open that it cut off (`cut`). With no loss of power a manager may hand its devices back (`closed`), and so does an
+/// open that is refused (`refused`); or the process ends, in the midst of an event, of a dump (`ended`) or of an open (`ended_in_open`): then writes that no sync
+/// has covered are still there, and one may be there in part.
 pub fn pairs_are_found_again<L: Disk, V: Disk>()
     ensures crash { (w : World L V L.Disk V.Disk) (log volume : History) (log_image volume_image : List ℕ) → AreLeft w log_image volume_image → Stands log log_image →
         Stands volume volume_image → AreFound (size log) (size volume) (AreLeft w) log volume }
@@ -72,6 +73,10 @@ pub fn pairs_are_found_again<L: Disk, V: Disk>()
         ((g : Geometry) (rs : List LogRecord) (pages : LoggedPages) → StandsFor g (size log) (size volume) rs pages (seen log) (seen volume) →
         OpensAlong {G = L.Disk} {H = V.Disk} (Err (fault, l, v)) g log volume rs pages) →
         (log_image volume_image : List ℕ) → may_leave log_now log_image → may_leave volume_now volume_image → LeftByOpen log volume log_image volume_image }
+    ensures ended { (w : World L V L.Disk V.Disk) (log volume : History) → AreEnded w log volume →
+        AreFound (size (history_in w)) (size (volume_history_in w)) (AreLeft w) log volume }
+    ensures ended_in_open { (log volume log_now volume_now : History) → AreEndedInOpen log volume log_now volume_now →
+        AreFound (size log_now) (size volume_now) (LeftByOpen log volume) log_now volume_now }
 {}
 
 /// A manager on a pair that stands for a log and pages is a stay of the power over plain data, and no force of it is refused by `LogFull`.

@@ -3,6 +3,7 @@ use Rattle.shore_disk.proofs.Moments.{at_end}
 use Rattle.shore_disk.specs.Device.{History, may_leave}
 use Rattle.shore_world.specs.Crashes.{AreLeft}
 use Rattle.shore_world.specs.Opens.{LeftByOpen}
+use Rattle.shore_world.proofs.EndedLemmas.{ended_found, ended_in_open}
 use Rattle.shore_world.proofs.OpenPaths.{lost_at_last}
 use Rattle.shore_world.proofs.laws.pairs_are_found_again.Goals as goal
 
@@ -34,3 +35,9 @@ returns-clause-refused c d log volume log_now volume_now fault l v log_is volume
       lost_at_last g _ _ _ went.0.moments went.0.last went.0.path i j (subst (λ (h : History). may_leave h i) (sym went.1) log_may) (subst (λ (h : History). may_leave h j) (sym went.2) volume_may),
     ))
     (along g rs pages stood)
+
+pub returns-clause-ended : goal.returns-clause-ended
+returns-clause-ended c d w log volume ended = ended_found w log volume ended
+
+pub returns-clause-ended_in_open : goal.returns-clause-ended_in_open
+returns-clause-ended_in_open c d log volume log_now volume_now ended = record { lengths = (refl, refl); among = ended_in_open log volume log_now volume_now ended }
