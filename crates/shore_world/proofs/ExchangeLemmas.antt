@@ -267,7 +267,7 @@ module _ (g : Geometry) (found : List LogRecord) (es : List Entry) (s : State) (
   resumed_told w Nothing = refl
 
   -- a session that does not wait has nothing to go on with
-  nothing_waits : (session : ℕ) (step : Step) (new : State) → DoesNotWait s session → SettledResume g s session step new → step ≡ Nothing
+  pub nothing_waits : (session : ℕ) (step : Step) (new : State) → DoesNotWait s session → SettledResume g s session step new → step ≡ Nothing
   nothing_waits session step new idle (inl told) = absurd (idle told.waited told.there told.of)
   nothing_waits session step new idle (inr (inl (inl still, same))) = still.1
   nothing_waits session step new idle (inr (inl (inr goes, same))) = absurd (idle goes.0 goes.1 goes.2)

@@ -1,5 +1,7 @@
 pub mod WorldLemmas
 pub mod VolumeLemmas
+pub mod UnmovedLemmas
+pub mod UnchangedLemmas
 pub mod RunLemmas
 pub mod ForceLemmas
 pub mod GrowLemmas
@@ -19,4 +21,5 @@ pub mod RestartNames
 pub mod ExchangeLemmas
 pub mod PromiseLemmas
 pub mod StoodLemmas
+pub mod WorkLemmas
 pub mod EndedLemmas

@@ -23,9 +23,9 @@ use Rattle.shore_fronts.specs.Causes.{HasCauseOfPair}
 use Rattle.shore_world.specs.declared.event.Event.{Event}
 use Rattle.shore_world.specs.declared.event.Event.TheVariants as event
 use Rattle.shore_world.specs.declared.world.World.{World}
-use Rattle.shore_world.specs.Events.{IsCall, IsOfForce, IsOfPages, ReadBy, force_needed_at}
+use Rattle.shore_world.specs.Events.{IsCall, IsOfForce, IsOfNoSession, IsOfPages, ReadBy, force_needed_at}
 use Rattle.shore_world.specs.EventMoves.{all_moves, moves_by}
-use Rattle.shore_world.specs.Worlds.{EventStep, HasFlushed, IsLike, EventMovesWorld, Runs, Steps, report_in}
+use Rattle.shore_world.specs.Worlds.{EventStep, HasFlushed, IsLike, IsUnchanged, EventMovesWorld, Runs, Steps, report_in}
 use Rattle.shore_world.proofs.VolumeLemmas.{both_still, comes_unworked}
 
 -- ---- a run of events
@@ -96,6 +96,13 @@ of_both event.FlushStep one other = other
 pub call_is_no_flush : (e : Event) → IsCall e → e ≡ event.FlushStep → ⊥
 call_is_no_flush e call is = subst IsCall is call
 
+pub call_is_no_own_step : (e : Event) → IsCall e → IsOfNoSession e → ⊥
+call_is_no_own_step (event.Call session call) is other = other
+call_is_no_own_step (event.Resume session) is other = is
+call_is_no_own_step event.ForceStage is other = is
+call_is_no_own_step event.ForceOpen is other = is
+call_is_no_own_step event.FlushStep is other = is
+
 pub open_is_no_stage : event.ForceOpen ≡ event.ForceStage → ⊥
 open_is_no_stage is = absurd cc
 
@@ -136,8 +143,9 @@ log_cause step log log_now volume volume_now same cause = record {
 pub no_force : {L V : Type 0} {G : Ghosts L} {H : Ghosts V} (old new : World L V G H) (e : Event) (step : Step) → IsOfPages e → new.log.device ≡ old.log.device
     → report_in new ≡ report_in old → EventMovesWorld old e step new → SameVolume old.core new.core → (e ≡ event.FlushStep → HasFlushed old step new)
     → Earns old.core (ReadBy old.core e) (fault_at step) → NeedsForceIn old.core (force_needed_at e old.core new.core) (fault_at step)
-    → HasCause (fault_at step) (faults_of old.core) (faults_of new.core) → Steps old e step new
-no_force {G = G} old new e step other device report moves same flushed earned unforced cause = record {
+    → HasCause (fault_at step) (faults_of old.core) (faults_of new.core) → (IsOfNoSession e → step ≡ Nothing → IsUnchanged old new)
+    → Steps old e step new
+no_force {G = G} old new e step other device report moves same flushed earned unforced cause quiet = record {
   moves = moves;
   still = λ is. device;
   volume = λ is. absurd (of_both e other is);
@@ -146,7 +154,7 @@ no_force {G = G} old new e step other device report moves same flushed earned un
   forced = λ n is done. absurd (subst IsOfPages is other);
   idle = λ is nothing. absurd (subst IsOfPages is other);
   shut = λ is nothing. absurd (subst IsOfPages is other);
-  quiet = λ is. device;
+  quiet = quiet;
   full = λ is refused room. subst IsOfPages is other;
   flushed = flushed;
   report = report;

@@ -229,7 +229,7 @@ module _ {L V : Type 0} {G : Ghosts L} {H : Ghosts V} (g : Geometry) (stream_byt
 
   -- ---- room for each force
 
-  has_room : (es : List Entry) (w : World L V G H) (m : StoredState) → IsUpAt es w m → cost_of_log (list_in w) + LONGEST_FRAME ≤ stream_bytes_in w
+  pub has_room : (es : List Entry) (w : World L V G H) (m : StoredState) → IsUpAt es w m → cost_of_log (list_in w) + LONGEST_FRAME ≤ stream_bytes_in w
   has_room es w m up =
       subst (λ n. cost_of_log (list_in w) + LONGEST_FRAME ≤ n) (sym up.long)
       (subst (λ (l : List LogRecord). cost_of_log l + LONGEST_FRAME ≤ stream_bytes) up.at.is_in.beside.parts.log

@@ -40,6 +40,14 @@ IsOfForce event.ForceStage = Unit {0}
 IsOfForce event.ForceOpen = Unit {0}
 IsOfForce event.FlushStep = ⊥
 
+-- a step that no session asks for: of a force, or of the flush
+abbrev pub IsOfNoSession : Event → Type 0
+IsOfNoSession (event.Call session call) = ⊥
+IsOfNoSession (event.Resume session) = ⊥
+IsOfNoSession event.ForceStage = Unit {0}
+IsOfNoSession event.ForceOpen = Unit {0}
+IsOfNoSession event.FlushStep = Unit {0}
+
 -- the pages of the volume that an event of a core may read: going on with a call may read what the call may
 abbrev pub ReadBy : {T V : Type 0} {G : tail.Ghosts T} {H : disk.Ghosts V} → Core T V G H → Event → PageId → Type 0
 ReadBy core (event.Call session call) page = Reads call page

@@ -1,11 +1,17 @@
 -- What stands behind a world that is a manager: the one hidden state that the promises speak of.
-use Rattle.std.specs.Prelude.{◌≡◌, ◌≢◌, ◌∷◌, ◌++◌, ℕ, List, []}
+use Rattle.std.specs.Prelude.{◌≡◌, ◌≢◌, ◌⊎◌, ◌<◌, ◌≤◌, ◌∷◌, ◌++◌, ℕ, List, [], IsTrue, None, false, length}
 use Rattle.std.specs.List.{AllByRecursion}
+use Rattle.shore_types.specs.declared.faults.Fault.TheVariants.{Device, Failed, Memory}
 use Rattle.shore_disk.specs.declared.device.Disk.{Ghosts}
+use Rattle.shore_model.specs.declared.calls.Answer.TheVariants.{Flushed, Forced, Staged}
 use Rattle.shore_model.specs.declared.calls.Call.{Call}
 use Rattle.shore_model.specs.declared.histories.Entry.{Entry}
 use Rattle.shore_model.specs.declared.log_records.LogRecord.{LogRecord}
 use Rattle.shore_model.specs.declared.step.Step.{Step}
+use Rattle.shore_model.specs.declared.step.Step.TheVariants.{Done, Nothing, Refused}
+use Rattle.shore_flush.specs.Flushes.{Flushes, NoneDue}
+use Rattle.shore_heap.specs.Heaps.{pool_of}
+use Rattle.shore_core.specs.Cores.{heap_of}
 use Rattle.laws_lives.specs.LogTells.{records_committed}
 use Rattle.laws_lives.specs.Soundness.{decided_txn, in_txn}
 use Rattle.laws_lives.specs.Views.{IsAmong}
@@ -23,7 +29,7 @@ use Rattle.laws_calls.specs.SessionWaits.{AllWaitThere}
 use Rattle.laws_calls.specs.States.{State}
 use Rattle.laws_calls.specs.StoodCycles.{IsWithin}
 use Rattle.shore_world.specs.Lives.{DumpsShow}
-use Rattle.shore_world.specs.Worlds.{IsAt, Runs, Steps, durable_in, failed_in, geometry_in, list_in, requests_in, stream_bytes_in}
+use Rattle.shore_world.specs.Worlds.{HasForced, HasStaged, IsAt, IsIdle, Runs, Steps, durable_in, failed_in, geometry_in, list_in, requests_in, stream_bytes_in}
 
 -- The world is a manager that opened with these records in place, and since then has come to these entries of its history, and to these calls with which
 -- sessions began to wait, the newest first. What else is here a reader of the promises need not know: an open makes such a world, and each run of one another.
@@ -91,3 +97,32 @@ pub record HasStood {L V : Type 0} {G : Ghosts L} {H : Ghosts V} (w : World L V 
   pub mid : State
   pub within : IsWithin (geometry_in start) manager.now.state move on.manager.now.state mid
   pub stood : IsItsCycle mid session cycle
+
+-- ---- steps
+
+-- a step that no session asks for is refused: a device has failed, before or now
+abbrev pub HasFailedStep : {L V : Type 0} {G : Ghosts L} {H : Ghosts V} → World L V G H → Step → Type 0
+HasFailedStep w step = (IsTrue (failed_in w) × (step ≡ Refused Failed)) ⊎ ((failed_in w ≡ false) × (step ≡ Refused Device))
+
+-- .. or memory is short
+abbrev pub IsRefusedStep : {L V : Type 0} {G : Ghosts L} {H : Ghosts V} → World L V G H → Step → Type 0
+IsRefusedStep w step = HasFailedStep w step ⊎ ((failed_in w ≡ false) × (step ≡ Refused Memory))
+
+-- The longest list of the records not yet durable is staged that one frame holds, the last of this number; or a frame is under way, or there is none of them.
+abbrev pub StagesIfAny : {L V : Type 0} {G : Ghosts L} {H : Ghosts V} → World L V G H → Step → World L V G H → Type 0
+StagesIfAny w step new =
+    (IsIdle w × (step ≡ Nothing))
+    ⊎ ((IsIdle w → ⊥) × ((n : ℕ) × (step ≡ Done (Staged n)) × (durable_in w < n) × (n ≤ length (list_in w)) × HasStaged w new n))
+
+-- the frame that was under way is durable now, up to its last record, of this number; or none was
+abbrev pub OpensIfAny : {L V : Type 0} {G : Ghosts L} {H : Ghosts V} → World L V G H → Step → World L V G H → Type 0
+OpensIfAny w step new =
+    ((w.log.staged ≡ None) × (step ≡ Nothing))
+    ⊎ ((n : ℕ) × (step ≡ Done (Forced n)) × (durable_in w < n) × (n ≤ length (list_in w)) × HasForced w new n × (durable_in new ≡ n))
+
+-- so many pages were written back, the first of the volume that are due; or none is due
+abbrev pub FlushesIfAny : {L V : Type 0} {G : Ghosts L} {H : Ghosts V} → World L V G H → Step → World L V G H → Type 0
+FlushesIfAny w step new =
+    (NoneDue (pool_of (heap_of w.core)) (durable_in w) × (step ≡ Nothing))
+    ⊎ ((NoneDue (pool_of (heap_of w.core)) (durable_in w) → ⊥)
+    × ((count : ℕ) × (step ≡ Done (Flushed count)) × (0 < count) × Flushes (pool_of (heap_of w.core)) (pool_of (heap_of new.core)) (durable_in w) count))

@@ -34,7 +34,7 @@ use Rattle.laws_images.specs.Moments.{GivesPrefixOf, ShowsLeft}
 use Rattle.shore_world.specs.declared.event.Event.{Event}
 use Rattle.shore_world.specs.declared.event.Event.TheVariants as event
 use Rattle.shore_world.specs.declared.world.World.{World}
-use Rattle.shore_world.specs.Events.{IsOfForce, IsOfPages, ReadBy, force_needed_at}
+use Rattle.shore_world.specs.Events.{IsOfForce, IsOfNoSession, IsOfPages, ReadBy, force_needed_at}
 use Rattle.shore_world.specs.EventMoves.{moves_by}
 
 -- ---- what it has
@@ -140,6 +140,18 @@ module _ {L V : Type 0} {G : Ghosts L} {H : Ghosts V} where
     pub log : SurvivesCrashes w log_front
     pub volume : (c : List ℕ) → may_leave (volume_history_in w) c → ShowsLeft (geometry_in w) front store c
 
+  -- Nothing has changed that a call, a dump or a crash could tell: it is at the same states, over the same stores. No call of a device was made, and each page is
+  -- in the frame in which it was.
+  pub record IsUnchanged (old new : World L V G H) : Type 0 where
+    pub at : (log_front front : List ℕ) (disk : ℕ → List ℕ) (s : State) (store : RecoveryState) → IsAt old log_front front disk s store → IsAt new log_front front disk s store
+    pub device : new.log.device ≡ old.log.device
+    pub pool : pool_of (cores.heap_of new.core) ≡ pool_of (cores.heap_of old.core)
+    pub list : list_in new ≡ list_in old
+    pub durable : durable_in new ≡ durable_in old
+    pub failed : failed_in new ≡ failed_in old
+    pub staged : new.log.staged ≡ old.log.staged
+    pub report : report_in new ≡ report_in old
+
   -- there is no frame to stage: one is under way, or every record is durable
   abbrev pub IsIdle : World L V G H → Type 0
   IsIdle w = IsSome w.log.staged ⊎ (durable_in w ≡ length (list_in w))
@@ -215,8 +227,8 @@ module _ {L V : Type 0} {G : Ghosts L} {H : Ghosts V} where
     -- nothing is staged only if every record is durable or a frame is under way, and no gate is opened only if none is
     pub idle : e ≡ event.ForceStage → step ≡ Nothing → IsIdle old
     pub shut : e ≡ event.ForceOpen → step ≡ Nothing → old.log.staged ≡ None
-    -- .. and whatever comes to nothing makes no call of the log device
-    pub quiet : step ≡ Nothing → new.log.device ≡ old.log.device
+    -- .. and whatever comes to nothing has changed nothing, of the steps that no session asks for
+    pub quiet : IsOfNoSession e → step ≡ Nothing → IsUnchanged old new
     pub full : e ≡ event.ForceStage → step ≡ Refused LogFull → ¬ HasForceRoom old
     pub flushed : e ≡ event.FlushStep → HasFlushed old step new
     pub report : report_in new ≡ report_in old

@@ -1,7 +1,7 @@
 //! What is promised of a world without a loss of power, event by event, in the words of a history, its records and its locks. Each law is stated as the
 //! contract of an empty function. `IsManagerOf` has all that is hidden: an open makes such a world (`committed_work_survives_every_crash`), and each run
 //! of one makes another (`runs_are_histories`).
-ghost use Rattle.std.specs.Prelude.{◌≡◌, ◌≢◌, ◌⊎◌, ◌+◌, ◌<◌, ◌∷◌, ◌++◌, ℕ, List, [], All, IsTrue, None, Some, length, map};
+ghost use Rattle.std.specs.Prelude.{◌≡◌, ◌≢◌, ◌↔◌, ◌⊎◌, ◌+◌, ◌<◌, ◌∷◌, ◌++◌, ℕ, List, [], All, IsTrue, None, Some, length, map};
 ghost use Rattle.shore_types.specs.declared.faults.Device.{Device};
 ghost use Rattle.shore_types.specs.declared.faults.Fault.{Fault};
 ghost use Rattle.shore_types.specs.declared.faults.Fault.TheVariants as fault;
@@ -17,7 +17,7 @@ ghost use Rattle.shore_model.specs.declared.calls.Call.TheVariants.{Abort, Commi
 ghost use Rattle.shore_model.specs.declared.calls.Call.{Call};
 ghost use Rattle.shore_model.specs.declared.histories.Entry.{Entry};
 ghost use Rattle.shore_model.specs.declared.rollbacks.Rollback.{Rollback};
-ghost use Rattle.shore_model.specs.declared.step.Step.TheVariants.{Done, Refused, Waits};
+ghost use Rattle.shore_model.specs.declared.step.Step.TheVariants.{Done, Nothing, Refused, Waits};
 ghost use Rattle.shore_model.specs.declared.step.Step.{Step};
 ghost use Rattle.shore_model.specs.declared.step.Wait.TheVariants.{Durable, Lock};
 ghost use Rattle.shore_locks.specs.Grants.{released};
@@ -30,16 +30,16 @@ ghost use Rattle.laws_calls.specs.Events.{ManagerEvent};
 ghost use Rattle.laws_calls.specs.LockChanges.{ChangesLocks};
 ghost use Rattle.laws_calls.specs.Midway.{AsksAgainIn, AsksIn, HasItsWait, Interlude, Intervene, IsItsCycle, IsMidway, but_doomed, cycles_among, victims_among};
 ghost use Rattle.laws_calls.specs.Shapes.{IsLackOfRoom, rollback_of};
-ghost use Rattle.laws_calls.specs.States.{IsOfSession, State, Waiting};
+ghost use Rattle.laws_calls.specs.States.{DoesNotWait, IsOfSession, State, Waiting};
 ghost use Rattle.laws_calls.specs.Victims.{TellsVictim};
 ghost use Rattle.shore_world.specs.declared.event.Event.TheVariants as event;
 ghost use Rattle.shore_world.specs.declared.event.Event.{Event};
 ghost use Rattle.shore_world.specs.declared.world.World.{World};
-ghost use Rattle.shore_world.specs.Events.{IsServedEvent};
+ghost use Rattle.shore_world.specs.Events.{IsOfNoSession, IsServedEvent};
 ghost use Rattle.shore_world.specs.Exchanges.{exchanges_in, exchanges_of, waited_after};
 ghost use Rattle.shore_world.specs.Lives.{DumpsShow};
-ghost use Rattle.shore_world.specs.Promises.{AreUnended, GoesOnAs, HasStood, IsManagerOf, IsStateOf};
-ghost use Rattle.shore_world.specs.Worlds.{Runs, Steps, durable_in, failed_in, geometry_in, list_in, requests_in};
+ghost use Rattle.shore_world.specs.Promises.{AreUnended, FlushesIfAny, GoesOnAs, HasFailedStep, HasStood, IsManagerOf, IsRefusedStep, IsStateOf, OpensIfAny, StagesIfAny};
+ghost use Rattle.shore_world.specs.Worlds.{IsUnchanged, Runs, Steps, durable_in, failed_in, geometry_in, list_in, requests_in};
 
 use shore_disk::Disk;
 
@@ -171,6 +171,29 @@ pub fn locks_change_only_as_asked<L: Disk, V: Disk>()
         ⊎ ((waited : Waiting) × IsAmong waited k.now.state.waiting × (waited.session ≡ session) × ((a : SessionTxn) × IsOfSession k.now.state session a
         × ((between : List Interlude) × ((mid : State) × Intervene (geometry_in w) session k.now.state between mid)
         × ChangesLocks (requests_in w) a.txn waited.call (cycles_among between) (requests_in new))))) }
+{}
+
+/// Steps do their work, unless a device has failed or memory is short. A `ForceStage` stages the longest list of the records not yet durable that one frame holds, and
+/// nothing if there is none of them or a frame is under way. A `ForceOpen` makes durable just the frame that is under way, up to its last record, and nothing if
+/// none is. A step of the flush writes back as many pages as it answers, the first of the volume that are due, and nothing if none is. A resume has nothing to do if no
+/// call of its session waits, and only then, and leaves the state; a call always comes to something. Whatever of the other steps comes to nothing has changed
+/// nothing: the world is a manager of the same state, no call of a device was made, and each page is in its frame.
+pub fn steps_do_their_work<L: Disk, V: Disk>()
+    ensures stage { (w new : World L V L.Disk V.Disk) (o : Records) (es : List Entry) (ws : List (ℕ × Call)) (step : Step) →
+        IsManagerOf w o es ws → Steps w event.ForceStage step new → IsRefusedStep w step ⊎ StagesIfAny w step new }
+    ensures opens { (w new : World L V L.Disk V.Disk) (o : Records) (es : List Entry) (ws : List (ℕ × Call)) (step : Step) →
+        IsManagerOf w o es ws → Steps w event.ForceOpen step new → HasFailedStep w step ⊎ OpensIfAny w step new }
+    ensures flush { (w new : World L V L.Disk V.Disk) (o : Records) (es : List Entry) (ws : List (ℕ × Call)) (step : Step) →
+        IsManagerOf w o es ws → Steps w event.FlushStep step new → IsRefusedStep w step ⊎ FlushesIfAny w step new }
+    ensures resume { (w new : World L V L.Disk V.Disk) (o : Records) (es : List Entry) (ws : List (ℕ × Call)) (session : ℕ) (step : Step) →
+        (k : IsManagerOf w o es ws) → Steps w (event.Resume session) step new → (step ≡ Nothing) ↔ DoesNotWait k.now.state session }
+    ensures call { (w new : World L V L.Disk V.Disk) (o : Records) (es : List Entry) (ws : List (ℕ × Call)) (session : ℕ) (c : Call) →
+        IsManagerOf w o es ws → IsServed c → Steps w (event.Call session c) Nothing new → ⊥ }
+    ensures unchanged { (w new : World L V L.Disk V.Disk) (o : Records) (es : List Entry) (ws : List (ℕ × Call)) (e : Event) →
+        (k : IsManagerOf w o es ws) → IsOfNoSession e → Steps w e Nothing new → IsUnchanged w new × ((on : IsManagerOf new o es ws) × (on.now ≡ k.now)) }
+    ensures kept { (w new : World L V L.Disk V.Disk) (o : Records) (es : List Entry) (ws : List (ℕ × Call)) (session : ℕ) →
+        (k : IsManagerOf w o es ws) → Steps w (event.Resume session) Nothing new →
+        (on : GoesOnAs new o es ws (event.Resume session) Nothing) × (on.manager.now.state ≡ k.now.state) × (new.log.device ≡ w.log.device) }
 {}
 
 /// What can be seen of the state of a manager, of which the promises speak: its lock requests, its log, what of it is durable, whether a device has failed, and

@@ -40,7 +40,7 @@ pub struct World<L: Disk, V: Disk> {
 }
 
 impl<L: Disk, V: Disk> World<L, V> {
-    ghost use Rattle.shore_world.specs.Worlds.{IsDumpOf, IsInState, IsOverStore, EventMovesWorld, HasForced, HasStaged, HasFailedToRead, IsLike, Steps, Runs, HasForceRoom, IsIdle, durable_in, failed_in, frames_in, geometry_in, list_in, report_in, requests_in, fault_in, log_in, volume_in};
+    ghost use Rattle.shore_world.specs.Worlds.{IsDumpOf, IsInState, IsOverStore, EventMovesWorld, HasForced, HasStaged, HasFailedToRead, IsLike, IsUnchanged, Steps, Runs, HasForceRoom, IsIdle, durable_in, failed_in, frames_in, geometry_in, list_in, report_in, requests_in, fault_in, log_in, volume_in};
     ghost use Rattle.shore_world.specs.Opens.{IsReportOf, OpensAlong};
     ghost use Rattle.shore_frames.specs.Frames.{Gives};
     ghost use Rattle.shore_world.specs.Refusals.{RefusesOpen};
@@ -241,7 +241,7 @@ impl<L: Disk, V: Disk> World<L, V> {
         ensures volume { heap_of self.new.core ≡ heap_of self.old.core }
         ensures report { report_in self.new ≡ report_in self.old }
         ensures idle { result ≡ Step.Nothing → IsIdle self.old }
-        ensures quiet { result ≡ Step.Nothing → self.new.log.device ≡ self.old.log.device }
+        ensures quiet { result ≡ Step.Nothing → IsUnchanged self.old self.new }
         ensures full { result ≡ Step.Refused Fault.LogFull → ¬ HasForceRoom self.old }
         ensures damaged { Earns self.old.core (ReadBy self.old.core Event.ForceStage) (fault_at result) }
         ensures unforced { NeedsForce self.old.core (fault_at result) }
@@ -269,7 +269,7 @@ impl<L: Disk, V: Disk> World<L, V> {
         ensures volume { heap_of self.new.core ≡ heap_of self.old.core }
         ensures report { report_in self.new ≡ report_in self.old }
         ensures shut { result ≡ Step.Nothing → self.old.log.staged ≡ None }
-        ensures quiet { result ≡ Step.Nothing → self.new.log.device ≡ self.old.log.device }
+        ensures quiet { result ≡ Step.Nothing → IsUnchanged self.old self.new }
         ensures damaged { Earns self.old.core (ReadBy self.old.core Event.ForceOpen) (fault_at result) }
         ensures unforced { NeedsForce self.old.core (fault_at result) }
         ensures cause { HasCause (fault_at result) (L.faults self.old.log.device) (L.faults self.new.log.device) }

@@ -9,6 +9,7 @@ use Rattle.laws_calls.specs.StateChanges.{with_durable, with_failure}
 use Rattle.shore_core.specs.Cores.{IsIn, waiting_of}
 use Rattle.shore_world.specs.declared.event.Event.TheVariants.{ForceOpen}
 use Rattle.shore_world.proofs.RunLemmas.{open_is_no_flush}
+use Rattle.shore_world.proofs.UnchangedLemmas.{unchanged_parts}
 use Rattle.shore_world.proofs.WorldLemmas.{failed_runs, force_moves, none_more, nothing_done, opening_gate, ready_same, same_list, some_stands, unmoved}
 use Rattle.shore_world.proofs.world.World.force_open.Goals as goal
 
@@ -77,3 +78,7 @@ returns-clause-moves g c =
       is_in = subst (λ (l : List LogRecord). IsIn front disk l c.told.new.self (with_durable n s)) (sym same) told.0;
       told = inr (n, stored_later, stored_within, told.1);
     })
+
+pub returns-in_default-clause-quiet : goal.returns-in_default-clause-quiet
+returns-in_default-clause-quiet g c nothing =
+    unchanged_parts c.args.self.now _ refl (c.open_staged.ensures.nothing (c.in-Ok.is ∙ ap (λ n. Ok n) c.in_default.is)) refl

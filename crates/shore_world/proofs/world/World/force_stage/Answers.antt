@@ -14,6 +14,7 @@ use Rattle.shore_world.specs.declared.event.Event.TheVariants.{ForceStage}
 use Rattle.shore_world.specs.declared.world.World.{World}
 use Rattle.shore_world.specs.Worlds.{IsInState, IsOverStore, durable_in, failed_in, list_in}
 use Rattle.shore_world.proofs.RunLemmas.{stage_is_no_flush}
+use Rattle.shore_world.proofs.UnchangedLemmas.{unchanged_itself, unchanged_of}
 use Rattle.shore_world.proofs.WorldLemmas.{failed_runs, force_moves, handed, has_staged, is_some_and, length-stable, none_staged, not_left, nothing_done, staging}
 use Rattle.shore_restart.proofs.Rooms.{cost_append, frame_has_room}
 use Rattle.shore_world.proofs.ForceLemmas.{other_is_no_device, ready_settled, refused_is}
@@ -172,3 +173,19 @@ returns-in-Ok-Some-clause-staged g c n is =
     sym (append-nil mid.records.items) ∙ sym (ap (λ (l : List LogRecord). mid.records.items ++ l) emptied) ∙ c.hand_over.ensures.list in
     has_staged old _ mid n number none same forced list longest.1 (is_some_and _ _ _ frame refl)
     (λ front k. rw c.in-Ok-Some.field-0-is at (c.in-Ok-Some.ensures.staged front (c.hand_over.ensures.settled front (ready_settled old front none (k.ready running))) waits))
+
+pub returns-then-is_staged-clause-quiet : goal.returns-then-is_staged-clause-quiet
+returns-then-is_staged-clause-quiet g c nothing = unchanged_itself c.args.self.now
+
+pub returns-in-Ok-None-clause-quiet : goal.returns-in-Ok-None-clause-quiet
+returns-in-Ok-None-clause-quiet g c nothing =
+    let old = c.args.self.now in
+    let none = none_staged old.log c.is_staged.result c.is_staged.ensures c.if-is_staged.false in
+    let h = c.hand_over.ensures in
+    let unchanged = c.stage.ensures.nothing (c.in-Ok-None.is ∙ ap (λ n. Ok n) c.in-Ok-None.field-0-is) in
+    let same = c.stage.ensures.same.0 in
+    let staged = ap (λ (l : LogDev g.row.L.Denot g.L.Disk). l.staged) unchanged ∙ h.still.1 in
+    unchanged_of old _ (ap (λ (l : LogDev g.row.L.Denot g.L.Disk). l.device) unchanged ∙ h.still.0) (ap heaps.pool_of h.heap)
+    (ap (λ (l : List LogRecord). l ++ waiting_of c.hand_over.new.self) same ∙ h.list) h.durable h.running staged refl (λ front ready.
+    inl (subst (λ (l : LogDev g.row.L.Denot g.L.Disk). IsSettled l front) (sym unchanged) (h.settled front (ready_settled old front none ready)), staged ∙ none))
+    (λ front disk s is. subst (λ (l : List LogRecord). IsIn front disk l c.hand_over.new.self s) (sym same) (h.state front disk s is)) h.over

@@ -1,12 +1,24 @@
-use Rattle.std.proofs.Common.{inl, refl, ap}
+use Rattle.std.proofs.Common.{◌≡◌, ◌⊎◌, inl, inr, IsTrue, refl, ap, subst}
+use Rattle.std.specs.Prelude.{◌↔◌, IsErrAnd}
+use Rattle.shore_types.specs.declared.faults.Fault.TheVariants as fault
 use Rattle.shore_heap.specs.Heaps as heaps
+use Rattle.shore_model.specs.declared.step.Step.{Step}
+use Rattle.shore_core.specs.Cores.{has_failed}
+use Rattle.shore_core.specs.Flushing.{FlushAnswers}
+use Rattle.shore_core.specs.Replies.{fault_at}
 use Rattle.shore_world.specs.declared.event.Event.TheVariants as event
 use Rattle.shore_world.proofs.CallLemmas.{call_moves, flush_moves, resume_moves}
 use Rattle.shore_world.proofs.DumpLemmas.{never_true}
 use Rattle.shore_world.proofs.RunLemmas.{call_is_no_flush, flush_asks_nothing, flush_faults, flush_says_nothing, log_cause, no_force, open_is_no_flush, open_is_no_stage, resume_is_no_flush, same_volume, stage_is_no_flush, stage_is_no_open}
+use Rattle.shore_world.proofs.UnchangedLemmas.{flush_unchanged}
 use Rattle.shore_world.proofs.WorldLemmas.{failed_runs}
 use Rattle.shore_world.specs.Worlds.{failed_in}
 use Rattle.shore_world.proofs.world.World.step.Goals as goal
+
+-- what failed before, or never
+or_none : {A : Type 0} → A ⊎ ⊥ → A
+or_none (inl was) = was
+or_none (inr never) = absurd never
 
 pub returns-in-Call : goal.returns-in-Call
 returns-in-Call g c =
@@ -14,7 +26,8 @@ returns-in-Call g c =
     let e = c.call.ensures in
     rw c.in-Call.is (
     no_force old _ _ _ tt refl refl (call_moves old _ _ _ _ e.serves.volume.geometry refl e.step e.serves.any_moment e.still e.serves.durable) e.serves.volume
-    (λ is. absurd (call_is_no_flush (event.Call c.in-Call.session c.in-Call.call) tt is)) e.serves.damaged e.serves.forced e.serves.cause)
+    (λ is. absurd (call_is_no_flush (event.Call c.in-Call.session c.in-Call.call) tt is)) e.serves.damaged e.serves.forced e.serves.cause
+    (λ own. absurd own))
 
 pub returns-in-Resume : goal.returns-in-Resume
 returns-in-Resume g c =
@@ -22,7 +35,7 @@ returns-in-Resume g c =
     let e = c.resume.ensures in
     rw c.in-Resume.is (
     no_force old _ _ _ tt refl refl (resume_moves old _ _ _ e.serves.volume.geometry refl e.step e.serves.any_moment e.still e.serves.durable) e.serves.volume
-    (λ is. absurd (resume_is_no_flush c.in-Resume.session is)) e.serves.damaged e.serves.forced e.serves.cause)
+    (λ is. absurd (resume_is_no_flush c.in-Resume.session is)) e.serves.damaged e.serves.forced e.serves.cause (λ own. absurd own))
 
 pub returns-in-ForceStage : goal.returns-in-ForceStage
 returns-in-ForceStage g c =
@@ -36,7 +49,7 @@ returns-in-ForceStage g c =
       forced = λ n is done. absurd (stage_is_no_open is);
       idle = λ is nothing. e.idle nothing;
       shut = λ is nothing. absurd (stage_is_no_open is);
-      quiet = λ nothing. e.quiet nothing;
+      quiet = λ own nothing. e.quiet nothing;
       full = λ is refused. e.full refused;
       flushed = λ is. absurd (stage_is_no_flush is);
       report = e.report;
@@ -57,7 +70,7 @@ returns-in-ForceOpen g c =
       forced = λ n is done. e.forced n done;
       idle = λ is. absurd (open_is_no_stage is);
       shut = λ is nothing. e.shut nothing;
-      quiet = λ nothing. e.quiet nothing;
+      quiet = λ own nothing. e.quiet nothing;
       full = λ is. absurd (open_is_no_stage is);
       flushed = λ is. absurd (open_is_no_flush is);
       report = e.report;
@@ -74,4 +87,8 @@ returns-in-FlushStep g c =
     rw c.in-FlushStep.is (
     no_force old _ _ _ tt refl refl
     (flush_moves old _ _ e.serves.volume.geometry refl e.tail e.step e.serves.any_moment e.still e.serves.durable (λ run. never_true (failed_in old) (λ before. failed_runs _ (e.fails.1 (inl before)) run)))
-    e.serves.volume (λ is. record { answers = e.answers; written = e.written }) (flush_says_nothing old event.FlushStep _ faults) (flush_asks_nothing old _ faults) e.serves.cause)
+    e.serves.volume (λ is. record { answers = e.answers; written = e.written }) (flush_says_nothing old event.FlushStep _ faults) (flush_asks_nothing old _ faults) e.serves.cause
+    (λ own nothing.
+    let answers = subst (λ (x : Step). FlushAnswers old.core x c.flush_step.new.self) nothing e.answers in
+    let fails = subst (λ (x : Step). IsTrue (has_failed c.flush_step.new.self) ↔ (IsTrue (has_failed old.core) ⊎ IsErrAnd (fault_at x) (λ f. f ≡ fault.Device))) nothing e.fails in
+    flush_unchanged old _ refl refl e.tail e.control e.serves.durable ((λ yes. or_none (fails.0 yes)), (λ was. fails.1 (inl was))) answers.1 answers.2))

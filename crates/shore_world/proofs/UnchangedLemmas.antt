@@ -1,0 +1,89 @@
+-- What comes to nothing has changed nothing.
+use Rattle.std.proofs.Common.{◌≡◌, ◌++◌, ℕ, List, Bool, true, false, IsTrue, refl, sym, ◌∙◌, ap, subst}
+use Rattle.std.specs.Prelude.{◌↔◌}
+use Rattle.shore_types.specs.declared.layout.Geometry.{Geometry}
+use Rattle.shore_disk.specs.Device.{History, may_leave}
+use Rattle.shore_disk.specs.declared.device.Disk.{Ghosts}
+use Rattle.shore_log.specs.Settled.{records_of_log}
+use Rattle.shore_log.specs.declared.device.LogDev.{LogDev}
+use Rattle.shore_pool.specs.Pools as pools
+use Rattle.shore_pool.specs.declared.pool.Pool.{Pool}
+use Rattle.shore_heap.specs.Heaps.{bounds_of, pool_of}
+use Rattle.laws_calls.specs.States.{State}
+use Rattle.laws_images.specs.Moments.{ShowsLeft}
+use Rattle.laws_lives.specs.Recovery.{RecoveryState}
+use Rattle.shore_world.proofs.UnmovedLemmas.{same_in, same_over}
+use Rattle.shore_core.specs.Cores.{IsIn, IsOver, control_of, durable_of, has_failed, heap_of, tail_of, waiting_of}
+use Rattle.shore_world.specs.declared.world.World.{World}
+use Rattle.shore_world.specs.Worlds.{IsInState, IsOverStore, IsReady, IsUnchanged, durable_in, failed_in, geometry_in, history_in, list_in, report_in, volume_history_in}
+use Rattle.shore_world.proofs.WorldLemmas.{kept_as_before, ready_same, same_list}
+
+-- ---- a world
+
+module _ {L V : Type 0} {G : Ghosts L} {H : Ghosts V} where
+  -- of which the parts that a crash may tell of are the same, and that is in the same states
+  pub unchanged_of : (old new : World L V G H) → new.log.device ≡ old.log.device → pool_of (heap_of new.core) ≡ pool_of (heap_of old.core) → list_in new ≡ list_in old
+      → durable_in new ≡ durable_in old → failed_in new ≡ failed_in old → new.log.staged ≡ old.log.staged → report_in new ≡ report_in old
+      → ((front : List ℕ) → IsReady old front → IsReady new front)
+      → ((front : List ℕ) (disk : ℕ → List ℕ) (s : State) → IsInState old front disk s → IsInState new front disk s)
+      → ((disk : ℕ → List ℕ) (s : State) (store : RecoveryState) → IsOverStore old disk s store → IsOverStore new disk s store) → IsUnchanged old new
+  unchanged_of old new device pool list durable failed staged report ready is_in over =
+      let geometry : geometry_in new ≡ geometry_in old = ap (λ (p : Pool V H). pools.geometry_of p) pool in
+      let volume : volume_history_in new ≡ volume_history_in old = ap (λ (p : Pool V H). pools.history_of p) pool in
+      record {
+        at = λ log_front front disk s store at. record {
+          is_in = is_in front disk s at.is_in;
+          over = over disk s store at.over;
+          log = kept_as_before old new list durable (ap G.history device) (λ run. sym failed ∙ run) log_front (ready log_front) at.log;
+          volume = λ c may. subst (λ (g : Geometry). ShowsLeft g front store c) (sym geometry) (at.volume c (subst (λ (h : History). may_leave h c) volume may));
+        };
+        device = device;
+        pool = pool;
+        list = list;
+        durable = durable;
+        failed = failed;
+        staged = staged;
+        report = report;
+      }
+
+  pub unchanged_itself : (w : World L V G H) → IsUnchanged w w
+  unchanged_itself w = record {
+    at = λ log_front front disk s store at. at;
+    device = refl;
+    pool = refl;
+    list = refl;
+    durable = refl;
+    failed = refl;
+    staged = refl;
+    report = refl;
+  }
+
+  -- one with the same core and the same log device
+  pub unchanged_parts : (old new : World L V G H) → new.core ≡ old.core → new.log ≡ old.log → report_in new ≡ report_in old → IsUnchanged old new
+  unchanged_parts old new core log report =
+      unchanged_of old new (ap (λ (l : LogDev L G). l.device) log) (ap (λ c. pool_of (heap_of c)) core)
+      (ap (λ (l : LogDev L G). records_of_log l ++ waiting_of new.core) log ∙ ap (λ c. records_of_log old.log ++ waiting_of c) core)
+      (ap durable_of core) (ap has_failed core) (ap (λ (l : LogDev L G). l.staged) log) report (ready_same old.log new.log log)
+      (λ front disk s is. subst (λ c. IsIn front disk (records_of_log new.log) c s) (sym core) (subst (λ (l : LogDev L G). IsIn front disk (records_of_log l) old.core s) (sym log) is))
+      (λ disk s store over. subst (λ c. IsOver disk c s store) (sym core) over)
+
+-- ---- a step of the flush
+
+same_truth : (a b : Bool) → IsTrue a ↔ IsTrue b → a ≡ b
+same_truth true true both = refl
+same_truth true false both = sym (both.0 refl)
+same_truth false true both = both.1 refl
+same_truth false false both = refl
+
+module _ {L V : Type 0} {G : Ghosts L} {H : Ghosts V} where
+  pub flush_unchanged : (old new : World L V G H) → new.log ≡ old.log → report_in new ≡ report_in old → tail_of new.core ≡ tail_of old.core → control_of new.core ≡ control_of old.core
+      → durable_in new ≡ durable_in old → IsTrue (failed_in new) ↔ IsTrue (failed_in old) → pool_of (heap_of new.core) ≡ pool_of (heap_of old.core)
+      → bounds_of (heap_of new.core) ≡ bounds_of (heap_of old.core) → IsUnchanged old new
+  flush_unchanged old new log report tails control durable fails pool bounds =
+      let failed = same_truth (failed_in new) (failed_in old) fails in
+      unchanged_of old new (ap (λ (l : LogDev L G). l.device) log) pool
+      (same_list (records_of_log old.log) (records_of_log new.log) old.core new.core (ap (λ (l : LogDev L G). records_of_log l) log) tails) durable failed
+      (ap (λ (l : LogDev L G). l.staged) log) report (ready_same old.log new.log log)
+      (λ front disk s is. same_in old.core new.core pool bounds tails control durable failed front disk (records_of_log new.log) s
+      (subst (λ (l : LogDev L G). IsIn front disk (records_of_log l) old.core s) (sym log) is))
+      (same_over old.core new.core pool bounds)

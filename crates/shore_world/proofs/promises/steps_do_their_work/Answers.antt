@@ -1,0 +1,23 @@
+use Rattle.shore_world.proofs.WorkLemmas.{calls_to_nothing, flushes, opens, resumes_to_nothing, stages, stays_in_state, stays_same}
+use Rattle.shore_world.proofs.promises.steps_do_their_work.Goals as goal
+
+pub returns-clause-stage : goal.returns-clause-stage
+returns-clause-stage c d w new o es ws step k one = stages w o es ws k step new one
+
+pub returns-clause-opens : goal.returns-clause-opens
+returns-clause-opens c d w new o es ws step k one = opens w o es ws k step new one
+
+pub returns-clause-flush : goal.returns-clause-flush
+returns-clause-flush c d w new o es ws step k one = flushes w o es ws k step new one
+
+pub returns-clause-resume : goal.returns-clause-resume
+returns-clause-resume c d w new o es ws session step k one = resumes_to_nothing w o es ws k session step new one
+
+pub returns-clause-call : goal.returns-clause-call
+returns-clause-call c d w new o es ws session call k served one = calls_to_nothing w o es ws k session call new served one
+
+pub returns-clause-unchanged : goal.returns-clause-unchanged
+returns-clause-unchanged c d w new o es ws e k own one = stays_same w o es ws k e new own one
+
+pub returns-clause-kept : goal.returns-clause-kept
+returns-clause-kept c d w new o es ws session k one = stays_in_state w o es ws k session new one
