@@ -3,3 +3,4 @@ pub mod Cores
 pub mod Replies
 pub mod Flushing
 pub mod Undoing
+pub mod Resumes

@@ -14,6 +14,7 @@ use std::alloc::Global;
 
 impl<T: Tail, V: Disk> Core<T, V> {
     ghost use Rattle.shore_core.specs.Cores.{has_failed, heap_of};
+    ghost use Rattle.shore_core.specs.Resumes.{NoneWaits};
     ghost use Rattle.shore_core.specs.Replies.{ForTxn, InEach, MakesNoCall, ReadsWaiting, Resumed, Serves, fault_at};
 
     /// Goes on with the session's call that waits. A commit is answered once its record is durable; a call that waits for a lock goes on once its
@@ -24,6 +25,7 @@ impl<T: Tail, V: Disk> Core<T, V> {
         ensures step { InEach (λ front disk before s store. Resumed session result self.old self.new front before s store) self.old }
         ensures serves { Serves (ReadsWaiting self.old session) self.old (fault_at result) self.old self.new }
         ensures still { IsTrue (has_failed self.old) → heap_of self.new ≡ heap_of self.old }
+        ensures none { NoneWaits self.old session → (result ≡ Step.Nothing) × (self.new ≡ self.old) }
     {
         let Some(waiting) = self.control.waiting(session) else {
             return Step::Nothing;

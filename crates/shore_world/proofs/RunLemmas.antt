@@ -19,6 +19,7 @@ use Rattle.shore_core.specs.declared.core_calls.Core.{Core}
 use Rattle.shore_core.specs.Cores.{faults_of, heap_of}
 use Rattle.shore_core.specs.Flushing.{FlushAnswers}
 use Rattle.shore_core.specs.Replies.{Earns, NeedsForce, NeedsForceIn, SameVolume, fault_at}
+use Rattle.shore_core.specs.Resumes.{NoneWaits}
 use Rattle.shore_fronts.specs.Causes.{HasCauseOfPair}
 use Rattle.shore_world.specs.declared.event.Event.{Event}
 use Rattle.shore_world.specs.declared.event.Event.TheVariants as event
@@ -103,6 +104,16 @@ call_is_no_own_step event.ForceStage is other = is
 call_is_no_own_step event.ForceOpen is other = is
 call_is_no_own_step event.FlushStep is other = is
 
+pub call_is_no_resume : (e : Event) (session : ℕ) → IsCall e → e ≡ event.Resume session → ⊥
+call_is_no_resume e session call is = subst IsCall is call
+
+pub own_is_no_resume : (e : Event) (session : ℕ) → IsOfNoSession e → e ≡ event.Resume session → ⊥
+own_is_no_resume e session own is = subst IsOfNoSession is own
+
+-- a resume of one session is none of another
+pub same_session : (n session : ℕ) → event.Resume n ≡ event.Resume session → n ≡ session
+same_session n session is = cc
+
 pub open_is_no_stage : event.ForceOpen ≡ event.ForceStage → ⊥
 open_is_no_stage is = absurd cc
 
@@ -144,8 +155,8 @@ pub no_force : {L V : Type 0} {G : Ghosts L} {H : Ghosts V} (old new : World L V
     → report_in new ≡ report_in old → EventMovesWorld old e step new → SameVolume old.core new.core → (e ≡ event.FlushStep → HasFlushed old step new)
     → Earns old.core (ReadBy old.core e) (fault_at step) → NeedsForceIn old.core (force_needed_at e old.core new.core) (fault_at step)
     → HasCause (fault_at step) (faults_of old.core) (faults_of new.core) → (IsOfNoSession e → step ≡ Nothing → IsUnchanged old new)
-    → Steps old e step new
-no_force {G = G} old new e step other device report moves same flushed earned unforced cause quiet = record {
+    → ((session : ℕ) → e ≡ event.Resume session → NoneWaits old.core session → (step ≡ Nothing) × IsUnchanged old new) → Steps old e step new
+no_force {G = G} old new e step other device report moves same flushed earned unforced cause quiet none = record {
   moves = moves;
   still = λ is. device;
   volume = λ is. absurd (of_both e other is);
@@ -155,6 +166,7 @@ no_force {G = G} old new e step other device report moves same flushed earned un
   idle = λ is nothing. absurd (subst IsOfPages is other);
   shut = λ is nothing. absurd (subst IsOfPages is other);
   quiet = quiet;
+  none = none;
   full = λ is refused room. subst IsOfPages is other;
   flushed = flushed;
   report = report;

@@ -13,15 +13,18 @@ use Rattle.shore_pool.specs.Pools.{HasInPlace, PoolHolds}
 use Rattle.shore_pool.specs.declared.pool.Pool.{Pool}
 use Rattle.shore_heap.specs.Contents.{AreBounds, ClaimsOfPages, HasSlots}
 use Rattle.shore_heap.specs.Heaps.{Shows, bounds_of, pool_of}
-use Rattle.shore_sessions.specs.Controls.{txns_in}
+use Rattle.shore_sessions.proofs.WaitSteps.{call_waits}
+use Rattle.shore_sessions.specs.Calls.{as_waiting}
+use Rattle.shore_sessions.specs.Controls.{txns_in, waits_in}
 use Rattle.shore_sessions.specs.declared.control.Control.{Control}
 use Rattle.shore_txn.specs.Transactions.{kept_in}
-use Rattle.laws_calls.specs.States.{State, page_slots}
+use Rattle.laws_calls.specs.States.{DoesNotWait, State, page_slots}
 use Rattle.laws_heaps.specs.LoggedHeaps.{AreInside, AreTextsOf, IsStoreOf}
 use Rattle.laws_lives.specs.Recovery.{RecoveryState}
 use Rattle.shore_core.specs.Cores as cores
-use Rattle.shore_core.specs.Cores.{IsIn, IsOver, control_of, durable_of, has_failed, heap_of, tail_of, waiting_of}
+use Rattle.shore_core.specs.Cores.{IsBeside, IsIn, IsOver, control_of, durable_of, has_failed, heap_of, tail_of, waiting_of}
 use Rattle.shore_core.specs.Parts.{HasParts}
+use Rattle.shore_core.specs.Resumes.{NoneWaits}
 use Rattle.shore_core.specs.declared.core_calls.Core.{Core}
 
 module _ {T V : Type 0} {G : tail.Ghosts T} {H : Ghosts V} (old new : Core T V G H) (pool : pool_of (heap_of new) ≡ pool_of (heap_of old))
@@ -66,3 +69,8 @@ module _ {T V : Type 0} {G : tail.Ghosts T} {H : Ghosts V} (old new : Core T V G
 
   pub same_over : (disk : ℕ → List ℕ) (s : State) (store : RecoveryState) → IsOver disk old s store → IsOver disk new s store
   same_over disk s store over = record { kept = over.kept; pages = λ runs. same_store disk store (over.pages runs) }
+
+-- no call of a session waits if none does in the state
+pub none_waits : {T V : Type 0} {G : tail.Ghosts T} {H : Ghosts V} (core : Core T V G H) (before : List LogRecord) (s : State) → IsBeside before core s → (session : ℕ) → DoesNotWait s session
+    → NoneWaits core session
+none_waits core before s is session idle call there = idle (as_waiting call) (call_waits (waits_in (control_of core)) s is.parts.stands.waits call there)

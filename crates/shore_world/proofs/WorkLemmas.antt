@@ -23,6 +23,7 @@ use Rattle.shore_model.specs.declared.step.Step.TheVariants.{Done, Nothing, Refu
 use Rattle.shore_model.specs.declared.step.Wait.{Wait}
 use Rattle.shore_model.specs.declared.step.Wait.TheVariants.{Durable, Lock}
 use Rattle.shore_cycles.specs.declared.victims.Victim.{Victim}
+use Rattle.shore_log.specs.Settled.{records_of_log}
 use Rattle.shore_flush.specs.Flushes.{Flushes, NoneDue}
 use Rattle.shore_heap.specs.Heaps.{pool_of}
 use Rattle.shore_pool.specs.FrameMaps.{IsDue}
@@ -46,11 +47,12 @@ use Rattle.shore_world.specs.declared.event.Event.TheVariants as event
 use Rattle.shore_world.specs.declared.world.World.{World}
 use Rattle.shore_world.specs.Events.{IsOfNoSession, IsServedEvent}
 use Rattle.shore_world.specs.Exchanges.{waited_behind}
-use Rattle.shore_world.specs.Promises.{FlushesIfAny, GoesOnAs, HasFailedStep, IsManagerOf, IsRefusedStep, OpensIfAny, StagesIfAny}
+use Rattle.shore_world.specs.Promises.{FlushesIfAny, HasFailedStep, IsManagerOf, IsRefusedStep, OpensIfAny, StagesIfAny}
 use Rattle.shore_world.specs.Worlds.{EventStep, ForceRefused, HasForceRoom, IsIdle, IsUnchanged, OpenRefused, Steps, durable_in, failed_in, geometry_in, list_in, stream_bytes_in}
 use Rattle.shore_world.proofs.ExchangeLemmas.{Waited, nothing_waits}
 use Rattle.shore_world.proofs.PromiseLemmas.{as_up, seen, stepped}
 use Rattle.shore_world.proofs.StoredLemmas.{has_room}
+use Rattle.shore_world.proofs.UnmovedLemmas.{none_waits}
 use Rattle.shore_world.proofs.WorldLemmas.{some_stands}
 
 -- ---- who comes to nothing waits for nothing
@@ -87,10 +89,6 @@ resume_to_nothing : (g : Geometry) (s new : State) (session : ℕ) → ResumeSte
 resume_to_nothing g s new session (inl h) = h.0
 resume_to_nothing g s new session (inr h) = absurd (nothing_though_waiting g s new session h.0 h.1 h.2 (inr h))
 
-resume_leaves_all : (g : Geometry) (s new : State) (session : ℕ) → ResumeStep g s session Nothing new → new ≡ s
-resume_leaves_all g s new session (inl h) = h.2
-resume_leaves_all g s new session (inr h) = absurd (nothing_though_waiting g s new session h.0 h.1 h.2 (inr h))
-
 module _ (g : Geometry) (session : ℕ) where
   -- whose call waits does not come to nothing
   never_nothing : (s : State) (first : Step) (vs : List Victim) (rounds : List (List Victim)) (new : State) → HasWaitingCall s session → Settles g s session first (vs ∷ rounds) Nothing new → ⊥
@@ -120,17 +118,6 @@ module _ (g : Geometry) (session : ℕ) where
     where
       by : (rounds : List (List Victim)) → Settles g on.mid session on.first rounds Nothing new → DoesNotWait s session
       by [] k = resume_to_nothing g s on.mid session (subst (λ (x : Step). ResumeStep g s session x on.mid) (sym k.1) on.resumes)
-      by (vs ∷ rounds) k =
-          let anew : ResumeStep g s session (Waits (Lock k.1)) on.mid = subst (λ (x : Step). ResumeStep g s session x on.mid) k.4 on.resumes in
-          absurd (never_nothing on.mid on.first vs rounds new (resume_leaves_waiting g s on.mid session k.1 anew) k)
-
-  nothing_settled : (s new : State) → SettledResume g s session Nothing new → new ≡ s
-  nothing_settled s new (inl told) = let clash : Nothing ≡ Refused (Deadlock told.cycle) = told.told in absurd cc
-  nothing_settled s new (inr (inl (step, same))) = same
-  nothing_settled s new (inr (inr on)) = by on.rounds on.settles
-    where
-      by : (rounds : List (List Victim)) → Settles g on.mid session on.first rounds Nothing new → new ≡ s
-      by [] k = k.2 ∙ resume_leaves_all g s on.mid session (subst (λ (x : Step). ResumeStep g s session x on.mid) (sym k.1) on.resumes)
       by (vs ∷ rounds) k =
           let anew : ResumeStep g s session (Waits (Lock k.1)) on.mid = subst (λ (x : Step). ResumeStep g s session x on.mid) k.4 on.resumes in
           absurd (never_nothing on.mid on.first vs rounds new (resume_leaves_waiting g s on.mid session k.1 anew) k)
@@ -272,14 +259,10 @@ module _ {L V : Type 0} {G : Ghosts L} {H : Ghosts V} (w : World L V G H) (o : R
         ),
       )
 
-  pub stays_same : (e : Event) (new : World L V G H) → IsOfNoSession e → Steps w e Nothing new → IsSame new
-  stays_same e new own one = is_same new (one.quiet own refl)
-
-  -- .. and a resume leaves the state
-  abbrev KeepsState : ℕ → World L V G H → Type 0
-  KeepsState session new = (on : GoesOnAs new o es ws (event.Resume session) Nothing) × (on.manager.now.state ≡ s) × (new.log.device ≡ w.log.device)
-
-  pub stays_in_state : (session : ℕ) (new : World L V G H) → Steps w (event.Resume session) Nothing new → KeepsState session new
-  stays_in_state session new one =
-      let went = stepped w o es ws k (event.Resume session) Nothing new tt one in
-      (went.on, nothing_settled (geometry_in w) session s went.on.manager.now.state went.moves, one.still tt)
+  pub stays_same : (e : Event) (new : World L V G H) → IsServedEvent e → Steps w e Nothing new → IsSame new
+  stays_same (event.Call session c) new served one = absurd (calls_to_nothing session c new served one)
+  stays_same (event.Resume session) new served one =
+      is_same new (one.none session refl (none_waits w.core (records_of_log w.log) s k.at.is_in.beside session ((resumes_to_nothing session Nothing new one).0 refl))).1
+  stays_same event.ForceStage new served one = is_same new (one.quiet tt refl)
+  stays_same event.ForceOpen new served one = is_same new (one.quiet tt refl)
+  stays_same event.FlushStep new served one = is_same new (one.quiet tt refl)

@@ -29,6 +29,7 @@ use Rattle.shore_core.specs.Cores as cores
 use Rattle.shore_core.specs.Cores.{IsIn, IsOver, IsSafe}
 use Rattle.shore_core.specs.Flushing.{AreFlushes, FlushAnswers, FlushMoves}
 use Rattle.shore_core.specs.Replies.{Earns, NeedsForceIn, SameVolume, fault_at}
+use Rattle.shore_core.specs.Resumes.{NoneWaits}
 use Rattle.shore_restart.specs.declared.passes.Report.{Report}
 use Rattle.laws_images.specs.Moments.{GivesPrefixOf, ShowsLeft}
 use Rattle.shore_world.specs.declared.event.Event.{Event}
@@ -227,8 +228,9 @@ module _ {L V : Type 0} {G : Ghosts L} {H : Ghosts V} where
     -- nothing is staged only if every record is durable or a frame is under way, and no gate is opened only if none is
     pub idle : e ≡ event.ForceStage → step ≡ Nothing → IsIdle old
     pub shut : e ≡ event.ForceOpen → step ≡ Nothing → old.log.staged ≡ None
-    -- .. and whatever comes to nothing has changed nothing, of the steps that no session asks for
+    -- .. and whatever comes to nothing has changed nothing; so has a resume of a session of which no call waits
     pub quiet : IsOfNoSession e → step ≡ Nothing → IsUnchanged old new
+    pub none : (session : ℕ) → e ≡ event.Resume session → NoneWaits old.core session → (step ≡ Nothing) × IsUnchanged old new
     pub full : e ≡ event.ForceStage → step ≡ Refused LogFull → ¬ HasForceRoom old
     pub flushed : e ≡ event.FlushStep → HasFlushed old step new
     pub report : report_in new ≡ report_in old

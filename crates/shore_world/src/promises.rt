@@ -35,7 +35,7 @@ ghost use Rattle.laws_calls.specs.Victims.{TellsVictim};
 ghost use Rattle.shore_world.specs.declared.event.Event.TheVariants as event;
 ghost use Rattle.shore_world.specs.declared.event.Event.{Event};
 ghost use Rattle.shore_world.specs.declared.world.World.{World};
-ghost use Rattle.shore_world.specs.Events.{IsOfNoSession, IsServedEvent};
+ghost use Rattle.shore_world.specs.Events.{IsServedEvent};
 ghost use Rattle.shore_world.specs.Exchanges.{exchanges_in, exchanges_of, waited_after};
 ghost use Rattle.shore_world.specs.Lives.{DumpsShow};
 ghost use Rattle.shore_world.specs.Promises.{AreUnended, FlushesIfAny, GoesOnAs, HasFailedStep, HasStood, IsManagerOf, IsRefusedStep, IsStateOf, OpensIfAny, StagesIfAny};
@@ -176,8 +176,8 @@ pub fn locks_change_only_as_asked<L: Disk, V: Disk>()
 /// Steps do their work, unless a device has failed or memory is short. A `ForceStage` stages the longest list of the records not yet durable that one frame holds, and
 /// nothing if there is none of them or a frame is under way. A `ForceOpen` makes durable just the frame that is under way, up to its last record, and nothing if
 /// none is. A step of the flush writes back as many pages as it answers, the first of the volume that are due, and nothing if none is. A resume has nothing to do if no
-/// call of its session waits, and only then, and leaves the state; a call always comes to something. Whatever of the other steps comes to nothing has changed
-/// nothing: the world is a manager of the same state, no call of a device was made, and each page is in its frame.
+/// call of its session waits, and only then; a call always comes to something. Whatever comes to nothing has changed nothing: the world is a manager of the
+/// same state, no call of a device was made, and each page is in its frame.
 pub fn steps_do_their_work<L: Disk, V: Disk>()
     ensures stage { (w new : World L V L.Disk V.Disk) (o : Records) (es : List Entry) (ws : List (ℕ × Call)) (step : Step) →
         IsManagerOf w o es ws → Steps w event.ForceStage step new → IsRefusedStep w step ⊎ StagesIfAny w step new }
@@ -190,10 +190,7 @@ pub fn steps_do_their_work<L: Disk, V: Disk>()
     ensures call { (w new : World L V L.Disk V.Disk) (o : Records) (es : List Entry) (ws : List (ℕ × Call)) (session : ℕ) (c : Call) →
         IsManagerOf w o es ws → IsServed c → Steps w (event.Call session c) Nothing new → ⊥ }
     ensures unchanged { (w new : World L V L.Disk V.Disk) (o : Records) (es : List Entry) (ws : List (ℕ × Call)) (e : Event) →
-        (k : IsManagerOf w o es ws) → IsOfNoSession e → Steps w e Nothing new → IsUnchanged w new × ((on : IsManagerOf new o es ws) × (on.now ≡ k.now)) }
-    ensures kept { (w new : World L V L.Disk V.Disk) (o : Records) (es : List Entry) (ws : List (ℕ × Call)) (session : ℕ) →
-        (k : IsManagerOf w o es ws) → Steps w (event.Resume session) Nothing new →
-        (on : GoesOnAs new o es ws (event.Resume session) Nothing) × (on.manager.now.state ≡ k.now.state) × (new.log.device ≡ w.log.device) }
+        (k : IsManagerOf w o es ws) → IsServedEvent e → Steps w e Nothing new → IsUnchanged w new × ((on : IsManagerOf new o es ws) × (on.now ≡ k.now)) }
 {}
 
 /// What can be seen of the state of a manager, of which the promises speak: its lock requests, its log, what of it is durable, whether a device has failed, and

@@ -1,4 +1,4 @@
-use Rattle.shore_world.proofs.WorkLemmas.{calls_to_nothing, flushes, opens, resumes_to_nothing, stages, stays_in_state, stays_same}
+use Rattle.shore_world.proofs.WorkLemmas.{calls_to_nothing, flushes, opens, resumes_to_nothing, stages, stays_same}
 use Rattle.shore_world.proofs.promises.steps_do_their_work.Goals as goal
 
 pub returns-clause-stage : goal.returns-clause-stage
@@ -17,7 +17,4 @@ pub returns-clause-call : goal.returns-clause-call
 returns-clause-call c d w new o es ws session call k served one = calls_to_nothing w o es ws k session call new served one
 
 pub returns-clause-unchanged : goal.returns-clause-unchanged
-returns-clause-unchanged c d w new o es ws e k own one = stays_same w o es ws k e new own one
-
-pub returns-clause-kept : goal.returns-clause-kept
-returns-clause-kept c d w new o es ws session k one = stays_in_state w o es ws k session new one
+returns-clause-unchanged c d w new o es ws e k served one = stays_same w o es ws k e new served one

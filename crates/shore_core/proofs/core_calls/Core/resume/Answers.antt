@@ -82,3 +82,12 @@ returns-in-Lock-clause-serves g c = c.resume_call.ensures.serves
 pub returns-in-Durable-clause-serves : goal.returns-in-Durable-clause-serves
 returns-in-Durable-clause-serves g c =
     serves_alone _ _ _ _ _ c.resume_commit.ensures.no_call (subst (λ (r : Result (Unit {0}) Fault). IfErr r IsAside) (sym c.resume_commit.ensures.plain) tt)
+
+pub returns-then-self-clause-none : goal.returns-then-self-clause-none
+returns-then-self-clause-none g c none = absurd (none c.in-Some.waiting.now c.in-Some.ensures.some.0 c.in-Some.ensures.some.1)
+
+pub returns-in-Durable-clause-none : goal.returns-in-Durable-clause-none
+returns-in-Durable-clause-none g c none = absurd (none c.in-Some.waiting.now c.in-Some.ensures.some.0 c.in-Some.ensures.some.1)
+
+pub returns-in-Lock-clause-none : goal.returns-in-Lock-clause-none
+returns-in-Lock-clause-none g c none = absurd (none c.in-Some.waiting.now c.in-Some.ensures.some.0 c.in-Some.ensures.some.1)
