@@ -83,6 +83,7 @@ pub fn run_passes<L: Disk, V: Disk>(
         → IfErr result (λ error. (n : ℕ) → error ≡ RestartError.BadRecord n → IsBadRecord (geometry_of heap.old) (records_of_log log.old) n) }
     ensures meant { IfErr result (λ error. error ≢ RestartError.Memory → AreMeant (geometry_of heap.old) (records_of_log log.old)
         ⊎ ((n : ℕ) × (error ≡ RestartError.BadRecord n) × IsFirstUnmeant (geometry_of heap.old) (records_of_log log.old) n)) }
+    ensures taken { OnOk result (AreMeant (geometry_of heap.old) (records_of_log log.old)) }
     ensures no_room { IfErr result (λ error. error ≡ RestartError.NoRoom → LacksRoom (records_of_log log.old) (stream_bytes_of log.old)) }
     ensures device { (log_front front : List ℕ) (disk : ℕ → List ℕ) (s : RecoveryState) → IsFound log_front front disk log.old heap.old s
         → IfErr result (λ error. (f : Fault) → error ≡ RestartError.Page f → f ≡ Fault.Device) }

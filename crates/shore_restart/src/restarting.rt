@@ -58,6 +58,7 @@ pub fn restart<L: Disk, V: Disk>(
     // .. and whatever the pages hold, what the records mean comes first: it is refused by the first that does not mean what it has to, unless all do.
     ensures meant { IfErr result (λ refused. refused.0 ≢ RestartError.Memory → AreMeant (geometry_of heap) (records_of_log log.old)
         ⊎ ((n : ℕ) × (refused.0 ≡ RestartError.BadRecord n) × IsFirstUnmeant (geometry_of heap) (records_of_log log.old) n)) }
+    ensures taken { OnOk result (AreMeant (geometry_of heap) (records_of_log log.old)) }
     // .. and a page is named that has no text of it with a number up to the log's last.
     ensures bad_number { IfErr result (λ refused. (n : ℕ) → refused.0 ≡ RestartError.BadRecord n → (0 < n) × (n ≤ length (records_of_log log.old))) }
     ensures any_pages { (front : List ℕ) (disk : ℕ → List ℕ) → IsHeld front disk heap (length (records_of_log log.old))

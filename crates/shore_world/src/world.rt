@@ -43,6 +43,7 @@ impl<L: Disk, V: Disk> World<L, V> {
     ghost use Rattle.shore_world.specs.Worlds.{IsDumpOf, IsInState, IsOverStore, EventMovesWorld, HasForced, HasStaged, HasFailedToRead, IsLike, IsUnchanged, Steps, Runs, HasForceRoom, IsIdle, durable_in, failed_in, frames_in, geometry_in, list_in, report_in, requests_in, fault_in, log_in, volume_in};
     ghost use Rattle.shore_world.specs.Opens.{IsReportOf, OpensAlong};
     ghost use Rattle.shore_frames.specs.Frames.{Gives};
+    ghost use Rattle.shore_analysis.specs.Meant.{AreMeant};
     ghost use Rattle.shore_world.specs.Refusals.{RefusesOpen};
     ghost use Rattle.shore_restart.specs.Missing.{missing_on};
     ghost use Rattle.laws_images.specs.StandsFor.{StandsFor};
@@ -92,8 +93,8 @@ impl<L: Disk, V: Disk> World<L, V> {
             → IfOk result (λ w. (report_in w).redone ≡ missing_on rs pages) }
         ensures frames { IfOk result (λ w. frames_in w ≡ frames) }
 
-        // What is opened was in order: the frames give the log, and the volume shows pages.
-        ensures in_order { IsTrue (L.is_honest log) → IsTrue (V.is_honest volume) → IfOk result (λ w. ((rs : List LogRecord) × Gives rs (seen (L.history log)))
+        // What is opened was in order: the frames give the log, each record of it means what it has to, and the volume shows pages.
+        ensures in_order { IsTrue (L.is_honest log) → IsTrue (V.is_honest volume) → IfOk result (λ w. ((rs : List LogRecord) × Gives rs (seen (L.history log)) × AreMeant (geometry_in w) rs)
             × ((pages : ℕ → List ℕ) × Shows (geometry_in w) (seen (V.history volume)) pages)) }
 
         // What is refused goes by the checks in their order. What stands for a log and pages is opened, unless a device or an allocation fails.

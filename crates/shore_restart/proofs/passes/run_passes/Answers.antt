@@ -274,3 +274,6 @@ returns-in_err-undo_all-clause-meant g c =
 pub returns-in_err-idle_control-clause-meant : goal.returns-in_err-idle_control-clause-meant
 returns-in_err-idle_control-clause-meant g c =
     if_err c.from_residual-in_err-idle_control.result c.from_residual-in_err-idle_control.ensures.1 (λ error same some. absurd (some (same ∙ c.in_err-idle_control.ensures.refused)))
+
+pub returns-clause-taken : goal.returns-clause-taken
+returns-clause-taken g c = subst (λ (g : Geometry). AreMeant g (records_of_log c.args.log.now)) c.geometry.ensures (subst (AreMeant c.geometry.result.now) c.records.ensures.log c.in_ok-tables.ensures.meant)

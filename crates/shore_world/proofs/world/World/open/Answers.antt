@@ -246,7 +246,11 @@ returns-in-Ok-restart-clause-in_order g c of_log of_volume =
     let same : seen (g.L.Disk.history c.read_fronts.new.log) ≡ seen (g.L.Disk.history c.args.log) = (c.in-Ok.ensures.log_behind of_log).stands.read in
     let shown = c.in-Ok-open_volume.ensures.in_order later _ ((c.in-Ok.ensures.volume_behind of_volume).stands) in
     let at = c.in-Ok-restart.ensures.volume.geometry ∙ c.in-Ok-open_volume.ensures.geometry in (
-      (records_of_log c.in-Ok-open.log, subst (Gives (records_of_log c.in-Ok-open.log)) same (c.in-Ok-open.ensures.found log_later)),
+      (
+        records_of_log c.in-Ok-open.log,
+        subst (Gives (records_of_log c.in-Ok-open.log)) same (c.in-Ok-open.ensures.found log_later),
+        subst (λ (x : Geometry). AreMeant x (records_of_log c.in-Ok-open.log)) (sym c.in-Ok-restart.ensures.volume.geometry) c.in-Ok-restart.ensures.taken,
+      ),
       (shown.0, subst (λ (x : Geometry). Shows x (seen (g.V.Disk.history c.args.volume)) shown.0) (sym at) shown.1),
     )
 
