@@ -1,6 +1,5 @@
 -- What a process leaves that ends with no loss of power is among what a loss of power could have left.
-use Rattle.std.proofs.Common.{◌≡◌, ◌≤◌, ◌⊎◌, inl, inr, ℕ, List, [], ◌∷◌, ◌++◌, refl, sym, ◌∙◌, ap, subst, arith, length, length-append}
-use Rattle.shore_types.specs.declared.layout.Geometry.{Geometry}
+use Rattle.std.proofs.Common.{◌≡◌, ◌≤◌, inl, inr, ℕ, List, [], ◌∷◌, ◌++◌, sym, ◌∙◌, ap, subst, arith, length, length-append}
 use Rattle.shore_disk.specs.Device.{Call, History, IsLater, LeftAfter, LeftSince, Torn, left_since, may_leave, moment, noted, size, wrote}
 use Rattle.shore_disk.specs.declared.device.Disk.{Ghosts}
 use Rattle.laws_images.specs.Moments.{IsLostAlong, Moment}

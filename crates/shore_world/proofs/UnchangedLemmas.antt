@@ -15,7 +15,7 @@ use Rattle.laws_lives.specs.Recovery.{RecoveryState}
 use Rattle.shore_world.proofs.UnmovedLemmas.{same_in, same_over}
 use Rattle.shore_core.specs.Cores.{IsIn, IsOver, control_of, durable_of, has_failed, heap_of, tail_of, waiting_of}
 use Rattle.shore_world.specs.declared.world.World.{World}
-use Rattle.shore_world.specs.Worlds.{IsInState, IsOverStore, IsReady, IsUnchanged, durable_in, failed_in, geometry_in, history_in, list_in, report_in, volume_history_in}
+use Rattle.shore_world.specs.Worlds.{IsInState, IsOverStore, IsReady, IsUnchanged, durable_in, failed_in, geometry_in, list_in, report_in, volume_history_in}
 use Rattle.shore_world.proofs.WorldLemmas.{kept_as_before, ready_same, same_list}
 
 -- ---- a world

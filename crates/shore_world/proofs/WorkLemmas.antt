@@ -1,12 +1,11 @@
 -- Steps do their work: what each step comes to, of a world that is a manager.
-use Rattle.std.proofs.Common.{◌≡◌, ◌≢◌, ◌<◌, ◌≤◌, ◌⊎◌, ◌-◌, inl, inr, ⊎_elim, ℕ, List, [], ◌∷◌, ◌++◌, Bool, true, false, IsTrue, None, Option, Some, refl, sym, ap, subst, ◌∙◌, arith, length}
-use Rattle.std.specs.Prelude.{◌==◌, ◌↔◌, All, IsSome, IsSomeAnd}
+use Rattle.std.proofs.Common.{◌≡◌, ◌<◌, ◌≤◌, ◌⊎◌, ◌-◌, inl, inr, ⊎_elim, ℕ, List, [], ◌∷◌, ◌++◌, Bool, false, IsTrue, None, Option, Some, refl, sym, ap, subst, ◌∙◌, arith, length}
+use Rattle.std.specs.Prelude.{◌==◌, ◌↔◌, IsSomeAnd}
 use Rattle.std.specs.List.{AllByRecursion}
 use Rattle.std.proofs.lemmas.Bool.{cases_Bool, eqb-false, eqb-true}
 use Rattle.std.proofs.lemmas.List.Elements.{recursion_from_All}
 use Rattle.shore_types.specs.declared.faults.Fault.{Fault}
-use Rattle.shore_types.specs.declared.faults.Fault.TheVariants as fault
-use Rattle.shore_types.specs.declared.faults.Fault.TheVariants.{Deadlock, Device, Failed, LogFull, Memory}
+use Rattle.shore_types.specs.declared.faults.Fault.TheVariants.{Deadlock, LogFull, Memory}
 use Rattle.shore_types.specs.declared.layout.Geometry.{Geometry}
 use Rattle.shore_types.specs.declared.layout.TheConstants.{LOG_FRONT_BYTES}
 use Rattle.shore_types.specs.declared.locking.Granule.{Granule}
@@ -14,7 +13,7 @@ use Rattle.shore_disk.specs.Device.{size}
 use Rattle.shore_disk.specs.declared.device.Disk.{Ghosts}
 use Rattle.shore_model.specs.Records.{Records}
 use Rattle.shore_model.specs.declared.calls.Answer.{Answer}
-use Rattle.shore_model.specs.declared.calls.Answer.TheVariants.{Flushed, Forced, Staged}
+use Rattle.shore_model.specs.declared.calls.Answer.TheVariants.{Forced, Staged}
 use Rattle.shore_model.specs.declared.calls.Call.{Call}
 use Rattle.shore_model.specs.declared.histories.Entry.{Entry}
 use Rattle.shore_model.specs.declared.log_records.LogRecord.{LogRecord}
@@ -45,11 +44,11 @@ use Rattle.shore_core.specs.Flushing.{FlushAnswers, FlushMoves}
 use Rattle.shore_world.specs.declared.event.Event.{Event}
 use Rattle.shore_world.specs.declared.event.Event.TheVariants as event
 use Rattle.shore_world.specs.declared.world.World.{World}
-use Rattle.shore_world.specs.Events.{IsOfNoSession, IsServedEvent}
+use Rattle.shore_world.specs.Events.{IsServedEvent}
 use Rattle.shore_world.specs.Exchanges.{waited_behind}
 use Rattle.shore_world.specs.Promises.{FlushesIfAny, HasFailedStep, IsManagerOf, IsRefusedStep, OpensIfAny, StagesIfAny}
 use Rattle.shore_world.specs.Worlds.{EventStep, ForceRefused, HasForceRoom, IsIdle, IsUnchanged, OpenRefused, Steps, durable_in, failed_in, geometry_in, list_in, stream_bytes_in}
-use Rattle.shore_world.proofs.ExchangeLemmas.{Waited, nothing_waits}
+use Rattle.shore_world.proofs.ExchangeLemmas.{nothing_waits}
 use Rattle.shore_world.proofs.PromiseLemmas.{as_up, seen, stepped}
 use Rattle.shore_world.proofs.StoredLemmas.{has_room}
 use Rattle.shore_world.proofs.UnmovedLemmas.{none_waits}
