@@ -75,7 +75,7 @@ forced_tells : (ws : Waited) (a : Answer) (later : List ManagerEvent) → told_i
 forced_tells ws (answer.Forced n) later = refl
 forced_tells ws _ later = refl
 
-event_tells : (ws : Waited) (e : Event) (step : Step) (later : List ManagerEvent)
+pub event_tells : (ws : Waited) (e : Event) (step : Step) (later : List ManagerEvent)
     → told_in ws (moves_by e step ++ later) ≡ told_by ws e step ++ told_in (waited_behind ws e step) later
 event_tells ws (event.Call session c) step later = refl
 event_tells ws (event.Resume session) step later = refl
@@ -303,7 +303,7 @@ module _ (g : Geometry) (found : List LogRecord) (es : List Entry) (s : State) (
 
 -- ---- any number of them
 
-exchanges-append : (one two : List Entry) → exchanges_in (one ++ two) ≡ exchanges_in one ++ exchanges_in two
+pub exchanges-append : (one two : List Entry) → exchanges_in (one ++ two) ≡ exchanges_in one ++ exchanges_in two
 exchanges-append [] two = refl
 exchanges-append (e ∷ one) two = by (exchange_in e) (exchanges-append one two)
   where

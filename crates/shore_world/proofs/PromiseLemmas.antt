@@ -32,11 +32,11 @@ use Rattle.shore_world.specs.declared.event.Event.{Event}
 use Rattle.shore_world.specs.declared.world.World.{World}
 use Rattle.shore_world.specs.EventMoves.{moves_by}
 use Rattle.shore_world.specs.Events.{IsServedEvent}
-use Rattle.shore_world.specs.Exchanges.{AreLast, exchanges_in, exchanges_of, waited_after, waited_behind}
+use Rattle.shore_world.specs.Exchanges.{AreLast, exchanges_in, exchanges_of, told_by, waited_after, waited_behind}
 use Rattle.shore_world.specs.Lives.{DumpsShow}
 use Rattle.shore_world.specs.Promises.{AreUnended, GoesOnAs, IsManagerOf, IsStateOf}
 use Rattle.shore_world.specs.Worlds.{Between, EventStep, Runs, Steps, geometry_in, list_in, requests_in, stream_bytes_in}
-use Rattle.shore_world.proofs.ExchangeLemmas.{Waited, event_waits, have_told, runs_told, runs_wait, told_in, waited_in}
+use Rattle.shore_world.proofs.ExchangeLemmas.{Waited, event_tells, event_waits, have_told, runs_told, runs_wait, told_in, waited_in}
 use Rattle.shore_world.proofs.StoredLemmas.{HasRun, IsUpAt, moves_to, run_run, seen_of, up_safe}
 
 -- who is among the numbers of transactions is one of them
@@ -105,11 +105,15 @@ module _ {L V : Type 0} {G : Ghosts L} {H : Ghosts V} (w : World L V G H) (o : R
             (plain_moves (geometry_in w) k.now ran.events ran.last ran.made ran.stored);
       }
 
+  -- it tells what its moves do
+  ran_told : (moves : List ManagerEvent) (new : World L V G H) (ran : HasRun (geometry_in w) (stream_bytes_in w) k.found k.log_front k.front es k.now moves new)
+      → exchanges_in ran.made ≡ told_in ws moves
+  ran_told moves new ran =
+      (have_told (geometry_in w) (stream_bytes_in w) k.found es ws k.now k.under_way k.waited ran.events ran.last ran.made ran.stored).told ∙ ap (told_in ws) ran.same
+
   ran_on : (moves : List ManagerEvent) (new : World L V G H) → HasRun (geometry_in w) (stream_bytes_in w) k.found k.log_front k.front es k.now moves new
       → HasGoneOn new (waited_in ws moves) (told_in ws moves)
-  ran_on moves new ran =
-      let told = have_told (geometry_in w) (stream_bytes_in w) k.found es ws k.now k.under_way k.waited ran.events ran.last ran.made ran.stored in
-      record { made = ran.made; manager = ran_manager moves new ran (waited_in ws moves) refl; is_told = told.told ∙ ap (told_in ws) ran.same }
+  ran_on moves new ran = record { made = ran.made; manager = ran_manager moves new ran (waited_in ws moves) refl; is_told = ran_told moves new ran }
 
   pub goes_on : (events : List Event) (steps : List Step) (moves : List ManagerEvent) (new : World L V G H) → AllByRecursion IsServedEvent events → Runs w events steps moves new
       → HasGoneOn new (waited_after ws events steps) (exchanges_of ws events steps)
@@ -124,6 +128,7 @@ module _ {L V : Type 0} {G : Ghosts L} {H : Ghosts V} (w : World L V G H) (o : R
   pub record HasMovedBy (moves : List ManagerEvent) (new : World L V G H) : Type 0 where
     pub made : List Entry
     pub manager : IsManagerOf new o (es ++ made) ws
+    pub told : exchanges_in made ≡ []
     pub moved : EventsMove (geometry_in w) k.now.state moves manager.now.state
 
   pub between_on : (failures : List ManagerEvent) (new : World L V G H) → Between w failures new → HasMovedBy failures new
@@ -133,6 +138,7 @@ module _ {L V : Type 0} {G : Ghosts L} {H : Ghosts V} (w : World L V G H) (o : R
       record {
         made = ran.made;
         manager = ran_manager failures new ran ws (runs_wait w ws [] [] failures new between);
+        told = ran_told failures new ran ∙ runs_told w ws [] [] failures new between;
         moved = subst (λ (l : List ManagerEvent). EventsMove (geometry_in w) k.now.state l ran.last.state) ran.same
             (plain_moves (geometry_in w) k.now ran.events ran.last ran.made ran.stored);
       }
@@ -144,6 +150,7 @@ module _ {L V : Type 0} {G : Ghosts L} {H : Ghosts V} (w : World L V G H) (o : R
 
   pub record HasStepped (e : Event) (step : Step) (new : World L V G H) : Type 0 where
     pub on : GoesOnAs new o es ws e step
+    pub told : exchanges_in on.made ≡ told_by ws e step
     pub moves : EventStep g k.now.state e step on.manager.now.state
 
   pub stepped : (e : Event) (step : Step) (new : World L V G H) → IsServedEvent e → Steps w e step new → HasStepped e step new
@@ -153,6 +160,7 @@ module _ {L V : Type 0} {G : Ghosts L} {H : Ghosts V} (w : World L V G H) (o : R
       let waits : waited_in ws (moves_by e step) ≡ waited_behind ws e step = ap (waited_in ws) (sym (append-nil (moves_by e step))) ∙ event_waits ws e step [] in
       record {
         on = record { made = moved.run.made; manager = ran_manager (moves_by e step) new moved.run (waited_behind ws e step) waits };
+        told = ran_told (moves_by e step) new moved.run ∙ ap (told_in ws) (sym (append-nil (moves_by e step))) ∙ event_tells ws e step [] ∙ append-nil (told_by ws e step);
         moves = subst (EventStep g k.now.state e step) (sym moved.same) moved.moves;
       }
 

@@ -24,10 +24,10 @@ use Rattle.shore_world.specs.declared.event.Event.TheVariants as event
 use Rattle.shore_world.specs.declared.world.World.{World}
 use Rattle.shore_world.specs.EventMoves.{moves_by}
 use Rattle.shore_world.specs.Events.{IsServedEvent}
-use Rattle.shore_world.specs.Exchanges.{waited_after, waited_behind}
+use Rattle.shore_world.specs.Exchanges.{exchanges_in, exchanges_of, told_by, waited_after, waited_behind}
 use Rattle.shore_world.specs.Promises.{HasStood, IsManagerOf}
 use Rattle.shore_world.specs.Worlds.{Between, EventStep, ForceRefused, OpenRefused, Runs, Steps, geometry_in}
-use Rattle.shore_world.proofs.ExchangeLemmas.{Waited}
+use Rattle.shore_world.proofs.ExchangeLemmas.{Told, Waited, exchanges-append}
 use Rattle.shore_world.proofs.PromiseLemmas.{after, between_on, stepped}
 use Rattle.shore_world.proofs.RunLemmas.{no_event, one_more}
 
@@ -105,13 +105,14 @@ module _ {L V : Type 0} {G : Ghosts L} {H : Ghosts V} where
       made : List Entry
       entries : List Entry
       goes_on : entries ≡ es ++ made
+      tells : exchanges_in made ≡ exchanges_of ws events steps
       manager : IsManagerOf last o entries (waited_after ws events steps)
       told : (x : Waiting) → IsAmong x manager.now.state.waiting → (cycle : List ℕ) → x.cycle ≡ Some cycle
           → IsAmong x k.now.state.waiting ⊎ HasStood w o es ws events steps last x.session cycle
 
     -- of a run that goes on from there
     module _ (w start mid : World L V G H) (failures : List ManagerEvent) (between : Between w failures start) (e : Event) (step : Step) (one : Steps start e step mid)
-        (es first second : List Entry) (ws : Waited) (events : List Event) (steps : List Step) (last : World L V G H) (session : ℕ) (cycle : List ℕ) where
+        (es first second : List Entry) (ws : Waited) (quiet : exchanges_in first ≡ []) (tells : exchanges_in second ≡ told_by ws e step) (events : List Event) (steps : List Step) (last : World L V G H) (session : ℕ) (cycle : List ℕ) where
       stood_later : HasStood mid o ((es ++ first) ++ second) (waited_behind ws e step) events steps last session cycle → HasStood w o es ws (e ∷ events) (step ∷ steps) last session cycle
       stood_later h = record {
         before = e ∷ h.before;
@@ -134,6 +135,8 @@ module _ {L V : Type 0} {G : Ghosts L} {H : Ghosts V} where
         made = first ++ (second ++ h.made);
         entries = h.entries;
         goes_on = h.goes_on ∙ append_assoc (es ++ first) second h.made ∙ append_assoc es first (second ++ h.made);
+        told = exchanges-append first (second ++ h.made) ∙ ap (λ (l : Told). l ++ exchanges_in (second ++ h.made)) quiet ∙ exchanges-append second h.made
+            ∙ ap (λ (l : Told). l ++ exchanges_in h.made) tells ∙ ap (λ (l : Told). told_by ws e step ++ l) h.told;
         manager = h.manager;
         on = h.on;
         move = h.move;
@@ -151,6 +154,7 @@ module _ {L V : Type 0} {G : Ghosts L} {H : Ghosts V} where
           made = on.made;
           entries = es ++ on.made;
           goes_on = refl;
+          tells = on.told;
           manager = on.manager;
           told = λ x there cycle is. inl (subst (IsAmong x) (between_waits (geometry_in w) w last moves between k.now.state on.manager.now.state on.moved) there);
         }
@@ -162,6 +166,8 @@ module _ {L V : Type 0} {G : Ghosts L} {H : Ghosts V} where
           made = on.made ++ (went.on.made ++ next.made);
           entries = next.entries;
           goes_on = next.goes_on ∙ append_assoc (es ++ on.made) went.on.made next.made ∙ append_assoc es on.made (went.on.made ++ next.made);
+          tells = exchanges-append on.made (went.on.made ++ next.made) ∙ ap (λ (l : Told). l ++ exchanges_in (went.on.made ++ next.made)) on.told
+              ∙ exchanges-append went.on.made next.made ∙ ap (λ (l : Told). l ++ exchanges_in next.made) went.told ∙ ap (λ (l : Told). told_by ws e step ++ l) next.tells;
           manager = next.manager;
           told = λ x there cycle told. ⊎_elim
               (λ before. ⊎_elim
@@ -187,6 +193,7 @@ module _ {L V : Type 0} {G : Ghosts L} {H : Ghosts V} where
                 made = on.made;
                 entries = es ++ on.made;
                 goes_on = refl;
+                told = on.told;
                 manager = on.manager;
                 on = went.on;
                 move = here.move;
@@ -196,7 +203,7 @@ module _ {L V : Type 0} {G : Ghosts L} {H : Ghosts V} where
                 stood = here.stood;
               }))
               (event_told (geometry_in start) on.manager.now.state went.on.manager.now.state e step served.0 went.moves x before cycle told))
-              (λ stood. inr (stood_later w start mid failures between e step one es on.made went.on.made ws events steps last x.session cycle stood))
+              (λ stood. inr (stood_later w start mid failures between e step one es on.made went.on.made ws on.told went.told events steps last x.session cycle stood))
               (next.told x there cycle told);
         }
     run_tells w es ws k [] (step ∷ steps) moves last served runs = absurd runs
@@ -227,6 +234,7 @@ module _ {L V : Type 0} {G : Ghosts L} {H : Ghosts V} where
       made = h.made;
       entries = h.entries;
       goes_on = h.goes_on;
+      told = h.told;
       manager = h.manager;
       on = h.on;
       move = h.move;
@@ -273,6 +281,7 @@ module _ {L V : Type 0} {G : Ghosts L} {H : Ghosts V} where
           made = ran.made;
           entries = ran.entries;
           goes_on = ran.goes_on;
+          told = ran.tells;
           manager = ran.manager;
           on = went.on;
           move = Resumed session step;

@@ -22,7 +22,7 @@ use Rattle.laws_runs.specs.StoredRuns.{StoredState}
 use Rattle.shore_world.specs.declared.event.Event.{Event}
 use Rattle.shore_world.specs.declared.world.World.{World}
 use Rattle.shore_world.specs.EventMoves.{moves_by}
-use Rattle.shore_world.specs.Exchanges.{AreLast, waited_after, waited_behind}
+use Rattle.shore_world.specs.Exchanges.{AreLast, exchanges_in, exchanges_of, waited_after, waited_behind}
 use Rattle.laws_calls.specs.Events.{ManagerEvent}
 use Rattle.laws_calls.specs.Midway.{IsItsCycle}
 use Rattle.laws_calls.specs.SessionWaits.{AllWaitThere}
@@ -76,7 +76,7 @@ pub record IsEventOf {L V : Type 0} {G : Ghosts L} {H : Ghosts V} (w : World L V
   pub steps_are : steps ≡ before_steps ++ step ∷ after_steps
 
 -- In the midst of an event of a run this cycle of waits stood, of which the session's transaction was the greatest: in a state by which the event comes, from the
--- one of the manager that the events before it left.
+-- one of the manager that the events before it left, with the calls and answers of these.
 pub record HasStood {L V : Type 0} {G : Ghosts L} {H : Ghosts V} (w : World L V G H) (o : Records) (es : List Entry) (ws : List (ℕ × Call)) (events : List Event) (steps : List Step)
     (last : World L V G H) (session : ℕ) (cycle : List ℕ) : Type 0 where
   pub before : List Event
@@ -89,6 +89,7 @@ pub record HasStood {L V : Type 0} {G : Ghosts L} {H : Ghosts V} (w : World L V 
   pub made : List Entry
   pub entries : List Entry
   pub goes_on : entries ≡ es ++ made
+  pub told : exchanges_in made ≡ exchanges_of ws before before_steps
   pub manager : IsManagerOf start o entries (waited_after ws before before_steps)
   pub on : GoesOnAs next o entries (waited_after ws before before_steps) during step
   -- the event as the manager over plain data has it
