@@ -1,20 +1,31 @@
 //! Forces.
+ghost use Rattle.std.specs.Prelude.{OnOk};
+ghost use Rattle.shore_prog.specs.Doing.{EndsForce};
+
 use crate::manager::ScriptWorld;
 use shore_types::Fault;
 use shore_world::{Event, Step};
 use std::alloc::Global;
 
 /// Forces every waiting record.
-pub fn force(alloc: Global, world: &mut ScriptWorld) -> Result<(), Fault> {
+pub fn force(alloc: Global, world: &mut ScriptWorld) -> Result<(), Fault>
+    ensures { OnOk result (EndsForce world.new) }
+{
     for _ in 0..u64::MAX {
         match world.step(alloc, Event::ForceStage) {
-            Step::Done(_) => {}
             Step::Refused(fault) => return Err(fault),
-            Step::Nothing | Step::Waits(_) => return Ok(()),
-        }
-        if let Step::Refused(fault) = world.step(alloc, Event::ForceOpen) {
-            return Err(fault);
+            Step::Nothing => match world.step(alloc, Event::ForceOpen) {
+                Step::Refused(fault) => return Err(fault),
+                Step::Nothing => return Ok(()),
+                Step::Done(_) | Step::Waits(_) => {}
+            },
+            Step::Done(_) | Step::Waits(_) => {
+                if let Step::Refused(fault) = world.step(alloc, Event::ForceOpen) {
+                    return Err(fault);
+                }
+            }
         }
     }
-    Ok(())
+    // No log has so many records.
+    Err(Fault::LogFull)
 }

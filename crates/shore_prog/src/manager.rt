@@ -1,11 +1,13 @@
 //! The manager that a script works with: a world over two devices in memory or in files, each behind a fuse.
-ghost use Rattle.std.specs.Prelude.{◌≡◌, ◌≤◌, ◌↔◌, ℕ, IsTrue, IfOk};
+ghost use Rattle.std.specs.Prelude.{◌≡◌, ◌≤◌, ◌↔◌, ℕ, IsTrue, IfOk, OnOk, length, min, vec_len};
 ghost use Rattle.shore_types.specs.declared.faults.Fault.TheVariants.{NeedForce};
-ghost use Rattle.shore_types.specs.declared.layout.TheConstants.{MAX_PAGES, MIN_POOL_FRAMES};
+ghost use Rattle.shore_types.specs.declared.layout.TheConstants.{MAX_PAGES, MAX_STORES, MIN_POOL_FRAMES};
+ghost use Rattle.shore_world.specs.Worlds.{geometry_in};
 ghost use Rattle.shore_model.specs.Calls.{IsServed};
 ghost use Rattle.shore_script.specs.Commands.{IsServedCommand};
 ghost use Rattle.shore_script.specs.Limits.{AreInLimits};
 ghost use Rattle.shore_prog.specs.Commands.{IsTaken};
+ghost use Rattle.shore_prog.specs.Doing.{EndsFlush};
 ghost use Rattle.shore_prog.specs.declared.manager.Progress.TheVariants.{Again};
 
 use crate::devices::{ScriptDisk, first_pair, pair_after_crash};
@@ -322,16 +324,20 @@ fn force_line<W: Write>(alloc: Global, world: &mut ScriptWorld, out: &mut W) -> 
 }
 
 // Writes back every dirty page with a durable number, a batch at each step, and answers how many. One that fails has written some of them.
-fn flush(alloc: Global, world: &mut ScriptWorld) -> Result<u64, Fault> {
+fn flush(alloc: Global, world: &mut ScriptWorld) -> Result<u64, Fault>
+    ensures { OnOk result (EndsFlush world.new) }
+{
     let mut count = 0u64;
     for _ in 0..u64::MAX {
         match world.step(alloc, Event::FlushStep) {
             Step::Done(Answer::Flushed(pages)) => count = count.saturating_add(pages as u64),
             Step::Refused(fault) => return Err(fault),
-            Step::Done(_) | Step::Nothing | Step::Waits(_) => break,
+            Step::Nothing => return Ok(count),
+            Step::Done(_) | Step::Waits(_) => break,
         }
     }
-    Ok(count)
+    // A step of the flush answers nothing else, and no pool has so many pages.
+    Err(Fault::Failed)
 }
 
 fn flush_line<W: Write>(alloc: Global, world: &mut ScriptWorld, out: &mut W) -> io::Result<()> {
@@ -353,10 +359,13 @@ fn dump<W: Write>(alloc: Global, world: &mut ScriptWorld, out: &mut W) -> io::Re
 }
 
 // The records of each store.
-fn records_in_place(alloc: Global, world: &mut ScriptWorld) -> Result<Vec<Pairs>, Fault> {
+fn records_in_place(alloc: Global, world: &mut ScriptWorld) -> Result<Vec<Pairs>, Fault>
+    // As many as the volume has stores.
+    ensures { IfOk result (λ found. vec_len found ≡ min MAX_STORES (length (geometry_in world.old).stores)) }
+{
     let mut found = Vec::new(alloc);
-    for store in 0..MAX_STORES as u32 {
-        let store = StoreId(store);
+    for number in 0..MAX_STORES as u32 {
+        let store = StoreId(number);
         if !world.geometry().has_store(store) {
             break;
         }
