@@ -1,14 +1,21 @@
 //! Forces.
 ghost use Rattle.std.specs.Prelude.{OnOk};
-ghost use Rattle.shore_prog.specs.Doing.{EndsForce};
+ghost use Rattle.shore_prog.specs.Doing.{AreAllDurable, EndsForce};
 
 use crate::manager::ScriptWorld;
 use shore_types::Fault;
 use shore_world::{Event, Step};
 use std::alloc::Global;
 
-/// Forces every waiting record.
+/// Forces every waiting record: if it answers Ok each record of the log is durable.
 pub fn force(alloc: Global, world: &mut ScriptWorld) -> Result<(), Fault>
+    ensures { OnOk result (AreAllDurable world.new) }
+{
+    force_frames(alloc, world)
+}
+
+// One frame after another, until none is left.
+fn force_frames(alloc: Global, world: &mut ScriptWorld) -> Result<(), Fault>
     ensures { OnOk result (EndsForce world.new) }
 {
     for _ in 0..u64::MAX {
