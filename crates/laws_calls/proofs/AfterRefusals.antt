@@ -13,6 +13,7 @@ use Rattle.shore_model.specs.Alone.{record_named_by}
 use Rattle.shore_model.specs.declared.calls.Call.{Call}
 use Rattle.shore_model.specs.declared.calls.Call.TheVariants as call
 use Rattle.shore_model.specs.declared.histories.Entry.{Entry}
+use Rattle.shore_model.specs.declared.histories.Opening.{Opening}
 use Rattle.shore_model.specs.declared.holds.Hold.{Hold}
 use Rattle.shore_model.specs.declared.log_records.LogRecord.{LogRecord}
 use Rattle.shore_model.specs.declared.requests.Request.{Request}
@@ -103,7 +104,9 @@ module _ (g : Geometry) (s new : State) where
     refusal_leaves plain (inr (inr (inl h))) = itself s new s h.3 refl
     refusal_leaves plain (inr (inr (inr (inl h)))) = itself s new s h.3.1 refl
     refusal_leaves plain (inr (inr (inr (inr (inl h))))) = itself s new s h.5 refl
-    refusal_leaves plain (inr (inr (inr (inr (inr h))))) =
+    refusal_leaves plain (inr (inr (inr (inr (inr (inr (inl h))))))) = itself s new s h.5 refl
+    refusal_leaves plain (inr (inr (inr (inr (inr (inr (inr h))))))) = absurd h.2.1
+    refusal_leaves plain (inr (inr (inr (inr (inr (inl h)))))) =
         inner_leaves h.2.0 plain h.2.2
 
 -- ---- and a device that failed, or a page that was damaged
@@ -164,7 +167,7 @@ no_lock_rollback (call.BackTo n) lock asks r is = absurd cc
 no_lock_rollback call.Abort lock asks r is = absurd cc
 no_lock_rollback _ lock asks r is = absurd cc
 
-module _ (g : Geometry) (found : List LogRecord) (es : List Entry) (s new : State) (k : IsSessionsState found es s) (session : ℕ) where
+module _ (g : Geometry) (o : Opening) (found : List LogRecord) (es : List Entry) (s new : State) (k : IsSessionsState o found es s) (session : ℕ) where
   -- the place of an insert whose log is full stays locked
   pub log_full_locked : (store : ℕ) (bytes : List ℕ) (a : SessionTxn) → IsOfSession s session a → CallStep g s session (call.Insert store bytes) (Refused fault.LogFull) new
       → (id : Rid) × (CanLog s id (Some bytes) → ⊥) × HasLock new.sessions.held a.txn (granule.Record id) EX
@@ -172,21 +175,21 @@ module _ (g : Geometry) (found : List LogRecord) (es : List Entry) (s new : Stat
       let t = insert_log_full g s new session store bytes h in
       let c : Call = call.Insert store bytes in
       let start = refused_in g s new session c fault.LogFull tt (λ e. cc) (λ r is. absurd (no_lock_rollback c (store_lock store) refl r is)) h in
-      let ready = may_ask_in g found es s new k session t.txn t.of start.running start.idle in
+      let ready = may_ask_in g o found es s new k session t.txn t.of start.running start.idle in
       let l = store_locked s t.txn store bytes in
       let left = place_leaves l t.txn (may_ask_behind s t.txn ready c (store_lock store) t.done) t.id in
       let has = locked_of (place_outcome l t.txn t.id).requests t.txn.txn (granule.Record t.id) EX (left.done t.place.1) in
       let same = same_locks new (behind_place l t.txn t.id) t.leaves in (
         t.id,
         t.full,
-        subst (λ (n : ℕ). HasLock new.sessions.held n (granule.Record t.id) EX) (its_number g found es s new k session a t.txn of t.of)
+        subst (λ (n : ℕ). HasLock new.sessions.held n (granule.Record t.id) EX) (its_number g o found es s new k session a t.txn of t.of)
             (subst (λ (held : List Hold). HasLock held t.txn.txn (granule.Record t.id) EX) (sym same.1) has),
       )
 
   -- who learns that a record is not there, though its slot is one that a page may have, has its lock
   no_slot : (c : Call) (id : Rid) → record_named_by c ≡ Some id → id.slot < MAX_SLOTS → RefusesEarly g c fault.NoRecord → ⊥
   no_slot c id named within h =
-      let t = names_no_slot g found es s k session c h in
+      let t = names_no_slot g o found es s k session c h in
       let same = same_id (record_named_by c) id t.id named t.named in
       let beyond = subst (λ (x : Rid). MAX_SLOTS ≤ x.slot) (sym same) t.beyond in
       omega arith
@@ -217,10 +220,10 @@ module _ (g : Geometry) (found : List LogRecord) (es : List Entry) (s new : Stat
       let other = asks_no_begin c lock asks in
       let t = behind_lock_of g s new session c fault.NoRecord tt (λ b l is. no_table_absence b c l is) (no_slot c id named within) other (λ r is. absurd (no_lock_rollback c lock asks r is)) h in
       let start = refused_in g s new session c fault.NoRecord tt other (λ r is. absurd (no_lock_rollback c lock asks r is)) h in
-      let ready = may_ask_in g found es s new k session t.txn t.of start.running start.idle in
+      let ready = may_ask_in g o found es s new k session t.txn t.of start.running start.idle in
       let out = lock_outcome s t.txn c t.lock in
       let has = locked_of out.requests t.txn.txn t.lock.granule t.lock.mode ((lock_leaves s t.txn ready c t.lock).done t.done) in
       let same = same_behind (behind_lock s t.txn c t.lock) t.txn c id fault.NoRecord named t.refuses in
       subst (λ (l : Asked). HasLock new.sessions.held a.txn l.granule l.mode) (same_lock (lock_asked_by c) t.lock lock t.asks asks)
-      (subst (λ (n : ℕ). HasLock new.sessions.held n t.lock.granule t.lock.mode) (its_number g found es s new k session a t.txn of t.of)
+      (subst (λ (n : ℕ). HasLock new.sessions.held n t.lock.granule t.lock.mode) (its_number g o found es s new k session a t.txn of t.of)
       (subst (λ (held : List Hold). HasLock held t.txn.txn t.lock.granule t.lock.mode) (sym same.1) has))

@@ -13,7 +13,8 @@ use Rattle.laws_lives.proofs.UndoLists.{laid_over-append}
 use Rattle.shore_model.specs.declared.rollbacks.Rollback.TheVariants.{To, Whole}
 use Rattle.laws_lives.specs.LogTells.{AreLogged}
 use Rattle.laws_lives.specs.Logged.{and_compensations, and_record, and_rollback, next_to_undo}
-use Rattle.laws_lives.specs.Sessions.{SessionTxn, with_undo, without_txn}
+use Rattle.laws_lives.specs.SessionSteps.{AnswerAbort, entries_by}
+use Rattle.laws_lives.specs.Sessions.{SessionTxn, seated, with_undo, without_txn}
 use Rattle.laws_lives.specs.UndoLists.{UndoList, images_since, mark_of, rolled_back, undo_rolled}
 use Rattle.laws_calls.proofs.RollbackLinks.{one_logged}
 use Rattle.laws_calls.proofs.Unwinding.{last_logged, last_previous, list_gone, list_twice, own_previous, same_mark}
@@ -48,7 +49,8 @@ module _ (s : State) (a : SessionTxn) (kept undone : List (Rid × Image)) (is : 
 
   abbrev ended_by : Records → List SessionTxn → List LogRecord → State
   ended_by records xs log =
-      with_requests (record s { sessions = record s.sessions { records = records; active = xs }; log = log }) (released a.txn s.locks.requests)
+      with_requests (record s { sessions = seated s.sessions (entries_by s.sessions (AnswerAbort a)) (record s.sessions { records = records; active = xs }); log = log })
+      (released a.txn s.locks.requests)
 
   module _ (above : 0 < a.txn) (logged : AreLogged s.log a.txn a.undo.images) where
     -- the log of the rest of the rollback is that of all

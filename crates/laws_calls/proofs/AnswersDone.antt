@@ -1,5 +1,5 @@
 -- Answers of sessions that leave out what they say, or stand on what is not in the volume; and how commits end.
-use Rattle.std.proofs.Common.{◌≡◌, ◌≢◌, inl, inr, ⊎_elim, ◌+◌, ◌≤◌, ℕ, List, [], ◌∷◌, ◌++◌, false, Some, None, refl, sym, ap, subst, ◌∙◌, length, max, arith}
+use Rattle.std.proofs.Common.{◌≡◌, ◌≢◌, inl, ⊎_elim, ◌+◌, ◌≤◌, ℕ, List, [], ◌∷◌, ◌++◌, false, Some, None, refl, sym, ap, subst, ◌∙◌, length, max, arith, cond}
 use Rattle.std.specs.FinMap.{get}
 use Rattle.shore_types.specs.Images.{Image}
 use Rattle.shore_types.specs.Layout.{HasSlot, HasStore}
@@ -15,6 +15,7 @@ use Rattle.shore_model.specs.declared.calls.Answer.TheVariants.{Deleted, Inserte
 use Rattle.shore_model.specs.declared.calls.Call.{Call}
 use Rattle.shore_model.specs.declared.calls.Call.TheVariants as call
 use Rattle.shore_model.specs.declared.histories.Entry.{Entry}
+use Rattle.shore_model.specs.declared.histories.Opening.{Opening}
 use Rattle.shore_model.specs.declared.log_records.LogRecord.{LogRecord}
 use Rattle.shore_model.specs.declared.log_records.Payload.TheVariants as payload
 use Rattle.laws_locks.specs.CallLocks.{Asked}
@@ -22,7 +23,7 @@ use Rattle.laws_room.specs.Claims.{SlotCounts}
 use Rattle.laws_lives.proofs.Ids.{put_here}
 use Rattle.laws_lives.proofs.Lists.{length-push}
 use Rattle.laws_lives.proofs.Members.{among_without}
-use Rattle.laws_lives.specs.Sessions.{IsCurrent, SessionTxn}
+use Rattle.laws_lives.specs.Sessions.{SessionTxn, in_txn}
 use Rattle.laws_lives.specs.UndoLists.{nothing_to_undo}
 use Rattle.laws_lives.specs.Views.{IsAmong}
 use Rattle.shore_model.specs.declared.step.Step.TheVariants.{Done, Waits}
@@ -33,25 +34,30 @@ use Rattle.laws_calls.proofs.Sessions.{one_txn}
 use Rattle.laws_calls.proofs.WrongAnswers.{Took, took}
 use Rattle.laws_calls.proofs.WrongResumes.{ends}
 use Rattle.laws_calls.specs.StateChanges.{answered, committed}
-use Rattle.laws_calls.specs.CallSteps.{HasGranule, CallStep, ResumeStep, behind_lock}
+use Rattle.laws_calls.specs.CallSteps.{HasGranule, CallStep, ResumeStep, behind_lock, NeedsTxn}
 use Rattle.laws_calls.specs.LockedStates.{IsSessionsState}
-use Rattle.laws_calls.specs.States.{HasNoTxn, IsInTxn, IsOfSession, State}
+use Rattle.laws_calls.specs.States.{HasNoTxn, IsOfSession, State}
+use Rattle.std.specs.Prelude.{◌==◌}
+use Rattle.std.proofs.lemmas.Bool.{eq-eqb}
+use Rattle.shore_model.specs.Histories.{free}
 
 module _ (g : Geometry) (s new : State) (session : ℕ) where
   abbrev Answered : Call → Answer → Type 0
   Answered c answer = CallStep g s session c (Done answer) new
 
-  within : (c : Call) (answer : Answer) → c ≢ call.Begin → (IsLockless c → ⊥) → Answered c answer → AnsweredIn g s session c answer new
-  within c answer other locks h = answered_in g s new session c answer other locks h
+  within : (c : Call) (answer : Answer) → NeedsTxn c → (IsLockless c → ⊥) → Answered c answer → AnsweredIn g s session c answer new
+  within c answer needs locks h = answered_in g s new session c answer needs locks h
 
   -- ---- begins
 
-  pub begin_left_out : (answer : Answer) → (IsInTxn new session → ⊥) → Answered call.Begin answer → ⊥
+  pub begin_left_out : (answer : Answer) → ((a : SessionTxn) → IsAmong a new.sessions.active → a.session ≡ session → new.sessions.seats session ≢ in_txn a.txn) → Answered call.Begin answer → ⊥
   begin_left_out answer none h =
-      none (
-        record { session = session; txn = s.sessions.next_txn; undo = nothing_to_undo },
-        (subst (λ (n : State). IsAmong (record { session = session; txn = s.sessions.next_txn; undo = nothing_to_undo }) n.sessions.active) (sym (begun_in g s new session answer h).2.4) (inl refl), refl),
-      )
+      let its : SessionTxn = record { session = session; txn = s.sessions.next_txn; undo = nothing_to_undo } in
+      let left = sym (begun_in g s new session answer h).2.4 in
+      none its (subst (λ (n : State). IsAmong its n.sessions.active) left (inl refl)) refl (subst (λ (n : State). n.sessions.seats session ≡ in_txn its.txn) left here)
+    where
+      here : cond (session == session) (in_txn s.sessions.next_txn) (s.sessions.seats session) ≡ in_txn s.sessions.next_txn
+      here = ap (λ b. cond b (in_txn s.sessions.next_txn) (s.sessions.seats session)) (eq-eqb session session refl)
 
   pub begin_unnumbered : (answer : Answer) → new.sessions.next_txn ≢ s.sessions.next_txn + 1 → Answered call.Begin answer → ⊥
   begin_unnumbered answer other h = other (ap (λ (s : State). s.sessions.next_txn) (begun_in g s new session answer h).2.4)
@@ -90,10 +96,10 @@ module _ (g : Geometry) (s new : State) (session : ℕ) where
 
   updated : (id : Rid) (bytes : List ℕ) (answer : Answer) → Answered (call.Update id bytes) answer → Changed id (Some bytes)
   updated id bytes answer h =
-      let t = within (call.Update id bytes) answer (λ e. cc) (λ x. x) h in updated_to t.txn id bytes answer t.from.lock t.from.behind.2.0 t.from.behind.2.2
+      let t = within (call.Update id bytes) answer tt (λ x. x) h in updated_to t.txn id bytes answer t.from.lock t.from.behind.2.0 t.from.behind.2.2
 
   deleted : (id : Rid) (answer : Answer) → Answered (call.Delete id) answer → Changed id None
-  deleted id answer h = let t = within (call.Delete id) answer (λ e. cc) (λ x. x) h in deleted_at t.txn id answer t.from.lock t.from.behind.2.0 t.from.behind.2.2
+  deleted id answer h = let t = within (call.Delete id) answer tt (λ x. x) h in deleted_at t.txn id answer t.from.lock t.from.behind.2.0 t.from.behind.2.2
 
   unlogged : (id : Rid) (image : Image) → Changed id image → new.log ≡ s.log → ⊥
   unlogged id image h same =
@@ -106,7 +112,7 @@ module _ (g : Geometry) (s new : State) (session : ℕ) where
   update_unlogged id bytes answer same h = unlogged id (Some bytes) (updated id bytes answer h) same
 
   pub update_answered_other : (id : Rid) (bytes : List ℕ) (answer : Answer) → answer ≢ Updated → Answered (call.Update id bytes) answer → ⊥
-  update_answered_other id bytes answer other h = other (within (call.Update id bytes) answer (λ e. cc) (λ x. x) h).from.behind.1
+  update_answered_other id bytes answer other h = other (within (call.Update id bytes) answer tt (λ x. x) h).from.behind.1
 
   pub delete_left_out : (id : Rid) (answer : Answer) → get new.sessions.records id ≢ None → Answered (call.Delete id) answer → ⊥
   delete_left_out id answer other h = other (deleted id answer h).there
@@ -115,7 +121,7 @@ module _ (g : Geometry) (s new : State) (session : ℕ) where
   delete_unlogged id answer same h = unlogged id None (deleted id answer h) same
 
   pub delete_answered_other : (id : Rid) (answer : Answer) → answer ≢ Deleted → Answered (call.Delete id) answer → ⊥
-  delete_answered_other id answer other h = other (within (call.Delete id) answer (λ e. cc) (λ x. x) h).from.behind.1
+  delete_answered_other id answer other h = other (within (call.Delete id) answer tt (λ x. x) h).from.behind.1
 
   -- the page of a taken place has its slot
   taken : (a : SessionTxn) (store : ℕ) (bytes : List ℕ) (id : Rid) → Took g s new a store bytes id → new.counts id.page ≡ max (s.counts id.page) (id.slot + 1)
@@ -123,63 +129,61 @@ module _ (g : Geometry) (s new : State) (session : ℕ) where
 
   pub insert_without_slot : (store : ℕ) (bytes : List ℕ) (id : Rid) → new.counts id.page ≤ id.slot → Answered (call.Insert store bytes) (Inserted id) → ⊥
   insert_without_slot store bytes id low h =
-      let t = within (call.Insert store bytes) (Inserted id) (λ e. cc) (λ x. x) h in
+      let t = within (call.Insert store bytes) (Inserted id) tt (λ x. x) h in
       let here = taken t.txn store bytes id (took g s new t.txn store bytes id t.from) in
       omega arith
 
   -- ---- locks
 
   pub lock_answered_other : (at : Granule) (mode : Mode) (answer : Answer) → answer ≢ Locked → Answered (call.Lock at mode) answer → ⊥
-  lock_answered_other at mode answer other h = other (within (call.Lock at mode) answer (λ e. cc) (λ x. x) h).from.behind.0
+  lock_answered_other at mode answer other h = other (within (call.Lock at mode) answer tt (λ x. x) h).from.behind.0
 
   pub try_answered_other : (at : Granule) (mode : Mode) (answer : Answer) → answer ≢ Locked → Answered (call.TryLock at mode) answer → ⊥
-  try_answered_other at mode answer other h = other (within (call.TryLock at mode) answer (λ e. cc) (λ x. x) h).from.behind.0
+  try_answered_other at mode answer other h = other (within (call.TryLock at mode) answer tt (λ x. x) h).from.behind.0
 
   -- ---- outside the volume
 
   pub for_update_outside : (id : Rid) (answer : Answer) → (HasSlot g id → ⊥) → Answered (call.GetForUpdate id) answer → ⊥
-  for_update_outside id answer none h = none (within (call.GetForUpdate id) answer (λ e. cc) (λ x. x) h).may
+  for_update_outside id answer none h = none (within (call.GetForUpdate id) answer tt (λ x. x) h).may
 
   pub update_outside : (id : Rid) (bytes : List ℕ) (answer : Answer) → (HasSlot g id → ⊥) → Answered (call.Update id bytes) answer → ⊥
-  update_outside id bytes answer none h = none (within (call.Update id bytes) answer (λ e. cc) (λ x. x) h).may.1
+  update_outside id bytes answer none h = none (within (call.Update id bytes) answer tt (λ x. x) h).may.1
 
   pub delete_outside : (id : Rid) (answer : Answer) → (HasSlot g id → ⊥) → Answered (call.Delete id) answer → ⊥
-  delete_outside id answer none h = none (within (call.Delete id) answer (λ e. cc) (λ x. x) h).may
+  delete_outside id answer none h = none (within (call.Delete id) answer tt (λ x. x) h).may
 
   pub scan_outside : (store : ℕ) (answer : Answer) → (HasStore g store → ⊥) → Answered (call.Scan store) answer → ⊥
-  scan_outside store answer none h = none (within (call.Scan store) answer (λ e. cc) (λ x. x) h).may
+  scan_outside store answer none h = none (within (call.Scan store) answer tt (λ x. x) h).may
 
   pub lock_outside : (at : Granule) (mode : Mode) (answer : Answer) → (HasGranule g at → ⊥) → Answered (call.Lock at mode) answer → ⊥
-  lock_outside at mode answer none h = none (within (call.Lock at mode) answer (λ e. cc) (λ x. x) h).may.1
+  lock_outside at mode answer none h = none (within (call.Lock at mode) answer tt (λ x. x) h).may.1
 
   pub try_outside : (at : Granule) (mode : Mode) (answer : Answer) → (HasGranule g at → ⊥) → Answered (call.TryLock at mode) answer → ⊥
-  try_outside at mode answer none h = none (within (call.TryLock at mode) answer (λ e. cc) (λ x. x) h).may.1
+  try_outside at mode answer none h = none (within (call.TryLock at mode) answer tt (λ x. x) h).may.1
 
   pub lock_in_bad_mode : (at : Granule) (mode : Mode) (answer : Answer) → is_allowed (level_of at) mode ≡ false → Answered (call.Lock at mode) answer → ⊥
-  lock_in_bad_mode at mode answer bad h = both_ways (is_allowed (level_of at) mode) (within (call.Lock at mode) answer (λ e. cc) (λ x. x) h).may.0 bad
+  lock_in_bad_mode at mode answer bad h = both_ways (is_allowed (level_of at) mode) (within (call.Lock at mode) answer tt (λ x. x) h).may.0 bad
 
   pub try_in_bad_mode : (at : Granule) (mode : Mode) (answer : Answer) → is_allowed (level_of at) mode ≡ false → Answered (call.TryLock at mode) answer → ⊥
-  try_in_bad_mode at mode answer bad h = both_ways (is_allowed (level_of at) mode) (within (call.TryLock at mode) answer (λ e. cc) (λ x. x) h).may.0 bad
+  try_in_bad_mode at mode answer bad h = both_ways (is_allowed (level_of at) mode) (within (call.TryLock at mode) answer tt (λ x. x) h).may.0 bad
 
 -- ---- commits
 
-module _ (g : Geometry) (found : List LogRecord) (es : List Entry) (s new : State) (k : IsSessionsState found es s) (session : ℕ) where
+module _ (g : Geometry) (o : Opening) (found : List LogRecord) (es : List Entry) (s new : State) (k : IsSessionsState o found es s) (session : ℕ) where
   -- whose commit waits is under way no more
   pub waits_under_way : (wait : Wait) → CallStep g s session call.Commit (Waits wait) new → (a : SessionTxn) → IsOfSession new session a → ⊥
   waits_under_way wait h a mem = by (waits_in g s new session call.Commit wait h)
     where
       gone : (b : SessionTxn) → IsOfSession s session b → IsOfSession (committed s b) session a → ⊥
       gone b of now =
-          let was = among_without b.txn a s.sessions.active now.0 in
-          was.1 (one_txn k.agree a b (inl was.0) (inl of.0) (now.1 ∙ sym of.1))
+          let was = among_without b.txn a s.sessions.active now.0.0 in
+          was.1 (one_txn s.sessions a b now.0.1 of.0.1 (now.1 ∙ sym of.1))
 
       by : WaitsIn g s new session call.Commit wait → ⊥
       by t = ⊎_elim (λ asks. absurd asks.0) (λ commits. gone t.txn t.of (subst (λ (n : State). IsOfSession n session a) commits.1.1 mem)) t.how
 
   -- once it is answered its session is in no transaction
   pub answered_in_none : (a : SessionTxn) → IsAmong a s.sessions.committing → a.session ≡ session → (answer : Answer) → ResumeStep g s session (Done answer) new → HasNoTxn new session
-  answered_in_none a mem of answer h b now same =
-      ⊎_elim
-      (λ active. k.agree.apart b a active mem (one_txn k.agree b a (inl active) (inr mem) (same ∙ sym of)))
-      (λ left. let was = among_without a.txn b s.sessions.committing left in was.1 (one_txn k.agree b a (inr was.0) (inr mem) (same ∙ sym of)))
-      (subst (λ (n : State). IsCurrent n.sessions b) (ends g found es s new k session a mem of answer h) now)
+  answered_in_none a mem of answer h =
+      ap (λ (n : State). n.sessions.seats session) (ends g o found es s new k session a mem of answer h)
+      ∙ ap (λ b. cond b free (s.sessions.seats session)) (eq-eqb a.session session of)

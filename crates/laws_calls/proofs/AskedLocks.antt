@@ -10,10 +10,11 @@ use Rattle.shore_types.specs.declared.locking.Granule.TheVariants as granule
 use Rattle.shore_types.specs.declared.locking.Mode.{Mode}
 use Rattle.shore_types.specs.declared.locking.Mode.TheVariants.{EX}
 use Rattle.shore_model.specs.declared.calls.Answer.{Answer}
-use Rattle.shore_model.specs.declared.calls.Answer.TheVariants.{Aborted, Committed}
+use Rattle.shore_model.specs.declared.calls.Answer.TheVariants.{Aborted, Committed, Prepared}
 use Rattle.shore_model.specs.declared.calls.Call.{Call}
 use Rattle.shore_model.specs.declared.calls.Call.TheVariants as call
 use Rattle.shore_model.specs.declared.histories.Entry.{Entry}
+use Rattle.shore_model.specs.declared.histories.Opening.{Opening}
 use Rattle.shore_model.specs.declared.log_records.LogRecord.{LogRecord}
 use Rattle.shore_locks.specs.Grants.{released}
 use Rattle.shore_locks.specs.Tables.{Table, is_waiting}
@@ -31,7 +32,7 @@ use Rattle.shore_model.specs.declared.step.Step.TheVariants.{Done, Nothing, Refu
 use Rattle.shore_model.specs.declared.step.Wait.{Wait}
 use Rattle.shore_model.specs.declared.step.Wait.TheVariants.{Durable, Lock}
 use Rattle.laws_calls.proofs.GoingOn.{never_waiting}
-use Rattle.laws_calls.proofs.Sessions.{its_txn}
+use Rattle.laws_calls.proofs.Sessions.{its_txn, committed_seat}
 use Rattle.laws_calls.proofs.RollingLeaves.{back_table, interrupted_table, savepoint_table}
 use Rattle.laws_calls.proofs.SessionInversions.{aborted_in}
 use Rattle.laws_calls.proofs.SessionResumes.{woken}
@@ -42,7 +43,8 @@ use Rattle.laws_calls.specs.LockChanges.{TakesAsAsked, TakesLock}
 use Rattle.laws_calls.specs.CallSteps.{AbortStep, AnswersBehind, BeginStep, CommitStep, CallGoesOn, HasLocked, InnerStep, RefusesBehind, ResumesCall, ResumesWait, CallStep, behind_lock, behind_place, lock_outcome, on_conflict_of}
 use Rattle.laws_calls.specs.LockedStates.{IsSessionsState}
 use Rattle.laws_calls.specs.Events.{IsStateAfter}
-use Rattle.laws_calls.specs.States.{IsOfSession, State, Waiting}
+use Rattle.laws_calls.specs.States.{HasSeat, IsOfSession, State, Waiting}
+use Rattle.laws_calls.proofs.Outside.{outside_same}
 
 -- ---- which requests a call of a transaction leaves
 
@@ -124,15 +126,15 @@ goes_on_locks g s a c Nothing new h = absurd h
 
 -- ---- how they change
 
-module _ (g : Geometry) (found : List LogRecord) (es : List Entry) (session : ℕ) (a : SessionTxn) (of : a.session ≡ session) where
+module _ (g : Geometry) (o : Opening) (found : List LogRecord) (es : List Entry) (session : ℕ) (a : SessionTxn) (of : a.session ≡ session) where
   -- a lock that is asked for
-  takes_lock : (s : State) → IsSessionsState found es s → IsAmong a s.sessions.active → is_waiting a.txn s.locks.requests ≡ false → (c : OnConflict) (at : Granule) (mode : Mode)
+  takes_lock : (s : State) → IsSessionsState o found es s → HasSeat s.sessions a → is_waiting a.txn s.locks.requests ≡ false → (c : OnConflict) (at : Granule) (mode : Mode)
       → TakesLock s.locks.requests a.txn at mode (acquired c s.locks a.txn at mode).requests
   takes_lock s k mem quiet c at mode =
-      let left = leaves found es s k a mem quiet c at mode in
+      let left = leaves o found es s k a mem quiet c at mode in
       record { others = left.others; own = left.grows; none_weaker = left.none_weaker }
 
-  module _ (s : State) (k : IsSessionsState found es s) (mem : IsAmong a s.sessions.active) (quiet : is_waiting a.txn s.locks.requests ≡ false) where
+  module _ (s : State) (k : IsSessionsState o found es s) (mem : HasSeat s.sessions a) (quiet : is_waiting a.txn s.locks.requests ≡ false) where
     first_lock : (c : Call) (lock : Asked) → TakesLock s.locks.requests a.txn lock.granule lock.mode (behind_lock s a c lock).locks.requests
     first_lock c lock = takes_lock s k mem quiet (on_conflict_of c) lock.granule lock.mode
 
@@ -140,8 +142,8 @@ module _ (g : Geometry) (found : List LogRecord) (es : List Entry) (session : �
     place_lock : (c : Call) (lock : Asked) → (lock_outcome s a c lock).answer ≡ Ok acquire.Done → (id : Rid)
         → TakesLock (behind_lock s a c lock).locks.requests a.txn (granule.Record id) EX (behind_place (behind_lock s a c lock) a id).locks.requests
     place_lock c lock done id =
-        takes_lock (behind_lock s a c lock) (locked_state found es s k a mem quiet (on_conflict_of c) lock.granule lock.mode (never_waiting done)) mem
-        ((leaves found es s k a mem quiet (on_conflict_of c) lock.granule lock.mode).quiet (never_waiting done)) Refuse (granule.Record id) EX
+        takes_lock (behind_lock s a c lock) (locked_state o found es s k a mem quiet (on_conflict_of c) lock.granule lock.mode (never_waiting done)) mem
+        ((leaves o found es s k a mem quiet (on_conflict_of c) lock.granule lock.mode).quiet (never_waiting done)) Refuse (granule.Record id) EX
 
     place_change : (c : Call) (lock : Asked) → lock_asked_by c ≡ Some lock → (lock_outcome s a c lock).answer ≡ Ok acquire.Done → (new : State) → PlaceLocks (behind_lock s a c lock) a c new
         → TakesAsAsked s.locks.requests a.txn c new.locks.requests
@@ -198,13 +200,13 @@ ChangesByCall s session c step new =
 no_change : (s : State) (session : ℕ) (c : Call) (new : State) → new.locks ≡ s.locks → ChangesAsAsked s session c new
 no_change s session c new same = inl (ap (λ (x : Table). x.requests) same)
 
-module _ (g : Geometry) (found : List LogRecord) (es : List Entry) (s : State) (k : IsStateAfter found es s) where
+module _ (g : Geometry) (o : Opening) (found : List LogRecord) (es : List Entry) (s : State) (k : IsStateAfter o found es s) where
   inner_changes : (session : ℕ) (a : SessionTxn) → IsOfSession s session a → is_waiting a.txn s.locks.requests ≡ false → (c : Call) (step : Step) (new : State) → InnerStep g s a c step new
       → ChangesByCall s session c step new
   inner_changes session a mem quiet c step new (inl h) = inl (no_change s session c new (ap (λ (x : State). x.locks) h.3))
   inner_changes session a mem quiet c step new (inr (inl (whole, inl h))) = inl (no_change s session c new (ap (λ (x : State). x.locks) h.3))
   inner_changes session a mem quiet c step new (inr (inl (whole, inr (inl h)))) =
-      inl (⊎_elim (λ same. inl same) (λ taken. inr (a, mem, taken)) (on_changes g found es session a mem.1 s k.sessions mem.0 quiet c step new h.1))
+      inl (⊎_elim (λ same. inl same) (λ taken. inr (a, mem, taken)) (on_changes g o found es session a mem.1 s k.sessions mem.0 quiet c step new h.1))
   inner_changes session a mem quiet c step new (inr (inl (whole, inr (inr (inl h))))) = inl (no_change s session c new (commit_keeps_locks s a step new h.1))
   inner_changes session a mem quiet c step new (inr (inl (whole, inr (inr (inr h))))) = inl (no_change s session c new (savepoint_table s a step new h.1).locks)
   inner_changes session a mem quiet c step new (inr (inr (inl h))) = inl (no_change s session c new (back_table s a h.0 step new h.3).locks)
@@ -222,9 +224,11 @@ module _ (g : Geometry) (found : List LogRecord) (es : List Entry) (s : State) (
   call_changes session c step new (inr (inr (inl h))) = inl (no_change s session c new (ap (λ (x : State). x.locks) h.3))
   call_changes session c step new (inr (inr (inr (inl h)))) = inl (no_change s session c new (begin_keeps_locks s session step new h.3))
   call_changes session c step new (inr (inr (inr (inr (inl h))))) = inl (no_change s session c new (ap (λ (x : State). x.locks) h.5))
-  call_changes session c step new (inr (inr (inr (inr (inr h))))) =
+  call_changes session c step new (inr (inr (inr (inr (inr (inr (inl h))))))) = inl (no_change s session c new (ap (λ (x : State). x.locks) h.5))
+  call_changes session c step new (inr (inr (inr (inr (inr (inr (inr h))))))) = inl (no_change s session c new (ap (λ (x : State). x.locks) (outside_same s c step new h.2)))
+  call_changes session c step new (inr (inr (inr (inr (inr (inl h)))))) =
       let mem = h.2.1 in
-      inner_changes session h.2.0 mem (k.sessions.locks.waits h.0 h.2.0 mem.0 (λ w m spared same. h.1 w m (same ∙ mem.1))) c step new h.2.2
+      inner_changes session h.2.0 mem (k.sessions.locks.waits h.0 h.2.0 mem.0.0 (λ w m spared same. h.1 w m (same ∙ mem.1))) c step new h.2.2
 
   -- a Commit that goes last takes and gives no lock
   pub commit_keeps : (session : ℕ) (step : Step) (new : State) → CallStep g s session call.Commit step new → new.locks.requests ≡ s.locks.requests
@@ -236,7 +240,7 @@ module _ (g : Geometry) (found : List LogRecord) (es : List Entry) (s : State) (
       → (new.locks.requests ≡ released (txn_of s.sessions session) s.locks.requests) × All (λ h. h.txn ≢ txn_of s.sessions session) new.sessions.held
   abort_gone session answer new h =
       let t = aborted_in g s new session answer h in
-      let its = sym (its_txn k.sessions.agree t.0 session (inl t.1.0) t.1.1) in
+      let its = sym (its_txn s.sessions t.0 session t.1.0.1 t.1.1) in
       subst (λ n. (new.locks.requests ≡ released n s.locks.requests) × All (λ h. h.txn ≢ n) new.sessions.held) its
       (subst (λ (x : State). (x.locks.requests ≡ released t.0.txn s.locks.requests) × All (λ h. h.txn ≢ t.0.txn) x.sessions.held) (sym t.2.1)
       (refl, gone_of s.locks.requests t.0.txn k.sessions.locks.orderly))
@@ -251,12 +255,13 @@ module _ (g : Geometry) (found : List LogRecord) (es : List Entry) (s : State) (
 
   wait_changes : (w : Waiting) (wait : Wait) (step : Step) (new : State) → ResumesWait g s w wait step new → ChangesOn w step new
   wait_changes w (Durable n) step new (inl h) = inl (no_change s w.session w.call new (ap (λ (x : State). x.locks) h.2))
-  wait_changes w (Durable n) step new (inr h) = inr (h.1, (h.2.0, h.2.1, h.2.2, ap (λ (x : State). x.locks.requests) h.2.3))
+  wait_changes w (Durable n) step new (inr (inl h)) = inr (h.1, (h.2.0, h.2.1, h.2.2, ap (λ (x : State). x.locks.requests) h.2.3))
+  wait_changes w (Durable n) step new (inr (inr h)) = inl (no_change s w.session w.call new (ap (λ (x : State). x.locks) h.2.4))
   wait_changes w (Lock at) step new h = ⊎_elim
       (λ still. inl (no_change s w.session w.call new (ap (λ (x : State). x.locks) still.2)))
       (λ free.
       inl (⊎_elim (λ same. inl same) (λ taken. inr (h.0, h.1, taken))
-      (on_changes g found es w.session h.0 h.1.1 (wait_refused s w.session) (woken g found es s k.sessions h.0 w.session h.1 free.0) h.1.0 free.0 w.call step new free.1)))
+      (on_changes g o found es w.session h.0 h.1.1 (wait_refused s w.session) (woken g o found es s k.sessions h.0 w.session h.1 free.0) h.1.0 free.0 w.call step new free.1)))
       h.2
 
   pub resume_changes : (w : Waiting) (step : Step) (new : State) → ResumesCall g s w step new → ChangesOn w step new
@@ -264,17 +269,30 @@ module _ (g : Geometry) (found : List LogRecord) (es : List Entry) (s : State) (
   resume_changes w step new (inr h) = wait_changes w w.wait step new h.1
 
   -- once a commit is answered, its transaction has no lock
-  told_in : (w : Waiting) (wait : Wait) (n : ℕ) (answer : Answer) (new : State) → wait ≡ Durable n → ResumesWait g s w wait (Done answer) new
+  told_in : (w : Waiting) (wait : Wait) (n : ℕ) (new : State) → wait ≡ Durable n → ResumesWait g s w wait (Done Committed) new
       → (new.locks.requests ≡ released (txn_of s.sessions w.session) s.locks.requests) × All (λ h. h.txn ≢ txn_of s.sessions w.session) new.sessions.held
-  told_in w (Durable m) n answer new is (inl h) = let clash = h.1 in absurd cc
-  told_in w (Durable m) n answer new is (inr h) =
+  told_in w (Durable m) n new is (inl h) = let clash = h.1 in absurd cc
+  told_in w (Durable m) n new is (inr (inl h)) =
       let a = h.2.0 in
-      let its = sym (its_txn k.sessions.agree a w.session (inr h.2.1) h.2.2) in
+      let its = sym (its_txn s.sessions a w.session (committed_seat k.sessions a h.2.1) h.2.2) in
       subst (λ t. (new.locks.requests ≡ released t s.locks.requests) × All (λ h. h.txn ≢ t) new.sessions.held) its
       (subst (λ (x : State). (x.locks.requests ≡ released a.txn s.locks.requests) × All (λ h. h.txn ≢ a.txn) x.sessions.held) (sym h.2.3)
       (refl, gone_of s.locks.requests a.txn k.sessions.locks.orderly))
-  told_in w (Lock at) n answer new is h = absurd cc
+  told_in w (Durable m) n new is (inr (inr h)) = let clash = h.1 in absurd cc
+  told_in w (Lock at) n new is h = absurd cc
 
-  pub told_gone : (w : Waiting) (n : ℕ) (answer : Answer) (new : State) → w.wait ≡ Durable n → ResumesCall g s w (Done answer) new
+  pub told_gone : (w : Waiting) (n : ℕ) (new : State) → w.wait ≡ Durable n → ResumesCall g s w (Done Committed) new
       → (new.locks.requests ≡ released (txn_of s.sessions w.session) s.locks.requests) × All (λ h. h.txn ≢ txn_of s.sessions w.session) new.sessions.held
-  told_gone w n answer new is h = ⊎_elim (λ failed. let clash = failed.1 in absurd cc) (λ on. told_in w w.wait n answer new is on.1) h
+  told_gone w n new is h = ⊎_elim (λ failed. let clash = failed.1 in absurd cc) (λ on. told_in w w.wait n new is on.1) h
+
+-- the answer of a prepare leaves all locks
+prepare_told_in : (g : Geometry) (s : State) (w : Waiting) (wait : Wait) (n : ℕ) (new : State) → wait ≡ Durable n → ResumesWait g s w wait (Done Prepared) new
+    → (new.locks.requests ≡ s.locks.requests) × (new.sessions.held ≡ s.sessions.held)
+prepare_told_in g s w (Durable m) n new is (inl h) = let clash = h.1 in absurd cc
+prepare_told_in g s w (Durable m) n new is (inr (inl h)) = let clash = h.1 in absurd cc
+prepare_told_in g s w (Durable m) n new is (inr (inr h)) = (ap (λ (x : State). x.locks.requests) h.2.4, ap (λ (x : State). x.sessions.held) h.2.4)
+prepare_told_in g s w (Lock at) n new is h = absurd cc
+
+pub prepare_leaves_locks : (g : Geometry) (s : State) (w : Waiting) (n : ℕ) (new : State) → w.wait ≡ Durable n → ResumesCall g s w (Done Prepared) new
+    → (new.locks.requests ≡ s.locks.requests) × (new.sessions.held ≡ s.sessions.held)
+prepare_leaves_locks g s w n new is h = ⊎_elim (λ failed. let clash = failed.1 in absurd cc) (λ on. prepare_told_in g s w w.wait n new is on.1) h

@@ -14,6 +14,7 @@ use Rattle.shore_model.specs.Alone.{record_named_by}
 use Rattle.shore_model.specs.declared.calls.Call.{Call}
 use Rattle.shore_model.specs.declared.calls.Call.TheVariants as call
 use Rattle.shore_model.specs.declared.histories.Entry.{Entry}
+use Rattle.shore_model.specs.declared.histories.Opening.{Opening}
 use Rattle.shore_model.specs.declared.log_records.LogRecord.{LogRecord}
 use Rattle.shore_model.specs.declared.rollbacks.Rollback.{Rollback}
 use Rattle.shore_model.specs.declared.rollbacks.Rollback.TheVariants.{To, Whole}
@@ -189,7 +190,7 @@ module _ (g : Geometry) (s : State) (session : ℕ) (c : Call) where
 
 -- ---- the steps
 
-module _ (g : Geometry) (found : List LogRecord) (es : List Entry) (s : State) (k : IsSessionsState found es s) (session : ℕ) (c : Call) where
+module _ (g : Geometry) (o : Opening) (found : List LogRecord) (es : List Entry) (s : State) (k : IsSessionsState o found es s) (session : ℕ) (c : Call) where
   goes_earns : (a : SessionTxn) → IsOfSession s session a → is_waiting a.txn s.locks.requests ≡ false → (f : Fault) (new : State) → CallGoesOn g s a c (Refused f) new
       → EarnsRefusal g s session c f
   goes_earns a of quiet f new (inl memory) = as_told g s session c f fault.Memory memory.0 tt
@@ -199,7 +200,7 @@ module _ (g : Geometry) (found : List LogRecord) (es : List Entry) (s : State) (
       (acquired_refused (on_conflict_of c) s.locks a.txn table.0.granule table.0.mode k.locks.orderly quiet))
   goes_earns a of quiet f new (inr (inr behind)) =
       let had = behind.1 in
-      let left = leaves found es s k a of.0 quiet (on_conflict_of c) had.0.granule had.0.mode in
+      let left = leaves o found es s k a of.0 quiet (on_conflict_of c) had.0.granule had.0.mode in
       behind_earns g s session c a of had.0 had.1 c refl (record { orderly = left.orderly; quiet = left.quiet (never_waiting had.2) }) f new
       (subst (λ (l : State). RefusesBehind g l a c f new) had.3 behind.2)
 
@@ -230,6 +231,8 @@ module _ (g : Geometry) (found : List LogRecord) (es : List Entry) (s : State) (
   call_earns f new (inr (inr (inl h))) = as_told g s session c f fault.Busy (same_fault f fault.Busy h.2) h.1
   call_earns f new (inr (inr (inr (inl h)))) = begin_earns h.2 f new h.3
   call_earns f new (inr (inr (inr (inr (inl h))))) = as_told g s session c f fault.NoTransaction (same_fault f fault.NoTransaction h.4) (h.2, h.3)
-  call_earns f new (inr (inr (inr (inr (inr h))))) =
+  call_earns f new (inr (inr (inr (inr (inr (inr (inl h))))))) = as_told g s session c f fault.IsPrepared (same_fault f fault.IsPrepared h.4) (h.2, h.3)
+  call_earns f new (inr (inr (inr (inr (inr (inr (inr h))))))) = absurd h.2.1
+  call_earns f new (inr (inr (inr (inr (inr (inl h)))))) =
       let a = h.2.0 in
-      inner_earns a h.2.1 (k.locks.waits h.0 a h.2.1.0 (λ w m spared of. h.1 w m (of ∙ h.2.1.1))) f new h.2.2
+      inner_earns a h.2.1 (k.locks.waits h.0 a h.2.1.0.0 (λ w m spared of. h.1 w m (of ∙ h.2.1.1))) f new h.2.2

@@ -1,50 +1,51 @@
 -- Each event of a manager as events of its sessions, and what these keep.
-use Rattle.std.proofs.Common.{◌≡◌, inl, inr, ⊎_elim, ◌++◌, ◌∷◌, ℕ, List, [], Ok, map, drop, refl, sym, ap, subst, ◌∙◌, arith, length, take, take-append-drop}
+use Rattle.std.proofs.Common.{◌≡◌, inl, inr, ⊎_elim, ◌++◌, ◌∷◌, ℕ, List, [], Ok, drop, refl, sym, ap, subst, ◌∙◌, arith, length, take, take-append-drop}
 use Rattle.std.specs.Prelude.{Contains, Option, get_or}
-use Rattle.std.specs.List.{AllByRecursion}
+use Rattle.std.specs.List.{AllByRecursion, filter_map}
 use Rattle.shore_types.specs.Images.{Image}
 use Rattle.shore_types.specs.declared.ids.Rid.{Rid}
 use Rattle.std.proofs.lemmas.List.Elements.{Contains-append_cases, filter_map-append}
 use Rattle.shore_types.specs.declared.layout.Geometry.{Geometry}
 use Rattle.shore_model.specs.declared.calls.Call.{Call}
 use Rattle.shore_model.specs.declared.calls.Call.TheVariants as call
-use Rattle.shore_model.specs.declared.calls.Answer.TheVariants.{Aborted, Committed}
+use Rattle.shore_model.specs.declared.calls.Answer.TheVariants.{Aborted, Committed, Prepared}
 use Rattle.shore_model.specs.declared.histories.Decision.{Decision}
 use Rattle.shore_model.specs.declared.histories.Decision.TheVariants as decision
 use Rattle.shore_model.specs.declared.histories.Entry.{Entry}
+use Rattle.shore_model.specs.declared.histories.Opening.{Opening}
 use Rattle.shore_model.specs.declared.histories.Entry.TheVariants.{Decided, Exchanged}
 use Rattle.shore_model.specs.declared.log_records.LogRecord.{LogRecord}
-use Rattle.shore_model.specs.Logs.{commit_of, committed_in}
 use Rattle.shore_model.specs.Records.{Records}
 use Rattle.shore_model.specs.Requests.{held_by_all}
 use Rattle.shore_locks.specs.Grants.{released}
 use Rattle.laws_locks.proofs.Held.{released_moves}
 use Rattle.laws_lives.proofs.Members.{txn_of_one}
-use Rattle.laws_lives.specs.LogPrefixes.{decisions_in}
+use Rattle.laws_lives.specs.LogPrefixes.{decisions_in, IsDecidedIn, decision_in}
 use Rattle.shore_model.specs.declared.rollbacks.Rollback.TheVariants.{Whole}
 use Rattle.laws_lives.specs.LogTells.{AreLogged}
 use Rattle.laws_lives.specs.Logged.{and_compensations, and_rollback}
-use Rattle.laws_lives.specs.SessionSteps.{AnswerAbort, AnswerCommit, AppendCommit, MoveLocks, SessionEvent, StepsTo, entries_by, exchange}
-use Rattle.laws_lives.specs.Sessions.{SessionTxn, Sessions, commit_answered, txns_of, with_undo, without_txn}
+use Rattle.laws_lives.specs.SessionSteps.{AnswerAbort, AnswerCommit, AppendCommit, MoveLocks, SessionEvent, StepsTo, entries_by, exchange, AnswerPrepare}
+use Rattle.laws_lives.specs.Sessions.{SessionTxn, Sessions, txns_of, with_undo, without_txn, seated}
 use Rattle.laws_lives.specs.UndoLists.{rolled_back, undo_rolled}
 use Rattle.laws_lives.specs.Views.{IsAmong}
 use Rattle.shore_model.specs.declared.step.Step.{Step}
-use Rattle.laws_calls.proofs.Links.{ComesBy, Goes, GoesBy, IsDurable, IsLike, answer_goes, commit_goes, locks_go, quietly_comes, with_answer, with_commit}
+use Rattle.laws_calls.proofs.Links.{ComesBy, Goes, GoesBy, IsDurable, IsLike, answer_goes, commit_goes, locks_go, quietly_comes, with_answer, with_commit, with_prepare_told, prepare_told_goes}
 use Rattle.laws_calls.proofs.RefusalTells.{same_entry}
 use Rattle.laws_calls.proofs.RollbackLinks.{abort_goes, all_put_backs, put_backs, with_abort}
 use Rattle.laws_calls.proofs.RollingCalls.{backs_go, ends_under_way}
 use Rattle.laws_calls.proofs.RollingPassages.{Aborts}
 use Rattle.laws_calls.proofs.Unwinding.{its_list, list_gone, rollback_ends, with_list}
-use Rattle.laws_calls.proofs.SessionStates.{answer_is_durable, its_wait, no_wait, waits_whole}
-use Rattle.laws_calls.proofs.Sessions.{AreSessionsAfter, event_keeps, its_txn}
-use Rattle.laws_calls.proofs.StepPassages.{CallPasses, Commits, IsAnswered, ResumePasses, call_passes, resume_passes}
+use Rattle.laws_calls.proofs.SessionStates.{answer_is_durable, its_wait, no_wait, waits_whole, prepare_is_durable}
+use Rattle.laws_calls.proofs.Sessions.{AreSessionsAfter, event_keeps, its_txn, above_none, commit_seats, committed_seat, own_of, parted}
+use Rattle.laws_calls.proofs.StepPassages.{CallPasses, Commits, IsAnswered, ResumePasses, call_passes, resume_passes, IsPrepareTold}
 use Rattle.laws_calls.specs.CallHistories.{txn_of}
 use Rattle.laws_calls.specs.Events.{IsStateAfter, entries_of_resume, entries_of_waiting}
 use Rattle.laws_calls.specs.StateChanges.{wait_refused}
 use Rattle.laws_calls.specs.CallSteps.{ResumesCall, CallStep, ResumeStep, aborted, commit_ended, with_requests}
 use Rattle.laws_calls.specs.Rollbacks.{put_back}
 use Rattle.laws_calls.specs.LockedStates.{entries_of_resumed, entries_of_call}
-use Rattle.laws_calls.specs.States.{State, Waiting}
+use Rattle.laws_calls.specs.States.{HasSeat, State, Waiting}
+use Rattle.shore_model.specs.declared.sessions.SessionState.{SessionState}
 
 -- ---- decisions of a log
 
@@ -58,29 +59,17 @@ contained_among x [] h = absurd (omega arith)
 contained_among x (y ∷ xs) h =
     ⊎_elim (λ one. inl (one_contained y x one)) (λ later. inr (contained_among x xs later)) (Contains-append_cases (y ∷ []) xs x h)
 
-commit_among : (t : ℕ) (ts : List ℕ) → IsAmong (decision.Commit t) (map decision.Commit ts) → IsAmong t ts
-commit_among t [] h = absurd h
-commit_among t (u ∷ ts) (inl e) = inl (commits_of e)
-  where
-    number_in : Decision → ℕ
-    number_in (decision.Commit n) = n
-    number_in _ = 0
-
-    commits_of : decision.Commit u ≡ decision.Commit t → u ≡ t
-    commits_of e = ap number_in e
-commit_among t (u ∷ ts) (inr later) = inr (commit_among t ts later)
-
 among_behind : {A : Type 0} (x : A) (xs ys : List A) → IsAmong x ys → IsAmong x (xs ++ ys)
 among_behind x [] ys h = h
 among_behind x (y ∷ xs) ys h = inr (among_behind x xs ys h)
 
 -- a decision that a log has behind some records is one that it has
-pub is_committed : (base t : ℕ) (log : List LogRecord) → Contains (decisions_in base log) (decision.Commit t) → IsAmong t (committed_in log)
-is_committed base t log h =
-    let behind = commit_among t (committed_in (drop base log)) (contained_among (decision.Commit t) (decisions_in base log) h) in
-    let both = filter_map-append commit_of (take base log) (drop base log) in
-    subst (λ rs. IsAmong t (committed_in rs)) (take-append-drop base log)
-    (subst (IsAmong t) (sym both) (among_behind t (committed_in (take base log)) (committed_in (drop base log)) behind))
+pub is_decided : (base : ℕ) (d : Decision) (log : List LogRecord) → Contains (decisions_in base log) d → IsDecidedIn log d
+is_decided base d log h =
+    let behind = contained_among d (decisions_in base log) h in
+    let both = filter_map-append decision_in (take base log) (drop base log) in
+    subst (λ rs. IsDecidedIn rs d) (take-append-drop base log)
+    (subst (IsAmong d) (sym both) (among_behind d (filter_map decision_in (take base log)) (filter_map decision_in (drop base log)) behind))
 
 -- ---- any event
 
@@ -91,24 +80,24 @@ like_itself s = record { sessions = refl; log = refl; counts = refl; stream = re
 pub nothing_comes : (g : Geometry) (s new : State) → IsLike s new → ComesBy g s new []
 nothing_comes g s new like = record { start = s; before = like_itself s; events = []; durable = tt; mid = s; goes = (refl, refl); after = like }
 
-module _ (g : Geometry) (found : List LogRecord) (es : List Entry) (s : State) (k : IsStateAfter found es s) where
+module _ (g : Geometry) (o : Opening) (found : List LogRecord) (es : List Entry) (s : State) (k : IsStateAfter o found es s) where
   commit_comes : (session : ℕ) (new : State) (made : List Entry) → Commits s session new made → ComesBy g s new made
   commit_comes session new made h =
       let a = h.txn in
-      subst (ComesBy g s new) (ap (λ t. Decided (decision.Commit t) ∷ []) (sym (its_txn k.sessions.agree a session (inl h.of.0) h.of.1)) ∙ sym h.entries)
+      subst (ComesBy g s new) (ap (λ t. Decided (decision.Commit t) ∷ []) (sym (its_txn s.sessions a session h.of.0.1 h.of.1)) ∙ sym h.entries)
       (record {
         start = s;
         before = like_itself s;
         events = AppendCommit a ∷ [];
         durable = (tt, tt);
         mid = with_commit g s a;
-        goes = (with_commit g s a, [], commit_goes g s a h.of.0 h.whole, (refl, refl), refl);
+        goes = (with_commit g s a, [], commit_goes g s a (own_of k.sessions a h.of.0) h.whole (commit_seats k.sessions.agree k.sessions.seats a (own_of k.sessions a h.of.0).2.0), (refl, refl), refl);
         after = subst (IsLike (with_commit g s a)) (sym h.is) (record { sessions = refl; log = refl; counts = refl; stream = refl });
       })
 
   -- ---- an abort is answered: its images are put back, the newest first, and then its locks go
 
-  module _ (session : ℕ) (a : SessionTxn) (of : a.session ≡ session) (mem : IsAmong a s.sessions.active) where
+  module _ (session : ℕ) (a : SessionTxn) (of : a.session ≡ session) (mem : HasSeat s.sessions a) where
     -- the states before and behind the locks, and the events between
     abbrev unlocked : State
     unlocked = with_requests (with_abort s a) (released a.txn s.locks.requests)
@@ -119,10 +108,10 @@ module _ (g : Geometry) (found : List LogRecord) (es : List Entry) (s : State) (
     unlocking : StepsTo (with_abort s a).sessions unlocks_all unlocked.sessions
     unlocking =
         released_moves (with_abort s a).sessions s.locks.requests a.txn k.sessions.locks.held k.sessions.locks.orderly k.sessions.locks.rooted k.sessions.locks.below
-        (ends_under_way g found es session a of s k.sessions mem)
+        (ends_under_way g o found es session a of s k.sessions mem)
 
     abbrev left_by : Records → List SessionTxn → List LogRecord → State
-    left_by R xs log = record s { sessions = record s.sessions { records = R; active = xs }; log = log }
+    left_by R xs log = record s { sessions = record (seated s.sessions (entries_by s.sessions (AnswerAbort a)) s.sessions) { records = R; active = xs }; log = log }
 
     abbrev abort_entry : Entry
     abort_entry = Exchanged a.session a.txn (exchange call.Abort (Ok Aborted))
@@ -151,24 +140,24 @@ module _ (g : Geometry) (found : List LogRecord) (es : List Entry) (s : State) (
 
     -- nothing is to be put back
     aborts_at_once : a.undo.images ≡ [] → ComesBy g s (aborted s a) (abort_entry ∷ [])
-    aborts_at_once none = aborting (AnswerAbort a ∷ unlocks_all ∷ []) (tt, (tt, tt)) (then_unlocks s a refl refl refl (abort_goes g s a mem none))
+    aborts_at_once none = aborting (AnswerAbort a ∷ unlocks_all ∷ []) (tt, (tt, tt)) (then_unlocks s a refl refl refl (abort_goes g s a (own_of k.sessions a mem) none))
 
     aborts_in_steps : (e : Rid × Image) (others : List (Rid × Image)) → a.undo.images ≡ e ∷ others → ComesBy g s (aborted s a) (abort_entry ∷ [])
     aborts_in_steps e others images =
         let undo = undo_rolled a.undo [] Whole in
         let its = with_list a undo in
         let unwound = put_back s a [] (e ∷ others) Whole in
-        let logged : AreLogged s.log a.txn (e ∷ others) = subst (AreLogged s.log a.txn) images (k.sessions.log.undo_logged a mem) in
+        let logged : AreLogged s.log a.txn (e ∷ others) = subst (AreLogged s.log a.txn) images (k.sessions.log.undo_logged a mem.0) in
         let log : and_rollback a.txn (and_compensations a.txn s.log (e ∷ others)) [] ≡ and_rollback a.txn s.log a.undo.images =
-        rollback_ends a.txn (k.sessions.agree.above a (inl mem)) s.log e others logged ∙ ap (and_rollback a.txn s.log) (sym images) in
+        rollback_ends a.txn (above_none k.sessions a mem.0) s.log e others logged ∙ ap (and_rollback a.txn s.log) (sym images) in
         let same : with_abort unwound its ≡ with_abort s a =
         ap (λ (x : List LogRecord). left_by (rolled_back s.sessions.records (e ∷ others)) (without_txn a.txn (with_undo a.txn undo s.sessions.active)) x) log
         ∙ ap (λ (x : List SessionTxn). left_by (rolled_back s.sessions.records (e ∷ others)) x (and_rollback a.txn s.log a.undo.images)) (list_gone a.txn undo s.sessions.active)
         ∙ ap (λ (x : List (Rid × Image)). left_by (rolled_back s.sessions.records x) (without_txn a.txn s.sessions.active) (and_rollback a.txn s.log a.undo.images)) (sym images) in
         aborting (put_backs a [] e others Whole (AnswerAbort its ∷ unlocks_all ∷ []))
         (all_put_backs (IsDurable s) a (λ undo kept e r. tt) [] e others Whole (AnswerAbort its ∷ unlocks_all ∷ []) (tt, (tt, tt)))
-        (backs_go g found es session a of s k.sessions mem Whole tt [] e others images (omega arith) (AnswerAbort its ∷ unlocks_all ∷ []) unlocked (abort_entry ∷ [])
-        (then_unlocks unwound its refl refl same (abort_goes g unwound its (its_list a undo s.sessions.active mem) refl)))
+        (backs_go g o found es session a of s k.sessions mem Whole tt [] e others images (omega arith) (AnswerAbort its ∷ unlocks_all ∷ []) unlocked (abort_entry ∷ [])
+        (then_unlocks unwound its refl refl same (abort_goes g unwound its (let own = own_of k.sessions a mem in (its_list a undo s.sessions.active own.0, own.1, own.2)) refl)))
 
     abort_leads : (xs : List (Rid × Image)) → a.undo.images ≡ xs → ComesBy g s (aborted s a) (abort_entry ∷ [])
     abort_leads [] none = aborts_at_once none
@@ -177,12 +166,12 @@ module _ (g : Geometry) (found : List LogRecord) (es : List Entry) (s : State) (
   abort_comes : (session : ℕ) (new : State) (made : List Entry) → Aborts s session new made → ComesBy g s new made
   abort_comes session new made h =
       let a = h.txn in
-      let entry = same_entry a.session session a.txn (txn_of s.sessions session) (exchange call.Abort (Ok Aborted)) h.of.1 (sym (its_txn k.sessions.agree a session (inl h.of.0) h.of.1)) in
+      let entry = same_entry a.session session a.txn (txn_of s.sessions session) (exchange call.Abort (Ok Aborted)) h.of.1 (sym (its_txn s.sessions a session h.of.0.1 h.of.1)) in
       subst (λ (x : State). ComesBy g s x made) (sym h.is)
       (subst (ComesBy g s (aborted s a)) (ap (λ (e : Entry). e ∷ []) entry ∙ sym h.entries) (abort_leads session a h.of.1 h.of.0 a.undo.images refl))
 
   pub session_call_comes : (session : ℕ) (c : Call) (step : Step) (new : State) → CallStep g s session c step new → ComesBy g s new (entries_of_call s session c step)
-  session_call_comes session c step new h = by (call_passes g found es s k.sessions session c step new h)
+  session_call_comes session c step new h = by (call_passes g o found es s k.sessions session c step new h)
     where
       by : CallPasses g s session new (entries_of_call s session c step) → ComesBy g s new (entries_of_call s session c step)
       by (inl quiet) = quietly_comes g session s s new (entries_of_call s session c step) (like_itself s) quiet
@@ -194,17 +183,17 @@ module _ (g : Geometry) (found : List LogRecord) (es : List Entry) (s : State) (
     a = h.txn
 
     under_way_no_more : IsAmong a.txn (txns_of s.sessions.active) → ⊥
-    under_way_no_more among = let b = txn_of_one a.txn s.sessions.active among in k.sessions.agree.apart b.0 a b.1 h.committing b.2
+    under_way_no_more among = let b = txn_of_one a.txn s.sessions.active among in parted k.sessions b.0 a b.1 h.committing b.2
 
-    unlocks : StepsTo (commit_answered s.sessions a) (MoveLocks (held_by_all (released a.txn s.locks.requests))) (commit_ended s a).sessions
+    unlocks : StepsTo (with_answer g s a).sessions (MoveLocks (held_by_all (released a.txn s.locks.requests))) (commit_ended s a).sessions
     unlocks =
-        released_moves (commit_answered s.sessions a) s.locks.requests a.txn k.sessions.locks.held k.sessions.locks.orderly k.sessions.locks.rooted k.sessions.locks.below under_way_no_more
+        released_moves (with_answer g s a).sessions s.locks.requests a.txn k.sessions.locks.held k.sessions.locks.orderly k.sessions.locks.rooted k.sessions.locks.below under_way_no_more
 
     abbrev answered : State
     answered = with_answer g s a
 
     its_number : txn_of s.sessions w.session ≡ a.txn
-    its_number = its_txn k.sessions.agree a w.session (inr h.committing) h.of
+    its_number = its_txn s.sessions a w.session (committed_seat k.sessions a h.committing) h.of
 
     answer_comes : ComesBy g s new made
     answer_comes =
@@ -215,46 +204,65 @@ module _ (g : Geometry) (found : List LogRecord) (es : List Entry) (s : State) (
           before = like_itself s;
           events = AnswerCommit a ∷ MoveLocks (held_by_all (released a.txn s.locks.requests)) ∷ [];
           durable = (
-            subst (λ t. IsAmong t (committed_in (take s.durable s.log))) its_number
-                (is_committed (length found) (txn_of s.sessions w.session) (take s.durable s.log) (answer_is_durable found es s k w there h.number h.waits h.durable a h.committing h.of)),
+            subst (λ t. IsDecidedIn (take s.durable s.log) (decision.Commit t)) its_number
+                (is_decided (length found) (decision.Commit (txn_of s.sessions w.session)) (take s.durable s.log) (answer_is_durable o found es s k w there h.number h.waits h.durable a h.committing h.of)),
             (tt, tt),
           );
           mid = with_requests answered (released a.txn s.locks.requests);
           goes = (
             answered,
             [],
-            answer_goes g s a h.committing,
+            answer_goes g s a h.committing (committed_seat k.sessions a h.committing),
             (with_requests answered (released a.txn s.locks.requests), [], locks_go g answered (released a.txn s.locks.requests) unlocks, (refl, refl), refl),
             refl,
           );
           after = subst (IsLike (with_requests answered (released a.txn s.locks.requests))) (sym h.is) (record { sessions = refl; log = refl; counts = refl; stream = refl });
         })
 
+  prepare_comes : (w : Waiting) → IsAmong w s.waiting → (new : State) (made : List Entry) → IsPrepareTold s w.session w.wait w.call new made → ComesBy g s new made
+  prepare_comes w m new made h =
+      let number : txn_of s.sessions w.session ≡ h.txn = ap (λ (p : SessionState). p.txn) h.preparing.1 in
+      let told = with_prepare_told s w.session h.txn h.global in
+      subst (ComesBy g s new) (ap (λ t. Exchanged w.session t (exchange (call.Prepare h.global) (Ok Prepared)) ∷ []) (sym number) ∙ sym h.entries) (record {
+        start = s;
+        before = like_itself s;
+        events = AnswerPrepare w.session h.txn h.global ∷ [];
+        durable = (
+          is_decided (length found) (decision.Prepare h.txn h.global) (take s.durable s.log)
+              (prepare_is_durable o found es s k w m h.number h.waits h.durable h.txn h.global h.preparing h.asks),
+          tt,
+        );
+        mid = told;
+        goes = (told, [], prepare_told_goes g s w.session h.txn h.global h.preparing, (refl, refl), refl);
+        after = subst (IsLike told) (sym h.is) (record { sessions = refl; log = refl; counts = refl; stream = refl });
+      })
+
   session_resumed_comes : (w : Waiting) → IsAmong w s.waiting → (step : Step) (new : State) → ResumesCall g s w step new → ComesBy g s new (entries_of_resumed s w step)
-  session_resumed_comes w m step new h = by (resume_passes g found es s k.sessions w (waits_whole found es s k w m) step new h)
+  session_resumed_comes w m step new h = by (resume_passes g o found es s k.sessions w (waits_whole o found es s k w m) step new h)
     where
-      by : ResumePasses g s w.session w.wait new (entries_of_resumed s w step) → ComesBy g s new (entries_of_resumed s w step)
+      by : ResumePasses g s w.session w.wait w.call new (entries_of_resumed s w step) → ComesBy g s new (entries_of_resumed s w step)
       by (inl same) = subst (ComesBy g s new) (sym same.1) (nothing_comes g s new (subst (IsLike s) (sym same.0) (like_itself s)))
       by (inr (inl on)) =
           quietly_comes g w.session s (wait_refused s w.session) new (entries_of_resumed s w step) (record { sessions = refl; log = refl; counts = refl; stream = refl }) on.on
-      by (inr (inr told)) = answer_comes w m new (entries_of_resumed s w step) told
+      by (inr (inr (inl told))) = answer_comes w m new (entries_of_resumed s w step) told
+      by (inr (inr (inr told))) = prepare_comes w m new (entries_of_resumed s w step) told
 
   pub session_resume_comes : (session : ℕ) (step : Step) (new : State) → ResumeStep g s session step new → ComesBy g s new (entries_of_resume s session step)
   session_resume_comes session step new (inl h) =
-      subst (λ (o : Option Waiting). ComesBy g s new (entries_of_waiting s o step)) (sym (no_wait session s.waiting h.0))
+      subst (λ (x : Option Waiting). ComesBy g s new (entries_of_waiting s x step)) (sym (no_wait session s.waiting h.0))
       (nothing_comes g s new (subst (IsLike s) (sym h.2) (like_itself s)))
   session_resume_comes session step new (inr h) =
-      subst (λ (o : Option Waiting). ComesBy g s new (entries_of_waiting s o step)) (sym (its_wait session s.waiting h.0 k.waits.once h.1 h.2))
+      subst (λ (x : Option Waiting). ComesBy g s new (entries_of_waiting s x step)) (sym (its_wait session s.waiting h.0 k.waits.once h.1 h.2))
       (session_resumed_comes h.0 h.1 step new h.3)
 
 -- ---- what events of the sessions keep
 
 -- what holds of the sessions and the log
-pub goes_keeps : (base : ℕ) (o : Records) (es : List Entry) (g : Geometry) (s new : State) (e : SessionEvent) → AreSessionsAfter base o es s.sessions s.log → Goes g s e new
+pub goes_keeps : (base : ℕ) (o : Opening) (es : List Entry) (g : Geometry) (s new : State) (e : SessionEvent) → AreSessionsAfter base o es s.sessions s.log → Goes g s e new
     → AreSessionsAfter base o (es ++ entries_by s.sessions e) new.sessions new.log
 goes_keeps base o es g s new e k h =
     subst (AreSessionsAfter base o (es ++ entries_by s.sessions e) new.sessions) (sym h.log) (event_keeps base o es s.sessions new.sessions e s.log k h.moves)
 
-pub like_keeps : (base : ℕ) (o : Records) (es : List Entry) (s t : State) → IsLike s t → AreSessionsAfter base o es s.sessions s.log → AreSessionsAfter base o es t.sessions t.log
+pub like_keeps : (base : ℕ) (o : Opening) (es : List Entry) (s t : State) → IsLike s t → AreSessionsAfter base o es s.sessions s.log → AreSessionsAfter base o es t.sessions t.log
 like_keeps base o es s t h k =
     subst (AreSessionsAfter base o es t.sessions) (sym h.log) (subst (λ (x : Sessions). AreSessionsAfter base o es x s.log) (sym h.sessions) k)

@@ -11,6 +11,7 @@ use Rattle.shore_model.specs.declared.calls.Answer.{Answer}
 use Rattle.shore_model.specs.declared.calls.Call.{Call}
 use Rattle.shore_model.specs.declared.calls.Call.TheVariants as call
 use Rattle.shore_model.specs.declared.histories.Entry.{Entry}
+use Rattle.shore_model.specs.declared.histories.Opening.{Opening}
 use Rattle.shore_model.specs.declared.log_records.LogRecord.{LogRecord}
 use Rattle.shore_model.specs.Requests.{HasNoCycle}
 use Rattle.shore_locks.proofs.Tables.{fit_of}
@@ -23,7 +24,6 @@ use Rattle.shore_deadlock.proofs.LawLemmas.{release_keeps_free}
 use Rattle.shore_cycles.specs.Cycles.{IsOnEachCycle}
 use Rattle.shore_model.specs.declared.rollbacks.Rollback.TheVariants.{Whole}
 use Rattle.laws_lives.specs.Sessions.{SessionTxn}
-use Rattle.laws_lives.specs.Views.{IsAmong}
 use Rattle.shore_model.specs.declared.step.Step.{Step}
 use Rattle.shore_model.specs.declared.step.Step.TheVariants.{Done, Nothing, Refused, Waits}
 use Rattle.shore_model.specs.declared.step.Wait.{Wait}
@@ -39,7 +39,8 @@ use Rattle.laws_calls.specs.CallSteps.{AbortStep, AnswersBehind, CallStep, CallG
 use Rattle.laws_calls.specs.LockedStates.{IsSessionsState}
 use Rattle.laws_calls.specs.Settling.{WaitsForNoLock}
 use Rattle.laws_calls.specs.StateChanges.{wait_refused}
-use Rattle.laws_calls.specs.States.{IsOfSession, State, Waiting}
+use Rattle.laws_calls.specs.States.{HasSeat, IsOfSession, State, Waiting}
+use Rattle.laws_calls.proofs.Outside.{outside_same}
 
 -- no cycle is left unless the step waits for a lock, and each passes the transaction
 pub record ClosesAtMost (t : ℕ) (step : Step) (new : State) : Type 0 where
@@ -55,11 +56,11 @@ none_as_before s new same none = subst (λ (x : Table). HasNoCycle x.requests) (
 
 -- ---- from its locks on
 
-module _ (found : List LogRecord) (es : List Entry) (a : SessionTxn) where
+module _ (o : Opening) (found : List LogRecord) (es : List Entry) (a : SessionTxn) where
   -- the transaction may ask, and there is no cycle
   pub record MayAskFree (s : State) : Type 0 where
-    pub state : IsSessionsState found es s
-    pub active : IsAmong a s.sessions.active
+    pub state : IsSessionsState o found es s
+    pub active : HasSeat s.sessions a
     pub quiet : is_waiting a.txn s.locks.requests ≡ false
     pub none : HasNoCycle s.locks.requests
 
@@ -73,9 +74,9 @@ module _ (found : List LogRecord) (es : List Entry) (a : SessionTxn) where
       let never = never_waiting h.2 in
       subst MayAskFree (sym h.3)
       (record {
-        state = locked_state found es s k.state a k.active k.quiet (on_conflict_of c) lock.granule lock.mode never;
+        state = locked_state o found es s k.state a k.active k.quiet (on_conflict_of c) lock.granule lock.mode never;
         active = k.active;
-        quiet = (leaves found es s k.state a k.active k.quiet (on_conflict_of c) lock.granule lock.mode).quiet never;
+        quiet = (leaves o found es s k.state a k.active k.quiet (on_conflict_of c) lock.granule lock.mode).quiet never;
         none = (lock_closes s k c lock).free never;
       })
 
@@ -137,19 +138,19 @@ module _ (found : List LogRecord) (es : List Entry) (a : SessionTxn) where
 
 -- ---- calls
 
-module _ (g : Geometry) (found : List LogRecord) (es : List Entry) (s : State) (k : IsSessionsState found es s) (none : HasNoCycle s.locks.requests) where
+module _ (g : Geometry) (o : Opening) (found : List LogRecord) (es : List Entry) (s : State) (k : IsSessionsState o found es s) (none : HasNoCycle s.locks.requests) where
   abort_free : (a : SessionTxn) (step : Step) (new : State) → AbortStep s a step new → HasNoCycle new.locks.requests
   abort_free a (Done answer) new h = subst (λ (x : State). HasNoCycle x.locks.requests) (sym h.1) (release_keeps_free s.locks.requests a.txn k.locks.orderly none)
   abort_free a (Refused f) new h = none_as_before s new (interrupted_table s a Whole f new h).locks none
   abort_free a (Waits wait) new h = absurd h
   abort_free a Nothing new h = absurd h
 
-  inner_closes : (a : SessionTxn) → IsAmong a s.sessions.active → is_waiting a.txn s.locks.requests ≡ false → (c : Call) (step : Step) (new : State) → InnerStep g s a c step new
+  inner_closes : (a : SessionTxn) → HasSeat s.sessions a → is_waiting a.txn s.locks.requests ≡ false → (c : Call) (step : Step) (new : State) → InnerStep g s a c step new
       → ClosesAtMost a.txn step new
   inner_closes a mem quiet c step new (inl h) = no_cycle_at_all a.txn step new (none_as_before s new (ap (λ (x : State). x.locks) h.3) none)
   inner_closes a mem quiet c step new (inr (inl (whole, inl h))) = no_cycle_at_all a.txn step new (none_as_before s new (ap (λ (x : State). x.locks) h.3) none)
   inner_closes a mem quiet c step new (inr (inl (whole, inr (inl h)))) =
-      goes_closes found es a g s (record { state = k; active = mem; quiet = quiet; none = none }) c step new h.1
+      goes_closes o found es a g s (record { state = k; active = mem; quiet = quiet; none = none }) c step new h.1
   inner_closes a mem quiet c step new (inr (inl (whole, inr (inr (inl h))))) = no_cycle_at_all a.txn step new (none_as_before s new (commit_keeps_locks s a step new h.1) none)
   inner_closes a mem quiet c step new (inr (inl (whole, inr (inr (inr h))))) = no_cycle_at_all a.txn step new (none_as_before s new (savepoint_table s a step new h.1).locks none)
   inner_closes a mem quiet c step new (inr (inr (inl h))) = no_cycle_at_all a.txn step new (none_as_before s new (back_table s a h.0 step new h.3).locks none)
@@ -157,7 +158,7 @@ module _ (g : Geometry) (found : List LogRecord) (es : List Entry) (s : State) (
 
   -- the number that the session's calls go under
   as_its : (session : ℕ) (a : SessionTxn) → IsOfSession s session a → (step : Step) (new : State) → ClosesAtMost a.txn step new → ClosesAtMost (txn_of s.sessions session) step new
-  as_its session a of step new h = subst (λ t. ClosesAtMost t step new) (sym (its_txn k.agree a session (inl of.0) of.1)) h
+  as_its session a of step new h = subst (λ t. ClosesAtMost t step new) (sym (its_txn s.sessions a session of.0.1 of.1)) h
 
   pub call_closes : (session : ℕ) (c : Call) (step : Step) (new : State) → CallStep g s session c step new → ClosesAtMost (txn_of s.sessions session) step new
   call_closes session c step new (inl h) = no_cycle_at_all _ step new (none_as_before s new (ap (λ (x : State). x.locks) h.1) none)
@@ -165,23 +166,26 @@ module _ (g : Geometry) (found : List LogRecord) (es : List Entry) (s : State) (
   call_closes session c step new (inr (inr (inl h))) = no_cycle_at_all _ step new (none_as_before s new (ap (λ (x : State). x.locks) h.3) none)
   call_closes session c step new (inr (inr (inr (inl h)))) = no_cycle_at_all _ step new (none_as_before s new (begin_keeps_locks s session step new h.3) none)
   call_closes session c step new (inr (inr (inr (inr (inl h))))) = no_cycle_at_all _ step new (none_as_before s new (ap (λ (x : State). x.locks) h.5) none)
-  call_closes session c step new (inr (inr (inr (inr (inr h))))) =
+  call_closes session c step new (inr (inr (inr (inr (inr (inr (inl h))))))) = no_cycle_at_all _ step new (none_as_before s new (ap (λ (x : State). x.locks) h.5) none)
+  call_closes session c step new (inr (inr (inr (inr (inr (inr (inr h))))))) = no_cycle_at_all _ step new (none_as_before s new (ap (λ (x : State). x.locks) (outside_same s c step new h.2)) none)
+  call_closes session c step new (inr (inr (inr (inr (inr (inl h)))))) =
       let a = h.2.0 in
       let of = h.2.1 in
-      as_its session a of step new (inner_closes a of.0 (k.locks.waits h.0 a of.0 (λ w m spared same. h.1 w m (same ∙ of.1))) c step new h.2.2)
+      as_its session a of step new (inner_closes a of.0 (k.locks.waits h.0 a of.0.0 (λ w m spared same. h.1 w m (same ∙ of.1))) c step new h.2.2)
 
   -- ---- resumes
 
   wait_closes : (w : Waiting) (wait : Wait) (step : Step) (new : State) → ResumesWait g s w wait step new → ClosesAtMost (txn_of s.sessions w.session) step new
   wait_closes w (Durable n) step new (inl h) = no_cycle_at_all _ step new (none_as_before s new (ap (λ (x : State). x.locks) h.2) none)
-  wait_closes w (Durable n) step new (inr h) =
+  wait_closes w (Durable n) step new (inr (inl h)) =
       no_cycle_at_all _ step new (subst (λ (x : State). HasNoCycle x.locks.requests) (sym h.2.3) (release_keeps_free s.locks.requests h.2.0.txn k.locks.orderly none))
+  wait_closes w (Durable n) step new (inr (inr h)) = no_cycle_at_all _ step new (none_as_before s new (ap (λ (x : State). x.locks) h.2.4) none)
   wait_closes w (Lock at) step new h = ⊎_elim
       (λ still. no_cycle_at_all _ step new (none_as_before s new (ap (λ (x : State). x.locks) still.2) none))
       (λ free.
       as_its w.session h.0 h.1 step new
-      (goes_closes found es h.0 g (wait_refused s w.session)
-      (record { state = woken g found es s k h.0 w.session h.1 free.0; active = h.1.0; quiet = free.0; none = none }) w.call step new free.1))
+      (goes_closes o found es h.0 g (wait_refused s w.session)
+      (record { state = woken g o found es s k h.0 w.session h.1 free.0; active = h.1.0; quiet = free.0; none = none }) w.call step new free.1))
       h.2
 
   resumed_closes : (w : Waiting) (step : Step) (new : State) → ResumesCall g s w step new → ClosesAtMost (txn_of s.sessions w.session) step new

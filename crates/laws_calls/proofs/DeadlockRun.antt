@@ -19,18 +19,21 @@ use Rattle.shore_locks.specs.Tables.{is_waiting}
 use Rattle.shore_cycles.specs.Cycles.{IsVictim}
 use Rattle.shore_cycles.specs.declared.victims.Victim.{Victim}
 use Rattle.laws_locks.specs.CallLocks.{Asked}
-use Rattle.laws_lives.specs.Sessions.{SessionTxn, txn_begun}
+use Rattle.laws_lives.specs.Sessions.{SessionTxn}
 use Rattle.laws_lives.specs.UndoLists.{nothing_to_undo, undo_rolled}
 use Rattle.laws_calls.proofs.SettledAtOnce.{at_once, lone_waiter_is_on_no_cycle, resumed_at_once, waits_alone, waits_at_once}
 use Rattle.laws_calls.specs.CallHistories.{IsOpened}
 use Rattle.laws_calls.specs.CallSteps.{CallStep, aborted, behind_lock, lock_waiting}
 use Rattle.laws_calls.specs.Events.{Called, EventMoves, MovesMaking, Resumed}
 use Rattle.laws_calls.specs.Settling.{SettledCall}
-use Rattle.laws_calls.specs.StateChanges.{answered, wait_refused}
+use Rattle.laws_calls.specs.StateChanges.{answered, wait_refused, begun}
 use Rattle.laws_calls.specs.States.{DoesNotWait, HasNoTxn, State, Waiting}
 use Rattle.laws_calls.specs.Victims.{TakesVictim, victim_taken}
 use Rattle.laws_calls.specs.WorkedDeadlock.{a_deadlock, cycle_of_two, share_all, take_all, told_in_a_deadlock}
 use Rattle.laws_calls.specs.WorkedRun.{opened_empty}
+use Rattle.laws_lives.specs.Soundness.{opening_with}
+use Rattle.laws_calls.proofs.EmptyOpens.{empty_is_opened}
+use Rattle.std.specs.FinMap.{empty}
 
 module _ (g : Geometry) (stream_bytes : ℕ) (long : 100000 ≤ stream_bytes) where
   -- ---- states
@@ -39,10 +42,10 @@ module _ (g : Geometry) (stream_bytes : ℕ) (long : 100000 ≤ stream_bytes) wh
   opened = opened_empty stream_bytes
 
   abbrev begun_one : State
-  begun_one = record opened { sessions = txn_begun opened.sessions 1 }
+  begun_one = begun opened 1
 
   abbrev begun_two : State
-  begun_two = record begun_one { sessions = txn_begun begun_one.sessions 2 }
+  begun_two = begun begun_one 2
 
   abbrev one : SessionTxn
   one = record { session = 1; txn = 1; undo = nothing_to_undo }
@@ -142,43 +145,35 @@ module _ (g : Geometry) (stream_bytes : ℕ) (long : 100000 ≤ stream_bytes) wh
 
   -- ---- events
 
-  is_opened : IsOpened [] opened
-  is_opened = record {
-    just = record { records = refl; active = refl; committing = refl; held = refl; some = omega arith };
-    log = refl;
-    above = tt;
-    least = λ n some above. omega arith;
-    durable = refl;
-    waiting = refl;
-    running = refl;
-  }
+  is_opened : IsOpened (opening_with empty) [] opened
+  is_opened = empty_is_opened stream_bytes
 
   begins_one : EventMoves g opened (Called 1 call.Begin (Done (Began 1))) begun_one
-  begins_one = (tt, at_once g opened 1 call.Begin (Done (Began 1)) begun_one (inr (inr (inr (inl (refl, λ w m. absurd m, refl, (λ a y. ⊎_elim (λ m. absurd m) (λ m. absurd m) y, omega arith, ((omega arith, omega arith), omega arith), refl, refl)))))) tt)
+  begins_one = (tt, at_once g opened 1 call.Begin (Done (Began 1)) begun_one (inr (inr (inr (inl (refl, λ w m. absurd m, refl, (refl, omega arith, ((omega arith, omega arith), omega arith), refl, refl)))))) tt)
 
   begins_two : EventMoves g begun_one (Called 2 call.Begin (Done (Began 2))) begun_two
   begins_two = (tt, at_once g begun_one 2 call.Begin (Done (Began 2)) begun_two (inr (inr (inr (inl (refl, λ w m. absurd m, refl, (not_in, omega arith, ((omega arith, omega arith), omega arith), refl, refl)))))) tt)
     where
       not_in : HasNoTxn begun_one 2
-      not_in a y = ⊎_elim (λ m. ⊎_elim (λ same is. let other = ap (λ (x : SessionTxn). x.session) same in omega arith) (λ later. absurd later) m) (λ m. absurd m) y
+      not_in = refl
 
   shares_one : EventMoves g begun_two (Called 1 share_all (Done Locked)) one_shares
-  shares_one = (tt, at_once g begun_two 1 share_all (Done Locked) one_shares (inr (inr (inr (inr (inr (refl, λ w m. absurd m, (one, (inr (inl refl), refl), inr (inl (refl, inr (inl ((refl, tt), (behind_lock begun_two one share_all share, (share, refl, refl, refl), (refl, refl))))))))))))) tt)
+  shares_one = (tt, at_once g begun_two 1 share_all (Done Locked) one_shares (inr (inr (inr (inr (inr (inl (refl, λ w m. absurd m, (one, ((inr (inl refl), refl, omega arith), refl), inr (inl (refl, inr (inl ((refl, tt), (behind_lock begun_two one share_all share, (share, refl, refl, refl), (refl, refl)))))))))))))) tt)
 
   shares_two : EventMoves g one_shares (Called 2 share_all (Done Locked)) two_shares
-  shares_two = (tt, at_once g one_shares 2 share_all (Done Locked) two_shares (inr (inr (inr (inr (inr (refl, λ w m. absurd m, (two, (inl refl, refl), inr (inl (refl, inr (inl ((refl, tt), (behind_lock one_shares two share_all share, (share, refl, refl, refl), (refl, refl))))))))))))) tt)
+  shares_two = (tt, at_once g one_shares 2 share_all (Done Locked) two_shares (inr (inr (inr (inr (inr (inl (refl, λ w m. absurd m, (two, ((inl refl, refl, omega arith), refl), inr (inl (refl, inr (inl ((refl, tt), (behind_lock one_shares two share_all share, (share, refl, refl, refl), (refl, refl)))))))))))))) tt)
 
   called_two : CallStep g two_shares 2 take_all (Waits (Lock Volume)) two_waits
-  called_two = inr (inr (inr (inr (inr (refl, λ w m. absurd m, (two, (inl refl, refl), inr (inl (refl, inr (inl ((refl, tt), (all, Volume, refl, refl, refl, refl)))))))))))
+  called_two = inr (inr (inr (inr (inr (inl (refl, λ w m. absurd m, (two, ((inl refl, refl, omega arith), refl), inr (inl (refl, inr (inl ((refl, tt), (all, Volume, refl, refl, refl, refl))))))))))))
 
   two_alone : (u : ℕ) → is_waiting u two_waits.locks.requests ≡ true → u ≡ 2
   two_alone = waits_alone 2 two_waits.locks.requests (inl refl, (inr refl, tt))
 
   waits_two : EventMoves g two_shares (Called 2 take_all (Waits (Lock Volume))) two_waits
-  waits_two = (tt, waits_at_once g two_shares 2 take_all Volume two_waits called_two two (inl refl, refl) refl (lone_waiter_is_on_no_cycle two_waits.locks.requests 2 two_alone))
+  waits_two = (tt, waits_at_once g two_shares 2 take_all Volume two_waits called_two two ((inl refl, refl, omega arith), refl) refl (lone_waiter_is_on_no_cycle two_waits.locks.requests 2 two_alone))
 
   called_one : CallStep g two_waits 1 take_all (Waits (Lock Volume)) one_waits
-  called_one = inr (inr (inr (inr (inr (refl, idle, (one, (inr (inl refl), refl), inr (inl (refl, inr (inl ((refl, tt), (all, Volume, refl, refl, refl, refl)))))))))))
+  called_one = inr (inr (inr (inr (inr (inl (refl, idle, (one, ((inr (inl refl), refl, omega arith), refl), inr (inl (refl, inr (inl ((refl, tt), (all, Volume, refl, refl, refl, refl))))))))))))
     where
       idle : DoesNotWait two_waits 1
       idle w m is = ⊎_elim (λ same. let other = ap (λ (x : Waiting). x.session) same in omega arith) (λ later. absurd later) m
@@ -193,7 +188,7 @@ module _ (g : Geometry) (stream_bytes : ℕ) (long : 100000 ≤ stream_bytes) wh
     mid = one_waits;
     rounds = (victim ∷ []) ∷ [];
     calls = called_one;
-    settles = (one, Volume, broken, (inr (inl refl), refl), refl, (broken, taken, refl), inl (refl, inl (refl, lone_waiter_is_on_no_cycle broken.locks.requests 1 one_alone, refl, refl)));
+    settles = (one, Volume, broken, ((inr (inl refl), refl, omega arith), refl), refl, (broken, taken, refl), inl (refl, inl (refl, lone_waiter_is_on_no_cycle broken.locks.requests 1 one_alone, refl, refl)));
   }
 
   waits_one : EventMoves g two_waits (Called 1 take_all (Waits (Lock Volume))) broken
@@ -212,7 +207,7 @@ module _ (g : Geometry) (stream_bytes : ℕ) (long : 100000 ≤ stream_bytes) wh
   })
 
   aborts_two : EventMoves g told (Called 2 call.Abort (Done Aborted)) two_aborts
-  aborts_two = (tt, at_once g told 2 call.Abort (Done Aborted) two_aborts (inr (inr (inr (inr (inr (refl, idle, (doomed_two, (inl refl, refl), inr (inr (inr (refl, (refl, refl))))))))))) tt)
+  aborts_two = (tt, at_once g told 2 call.Abort (Done Aborted) two_aborts (inr (inr (inr (inr (inr (inl (refl, idle, (doomed_two, ((inl refl, refl, omega arith), refl), inr (inr (inr (refl, (refl, refl)))))))))))) tt)
     where
       idle : DoesNotWait told 2
       idle w m is = ⊎_elim (λ same. let other = ap (λ (x : Waiting). x.session) same in omega arith) (λ later. absurd later) m
@@ -220,9 +215,9 @@ module _ (g : Geometry) (stream_bytes : ℕ) (long : 100000 ≤ stream_bytes) wh
   goes_on : EventMoves g two_aborts (Resumed 1 (Done Locked)) one_has
   goes_on =
       resumed_at_once g two_aborts 1 (Done Locked) one_has
-      (inr (lock_waiting one take_all Volume, inl refl, refl, inr (refl, (one, (inl refl, refl), inr (refl, (one_goes_on, (all, refl, refl, refl), (refl, refl)))), refl))) tt
+      (inr (lock_waiting one take_all Volume, inl refl, refl, inr (refl, (one, ((inl refl, refl, omega arith), refl), inr (refl, (one_goes_on, (all, refl, refl, refl), (refl, refl)))), refl))) tt
 
-  pub deadlock_comes_through : (last : State) × (made : List Entry) × IsOpened [] (opened_empty stream_bytes)
+  pub deadlock_comes_through : (last : State) × (made : List Entry) × IsOpened (opening_with empty) [] (opened_empty stream_bytes)
       × MovesMaking g (opened_empty stream_bytes) a_deadlock last made × (made ≡ told_in_a_deadlock)
       × (last.sessions.held ≡ record { txn = 1; granule = Volume; mode = EX } ∷ [])
   deadlock_comes_through = (

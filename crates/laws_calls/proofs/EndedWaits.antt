@@ -44,7 +44,8 @@ module _ (g : Geometry) (s new : State) (session : ℕ) where
 
   answered_on : (w : Waiting) → w.session ≡ session → (wait : Wait) (answer : Answer) → ResumesWait g s w wait (Done answer) new → DoesNotWait new session
   answered_on w of (Durable n) answer (inl h) = let clash = h.1 in absurd cc
-  answered_on w of (Durable n) answer (inr h) = no_more h.2.0.session (h.2.2 ∙ of) (ap (λ (s : State). s.waiting) h.2.3)
+  answered_on w of (Durable n) answer (inr (inl h)) = no_more h.2.0.session (h.2.2 ∙ of) (ap (λ (s : State). s.waiting) h.2.3)
+  answered_on w of (Durable n) answer (inr (inr h)) = no_more w.session of (ap (λ (s : State). s.waiting) h.2.4)
   answered_on w of (Lock at) answer h =
       ⊎_elim
       (λ still. let clash = still.1 in absurd cc)
@@ -59,7 +60,8 @@ module _ (g : Geometry) (s new : State) (session : ℕ) where
 
   refused_on : (w : Waiting) → w.session ≡ session → (wait : Wait) (f : Fault) → ResumesWait g s w wait (Refused f) new → DoesNotWait new session
   refused_on w of (Durable n) f (inl h) = let clash = h.1 in absurd cc
-  refused_on w of (Durable n) f (inr h) = let clash = h.1 in absurd cc
+  refused_on w of (Durable n) f (inr (inl h)) = let clash = h.1 in absurd cc
+  refused_on w of (Durable n) f (inr (inr h)) = let clash = h.1 in absurd cc
   refused_on w of (Lock at) f h =
       ⊎_elim
       (λ still. let clash = still.1 in absurd cc)
@@ -125,5 +127,7 @@ module _ (g : Geometry) (s new : State) (session : ℕ) where
   refusal_runs c f device damaged (inr (inr (inl h))) = ap (λ (s : State). s.failed) h.3
   refusal_runs c f device damaged (inr (inr (inr (inl h)))) = ap (λ (s : State). s.failed) h.3.1
   refusal_runs c f device damaged (inr (inr (inr (inr (inl h))))) = ap (λ (s : State). s.failed) h.5
-  refusal_runs c f device damaged (inr (inr (inr (inr (inr h))))) =
+  refusal_runs c f device damaged (inr (inr (inr (inr (inr (inr (inl h))))))) = ap (λ (s : State). s.failed) h.5
+  refusal_runs c f device damaged (inr (inr (inr (inr (inr (inr (inr h))))))) = absurd h.2.1
+  refusal_runs c f device damaged (inr (inr (inr (inr (inr (inl h)))))) =
       inner_runs h.2.0 c f (device, damaged) h.2.2

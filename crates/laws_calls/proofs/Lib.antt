@@ -11,11 +11,13 @@ pub mod CycleSteps
 pub mod DeadlockRun
 pub mod Decided
 pub mod Elements
+pub mod EmptyOpens
 pub mod EndedWaits
 pub mod GoingOn
 pub mod Growing
 pub mod GrownLocks
 pub mod Links
+pub mod Listings
 pub mod LockRefusals
 pub mod LockRounds
 pub mod LockWaits
@@ -26,6 +28,7 @@ pub mod LowestPlaces
 pub mod Midway
 pub mod OneBehind
 pub mod OneSessionStep
+pub mod Outside
 pub mod Passing
 pub mod PlainReads
 pub mod Prefixes

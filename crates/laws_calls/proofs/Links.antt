@@ -1,9 +1,9 @@
 -- What a step of a manager is to its sessions: their events one after another, each with what it leaves of log, slots and room.
-use Rattle.std.proofs.Common.{◌≡◌, ◌≢◌, ◌⊎◌, inl, inr, ◌++◌, ◌∷◌, ◌+◌, ◌<◌, ◌≤◌, ℕ, List, [], Bool, true, false, cond, None, Some, Err, refl, sym, ap, subst, append-nil, arith, length, take}
-use Rattle.std.specs.Prelude.{◌==◌, IsSome, not}
+use Rattle.std.proofs.Common.{◌≡◌, ◌≢◌, ◌⊎◌, inl, inr, ◌++◌, ◌∷◌, ◌+◌, ◌<◌, ◌≤◌, ℕ, List, [], Bool, true, false, cond, None, Some, Err, refl, sym, ap, subst, ◌∙◌, append-nil, arith, length, map, take}
+use Rattle.std.specs.Prelude.{◌==◌, ◌||◌, IsSome, not}
 use Rattle.std.specs.FinMap.{get}
-use Rattle.std.specs.List.{AllByRecursion}
-use Rattle.std.proofs.lemmas.Bool.{eqb-false}
+use Rattle.std.specs.List.{AllByRecursion, list_any}
+use Rattle.std.proofs.lemmas.Bool.{eqb-false, eqb-true, ne_eqb}
 use Rattle.shore_types.specs.Images.{Image}
 use Rattle.shore_types.specs.Layout.{HasPage}
 use Rattle.shore_types.specs.declared.faults.Fault.{Fault}
@@ -16,7 +16,7 @@ use Rattle.shore_model.specs.declared.calls.Call.{Call}
 use Rattle.shore_model.specs.declared.histories.Entry.{Entry}
 use Rattle.shore_model.specs.declared.log_records.Payload.TheVariants as payload
 use Rattle.shore_model.specs.declared.requests.Request.{Request}
-use Rattle.shore_model.specs.Logs.{committed_in, logged_writes}
+use Rattle.shore_model.specs.Logs.{logged_writes}
 use Rattle.shore_model.specs.Requests.{held_by_all}
 use Rattle.shore_nodes.proofs.Counts.{length-filter_most}
 use Rattle.laws_locks.specs.CallLocks.{Asked, lock_asked_by}
@@ -25,13 +25,17 @@ use Rattle.laws_room.specs.Events.{EventFits}
 use Rattle.laws_room.specs.LogRooms.{EventAdmits, LogRoom, RoomAfter, begun_room, ended_room, owed}
 use Rattle.laws_lives.proofs.Lists.{length-push}
 use Rattle.laws_lives.specs.Logged.{and_record, log_after}
-use Rattle.laws_lives.specs.SessionSteps.{AnswerAbort, AnswerCommit, AppendCommit, BeginTxn, Doom, GiveReply, MoveLocks, PutBack, RefuseCall, SessionEvent, StepsTo, entries_by}
-use Rattle.laws_lives.specs.Sessions.{SessionTxn, commit_answered, commit_appended, txn_begun, without_txn}
+use Rattle.laws_lives.specs.SessionSteps.{AnswerAbort, AnswerCommit, AnswerInDoubt, AnswerPrepare, AnswerResolve, AppendCommit, AppendPrepare, AppendResolve, AppendRollback, BeginTxn, Doom, EndRollback, GiveReply, IsOwn, MoveLocks, PutBack, RefuseCall, SessionEvent, StepsTo, entries_by}
+use Rattle.laws_lives.specs.Sessions.{ResolvedTxn, SessionTxn, commit_answered, commit_appended, in_txn, seated, with_undo, without_txn, prepare_answered}
+use Rattle.laws_lives.specs.UndoLists.{UndoList, nothing_to_undo}
 use Rattle.laws_lives.specs.Views.{IsAmong}
 use Rattle.laws_calls.proofs.Rooms.{cost_pushed}
-use Rattle.laws_calls.specs.StateChanges.{FitsAt, with_failure}
-use Rattle.laws_calls.specs.CallSteps.{lock_waiting, txn_count, with_requests}
-use Rattle.laws_calls.specs.States.{DoesNotWait, HasNoTxn, MayBegin, State, Waiting, cost_of_log, log_room}
+use Rattle.laws_calls.specs.StateChanges.{FitsAt, begun, with_failure}
+use Rattle.laws_calls.specs.CallSteps.{ended_among, lock_waiting, txn_count, with_requests, IsPreparing}
+use Rattle.laws_calls.specs.States.{DoesNotWait, HasNoTxn, HasSeat, MayBegin, State, Waiting, cost_of_log, log_room}
+use Rattle.laws_lives.specs.LogPrefixes.{IsDecidedIn}
+use Rattle.shore_model.specs.declared.histories.Decision.TheVariants as decision
+use Rattle.laws_lives.specs.ManagerSteps.{decision_resolved}
 
 -- ---- how many transactions there are
 
@@ -47,6 +51,58 @@ shorter_without a (x ∷ xs) there = by (x.txn == a.txn) refl there (λ later. s
     by true e there rest = let less = no_longer_without a.txn xs in omega (arith, less)
     by false e (inl same) rest = absurd (eqb-false x.txn a.txn e (ap (λ (y : SessionTxn). y.txn) same))
     by false e (inr later) rest = let less = rest later in omega (arith, less)
+
+-- one that is under way no more is not counted again, if no resolve has decided it
+pub ended_without : (t : ℕ) (active : List SessionTxn) (rs : List ResolvedTxn) → (IsAmong t (map (λ r. r.txn) rs) → ⊥) → ended_among (without_txn t active) rs ≡ ended_among active rs
+ended_without t active [] none = refl
+ended_without t active (r ∷ rs) none =
+    ap (λ b. cond (not b) (r ∷ ended_among (without_txn t active) rs) (ended_among (without_txn t active) rs)) (still_there active)
+    ∙ ap (λ xs. cond (not (list_any (λ (a : SessionTxn). a.txn == r.txn) active)) (r ∷ xs) xs) (ended_without t active rs (λ later. none (inr later)))
+  where
+    other : (x : SessionTxn) → (x.txn == t) ≡ true → (x.txn == r.txn) ≡ false
+    other x e = ne_eqb x.txn r.txn (λ same. none (inl (sym same ∙ eqb-true x.txn t e)))
+
+    still_there : (xs : List SessionTxn) → list_any (λ (a : SessionTxn). a.txn == r.txn) (without_txn t xs) ≡ list_any (λ (a : SessionTxn). a.txn == r.txn) xs
+    still_there [] = refl
+    still_there (x ∷ xs) =
+        elim (x.txn == t) as (λ b. (x.txn == t) ≡ b → list_any (λ (a : SessionTxn). a.txn == r.txn) (cond (not b) (x ∷ without_txn t xs) (without_txn t xs)) ≡ ((x.txn == r.txn) || list_any (λ (a : SessionTxn). a.txn == r.txn) xs)) [
+          | true ↦ λ e. still_there xs ∙ ap (λ c. c || list_any (λ (a : SessionTxn). a.txn == r.txn) xs) (sym (other x e))
+          | false ↦ λ e. ap (λ c. (x.txn == r.txn) || c) (still_there xs)
+        ] refl
+
+-- with another undo list it is still there
+pub ended_with : (t : ℕ) (undo : UndoList) (active : List SessionTxn) (rs : List ResolvedTxn) → ended_among (with_undo t undo active) rs ≡ ended_among active rs
+ended_with t undo active [] = refl
+ended_with t undo active (r ∷ rs) =
+    ap (λ b. cond (not b) (r ∷ ended_among (with_undo t undo active) rs) (ended_among (with_undo t undo active) rs)) (still_there active)
+    ∙ ap (λ xs. cond (not (list_any (λ (a : SessionTxn). a.txn == r.txn) active)) (r ∷ xs) xs) (ended_with t undo active rs)
+  where
+    still_there : (xs : List SessionTxn) → list_any (λ (a : SessionTxn). a.txn == r.txn) (with_undo t undo xs) ≡ list_any (λ (a : SessionTxn). a.txn == r.txn) xs
+    still_there [] = refl
+    still_there (x ∷ xs) =
+        elim (x.txn == t) as (λ b. list_any (λ (a : SessionTxn). a.txn == r.txn) (cond b (record { session = x.session; txn = x.txn; undo = undo }) x ∷ with_undo t undo xs) ≡ ((x.txn == r.txn) || list_any (λ (a : SessionTxn). a.txn == r.txn) xs)) [
+          | true ↦ ap (λ c. (x.txn == r.txn) || c) (still_there xs)
+          | false ↦ ap (λ c. (x.txn == r.txn) || c) (still_there xs)
+        ]
+
+-- beside one more there are no more of them
+ended_beside : (x : SessionTxn) (active : List SessionTxn) (rs : List ResolvedTxn) → length (ended_among (x ∷ active) rs) ≤ length (ended_among active rs)
+ended_beside x active [] = omega arith
+ended_beside x active (r ∷ rs) =
+    let rest = ended_beside x active rs in
+    elim (x.txn == r.txn) as (λ b. length (cond (not (b || list_any (λ (a : SessionTxn). a.txn == r.txn) active)) (r ∷ ended_among (x ∷ active) rs) (ended_among (x ∷ active) rs))
+    ≤ length (cond (not (list_any (λ (a : SessionTxn). a.txn == r.txn) active)) (r ∷ ended_among active rs) (ended_among active rs))) [
+      | true ↦
+          elim (list_any (λ (a : SessionTxn). a.txn == r.txn) active) as (λ c. length (ended_among (x ∷ active) rs) ≤ length (cond (not c) (r ∷ ended_among active rs) (ended_among active rs))) [
+            | true ↦ rest
+            | false ↦ omega (arith, rest)
+          ]
+      | false ↦
+          elim (list_any (λ (a : SessionTxn). a.txn == r.txn) active) as (λ c. length (cond (not c) (r ∷ ended_among (x ∷ active) rs) (ended_among (x ∷ active) rs)) ≤ length (cond (not c) (r ∷ ended_among active rs) (ended_among active rs))) [
+            | true ↦ rest
+            | false ↦ omega (arith, rest)
+          ]
+    ]
 
 -- ---- one event
 
@@ -135,7 +191,7 @@ module _ (g : Geometry) (s : State) where
     numbers = λ most. most;
   }
 
-  pub begin_goes : (session : ℕ) → HasNoTxn s session → txn_count s < MAX_TRANSACTIONS → MayBegin s → Goes g s (BeginTxn session) (record s { sessions = txn_begun s.sessions session })
+  pub begin_goes : (session : ℕ) → HasNoTxn s session → txn_count s < MAX_TRANSACTIONS → MayBegin s → Goes g s (BeginTxn session) (begun s session)
   begin_goes session idle less may = record {
     moves = (idle, refl);
     log = refl;
@@ -147,7 +203,7 @@ module _ (g : Geometry) (s : State) where
     admits = may.0;
     room = record { room = begun_room (log_room s); after = refl; kept = refl; stream = refl; last = refl };
     writes = inl (refl, refl);
-    few = λ few. omega (arith, less);
+    few = λ few. let fewer = ended_beside (record { session = session; txn = s.sessions.next_txn; undo = nothing_to_undo }) s.sessions.active s.sessions.resolving in omega (arith, less, fewer);
     numbers = λ most. let room = may.1 in omega (arith, room);
   }
 
@@ -163,6 +219,23 @@ module _ (g : Geometry) (s : State) where
     fits = refl;
     admits = tt;
     room = same_room s s (RefuseCall session t c f) refl refl refl;
+    writes = inl (refl, refl);
+    few = λ few. few;
+    numbers = λ most. most;
+  }
+
+  -- who is in doubt is told
+  pub listing_goes : (session t : ℕ) (pairs : List (List ℕ × ℕ)) → StepsTo s.sessions (AnswerInDoubt session t pairs) s.sessions → Goes g s (AnswerInDoubt session t pairs) s
+  listing_goes session t pairs moves = record {
+    moves = moves;
+    log = refl;
+    durable = refl;
+    stream = refl;
+    waiting = refl;
+    failed = refl;
+    fits = refl;
+    admits = tt;
+    room = same_room s s (AnswerInDoubt session t pairs) refl refl refl;
     writes = inl (refl, refl);
     few = λ few. few;
     numbers = λ most. most;
@@ -189,9 +262,10 @@ module _ (g : Geometry) (s : State) where
     abbrev pub with_commit : State
     with_commit = record s { sessions = commit_appended s.sessions a; log = and_record a.txn s.log payload.Commit }
 
-    pub commit_goes : IsAmong a s.sessions.active → a.undo.rolling ≡ None → Goes g s (AppendCommit a) with_commit
-    commit_goes mem whole = record {
-      moves = (mem, whole, refl);
+    pub commit_goes : IsOwn s.sessions a → a.undo.rolling ≡ None → commit_appended s.sessions a ≡ seated s.sessions (entries_by s.sessions (AppendCommit a)) (commit_appended s.sessions a)
+        → Goes g s (AppendCommit a) with_commit
+    commit_goes own whole seats = record {
+      moves = (own, whole, seats);
       log = refl;
       durable = refl;
       stream = refl;
@@ -207,16 +281,19 @@ module _ (g : Geometry) (s : State) where
         last = sym (length-push s.log _);
       };
       writes = inr (inl (record { txn = a.txn; log = refl; counts = refl }));
-      few = λ few. let shorter = shorter_without a s.sessions.active mem in omega (arith, few, shorter);
+      few = λ few.
+          let shorter = shorter_without a s.sessions.active own.0 in
+          let same = ap length (ended_without a.txn s.sessions.active s.sessions.resolving own.2.1) in
+          omega (arith, few, shorter, same);
       numbers = λ most. most;
     }
 
     abbrev pub with_answer : State
-    with_answer = record s { sessions = commit_answered s.sessions a }
+    with_answer = record s { sessions = seated s.sessions (entries_by s.sessions (AnswerCommit a)) (commit_answered s.sessions a) }
 
-    pub answer_goes : IsAmong a s.sessions.committing → Goes g s (AnswerCommit a) with_answer
-    answer_goes mem = record {
-      moves = (mem, refl);
+    pub answer_goes : IsAmong a s.sessions.committing → s.sessions.seats a.session ≡ in_txn a.txn → Goes g s (AnswerCommit a) with_answer
+    answer_goes mem seat = record {
+      moves = ((mem, seat), refl);
       log = refl;
       durable = refl;
       stream = refl;
@@ -229,6 +306,27 @@ module _ (g : Geometry) (s : State) where
       few = λ few. let shorter = no_longer_without a.txn s.sessions.committing in omega (arith, few, shorter);
       numbers = λ most. most;
     }
+
+-- a prepare is answered
+abbrev pub with_prepare_told : State → ℕ → ℕ → List ℕ → State
+with_prepare_told s session t global = record s { sessions = seated s.sessions (entries_by s.sessions (AnswerPrepare session t global)) (prepare_answered s.sessions t) }
+
+pub prepare_told_goes : (g : Geometry) (s : State) (session t : ℕ) (global : List ℕ) → IsPreparing s.sessions session t global
+    → Goes g s (AnswerPrepare session t global) (with_prepare_told s session t global)
+prepare_told_goes g s session t global mine = record {
+  moves = (mine.0, mine.1, refl);
+  log = refl;
+  durable = refl;
+  stream = refl;
+  waiting = refl;
+  failed = refl;
+  fits = refl;
+  admits = tt;
+  room = same_room s (with_prepare_told s session t global) (AnswerPrepare session t global) refl refl refl;
+  writes = inl (refl, refl);
+  few = λ few. few;
+  numbers = λ most. most;
+}
 
 -- ---- events one after another
 
@@ -244,9 +342,9 @@ pub record IsLike (s t : State) : Type 0 where
   pub counts : t.counts ≡ s.counts
   pub stream : t.stream_bytes ≡ s.stream_bytes
 
--- a commit is answered whose record is durable
+-- what is answered of a decision has its record among the durable ones
 abbrev pub IsDurable : State → SessionEvent → Type 0
-IsDurable s (AnswerCommit a) = IsAmong a.txn (committed_in (take s.durable s.log))
+IsDurable s (AnswerCommit a) = IsDecidedIn (take s.durable s.log) (decision.Commit a.txn)
 IsDurable s (MoveLocks held) = Unit {0}
 IsDurable s (BeginTxn session) = Unit {0}
 IsDurable s (GiveReply a c reply) = Unit {0}
@@ -255,6 +353,13 @@ IsDurable s (PutBack a kept e r) = Unit {0}
 IsDurable s (Doom a) = Unit {0}
 IsDurable s (AnswerAbort a) = Unit {0}
 IsDurable s (RefuseCall session t c f) = Unit {0}
+IsDurable s (AppendPrepare a global granules) = Unit {0}
+IsDurable s (AnswerPrepare session t global) = IsDecidedIn (take s.durable s.log) (decision.Prepare t global)
+IsDurable s (AppendResolve a global) = Unit {0}
+IsDurable s (AppendRollback a global) = Unit {0}
+IsDurable s (EndRollback a) = Unit {0}
+IsDurable s (AnswerResolve session r) = IsDecidedIn (take s.durable s.log) (decision_resolved r)
+IsDurable s (AnswerInDoubt session t pairs) = Unit {0}
 
 -- a step, but for the calls that wait: events of the sessions lead from one state to the other
 pub record ComesBy (g : Geometry) (s new : State) (made : List Entry) : Type 0 where
@@ -279,11 +384,18 @@ IsQuiet s (Doom a) = ⊥
 IsQuiet s (AppendCommit a) = ⊥
 IsQuiet s (AnswerAbort a) = ⊥
 IsQuiet s (AnswerCommit a) = ⊥
+IsQuiet s (AppendPrepare a global granules) = ⊥
+IsQuiet s (AnswerPrepare session t global) = ⊥
+IsQuiet s (AppendResolve a global) = ⊥
+IsQuiet s (AppendRollback a global) = ⊥
+IsQuiet s (EndRollback a) = ⊥
+IsQuiet s (AnswerResolve session r) = ⊥
+IsQuiet s (AnswerInDoubt session t pairs) = Unit {0}
 
 -- the call of a session begins to wait for a lock
 pub record BeginsToWait (session : ℕ) (mid new : State) : Type 0 where
   pub txn : SessionTxn
-  pub active : IsAmong txn mid.sessions.active
+  pub active : HasSeat mid.sessions txn
   pub of : txn.session ≡ session
   pub whole : txn.undo.rolling ≡ None
   pub idle : DoesNotWait mid session
@@ -340,6 +452,13 @@ none_to_answer s start (e ∷ events) quiet = (none e quiet.0, none_to_answer s 
     none (Doom a) quiet = tt
     none (AnswerAbort a) quiet = tt
     none (RefuseCall session t c f) quiet = tt
+    none (AppendPrepare a global granules) quiet = tt
+    none (AnswerPrepare session t global) quiet = absurd quiet
+    none (AppendResolve a global) quiet = tt
+    none (AppendRollback a global) quiet = tt
+    none (EndRollback a) quiet = tt
+    none (AnswerResolve session r) quiet = absurd quiet
+    none (AnswerInDoubt session t pairs) quiet = tt
 
 pub quietly_comes : (g : Geometry) (session : ℕ) (s start new : State) (made : List Entry) → IsLike s start → GoesQuietly g session start new made → ComesBy g s new made
 quietly_comes g session s start new made before h = record {

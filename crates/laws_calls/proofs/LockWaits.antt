@@ -1,6 +1,7 @@
 -- What holds of a call that begins to wait holds of each call that waits, whatever happens: as that a call which waits for a lock was not to be refused
 -- before it asked.
 use Rattle.std.proofs.Common.{◌≡◌, inl, inr, ⊎_elim, ℕ, List, [], ◌∷◌, Bool, true, false, Some, refl, sym, ap, subst, cond}
+use Rattle.shore_model.specs.declared.histories.Opening.{Opening}
 use Rattle.std.specs.Prelude.{◌==◌, not}
 use Rattle.shore_types.specs.declared.layout.Geometry.{Geometry}
 use Rattle.shore_types.specs.declared.locking.Granule.{Granule}
@@ -21,12 +22,13 @@ use Rattle.laws_calls.proofs.EndedWaits.{answers_wait}
 use Rattle.laws_calls.proofs.SessionInversions.{answered_from, durable_no_lock}
 use Rattle.laws_calls.specs.CallHistories.{IsOpened}
 use Rattle.laws_calls.specs.Events.{Called, Forced, HasFailed, ManagerEvent, Resumed, EventMoves, EventsMove}
-use Rattle.laws_calls.specs.StateChanges.{commit_waiting, wait_refused}
+use Rattle.laws_calls.specs.StateChanges.{decision_waiting, wait_refused}
 use Rattle.laws_calls.specs.CallSteps.{AbortStep, BeginStep, CommitStep, CallGoesOn, InnerStep, MayAsk, ResumesWait, CallStep, ResumeStep, behind_lock, lock_waiting}
 use Rattle.laws_calls.specs.Settling.{SettledCall, SettledResume, Settles}
 use Rattle.laws_calls.specs.Shapes.{LockWaitsMayAsk}
 use Rattle.laws_calls.specs.States.{State, Waiting, next_number, without_waiting}
 use Rattle.laws_calls.specs.Victims.{TakesVictim, TakesVictims, TellsVictim, with_cycle}
+use Rattle.laws_calls.proofs.Outside.{outside_same}
 
 -- who waits once a session's calls are taken out waited before
 was_waiting : (n : ℕ) (ws : List Waiting) (w : Waiting) → IsAmong w (without_waiting n ws) → IsAmong w ws
@@ -97,7 +99,7 @@ module _ (g : Geometry) (P : ℕ → Call → Wait → Type 0) (moves : (session
   begins s new session Nothing h = absurd h
 
   commits : (s new : State) (a : SessionTxn) → ((n : ℕ) → P a.session call.Commit (Durable n)) → (step : Step) → CommitStep s a step new → WaitsHave P s → WaitsHave P new
-  commits s new a may (Waits wait) h = and_one s new (commit_waiting a.session (next_number s)) (ap (λ (s : State). s.waiting) h.1) (may (next_number s))
+  commits s new a may (Waits wait) h = and_one s new (decision_waiting a.session call.Commit (next_number s)) (ap (λ (s : State). s.waiting) h.1) (may (next_number s))
   commits s new a may (Done answer) h = absurd h
   commits s new a may (Refused f) h = absurd h
   commits s new a may Nothing h = absurd h
@@ -123,13 +125,16 @@ module _ (g : Geometry) (P : ℕ → Call → Wait → Type 0) (moves : (session
   called s new session c may step (inr (inr (inl h))) = as_before s new (ap (λ (s : State). s.waiting) h.3)
   called s new session c may step (inr (inr (inr (inl h)))) = begins s new session step h.3
   called s new session c may step (inr (inr (inr (inr (inl h))))) = as_before s new (ap (λ (s : State). s.waiting) h.5)
-  called s new session c may step (inr (inr (inr (inr (inr h))))) =
+  called s new session c may step (inr (inr (inr (inr (inr (inr (inl h))))))) = as_before s new (ap (λ (s : State). s.waiting) h.5)
+  called s new session c may step (inr (inr (inr (inr (inr (inr (inr h))))))) = as_before s new (ap (λ (s : State). s.waiting) (outside_same s c step new h.2))
+  called s new session c may step (inr (inr (inr (inr (inr (inl h)))))) =
       inner s new h.2.0 c (subst (λ n. MayWait g P n c) (sym h.2.1.1) may) step h.2.2
 
   resumed : (s new : State) (w : Waiting) → IsAmong w s.waiting → (wait : Wait) → w.wait ≡ wait → (step : Step) → ResumesWait g s w wait step new
       → WaitsHave P s → WaitsHave P new
   resumed s new w there (Durable n) is step (inl h) k = as_before s new (ap (λ (s : State). s.waiting) h.2) k
-  resumed s new w there (Durable n) is step (inr h) k = but_one s new h.2.0.session (ap (λ (s : State). s.waiting) h.2.3) k
+  resumed s new w there (Durable n) is step (inr (inl h)) k = but_one s new h.2.0.session (ap (λ (s : State). s.waiting) h.2.3) k
+  resumed s new w there (Durable n) is step (inr (inr h)) k = but_one s new w.session (ap (λ (s : State). s.waiting) h.2.4) k
   resumed s new w there (Lock at) is step h k =
       ⊎_elim
       (λ still. as_before s new (ap (λ (s : State). s.waiting) still.2) k)
@@ -215,5 +220,5 @@ module _ (g : Geometry) where
   waits_may_ask s last [] h k = subst (LockWaitsMayAsk g) (sym h) k
   waits_may_ask s last (e ∷ events) h k = waits_may_ask h.0 last events h.2 (event_waits_on g asked_for same_call s h.0 e (may_in e) h.1 k)
 
-  pub opened_may_ask : (found : List LogRecord) (s : State) → IsOpened found s → LockWaitsMayAsk g s
-  opened_may_ask found s h w there = absurd (subst (IsAmong w) h.waiting there)
+  pub opened_may_ask : (o : Opening) (found : List LogRecord) (s : State) → IsOpened o found s → LockWaitsMayAsk g s
+  opened_may_ask o found s h w there = absurd (subst (IsAmong w) h.waiting there)

@@ -1,5 +1,5 @@
 -- What becomes of locks by a call: nobody's becomes weaker, and an answer has those that it needs.
-use Rattle.std.proofs.Common.{◌≡◌, ◌≢◌, ◌⊎◌, inl, inr, ⊎_elim, ℕ, List, false, refl, sym, ap, subst, ◌∙◌, Ok}
+use Rattle.std.proofs.Common.{◌≡◌, ◌≢◌, ◌⊎◌, inl, inr, ⊎_elim, ℕ, List, false, sym, ap, subst, ◌∙◌, Ok}
 use Rattle.std.specs.Prelude.{Result}
 use Rattle.shore_types.specs.declared.faults.Fault.{Fault}
 use Rattle.shore_types.specs.declared.faults.Fault.TheVariants as fault
@@ -17,6 +17,7 @@ use Rattle.shore_model.specs.declared.calls.Answer.TheVariants.{Aborted}
 use Rattle.shore_model.specs.declared.calls.Call.{Call}
 use Rattle.shore_model.specs.declared.calls.Call.TheVariants as call
 use Rattle.shore_model.specs.declared.histories.Entry.{Entry}
+use Rattle.shore_model.specs.declared.histories.Opening.{Opening}
 use Rattle.shore_model.specs.declared.holds.Hold.{Hold}
 use Rattle.shore_model.specs.declared.log_records.LogRecord.{LogRecord}
 use Rattle.shore_locks.specs.Orderly.{IsOrderly}
@@ -44,9 +45,10 @@ use Rattle.laws_calls.proofs.SessionInversions.{AnsweredFrom, IsLockless, answer
 use Rattle.laws_calls.proofs.RollingLeaves.{LeavesTable, back_table, interrupted_table, savepoint_table}
 use Rattle.laws_calls.proofs.Sessions.{one_txn}
 use Rattle.laws_calls.specs.StateChanges.{after_refusal, answered, committed, with_failure}
-use Rattle.laws_calls.specs.CallSteps.{AbortStep, AnswersBehind, BeginStep, CommitStep, CallGoesOn, InnerStep, LacksMemory, RefusesBehind, CallStep, aborted, behind_lock, behind_place, lock_outcome, on_conflict_of, place_outcome}
+use Rattle.laws_calls.specs.CallSteps.{AbortStep, AnswersBehind, BeginStep, CommitStep, CallGoesOn, InnerStep, LacksMemory, RefusesBehind, CallStep, aborted, behind_lock, behind_place, lock_outcome, on_conflict_of, place_outcome, NeedsTxn}
 use Rattle.laws_calls.specs.LockedStates.{IsSessionsState}
 use Rattle.laws_calls.specs.States.{DoesNotWait, IsOfSession, State}
+use Rattle.laws_calls.proofs.Outside.{outside_same}
 
 -- ---- the same locks
 
@@ -150,13 +152,13 @@ module _ (g : Geometry) (s : State) (a : SessionTxn) (ready : MayAskIn s a) (new
       behind_kept c h.1.0 h.1.2 (refuses_from g (behind_lock s a c h.1.0) a new c f (subst (λ (l : State). RefusesBehind g l a c f new) h.1.3 h.2))
   going_on_kept c Nothing h = absurd h
 
-module _ (g : Geometry) (found : List LogRecord) (es : List Entry) (s new : State) (k : IsSessionsState found es s) (session : ℕ) where
+module _ (g : Geometry) (o : Opening) (found : List LogRecord) (es : List Entry) (s new : State) (k : IsSessionsState o found es s) (session : ℕ) where
   as_before : new ≡ s → NoLockWeaker s new
   as_before is = still s new s (same_locks new s is) (λ u at m enough. enough)
 
   pub may_ask_in : (a : SessionTxn) → IsOfSession s session a → s.failed ≡ false → DoesNotWait s session → MayAskIn s a
   may_ask_in a of running idle =
-      record { orderly = k.locks.orderly; rooted = k.locks.rooted; quiet = k.locks.waits running a of.0 (λ w m spared same. idle w m (same ∙ of.1)) }
+      record { orderly = k.locks.orderly; rooted = k.locks.rooted; quiet = k.locks.waits running a of.0.0 (λ w m spared same. idle w m (same ∙ of.1)) }
 
   begin_kept : (step : Step) → BeginStep s session step new → NoLockWeaker s new
   begin_kept (Done answer) h = still s new s (same_locks new _ h.4) (λ u at m enough. enough)
@@ -201,11 +203,13 @@ module _ (g : Geometry) (found : List LogRecord) (es : List Entry) (s new : Stat
   call_kept c step (inr (inr (inl h))) = inl (as_before h.3)
   call_kept c step (inr (inr (inr (inl h)))) = inl (begin_kept step h.3)
   call_kept c step (inr (inr (inr (inr (inl h))))) = inl (as_before h.5)
-  call_kept c step (inr (inr (inr (inr (inr h))))) = inner_kept h.2.0 h.2.1 h.0 h.1 c step h.2.2
+  call_kept c step (inr (inr (inr (inr (inr (inr (inl h))))))) = inl (as_before h.5)
+  call_kept c step (inr (inr (inr (inr (inr (inr (inr h))))))) = inl (as_before (outside_same s c step new h.2))
+  call_kept c step (inr (inr (inr (inr (inr (inl h)))))) = inner_kept h.2.0 h.2.1 h.0 h.1 c step h.2.2
 
   -- ---- in words of locks
 
-  locks_kept : {made : List Entry} → IsSessionsState found made new → NoLockWeaker s new → (u : ℕ) → KeepsLocks s.sessions.held new.sessions.held u
+  locks_kept : {made : List Entry} → IsSessionsState o found made new → NoLockWeaker s new → (u : ℕ) → KeepsLocks s.sessions.held new.sessions.held u
   locks_kept after kept u m at h =
       let was = holder_from_lock u at m s.locks.requests (subst (λ (l : List Hold). HoldsAtLeast l u m at) k.locks.held h) in
       let now = holder_of u at m new.locks.requests (kept u at m (enough_of u at m s.locks.requests k.locks.orderly.one_each was)) in
@@ -213,7 +217,7 @@ module _ (g : Geometry) (found : List LogRecord) (es : List Entry) (s new : Stat
 
   pub call_keeps_locks : (c : Call) (step : Step) → step ≢ Done Aborted → CallStep g s session c step new → (u : ℕ) → KeepsLocks s.sessions.held new.sessions.held u
   call_keeps_locks c step other h =
-      ⊎_elim (λ kept. locks_kept (session_call_kept g found es s k session c step new h) kept) (λ all. absurd (other all.answered)) (call_kept c step h)
+      ⊎_elim (λ kept. locks_kept (session_call_kept g o found es s k session c step new h) kept) (λ all. absurd (other all.answered)) (call_kept c step h)
 
   -- what an abort that is answered leaves of the locks of others
   others_of_aborted : (a : SessionTxn) → new ≡ aborted s a → (u : ℕ) → u ≢ a.txn → KeepsLocks s.sessions.held new.sessions.held u
@@ -227,8 +231,8 @@ module _ (g : Geometry) (found : List LogRecord) (es : List Entry) (s new : Stat
   pub others_keep_locks : (c : Call) (step : Step) (a : SessionTxn) → IsOfSession s session a → CallStep g s session c step new → (u : ℕ) → u ≢ a.txn → KeepsLocks s.sessions.held new.sessions.held u
   others_keep_locks c step a of h u other =
       ⊎_elim
-      (λ kept. locks_kept (session_call_kept g found es s k session c step new h) kept u)
-      (λ all. others_of_aborted all.txn all.is u (λ same. other (same ∙ one_txn k.agree all.txn a (inl all.of.0) (inl of.0) (all.of.1 ∙ sym of.1))))
+      (λ kept. locks_kept (session_call_kept g o found es s k session c step new h) kept u)
+      (λ all. others_of_aborted all.txn all.is u (λ same. other (same ∙ one_txn s.sessions all.txn a all.of.0.1 of.0.1 (all.of.1 ∙ sym of.1))))
       (call_kept c step h)
 
   -- ---- an answer has the locks that it needs
@@ -271,12 +275,15 @@ module _ (g : Geometry) (found : List LogRecord) (es : List Entry) (s new : Stat
         reached (call.TryLock at mode) answer t (λ store bytes is. cc) (same_locks new (answered (behind_lock s a (call.TryLock at mode) t.lock) a (call.TryLock at mode) answer s.counts) t.behind.1)
     has_locks _ answer t = absurd t.behind
 
-  begin_or_not : (c : Call) → (c ≡ call.Begin) ⊎ (c ≢ call.Begin)
-  begin_or_not call.Begin = inl refl
-  begin_or_not _ = inr (λ e. cc)
+  -- what needs no transaction needs no lock
+  outside_or_not : (c : Call) → ((held : List Hold) (t : ℕ) (answer : Answer) → HasLocksFor held t c answer) ⊎ NeedsTxn c
+  outside_or_not call.Begin = inl (λ held t answer. tt)
+  outside_or_not (call.Resolve global outcome) = inl (λ held t answer. tt)
+  outside_or_not call.InDoubt = inl (λ held t answer. tt)
+  outside_or_not _ = inr tt
 
   pub its_number : (a b : SessionTxn) → IsOfSession s session a → IsOfSession s session b → b.txn ≡ a.txn
-  its_number a b x y = one_txn k.agree b a (inl y.0) (inl x.0) (y.1 ∙ sym x.1)
+  its_number a b x y = one_txn s.sessions b a y.0.1 x.0.1 (y.1 ∙ sym x.1)
 
   -- a call that undoes needs none
   lockless_or_not : (c : Call) → ((held : List Hold) (t : ℕ) (answer : Answer) → HasLocksFor held t c answer) ⊎ (IsLockless c → ⊥)
@@ -289,15 +296,15 @@ module _ (g : Geometry) (found : List LogRecord) (es : List Entry) (s new : Stat
       → HasLocksFor new.sessions.held a.txn c answer
   answer_has_locks c answer a of h =
       ⊎_elim
-      (λ begins. subst (λ (c : Call). HasLocksFor new.sessions.held a.txn c answer) (sym begins) tt)
-      (λ other. ⊎_elim
+      (λ none. none new.sessions.held a.txn answer)
+      (λ needs. ⊎_elim
       (λ none. none new.sessions.held a.txn answer)
       (λ locks.
-      let t = answered_in g s new session c answer other locks h in
+      let t = answered_in g s new session c answer needs locks h in
       subst (λ (n : ℕ). HasLocksFor new.sessions.held n c answer) (its_number a t.txn of t.of)
       (has_locks t.txn (may_ask_in t.txn t.of t.running t.idle) c answer t.from))
       (lockless_or_not c))
-      (begin_or_not c)
+      (outside_or_not c)
 
   -- ---- nobody reads what another may write
 
@@ -306,7 +313,7 @@ module _ (g : Geometry) (found : List LogRecord) (es : List Entry) (s new : Stat
     permit = permitted new.sessions.held a.txn c answer (answer_has_locks c answer a of h)
 
     apart : (r : Rid) (t u : ℕ) → t ≢ u → MayWrite new.sessions.held t r → MayRead new.sessions.held u r → ⊥
-    apart = (session_call_kept g found es s k session c (Done answer) new h).sound.stand.harmony.none_interferes
+    apart = (session_call_kept g o found es s k session c (Done answer) new h).sound.stand.harmony.none_interferes
 
     pub reads_of_writer : MayWrite s.sessions.held u id → (Permit new.sessions.held a.txn c answer → MayRead new.sessions.held a.txn id) → ⊥
     reads_of_writer writes reads =

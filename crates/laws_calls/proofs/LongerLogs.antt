@@ -27,6 +27,7 @@ use Rattle.laws_calls.specs.CallSteps.{AbortStep, AnswersBehind, BeginStep, Comm
 use Rattle.laws_calls.specs.Settling.{SettledCall, SettledResume, Settles}
 use Rattle.laws_calls.specs.States.{State, Waiting}
 use Rattle.laws_calls.specs.Victims.{TakesVictim, TakesVictims, TellsVictim, Withdraws}
+use Rattle.laws_calls.proofs.Outside.{outside_same}
 
 -- as much is durable, and the log goes on
 pub record GoesFurther (s new : State) : Type 0 where
@@ -164,7 +165,9 @@ call_further g s session c step new (inr (inl h)) = same_further s new h.2
 call_further g s session c step new (inr (inr (inl h))) = same_further s new h.3
 call_further g s session c step new (inr (inr (inr (inl h)))) = begin_further s session step new h.3
 call_further g s session c step new (inr (inr (inr (inr (inl h))))) = same_further s new h.5
-call_further g s session c step new (inr (inr (inr (inr (inr h))))) = inner_further g s h.2.0 c step new h.2.2
+call_further g s session c step new (inr (inr (inr (inr (inr (inr (inl h))))))) = same_further s new h.5
+call_further g s session c step new (inr (inr (inr (inr (inr (inr (inr h))))))) = same_further s new (outside_same s c step new h.2)
+call_further g s session c step new (inr (inr (inr (inr (inr (inl h)))))) = inner_further g s h.2.0 c step new h.2.2
 
 -- ---- going on
 
@@ -173,7 +176,8 @@ from_wait s session new h = record { durable = h.durable; on = h.on }
 
 wait_further : (g : Geometry) (s : State) (w : Waiting) (wait : Wait) (step : Step) (new : State) → ResumesWait g s w wait step new → GoesFurther s new
 wait_further g s w (Durable n) step new (inl h) = same_further s new h.2
-wait_further g s w (Durable n) step new (inr h) = subst (GoesFurther s) (sym h.2.3) (record { durable = refl; on = ([], sym (append-nil _)) })
+wait_further g s w (Durable n) step new (inr (inl h)) = subst (GoesFurther s) (sym h.2.3) (record { durable = refl; on = ([], sym (append-nil _)) })
+wait_further g s w (Durable n) step new (inr (inr h)) = subst (GoesFurther s) (sym h.2.4) (record { durable = refl; on = ([], sym (append-nil _)) })
 wait_further g s w (Lock at) step new h = ⊎_elim
     (λ still. same_further s new still.2)
     (λ free. from_wait s w.session new (goes_further g h.0 (wait_refused s w.session) w.call step new free.1))

@@ -1,15 +1,16 @@
 -- A call and a resume as a whole, taken apart: what came between, and what it came to from there.
-use Rattle.std.proofs.Common.{◌≡◌, ◌⊎◌, inl, inr, ⊎_elim, ◌++◌, ℕ, List, [], ◌∷◌, true, false, cond, refl, sym, ap, subst, ◌∙◌, append-nil}
+use Rattle.std.proofs.Common.{◌≡◌, ◌⊎◌, inl, inr, ⊎_elim, ◌++◌, ℕ, List, [], ◌∷◌, true, false, cond, refl, sym, ap, subst, ◌∙◌, append-nil, ◌<◌}
 use Rattle.std.specs.Prelude.{◌==◌}
 use Rattle.shore_types.specs.declared.layout.Geometry.{Geometry}
 use Rattle.shore_types.specs.declared.locking.Granule.{Granule}
 use Rattle.shore_model.specs.declared.calls.Call.{Call}
 use Rattle.shore_model.specs.declared.histories.Entry.{Entry}
+use Rattle.shore_model.specs.declared.histories.Opening.{Opening}
 use Rattle.shore_model.specs.declared.log_records.LogRecord.{LogRecord}
 use Rattle.shore_locks.specs.Grants.{cancelled}
 use Rattle.shore_locks.specs.Tables.{is_waiting}
 use Rattle.shore_cycles.specs.declared.victims.Victim.{Victim}
-use Rattle.laws_lives.specs.Sessions.{SessionTxn, with_undo}
+use Rattle.laws_lives.specs.Sessions.{SessionTxn, with_undo, in_txn}
 use Rattle.laws_lives.specs.UndoLists.{UndoList}
 use Rattle.laws_lives.specs.Views.{IsAmong}
 use Rattle.shore_model.specs.declared.step.Step.{Step}
@@ -59,8 +60,10 @@ module _ (g : Geometry) (session : ℕ) where
   victims_intervene s n a of is [] new h = record { between = []; intervene = h; txn = a; of = subst (λ (x : State). IsOfSession x session a) (sym h) of; number = is }
   victims_intervene s n a of is (v ∷ vs) new h =
       let taken : TakesVictim s a.txn v h.0 = subst (λ t. TakesVictim s t v h.0) (sym is) h.1 in
-      let b = keeps_number taken.txn.txn _ a s.sessions.active of.0 in
-      let rest = victims_intervene h.0 n b.0 (subst (λ (x : State). IsOfSession x session b.0) (sym taken.is) (b.1, b.2 ∙ of.1)) (b.3 ∙ is) vs new h.2 in
+      let b = keeps_number taken.txn.txn _ a s.sessions.active of.0.0 in
+      let seat : s.sessions.seats b.0.session ≡ in_txn b.0.txn = ap s.sessions.seats b.2 ∙ of.0.1 ∙ ap in_txn (sym b.3) in
+      let above = subst (λ (t : ℕ). 0 < t) (sym b.3) of.0.2 in
+      let rest = victims_intervene h.0 n b.0 (subst (λ (x : State). IsOfSession x session b.0) (sym taken.is) ((b.1, seat, above), b.2 ∙ of.1)) (b.3 ∙ is) vs new h.2 in
       record { between = Takes taken.txn v ∷ rest.between; intervene = (h.0, (a, of, (taken, refl)), rest.intervene); txn = rest.txn; of = rest.of; number = rest.number }
 
   -- ---- what it came to
@@ -171,22 +174,22 @@ settled_resume_to g s session step new (inr (inr on)) = by on.rounds on.settles
 
 -- ---- what is kept midway
 
-module _ (g : Geometry) (found : List LogRecord) (es : List Entry) (session n : ℕ) (c : Call) where
+module _ (g : Geometry) (o : Opening) (found : List LogRecord) (es : List Entry) (session n : ℕ) (c : Call) where
   -- the call waits for a lock, after the same entries
   pub record IsPaused (x : State) : Type 0 where
-    pub stays : IsStateAfter found es x
+    pub stays : IsStateAfter o found es x
     pub at : Granule
     pub waits : WaitsAt session n c at x
 
   pub paused_next : (x new : State) (e : Interlude) → IsPaused x → Intervenes g session x e new → IsPaused new
   paused_next x new (Takes b v) k h = record {
-    stays = victim_stays found es x k.stays h.0.txn v new h.2.0;
+    stays = victim_stays o found es x k.stays h.0.txn v new h.2.0;
     at = k.at;
     waits = victims_wait session n c k.at x h.0.txn (v ∷ []) new (new, h.2.0, refl) k.waits;
   }
   paused_next x new (WaitsAnew at) k h =
-      let come = resume_comes found session n c es x k.stays k.at k.waits g (Waits (Lock at)) new h in
-      record { stays = subst (λ made. IsStateAfter found made new) (append-nil es) come.stays; at = at; waits = (come.waits at refl).waits }
+      let come = resume_comes o found session n c es x k.stays k.at k.waits g (Waits (Lock at)) new h in
+      record { stays = subst (λ made. IsStateAfter o found made new) (append-nil es) come.stays; at = at; waits = (come.waits at refl).waits }
 
   -- whatever holds then and is kept holds midway
   pub kept_midway : (P : State → Type 0) → ((x new : State) (e : Interlude) → IsPaused x → P x → Intervenes g session x e new → P new)
@@ -195,14 +198,14 @@ module _ (g : Geometry) (found : List LogRecord) (es : List Entry) (session n : 
   kept_midway P keeps x (e ∷ between) last k p h = kept_midway P keeps h.0 between last (paused_next x h.0 e k h.1) (keeps x h.0 e k p h.1) h.2
 
 -- a call that has come to wait is paused
-module _ (g : Geometry) (found : List LogRecord) (es : List Entry) (s : State) (k : IsStateAfter found es s) (session : ℕ) (c : Call) where
-  pub paused_at_first : (at : Granule) (new : State) → CallStep g s session c (Waits (Lock at)) new → IsPaused g found es session (txn_of s.sessions session) c new
+module _ (g : Geometry) (o : Opening) (found : List LogRecord) (es : List Entry) (s : State) (k : IsStateAfter o found es s) (session : ℕ) (c : Call) where
+  pub paused_at_first : (at : Granule) (new : State) → CallStep g s session c (Waits (Lock at)) new → IsPaused g o found es session (txn_of s.sessions session) c new
   paused_at_first at new h = record {
-    stays = subst (λ made. IsStateAfter found made new) (append-nil es) (session_call_stays found es s k g session c (Waits (Lock at)) new h);
+    stays = subst (λ made. IsStateAfter o found made new) (append-nil es) (session_call_stays o found es s k g session c (Waits (Lock at)) new h);
     at = at;
     waits = (call_waits_at g s session c (Waits (Lock at)) new h at refl).waits;
   }
 
-  pub midway_paused : (between : List Interlude) (x : State) → IsMidway g s session c between x → IsPaused g found es session (txn_of s.sessions session) c x
+  pub midway_paused : (between : List Interlude) (x : State) → IsMidway g s session c between x → IsPaused g o found es session (txn_of s.sessions session) c x
   midway_paused between x m =
-      (kept_midway g found es session (txn_of s.sessions session) c (λ y. Unit {0}) (λ y new e p t i. tt) m.waits between x (paused_at_first m.at m.waits m.calls) tt m.intervene).0
+      (kept_midway g o found es session (txn_of s.sessions session) c (λ y. Unit {0}) (λ y new e p t i. tt) m.waits between x (paused_at_first m.at m.waits m.calls) tt m.intervene).0

@@ -16,6 +16,7 @@ use Rattle.shore_model.specs.declared.calls.Answer.{Answer}
 use Rattle.shore_model.specs.declared.calls.Call.{Call}
 use Rattle.shore_model.specs.declared.calls.Call.TheVariants as call
 use Rattle.shore_model.specs.declared.histories.Entry.{Entry}
+use Rattle.shore_model.specs.declared.histories.Opening.{Opening}
 use Rattle.shore_model.specs.declared.log_records.LogRecord.{LogRecord}
 use Rattle.shore_locks.specs.Tables.{is_waiting}
 use Rattle.shore_path.specs.declared.answers.Acquired.{Acquired}
@@ -23,7 +24,7 @@ use Rattle.shore_path.specs.declared.answers.Acquired.TheVariants as acquire
 use Rattle.laws_locks.specs.CallLocks.{Asked, lock_asked_by}
 use Rattle.shore_model.specs.declared.rollbacks.Rollback.{Rollback}
 use Rattle.shore_model.specs.declared.rollbacks.Rollback.TheVariants.{To, Whole}
-use Rattle.laws_lives.specs.Sessions.{SessionTxn}
+use Rattle.laws_lives.specs.Sessions.{SessionTxn, in_prepared}
 use Rattle.laws_lives.specs.Views.{IsAmong}
 use Rattle.shore_model.specs.declared.step.Step.{Step}
 use Rattle.shore_model.specs.declared.step.Step.TheVariants.{Done, Nothing, Refused, Waits}
@@ -31,15 +32,16 @@ use Rattle.shore_model.specs.declared.step.Wait.{Wait}
 use Rattle.shore_model.specs.declared.step.Wait.TheVariants.{Durable, Lock}
 use Rattle.laws_calls.proofs.Decided.{both_ways}
 use Rattle.laws_calls.proofs.OneBehind.{AreOne, Comparable, StepsBehind, left_no_memory, not_page_fault, one_behind, right_no_memory}
-use Rattle.laws_calls.proofs.Rows.{AllPass, FirstFails, Test, none_fails, one_fails, page_has_store, same_member, test}
+use Rattle.laws_calls.proofs.Rows.{AllPass, FirstFails, Test, none_fails, one_fails, page_has_store, test}
 use Rattle.laws_calls.proofs.SessionInversions.{same_lock}
-use Rattle.laws_calls.proofs.Sessions.{one_txn}
+use Rattle.laws_calls.proofs.Sessions.{one_txn, committed_seat, not_prepared, one_member, in_one}
 use Rattle.laws_calls.specs.Rollbacks.{BackToStep, IsInterrupted, SavepointStep}
 use Rattle.laws_calls.specs.Shapes.{rollback_of}
 use Rattle.laws_calls.specs.StateChanges.{ComesOfState, IsShort, answered, wait_refused}
-use Rattle.laws_calls.specs.CallSteps.{AbortStep, AnswersBehind, BeginStep, CommitStep, CallGoesOn, HasGranule, InnerStep, MayAsk, OpenStep, RefusesBehind, RefusesEarly, RefusesGranule, RefusesId, RefusesLock, ResumesCall, ResumesWait, CallStep, ResumeStep, behind_lock, commit_ended, lock_outcome, lock_waiting, txn_count}
+use Rattle.laws_calls.specs.CallSteps.{AbortStep, AnswersBehind, BeginStep, CommitStep, CallGoesOn, HasGranule, InnerStep, MayAsk, OpenStep, RefusesBehind, RefusesEarly, RefusesGranule, RefusesId, RefusesLock, ResumesCall, ResumesWait, CallStep, ResumeStep, behind_lock, commit_ended, lock_outcome, lock_waiting, txn_count, InDoubtStep, NeedsTxn, OutsideStep, prepare_ended}
 use Rattle.laws_calls.specs.Events.{IsStateAfter}
-use Rattle.laws_calls.specs.States.{DoesNotWait, HasNoTxn, IsInTxn, IsOfSession, MayBegin, State, Waiting}
+use Rattle.laws_calls.specs.States.{DoesNotWait, HasNoTxn, IsInTxn, IsOfSession, MayBegin, State, Waiting, HasPrepared}
+use Rattle.shore_model.specs.declared.sessions.SessionState.{SessionState}
 
 -- ---- behind what the lock table makes of a call's lock
 
@@ -165,7 +167,7 @@ module _ (s : State) (session : ℕ) where
       test (IsInTxn s session → ⊥) fault.AlreadyActive ∷ test (txn_count s < MAX_TRANSACTIONS) fault.TooManyTransactions ∷ test (MayBegin s) fault.LogFull ∷ []
 
   out_of_txn : HasNoTxn s session → IsInTxn s session → ⊥
-  out_of_txn none h = none h.0 (inl h.1.0) h.1.1
+  out_of_txn none h = h none
 
   begin_fails : (f : Fault) (new : State) → BeginStep s session (Refused f) new → FirstFails begin_tests f
   begin_fails f new h = by h.0
@@ -328,16 +330,34 @@ module _ (g : Geometry) (s : State) where
   one_inner a c x y new later both (inr (inr (inr h))) (inr (inr (inl k))) = let clash : call.Abort ≡ call.BackTo k.0 = sym h.0 ∙ k.1 in absurd cc
   one_inner a c x y new later both (inr (inr (inr h))) (inr (inr (inr k))) = one_abort a c x y new later h.0 both h.1 k.1
 
-module _ (g : Geometry) (found : List LogRecord) (es : List Entry) (s : State) (k : IsStateAfter found es s) (session : ℕ) where
+module _ (g : Geometry) (o : Opening) (found : List LogRecord) (es : List Entry) (s : State) (k : IsStateAfter o found es s) (session : ℕ) where
   same_txn : (n : ℕ) (a b : SessionTxn) → IsOfSession s n a → IsOfSession s n b → a ≡ b
   same_txn n a b x y =
-      same_member a b s.sessions.active k.sessions.agree.once x.0 y.0 (one_txn k.sessions.agree a b (inl x.0) (inl y.0) (x.1 ∙ sym y.1))
+      one_member k.sessions a b x.0.0 y.0.0 (one_txn s.sessions a b x.0.1 y.0.1 (x.1 ∙ sym y.1))
+
+  -- a session in no transaction, or in one that is prepared
+  abbrev RefusesSeat : Fault → Type 0
+  RefusesSeat f = (HasNoTxn s session × (f ≡ fault.NoTransaction)) ⊎ (HasPrepared s session × (f ≡ fault.IsPrepared))
+
+  none_prepared : HasNoTxn s session → HasPrepared s session → ⊥
+  none_prepared none prepared = let clash : false ≡ true = sym (ap (λ (p : SessionState). p.prepared) none) ∙ prepared in cc
+
+  one_seat : (e f : Fault) → RefusesSeat e → RefusesSeat f → e ≡ f
+  one_seat e f (inl h) (inl j) = h.1 ∙ sym j.1
+  one_seat e f (inl h) (inr j) = absurd (none_prepared h.0 j.0)
+  one_seat e f (inr h) (inl j) = absurd (none_prepared j.0 h.0)
+  one_seat e f (inr h) (inr j) = h.1 ∙ sym j.1
+
+  -- it is not seated then
+  not_seated : (f : Fault) (a : SessionTxn) → RefusesSeat f → IsOfSession s session a → ⊥
+  not_seated f a (inl h) of = in_one s session a of h.0
+  not_seated f a (inr h) of = not_prepared s session a of h.0
 
   -- a call of a manager that runs and of a session that does not wait
   abbrev Own : Call → Step → State → Type 0
   Own c step new =
-      ((c ≡ call.Begin) × BeginStep s session step new) ⊎ ((c ≢ call.Begin) × HasNoTxn s session × (step ≡ Refused fault.NoTransaction) × (new ≡ s))
-      ⊎ ((a : SessionTxn) × IsOfSession s session a × InnerStep g s a c step new)
+      ((c ≡ call.Begin) × BeginStep s session step new) ⊎ (NeedsTxn c × ((f : Fault) × RefusesSeat f × (step ≡ Refused f)) × (new ≡ s))
+      ⊎ ((a : SessionTxn) × IsOfSession s session a × InnerStep g s a c step new) ⊎ OutsideStep s c step new
 
   abbrev Levels : Call → Step → State → Type 0
   Levels c step new =
@@ -350,11 +370,13 @@ module _ (g : Geometry) (found : List LogRecord) (es : List Entry) (s : State) (
   levels c step new some (inr (inl h)) = inl h
   levels c step new some (inr (inr (inl h))) = inr (inl h)
   levels c step new some (inr (inr (inr (inl h)))) = inr (inr (h.0, h.1, inl (h.2, h.3)))
-  levels c step new some (inr (inr (inr (inr (inl h))))) = inr (inr (h.0, h.1, inr (inl (h.2, h.3, h.4, h.5))))
-  levels c step new some (inr (inr (inr (inr (inr h))))) = inr (inr (h.0, h.1, inr (inr h.2)))
+  levels c step new some (inr (inr (inr (inr (inl h))))) = inr (inr (h.0, h.1, inr (inl (h.2, (fault.NoTransaction, inl (h.3, refl), h.4), h.5))))
+  levels c step new some (inr (inr (inr (inr (inr (inr (inl h))))))) = inr (inr (h.0, h.1, inr (inl (h.2, (fault.IsPrepared, inr (h.3, refl), h.4), h.5))))
+  levels c step new some (inr (inr (inr (inr (inr (inr (inr h))))))) = inr (inr (h.0, h.1, inr (inr (inr h.2))))
+  levels c step new some (inr (inr (inr (inr (inr (inl h)))))) = inr (inr (h.0, h.1, inr (inr (inl h.2))))
 
   no_begin_inside : (c : Call) (a : SessionTxn) (step : Step) (new : State) → c ≡ call.Begin → InnerStep g s a c step new → ⊥
-  no_begin_inside c a step new e (inl h) = h.0 e
+  no_begin_inside c a step new e (inl h) = subst NeedsTxn e h.0
   no_begin_inside c a step new e (inr (inl (whole, inl h))) = absurd (subst (λ (c : Call). RefusesEarly g c h.0) e h.1)
   no_begin_inside c a step new e (inr (inl (whole, inr (inl h)))) = absurd (subst (MayAsk g) e h.0)
   no_begin_inside c a step new e (inr (inl (whole, inr (inr (inl h))))) = let clash : call.Begin ≡ call.Commit = sym e ∙ h.0 in cc
@@ -362,16 +384,41 @@ module _ (g : Geometry) (found : List LogRecord) (es : List Entry) (s : State) (
   no_begin_inside c a step new e (inr (inr (inl h))) = let clash : call.Begin ≡ call.BackTo h.0 = sym e ∙ h.1 in cc
   no_begin_inside c a step new e (inr (inr (inr h))) = let clash : call.Begin ≡ call.Abort = sym e ∙ h.0 in cc
 
+  no_listing_inside : (c : Call) (a : SessionTxn) (step : Step) (new : State) → c ≡ call.InDoubt → InnerStep g s a c step new → ⊥
+  no_listing_inside c a step new e (inl h) = subst NeedsTxn e h.0
+  no_listing_inside c a step new e (inr (inl (whole, inl h))) = absurd (subst (λ (c : Call). RefusesEarly g c h.0) e h.1)
+  no_listing_inside c a step new e (inr (inl (whole, inr (inl h)))) = absurd (subst (MayAsk g) e h.0)
+  no_listing_inside c a step new e (inr (inl (whole, inr (inr (inl h))))) = let clash : call.InDoubt ≡ call.Commit = sym e ∙ h.0 in cc
+  no_listing_inside c a step new e (inr (inl (whole, inr (inr (inr h))))) = let clash : call.InDoubt ≡ call.Savepoint = sym e ∙ h.0 in cc
+  no_listing_inside c a step new e (inr (inr (inl h))) = let clash : call.InDoubt ≡ call.BackTo h.0 = sym e ∙ h.1 in cc
+  no_listing_inside c a step new e (inr (inr (inr h))) = let clash : call.InDoubt ≡ call.Abort = sym e ∙ h.0 in cc
+
+  one_listing : (x y : Step) (new later : State) → InDoubtStep s x new → InDoubtStep s y later → AreOne x y new later
+  one_listing (Done x) (Done y) new later h j = (ap Done (h.0 ∙ sym j.0), h.1 ∙ sym j.1)
+  one_listing (Done x) (Waits w) new later h j = absurd j
+  one_listing (Done x) (Refused f) new later h j = absurd j
+  one_listing (Done x) Nothing new later h j = absurd j
+  one_listing (Waits w) y new later h j = absurd h
+  one_listing (Refused f) y new later h j = absurd h
+  one_listing Nothing y new later h j = absurd h
+
   one_own : (c : Call) (x y : Step) (new later : State) → Compares c x y → Own c x new → Own c y later → AreOne x y new later
   one_own c x y new later both (inl h) (inl j) = one_begin s session x y new later h.1 j.1
-  one_own c x y new later both (inl h) (inr (inl j)) = absurd (j.0 h.0)
-  one_own c x y new later both (inl h) (inr (inr j)) = absurd (no_begin_inside c j.0 y later h.0 j.2)
-  one_own c x y new later both (inr (inl h)) (inl j) = absurd (h.0 j.0)
-  one_own c x y new later both (inr (inl h)) (inr (inl j)) = (h.2 ∙ sym j.2, h.3 ∙ sym j.3)
-  one_own c x y new later both (inr (inl h)) (inr (inr j)) = absurd (out_of_txn s session h.1 (j.0, j.1))
-  one_own c x y new later both (inr (inr h)) (inl j) = absurd (no_begin_inside c h.0 x new j.0 h.2)
-  one_own c x y new later both (inr (inr h)) (inr (inl j)) = absurd (out_of_txn s session j.1 (h.0, h.1))
-  one_own c x y new later both (inr (inr h)) (inr (inr j)) =
+  one_own c x y new later both (inl h) (inr (inl j)) = absurd (subst NeedsTxn h.0 j.0)
+  one_own c x y new later both (inl h) (inr (inr (inl j))) = absurd (no_begin_inside c j.0 y later h.0 j.2)
+  one_own c x y new later both (inl h) (inr (inr (inr j))) = let clash : call.Begin ≡ call.InDoubt = sym h.0 ∙ j.0 in absurd cc
+  one_own c x y new later both (inr (inl h)) (inl j) = absurd (subst NeedsTxn j.0 h.0)
+  one_own c x y new later both (inr (inl h)) (inr (inl j)) = (h.1.2 ∙ ap Refused (one_seat h.1.0 j.1.0 h.1.1 j.1.1) ∙ sym j.1.2, h.2 ∙ sym j.2)
+  one_own c x y new later both (inr (inl h)) (inr (inr (inl j))) = absurd (not_seated h.1.0 j.0 h.1.1 j.1)
+  one_own c x y new later both (inr (inl h)) (inr (inr (inr j))) = absurd (subst NeedsTxn j.0 h.0)
+  one_own c x y new later both (inr (inr (inl h))) (inl j) = absurd (no_begin_inside c h.0 x new j.0 h.2)
+  one_own c x y new later both (inr (inr (inl h))) (inr (inl j)) = absurd (not_seated j.1.0 h.0 j.1.1 h.1)
+  one_own c x y new later both (inr (inr (inl h))) (inr (inr (inr j))) = absurd (no_listing_inside c h.0 x new j.0 h.2)
+  one_own c x y new later both (inr (inr (inr h))) (inl j) = let clash : call.Begin ≡ call.InDoubt = sym j.0 ∙ h.0 in absurd cc
+  one_own c x y new later both (inr (inr (inr h))) (inr (inl j)) = absurd (subst NeedsTxn h.0 j.0)
+  one_own c x y new later both (inr (inr (inr h))) (inr (inr (inl j))) = absurd (no_listing_inside c j.0 y later h.0 j.2)
+  one_own c x y new later both (inr (inr (inr h))) (inr (inr (inr j))) = one_listing x y new later h.1 j.1
+  one_own c x y new later both (inr (inr (inl h))) (inr (inr (inl j))) =
       one_inner g s h.0 c x y new later both h.2 (subst (λ (a : SessionTxn). InnerStep g s a c y later) (same_txn session j.0 h.0 j.1 h.1) j.2)
 
   one_level : (c : Call) (x y : Step) (new later : State) → Compares c x y → Levels c x new → Levels c y later → AreOne x y new later
@@ -395,7 +442,7 @@ module _ (g : Geometry) (found : List LogRecord) (es : List Entry) (s : State) (
     one_ended : (a b : SessionTxn) → IsAmong a s.sessions.committing → IsAmong b s.sessions.committing → a.session ≡ w.session → b.session ≡ w.session
         → commit_ended s a ≡ commit_ended s b
     one_ended a b m n of by =
-        ap (λ (t : ℕ). commit_ended s (record { session = a.session; txn = t; undo = b.undo })) (one_txn k.sessions.agree a b (inr m) (inr n) (of ∙ sym by))
+        ap (λ (t : ℕ). commit_ended s (record { session = a.session; txn = t; undo = b.undo })) (one_txn s.sessions a b (committed_seat k.sessions a m) (committed_seat k.sessions b n) (of ∙ sym by))
         ∙ ap (λ (t : ℕ). commit_ended s (record { session = t; txn = b.txn; undo = b.undo })) (of ∙ sym by)
 
     -- going on with the call that waits for a lock
@@ -412,9 +459,21 @@ module _ (g : Geometry) (found : List LogRecord) (es : List Entry) (s : State) (
 
     one_wait : (wait : Wait) (x y : Step) (new later : State) → Comparable x y → ResumesWait g s w wait x new → ResumesWait g s w wait y later → AreOne x y new later
     one_wait (Durable n) x y new later both (inl h) (inl j) = (h.1 ∙ sym j.1, h.2 ∙ sym j.2)
-    one_wait (Durable n) x y new later both (inl h) (inr j) = let less = h.0 in let le = j.0 in absurd (omega arith)
-    one_wait (Durable n) x y new later both (inr h) (inl j) = let less = j.0 in let le = h.0 in absurd (omega arith)
-    one_wait (Durable n) x y new later both (inr h) (inr j) =
+    one_wait (Durable n) x y new later both (inl h) (inr (inl j)) = let less = h.0 in let le = j.0 in absurd (omega arith)
+    one_wait (Durable n) x y new later both (inl h) (inr (inr j)) = let less = h.0 in let le = j.0 in absurd (omega arith)
+    one_wait (Durable n) x y new later both (inr (inl h)) (inl j) = let less = j.0 in let le = h.0 in absurd (omega arith)
+    one_wait (Durable n) x y new later both (inr (inr h)) (inl j) = let less = j.0 in let le = h.0 in absurd (omega arith)
+    one_wait (Durable n) x y new later both (inr (inl h)) (inr (inr j)) = let clash : call.Commit ≡ call.Prepare j.2.1 = sym h.3 ∙ j.2.3 in absurd cc
+    one_wait (Durable n) x y new later both (inr (inr h)) (inr (inl j)) = let clash : call.Commit ≡ call.Prepare h.2.1 = sym j.3 ∙ h.2.3 in absurd cc
+    one_wait (Durable n) x y new later both (inr (inr h)) (inr (inr j)) =
+        (h.1 ∙ sym j.1, h.2.4 ∙ ap (λ (t : ℕ). prepare_ended s w.session t h.2.1) (same_doubt (sym h.2.2.1 ∙ j.2.2.1)) ∙ ap (prepare_ended s w.session j.2.0) (same_name (sym h.2.3 ∙ j.2.3)) ∙ sym j.2.4)
+      where
+        same_doubt : in_prepared h.2.0 ≡ in_prepared j.2.0 → h.2.0 ≡ j.2.0
+        same_doubt e = ap (λ (p : SessionState). p.txn) e
+
+        same_name : call.Prepare h.2.1 ≡ call.Prepare j.2.1 → h.2.1 ≡ j.2.1
+        same_name e = cc
+    one_wait (Durable n) x y new later both (inr (inl h)) (inr (inl j)) =
         (h.1 ∙ sym j.1, h.2.3 ∙ one_ended h.2.0 j.2.0 h.2.1 j.2.1 h.2.2 j.2.2 ∙ sym j.2.3)
     one_wait (Lock at) x y new later both h j =
         one_lock h.0 at x y new later both h.2 (subst (λ (a : SessionTxn). LockGoes a at y later) (same_txn w.session j.0 h.0 j.1 h.1) j.2)

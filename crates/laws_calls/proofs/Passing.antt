@@ -13,6 +13,7 @@ use Rattle.shore_model.specs.declared.calls.Answer.TheVariants.{Got, Inserted, L
 use Rattle.shore_model.specs.declared.calls.Call.{Call}
 use Rattle.shore_model.specs.declared.calls.Call.TheVariants as call
 use Rattle.shore_model.specs.declared.histories.Entry.{Entry}
+use Rattle.shore_model.specs.declared.histories.Opening.{Opening}
 use Rattle.shore_model.specs.declared.histories.Entry.TheVariants.{Exchanged}
 use Rattle.shore_model.specs.declared.log_records.LogRecord.{LogRecord}
 use Rattle.shore_model.specs.Alone.{IsRight, record_named_by}
@@ -26,7 +27,6 @@ use Rattle.laws_lives.proofs.Views.{read_of_write}
 use Rattle.laws_lives.specs.RepliesInPlace.{IsKnownAbsent, Permit}
 use Rattle.laws_lives.specs.SessionSteps.{GiveReply, IsInnerCall, RefuseCall, TellsNothing, exchange}
 use Rattle.laws_lives.specs.Sessions.{SessionTxn, reply_given}
-use Rattle.laws_lives.specs.Views.{IsAmong}
 use Rattle.laws_room.specs.Claims.{SlotCounts}
 use Rattle.shore_model.specs.declared.step.Step.{Step}
 use Rattle.shore_model.specs.declared.step.Step.TheVariants.{Done, Nothing, Refused, Waits}
@@ -36,20 +36,20 @@ use Rattle.laws_calls.proofs.Links.{GoesQuietly, IsLeft, absence_goes, locks_go,
 use Rattle.laws_calls.proofs.LockedAnswers.{inner_under}
 use Rattle.laws_calls.proofs.RefusalTells.{known_absent, same_entry, tells_or_none}
 use Rattle.laws_calls.proofs.ReplyLinks.{Takes, delete_takes, get_for_update_takes, get_takes, insert_takes, lock_takes, reply_goes, scan_takes, try_lock_takes, update_takes}
-use Rattle.laws_calls.proofs.Sessions.{is_txn_of, its_txn}
+use Rattle.laws_calls.proofs.Sessions.{its_txn, own_of, refused_seats, reply_seats}
 use Rattle.laws_calls.proofs.TakenLocks.{moved}
 use Rattle.laws_calls.specs.CallHistories.{answered_under, txn_of}
 use Rattle.laws_calls.specs.StateChanges.{after_refusal, answered}
 use Rattle.laws_calls.specs.CallSteps.{AnswersBehind, CallGoesOn, LacksMemory, RefusesBehind, RefusesRead, behind_lock, behind_place, lock_outcome, on_conflict_of, place_outcome}
 use Rattle.laws_calls.specs.LockedStates.{IsSessionsState, entries_of_call}
-use Rattle.laws_calls.specs.States.{DoesNotWait, State}
+use Rattle.laws_calls.specs.States.{DoesNotWait, HasSeat, State}
 
 pub refused_left : (session : ℕ) (s : State) (f : Fault) → IsLeft session s (after_refusal f s)
 refused_left session s fault.Device = inr (inl refl)
 refused_left session s (fault.Damaged device place) = inr (inl refl)
 refused_left session s _ = inl refl
 
-module _ (g : Geometry) (found : List LogRecord) (es : List Entry) (session : ℕ) where
+module _ (g : Geometry) (o : Opening) (found : List LogRecord) (es : List Entry) (session : ℕ) where
   abbrev Passes : State → State → List Entry → Type 0
   Passes s new made = GoesQuietly g session s new made
 
@@ -65,29 +65,30 @@ module _ (g : Geometry) (found : List LogRecord) (es : List Entry) (session : �
   pub told_passes : (s new : State) (c : Call) (f : Fault) → TellsNothing f → IsLeft session s new → Passes s new (refused_entry s c f ∷ [])
   told_passes s new c f nothing left =
       quietly_one g session s (RefuseCall session (txn_of s.sessions session) c f) s new tt
-      (refusal_goes g s session (txn_of s.sessions session) c f (is_txn_of s.sessions session, nothing, refl)) left
+      (refusal_goes g s session (txn_of s.sessions session) c f (refl, nothing, refused_seats s.sessions session (txn_of s.sessions session) c f)) left
 
   module _ (a : SessionTxn) (of : a.session ≡ session) (whole : a.undo.rolling ≡ None) where
     -- the record that a call names is not there
-    pub absence_passes : (s : State) → IsSessionsState found es s → IsAmong a s.sessions.active → (c : Call) → IsInnerCall c
+    pub absence_passes : (s : State) → IsSessionsState o found es s → HasSeat s.sessions a → (c : Call) → IsInnerCall c
         → IsSomeAnd (record_named_by c) (IsKnownAbsent s.sessions.held a.txn s.sessions.records) → Passes s s (refused_entry s c fault.NoRecord ∷ [])
     absence_passes s k mem c inner known =
         let same : s.sessions ≡ reply_given s.sessions a c (Err fault.NoRecord) =
-        sym (ap (λ (xs : List SessionTxn). record s.sessions { active = xs }) (same_undo a s.sessions.active k.agree.once mem)) in
-        subst (λ (e : Entry). Passes s s (e ∷ [])) (same_entry a.session session a.txn (txn_of s.sessions session) (exchange c (Err fault.NoRecord)) of (sym (its_txn k.agree a session (inl mem) of)))
-        (quietly_one g session s (GiveReply a c (Err fault.NoRecord)) s s tt (absence_goes g s a c (mem, inner, known, inl whole, same)) (inl refl))
+        sym (ap (λ (xs : List SessionTxn). record s.sessions { active = xs }) (same_undo a s.sessions.active k.agree.once mem.0)) in
+        subst (λ (e : Entry). Passes s s (e ∷ [])) (same_entry a.session session a.txn (txn_of s.sessions session) (exchange c (Err fault.NoRecord)) of (sym (its_txn s.sessions a session mem.1 of)))
+        (quietly_one g session s (GiveReply a c (Err fault.NoRecord)) s s tt (absence_goes g s a c
+        (own_of k a mem, inner, known, inl whole, same ∙ reply_seats s.sessions a c (Err fault.NoRecord) inner known (reply_given s.sessions a c (Err fault.NoRecord)) refl)) (inl refl))
 
     -- an answer that its locks permit, that is right on the records in place, and that has its room
-    pub reply_passes : (s : State) → IsSessionsState found es s → IsAmong a s.sessions.active → (c : Call) → IsInnerCall c → (answer : Answer) (counts : SlotCounts)
+    pub reply_passes : (s : State) → IsSessionsState o found es s → HasSeat s.sessions a → (c : Call) → IsInnerCall c → (answer : Answer) (counts : SlotCounts)
         → Permit s.sessions.held a.txn c answer → IsRight s.sessions.records (length a.undo.marks) c answer → Takes g s a c answer counts
         → Passes s (answered s a c answer counts) (answer_entry s c answer ∷ [])
     reply_passes s k mem c inner answer counts permit right takes =
         subst (λ (e : Entry). Passes s (answered s a c answer counts) (e ∷ []))
-        (same_entry a.session session a.txn (answered_under s.sessions session c) (exchange c (Ok answer)) of (sym (inner_under s session c inner ∙ its_txn k.agree a session (inl mem) of)))
-        (quietly_one g session s (GiveReply a c (Ok answer)) (answered s a c answer counts) (answered s a c answer counts) tt (reply_goes g s a mem c inner answer counts permit right (inl whole) takes) (inl refl))
+        (same_entry a.session session a.txn (answered_under s.sessions session c) (exchange c (Ok answer)) of (sym (inner_under s session c inner ∙ its_txn s.sessions a session mem.1 of)))
+        (quietly_one g session s (GiveReply a c (Ok answer)) (answered s a c answer counts) (answered s a c answer counts) tt (reply_goes g s a (own_of k a mem) c inner answer counts permit right (inl whole) takes) (inl refl))
 
     -- a page that was not read, or a record that is not there
-    read_passes : (s : State) → IsSessionsState found es s → IsAmong a s.sessions.active → (c : Call) → IsInnerCall c → (id : Rid) → record_named_by c ≡ Some id → MayRead s.sessions.held a.txn id
+    read_passes : (s : State) → IsSessionsState o found es s → HasSeat s.sessions a → (c : Call) → IsInnerCall c → (id : Rid) → record_named_by c ≡ Some id → MayRead s.sessions.held a.txn id
         → (f : Fault) → RefusesRead s id f → Passes s (after_refusal f s) (refused_entry s c f ∷ [])
     read_passes s k mem c inner id named may f h = ⊎_elim
         (λ nothing. told_passes s (after_refusal f s) c f nothing (refused_left session s f))
@@ -102,12 +103,12 @@ module _ (g : Geometry) (found : List LogRecord) (es : List Entry) (session : �
 
     -- ---- an insert, behind the lock of its store
 
-    module _ (s : State) (k : IsSessionsState found es s) (mem : IsAmong a s.sessions.active) (quiet : is_waiting a.txn s.locks.requests ≡ false) where
+    module _ (s : State) (k : IsSessionsState o found es s) (mem : HasSeat s.sessions a) (quiet : is_waiting a.txn s.locks.requests ≡ false) where
       -- the place is locked first
       place_first : (id : Rid) (new : State) (made : List Entry) → Passes (behind_place s a id) new made → Passes s new made
       place_first id new made rest =
           quietly_behind g session s (place_outcome s a id).requests new made
-          (locks_go g s (place_outcome s a id).requests (moved found es s k a mem quiet Refuse (granule.Record id) EX)) rest
+          (locks_go g s (place_outcome s a id).requests (moved o found es s k a mem quiet Refuse (granule.Record id) EX)) rest
 
       -- .. and what is refused then leaves the state as it was but for it
       placed_refusal : (id : Rid) (c : Call) (f exact : Fault) → f ≡ exact → TellsNothing exact → Passes s (behind_place s a id) (refused_entry s c f ∷ [])
@@ -130,8 +131,8 @@ module _ (g : Geometry) (found : List LogRecord) (es : List Entry) (session : �
           let id = h.0 in
           let serves = h.1.0.serves in
           let place = behind_place s a id in
-          let at = at_place g found es session a of whole s k mem quiet s k mem quiet id (never_waiting h.1.1) in
-          let permit = place_permits g found es session a of whole s k mem quiet s k mem quiet id store bytes h.1.1 in
+          let at = at_place g o found es session a of whole s k mem quiet s k mem quiet id (never_waiting h.1.1) in
+          let permit = place_permits g o found es session a of whole s k mem quiet s k mem quiet id store bytes h.1.1 in
           subst (λ (n : State). Passes s n (answer_entry s (call.Insert store bytes) answer ∷ [])) (sym h.3.2)
           (subst (λ (x : Answer). Passes s (answered place a (call.Insert store bytes) x h.3.0) (answer_entry s (call.Insert store bytes) x ∷ [])) (sym h.2)
           (place_first id (answered place a (call.Insert store bytes) (Inserted id) h.3.0) (answer_entry s (call.Insert store bytes) (Inserted id) ∷ [])
@@ -139,25 +140,25 @@ module _ (g : Geometry) (found : List LogRecord) (es : List Entry) (session : �
 
     -- ---- from its locks on
 
-    module _ (s : State) (k : IsSessionsState found es s) (mem : IsAmong a s.sessions.active) (quiet : is_waiting a.txn s.locks.requests ≡ false) where
+    module _ (s : State) (k : IsSessionsState o found es s) (mem : HasSeat s.sessions a) (quiet : is_waiting a.txn s.locks.requests ≡ false) where
       -- the lock that the call asks for comes first
       lock_first : (c : Call) (lock : Asked) (new : State) (made : List Entry) → Passes (behind_lock s a c lock) new made → Passes s new made
       lock_first c lock new made rest =
           quietly_behind g session s (lock_outcome s a c lock).requests new made
-          (locks_go g s (lock_outcome s a c lock).requests (moved found es s k a mem quiet (on_conflict_of c) lock.granule lock.mode)) rest
+          (locks_go g s (lock_outcome s a c lock).requests (moved o found es s k a mem quiet (on_conflict_of c) lock.granule lock.mode)) rest
 
       module _ (c : Call) (lock : Asked) (asked : lock_asked_by c ≡ Some lock) (done : (lock_outcome s a c lock).answer ≡ Ok acquire.Done) where
         abbrev locked : State
         locked = behind_lock s a c lock
 
-        has : IsSessionsState found es locked
-        has = behind g found es session a of whole s k mem quiet c lock done
+        has : IsSessionsState o found es locked
+        has = behind g o found es session a of whole s k mem quiet c lock done
 
         free : is_waiting a.txn locked.locks.requests ≡ false
-        free = still_quiet g found es session a of whole s k mem quiet c lock done
+        free = still_quiet g o found es session a of whole s k mem quiet c lock done
 
         may : ((store : ℕ) (bytes : List ℕ) → c ≢ call.Insert store bytes) → (answer : Answer) → Permit locked.sessions.held a.txn c answer
-        may other answer = permits g found es session a of whole s k mem quiet c lock asked done other answer
+        may other answer = permits g o found es session a of whole s k mem quiet c lock asked done other answer
 
         given : ((store : ℕ) (bytes : List ℕ) → c ≢ call.Insert store bytes) → (answer : Answer) (counts : SlotCounts) → IsRight s.sessions.records (length a.undo.marks) c answer
             → Takes g locked a c answer counts → Passes locked (answered locked a c answer counts) (answer_entry s c answer ∷ [])

@@ -24,14 +24,14 @@ use Rattle.laws_room.specs.LogRooms.{EventAdmits, change_cost, changed_room, und
 use Rattle.laws_lives.proofs.Lists.{length-push}
 use Rattle.laws_lives.specs.Logged.{and_compensations, and_record}
 use Rattle.laws_lives.specs.RepliesInPlace.{Permit}
-use Rattle.laws_lives.specs.SessionSteps.{GiveReply, IsInnerCall}
-use Rattle.laws_lives.specs.Sessions.{SessionTxn, with_undo}
+use Rattle.laws_lives.specs.SessionSteps.{GiveReply, IsInnerCall, IsOwn}
+use Rattle.laws_lives.specs.Sessions.{SessionTxn, with_undo, reply_given}
 use Rattle.laws_lives.specs.UndoLists.{MayGiveReply, UndoList, images_since, undo_after}
-use Rattle.laws_lives.specs.Views.{IsAmong}
-use Rattle.laws_calls.proofs.Links.{Goes, HasRoomAfter, Writes, same_room}
+use Rattle.laws_calls.proofs.Links.{Goes, HasRoomAfter, Writes, same_room, ended_with}
 use Rattle.laws_calls.proofs.Rooms.{cost_pushed}
 use Rattle.laws_calls.specs.StateChanges.{MayChange, answered}
 use Rattle.laws_calls.specs.States.{State, cost_of_log, log_room}
+use Rattle.laws_calls.proofs.Sessions.{reply_seats}
 
 pub as_many : (t : ℕ) (undo : UndoList) (xs : List SessionTxn) → length (with_undo t undo xs) ≡ length xs
 as_many t undo xs = length-map xs (λ (a : SessionTxn). cond (a.txn == t) (record { session = a.session; txn = a.txn; undo = undo }) a)
@@ -123,10 +123,10 @@ module _ (g : Geometry) (s : State) (a : SessionTxn) where
     }
 
   -- an answer that its locks permit, that is right on the records in place, and that has its room
-  pub reply_goes : IsAmong a s.sessions.active → (c : Call) → IsInnerCall c → (answer : Answer) (counts : SlotCounts) → Permit s.sessions.held a.txn c answer
+  pub reply_goes : IsOwn s.sessions a → (c : Call) → IsInnerCall c → (answer : Answer) (counts : SlotCounts) → Permit s.sessions.held a.txn c answer
       → IsRight s.sessions.records (length a.undo.marks) c answer → MayGiveReply a.undo c (Ok answer) → Takes c answer counts → Goes g s (GiveReply a c (Ok answer)) (answered s a c answer counts)
-  reply_goes mem c inner answer counts permit right may takes = record {
-    moves = (mem, inner, (permit, right), may, refl);
+  reply_goes own c inner answer counts permit right may takes = record {
+    moves = (own, inner, (permit, right), may, reply_seats s.sessions a c (Ok answer) inner (permit, right) (reply_given s.sessions a c (Ok answer)) refl);
     log = refl;
     durable = refl;
     stream = refl;
@@ -136,6 +136,10 @@ module _ (g : Geometry) (s : State) (a : SessionTxn) where
     admits = takes.admits;
     room = takes.room;
     writes = takes.writes;
-    few = λ few. let same = as_many a.txn (undo_after s.sessions.records a.undo c (Ok answer)) s.sessions.active in omega (arith, few, same);
+    few = λ few.
+        let undo = undo_after s.sessions.records a.undo c (Ok answer) in
+        let same = as_many a.txn undo s.sessions.active in
+        let ended = ap length (ended_with a.txn undo s.sessions.active s.sessions.resolving) in
+        omega (arith, few, same, ended);
     numbers = λ most. most;
   }

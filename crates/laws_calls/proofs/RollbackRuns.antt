@@ -29,7 +29,7 @@ use Rattle.laws_room.specs.Claims.{Grows, SlotCounts, befores_at, slots_of}
 use Rattle.laws_room.specs.LogRooms.{image_cost}
 use Rattle.laws_lives.proofs.Ids.{put_here}
 use Rattle.shore_model.specs.declared.rollbacks.Rollback.TheVariants.{Whole}
-use Rattle.laws_lives.specs.Sessions.{SessionTxn, txn_begun}
+use Rattle.laws_lives.specs.Sessions.{SessionTxn}
 use Rattle.laws_lives.specs.UndoLists.{nothing_to_undo, undo_rolled, with_before_image}
 use Rattle.laws_calls.proofs.SettledAtOnce.{at_once, resumed_at_once}
 use Rattle.shore_model.specs.declared.step.Step.TheVariants.{Done, Refused, Waits}
@@ -40,10 +40,12 @@ use Rattle.laws_calls.specs.CallSteps.{IsPlaceOf, aborted, behind_lock, behind_p
 use Rattle.laws_calls.specs.Events.{Called, Forced, Resumed, EventMoves, MovesMaking}
 use Rattle.laws_calls.specs.Rollbacks.{TakesCall, put_back}
 use Rattle.laws_calls.specs.Shapes.{store_lock, store_locked}
-use Rattle.laws_calls.specs.StateChanges.{FitsAt, MayChange, answered, commit_waiting, committed, with_durable}
+use Rattle.laws_calls.specs.StateChanges.{FitsAt, MayChange, answered, decision_waiting, committed, with_durable, begun}
 use Rattle.laws_calls.specs.States.{State}
 use Rattle.laws_calls.specs.WorkedRollbacks.{abort_twice, back_and_commit}
 use Rattle.laws_calls.specs.WorkedRun.{first_id, first_page, opened_empty}
+use Rattle.laws_lives.specs.Soundness.{opening_with}
+use Rattle.laws_calls.proofs.EmptyOpens.{empty_is_opened}
 
 -- one slot on the first page
 abbrev one_if : Bool → ℕ
@@ -62,8 +64,8 @@ module _ (g : Geometry) (stream_bytes : ℕ) (bytes : List ℕ) (store : HasStor
   abbrev opened : State
   opened = opened_empty stream_bytes
 
-  abbrev begun : State
-  begun = record opened { sessions = txn_begun opened.sessions 1 }
+  abbrev begun_one : State
+  begun_one = begun opened 1
 
   abbrev one : SessionTxn
   one = record { session = 1; txn = 1; undo = nothing_to_undo }
@@ -72,7 +74,7 @@ module _ (g : Geometry) (stream_bytes : ℕ) (bytes : List ℕ) (store : HasStor
   insert = call.Insert 0 bytes
 
   abbrev inserting : State
-  inserting = store_locked begun one 0 bytes
+  inserting = store_locked begun_one one 0 bytes
 
   abbrev inserted : State
   inserted = answered (behind_place inserting one first_id) one insert (Inserted first_id) one_slot
@@ -80,19 +82,11 @@ module _ (g : Geometry) (stream_bytes : ℕ) (bytes : List ℕ) (store : HasStor
   abbrev one_changed : SessionTxn
   one_changed = with_list one (with_before_image empty nothing_to_undo first_id)
 
-  is_opened : IsOpened [] opened
-  is_opened = record {
-    just = record { records = refl; active = refl; committing = refl; held = refl; some = omega arith };
-    log = refl;
-    above = tt;
-    least = λ n some above. omega arith;
-    durable = refl;
-    waiting = refl;
-    running = refl;
-  }
+  is_opened : IsOpened (opening_with empty) [] opened
+  is_opened = empty_is_opened stream_bytes
 
-  begins : EventMoves g opened (Called 1 call.Begin (Done (Began 1))) begun
-  begins = (tt, at_once g opened 1 call.Begin (Done (Began 1)) begun (inr (inr (inr (inl (refl, λ w m. absurd m, refl, (λ a y. ⊎_elim (λ m. absurd m) (λ m. absurd m) y, omega arith, ((omega arith, omega arith), omega arith), refl, refl)))))) tt)
+  begins : EventMoves g opened (Called 1 call.Begin (Done (Began 1))) begun_one
+  begins = (tt, at_once g opened 1 call.Begin (Done (Began 1)) begun_one (inr (inr (inr (inl (refl, λ w m. absurd m, refl, (refl, omega arith, ((omega arith, omega arith), omega arith), refl, refl)))))) tt)
 
   fits : FitsAt inserting first_id (Some bytes)
   fits = record { there = omega arith; most = short; room = omega arith }
@@ -119,15 +113,15 @@ module _ (g : Geometry) (stream_bytes : ℕ) (bytes : List ℕ) (store : HasStor
   may : MayChange (behind_place inserting one first_id) first_id (Some bytes) one_slot
   may = let before = ap image_cost nothing_there in record { fits = fits; logs = (omega arith, omega arith); grows = grows }
 
-  inserts : EventMoves g begun (Called 1 insert (Done (Inserted first_id))) inserted
+  inserts : EventMoves g begun_one (Called 1 insert (Done (Inserted first_id))) inserted
   inserts = (
     tt,
-    at_once g begun 1 insert (Done (Inserted first_id)) inserted (inr (inr (inr (inr (inr (
+    at_once g begun_one 1 insert (Done (Inserted first_id)) inserted (inr (inr (inr (inr (inr (inl (
       refl,
       λ w m. absurd m,
       (
         one,
-        (inl refl, refl),
+        ((inl refl, refl, omega arith), refl),
         inr (inl (
           refl,
           inr (inl (
@@ -136,7 +130,7 @@ module _ (g : Geometry) (stream_bytes : ℕ) (bytes : List ℕ) (store : HasStor
           )),
         )),
       ),
-    )))))) tt,
+    ))))))) tt,
   )
 
   inserted_there : get inserted.sessions.records first_id ≡ Some bytes
@@ -163,15 +157,15 @@ module _ (g : Geometry) (stream_bytes : ℕ) (bytes : List ℕ) (store : HasStor
   stops : EventMoves g inserted (Called 1 call.Abort (Refused fault.Memory)) stopped
   stops = (
     tt,
-    at_once g inserted 1 call.Abort (Refused fault.Memory) stopped (inr (inr (inr (inr (inr (
+    at_once g inserted 1 call.Abort (Refused fault.Memory) stopped (inr (inr (inr (inr (inr (inl (
       refl,
       λ w m. absurd m,
       (
         one_changed,
-        (inl refl, refl),
+        ((inl refl, refl, omega arith), refl),
         inr (inr (inr (refl, (stopped, inr ([], images, some_images, refl, omega arith, refl), inl refl, refl)))),
       ),
-    )))))) tt,
+    ))))))) tt,
   )
     where
       some_images : images ≡ [] → ⊥
@@ -183,18 +177,18 @@ module _ (g : Geometry) (stream_bytes : ℕ) (bytes : List ℕ) (store : HasStor
   not_taken (inr (inr back)) = let clash = back.2 in cc
 
   must : EventMoves g stopped (Called 1 (call.Get first_id) (Refused fault.MustAbort)) stopped
-  must = (tt, at_once g stopped 1 (call.Get first_id) (Refused fault.MustAbort) stopped (inr (inr (inr (inr (inr (refl, λ w m. absurd m, (one_stopped, (inl refl, refl), inl (λ e. cc, not_taken, refl, refl)))))))) tt)
+  must = (tt, at_once g stopped 1 (call.Get first_id) (Refused fault.MustAbort) stopped (inr (inr (inr (inr (inr (inl (refl, λ w m. absurd m, (one_stopped, ((inl refl, refl, omega arith), refl), inl (tt, not_taken, refl, refl))))))))) tt)
 
   aborts : EventMoves g stopped (Called 1 call.Abort (Done Aborted)) over
-  aborts = (tt, at_once g stopped 1 call.Abort (Done Aborted) over (inr (inr (inr (inr (inr (refl, λ w m. absurd m, (one_stopped, (inl refl, refl), inr (inr (inr (refl, (refl, refl))))))))))) tt)
+  aborts = (tt, at_once g stopped 1 call.Abort (Done Aborted) over (inr (inr (inr (inr (inr (inl (refl, λ w m. absurd m, (one_stopped, ((inl refl, refl, omega arith), refl), inr (inr (inr (refl, (refl, refl)))))))))))) tt)
 
-  pub abort_comes_through : (last : State) × (made : List Entry) × IsOpened [] (opened_empty stream_bytes) × MovesMaking g (opened_empty stream_bytes) (abort_twice bytes) last made
+  pub abort_comes_through : (last : State) × (made : List Entry) × IsOpened (opening_with empty) [] (opened_empty stream_bytes) × MovesMaking g (opened_empty stream_bytes) (abort_twice bytes) last made
       × (get last.sessions.records first_id ≡ None) × (last.sessions.active ≡ []) × (last.locks.requests ≡ []) × (acknowledged made ≡ [])
   abort_comes_through = (
     over,
     _,
     is_opened,
-    (begun, _, begins, (inserted, _, inserts, (stopped, _, stops, (stopped, _, must, (over, _, aborts, (refl, refl), refl), refl), refl), refl), refl),
+    (begun_one, _, begins, (inserted, _, inserts, (stopped, _, stops, (stopped, _, must, (over, _, aborts, (refl, refl), refl), refl), refl), refl), refl),
     put_here inserted.sessions.records first_id first_image ∙ nothing_there,
     refl,
     refl,
@@ -241,7 +235,7 @@ module _ (g : Geometry) (stream_bytes : ℕ) (bytes : List ℕ) (store : HasStor
     ended = commit_ended forced one_back
 
     saves : EventMoves g inserted (Called 1 call.Savepoint (Done (Saved 0))) saved
-    saves = (tt, at_once g inserted 1 call.Savepoint (Done (Saved 0)) saved (inr (inr (inr (inr (inr (refl, λ w m. absurd m, (one_changed, (inl refl, refl), inr (inl (refl, inr (inr (inr (refl, (omega arith, refl, refl))))))))))))) tt)
+    saves = (tt, at_once g inserted 1 call.Savepoint (Done (Saved 0)) saved (inr (inr (inr (inr (inr (inl (refl, λ w m. absurd m, (one_changed, ((inl refl, refl, omega arith), refl), inr (inl (refl, inr (inr (inr (refl, (omega arith, refl, refl)))))))))))))) tt)
 
     -- the one slot of the page has room for either record
     one_fits : (befores : ℕ) → befores ≤ MAX_RECORD_BYTES → Fits (record { image = get inserted.sessions.records first_id; claim = max (image_len (get inserted.sessions.records first_id)) befores } ∷ []) 0 (length more)
@@ -277,12 +271,12 @@ module _ (g : Geometry) (stream_bytes : ℕ) (bytes : List ℕ) (store : HasStor
     updates : EventMoves g saved (Called 1 update (Done Updated)) updated
     updates = (
       tt,
-      at_once g saved 1 update (Done Updated) updated (inr (inr (inr (inr (inr (
+      at_once g saved 1 update (Done Updated) updated (inr (inr (inr (inr (inr (inl (
         refl,
         λ w m. absurd m,
         (
           one_saved,
-          (inl refl, refl),
+          ((inl refl, refl, omega arith), refl),
           inr (inl (
             refl,
             inr (inl (
@@ -291,25 +285,25 @@ module _ (g : Geometry) (stream_bytes : ℕ) (bytes : List ℕ) (store : HasStor
             )),
           )),
         ),
-      )))))) tt,
+      ))))))) tt,
     )
       where
         some_there : (o : Image) → o ≡ Some bytes → IsSome o
         some_there o e = cc
 
     goes_back : EventMoves g updated (Called 1 (call.BackTo 0) (Done WentBack)) back
-    goes_back = (tt, at_once g updated 1 (call.BackTo 0) (Done WentBack) back (inr (inr (inr (inr (inr (refl, λ w m. absurd m, (one_updated, (inl refl, refl), inr (inr (inl (0, refl, inl refl, (omega arith, refl, refl))))))))))) tt)
+    goes_back = (tt, at_once g updated 1 (call.BackTo 0) (Done WentBack) back (inr (inr (inr (inr (inr (inl (refl, λ w m. absurd m, (one_updated, ((inl refl, refl, omega arith), refl), inr (inr (inl (0, refl, inl refl, (omega arith, refl, refl)))))))))))) tt)
 
     commits : EventMoves g back (Called 1 call.Commit (Waits (Durable 4))) committing
-    commits = (tt, at_once g back 1 call.Commit (Waits (Durable 4)) committing (inr (inr (inr (inr (inr (refl, λ w m. absurd m, (one_back, (inl refl, refl), inr (inl (refl, inr (inr (inl (refl, (refl, refl))))))))))))) tt)
+    commits = (tt, at_once g back 1 call.Commit (Waits (Durable 4)) committing (inr (inr (inr (inr (inr (inl (refl, λ w m. absurd m, (one_back, ((inl refl, refl, omega arith), refl), inr (inl (refl, inr (inr (inl (refl, (refl, refl)))))))))))))) tt)
 
     forces : EventMoves g committing (Forced 4) forced
     forces = (omega arith, omega arith, refl)
 
     answers : EventMoves g forced (Resumed 1 (Done Committed)) ended
-    answers = resumed_at_once g forced 1 (Done Committed) ended (inr (commit_waiting 1 4, inl refl, refl, inr (refl, inr (omega arith, refl, (one_back, inl refl, refl, refl)), refl))) tt
+    answers = resumed_at_once g forced 1 (Done Committed) ended (inr (decision_waiting 1 call.Commit 4, inl refl, refl, inr (refl, inr (inl (omega arith, refl, (one_back, inl refl, refl, refl), refl)), refl))) tt
 
-    pub goes_back_and_commits : (last : State) × (made : List Entry) × IsOpened [] (opened_empty stream_bytes)
+    pub goes_back_and_commits : (last : State) × (made : List Entry) × IsOpened (opening_with empty) [] (opened_empty stream_bytes)
         × MovesMaking g (opened_empty stream_bytes) (back_and_commit bytes more) last made
         × (get last.sessions.records first_id ≡ Some bytes) × (acknowledged made ≡ decision.Commit 1 ∷ [])
     goes_back_and_commits = (
@@ -317,7 +311,7 @@ module _ (g : Geometry) (stream_bytes : ℕ) (bytes : List ℕ) (store : HasStor
       _,
       is_opened,
       (
-        begun,
+        begun_one,
         _,
         begins,
         (

@@ -11,6 +11,7 @@ use Rattle.shore_model.specs.declared.calls.Answer.TheVariants.{Aborted, WentBac
 use Rattle.shore_model.specs.declared.calls.Call.{Call}
 use Rattle.shore_model.specs.declared.calls.Call.TheVariants as call
 use Rattle.shore_model.specs.declared.histories.Entry.{Entry}
+use Rattle.shore_model.specs.declared.histories.Opening.{Opening}
 use Rattle.shore_model.specs.declared.histories.Entry.TheVariants.{Exchanged}
 use Rattle.shore_model.specs.declared.holds.Hold.{Hold}
 use Rattle.shore_model.specs.declared.log_records.LogRecord.{LogRecord}
@@ -23,9 +24,8 @@ use Rattle.laws_locks.proofs.Waiting.{released_stay_quiet}
 use Rattle.laws_lives.proofs.Members.{among_with, among_without, txn_without}
 use Rattle.shore_model.specs.declared.rollbacks.Rollback.{Rollback}
 use Rattle.shore_model.specs.declared.rollbacks.Rollback.TheVariants.{To, Whole}
-use Rattle.laws_lives.specs.LogTells.{records_committed}
 use Rattle.laws_lives.specs.SessionSteps.{AnswerAbort, MoveLocks, SessionEvent, TellsNothing, entries_by, exchange}
-use Rattle.laws_lives.specs.Sessions.{SessionTxn, abort_answered, txns_of}
+use Rattle.laws_lives.specs.Sessions.{SessionTxn, abort_answered, txns_of, Sessions, seated}
 use Rattle.laws_lives.specs.UndoLists.{MayGiveReply, MayRoll, UndoToSavepoints, least_kept, mark_of, undo_rolled}
 use Rattle.laws_lives.specs.Views.{IsAmong}
 use Rattle.shore_model.specs.declared.step.Step.{Step}
@@ -35,16 +35,15 @@ use Rattle.laws_calls.proofs.Links.{GoesBy}
 use Rattle.laws_calls.proofs.LockedAnswers.{after_refused, answer_given, refusal_told}
 use Rattle.laws_calls.proofs.RefusalTells.{same_entry}
 use Rattle.laws_calls.proofs.RollbackLinks.{put_backs, put_backs_go}
-use Rattle.laws_calls.proofs.Sessions.{AreSessionsAfter, event_keeps, its_txn, then_quiet}
+use Rattle.laws_calls.proofs.Sessions.{AreSessionsAfter, event_keeps, its_txn, then_quiet, own_of}
 use Rattle.laws_calls.proofs.TakenLocks.{sessions_of, state_of}
-use Rattle.laws_calls.proofs.Unwinding.{its_list, with_list}
 use Rattle.laws_calls.specs.CallHistories.{txn_of}
 use Rattle.laws_calls.specs.CallSteps.{AbortStep, aborted}
-use Rattle.laws_calls.proofs.Waiters.{released_under_way, with_other_undo, without_quiet}
+use Rattle.laws_calls.proofs.Waiters.{released_under_way, with_other_undo, freed_quiet}
 use Rattle.laws_calls.specs.LockedStates.{IsSessionsState, entries_of_call}
 use Rattle.laws_calls.specs.Rollbacks.{BackToStep, Interrupts, IsInterrupted, IsUnwound, SavepointStep, TakesCall, put_back}
 use Rattle.laws_calls.specs.StateChanges.{answered}
-use Rattle.laws_calls.specs.States.{State}
+use Rattle.laws_calls.specs.States.{HasSeat, State}
 
 -- ---- which calls are taken
 
@@ -73,7 +72,7 @@ interrupts_tell_nothing s f (inl memory) = subst TellsNothing (sym memory) tt
 interrupts_tell_nothing s f (inr page) = page_fault_tells_nothing s f page
 
 -- events keep what holds of the sessions and the log
-by_keeps : (base : ℕ) (o : Records) (es : List Entry) (g : Geometry) (s : State) (events : List SessionEvent) (new : State) (made : List Entry) → AreSessionsAfter base o es s.sessions s.log
+by_keeps : (base : ℕ) (o : Opening) (es : List Entry) (g : Geometry) (s : State) (events : List SessionEvent) (new : State) (made : List Entry) → AreSessionsAfter base o es s.sessions s.log
     → GoesBy g s events new made → AreSessionsAfter base o (es ++ made) new.sessions new.log
 by_keeps base o es g s [] new made k h =
     subst (λ (x : State). AreSessionsAfter base o (es ++ made) x.sessions x.log) (sym h.0)
@@ -83,10 +82,14 @@ by_keeps base o es g s (e ∷ events) new made k h =
     (by_keeps base o (es ++ entries_by s.sessions e) g h.0 events new h.1
     (subst (AreSessionsAfter base o (es ++ entries_by s.sessions e) h.0.sessions) (sym h.2.log) (event_keeps base o es s.sessions h.0.sessions e s.log k h.2.moves)) h.3)
 
-module _ (g : Geometry) (found : List LogRecord) (es : List Entry) (session : ℕ) (a : SessionTxn) (of : a.session ≡ session) (s : State) (k : IsSessionsState found es s)
-    (mem : IsAmong a s.sessions.active) where
+-- the sessions behind an abort, before its locks go
+abbrev ended : State → SessionTxn → Sessions
+ended s a = seated s.sessions (entries_by s.sessions (AnswerAbort a)) (abort_answered s.sessions a)
+
+module _ (g : Geometry) (o : Opening) (found : List LogRecord) (es : List Entry) (session : ℕ) (a : SessionTxn) (of : a.session ≡ session) (s : State) (k : IsSessionsState o found es s)
+    (mem : HasSeat s.sessions a) where
   pub mark_of_within : (n : ℕ) → n < length a.undo.marks → mark_of a.undo n ≤ length a.undo.images
-  mark_of_within n less = mark_within s.sessions.held _ s.sessions.records a.txn a.undo.images n (length a.undo.images) a.undo.marks _ less (k.sound.undoes a mem).savepoints
+  mark_of_within n less = mark_within s.sessions.held _ s.sessions.records a.txn a.undo.images n (length a.undo.images) a.undo.marks _ less (k.sound.undoes a mem.0).savepoints
 
   -- ---- some images are put back
 
@@ -96,27 +99,25 @@ module _ (g : Geometry) (found : List LogRecord) (es : List Entry) (session : �
     unwound = put_back s a kept (e ∷ back) r
 
     pub backs_go : (events : List SessionEvent) (new : State) (made : List Entry) → GoesBy g unwound events new made → GoesBy g s (put_backs a kept e back r events) new made
-    backs_go events new made h = put_backs_go g s a mem (k.log.undo_logged a mem) r may kept e back is least events new made h
+    backs_go events new made h = put_backs_go g s a mem.0 (own_of k a mem).2.0 (k.log.undo_logged a mem.0) r may kept e back is least events new made h
 
-    pub unwound_state : IsSessionsState found es unwound
-    unwound_state = state_of found es s k es unwound
-        (subst (λ (xs : List Entry). AreSessionsAfter (length found) (records_committed found) xs unwound.sessions unwound.log) (append-nil es)
-        (by_keeps (length found) (records_committed found) es g s (put_backs a kept e back r []) unwound [] (sessions_of found es s k) (backs_go [] unwound [] (refl, refl))))
+    pub unwound_state : IsSessionsState o found es unwound
+    unwound_state = state_of o found es s k es unwound
+        (subst (λ (xs : List Entry). AreSessionsAfter (length found) o xs unwound.sessions unwound.log) (append-nil es)
+        (by_keeps (length found) o es g s (put_backs a kept e back r []) unwound [] (sessions_of o found es s k) (backs_go [] unwound [] (refl, refl))))
         (record {
           held = k.locks.held;
           orderly = k.locks.orderly;
           rooted = k.locks.rooted;
           below = k.locks.below;
-          waiters = with_other_undo s.locks.requests s.sessions.active a.txn (undo_rolled a.undo kept r) k.locks.waiters;
+          waiters = with_other_undo s.locks.requests s.sessions a.txn (undo_rolled a.undo kept r) k.locks.waiters;
           waits = λ running b there idle.
               let was = among_with a.txn (undo_rolled a.undo kept r) b s.sessions.active there in
               subst (λ (t : ℕ). is_waiting t s.locks.requests ≡ false) (sym was.txn) (k.locks.waits running was.was was.there (λ w m spared same. idle w m spared (same ∙ sym was.session)));
         })
 
     pub same_number : txn_of unwound.sessions session ≡ txn_of s.sessions session
-    same_number =
-        its_txn unwound_state.agree (with_list a (undo_rolled a.undo kept r)) session (inl (its_list a (undo_rolled a.undo kept r) s.sessions.active mem)) of
-        ∙ sym (its_txn k.agree a session (inl mem) of)
+    same_number = refl
 
   -- ---- and then the call is refused
 
@@ -140,41 +141,41 @@ module _ (g : Geometry) (found : List LogRecord) (es : List Entry) (session : �
       by [] any is left = absurd (any refl)
       by (e ∷ back) any is left = some (record { kept = h.0; newest = e; others = back; images = is; least = h.4; is = left })
 
-  interrupted_kept : (r : Rollback) → MayRoll a.undo r → (c : Call) (f : Fault) (new : State) → IsInterrupted s a r f new → IsSessionsState found (es ++ refused_entry c f ∷ []) new
+  interrupted_kept : (r : Rollback) → MayRoll a.undo r → (c : Call) (f : Fault) (new : State) → IsInterrupted s a r f new → IsSessionsState o found (es ++ refused_entry c f ∷ []) new
   interrupted_kept r may c f new h =
-      subst (IsSessionsState found (es ++ refused_entry c f ∷ [])) (sym h.3)
-      (after_refused found (es ++ refused_entry c f ∷ []) h.0 (some_or_none r h.0 h.1 (IsSessionsState found (es ++ refused_entry c f ∷ []) h.0)
-      (λ same. subst (IsSessionsState found (es ++ refused_entry c f ∷ [])) (sym same) (refusal_told found es s k session c f nothing))
+      subst (IsSessionsState o found (es ++ refused_entry c f ∷ [])) (sym h.3)
+      (after_refused o found (es ++ refused_entry c f ∷ []) h.0 (some_or_none r h.0 h.1 (IsSessionsState o found (es ++ refused_entry c f ∷ []) h.0)
+      (λ same. subst (IsSessionsState o found (es ++ refused_entry c f ∷ [])) (sym same) (refusal_told o found es s k session c f nothing))
       (λ x.
       let at = unwound_state r may x.kept x.newest x.others x.images x.least in
       let number = same_number r may x.kept x.newest x.others x.images x.least in
-      subst (IsSessionsState found (es ++ refused_entry c f ∷ [])) (sym x.is)
-      (subst (λ t. IsSessionsState found (es ++ Exchanged session t (exchange c (Err f)) ∷ []) (put_back s a x.kept (x.newest ∷ x.others) r)) number
-      (refusal_told found es (put_back s a x.kept (x.newest ∷ x.others) r) at session c f nothing)))) f)
+      subst (IsSessionsState o found (es ++ refused_entry c f ∷ [])) (sym x.is)
+      (subst (λ t. IsSessionsState o found (es ++ Exchanged session t (exchange c (Err f)) ∷ []) (put_back s a x.kept (x.newest ∷ x.others) r)) number
+      (refusal_told o found es (put_back s a x.kept (x.newest ∷ x.others) r) at session c f nothing)))) f)
     where
       nothing : TellsNothing f
       nothing = interrupts_tell_nothing h.0 f h.2
 
   -- ---- calls
 
-  refused_exactly : (c : Call) (f exact : Fault) (new : State) → f ≡ exact → TellsNothing exact → new ≡ s → IsSessionsState found (es ++ refused_entry c f ∷ []) new
+  refused_exactly : (c : Call) (f exact : Fault) (new : State) → f ≡ exact → TellsNothing exact → new ≡ s → IsSessionsState o found (es ++ refused_entry c f ∷ []) new
   refused_exactly c f exact new is nothing same =
-      subst (IsSessionsState found (es ++ refused_entry c f ∷ [])) (sym same) (refusal_told found es s k session c f (subst TellsNothing (sym is) nothing))
+      subst (IsSessionsState o found (es ++ refused_entry c f ∷ [])) (sym same) (refusal_told o found es s k session c f (subst TellsNothing (sym is) nothing))
 
-  pub savepoint_kept : a.undo.rolling ≡ None → (step : Step) (new : State) → SavepointStep s a step new → IsSessionsState found (es ++ entries_of_call s session call.Savepoint step) new
+  pub savepoint_kept : a.undo.rolling ≡ None → (step : Step) (new : State) → SavepointStep s a step new → IsSessionsState o found (es ++ entries_of_call s session call.Savepoint step) new
   savepoint_kept whole (Done answer) new h =
-      subst (IsSessionsState found (es ++ entries_of_call s session call.Savepoint (Done answer))) (sym h.2)
-      (answer_given found es s k session a mem of call.Savepoint tt answer s.counts tt h.1 (inl whole))
+      subst (IsSessionsState o found (es ++ entries_of_call s session call.Savepoint (Done answer))) (sym h.2)
+      (answer_given o found es s k session a mem of call.Savepoint tt answer s.counts tt h.1 (inl whole))
   savepoint_kept whole (Refused f) new h = refused_exactly call.Savepoint f fault.TooManySavepoints new h.0 tt h.2
   savepoint_kept whole (Waits wait) new h = absurd h
   savepoint_kept whole Nothing new h = absurd h
 
   pub back_kept : (n : ℕ) → TakesCall a.undo (call.BackTo n) → (step : Step) (new : State) → BackToStep s a n step new
-      → IsSessionsState found (es ++ entries_of_call s session (call.BackTo n) step) new
+      → IsSessionsState o found (es ++ entries_of_call s session (call.BackTo n) step) new
   back_kept n takes (Done answer) new h =
-      subst (IsSessionsState found (es ++ entries_of_call s session (call.BackTo n) (Done answer))) (sym h.2)
-      (subst (λ (x : Answer). IsSessionsState found (es ++ entries_of_call s session (call.BackTo n) (Done x)) (answered s a (call.BackTo n) x s.counts)) (sym h.1)
-      (answer_given found es s k session a mem of (call.BackTo n) tt WentBack s.counts tt (h.0, refl) (may_go_back a n takes)))
+      subst (IsSessionsState o found (es ++ entries_of_call s session (call.BackTo n) (Done answer))) (sym h.2)
+      (subst (λ (x : Answer). IsSessionsState o found (es ++ entries_of_call s session (call.BackTo n) (Done x)) (answered s a (call.BackTo n) x s.counts)) (sym h.1)
+      (answer_given o found es s k session a mem of (call.BackTo n) tt WentBack s.counts tt (h.0, refl) (may_go_back a n takes)))
   back_kept n takes (Refused f) new (inl h) = refused_exactly (call.BackTo n) f fault.NoSavepoint new h.0 tt h.2
   back_kept n takes (Refused f) new (inr h) = interrupted_kept (To n) (rolls_back a n takes h.0) (call.BackTo n) f new h.1
   back_kept n takes (Waits wait) new h = absurd h
@@ -185,33 +186,33 @@ module _ (g : Geometry) (found : List LogRecord) (es : List Entry) (session : �
   pub ends_under_way : IsAmong a.txn (txns_of (abort_answered s.sessions a).active) → ⊥
   ends_under_way among = (txn_without a.txn a.txn s.sessions.active among).1 refl
 
-  aborted_kept : is_waiting a.txn s.locks.requests ≡ false → IsSessionsState found (es ++ Exchanged session (txn_of s.sessions session) (exchange call.Abort (Ok Aborted)) ∷ []) (aborted s a)
+  aborted_kept : is_waiting a.txn s.locks.requests ≡ false → IsSessionsState o found (es ++ Exchanged session (txn_of s.sessions session) (exchange call.Abort (Ok Aborted)) ∷ []) (aborted s a)
   aborted_kept quiet =
       let own : Entry = Exchanged a.session a.txn (exchange call.Abort (Ok Aborted)) in
       let new = aborted s a in
-      let entry = same_entry a.session session a.txn (txn_of s.sessions session) (exchange call.Abort (Ok Aborted)) of (sym (its_txn k.agree a session (inl mem) of)) in
-      let answered = event_keeps (length found) (records_committed found) es s.sessions (abort_answered s.sessions a) (AnswerAbort a) s.log (sessions_of found es s k) (mem, refl) in
-      let unlocked = event_keeps (length found) (records_committed found) (es ++ own ∷ []) (abort_answered s.sessions a) new.sessions (MoveLocks (held_by_all (released a.txn s.locks.requests))) new.log answered
-      (released_moves (abort_answered s.sessions a) s.locks.requests a.txn k.locks.held k.locks.orderly k.locks.rooted k.locks.below ends_under_way) in
-      state_of found es s k (es ++ Exchanged session (txn_of s.sessions session) (exchange call.Abort (Ok Aborted)) ∷ []) new
-      (subst (λ (e : Entry). AreSessionsAfter (length found) (records_committed found) (es ++ e ∷ []) new.sessions new.log) entry
-      (then_quiet (length found) (records_committed found) es (own ∷ []) new.sessions new.log unlocked))
+      let entry = same_entry a.session session a.txn (txn_of s.sessions session) (exchange call.Abort (Ok Aborted)) of (sym (its_txn s.sessions a session mem.1 of)) in
+      let answered = event_keeps (length found) o es s.sessions (ended s a) (AnswerAbort a) s.log (sessions_of o found es s k) (own_of k a mem, refl) in
+      let unlocked = event_keeps (length found) o (es ++ own ∷ []) (ended s a) new.sessions (MoveLocks (held_by_all (released a.txn s.locks.requests))) new.log answered
+      (released_moves (ended s a) s.locks.requests a.txn k.locks.held k.locks.orderly k.locks.rooted k.locks.below ends_under_way) in
+      state_of o found es s k (es ++ Exchanged session (txn_of s.sessions session) (exchange call.Abort (Ok Aborted)) ∷ []) new
+      (subst (λ (e : Entry). AreSessionsAfter (length found) o (es ++ e ∷ []) new.sessions new.log) entry
+      (then_quiet (length found) o es (own ∷ []) new.sessions new.log unlocked))
       (record {
         held = refl;
         orderly = released_orderly s.locks.requests a.txn k.locks.orderly;
         rooted = released_rooted s.locks.requests a.txn k.locks.orderly k.locks.rooted;
         below = released_below s.locks.requests a.txn s.sessions.next_txn k.locks.orderly k.locks.below;
         waiters =
-            without_quiet (released a.txn s.locks.requests) s.sessions.active a.txn (released_stay_quiet s.locks.requests a.txn a.txn k.locks.orderly quiet)
-            (released_under_way s.locks.requests s.sessions.active a.txn k.locks.orderly k.locks.waiters);
+            freed_quiet (released a.txn s.locks.requests) s.sessions a mem.1 (released_stay_quiet s.locks.requests a.txn a.txn k.locks.orderly quiet)
+            (released_under_way s.locks.requests s.sessions a.txn k.locks.orderly k.locks.waiters);
         waits = λ running b there idle.
             released_stay_quiet s.locks.requests a.txn b.txn k.locks.orderly (k.locks.waits running b (among_without a.txn b s.sessions.active there).0 idle);
       })
 
-  pub abort_kept : is_waiting a.txn s.locks.requests ≡ false → (step : Step) (new : State) → AbortStep s a step new → IsSessionsState found (es ++ entries_of_call s session call.Abort step) new
+  pub abort_kept : is_waiting a.txn s.locks.requests ≡ false → (step : Step) (new : State) → AbortStep s a step new → IsSessionsState o found (es ++ entries_of_call s session call.Abort step) new
   abort_kept quiet (Done answer) new h =
-      subst (IsSessionsState found (es ++ entries_of_call s session call.Abort (Done answer))) (sym h.1)
-      (subst (λ (x : Answer). IsSessionsState found (es ++ entries_of_call s session call.Abort (Done x)) (aborted s a)) (sym h.0) (aborted_kept quiet))
+      subst (IsSessionsState o found (es ++ entries_of_call s session call.Abort (Done answer))) (sym h.1)
+      (subst (λ (x : Answer). IsSessionsState o found (es ++ entries_of_call s session call.Abort (Done x)) (aborted s a)) (sym h.0) (aborted_kept quiet))
   abort_kept quiet (Refused f) new h = interrupted_kept Whole tt call.Abort f new h
   abort_kept quiet (Waits wait) new h = absurd h
   abort_kept quiet Nothing new h = absurd h

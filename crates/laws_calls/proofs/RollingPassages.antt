@@ -10,6 +10,7 @@ use Rattle.shore_model.specs.declared.calls.Answer.TheVariants.{Aborted, WentBac
 use Rattle.shore_model.specs.declared.calls.Call.{Call}
 use Rattle.shore_model.specs.declared.calls.Call.TheVariants as call
 use Rattle.shore_model.specs.declared.histories.Entry.{Entry}
+use Rattle.shore_model.specs.declared.histories.Opening.{Opening}
 use Rattle.shore_model.specs.declared.histories.Entry.TheVariants.{Exchanged}
 use Rattle.shore_model.specs.declared.log_records.LogRecord.{LogRecord}
 use Rattle.shore_model.specs.Records.{Records}
@@ -17,10 +18,9 @@ use Rattle.laws_lives.proofs.Lists.{take-take}
 use Rattle.shore_model.specs.declared.rollbacks.Rollback.{Rollback}
 use Rattle.shore_model.specs.declared.rollbacks.Rollback.TheVariants.{To, Whole}
 use Rattle.laws_lives.specs.Logged.{and_compensations}
-use Rattle.laws_lives.specs.SessionSteps.{GiveReply, PutBack, RefuseCall, SessionEvent, TellsNothing, exchange}
+use Rattle.laws_lives.specs.SessionSteps.{GiveReply, PutBack, RefuseCall, SessionEvent, TellsNothing, exchange, IsOwn}
 use Rattle.laws_lives.specs.Sessions.{SessionTxn, with_undo}
 use Rattle.laws_lives.specs.UndoLists.{MayRoll, UndoList, images_since, mark_of, rolled_back, undo_rolled}
-use Rattle.laws_lives.specs.Views.{IsAmong}
 use Rattle.shore_model.specs.declared.step.Step.{Step}
 use Rattle.shore_model.specs.declared.step.Step.TheVariants.{Done, Nothing, Refused, Waits}
 use Rattle.laws_calls.proofs.Links.{GoesQuietly, IsLeft, IsQuiet, quietly_one, refusal_goes}
@@ -29,14 +29,14 @@ use Rattle.laws_calls.proofs.RefusalTells.{same_entry}
 use Rattle.laws_calls.proofs.ReplyLinks.{back_takes, reply_goes, savepoint_takes}
 use Rattle.laws_calls.proofs.RollbackLinks.{all_put_backs, put_backs}
 use Rattle.laws_calls.proofs.RollingCalls.{Unwinds, backs_go, interrupts_tell_nothing, mark_of_within, may_go_back, rolls_back, some_or_none}
-use Rattle.laws_calls.proofs.Sessions.{its_txn}
+use Rattle.laws_calls.proofs.Sessions.{its_txn, one_member, own_of, refused_seats}
 use Rattle.laws_calls.proofs.Unwinding.{front, front_least, front_whole, its_list, list_twice, may_roll_on, none_since, with_list}
 use Rattle.laws_calls.specs.CallHistories.{txn_of}
 use Rattle.laws_calls.specs.CallSteps.{aborted}
 use Rattle.laws_calls.specs.LockedStates.{IsSessionsState, entries_of_call}
 use Rattle.laws_calls.specs.Rollbacks.{BackToStep, IsInterrupted, SavepointStep, TakesCall, put_back}
 use Rattle.laws_calls.specs.StateChanges.{after_refusal, answered}
-use Rattle.laws_calls.specs.States.{DoesNotWait, IsOfSession, State}
+use Rattle.laws_calls.specs.States.{DoesNotWait, HasSeat, IsOfSession, State}
 
 -- the transaction of a session that does not wait is aborted, and its locks go
 pub record Aborts (s : State) (session : ℕ) (new : State) (made : List Entry) : Type 0 where
@@ -46,18 +46,22 @@ pub record Aborts (s : State) (session : ℕ) (new : State) (made : List Entry) 
   pub is : new ≡ aborted s txn
   pub entries : made ≡ Exchanged session (txn_of s.sessions session) (exchange call.Abort (Ok Aborted)) ∷ []
 
-module _ (g : Geometry) (found : List LogRecord) (es : List Entry) (session : ℕ) (a : SessionTxn) (of : a.session ≡ session) (s : State) (k : IsSessionsState found es s)
-    (mem : IsAmong a s.sessions.active) (idle : DoesNotWait s session) where
+module _ (g : Geometry) (o : Opening) (found : List LogRecord) (es : List Entry) (session : ℕ) (a : SessionTxn) (of : a.session ≡ session) (s : State) (k : IsSessionsState o found es s)
+    (mem : HasSeat s.sessions a) (idle : DoesNotWait s session) where
   abbrev Passes : State → List Entry → Type 0
   Passes new made = GoesQuietly g session s new made
 
   -- its session has no call that waits
   back_is_quiet : (undo : UndoList) (kept : List (Rid × Image)) (e : Rid × Image) (r : Rollback) → IsQuiet s (PutBack (with_list a undo) kept e r)
-  back_is_quiet undo kept e r b w m n same its = idle w n (sym same ∙ k.agree.one b a (inl m) (inl mem) its ∙ of)
+  back_is_quiet undo kept e r b w m n same its = idle w n (sym same ∙ ap (λ (x : SessionTxn). x.session) (one_member k b a m mem.0 its) ∙ of)
+
+  -- it is its session's with another undo list
+  own_rolled : (undo : UndoList) → IsOwn (record s.sessions { active = with_undo a.txn undo s.sessions.active }) (with_list a undo)
+  own_rolled undo = let own = own_of k a mem in (its_list a undo s.sessions.active own.0, own.1, own.2)
 
   -- ---- some images are put back, and then the call is refused
 
-  refused_passes : (r : Rollback) → MayRoll a.undo r → (c : Call) (f : Fault) → TellsNothing f → (mid new : State) → Unwinds g found es session a of s k mem r mid → new ≡ after_refusal f mid
+  refused_passes : (r : Rollback) → MayRoll a.undo r → (c : Call) (f : Fault) → TellsNothing f → (mid new : State) → Unwinds g o found es session a of s k mem r mid → new ≡ after_refusal f mid
       → Passes new (Exchanged session (txn_of s.sessions session) (exchange c (Err f)) ∷ [])
   refused_passes r may c f nothing mid new x is =
       let unwound = put_back s a x.kept (x.newest ∷ x.others) r in
@@ -69,11 +73,11 @@ module _ (g : Geometry) (found : List LogRecord) (es : List Entry) (session : �
         quiet = all_put_backs (IsQuiet s) a back_is_quiet x.kept x.newest x.others r (e ∷ []) (tt, tt);
         mid = unwound;
         goes =
-            backs_go g found es session a of s k mem r may x.kept x.newest x.others x.images x.least (e ∷ []) unwound (Exchanged session t (exchange c (Err f)) ∷ []) (
+            backs_go g o found es session a of s k mem r may x.kept x.newest x.others x.images x.least (e ∷ []) unwound (Exchanged session t (exchange c (Err f)) ∷ []) (
               unwound,
               [],
               refusal_goes g unwound session t c f
-                  (inl (its, inl (its_list a (undo_rolled a.undo x.kept r) s.sessions.active mem), of, sym (its_txn k.agree a session (inl mem) of)), nothing, refl),
+                  (refl, nothing, refused_seats unwound.sessions session t c f),
               (refl, refl),
               refl,
             );
@@ -83,24 +87,24 @@ module _ (g : Geometry) (found : List LogRecord) (es : List Entry) (session : �
   interrupted_passes : (r : Rollback) → MayRoll a.undo r → (c : Call) (f : Fault) (new : State) → IsInterrupted s a r f new
       → Passes new (Exchanged session (txn_of s.sessions session) (exchange c (Err f)) ∷ [])
   interrupted_passes r may c f new h =
-      some_or_none g found es session a of s k mem r h.0 h.1 (Passes new (Exchanged session (txn_of s.sessions session) (exchange c (Err f)) ∷ []))
+      some_or_none g o found es session a of s k mem r h.0 h.1 (Passes new (Exchanged session (txn_of s.sessions session) (exchange c (Err f)) ∷ []))
       (λ same.
       subst (λ (n : State). Passes n (Exchanged session (txn_of s.sessions session) (exchange c (Err f)) ∷ [])) (sym (h.3 ∙ ap (after_refusal f) same))
-      (told_passes g found es session s (after_refusal f s) c f nothing (refused_left session s f)))
+      (told_passes g o found es session s (after_refusal f s) c f nothing (refused_left session s f)))
       (λ x. refused_passes r may c f nothing h.0 new x h.3)
     where
       nothing : TellsNothing f
       nothing = interrupts_tell_nothing h.0 f h.2
 
   exactly_passes : (c : Call) (f exact : Fault) (new : State) → f ≡ exact → TellsNothing exact → new ≡ s → Passes new (Exchanged session (txn_of s.sessions session) (exchange c (Err f)) ∷ [])
-  exactly_passes c f exact new is nothing same = told_passes g found es session s new c f (subst TellsNothing (sym is) nothing) (inl same)
+  exactly_passes c f exact new is nothing same = told_passes g o found es session s new c f (subst TellsNothing (sym is) nothing) (inl same)
 
   -- ---- a savepoint
 
   pub savepoint_passes : a.undo.rolling ≡ None → (step : Step) (new : State) → SavepointStep s a step new → Passes new (entries_of_call s session call.Savepoint step)
   savepoint_passes whole (Done answer) new h =
       subst (λ (n : State). Passes n (entries_of_call s session call.Savepoint (Done answer))) (sym h.2)
-      (reply_passes g found es session a of whole s k mem call.Savepoint tt answer s.counts tt h.1 (savepoint_takes g s a answer))
+      (reply_passes g o found es session a of whole s k mem call.Savepoint tt answer s.counts tt h.1 (savepoint_takes g s a answer))
   savepoint_passes whole (Refused f) new h = exactly_passes call.Savepoint f fault.TooManySavepoints new h.0 tt h.2
   savepoint_passes whole (Waits wait) new h = absurd h
   savepoint_passes whole Nothing new h = absurd h
@@ -115,13 +119,13 @@ module _ (g : Geometry) (found : List LogRecord) (es : List Entry) (session : �
     back_entry = Exchanged a.session a.txn (exchange (call.BackTo n) (Ok WentBack))
 
     within : mark_of a.undo n ≤ length a.undo.images
-    within = mark_of_within g found es session a of s k mem n less
+    within = mark_of_within g o found es session a of s k mem n less
 
     -- nothing is to be put back
     back_at_once : images_since a.undo n ≡ [] → Passes went_back (back_entry ∷ [])
     back_at_once none =
         quietly_one g session s (GiveReply a (call.BackTo n) (Ok WentBack)) went_back went_back tt
-        (reply_goes g s a mem (call.BackTo n) tt WentBack s.counts tt (less, refl) (may_go_back a n takes) (back_takes g s a n WentBack none)) (inl refl)
+        (reply_goes g s a (own_of k a mem) (call.BackTo n) tt WentBack s.counts tt (less, refl) (may_go_back a n takes) (back_takes g s a n WentBack none)) (inl refl)
 
     -- the images since the savepoint come back, and then the call is answered
     module _ (e : Rid × Image) (others : List (Rid × Image)) (since : images_since a.undo n ≡ e ∷ others) where
@@ -180,10 +184,10 @@ module _ (g : Geometry) (found : List LogRecord) (es : List Entry) (session : �
             quiet = all_put_backs (IsQuiet s) a back_is_quiet kept e others (To n) (reply ∷ []) (tt, tt);
             mid = end;
             goes =
-                backs_go g found es session a of s k mem (To n) (rolls_back a n takes less) kept e others images (front_least a.undo n less within) (reply ∷ []) end (back_entry ∷ []) (
+                backs_go g o found es session a of s k mem (To n) (rolls_back a n takes less) kept e others images (front_least a.undo n less within) (reply ∷ []) end (back_entry ∷ []) (
                   end,
                   [],
-                  reply_goes g unwound its (its_list a its_undo s.sessions.active mem) (call.BackTo n) tt WentBack unwound.counts tt (its_mark, refl) (inr (n, WentBack, refl, refl, refl))
+                  reply_goes g unwound its (own_rolled its_undo) (call.BackTo n) tt WentBack unwound.counts tt (its_mark, refl) (inr (n, WentBack, refl, refl, refl))
                       (back_takes g unwound its n WentBack none_left),
                   (refl, refl),
                   refl,
@@ -203,7 +207,7 @@ module _ (g : Geometry) (found : List LogRecord) (es : List Entry) (session : �
       subst (λ (x : State). Passes x (entries_of_call s session (call.BackTo n) (Done answer))) (sym h.2)
       (subst (λ (x : Answer). Passes (answered s a (call.BackTo n) x s.counts) (entries_of_call s session (call.BackTo n) (Done x))) (sym h.1)
       (subst (λ (e : Entry). Passes (answered s a (call.BackTo n) WentBack s.counts) (e ∷ []))
-      (same_entry a.session session a.txn (txn_of s.sessions session) (exchange (call.BackTo n) (Ok WentBack)) of (sym (its_txn k.agree a session (inl mem) of))) (back_answered n h.0 takes)))
+      (same_entry a.session session a.txn (txn_of s.sessions session) (exchange (call.BackTo n) (Ok WentBack)) of (sym (its_txn s.sessions a session mem.1 of))) (back_answered n h.0 takes)))
   back_passes n takes (Refused f) new (inl h) = exactly_passes (call.BackTo n) f fault.NoSavepoint new h.0 tt h.2
   back_passes n takes (Refused f) new (inr h) = interrupted_passes (To n) (rolls_back a n takes h.0) (call.BackTo n) f new h.1
   back_passes n takes (Waits wait) new h = absurd h

@@ -1,5 +1,5 @@
 -- A call of a session, whatever it comes to: what the sessions are after its entry.
-use Rattle.std.proofs.Common.{◌≡◌, inl, inr, ⊎_elim, ◌+◌, ◌<◌, ◌++◌, ◌∷◌, ℕ, List, [], false, None, Some, Ok, Err, refl, sym, ap, subst, ◌∙◌, length, arith}
+use Rattle.std.proofs.Common.{◌≡◌, ◌≢◌, inl, inr, ⊎_elim, ◌+◌, ◌<◌, ◌++◌, ◌∷◌, ℕ, List, [], false, None, Some, Ok, Err, refl, sym, ap, subst, ◌∙◌, length, arith}
 use Rattle.std.specs.Prelude.{◌≤◌, IsSomeAnd, Option}
 use Rattle.std.proofs.lemmas.List.Elements.{All-weaker}
 use Rattle.shore_types.specs.declared.faults.Fault.{Fault}
@@ -10,85 +10,95 @@ use Rattle.shore_types.specs.declared.layout.TheConstants.{MAX_SLOTS}
 use Rattle.shore_types.specs.declared.locking.Granule.{Granule}
 use Rattle.shore_types.specs.declared.locking.Granule.TheVariants as granule
 use Rattle.shore_model.specs.declared.calls.Answer.{Answer}
-use Rattle.shore_model.specs.declared.calls.Answer.TheVariants.{Began}
+use Rattle.shore_model.specs.declared.calls.Answer.TheVariants.{Began, AreInDoubt}
 use Rattle.shore_model.specs.declared.calls.Call.{Call}
 use Rattle.shore_model.specs.declared.calls.Call.TheVariants as call
 use Rattle.shore_model.specs.declared.histories.Decision.TheVariants as decision
 use Rattle.shore_model.specs.declared.histories.Entry.{Entry}
+use Rattle.shore_model.specs.declared.histories.Opening.{Opening}
 use Rattle.shore_model.specs.declared.histories.Entry.TheVariants.{Decided, Exchanged}
 use Rattle.shore_model.specs.declared.log_records.LogRecord.{LogRecord}
 use Rattle.shore_model.specs.Alone.{record_named_by}
 use Rattle.shore_locks.specs.Tables.{is_waiting}
 use Rattle.laws_locks.proofs.Waiting.{newcomer_quiet}
 use Rattle.laws_lives.proofs.Members.{among_without}
-use Rattle.laws_lives.specs.LogTells.{records_committed}
 use Rattle.laws_lives.specs.RepliesInPlace.{IsKnownAbsent}
-use Rattle.laws_lives.specs.SessionSteps.{AppendCommit, BeginTxn, IsInnerCall, TellsNothing, exchange}
-use Rattle.laws_lives.specs.Sessions.{SessionTxn, txn_begun}
+use Rattle.laws_lives.specs.SessionSteps.{AppendCommit, BeginTxn, IsInnerCall, TellsNothing, exchange, AnswerInDoubt}
+use Rattle.laws_lives.specs.Sessions.{SessionTxn, in_txn}
 use Rattle.shore_model.specs.declared.step.Step.{Step}
 use Rattle.shore_model.specs.declared.step.Step.TheVariants.{Done, Nothing, Refused, Waits}
 use Rattle.laws_calls.proofs.GoingOn.{goes_on_kept}
 use Rattle.laws_calls.proofs.LockedAnswers.{absence_told, refusal_told}
 use Rattle.laws_calls.proofs.RefusalTells.{tells_or_none}
 use Rattle.laws_calls.proofs.RollingCalls.{abort_kept, back_kept, savepoint_kept}
-use Rattle.laws_calls.proofs.Sessions.{AreSessionsAfter, event_keeps, its_txn}
+use Rattle.laws_calls.proofs.Sessions.{AreSessionsAfter, event_keeps, its_txn, commit_seats, own_of}
 use Rattle.laws_calls.proofs.TakenLocks.{sessions_of, state_of}
 use Rattle.laws_calls.specs.CallHistories.{txn_of}
-use Rattle.laws_calls.specs.StateChanges.{committed}
-use Rattle.laws_calls.specs.CallSteps.{BeginStep, CommitStep, InnerStep, IsTooLong, OpenStep, RefusesEarly, RefusesGranule, CallStep}
+use Rattle.laws_calls.specs.StateChanges.{committed, begun}
+use Rattle.laws_calls.specs.CallSteps.{BeginStep, CommitStep, InnerStep, IsTooLong, OpenStep, RefusesEarly, RefusesGranule, CallStep, InDoubtStep, OutsideStep, listed_in_doubt}
 use Rattle.laws_calls.specs.Rollbacks.{TakesCall}
-use Rattle.laws_calls.proofs.Waiters.{without_quiet}
+use Rattle.laws_calls.proofs.Waiters.{without_quiet, seat_moved}
 use Rattle.laws_calls.specs.LockedStates.{IsSessionsState, entries_of_call}
-use Rattle.laws_calls.specs.States.{DoesNotWait, HasNoTxn, IsOfSession, State}
+use Rattle.laws_calls.specs.States.{DoesNotWait, HasNoTxn, IsOfSession, State, HasSeat}
+use Rattle.shore_model.specs.declared.sessions.SessionState.{SessionState}
+use Rattle.laws_calls.proofs.Listings.{listing_steps}
 
-module _ (g : Geometry) (found : List LogRecord) (es : List Entry) (s : State) (k : IsSessionsState found es s) (session : ℕ) where
+module _ (g : Geometry) (o : Opening) (found : List LogRecord) (es : List Entry) (s : State) (k : IsSessionsState o found es s) (session : ℕ) where
   -- ---- a begin
 
-  begun_state : HasNoTxn s session → IsSessionsState found (es ++ Exchanged session s.sessions.next_txn (exchange call.Begin (Ok (Began s.sessions.next_txn))) ∷ []) (record s { sessions = txn_begun s.sessions session })
+  begun_state : HasNoTxn s session → IsSessionsState o found (es ++ Exchanged session s.sessions.next_txn (exchange call.Begin (Ok (Began s.sessions.next_txn))) ∷ []) (begun s session)
   begun_state idle =
-      state_of found es s k (es ++ Exchanged session s.sessions.next_txn (exchange call.Begin (Ok (Began s.sessions.next_txn))) ∷ []) (record s { sessions = txn_begun s.sessions session })
-      (event_keeps (length found) (records_committed found) es s.sessions (txn_begun s.sessions session) (BeginTxn session) s.log (sessions_of found es s k) (idle, refl))
+      state_of o found es s k (es ++ Exchanged session s.sessions.next_txn (exchange call.Begin (Ok (Began s.sessions.next_txn))) ∷ []) (begun s session)
+      (event_keeps (length found) o es s.sessions (begun s session).sessions (BeginTxn session) s.log (sessions_of o found es s k) (idle, refl))
       (record {
         held = k.locks.held;
         orderly = k.locks.orderly;
         rooted = k.locks.rooted;
         below = All-weaker (λ r. r.txn < s.sessions.next_txn) (λ r. r.txn < s.sessions.next_txn + 1) (λ r less. omega (arith, less)) s.locks.requests k.locks.below;
-        waiters = λ t waits. inr (k.locks.waiters t waits);
+        waiters = λ t waits.
+            let was = seat_moved s.locks.requests s.sessions session (in_txn s.sessions.next_txn) (λ a mine w same. not_in_one a mine same) k.locks.waiters t waits in
+            (was.0, (inr was.1.0, was.1.1, was.1.2), was.2);
         waits = λ running b there quiet. ⊎_elim
             (λ own. subst (λ (t : ℕ). is_waiting t s.locks.requests ≡ false) (ap (λ (x : SessionTxn). x.txn) own) (newcomer_quiet s.locks.requests s.sessions.next_txn k.locks.below))
             (λ older. k.locks.waits running b older quiet)
             there;
       })
+    where
+      -- nobody under way is of it
+      not_in_one : (a : SessionTxn) → HasSeat s.sessions a → a.session ≢ session
+      not_in_one a mine same =
+          let above = mine.2 in
+          let none : a.txn ≡ 0 = ap (λ (p : SessionState). p.txn) (sym mine.1 ∙ ap s.sessions.seats same ∙ idle) in omega arith
 
-  begin_kept : (step : Step) (new : State) → BeginStep s session step new → IsSessionsState found (es ++ entries_of_call s session call.Begin step) new
+  begin_kept : (step : Step) (new : State) → BeginStep s session step new → IsSessionsState o found (es ++ entries_of_call s session call.Begin step) new
   begin_kept (Done answer) new h =
-      subst (IsSessionsState found (es ++ entries_of_call s session call.Begin (Done answer))) (sym h.4)
-      (subst (λ (x : Answer). IsSessionsState found (es ++ entries_of_call s session call.Begin (Done x)) (record s { sessions = txn_begun s.sessions session })) (sym h.3) (begun_state h.0))
+      subst (IsSessionsState o found (es ++ entries_of_call s session call.Begin (Done answer))) (sym h.4)
+      (subst (λ (x : Answer). IsSessionsState o found (es ++ entries_of_call s session call.Begin (Done x)) (begun s session)) (sym h.3) (begun_state h.0))
   begin_kept (Waits wait) new h = absurd h
   begin_kept (Refused f) new h =
-      subst (IsSessionsState found (es ++ entries_of_call s session call.Begin (Refused f))) (sym h.1)
-      (refusal_told found es s k session call.Begin f (⊎_elim (λ one. subst TellsNothing (sym one.0) tt) (λ more. ⊎_elim (λ two. subst TellsNothing (sym two.0) tt) (λ three. subst TellsNothing (sym three.0) tt) more) h.0))
+      subst (IsSessionsState o found (es ++ entries_of_call s session call.Begin (Refused f))) (sym h.1)
+      (refusal_told o found es s k session call.Begin f (⊎_elim (λ one. subst TellsNothing (sym one.0) tt) (λ more. ⊎_elim (λ two. subst TellsNothing (sym two.0) tt) (λ three. subst TellsNothing (sym three.0) tt) more) h.0))
   begin_kept Nothing new h = absurd h
 
   -- ---- a commit
 
-  commit_kept : (a : SessionTxn) → a.undo.rolling ≡ None → IsOfSession s session a → is_waiting a.txn s.locks.requests ≡ false → (step : Step) (new : State) → CommitStep s a step new → IsSessionsState found (es ++ entries_of_call s session call.Commit step) new
+  commit_kept : (a : SessionTxn) → a.undo.rolling ≡ None → IsOfSession s session a → is_waiting a.txn s.locks.requests ≡ false → (step : Step) (new : State) → CommitStep s a step new → IsSessionsState o found (es ++ entries_of_call s session call.Commit step) new
   commit_kept a whole mem quiet (Done answer) new h = absurd h
   commit_kept a whole mem quiet (Refused f) new h = absurd h
   commit_kept a whole mem quiet Nothing new h = absurd h
   commit_kept a whole mem quiet (Waits wait) new h =
-      subst (IsSessionsState found (es ++ entries_of_call s session call.Commit (Waits wait))) (sym h.1)
-      (subst (λ w. IsSessionsState found (es ++ entries_of_call s session call.Commit (Waits w)) (committed s a)) (sym h.0)
-      (state_of found es s k (es ++ Decided (decision.Commit (txn_of s.sessions session)) ∷ []) (committed s a)
-      (subst (λ t. AreSessionsAfter (length found) (records_committed found) (es ++ Decided (decision.Commit t) ∷ []) (committed s a).sessions (committed s a).log)
-      (sym (its_txn k.agree a session (inl mem.0) mem.1))
-      (event_keeps (length found) (records_committed found) es s.sessions (committed s a).sessions (AppendCommit a) s.log (sessions_of found es s k) (mem.0, whole, refl)))
+      subst (IsSessionsState o found (es ++ entries_of_call s session call.Commit (Waits wait))) (sym h.1)
+      (subst (λ w. IsSessionsState o found (es ++ entries_of_call s session call.Commit (Waits w)) (committed s a)) (sym h.0)
+      (state_of o found es s k (es ++ Decided (decision.Commit (txn_of s.sessions session)) ∷ []) (committed s a)
+      (subst (λ t. AreSessionsAfter (length found) o (es ++ Decided (decision.Commit t) ∷ []) (committed s a).sessions (committed s a).log)
+      (sym (its_txn s.sessions a session mem.0.1 mem.1))
+      (event_keeps (length found) o es s.sessions (committed s a).sessions (AppendCommit a) s.log (sessions_of o found es s k) (own_of k a mem.0, whole, commit_seats k.agree k.seats a (own_of k a mem.0).2.0)))
       (record {
         held = k.locks.held;
         orderly = k.locks.orderly;
         rooted = k.locks.rooted;
         below = k.locks.below;
-        waiters = without_quiet s.locks.requests s.sessions.active a.txn quiet k.locks.waiters;
+        waiters = without_quiet s.locks.requests s.sessions a.txn quiet k.locks.waiters;
         waits = λ running b there idle. k.locks.waits running b (among_without a.txn b s.sessions.active there).0 (λ w m. idle w (inr m));
       })))
 
@@ -128,54 +138,70 @@ module _ (g : Geometry) (found : List LogRecord) (es : List Entry) (s : State) (
       record { id = is.0; named = ap (λ (x : Granule). record_named_by (call.TryLock x mode)) is.1; inner = tt; beyond = is.2 }
   names_no_slot _ h = absurd h
 
-  early_kept : (a : SessionTxn) → a.undo.rolling ≡ None → IsOfSession s session a → (c : Call) (f : Fault) → RefusesEarly g c f → IsSessionsState found (es ++ Exchanged session (txn_of s.sessions session) (exchange c (Err f)) ∷ []) s
+  early_kept : (a : SessionTxn) → a.undo.rolling ≡ None → IsOfSession s session a → (c : Call) (f : Fault) → RefusesEarly g c f → IsSessionsState o found (es ++ Exchanged session (txn_of s.sessions session) (exchange c (Err f)) ∷ []) s
   early_kept a whole mem c f h = ⊎_elim
-      (refusal_told found es s k session c f)
+      (refusal_told o found es s k session c f)
       (λ none.
       let names = names_no_slot c (subst (RefusesEarly g c) none h) in
-      subst (λ (x : Fault). IsSessionsState found (es ++ Exchanged session (txn_of s.sessions session) (exchange c (Err x)) ∷ []) s) (sym none)
-      (absence_told found es s k session a mem.0 mem.1 c names.inner whole
-      (subst (λ (o : Option Rid). IsSomeAnd o (IsKnownAbsent s.sessions.held a.txn s.sessions.records)) (sym names.named) (inr names.beyond))))
+      subst (λ (x : Fault). IsSessionsState o found (es ++ Exchanged session (txn_of s.sessions session) (exchange c (Err x)) ∷ []) s) (sym none)
+      (absence_told o found es s k session a mem.0 mem.1 c names.inner whole
+      (subst (λ (x : Option Rid). IsSomeAnd x (IsKnownAbsent s.sessions.held a.txn s.sessions.records)) (sym names.named) (inr names.beyond))))
       (tells_or_none f)
 
   -- ---- any call
 
   -- the transaction of a session that does not wait waits for no lock
   quiet_of : s.failed ≡ false → (a : SessionTxn) → IsOfSession s session a → DoesNotWait s session → is_waiting a.txn s.locks.requests ≡ false
-  quiet_of running a mem idle = k.locks.waits running a mem.0 (λ w m spared same. idle w m (same ∙ mem.1))
+  quiet_of running a mem idle = k.locks.waits running a mem.0.0 (λ w m spared same. idle w m (same ∙ mem.1))
 
   open_kept : s.failed ≡ false → (a : SessionTxn) → a.undo.rolling ≡ None → IsOfSession s session a → DoesNotWait s session → (c : Call) (step : Step) (new : State) → OpenStep g s a c step new
-      → IsSessionsState found (es ++ entries_of_call s session c step) new
+      → IsSessionsState o found (es ++ entries_of_call s session c step) new
   open_kept running a whole mem idle c step new (inl h) =
-      subst (IsSessionsState found (es ++ entries_of_call s session c step)) (sym h.3)
-      (subst (λ (x : Step). IsSessionsState found (es ++ entries_of_call s session c x) s) (sym h.2) (early_kept a whole mem c h.0 h.1))
+      subst (IsSessionsState o found (es ++ entries_of_call s session c step)) (sym h.3)
+      (subst (λ (x : Step). IsSessionsState o found (es ++ entries_of_call s session c x) s) (sym h.2) (early_kept a whole mem c h.0 h.1))
   open_kept running a whole mem idle c step new (inr (inl h)) =
-      goes_on_kept g found es session a mem.1 whole s k mem.0 (quiet_of running a mem idle) c step new h.1
+      goes_on_kept g o found es session a mem.1 whole s k mem.0 (quiet_of running a mem idle) c step new h.1
   open_kept running a whole mem idle c step new (inr (inr (inl h))) =
-      subst (λ (x : Call). IsSessionsState found (es ++ entries_of_call s session x step) new) (sym h.0) (commit_kept a whole mem (quiet_of running a mem idle) step new h.1)
+      subst (λ (x : Call). IsSessionsState o found (es ++ entries_of_call s session x step) new) (sym h.0) (commit_kept a whole mem (quiet_of running a mem idle) step new h.1)
   open_kept running a whole mem idle c step new (inr (inr (inr h))) =
-      subst (λ (x : Call). IsSessionsState found (es ++ entries_of_call s session x step) new) (sym h.0) (savepoint_kept g found es session a mem.1 s k mem.0 whole step new h.1)
+      subst (λ (x : Call). IsSessionsState o found (es ++ entries_of_call s session x step) new) (sym h.0) (savepoint_kept g o found es session a mem.1 s k mem.0 whole step new h.1)
 
-  refused_call : (c : Call) (step : Step) (new : State) (f : Fault) → TellsNothing f → step ≡ Refused f → new ≡ s → IsSessionsState found (es ++ entries_of_call s session c step) new
+  refused_call : (c : Call) (step : Step) (new : State) (f : Fault) → TellsNothing f → step ≡ Refused f → new ≡ s → IsSessionsState o found (es ++ entries_of_call s session c step) new
   refused_call c step new f nothing is same =
-      subst (IsSessionsState found (es ++ entries_of_call s session c step)) (sym same)
-      (subst (λ (x : Step). IsSessionsState found (es ++ entries_of_call s session c x) s) (sym is) (refusal_told found es s k session c f nothing))
+      subst (IsSessionsState o found (es ++ entries_of_call s session c step)) (sym same)
+      (subst (λ (x : Step). IsSessionsState o found (es ++ entries_of_call s session c x) s) (sym is) (refusal_told o found es s k session c f nothing))
 
   inner_kept : s.failed ≡ false → (a : SessionTxn) → IsOfSession s session a → DoesNotWait s session → (c : Call) (step : Step) (new : State) → InnerStep g s a c step new
-      → IsSessionsState found (es ++ entries_of_call s session c step) new
+      → IsSessionsState o found (es ++ entries_of_call s session c step) new
   inner_kept running a mem idle c step new (inl h) = refused_call c step new fault.MustAbort tt h.2 h.3
   inner_kept running a mem idle c step new (inr (inl h)) = open_kept running a h.0 mem idle c step new h.1
   inner_kept running a mem idle c step new (inr (inr (inl h))) =
-      subst (λ (x : Call). IsSessionsState found (es ++ entries_of_call s session x step) new) (sym h.1)
-      (back_kept g found es session a mem.1 s k mem.0 h.0 (subst (TakesCall a.undo) h.1 h.2) step new h.3)
+      subst (λ (x : Call). IsSessionsState o found (es ++ entries_of_call s session x step) new) (sym h.1)
+      (back_kept g o found es session a mem.1 s k mem.0 h.0 (subst (TakesCall a.undo) h.1 h.2) step new h.3)
   inner_kept running a mem idle c step new (inr (inr (inr h))) =
-      subst (λ (x : Call). IsSessionsState found (es ++ entries_of_call s session x step) new) (sym h.0) (abort_kept g found es session a mem.1 s k mem.0 (quiet_of running a mem idle) step new h.1)
+      subst (λ (x : Call). IsSessionsState o found (es ++ entries_of_call s session x step) new) (sym h.0) (abort_kept g o found es session a mem.1 s k mem.0 (quiet_of running a mem idle) step new h.1)
 
-  pub session_call_kept : (c : Call) (step : Step) (new : State) → CallStep g s session c step new → IsSessionsState found (es ++ entries_of_call s session c step) new
+  outside_kept : (c : Call) (step : Step) (new : State) → OutsideStep s c step new → IsSessionsState o found (es ++ entries_of_call s session c step) new
+  outside_kept c step new h = subst (λ (x : Call). IsSessionsState o found (es ++ entries_of_call s session x step) new) (sym h.0) (by step new h.1)
+    where
+      by : (step : Step) (new : State) → InDoubtStep s step new → IsSessionsState o found (es ++ entries_of_call s session call.InDoubt step) new
+      by (Done answer) new h =
+          subst (IsSessionsState o found (es ++ entries_of_call s session call.InDoubt (Done answer))) (sym h.1)
+          (subst (λ (x : Answer). IsSessionsState o found (es ++ entries_of_call s session call.InDoubt (Done x)) s) (sym h.0)
+          (state_of o found es s k (es ++ entries_of_call s session call.InDoubt (Done (AreInDoubt (listed_in_doubt s.sessions)))) s
+          (event_keeps (length found) o es s.sessions s.sessions (AnswerInDoubt session (txn_of s.sessions session) (listed_in_doubt s.sessions)) s.log (sessions_of o found es s k)
+          (listing_steps k session)) k.locks))
+      by (Waits wait) new h = absurd h
+      by (Refused f) new h = absurd h
+      by Nothing new h = absurd h
+
+  pub session_call_kept : (c : Call) (step : Step) (new : State) → CallStep g s session c step new → IsSessionsState o found (es ++ entries_of_call s session c step) new
   session_call_kept c step new (inl h) = refused_call c step new fault.Memory tt h.0 h.1
   session_call_kept c step new (inr (inl h)) = refused_call c step new fault.Failed tt h.1 h.2
   session_call_kept c step new (inr (inr (inl h))) = refused_call c step new fault.Busy tt h.2 h.3
   session_call_kept c step new (inr (inr (inr (inl h)))) =
-      subst (λ (x : Call). IsSessionsState found (es ++ entries_of_call s session x step) new) (sym h.2) (begin_kept step new h.3)
+      subst (λ (x : Call). IsSessionsState o found (es ++ entries_of_call s session x step) new) (sym h.2) (begin_kept step new h.3)
   session_call_kept c step new (inr (inr (inr (inr (inl h))))) = refused_call c step new fault.NoTransaction tt h.4 h.5
-  session_call_kept c step new (inr (inr (inr (inr (inr h))))) = inner_kept h.0 h.2.0 h.2.1 h.1 c step new h.2.2
+  session_call_kept c step new (inr (inr (inr (inr (inr (inr (inl h))))))) = refused_call c step new fault.IsPrepared tt h.4 h.5
+  session_call_kept c step new (inr (inr (inr (inr (inr (inr (inr h))))))) = outside_kept c step new h.2
+  session_call_kept c step new (inr (inr (inr (inr (inr (inl h)))))) = inner_kept h.0 h.2.0 h.2.1 h.1 c step new h.2.2

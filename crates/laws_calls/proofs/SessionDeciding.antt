@@ -1,5 +1,5 @@
 -- Each call and each resume of a session under locks comes to something.
-use Rattle.std.proofs.Common.{◌≡◌, ◌≢◌, ◌⊎◌, inl, inr, ⊎_elim, ◌+◌, ◌≤◌, ◌<◌, ℕ, List, ◌∷◌, Bool, true, false, Some, None, Option, refl, sym, ap, subst, ◌∙◌, length, Ok, Err}
+use Rattle.std.proofs.Common.{◌≡◌, ◌≢◌, ◌⊎◌, inl, inr, ⊎_elim, ◌+◌, ◌≤◌, ◌<◌, ℕ, List, ◌∷◌, Bool, true, false, Some, None, Option, refl, sym, ap, subst, ◌∙◌, length, Ok, Err, map}
 use Rattle.std.specs.FinMap.{get}
 use Rattle.std.specs.Prelude.{Option, IsSome, IsSomeAnd, IsTrue, Result, slice_get}
 use Rattle.std.proofs.lemmas.Bool.{cases_Bool}
@@ -18,10 +18,11 @@ use Rattle.shore_types.specs.declared.locking.Mode.TheVariants.{EX}
 use Rattle.shore_model.specs.Modes.{is_allowed}
 use Rattle.shore_model.specs.Records.{scan_of}
 use Rattle.shore_model.specs.declared.calls.Answer.{Answer}
-use Rattle.shore_model.specs.declared.calls.Answer.TheVariants.{Aborted, Began, Committed, Deleted, Got, Inserted, Locked, Saved, Scanned, Updated, WentBack}
+use Rattle.shore_model.specs.declared.calls.Answer.TheVariants.{Aborted, Began, Committed, Deleted, Got, Inserted, Locked, Saved, Scanned, Updated, WentBack, AreInDoubt, Prepared}
 use Rattle.shore_model.specs.declared.calls.Call.{Call}
 use Rattle.shore_model.specs.declared.calls.Call.TheVariants as call
 use Rattle.shore_model.specs.declared.histories.Entry.{Entry}
+use Rattle.shore_model.specs.declared.histories.Opening.{Opening}
 use Rattle.shore_model.specs.declared.log_records.LogRecord.{LogRecord}
 use Rattle.shore_model.specs.declared.requests.Request.{Request}
 use Rattle.shore_locks.specs.Tables.{is_waiting}
@@ -33,10 +34,10 @@ use Rattle.laws_locks.proofs.Places.{EndsWell, acquired_ends}
 use Rattle.laws_locks.specs.CallLocks.{Asked, CanLockNow, lock_asked_by}
 use Rattle.laws_room.proofs.Fitting.{delete_fits}
 use Rattle.laws_room.specs.Claims.{SlotCounts}
-use Rattle.laws_lives.proofs.Lists.{within_or_beyond}
+use Rattle.laws_lives.proofs.Lists.{within_or_beyond, mapped_one}
 use Rattle.shore_model.specs.declared.rollbacks.Rollback.{Rollback}
 use Rattle.shore_model.specs.declared.rollbacks.Rollback.TheVariants.{To, Whole}
-use Rattle.laws_lives.specs.Sessions.{SessionTxn, txn_begun}
+use Rattle.laws_lives.specs.Sessions.{SessionTxn, in_doubt_of, resolved_of}
 use Rattle.laws_lives.specs.Views.{IsAmong}
 use Rattle.shore_model.specs.declared.step.Step.{Step}
 use Rattle.shore_model.specs.declared.step.Step.TheVariants.{Done, Nothing, Refused, Waits}
@@ -46,16 +47,19 @@ use Rattle.laws_calls.proofs.AcquireAnswers.{acquire_fault, lock_fault_ordinary}
 use Rattle.laws_calls.proofs.Decided.{IsOrdinary, OrNot, at_most, both, fits_or_not, grown, grows, image_or_none, less_than, none_or_not, ordinary, page_or_not, room_or_not, same_number, store_or_not, waits_or_not}
 use Rattle.laws_calls.proofs.LowestPlaces.{lowest_or_none}
 use Rattle.laws_calls.proofs.SessionInversions.{IsLockless}
-use Rattle.laws_calls.proofs.Sessions.{is_txn_of}
+use Rattle.laws_calls.proofs.Sessions.{in_one}
 use Rattle.laws_calls.specs.CallHistories.{IsRoomyState}
-use Rattle.laws_calls.specs.StateChanges.{CanLog, ComesOfState, FitsAt, MayChange, answered, commit_waiting, committed, wait_refused}
-use Rattle.laws_calls.specs.CallSteps.{AnswersBehind, BeginStep, CallGoesOn, HasGranule, HasLocked, HasPlace, InnerStep, IsPlaceOf, MayAsk, RefusesBehind, RefusesEarly, RefusesGranule, RefusesId, RefusesLock, ResumesWait, ServesTxn, CallStep, ResumeStep, aborted, behind_lock, behind_place, commit_ended, lock_outcome, lock_waiting, on_conflict_of, place_outcome, txn_count}
+use Rattle.laws_calls.specs.StateChanges.{CanLog, ComesOfState, FitsAt, MayChange, answered, decision_waiting, committed, wait_refused, begun}
+use Rattle.laws_calls.specs.CallSteps.{AnswersBehind, BeginStep, CallGoesOn, HasGranule, HasLocked, HasPlace, InnerStep, IsPlaceOf, MayAsk, RefusesBehind, RefusesEarly, RefusesGranule, RefusesId, RefusesLock, ResumesWait, ServesTxn, CallStep, ResumeStep, aborted, behind_lock, behind_place, commit_ended, lock_outcome, lock_waiting, on_conflict_of, place_outcome, txn_count, NeedsTxn, listed_in_doubt, prepare_ended}
 use Rattle.laws_calls.specs.Events.{IsStateAfter}
 use Rattle.shore_model.specs.Calls.{IsServed}
 use Rattle.laws_calls.specs.Rollbacks.{TakesCall}
-use Rattle.laws_calls.specs.SessionWaits.{IsCommitWait, IsLockWait}
+use Rattle.laws_calls.specs.SessionWaits.{IsDecisionWait, IsLockWait}
 use Rattle.laws_calls.specs.Victims.{TellsVictim}
-use Rattle.laws_calls.specs.States.{DoesNotWait, HasNoTxn, IsOfSession, State, Waiting, next_number, page_slots}
+use Rattle.laws_calls.specs.States.{DoesNotWait, HasNoTxn, IsOfSession, State, Waiting, next_number, page_slots, HasPrepared}
+use Rattle.shore_model.specs.declared.sessions.SessionState.{SessionState}
+use Rattle.laws_lives.specs.OwnSeats.{IsIn, seat_of}
+use Rattle.laws_lives.specs.Sessions
 
 abbrev pub GoesSomewhere : Geometry → State → SessionTxn → Call → Type 0
 GoesSomewhere g s a c = (step : Step) × (new : State) × CallGoesOn g s a c step new × ComesOfState step
@@ -289,7 +293,7 @@ module _ (g : Geometry) (s : State) (session : ℕ) where
     begin_comes none =
         ⊎_elim
         (λ room. ⊎_elim
-        (λ may. begins (Done (Began s.sessions.next_txn)) (record s { sessions = txn_begun s.sessions session }) (none, room, may, refl, refl) tt)
+        (λ may. begins (Done (Began s.sessions.next_txn)) (begun s session) (none, room, may, refl, refl) tt)
         (λ not. begins (Refused fault.LogFull) s (inr (inr (refl, none, room, not)), refl) (ordinary fault.LogFull tt))
         (both (room_or_not s ENDING_COST) (less_than s.sessions.next_txn LAST_TXN)))
         (λ full. begins (Refused fault.TooManyTransactions) s (inr (inl (refl, none, full)), refl) (ordinary fault.TooManyTransactions tt))
@@ -298,13 +302,25 @@ module _ (g : Geometry) (s : State) (session : ℕ) where
         room_or_full : (n : ℕ) → (n < MAX_TRANSACTIONS) ⊎ (MAX_TRANSACTIONS ≤ n)
         room_or_full n = ⊎_elim (λ full. inr full) (λ room. inl room) (within_or_beyond MAX_TRANSACTIONS n)
 
-    out_of_txn : (c : Call) → HasNoTxn s session → SessionComesTo g s session c
-    out_of_txn call.Begin none = begin_comes none
-    out_of_txn c none = comes_refused c fault.NoTransaction (inr (inr (inr (inr (inl (running, idle, λ e. cc, none, refl, refl)))))) tt
+    out_of_txn : (c : Call) → IsServed c → HasNoTxn s session → SessionComesTo g s session c
+    out_of_txn call.Begin served none = begin_comes none
+    out_of_txn (call.Resolve global outcome) served none = absurd served
+    out_of_txn call.InDoubt served none = absurd served
+    out_of_txn c served none = comes_refused c fault.NoTransaction (inr (inr (inr (inr (inl (running, idle, tt, none, refl, refl)))))) tt
+
+    -- its transaction is prepared
+    prepared_comes : HasPrepared s session → (c : Call) → IsServed c → SessionComesTo g s session c
+    prepared_comes prepared call.Begin served = begins (Refused fault.AlreadyActive) s (inl (refl, not_none), refl) (ordinary fault.AlreadyActive tt)
+      where
+        not_none : HasNoTxn s session → ⊥
+        not_none none = let clash : false ≡ true = sym (ap (λ (p : SessionState). p.prepared) none) ∙ prepared in cc
+    prepared_comes prepared (call.Resolve global outcome) served = absurd served
+    prepared_comes prepared call.InDoubt served = absurd served
+    prepared_comes prepared c served = comes_refused c fault.IsPrepared (inr (inr (inr (inr (inr (inr (inl (running, idle, tt, prepared, refl, refl)))))))) tt
 
     module _ (roomy : IsRoomyState s) (a : SessionTxn) (mine : IsOfSession s session a) where
       inner : (c : Call) (step : Step) (new : State) → InnerStep g s a c step new → ComesOfState step → SessionComesTo g s session c
-      inner c step new h of = (step, new, inr (inr (inr (inr (inr (running, idle, (a, mine, h)))))), of)
+      inner c step new h of = (step, new, inr (inr (inr (inr (inr (inl (running, idle, (a, mine, h))))))), of)
 
       -- no rollback is under way
       module _ (whole : a.undo.rolling ≡ None) where
@@ -331,8 +347,8 @@ module _ (g : Geometry) (s : State) (session : ℕ) where
           (λ less. inner (call.BackTo n) (Done WentBack) (answered s a (call.BackTo n) WentBack s.counts) (inr (inr (inl (n, refl, takes, (less, refl, refl))))) tt)
           (within_or_beyond (length a.undo.marks) n)
 
-      must_abort : (c : Call) → c ≢ call.Begin → (TakesCall a.undo c → ⊥) → SessionComesTo g s session c
-      must_abort c other takes = inner c (Refused fault.MustAbort) s (inl (other, takes, refl, refl)) (ordinary fault.MustAbort tt)
+      must_abort : (c : Call) → NeedsTxn c → (TakesCall a.undo c → ⊥) → SessionComesTo g s session c
+      must_abort c needs takes = inner c (Refused fault.MustAbort) s (inl (needs, takes, refl, refl)) (ordinary fault.MustAbort tt)
 
       -- once a rollback is under way, nothing else is taken than an abort, and the same way back
       taken_back : (n : ℕ) → OrNot (TakesCall a.undo (call.BackTo n))
@@ -363,31 +379,46 @@ module _ (g : Geometry) (s : State) (session : ℕ) where
           ⊎_elim (λ none. let clash : Some r ≡ None = sym rolls ∙ none in cc) (⊎_elim abort (λ on. back on.0 on.2)) takes
 
       in_txn : (c : Call) → IsServed c → SessionComesTo g s session c
-      in_txn call.Begin served = begins (Refused fault.AlreadyActive) s (inl (refl, (a, mine)), refl) (ordinary fault.AlreadyActive tt)
+      in_txn call.Begin served = begins (Refused fault.AlreadyActive) s (inl (refl, in_one s session a mine), refl) (ordinary fault.AlreadyActive tt)
       in_txn call.Abort served = inner call.Abort (Done Aborted) (aborted s a) (inr (inr (inr (refl, (refl, refl))))) tt
-      in_txn (call.BackTo n) served = ⊎_elim (goes_back n) (must_abort (call.BackTo n) (λ e. cc)) (taken_back n)
+      in_txn (call.BackTo n) served = ⊎_elim (goes_back n) (must_abort (call.BackTo n) tt) (taken_back n)
       in_txn call.Commit served = by a.undo.rolling refl
         where
           by : (o : Option Rollback) → a.undo.rolling ≡ o → SessionComesTo g s session call.Commit
           by None whole = inner call.Commit (Waits (Durable (next_number s))) (committed s a) (inr (inl (whole, inr (inr (inl (refl, (refl, refl))))))) tt
-          by (Some r) rolls = must_abort call.Commit (λ e. cc) (not_taken call.Commit r rolls (λ e. cc) (λ n e. cc))
+          by (Some r) rolls = must_abort call.Commit tt (not_taken call.Commit r rolls (λ e. cc) (λ n e. cc))
       in_txn call.Savepoint served = by a.undo.rolling refl
         where
           by : (o : Option Rollback) → a.undo.rolling ≡ o → SessionComesTo g s session call.Savepoint
           by None whole = saves whole
-          by (Some r) rolls = must_abort call.Savepoint (λ e. cc) (not_taken call.Savepoint r rolls (λ e. cc) (λ n e. cc))
+          by (Some r) rolls = must_abort call.Savepoint tt (not_taken call.Savepoint r rolls (λ e. cc) (λ n e. cc))
+      in_txn (call.Resolve global outcome) served = absurd served
+      in_txn call.InDoubt served = absurd served
       in_txn c served = by a.undo.rolling refl
         where
           by : (o : Option Rollback) → a.undo.rolling ≡ o → SessionComesTo g s session c
           by None whole = asks whole c served (λ e. cc) (λ e. cc) (λ none. none)
-          by (Some r) rolls = must_abort c (λ e. cc) (not_taken c r rolls (λ e. cc) (λ n e. cc))
+          by (Some r) rolls = must_abort c tt (not_taken c r rolls (λ e. cc) (λ n e. cc))
 
-  module _ (found : List LogRecord) (es : List Entry) (k : IsStateAfter found es s) (roomy : IsRoomyState s) where
+  module _ (o : Opening) (found : List LogRecord) (es : List Entry) (k : IsStateAfter o found es s) (roomy : IsRoomyState s) where
     pub call_comes_to_something : (c : Call) → IsServed c → SessionComesTo g s session c
     call_comes_to_something c served = by s.failed refl
       where
         no_commit_waits : s.failed ≡ false → DoesNotWait s session → (a : SessionTxn) → IsAmong a s.sessions.committing → a.session ≡ session → ⊥
-        no_commit_waits running idle a committing of = let w = k.waits.all running a committing in idle (commit_waiting a.session w.0) w.1 of
+        no_commit_waits running idle a committing of = let w = k.waits.all running a committing in idle (decision_waiting a.session call.Commit w.0) w.1 of
+
+        in_its : s.failed ≡ false → DoesNotWait s session → (t : ℕ)
+            → IsIn (map seat_of s.sessions.active) (map seat_of s.sessions.committing) (in_doubt_of s.sessions) (resolved_of s.sessions) session t → SessionComesTo g s session c
+        in_its running idle t (inl active) =
+            let a = mapped_one seat_of (session, t) s.sessions.active active.0 in
+            let of : a.0.session ≡ session = ap (λ (x : ℕ × ℕ). x.0) a.2 in
+            let number : a.0.txn ≡ t = ap (λ (x : ℕ × ℕ). x.1) a.2 in
+            let seat = k.sessions.seats.own session t (inl active) in
+            let above = k.sessions.seats.above session t (inl active) in
+            in_txn running idle roomy a.0 ((a.1, ap s.sessions.seats of ∙ seat ∙ ap Sessions.in_txn (sym number), subst (λ n. 0 < n) (sym number) above), of) c served
+        in_its running idle t (inr committing) =
+            let a = mapped_one seat_of (session, t) s.sessions.committing committing in
+            absurd (no_commit_waits running idle a.0 a.1 (ap (λ (x : ℕ × ℕ). x.0) a.2))
 
         by : (b : Bool) → s.failed ≡ b → SessionComesTo g s session c
         by true failed = comes_refused c fault.Failed (inr (inl (failed, refl, refl))) tt
@@ -395,12 +426,21 @@ module _ (g : Geometry) (s : State) (session : ℕ) where
             ⊎_elim
             (λ w. comes_refused c fault.Busy (inr (inr (inl (running, λ idle. idle w.0 w.1 w.2, refl, refl)))) tt)
             (λ idle. ⊎_elim
-            (λ h. ⊎_elim
-            (λ active. in_txn running idle roomy h.0 (active, h.2) c served)
-            (λ committing. absurd (no_commit_waits running idle h.0 committing h.2))
-            h.1)
-            (λ h. out_of_txn running idle c h.0)
-            (is_txn_of s.sessions session))
+            (λ none. out_of_txn running idle c served none)
+            (⊎_elim (λ its. in_its running idle its.0 its.1) (λ doubt. prepared_comes running idle (ap (λ (p : SessionState). p.prepared) doubt.2) c served))
+            (k.sessions.seats.there session))
+            (waits_or_not session s.waiting)
+
+    -- who is in doubt is told to any session
+    pub in_doubt_comes_to_something : SessionComesTo g s session call.InDoubt
+    in_doubt_comes_to_something = by s.failed refl
+      where
+        by : (b : Bool) → s.failed ≡ b → SessionComesTo g s session call.InDoubt
+        by true failed = comes_refused call.InDoubt fault.Failed (inr (inl (failed, refl, refl))) tt
+        by false running =
+            ⊎_elim
+            (λ w. comes_refused call.InDoubt fault.Busy (inr (inr (inl (running, λ idle. idle w.0 w.1 w.2, refl, refl)))) tt)
+            (λ idle. (Done (AreInDoubt (listed_in_doubt s.sessions)), s, inr (inr (inr (inr (inr (inr (inr (running, idle, (refl, (refl, refl))))))))), tt))
             (waits_or_not session s.waiting)
 
     -- ---- resumes
@@ -413,10 +453,13 @@ module _ (g : Geometry) (s : State) (session : ℕ) where
       resumes spared wait is step new h from =
           (step, new, inl (inr (w, there, of, inr (running, subst (λ (x : Wait). ResumesWait g s w x step new) (sym is) h, spared))), from)
 
-      commit_resumes : IsCommitWait (length found) s w → ResumeComes
-      commit_resumes h =
+      decision_resumes : IsDecisionWait (length found) s w → ResumeComes
+      decision_resumes h =
           ⊎_elim
-          (λ durable. resumes spared (Durable h.number) wait_is (Done Committed) (commit_ended s h.txn) (inr (durable, refl, (h.txn, h.committing, session_is, refl))) tt)
+          (λ durable. ⊎_elim
+          (λ c. resumes spared (Durable h.number) wait_is (Done Committed) (commit_ended s c.0) (inr (inl (durable, refl, (c.0, c.1, c.2, refl), c.3))) tt)
+          (λ p. resumes spared (Durable h.number) wait_is (Done Prepared) (prepare_ended s w.session p.0 p.1) (inr (inr (durable, refl, (p.0, p.1, p.2, p.3, refl)))) tt)
+          h.unanswered)
           (λ not_yet. resumes spared (Durable h.number) wait_is (Waits (Durable h.number)) s (inl (not_yet, refl, refl)) tt)
           (within_or_beyond h.number s.durable)
         where
@@ -425,9 +468,6 @@ module _ (g : Geometry) (s : State) (session : ℕ) where
 
           wait_is : w.wait ≡ Durable h.number
           wait_is = ap (λ (x : Waiting). x.wait) h.is
-
-          session_is : h.txn.session ≡ w.session
-          session_is = sym (ap (λ (x : Waiting). x.session) h.is)
 
       lock_resumes : w.cycle ≡ None → IsLockWait s w → ResumeComes
       lock_resumes spared h = by (is_waiting h.txn.txn s.locks.requests) refl
@@ -456,4 +496,4 @@ module _ (g : Geometry) (s : State) (session : ℕ) where
 
         by : (w : Waiting) → IsAmong w s.waiting → w.session ≡ session → (b : Bool) → s.failed ≡ b → ResumeComes
         by w there of true failed = (Refused fault.Failed, wait_refused s w.session, inl (inr (w, there, of, inl (failed, refl, refl))), ordinary fault.Failed tt)
-        by w there of false running = ⊎_elim (commit_resumes w there of running) (λ asks. victim_or_not w there of running asks w.cycle refl) (k.waits.each w there)
+        by w there of false running = ⊎_elim (decision_resumes w there of running) (λ asks. victim_or_not w there of running asks w.cycle refl) (k.waits.each w there)

@@ -50,7 +50,9 @@ module _ (g : Geometry) (s : State) (session : ℕ) (c : Call) where
   its_commit n new (inr (inr (inl h))) = let clash = h.2 in absurd cc
   its_commit n new (inr (inr (inr (inl h)))) = absurd h.3
   its_commit n new (inr (inr (inr (inr (inl h))))) = let clash = h.4 in absurd cc
-  its_commit n new (inr (inr (inr (inr (inr h))))) = commit_in n new h.2.0 h.2.1 h.1 h.2.2
+  its_commit n new (inr (inr (inr (inr (inr (inr (inl h))))))) = let clash = h.4 in absurd cc
+  its_commit n new (inr (inr (inr (inr (inr (inr (inr h))))))) = absurd h.2.1
+  its_commit n new (inr (inr (inr (inr (inr (inl h)))))) = commit_in n new h.2.0 h.2.1 h.1 h.2.2
 
   abbrev waits_with : Wait → Waiting
   waits_with wait = record { session = session; call = c; wait = wait; cycle = None }
@@ -76,7 +78,9 @@ call_waits g s new session c wait (inr (inl h)) = let clash = h.1 in absurd cc
 call_waits g s new session c wait (inr (inr (inl h))) = let clash = h.2 in absurd cc
 call_waits g s new session c wait (inr (inr (inr (inl h)))) = absurd h.3
 call_waits g s new session c wait (inr (inr (inr (inr (inl h))))) = let clash = h.4 in absurd cc
-call_waits g s new session c wait (inr (inr (inr (inr (inr h))))) = inner_waits g s session c wait new h.2.0 h.2.1.1 h.2.2
+call_waits g s new session c wait (inr (inr (inr (inr (inr (inr (inl h))))))) = let clash = h.4 in absurd cc
+call_waits g s new session c wait (inr (inr (inr (inr (inr (inr (inr h))))))) = absurd h.2.1
+call_waits g s new session c wait (inr (inr (inr (inr (inr (inl h)))))) = inner_waits g s session c wait new h.2.0 h.2.1.1 h.2.2
 
 pub its_own_number : (g : Geometry) (s new : State) (session n : ℕ) (c : Call) → CallStep g s session c (Waits (Durable n)) new → n ≡ next_number s
 its_own_number g s new session n c h = (its_commit g s session c n new h).own
@@ -95,7 +99,8 @@ wait_of Nothing other = other
 
 still_in : (g : Geometry) (s new : State) (w : Waiting) (its wait : Wait) → IsAmong w s.waiting → w.wait ≡ its → ResumesWait g s w its (Waits wait) new → StillWaits w.session wait new
 still_in g s new w (Durable n) wait m is (inl h) = subst (StillWaits w.session wait) (sym h.2) (w, m, refl, is ∙ ap (λ (x : Step). wait_of x (Durable n)) (sym h.1))
-still_in g s new w (Durable n) wait m is (inr h) = let clash = h.1 in absurd cc
+still_in g s new w (Durable n) wait m is (inr (inl h)) = let clash = h.1 in absurd cc
+still_in g s new w (Durable n) wait m is (inr (inr h)) = let clash = h.1 in absurd cc
 still_in g s new w (Lock at) wait m is h = ⊎_elim
     (λ still. subst (StillWaits w.session wait) (sym still.2) (w, m, refl, is ∙ ap (λ (x : Step). wait_of x (Lock at)) (sym still.1)))
     (λ free. let on = free.1 in subst (StillWaits w.session wait) (sym on.5) (lock_waiting h.0 w.call on.1, inl refl, h.1.1, sym on.4))
@@ -160,7 +165,8 @@ others_wait s new session is w m = (waits_on session w s.waiting (subst (IsAmong
 
 done_in : (g : Geometry) (s new : State) (w : Waiting) (its : Wait) (answer : Answer) → ResumesWait g s w its (Done answer) new → AreOthers s w.session new
 done_in g s new w (Durable n) answer (inl h) = let clash = h.1 in absurd cc
-done_in g s new w (Durable n) answer (inr h) = ap (λ (x : State). x.waiting) h.2.3 ∙ ap (λ n. (wait_refused s n).waiting) h.2.2
+done_in g s new w (Durable n) answer (inr (inl h)) = ap (λ (x : State). x.waiting) h.2.3 ∙ ap (λ n. (wait_refused s n).waiting) h.2.2
+done_in g s new w (Durable n) answer (inr (inr h)) = ap (λ (x : State). x.waiting) h.2.4
 done_in g s new w (Lock at) answer h = ⊎_elim
     (λ still. let clash = still.1 in absurd cc)
     (λ free. done_leaves g (wait_refused s w.session) h.0 w.call answer new free.1)
@@ -168,7 +174,8 @@ done_in g s new w (Lock at) answer h = ⊎_elim
 
 refused_in : (g : Geometry) (s new : State) (w : Waiting) (its : Wait) (f : Fault) → ResumesWait g s w its (Refused f) new → AreOthers s w.session new
 refused_in g s new w (Durable n) f (inl h) = let clash = h.1 in absurd cc
-refused_in g s new w (Durable n) f (inr h) = let clash = h.1 in absurd cc
+refused_in g s new w (Durable n) f (inr (inl h)) = let clash = h.1 in absurd cc
+refused_in g s new w (Durable n) f (inr (inr h)) = let clash = h.1 in absurd cc
 refused_in g s new w (Lock at) f h = ⊎_elim
     (λ still. let clash = still.1 in absurd cc)
     (λ free. refusing_leaves g (wait_refused s w.session) h.0 w.call f new free.1)

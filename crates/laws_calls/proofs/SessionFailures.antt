@@ -12,6 +12,7 @@ use Rattle.shore_types.specs.declared.locking.Mode.{Mode}
 use Rattle.shore_model.specs.declared.calls.Call.{Call}
 use Rattle.shore_model.specs.declared.calls.Call.TheVariants as call
 use Rattle.shore_model.specs.declared.histories.Entry.{Entry}
+use Rattle.shore_model.specs.declared.histories.Opening.{Opening}
 use Rattle.shore_model.specs.declared.log_records.LogRecord.{LogRecord}
 use Rattle.shore_locks.specs.Orderly.{IsOrderly}
 use Rattle.shore_locks.specs.Tables.{Table, is_waiting}
@@ -120,7 +121,7 @@ begin_fails : (s : State) (session : ℕ) (f : Fault) (new : State) → BeginSte
 begin_fails s session f new h = ⊎_elim (λ one. exactly f fault.AlreadyActive new one.0 tt)
     (λ more. ⊎_elim (λ two. exactly f fault.TooManyTransactions new two.0 tt) (λ three. exactly f fault.LogFull new three.0 tt) more) h.0
 
-module _ (g : Geometry) (found : List LogRecord) (es : List Entry) (s : State) (k : IsStateAfter found es s) where
+module _ (g : Geometry) (o : Opening) (found : List LogRecord) (es : List Entry) (s : State) (k : IsStateAfter o found es s) where
   interrupted_fails : (a : SessionTxn) (r : Rollback) (f : Fault) (new : State) → IsInterrupted s a r f new → Fails f new
   interrupted_fails a r f new h = subst (Fails f) (sym h.3) (after_fails f h.0)
 
@@ -142,13 +143,16 @@ module _ (g : Geometry) (found : List LogRecord) (es : List Entry) (s : State) (
   call_fails session c f new (inr (inr (inl h))) = refused_exactly f fault.Busy new h.2 tt
   call_fails session c f new (inr (inr (inr (inl h)))) = begin_fails s session f new h.3
   call_fails session c f new (inr (inr (inr (inr (inl h))))) = refused_exactly f fault.NoTransaction new h.4 tt
-  call_fails session c f new (inr (inr (inr (inr (inr h))))) =
+  call_fails session c f new (inr (inr (inr (inr (inr (inr (inl h))))))) = refused_exactly f fault.IsPrepared new h.4 tt
+  call_fails session c f new (inr (inr (inr (inr (inr (inr (inr h))))))) = absurd h.2.1
+  call_fails session c f new (inr (inr (inr (inr (inr (inl h)))))) =
       let mem = h.2.1 in
-      inner_fails h.2.0 (k.sessions.locks.waits h.0 h.2.0 mem.0 (λ w m spared same. h.1 w m (same ∙ mem.1))) c f new h.2.2
+      inner_fails h.2.0 (k.sessions.locks.waits h.0 h.2.0 mem.0.0 (λ w m spared same. h.1 w m (same ∙ mem.1))) c f new h.2.2
 
   wait_fails : (w : Waiting) (wait : Wait) (f : Fault) (new : State) → ResumesWait g s w wait (Refused f) new → Fails f new
   wait_fails w (Durable n) f new (inl h) = let clash = h.1 in absurd cc
-  wait_fails w (Durable n) f new (inr h) = let clash = h.1 in absurd cc
+  wait_fails w (Durable n) f new (inr (inl h)) = let clash = h.1 in absurd cc
+  wait_fails w (Durable n) f new (inr (inr h)) = let clash = h.1 in absurd cc
   wait_fails w (Lock at) f new h = ⊎_elim
       (λ still. let clash = still.1 in absurd cc)
       (λ free. on_fails g (wait_refused s w.session) h.0 k.sessions.locks.orderly free.0 w.call f new free.1)

@@ -4,23 +4,24 @@ use Rattle.std.specs.Prelude.{Contains}
 use Rattle.std.specs.List.{AllByRecursion}
 use Rattle.std.proofs.lemmas.List.Elements.{All-weaker}
 use Rattle.shore_types.specs.declared.layout.Geometry.{Geometry}
-use Rattle.shore_model.specs.declared.calls.Answer.TheVariants.{Aborted, Began, Committed}
+use Rattle.shore_model.specs.declared.calls.Answer.TheVariants.{Aborted, Began, Committed, AreInDoubt, Prepared}
 use Rattle.shore_model.specs.declared.calls.Call.TheVariants as call
 use Rattle.shore_model.specs.declared.histories.Decision.TheVariants as decision
 use Rattle.shore_model.specs.declared.histories.Entry.{Entry}
 use Rattle.shore_model.specs.declared.histories.Entry.TheVariants.{Decided, Exchanged}
 use Rattle.shore_model.specs.Histories.{acknowledged}
 use Rattle.laws_lives.specs.LogPrefixes.{decisions_in}
-use Rattle.laws_lives.specs.SessionSteps.{AnswerAbort, AnswerCommit, AppendCommit, BeginTxn, Doom, GiveReply, MoveLocks, PutBack, RefuseCall, SessionEvent, entries_by, exchange}
-use Rattle.laws_lives.specs.Sessions.{SessionTxn}
+use Rattle.laws_lives.specs.SessionSteps.{AnswerAbort, AnswerCommit, AppendCommit, BeginTxn, Doom, GiveReply, MoveLocks, PutBack, RefuseCall, SessionEvent, entries_by, exchange, AnswerInDoubt, AnswerPrepare, AnswerResolve, AppendPrepare, AppendResolve, AppendRollback, EndRollback}
+use Rattle.laws_lives.specs.Sessions.{SessionTxn, in_prepared}
 use Rattle.laws_calls.proofs.Acknowledged.{acknowledges_one, inner_asks_none}
 use Rattle.laws_calls.proofs.Growing.{forced_grown, still_there}
 use Rattle.laws_calls.proofs.Links.{Goes, GoesBy, GoesQuietly, IsLeft, IsQuiet}
 use Rattle.laws_calls.proofs.SessionsWaiting.{goes_on_log}
 use Rattle.laws_calls.specs.CallHistories.{IsForced, IsPrefix, txn_of}
 use Rattle.laws_calls.specs.StateChanges.{committed}
-use Rattle.laws_calls.specs.CallSteps.{aborted, commit_ended}
+use Rattle.laws_calls.specs.CallSteps.{aborted, commit_ended, prepare_ended}
 use Rattle.laws_calls.specs.States.{State}
+use Rattle.shore_model.specs.declared.sessions.SessionState.{SessionState}
 
 -- no entry more
 pub forced_on : (base : ℕ) (es : List Entry) (s new : State) → new.durable ≡ s.durable → IsPrefix s.log new.log → IsForced base es s → IsForced base es new
@@ -55,6 +56,14 @@ event_forced g base es start s new (PutBack a kept e r) quiet h k =
 event_forced g base es start s new (AppendCommit a) quiet h k = absurd quiet
 event_forced g base es start s new (AnswerAbort a) quiet h k = absurd quiet
 event_forced g base es start s new (AnswerCommit a) quiet h k = absurd quiet
+event_forced g base es start s new (AppendPrepare a global granules) quiet h k = absurd quiet
+event_forced g base es start s new (AnswerPrepare session t global) quiet h k = absurd quiet
+event_forced g base es start s new (AppendResolve a global) quiet h k = absurd quiet
+event_forced g base es start s new (AppendRollback a global) quiet h k = absurd quiet
+event_forced g base es start s new (EndRollback a) quiet h k = absurd quiet
+event_forced g base es start s new (AnswerResolve session r) quiet h k = absurd quiet
+event_forced g base es start s new (AnswerInDoubt session t pairs) quiet h k =
+    forced_grown base es (Exchanged session t (exchange call.InDoubt (Ok (AreInDoubt pairs)))) s new h.durable (goes_on_log g s new (AnswerInDoubt session t pairs) h) refl k
 
 by_forced : (g : Geometry) (base : ℕ) (es : List Entry) (start s : State) (events : List SessionEvent) (new : State) (made : List Entry) → AllByRecursion (IsQuiet start) events → GoesBy g s events new made
     → IsForced base es s → IsForced base (es ++ made) new
@@ -91,3 +100,16 @@ module _ (base : ℕ) (es : List Entry) (s : State) (k : IsForced base es s) whe
         acknowledges_one (Contains (decisions_in base (take s.durable s.log))) es k.acknowledged_kept (Exchanged session (txn_of s.sessions session) (exchange call.Commit (Ok Committed)))
         (decision.Commit (txn_of s.sessions session)) refl durable;
   }
+
+  -- so is a prepare
+  pub prepare_forced : (session t : ℕ) (global : List ℕ) → s.sessions.seats session ≡ in_prepared t → Contains (decisions_in base (take s.durable s.log)) (decision.Prepare t global)
+      → IsForced base (es ++ Exchanged session (txn_of s.sessions session) (exchange (call.Prepare global) (Ok Prepared)) ∷ []) (prepare_ended s session t global)
+  prepare_forced session t global seat durable =
+      let number : txn_of s.sessions session ≡ t = ap (λ (p : SessionState). p.txn) seat in
+      record {
+        least = k.least;
+        most = k.most;
+        acknowledged_kept =
+            acknowledges_one (Contains (decisions_in base (take s.durable s.log))) es k.acknowledged_kept (Exchanged session (txn_of s.sessions session) (exchange (call.Prepare global) (Ok Prepared)))
+            (decision.Prepare (txn_of s.sessions session) global) refl (subst (λ u. Contains (decisions_in base (take s.durable s.log)) (decision.Prepare u global)) (sym number) durable);
+      }

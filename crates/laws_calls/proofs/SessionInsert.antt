@@ -23,14 +23,16 @@ use Rattle.laws_room.proofs.Leaving.{same_page}
 use Rattle.laws_room.specs.Claims.{Grows, SlotCounts}
 use Rattle.laws_room.specs.LogRooms.{image_cost}
 use Rattle.laws_lives.proofs.Ids.{put_here}
-use Rattle.laws_lives.specs.Sessions.{SessionTxn, txn_begun}
+use Rattle.laws_lives.specs.Sessions.{SessionTxn}
 use Rattle.laws_lives.specs.UndoLists.{nothing_to_undo, with_before_image}
 use Rattle.laws_calls.specs.CallHistories.{IsOpened}
 use Rattle.laws_calls.specs.Events.{Called, Forced, Resumed, EventMoves, MovesMaking, entries_of}
-use Rattle.laws_calls.specs.StateChanges.{FitsAt, MayChange, answered, commit_waiting, committed, with_durable}
+use Rattle.laws_calls.specs.StateChanges.{FitsAt, MayChange, answered, decision_waiting, committed, with_durable, begun}
 use Rattle.laws_calls.specs.CallSteps.{HasLocked, HasPlace, IsPlaceOf, behind_lock, behind_place, commit_ended}
 use Rattle.laws_calls.specs.States.{State}
 use Rattle.laws_calls.specs.WorkedRun.{first_id, first_page, one_insert, opened_empty}
+use Rattle.laws_lives.specs.Soundness.{opening_with}
+use Rattle.laws_calls.proofs.EmptyOpens.{empty_is_opened}
 
 -- one slot on the first page
 abbrev one_if : Bool → ℕ
@@ -45,7 +47,7 @@ module _ (g : Geometry) (stream_bytes : ℕ) (bytes : List ℕ) (store : HasStor
   s0 = opened_empty stream_bytes
 
   abbrev s1 : State
-  s1 = record s0 { sessions = txn_begun s0.sessions 1 }
+  s1 = begun s0 1
 
   abbrev a1 : SessionTxn
   a1 = record { session = 1; txn = 1; undo = nothing_to_undo }
@@ -75,16 +77,8 @@ module _ (g : Geometry) (stream_bytes : ℕ) (bytes : List ℕ) (store : HasStor
   abbrev s5 : State
   s5 = commit_ended s4 a2
 
-  is_opened : IsOpened [] s0
-  is_opened = record {
-    just = record { records = refl; active = refl; committing = refl; held = refl; some = omega arith };
-    log = refl;
-    above = tt;
-    least = λ n some above. omega arith;
-    durable = refl;
-    waiting = refl;
-    running = refl;
-  }
+  is_opened : IsOpened (opening_with empty) [] s0
+  is_opened = empty_is_opened stream_bytes
 
   fits : FitsAt with_store first_id (Some bytes)
   fits = record { there = omega arith; most = short; room = omega arith }
@@ -112,7 +106,7 @@ module _ (g : Geometry) (stream_bytes : ℕ) (bytes : List ℕ) (store : HasStor
   may = let before = ap image_cost nothing_there in record { fits = fits; logs = (omega arith, omega arith); grows = grows }
 
   begins : EventMoves g s0 (Called 1 call.Begin (Done (Began 1))) s1
-  begins = (tt, at_once g s0 1 call.Begin (Done (Began 1)) s1 (inr (inr (inr (inl (refl, λ w m. absurd m, refl, (λ a y. ⊎_elim (λ m. absurd m) (λ m. absurd m) y, omega arith, ((omega arith, omega arith), omega arith), refl, refl)))))) tt)
+  begins = (tt, at_once g s0 1 call.Begin (Done (Began 1)) s1 (inr (inr (inr (inl (refl, λ w m. absurd m, refl, (refl, omega arith, ((omega arith, omega arith), omega arith), refl, refl)))))) tt)
 
   -- both locks are free
   has_store : HasLocked s1 a1 (call.Insert 0 bytes) with_store
@@ -124,24 +118,24 @@ module _ (g : Geometry) (stream_bytes : ℕ) (bytes : List ℕ) (store : HasStor
   inserts : EventMoves g s1 (Called 1 (call.Insert 0 bytes) (Done (Inserted first_id))) s2
   inserts = (
     tt,
-    at_once g s1 1 (call.Insert 0 bytes) (Done (Inserted first_id)) s2 (inr (inr (inr (inr (inr (refl, λ w m. absurd m, (a1, (inl refl, refl), inr (inl (refl, inr (inl ((short, store), (with_store, has_store, (first_id, has_place, refl, (one_slot, may, refl)))))))))))))) tt,
+    at_once g s1 1 (call.Insert 0 bytes) (Done (Inserted first_id)) s2 (inr (inr (inr (inr (inr (inl (refl, λ w m. absurd m, (a1, ((inl refl, refl, omega arith), refl), inr (inl (refl, inr (inl ((short, store), (with_store, has_store, (first_id, has_place, refl, (one_slot, may, refl))))))))))))))) tt,
   )
 
   commits : EventMoves g s2 (Called 1 call.Commit (Waits (Durable 2))) s3
-  commits = (tt, at_once g s2 1 call.Commit (Waits (Durable 2)) s3 (inr (inr (inr (inr (inr (refl, λ w m. absurd m, (a2, (inl refl, refl), inr (inl (refl, inr (inr (inl (refl, (refl, refl))))))))))))) tt)
+  commits = (tt, at_once g s2 1 call.Commit (Waits (Durable 2)) s3 (inr (inr (inr (inr (inr (inl (refl, λ w m. absurd m, (a2, ((inl refl, refl, omega arith), refl), inr (inl (refl, inr (inr (inl (refl, (refl, refl)))))))))))))) tt)
 
   forces : EventMoves g s3 (Forced 2) s4
   forces = (omega arith, omega arith, refl)
 
   answers : EventMoves g s4 (Resumed 1 (Done Committed)) s5
-  answers = resumed_at_once g s4 1 (Done Committed) s5 (inr (commit_waiting 1 2, inl refl, refl, inr (refl, inr (omega arith, refl, (a2, inl refl, refl, refl)), refl))) tt
+  answers = resumed_at_once g s4 1 (Done Committed) s5 (inr (decision_waiting 1 call.Commit 2, inl refl, refl, inr (refl, inr (inl (omega arith, refl, (a2, inl refl, refl, refl), refl)), refl))) tt
 
   abbrev made : List Entry
   made =
       entries_of s0 (Called 1 call.Begin (Done (Began 1))) ++ entries_of s1 (Called 1 (call.Insert 0 bytes) (Done (Inserted first_id)))
       ++ entries_of s2 (Called 1 call.Commit (Waits (Durable 2))) ++ entries_of s3 (Forced 2) ++ entries_of s4 (Resumed 1 (Done Committed)) ++ []
 
-  pub session_comes_through : (last : State) × (made : List Entry) × IsOpened [] (opened_empty stream_bytes)
+  pub session_comes_through : (last : State) × (made : List Entry) × IsOpened (opening_with empty) [] (opened_empty stream_bytes)
       × MovesMaking g (opened_empty stream_bytes) (one_insert bytes) last made
       × (get last.sessions.records first_id ≡ Some bytes) × (acknowledged made ≡ decision.Commit 1 ∷ [])
   session_comes_through = (

@@ -1,5 +1,5 @@
 -- What stands behind a step of a session: its transaction, and the lock that its call has.
-use Rattle.std.proofs.Common.{◌≡◌, ◌≢◌, ◌⊎◌, inl, inr, ⊎_elim, ℕ, List, false, None, Some, refl, sym, ap, subst, Ok, Err}
+use Rattle.std.proofs.Common.{◌≡◌, ◌≢◌, ◌⊎◌, inl, inr, ⊎_elim, ℕ, List, false, None, Some, sym, ap, subst, Ok, Err}
 use Rattle.std.specs.Prelude.{Option}
 use Rattle.shore_types.specs.declared.faults.Fault.{Fault}
 use Rattle.shore_types.specs.declared.faults.Fault.TheVariants as fault
@@ -17,7 +17,7 @@ use Rattle.shore_model.specs.declared.step.Step.{Step}
 use Rattle.shore_model.specs.declared.step.Step.TheVariants.{Done, Refused, Waits}
 use Rattle.shore_model.specs.declared.step.Wait.{Wait}
 use Rattle.shore_model.specs.declared.step.Wait.TheVariants.{Durable, Lock}
-use Rattle.laws_calls.specs.CallSteps.{AbortStep, AnswersBehind, BeginStep, CommitStep, CallGoesOn, InnerStep, MayAsk, RefusesBehind, RefusesEarly, CallStep, behind_lock, lock_outcome}
+use Rattle.laws_calls.specs.CallSteps.{AbortStep, AnswersBehind, BeginStep, CommitStep, CallGoesOn, InnerStep, MayAsk, RefusesBehind, RefusesEarly, CallStep, behind_lock, lock_outcome, NeedsTxn}
 use Rattle.laws_calls.specs.Rollbacks.{BackToStep, IsInterrupted, SavepointStep, TakesCall}
 use Rattle.laws_calls.specs.Shapes.{rollback_of, store_lock}
 use Rattle.laws_calls.specs.StateChanges.{IsPageFault}
@@ -40,6 +40,13 @@ same_fault f h e = cc
 -- a begin asks for no lock
 pub asks_no_begin : (c : Call) (lock : Asked) → lock_asked_by c ≡ Some lock → c ≢ call.Begin
 asks_no_begin c lock asks e = let clash : lock_asked_by call.Begin ≡ Some lock = subst (λ (c : Call). lock_asked_by c ≡ Some lock) e asks in absurd cc
+
+-- what asks for a lock needs a transaction
+pub asks_in_txn : (c : Call) (lock : Asked) → lock_asked_by c ≡ Some lock → NeedsTxn c
+asks_in_txn call.Begin lock asks = absurd cc
+asks_in_txn (call.Resolve global outcome) lock asks = absurd cc
+asks_in_txn call.InDoubt lock asks = absurd cc
+asks_in_txn _ lock asks = tt
 
 -- a call asks for one lock, an insert for that of its store
 pub same_lock : (o : Option Asked) (x y : Asked) → o ≡ Some x → o ≡ Some y → x ≡ y
@@ -102,13 +109,15 @@ module _ (g : Geometry) (s : State) (a : SessionTxn) (c : Call) (new : State) wh
   }
 
 module _ (g : Geometry) (s new : State) (session : ℕ) where
-  pub answered_in : (c : Call) (answer : Answer) → c ≢ call.Begin → (IsLockless c → ⊥) → CallStep g s session c (Done answer) new → AnsweredIn g s session c answer new
-  answered_in c answer other locks (inl h) = absurd (no_done_refused answer fault.Memory h.0)
-  answered_in c answer other locks (inr (inl h)) = absurd (no_done_refused answer fault.Failed h.1)
-  answered_in c answer other locks (inr (inr (inl h))) = absurd (no_done_refused answer fault.Busy h.2)
-  answered_in c answer other locks (inr (inr (inr (inl h)))) = absurd (other h.2)
-  answered_in c answer other locks (inr (inr (inr (inr (inl h))))) = absurd (no_done_refused answer fault.NoTransaction h.4)
-  answered_in c answer other locks (inr (inr (inr (inr (inr h))))) = inner h.2.2
+  pub answered_in : (c : Call) (answer : Answer) → NeedsTxn c → (IsLockless c → ⊥) → CallStep g s session c (Done answer) new → AnsweredIn g s session c answer new
+  answered_in c answer needs locks (inl h) = absurd (no_done_refused answer fault.Memory h.0)
+  answered_in c answer needs locks (inr (inl h)) = absurd (no_done_refused answer fault.Failed h.1)
+  answered_in c answer needs locks (inr (inr (inl h))) = absurd (no_done_refused answer fault.Busy h.2)
+  answered_in c answer needs locks (inr (inr (inr (inl h)))) = absurd (subst NeedsTxn h.2 needs)
+  answered_in c answer needs locks (inr (inr (inr (inr (inl h))))) = absurd (no_done_refused answer fault.NoTransaction h.4)
+  answered_in c answer needs locks (inr (inr (inr (inr (inr (inr (inl h))))))) = absurd (no_done_refused answer fault.IsPrepared h.4)
+  answered_in c answer needs locks (inr (inr (inr (inr (inr (inr (inr h))))))) = absurd (subst NeedsTxn h.2.0 needs)
+  answered_in c answer needs locks (inr (inr (inr (inr (inr (inl h)))))) = inner h.2.2
     where
       inner : InnerStep g s h.2.0 c (Done answer) new → AnsweredIn g s session c answer new
       inner (inl x) = absurd (no_done_refused answer fault.MustAbort x.2)
@@ -120,17 +129,19 @@ module _ (g : Geometry) (s new : State) (session : ℕ) where
       inner (inr (inr (inr x))) = absurd (locks (subst IsLockless (sym x.0) tt))
 
   -- whatever is answered to a transaction
-  pub answered_of : (c : Call) (answer : Answer) → c ≢ call.Begin → CallStep g s session c (Done answer) new → (a : SessionTxn) × IsOfSession s session a × InnerStep g s a c (Done answer) new
-  answered_of c answer other (inl h) = absurd (no_done_refused answer fault.Memory h.0)
-  answered_of c answer other (inr (inl h)) = absurd (no_done_refused answer fault.Failed h.1)
-  answered_of c answer other (inr (inr (inl h))) = absurd (no_done_refused answer fault.Busy h.2)
-  answered_of c answer other (inr (inr (inr (inl h)))) = absurd (other h.2)
-  answered_of c answer other (inr (inr (inr (inr (inl h))))) = absurd (no_done_refused answer fault.NoTransaction h.4)
-  answered_of c answer other (inr (inr (inr (inr (inr h))))) = (h.2.0, h.2.1, h.2.2)
+  pub answered_of : (c : Call) (answer : Answer) → NeedsTxn c → CallStep g s session c (Done answer) new → (a : SessionTxn) × IsOfSession s session a × InnerStep g s a c (Done answer) new
+  answered_of c answer needs (inl h) = absurd (no_done_refused answer fault.Memory h.0)
+  answered_of c answer needs (inr (inl h)) = absurd (no_done_refused answer fault.Failed h.1)
+  answered_of c answer needs (inr (inr (inl h))) = absurd (no_done_refused answer fault.Busy h.2)
+  answered_of c answer needs (inr (inr (inr (inl h)))) = absurd (subst NeedsTxn h.2 needs)
+  answered_of c answer needs (inr (inr (inr (inr (inl h))))) = absurd (no_done_refused answer fault.NoTransaction h.4)
+  answered_of c answer needs (inr (inr (inr (inr (inr (inr (inl h))))))) = absurd (no_done_refused answer fault.IsPrepared h.4)
+  answered_of c answer needs (inr (inr (inr (inr (inr (inr (inr h))))))) = absurd (subst NeedsTxn h.2.0 needs)
+  answered_of c answer needs (inr (inr (inr (inr (inr (inl h)))))) = (h.2.0, h.2.1, h.2.2)
 
   pub saved_in : (answer : Answer) → CallStep g s session call.Savepoint (Done answer) new
       → (a : SessionTxn) × IsOfSession s session a × (a.undo.rolling ≡ None) × SavepointStep s a (Done answer) new
-  saved_in answer h = let t = answered_of call.Savepoint answer (λ e. cc) h in let how = by t.0 t.2 in (t.0, t.1, how.0, how.1)
+  saved_in answer h = let t = answered_of call.Savepoint answer tt h in let how = by t.0 t.2 in (t.0, t.1, how.0, how.1)
     where
       by : (a : SessionTxn) → InnerStep g s a call.Savepoint (Done answer) new → (a.undo.rolling ≡ None) × SavepointStep s a (Done answer) new
       by a (inl x) = absurd (no_done_refused answer fault.MustAbort x.2)
@@ -146,7 +157,7 @@ module _ (g : Geometry) (s new : State) (session : ℕ) where
 
   pub went_back_in : (n : ℕ) (answer : Answer) → CallStep g s session (call.BackTo n) (Done answer) new
       → (a : SessionTxn) × IsOfSession s session a × TakesCall a.undo (call.BackTo n) × BackToStep s a n (Done answer) new
-  went_back_in n answer h = let t = answered_of (call.BackTo n) answer (λ e. cc) h in let how = by t.0 t.2 in (t.0, t.1, how.0, how.1)
+  went_back_in n answer h = let t = answered_of (call.BackTo n) answer tt h in let how = by t.0 t.2 in (t.0, t.1, how.0, how.1)
     where
       by : (a : SessionTxn) → InnerStep g s a (call.BackTo n) (Done answer) new → TakesCall a.undo (call.BackTo n) × BackToStep s a n (Done answer) new
       by a (inl x) = absurd (no_done_refused answer fault.MustAbort x.2)
@@ -158,7 +169,7 @@ module _ (g : Geometry) (s new : State) (session : ℕ) where
       by a (inr (inr (inr x))) = let clash = x.0 in absurd cc
 
   pub aborted_in : (answer : Answer) → CallStep g s session call.Abort (Done answer) new → (a : SessionTxn) × IsOfSession s session a × AbortStep s a (Done answer) new
-  aborted_in answer h = let t = answered_of call.Abort answer (λ e. cc) h in (t.0, t.1, by t.0 t.2)
+  aborted_in answer h = let t = answered_of call.Abort answer tt h in (t.0, t.1, by t.0 t.2)
     where
       by : (a : SessionTxn) → InnerStep g s a call.Abort (Done answer) new → AbortStep s a (Done answer) new
       by a (inl x) = absurd (no_done_refused answer fault.MustAbort x.2)
@@ -175,11 +186,13 @@ module _ (g : Geometry) (s new : State) (session : ℕ) where
   begun_in answer (inr (inl h)) = absurd (no_done_refused answer fault.Failed h.1)
   begun_in answer (inr (inr (inl h))) = absurd (no_done_refused answer fault.Busy h.2)
   begun_in answer (inr (inr (inr (inl h)))) = (h.0, h.1, h.3)
-  begun_in answer (inr (inr (inr (inr (inl h))))) = absurd (h.2 refl)
-  begun_in answer (inr (inr (inr (inr (inr h))))) = absurd (no_begin_inside h.2.0 (Done answer) h.2.2)
+  begun_in answer (inr (inr (inr (inr (inl h))))) = absurd h.2
+  begun_in answer (inr (inr (inr (inr (inr (inr (inl h))))))) = absurd h.2
+  begun_in answer (inr (inr (inr (inr (inr (inr (inr h))))))) = let clash : call.Begin ≡ call.InDoubt = h.2.0 in absurd cc
+  begun_in answer (inr (inr (inr (inr (inr (inl h)))))) = absurd (no_begin_inside h.2.0 (Done answer) h.2.2)
     where
       no_begin_inside : (a : SessionTxn) (step : Step) → InnerStep g s a call.Begin step new → ⊥
-      no_begin_inside a step (inl x) = x.0 refl
+      no_begin_inside a step (inl x) = x.0
       no_begin_inside a step (inr (inl (whole, inl x))) = x.1
       no_begin_inside a step (inr (inl (whole, inr (inl x)))) = x.0
       no_begin_inside a step (inr (inl (whole, inr (inr (inl x))))) = let clash = x.0 in cc
@@ -194,7 +207,9 @@ module _ (g : Geometry) (s new : State) (session : ℕ) where
   answered_running c answer (inr (inr (inl h))) = absurd (no_done_refused answer fault.Busy h.2)
   answered_running c answer (inr (inr (inr (inl h)))) = (h.0, h.1)
   answered_running c answer (inr (inr (inr (inr (inl h))))) = (h.0, h.1)
-  answered_running c answer (inr (inr (inr (inr (inr h))))) = (h.0, h.1)
+  answered_running c answer (inr (inr (inr (inr (inr (inr (inl h))))))) = (h.0, h.1)
+  answered_running c answer (inr (inr (inr (inr (inr (inr (inr h))))))) = (h.0, h.1)
+  answered_running c answer (inr (inr (inr (inr (inr (inl h)))))) = (h.0, h.1)
 
   -- ---- calls that wait
 
@@ -213,7 +228,9 @@ module _ (g : Geometry) (s new : State) (session : ℕ) where
   waits_in c wait (inr (inr (inl h))) = absurd (no_waits_refused wait fault.Busy h.2)
   waits_in c wait (inr (inr (inr (inl h)))) = absurd h.3
   waits_in c wait (inr (inr (inr (inr (inl h))))) = absurd (no_waits_refused wait fault.NoTransaction h.4)
-  waits_in c wait (inr (inr (inr (inr (inr h))))) = let k = how h.2.2 in record { running = h.0; idle = h.1; txn = h.2.0; of = h.2.1; whole = k.0; how = k.1 }
+  waits_in c wait (inr (inr (inr (inr (inr (inr (inl h))))))) = absurd (no_waits_refused wait fault.IsPrepared h.4)
+  waits_in c wait (inr (inr (inr (inr (inr (inr (inr h))))))) = absurd h.2.1
+  waits_in c wait (inr (inr (inr (inr (inr (inl h)))))) = let k = how h.2.2 in record { running = h.0; idle = h.1; txn = h.2.0; of = h.2.1; whole = k.0; how = k.1 }
     where
       how : InnerStep g s h.2.0 c (Waits wait) new
           → (h.2.0.undo.rolling ≡ None) × ((MayAsk g c × CallGoesOn g s h.2.0 c (Waits wait) new) ⊎ ((c ≡ call.Commit) × CommitStep s h.2.0 (Waits wait) new))
@@ -236,6 +253,7 @@ IsOwn fault.NoTransaction = ⊥
 IsOwn fault.MustAbort = ⊥
 IsOwn fault.TooManySavepoints = ⊥
 IsOwn fault.NoSavepoint = ⊥
+IsOwn fault.IsPrepared = ⊥
 IsOwn _ = Unit {0}
 
 not_own : (f h : Fault) → IsOwn f → (IsOwn h → ⊥) → f ≡ h → ⊥
@@ -267,7 +285,9 @@ module _ (g : Geometry) (s new : State) (session : ℕ) where
   refused_in c f own other none (inr (inr (inl h))) = absurd (not_own f fault.Busy own (λ x. x) (same_fault f fault.Busy h.2))
   refused_in c f own other none (inr (inr (inr (inl h)))) = absurd (other h.2)
   refused_in c f own other none (inr (inr (inr (inr (inl h))))) = absurd (not_own f fault.NoTransaction own (λ x. x) (same_fault f fault.NoTransaction h.4))
-  refused_in c f own other none (inr (inr (inr (inr (inr h))))) = record { running = h.0; idle = h.1; txn = h.2.0; of = h.2.1; from = from h.2.2 }
+  refused_in c f own other none (inr (inr (inr (inr (inr (inr (inl h))))))) = absurd (not_own f fault.IsPrepared own (λ x. x) (same_fault f fault.IsPrepared h.4))
+  refused_in c f own other none (inr (inr (inr (inr (inr (inr (inr h))))))) = absurd h.2.1
+  refused_in c f own other none (inr (inr (inr (inr (inr (inl h)))))) = record { running = h.0; idle = h.1; txn = h.2.0; of = h.2.1; from = from h.2.2 }
     where
       goes : MayAsk g c → CallGoesOn g s h.2.0 c (Refused f) new → RefusedFrom g s h.2.0 c f new
       goes may (inl x) = absurd (not_own f fault.Memory own (λ x. x) x.0)
@@ -322,7 +342,9 @@ module _ (g : Geometry) (s new : State) (session : ℕ) where
   interrupted_in c r f is own (inr (inr (inl h))) = absurd (not_own f fault.Busy own (λ x. x) (same_fault f fault.Busy h.2))
   interrupted_in c r f is own (inr (inr (inr (inl h)))) = absurd (no_begin_rolls c r is h.2)
   interrupted_in c r f is own (inr (inr (inr (inr (inl h))))) = absurd (not_own f fault.NoTransaction own (λ x. x) (same_fault f fault.NoTransaction h.4))
-  interrupted_in c r f is own (inr (inr (inr (inr (inr h))))) = record { running = h.0; idle = h.1; txn = h.2.0; of = h.2.1; how = how h.2.2 }
+  interrupted_in c r f is own (inr (inr (inr (inr (inr (inr (inl h))))))) = absurd (not_own f fault.IsPrepared own (λ x. x) (same_fault f fault.IsPrepared h.4))
+  interrupted_in c r f is own (inr (inr (inr (inr (inr (inr (inr h))))))) = absurd h.2.1
+  interrupted_in c r f is own (inr (inr (inr (inr (inr (inl h)))))) = record { running = h.0; idle = h.1; txn = h.2.0; of = h.2.1; how = how h.2.2 }
     where
       how : InnerStep g s h.2.0 c (Refused f) new → IsInterrupted s h.2.0 r f new
       how (inl x) = absurd (not_own f fault.MustAbort own (λ x. x) (same_fault f fault.MustAbort x.2))

@@ -1,18 +1,17 @@
 -- Each step of a session keeps the room of pages and log.
-use Rattle.std.proofs.Common.{◌++◌, ◌∷◌, ℕ, List, [], sym, ap, subst, length}
+use Rattle.std.proofs.Common.{◌++◌, ◌∷◌, ℕ, List, [], sym, ap, subst, length, ◌≡◌, ◌∙◌, refl, map}
 use Rattle.shore_types.specs.declared.layout.Geometry.{Geometry}
 use Rattle.shore_types.specs.declared.layout.TheConstants.{LONGEST_FRAME}
 use Rattle.shore_model.specs.declared.calls.Call.{Call}
 use Rattle.shore_model.specs.declared.histories.Entry.{Entry}
+use Rattle.shore_model.specs.declared.histories.Opening.{Opening}
 use Rattle.shore_model.specs.declared.log_records.LogRecord.{LogRecord}
-use Rattle.shore_model.specs.Records.{Records}
 use Rattle.laws_room.proofs.LogRooms.{event_room}
 use Rattle.laws_room.proofs.Undone.{event_claims}
 use Rattle.laws_room.specs.Claims.{Claimed}
 use Rattle.laws_room.specs.LogRooms.{HasLogRoom}
-use Rattle.laws_lives.specs.LogTells.{records_committed}
 use Rattle.laws_lives.specs.SessionSteps.{SessionEvent, entries_by}
-use Rattle.laws_lives.specs.Sessions.{Sessions}
+use Rattle.laws_lives.specs.Sessions.{Sessions, EachOnce, PreparedTxn, in_doubt_of, pairs_of}
 use Rattle.shore_model.specs.declared.step.Step.{Step}
 use Rattle.laws_calls.proofs.Comings.{goes_keeps, like_keeps, session_call_comes, session_resume_comes}
 use Rattle.laws_calls.proofs.Links.{ComesBy, Goes, GoesBy, IsLike}
@@ -26,17 +25,34 @@ use Rattle.laws_calls.specs.CallSteps.{CallStep, ResumeStep}
 use Rattle.laws_calls.specs.LockedStates.{entries_of_call}
 use Rattle.laws_calls.specs.Settling.{SettledCall, SettledResume}
 use Rattle.laws_calls.specs.States.{State, cost_of_log, log_room}
+use Rattle.laws_lives.proofs.DoubtsShown.{doubts_once}
+use Rattle.laws_lives.specs.Doubts.{LoggedDoubt, doubts_in, pair_logged}
 
-pub goes_roomy : (base : ℕ) (o : Records) (es : List Entry) (g : Geometry) (s new : State) (e : SessionEvent) → AreSessionsAfter base o es s.sessions s.log → IsRoomyState s → Goes g s e new
+-- none is in doubt twice
+doubts_apart : {base : ℕ} {o : Opening} {es : List Entry} {s : Sessions} {log : List LogRecord} → AreSessionsAfter base o es s log → EachOnce (in_doubt_of s)
+doubts_apart {base} {o} {es} {s} {log} k = subst EachOnce same (doubts_once log k.whole.lawful)
+  where
+    txns_of_pairs : (ds : List LoggedDoubt) → map (λ (p : ℕ × List ℕ). p.0) (map pair_logged ds) ≡ map (λ (d : LoggedDoubt). d.txn) ds
+    txns_of_pairs [] = refl
+    txns_of_pairs (d ∷ ds) = ap (λ ts. d.txn ∷ ts) (txns_of_pairs ds)
+
+    txns_of_prepared : (ps : List PreparedTxn) → map (λ (p : ℕ × List ℕ). p.0) (pairs_of ps) ≡ map (λ (p : PreparedTxn). p.txn) ps
+    txns_of_prepared [] = refl
+    txns_of_prepared (p ∷ ps) = ap (λ ts. p.txn ∷ ts) (txns_of_prepared ps)
+
+    same : map (λ (d : LoggedDoubt). d.txn) (doubts_in log) ≡ in_doubt_of s
+    same = sym (txns_of_pairs (doubts_in log)) ∙ ap (map (λ (p : ℕ × List ℕ). p.0)) k.doubts.in_doubt ∙ txns_of_prepared s.prepared
+
+pub goes_roomy : (base : ℕ) (o : Opening) (es : List Entry) (g : Geometry) (s new : State) (e : SessionEvent) → AreSessionsAfter base o es s.sessions s.log → IsRoomyState s → Goes g s e new
     → IsRoomyState new
 goes_roomy base o es g s new e k roomy h =
-    let room = event_room LONGEST_FRAME within s.sessions (log_room s) roomy.log k.agree.once e new.sessions h.room.room h.moves h.admits h.room.after in
+    let room = event_room LONGEST_FRAME within s.sessions (log_room s) roomy.log k.agree.once (doubts_apart k) e new.sessions h.room.room h.moves h.admits h.room.after in
     record {
       pages = event_claims k.sound s.counts roomy.pages e new.sessions new.counts h.moves h.fits;
       log = as_log_room new h.room.room room h.room.kept h.room.stream h.room.last;
     }
 
-by_roomy : (base : ℕ) (o : Records) (es : List Entry) (g : Geometry) (s : State) (events : List SessionEvent) (new : State) (made : List Entry) → AreSessionsAfter base o es s.sessions s.log
+by_roomy : (base : ℕ) (o : Opening) (es : List Entry) (g : Geometry) (s : State) (events : List SessionEvent) (new : State) (made : List Entry) → AreSessionsAfter base o es s.sessions s.log
     → IsRoomyState s → GoesBy g s events new made → IsRoomyState new
 by_roomy base o es g s [] new made k roomy h = subst IsRoomyState (sym h.0) roomy
 by_roomy base o es g s (e ∷ events) new made k roomy h =
@@ -49,27 +65,27 @@ like_roomy s t h roomy = record {
       subst (Claimed t.sessions.records t.sessions.active) (sym h.counts)
       (subst (λ (x : Sessions). Claimed x.records x.active s.counts) (sym h.sessions) roomy.pages);
   log =
-      as_log_room t (log_room s) (subst (λ (x : Sessions). HasLogRoom LONGEST_FRAME x.active (log_room s)) (sym h.sessions) roomy.log) (ap cost_of_log (sym h.log)) (sym h.stream) (ap length (sym h.log));
+      as_log_room t (log_room s) (subst (λ (x : Sessions). HasLogRoom LONGEST_FRAME (length x.prepared) x.active (log_room s)) (sym h.sessions) roomy.log) (ap cost_of_log (sym h.log)) (sym h.stream) (ap length (sym h.log));
 }
 
-module _ (found : List LogRecord) (es : List Entry) (s : State) (k : IsStateAfter found es s) (roomy : IsRoomyState s) where
+module _ (o : Opening) (found : List LogRecord) (es : List Entry) (s : State) (k : IsStateAfter o found es s) (roomy : IsRoomyState s) where
   pub comes_roomy : (g : Geometry) (new : State) (made : List Entry) → ComesBy g s new made → IsRoomyState new
   comes_roomy g new made h =
       like_roomy h.mid new h.after
-      (by_roomy (length found) (records_committed found) es g h.start h.events h.mid made
-      (like_keeps (length found) (records_committed found) es s h.start h.before (sessions_of found es s k.sessions)) (like_roomy s h.start h.before roomy) h.goes)
+      (by_roomy (length found) o es g h.start h.events h.mid made
+      (like_keeps (length found) o es s h.start h.before (sessions_of o found es s k.sessions)) (like_roomy s h.start h.before roomy) h.goes)
 
   pub session_call_roomy : (g : Geometry) (session : ℕ) (c : Call) (step : Step) (new : State) → CallStep g s session c step new → IsRoomyState new
-  session_call_roomy g session c step new h = comes_roomy g new (entries_of_call s session c step) (session_call_comes g found es s k session c step new h)
+  session_call_roomy g session c step new h = comes_roomy g new (entries_of_call s session c step) (session_call_comes g o found es s k session c step new h)
 
   pub session_resume_roomy : (g : Geometry) (session : ℕ) (step : Step) (new : State) → ResumeStep g s session step new → IsRoomyState new
-  session_resume_roomy g session step new h = comes_roomy g new (entries_of_resume s session step) (session_resume_comes g found es s k session step new h)
+  session_resume_roomy g session step new h = comes_roomy g new (entries_of_resume s session step) (session_resume_comes g o found es s k session step new h)
 
   pub settled_call_roomy : (g : Geometry) (session : ℕ) (c : Call) (step : Step) (new : State) → SettledCall g s session c step new → IsRoomyState new
-  settled_call_roomy g session c step new h = comes_roomy g new (entries_of_call s session c step) (settled_call_comes g found es s k session c step new h)
+  settled_call_roomy g session c step new h = comes_roomy g new (entries_of_call s session c step) (settled_call_comes g o found es s k session c step new h)
 
   pub settled_resume_roomy : (g : Geometry) (session : ℕ) (step : Step) (new : State) → SettledResume g s session step new → IsRoomyState new
-  settled_resume_roomy g session step new h = comes_roomy g new (entries_of_resume s session step) (settled_resume_comes g found es s k session step new h)
+  settled_resume_roomy g session step new h = comes_roomy g new (entries_of_resume s session step) (settled_resume_comes g o found es s k session step new h)
 
   pub session_event_roomy : (g : Geometry) (new : State) (e : ManagerEvent) → EventMoves g s e new → IsRoomyState new
-  session_event_roomy g new e h = comes_roomy g new (entries_of s e) (session_event_comes g found es s k new e h)
+  session_event_roomy g new e h = comes_roomy g new (entries_of s e) (session_event_comes g o found es s k new e h)

@@ -20,19 +20,21 @@ use Rattle.laws_room.proofs.Leaving.{same_page}
 use Rattle.laws_room.specs.Claims.{Grows, SlotCounts}
 use Rattle.laws_room.specs.LogRooms.{image_cost}
 use Rattle.laws_lives.proofs.Ids.{put_here}
-use Rattle.laws_lives.specs.Sessions.{SessionTxn, txn_begun}
+use Rattle.laws_lives.specs.Sessions.{SessionTxn}
 use Rattle.laws_lives.specs.UndoLists.{nothing_to_undo, with_before_image}
 use Rattle.laws_calls.proofs.SettledAtOnce.{at_once, resumed_at_once, lone_waiter_is_on_no_cycle, waits_alone, waits_at_once}
 use Rattle.shore_model.specs.declared.step.Step.TheVariants.{Done, Waits}
 use Rattle.shore_model.specs.declared.step.Wait.TheVariants.{Durable, Lock}
 use Rattle.laws_calls.specs.CallHistories.{IsOpened}
 use Rattle.laws_calls.specs.Events.{Called, Forced, Resumed, EventMoves, MovesMaking}
-use Rattle.laws_calls.specs.StateChanges.{FitsAt, MayChange, answered, commit_waiting, committed, wait_refused, with_durable}
+use Rattle.laws_calls.specs.StateChanges.{FitsAt, MayChange, answered, decision_waiting, committed, wait_refused, with_durable, begun}
 use Rattle.laws_calls.specs.CallSteps.{CallStep, IsPlaceOf, behind_lock, behind_place, commit_ended, lock_waiting}
 use Rattle.laws_calls.specs.WorkedSessions.{told_to_two, two_sessions}
 use Rattle.laws_calls.specs.Shapes.{store_lock, store_locked}
 use Rattle.laws_calls.specs.States.{DoesNotWait, HasNoTxn, MayBegin, State, Waiting}
 use Rattle.laws_calls.specs.WorkedRun.{first_id, first_page, opened_empty}
+use Rattle.laws_lives.specs.Soundness.{opening_with}
+use Rattle.laws_calls.proofs.EmptyOpens.{empty_is_opened}
 
 -- one slot on the first page
 abbrev one_if : Bool → ℕ
@@ -49,7 +51,7 @@ module _ (g : Geometry) (stream_bytes : ℕ) (bytes : List ℕ) (store : HasStor
   opened = opened_empty stream_bytes
 
   abbrev begun_one : State
-  begun_one = record opened { sessions = txn_begun opened.sessions 1 }
+  begun_one = begun opened 1
 
   abbrev one : SessionTxn
   one = record { session = 1; txn = 1; undo = nothing_to_undo }
@@ -67,7 +69,7 @@ module _ (g : Geometry) (stream_bytes : ℕ) (bytes : List ℕ) (store : HasStor
   one_changed = record { session = 1; txn = 1; undo = with_before_image empty nothing_to_undo first_id }
 
   abbrev begun_two : State
-  begun_two = record inserted { sessions = txn_begun inserted.sessions 2 }
+  begun_two = begun inserted 2
 
   abbrev two : SessionTxn
   two = record { session = 2; txn = 2; undo = nothing_to_undo }
@@ -95,19 +97,11 @@ module _ (g : Geometry) (stream_bytes : ℕ) (bytes : List ℕ) (store : HasStor
 
   -- ---- events
 
-  is_opened : IsOpened [] opened
-  is_opened = record {
-    just = record { records = refl; active = refl; committing = refl; held = refl; some = omega arith };
-    log = refl;
-    above = tt;
-    least = λ n some above. omega arith;
-    durable = refl;
-    waiting = refl;
-    running = refl;
-  }
+  is_opened : IsOpened (opening_with empty) [] opened
+  is_opened = empty_is_opened stream_bytes
 
   begins_one : EventMoves g opened (Called 1 call.Begin (Done (Began 1))) begun_one
-  begins_one = (tt, at_once g opened 1 call.Begin (Done (Began 1)) begun_one (inr (inr (inr (inl (refl, λ w m. absurd m, refl, (λ a y. ⊎_elim (λ m. absurd m) (λ m. absurd m) y, omega arith, ((omega arith, omega arith), omega arith), refl, refl)))))) tt)
+  begins_one = (tt, at_once g opened 1 call.Begin (Done (Began 1)) begun_one (inr (inr (inr (inl (refl, λ w m. absurd m, refl, (refl, omega arith, ((omega arith, omega arith), omega arith), refl, refl)))))) tt)
 
   fits : FitsAt inserting first_id (Some bytes)
   fits = record { there = omega arith; most = short; room = omega arith }
@@ -137,12 +131,12 @@ module _ (g : Geometry) (stream_bytes : ℕ) (bytes : List ℕ) (store : HasStor
   inserts : EventMoves g begun_one (Called 1 insert (Done (Inserted first_id))) inserted
   inserts = (
     tt,
-    at_once g begun_one 1 insert (Done (Inserted first_id)) inserted (inr (inr (inr (inr (inr (
+    at_once g begun_one 1 insert (Done (Inserted first_id)) inserted (inr (inr (inr (inr (inr (inl (
       refl,
       λ w m. absurd m,
       (
         one,
-        (inl refl, refl),
+        ((inl refl, refl, omega arith), refl),
         inr (inl (
           refl,
           inr (inl (
@@ -151,25 +145,25 @@ module _ (g : Geometry) (stream_bytes : ℕ) (bytes : List ℕ) (store : HasStor
           )),
         )),
       ),
-    )))))) tt,
+    ))))))) tt,
   )
 
   begins_two : EventMoves g inserted (Called 2 call.Begin (Done (Began 2))) begun_two
   begins_two = (tt, at_once g inserted 2 call.Begin (Done (Began 2)) begun_two (inr (inr (inr (inl (refl, λ w m. absurd m, refl, (not_in, omega arith, room, refl, refl)))))) tt)
     where
       not_in : HasNoTxn inserted 2
-      not_in a y = ⊎_elim (λ m. ⊎_elim (λ same is. let other = ap (λ (x : SessionTxn). x.session) same in omega arith) (λ later. absurd later) m) (λ m. absurd m) y
+      not_in = refl
 
       room : MayBegin inserted
       room = let before = ap image_cost nothing_there in let cost = change_bytes first_id (get inserting.sessions.records first_id) (Some bytes) in ((omega arith, omega arith), omega arith)
 
   called_two : CallStep g begun_two 2 (call.Get first_id) (Waits (Lock (Record first_id))) two_waits
-  called_two = inr (inr (inr (inr (inr (
+  called_two = inr (inr (inr (inr (inr (inl (
     refl,
     λ w m. absurd m,
     (
       two,
-      (inl refl, refl),
+      ((inl refl, refl, omega arith), refl),
       inr (inl (
         refl,
         inr (inl (
@@ -178,7 +172,7 @@ module _ (g : Geometry) (stream_bytes : ℕ) (bytes : List ℕ) (store : HasStor
         )),
       )),
     ),
-  )))))
+  ))))))
 
   -- the first waits for nothing, so no victim is needed
   two_alone : (u : ℕ) → is_waiting u two_waits.locks.requests ≡ true → u ≡ 2
@@ -187,11 +181,11 @@ module _ (g : Geometry) (stream_bytes : ℕ) (bytes : List ℕ) (store : HasStor
   waits_two : EventMoves g begun_two (Called 2 (call.Get first_id) (Waits (Lock (Record first_id)))) two_waits
   waits_two = (
     tt,
-    waits_at_once g begun_two 2 (call.Get first_id) (Record first_id) two_waits called_two two (inl refl, refl) refl (lone_waiter_is_on_no_cycle two_waits.locks.requests 2 two_alone),
+    waits_at_once g begun_two 2 (call.Get first_id) (Record first_id) two_waits called_two two ((inl refl, refl, omega arith), refl) refl (lone_waiter_is_on_no_cycle two_waits.locks.requests 2 two_alone),
   )
 
   commits : EventMoves g two_waits (Called 1 call.Commit (Waits (Durable 2))) one_commits
-  commits = (tt, at_once g two_waits 1 call.Commit (Waits (Durable 2)) one_commits (inr (inr (inr (inr (inr (refl, idle, (one_changed, (inr (inl refl), refl), inr (inl (refl, inr (inr (inl (refl, (refl, refl))))))))))))) tt)
+  commits = (tt, at_once g two_waits 1 call.Commit (Waits (Durable 2)) one_commits (inr (inr (inr (inr (inr (inl (refl, idle, (one_changed, ((inr (inl refl), refl, omega arith), refl), inr (inl (refl, inr (inr (inl (refl, (refl, refl)))))))))))))) tt)
     where
       idle : DoesNotWait two_waits 1
       idle w m is = ⊎_elim (λ same. let other = ap (λ (x : Waiting). x.session) same in omega arith) (λ later. absurd later) m
@@ -200,7 +194,7 @@ module _ (g : Geometry) (stream_bytes : ℕ) (bytes : List ℕ) (store : HasStor
   forces = (omega arith, omega arith, refl)
 
   ends : EventMoves g forced (Resumed 1 (Done Committed)) one_ended
-  ends = resumed_at_once g forced 1 (Done Committed) one_ended (inr (commit_waiting 1 2, inl refl, refl, inr (refl, inr (omega arith, refl, (one_changed, inl refl, refl, refl)), refl))) tt
+  ends = resumed_at_once g forced 1 (Done Committed) one_ended (inr (decision_waiting 1 call.Commit 2, inl refl, refl, inr (refl, inr (inl (omega arith, refl, (one_changed, inl refl, refl, refl), refl)), refl))) tt
 
   there : get two_goes_on.sessions.records first_id ≡ Some bytes
   there = put_here empty first_id (Some bytes)
@@ -215,14 +209,14 @@ module _ (g : Geometry) (stream_bytes : ℕ) (bytes : List ℕ) (store : HasStor
           refl,
           (
             two,
-            (inl refl, refl),
+            ((inl refl, refl, omega arith), refl),
             inr (refl, (two_goes_on, (share, refl, refl, refl), ((bytes, there, refl), refl))),
           ),
           refl,
         ),
       )) tt
 
-  pub two_come_through : (last : State) × (made : List Entry) × IsOpened [] (opened_empty stream_bytes)
+  pub two_come_through : (last : State) × (made : List Entry) × IsOpened (opening_with empty) [] (opened_empty stream_bytes)
       × MovesMaking g (opened_empty stream_bytes) (two_sessions bytes) last made × (made ≡ told_to_two bytes)
   two_come_through = (
     two_has,

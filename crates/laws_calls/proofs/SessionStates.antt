@@ -6,34 +6,36 @@ use Rattle.std.proofs.lemmas.List.Elements.{All-weaker}
 use Rattle.shore_types.specs.declared.layout.Geometry.{Geometry}
 use Rattle.shore_types.specs.declared.layout.TheConstants.{MAX_TRANSACTIONS}
 use Rattle.shore_model.specs.declared.calls.Call.{Call}
+use Rattle.shore_model.specs.declared.calls.Call.TheVariants as call
 use Rattle.shore_model.specs.declared.histories.Decision.TheVariants as decision
 use Rattle.shore_model.specs.declared.histories.Entry.{Entry}
+use Rattle.shore_model.specs.declared.histories.Opening.{Opening}
 use Rattle.shore_model.specs.declared.log_records.LogRecord.{LogRecord}
 use Rattle.shore_model.specs.Histories.{acknowledged}
 use Rattle.laws_lives.specs.LogPrefixes.{decisions_in}
 use Rattle.laws_lives.specs.SessionSteps.{SessionEvent}
-use Rattle.laws_lives.specs.Sessions.{SessionTxn}
+use Rattle.laws_lives.specs.Sessions.{SessionTxn, Sessions}
 use Rattle.laws_lives.specs.Views.{IsAmong}
 use Rattle.shore_model.specs.declared.step.Step.{Step}
 use Rattle.shore_model.specs.declared.step.Wait.{Wait}
 use Rattle.shore_model.specs.declared.step.Wait.TheVariants.{Durable, Lock}
 use Rattle.laws_calls.proofs.Elements.{in_longer}
-use Rattle.laws_calls.proofs.Links.{GoesBy, GoesQuietly, answer_goes, commit_goes, left_like, shorter_without}
+use Rattle.laws_calls.proofs.Links.{GoesBy, GoesQuietly, answer_goes, commit_goes, left_like, shorter_without, ended_without}
 use Rattle.laws_calls.proofs.SessionCalls.{session_call_kept}
-use Rattle.laws_calls.proofs.Rows.{same_member}
-use Rattle.laws_calls.proofs.SessionForces.{abort_forced, answer_forced, commit_forced, quietly_forced}
-use Rattle.laws_calls.proofs.SessionResumes.{WaitsWhole, apart, resumed_call_kept}
-use Rattle.laws_calls.proofs.Sessions.{its_txn, one_txn}
+use Rattle.laws_calls.proofs.SessionForces.{abort_forced, answer_forced, commit_forced, quietly_forced, prepare_forced}
+use Rattle.laws_calls.proofs.SessionResumes.{WaitsWhole, resumed_call_kept}
+use Rattle.laws_calls.proofs.Sessions.{its_txn, one_txn, commit_seats, committed_seat, one_member, own_of, seat_apart}
 use Rattle.laws_calls.proofs.Unwinding.{rollback_on}
-use Rattle.laws_calls.proofs.SessionsWaiting.{aborted_waits, commit_waits_on, ended_waits, failed_waits, quietly_waits, woken_waits}
+use Rattle.laws_calls.proofs.SessionsWaiting.{aborted_waits, commit_waits_on, ended_waits, failed_waits, quietly_waits, woken_waits, prepared_waits}
 use Rattle.laws_calls.proofs.StepPassages.{CallPasses, ResumePasses, call_passes, resume_passes}
 use Rattle.laws_calls.specs.CallHistories.{IsForced, txn_of}
 use Rattle.laws_calls.specs.Events.{IsStateAfter, call_waiting, entries_of_resume, entries_of_waiting}
 use Rattle.laws_calls.specs.StateChanges.{wait_refused, with_durable, with_failure}
-use Rattle.laws_calls.specs.CallSteps.{ResumesCall, CallStep, ResumeStep, txn_count}
+use Rattle.laws_calls.specs.CallSteps.{ResumesCall, CallStep, ResumeStep, txn_count, ended_among, IsPreparing}
 use Rattle.laws_calls.specs.LockedStates.{IsSessionsState, entries_of_resumed, entries_of_call}
-use Rattle.laws_calls.specs.SessionWaits.{IsCommitWait, IsLockWait, WaitsOfSessions}
+use Rattle.laws_calls.specs.SessionWaits.{IsDecisionWait, IsLockWait, WaitsOfSessions}
 use Rattle.laws_calls.specs.States.{IsOfSession, State, Waiting}
+use Rattle.shore_model.specs.declared.sessions.SessionState.{SessionState}
 
 -- ---- how many transactions there are
 
@@ -45,7 +47,7 @@ quietly_few : (g : Geometry) (session : ℕ) (s new : State) (made : List Entry)
 quietly_few g session s new made h few =
     let like = left_like session h.mid new h.left in
     let mid = by_few g s h.events h.mid made h.goes few in
-    subst (λ n. length n.active + length n.committing ≤ MAX_TRANSACTIONS) (sym like.sessions) mid
+    subst (λ (n : Sessions). length n.active + length n.committing + length (ended_among n.active n.resolving) ≤ MAX_TRANSACTIONS) (sym like.sessions) mid
 
 -- ---- the call that a session waits with
 
@@ -68,17 +70,17 @@ no_wait session (x ∷ ws) idle = by (x.session == session) refl (no_wait sessio
     by true e rest = absurd (idle x (inl refl) (eqb-true x.session session e))
     by false e rest = rest
 
-module _ (found : List LogRecord) (es : List Entry) (s : State) (k : IsStateAfter found es s) where
+module _ (o : Opening) (found : List LogRecord) (es : List Entry) (s : State) (k : IsStateAfter o found es s) where
   -- ---- calls
 
   pub session_call_stays : (g : Geometry) (session : ℕ) (c : Call) (step : Step) (new : State) → CallStep g s session c step new
-      → IsStateAfter found (es ++ entries_of_call s session c step) new
-  session_call_stays g session c step new h = by (call_passes g found es s k.sessions session c step new h)
+      → IsStateAfter o found (es ++ entries_of_call s session c step) new
+  session_call_stays g session c step new h = by (call_passes g o found es s k.sessions session c step new h)
     where
-      kept : IsSessionsState found (es ++ entries_of_call s session c step) new
-      kept = session_call_kept g found es s k.sessions session c step new h
+      kept : IsSessionsState o found (es ++ entries_of_call s session c step) new
+      kept = session_call_kept g o found es s k.sessions session c step new h
 
-      by : CallPasses g s session new (entries_of_call s session c step) → IsStateAfter found (es ++ entries_of_call s session c step) new
+      by : CallPasses g s session new (entries_of_call s session c step) → IsStateAfter o found (es ++ entries_of_call s session c step) new
       by (inl quiet) = record {
         sessions = kept;
         waits = quietly_waits (length found) g session s new (entries_of_call s session c step) k.waits quiet;
@@ -89,29 +91,30 @@ module _ (found : List LogRecord) (es : List Entry) (s : State) (k : IsStateAfte
           let a = commit.txn in
           record {
             sessions = kept;
-            waits = subst (WaitsOfSessions (length found)) (sym commit.is) (commit_waits_on found es s k.sessions k.waits a commit.of.0 (λ w m same. commit.idle w m (same ∙ commit.of.1)));
+            waits = subst (WaitsOfSessions (length found)) (sym commit.is) (commit_waits_on o found es s k.sessions k.waits a commit.of.0 (λ w m same. commit.idle w m (same ∙ commit.of.1)));
             forced =
                 subst (λ made. IsForced (length found) (es ++ made) new) (sym commit.entries)
                 (subst (IsForced (length found) _) (sym commit.is) (commit_forced (length found) es s k.forced a (txn_of s.sessions session)));
-            few = subst (λ (x : State). txn_count x ≤ MAX_TRANSACTIONS) (sym commit.is) ((commit_goes g s a commit.of.0 commit.whole).few k.few);
+            few = subst (λ (x : State). txn_count x ≤ MAX_TRANSACTIONS) (sym commit.is) ((commit_goes g s a (own_of k.sessions a commit.of.0) commit.whole (commit_seats k.sessions.agree k.sessions.seats a (own_of k.sessions a commit.of.0).2.0)).few k.few);
           }
       by (inr (inr abort)) =
           let a = abort.txn in
           let on = rollback_on a.txn s.log a.undo.images in
-          let fewer = shorter_without a s.sessions.active abort.of.0 in
+          let fewer = shorter_without a s.sessions.active abort.of.0.0 in
+          let ended = ap length (ended_without a.txn s.sessions.active s.sessions.resolving (own_of k.sessions a abort.of.0).2.1) in
           record {
             sessions = kept;
-            waits = subst (WaitsOfSessions (length found)) (sym abort.is) (aborted_waits found es s k.sessions k.waits a abort.of.0 (λ w m same. abort.idle w m (same ∙ abort.of.1)) on);
+            waits = subst (WaitsOfSessions (length found)) (sym abort.is) (aborted_waits o found es s k.sessions k.waits a abort.of.0 (λ w m same. abort.idle w m (same ∙ abort.of.1)) on);
             forced =
                 subst (λ made. IsForced (length found) (es ++ made) new) (sym abort.entries)
                 (subst (IsForced (length found) _) (sym abort.is) (abort_forced (length found) es s k.forced a session (txn_of s.sessions session) on));
-            few = subst (λ (x : State). txn_count x ≤ MAX_TRANSACTIONS) (sym abort.is) (let few = k.few in omega (arith, few, fewer));
+            few = subst (λ (x : State). txn_count x ≤ MAX_TRANSACTIONS) (sym abort.is) (let few = k.few in omega (arith, few, fewer, ended));
           }
 
   -- ---- resumes
 
-  pub as_it_was : IsStateAfter found (es ++ []) s
-  as_it_was = subst (λ (made : List Entry). IsStateAfter found made s) (sym (append-nil es)) k
+  pub as_it_was : IsStateAfter o found (es ++ []) s
+  as_it_was = subst (λ (made : List Entry). IsStateAfter o found made s) (sym (append-nil es)) k
 
   -- the record of a commit that is answered is durable
   pub answer_is_durable : (w : Waiting) → IsAmong w s.waiting → (n : ℕ) → w.wait ≡ Durable n → n ≤ s.durable → (a : SessionTxn) → IsAmong a s.sessions.committing → a.session ≡ w.session
@@ -122,89 +125,134 @@ module _ (found : List LogRecord) (es : List Entry) (s : State) (k : IsStateAfte
       number_of (Durable n) = n
       number_of (Lock at) = 0
 
-      by : IsCommitWait (length found) s w ⊎ IsLockWait s w → Contains (decisions_in (length found) (take s.durable s.log)) (decision.Commit (txn_of s.sessions w.session))
+      by : IsDecisionWait (length found) s w ⊎ IsLockWait s w → Contains (decisions_in (length found) (take s.durable s.log)) (decision.Commit (txn_of s.sessions w.session))
       by (inl c) =
           let same : n ≡ c.number = ap number_of (sym waits) ∙ ap (λ (v : Waiting). number_of v.wait) c.is in
-          let session : c.txn.session ≡ w.session = sym (ap (λ (v : Waiting). v.session) c.is) in
-          subst (λ t. Contains (decisions_in (length found) (take s.durable s.log)) (decision.Commit t)) (sym (its_txn k.sessions.agree c.txn w.session (inr c.committing) session))
-          (in_longer (length found) c.number s.durable s.log (decision.Commit c.txn.txn) (subst (λ x. x ≤ s.durable) same durable) c.decided)
+          let there = in_longer (length found) c.number s.durable s.log c.decision (subst (λ x. x ≤ s.durable) same durable) c.decided in
+          ⊎_elim
+          (λ h.
+          subst (λ t. Contains (decisions_in (length found) (take s.durable s.log)) (decision.Commit t)) (sym (its_txn s.sessions h.0 w.session (committed_seat k.sessions h.0 h.1) h.2))
+          (subst (Contains (decisions_in (length found) (take s.durable s.log))) h.4 there))
+          (λ h. absurd (seat_apart (committed_seat k.sessions a mem) (ap s.sessions.seats of ∙ h.2.1)))
+          c.unanswered
+      by (inr l) = let clash : Durable n ≡ Lock l.at = sym waits ∙ l.is in absurd cc
+
+  -- so is that of a prepare
+  pub prepare_is_durable : (w : Waiting) → IsAmong w s.waiting → (n : ℕ) → w.wait ≡ Durable n → n ≤ s.durable → (t : ℕ) (global : List ℕ) → IsPreparing s.sessions w.session t global → w.call ≡ call.Prepare global
+      → Contains (decisions_in (length found) (take s.durable s.log)) (decision.Prepare t global)
+  prepare_is_durable w m n waits durable t global mine asks = by (k.waits.each w m)
+    where
+      number_of : Wait → ℕ
+      number_of (Durable n) = n
+      number_of (Lock at) = 0
+
+      same_name : (x y : List ℕ) → call.Prepare x ≡ call.Prepare y → x ≡ y
+      same_name x y e = cc
+
+      by : IsDecisionWait (length found) s w ⊎ IsLockWait s w → Contains (decisions_in (length found) (take s.durable s.log)) (decision.Prepare t global)
+      by (inl c) =
+          let same : n ≡ c.number = ap number_of (sym waits) ∙ ap (λ (v : Waiting). number_of v.wait) c.is in
+          let there = in_longer (length found) c.number s.durable s.log c.decision (subst (λ x. x ≤ s.durable) same durable) c.decided in
+          ⊎_elim
+          (λ h. absurd (seat_apart (committed_seat k.sessions h.0 h.1) (ap s.sessions.seats h.2 ∙ mine.1)))
+          (λ h.
+          let number : h.0 ≡ t = ap (λ (p : SessionState). p.txn) (sym h.2.1 ∙ mine.1) in
+          let name : h.1 ≡ global = same_name h.1 global (sym h.3 ∙ asks) in
+          subst (λ u. Contains (decisions_in (length found) (take s.durable s.log)) (decision.Prepare u global)) number
+          (subst (λ x. Contains (decisions_in (length found) (take s.durable s.log)) (decision.Prepare h.0 x)) name
+          (subst (Contains (decisions_in (length found) (take s.durable s.log))) h.4 there)))
+          c.unanswered
       by (inr l) = let clash : Durable n ≡ Lock l.at = sym waits ∙ l.is in absurd cc
 
   -- who waits for a lock, and is no victim, does not roll back
   pub waits_whole : (w : Waiting) → IsAmong w s.waiting → w.cycle ≡ None → WaitsWhole s w.session w.wait
   waits_whole w m spared at a is mem = by (k.waits.each w m)
     where
-      by : IsCommitWait (length found) s w ⊎ IsLockWait s w → a.undo.rolling ≡ None
+      by : IsDecisionWait (length found) s w ⊎ IsLockWait s w → a.undo.rolling ≡ None
       by (inl c) = let clash : Durable c.number ≡ Lock at = sym (ap (λ (v : Waiting). v.wait) c.is) ∙ is in absurd cc
       by (inr l) =
-          let number = one_txn k.sessions.agree l.txn a (inl l.active) (inl mem.0) (l.of ∙ sym mem.1) in
-          let same : l.txn ≡ a = same_member l.txn a s.sessions.active k.sessions.agree.once l.active mem.0 number in
+          let number = one_txn s.sessions l.txn a l.active.1 mem.0.1 (l.of ∙ sym mem.1) in
+          let same : l.txn ≡ a = one_member k.sessions l.txn a l.active.0 mem.0.0 number in
           subst (λ (b : SessionTxn). b.undo.rolling ≡ None) same (l.whole spared)
 
   pub session_resumed_stays : (g : Geometry) (w : Waiting) → IsAmong w s.waiting → (step : Step) (new : State) → ResumesCall g s w step new
-      → IsStateAfter found (es ++ entries_of_resumed s w step) new
-  session_resumed_stays g w m step new h = by (resume_passes g found es s k.sessions w (waits_whole w m) step new h)
+      → IsStateAfter o found (es ++ entries_of_resumed s w step) new
+  session_resumed_stays g w m step new h = by (resume_passes g o found es s k.sessions w (waits_whole w m) step new h)
     where
-      kept : IsSessionsState found (es ++ entries_of_resumed s w step) new
-      kept = resumed_call_kept g found es s k.sessions w (waits_whole w m) step new h
+      kept : IsSessionsState o found (es ++ entries_of_resumed s w step) new
+      kept = resumed_call_kept g o found es s k.sessions w (waits_whole w m) step new h
 
-      -- no commit waits with the session
-      none_committing : (IsTrue s.failed ⊎ ((at : _) × (w.wait ≡ Lock at) × ((a : SessionTxn) × IsOfSession s w.session a)))
-          → s.failed ≡ false → (a : SessionTxn) → IsAmong a s.sessions.committing → a.session ≢ w.session
-      none_committing (inl failed) running a mem of = absurd cc
-      none_committing (inr lock) running a mem of = apart g found es s k.sessions a lock.2.0 mem lock.2.1.0 (lock.2.1.1 ∙ sym of)
+      -- the session waits for no record
+      none_decided : (IsTrue s.failed ⊎ ((at : _) × (w.wait ≡ Lock at) × ((a : SessionTxn) × IsOfSession s w.session a)))
+          → s.failed ≡ false → (v : Waiting) → IsAmong v s.waiting → v.session ≡ w.session → (n : ℕ) → v.wait ≢ Durable n
+      none_decided (inl failed) running v mem of n is = absurd cc
+      none_decided (inr lock) running v mem of n is =
+          let clash : Durable n ≡ Lock lock.0 = sym is ∙ ap (λ (x : Waiting). x.wait) (k.waits.once v w mem m of) ∙ lock.1 in cc
 
-      by : ResumePasses g s w.session w.wait new (entries_of_resumed s w step) → IsStateAfter found (es ++ entries_of_resumed s w step) new
-      by (inl same) = subst (IsStateAfter found (es ++ entries_of_resumed s w step)) (sym same.0) (subst (λ made. IsStateAfter found (es ++ made) s) (sym same.1) as_it_was)
+      by : ResumePasses g s w.session w.wait w.call new (entries_of_resumed s w step) → IsStateAfter o found (es ++ entries_of_resumed s w step) new
+      by (inl same) = subst (IsStateAfter o found (es ++ entries_of_resumed s w step)) (sym same.0) (subst (λ made. IsStateAfter o found (es ++ made) s) (sym same.1) as_it_was)
       by (inr (inl on)) =
           let woken = wait_refused s w.session in
           record {
             sessions = kept;
-            waits = quietly_waits (length found) g w.session woken new (entries_of_resumed s w step) (woken_waits found es s k.sessions k.waits w.session (none_committing on.why)) on.on;
+            waits = quietly_waits (length found) g w.session woken new (entries_of_resumed s w step) (woken_waits o found es s k.sessions k.waits w.session (none_decided on.why)) on.on;
             forced =
                 quietly_forced g w.session (length found) es woken new (entries_of_resumed s w step) on.on
                 (record { least = k.forced.least; most = k.forced.most; acknowledged_kept = k.forced.acknowledged_kept });
             few = quietly_few g w.session woken new (entries_of_resumed s w step) on.on k.few;
           }
-      by (inr (inr told)) =
+      by (inr (inr (inr told))) = record {
+        sessions = kept;
+        waits = subst (WaitsOfSessions (length found)) (sym told.is) (prepared_waits o found es s k.sessions k.waits w.session told.txn told.global told.preparing);
+        forced =
+            subst (λ made. IsForced (length found) (es ++ made) new) (sym told.entries)
+            (subst (IsForced (length found) _) (sym told.is)
+            (prepare_forced (length found) es s k.forced w.session told.txn told.global told.preparing.1 (prepare_is_durable w m told.number told.waits told.durable told.txn told.global told.preparing told.asks)));
+        few = subst (λ (x : State). txn_count x ≤ MAX_TRANSACTIONS) (sym told.is) k.few;
+      }
+      by (inr (inr (inl told))) =
           let a = told.txn in
           record {
             sessions = kept;
-            waits = subst (WaitsOfSessions (length found)) (sym told.is) (ended_waits found es s k.sessions k.waits a told.committing);
+            waits = subst (WaitsOfSessions (length found)) (sym told.is) (ended_waits o found es s k.sessions k.waits a told.committing);
             forced =
                 subst (λ made. IsForced (length found) (es ++ made) new) (sym told.entries)
                 (subst (IsForced (length found) _) (sym told.is)
                 (answer_forced (length found) es s k.forced a w.session (answer_is_durable w m told.number told.waits told.durable a told.committing told.of)));
-            few = subst (λ (x : State). txn_count x ≤ MAX_TRANSACTIONS) (sym told.is) ((answer_goes g s a told.committing).few k.few);
+            few = subst (λ (x : State). txn_count x ≤ MAX_TRANSACTIONS) (sym told.is) ((answer_goes g s a told.committing (committed_seat k.sessions a told.committing)).few k.few);
           }
 
   pub session_resume_stays : (g : Geometry) (session : ℕ) (step : Step) (new : State) → ResumeStep g s session step new
-      → IsStateAfter found (es ++ entries_of_resume s session step) new
+      → IsStateAfter o found (es ++ entries_of_resume s session step) new
   session_resume_stays g session step new (inl h) =
-      subst (λ (o : Option Waiting). IsStateAfter found (es ++ entries_of_waiting s o step) new) (sym (no_wait session s.waiting h.0))
-      (subst (IsStateAfter found (es ++ [])) (sym h.2) as_it_was)
+      subst (λ (w : Option Waiting). IsStateAfter o found (es ++ entries_of_waiting s w step) new) (sym (no_wait session s.waiting h.0))
+      (subst (IsStateAfter o found (es ++ [])) (sym h.2) as_it_was)
   session_resume_stays g session step new (inr h) =
-      subst (λ (o : Option Waiting). IsStateAfter found (es ++ entries_of_waiting s o step) new) (sym (its_wait session s.waiting h.0 k.waits.once h.1 h.2))
+      subst (λ (w : Option Waiting). IsStateAfter o found (es ++ entries_of_waiting s w step) new) (sym (its_wait session s.waiting h.0 k.waits.once h.1 h.2))
       (session_resumed_stays g h.0 h.1 step new h.3)
 
   -- ---- forces and failures
 
-  pub session_force_stays : (n : ℕ) → s.durable ≤ n → n ≤ length s.log → IsStateAfter found es (with_durable n s)
+  pub session_force_stays : (n : ℕ) → s.durable ≤ n → n ≤ length s.log → IsStateAfter o found es (with_durable n s)
   session_force_stays n more within = record {
     sessions = record {
       sound = k.sessions.sound;
       agree = k.sessions.agree;
+      seats = k.sessions.seats;
+      whole = k.sessions.whole;
+      doubts = k.sessions.doubts;
       log = k.sessions.log;
       decides = k.sessions.decides;
       locks = record { held = k.sessions.locks.held; orderly = k.sessions.locks.orderly; rooted = k.sessions.locks.rooted; below = k.sessions.locks.below; waiters = k.sessions.locks.waiters; waits = k.sessions.locks.waits };
     };
     waits = record {
       each = λ w m. ⊎_elim
-          (λ c. inl (record { number = c.number; txn = c.txn; is = c.is; committing = c.committing; some = c.some; there = c.there; decided = c.decided }))
+          (λ c. inl (record { number = c.number; decision = c.decision; is = c.is; unanswered = c.unanswered; some = c.some; there = c.there; decided = c.decided }))
           (λ l. inr (record { txn = l.txn; active = l.active; of = l.of; whole = l.whole; at = l.at; is = l.is; lock = l.lock; asked = l.asked }))
           (k.waits.each w m);
       once = k.waits.once;
       all = k.waits.all;
+      prepares = k.waits.prepares;
     };
     forced = record {
       least = let least = k.forced.least in omega arith;
@@ -216,11 +264,14 @@ module _ (found : List LogRecord) (es : List Entry) (s : State) (k : IsStateAfte
     few = k.few;
   }
 
-  pub session_failure_stays : IsStateAfter found es (with_failure s)
+  pub session_failure_stays : IsStateAfter o found es (with_failure s)
   session_failure_stays = record {
     sessions = record {
       sound = k.sessions.sound;
       agree = k.sessions.agree;
+      seats = k.sessions.seats;
+      whole = k.sessions.whole;
+      doubts = k.sessions.doubts;
       log = k.sessions.log;
       decides = k.sessions.decides;
       locks = record { held = k.sessions.locks.held; orderly = k.sessions.locks.orderly; rooted = k.sessions.locks.rooted; below = k.sessions.locks.below; waiters = k.sessions.locks.waiters; waits = λ running. absurd cc };

@@ -7,6 +7,7 @@ use Rattle.shore_types.specs.declared.layout.Geometry.{Geometry}
 use Rattle.shore_types.specs.declared.locking.Granule.{Granule}
 use Rattle.shore_model.specs.declared.calls.Call.{Call}
 use Rattle.shore_model.specs.declared.histories.Entry.{Entry}
+use Rattle.shore_model.specs.declared.histories.Opening.{Opening}
 use Rattle.shore_model.specs.declared.log_records.LogRecord.{LogRecord}
 use Rattle.shore_model.specs.declared.step.Step.{Step}
 use Rattle.shore_model.specs.declared.step.Step.TheVariants.{Refused, Waits}
@@ -35,7 +36,7 @@ use Rattle.laws_calls.specs.Victims.{TellsVictim}
 
 -- ---- a call that waited, and goes on
 
-module _ (g : Geometry) (found : List LogRecord) (es : List Entry) (session n : ℕ) (c : Call) (x : State) (p : IsPaused g found es session n c x) (may : MayAsk g c) where
+module _ (g : Geometry) (o : Opening) (found : List LogRecord) (es : List Entry) (session n : ℕ) (c : Call) (x : State) (p : IsPaused g o found es session n c x) (may : MayAsk g c) where
   -- it goes on only if its request waits no more
   quiet_in : (step : Step) (new : State) → WaitsForNoLock step → ResumesWait g x p.waits.waited (Lock p.at) step new → (a : SessionTxn) × IsOfSession x session a × (is_waiting a.txn x.locks.requests ≡ false)
   quiet_in step new free h = ⊎_elim
@@ -52,17 +53,17 @@ module _ (g : Geometry) (found : List LogRecord) (es : List Entry) (session n : 
   goes_quiet : (step : Step) (new : State) → WaitsForNoLock step → ResumeStep g x session step new → ForItsTxn x session (λ a. is_waiting a.txn x.locks.requests ≡ false)
   goes_quiet step new free h a of =
       let one = quiet_txn step new free h in
-      let same : one.0.txn ≡ a.txn = sym (its_txn p.stays.sessions.agree one.0 session (inl one.1.0) one.1.1) ∙ its_txn p.stays.sessions.agree a session (inl of.0) of.1 in
+      let same : one.0.txn ≡ a.txn = sym (its_txn x.sessions one.0 session one.1.0.1 one.1.1) ∙ its_txn x.sessions a session of.0.1 of.1 in
       subst (λ t. is_waiting t x.locks.requests ≡ false) same one.2
 
   -- the state in which it asks
-  pub goes_from : (step : Step) (new : State) → WaitsForNoLock step → ResumeStep g x session step new → IsSessionsState found es (wait_refused x session)
-  goes_from step new free h = let one = quiet_txn step new free h in woken g found es x p.stays.sessions one.0 session one.1 one.2
+  pub goes_from : (step : Step) (new : State) → WaitsForNoLock step → ResumeStep g x session step new → IsSessionsState o found es (wait_refused x session)
+  goes_from step new free h = let one = quiet_txn step new free h in woken g o found es x p.stays.sessions one.0 session one.1 one.2
 
   pub goes_as_call : (step : Step) (new : State) → WaitsForNoLock step → ResumeStep g x session step new → CallStep g (wait_refused x session) session c step new
   goes_as_call step new free h =
       subst (λ (d : Call). CallStep g (wait_refused x session) session d step new) p.waits.its
-      (goes_on_as_call g found es x p.stays session p.waits.waited p.waits.there p.waits.of p.at p.waits.lock (subst (MayAsk g) (sym p.waits.its) may) p.waits.running (goes_quiet step new free h) step new h)
+      (goes_on_as_call g o found es x p.stays session p.waits.waited p.waits.there p.waits.of p.at p.waits.lock (subst (MayAsk g) (sym p.waits.its) may) p.waits.running (goes_quiet step new free h) step new h)
 
 -- who waits for a lock was not to be refused before it asked
 pub waits_may : (g : Geometry) (s new : State) (session : ℕ) (c : Call) (at : Granule) → CallStep g s session c (Waits (Lock at)) new → MayAsk g c
@@ -70,12 +71,12 @@ waits_may g s new session c at h = ⊎_elim (λ asks. asks.0) (λ commits. absur
 
 -- ---- a call
 
-module _ (g : Geometry) (found : List LogRecord) (es : List Entry) (s : State) (k : IsStateAfter found es s) (session : ℕ) (c : Call) where
+module _ (g : Geometry) (o : Opening) (found : List LogRecord) (es : List Entry) (s : State) (k : IsStateAfter o found es s) (session : ℕ) (c : Call) where
   -- it came to what it comes to in the state in which it asked last
   pub record AskedLast (step : Step) (new : State) : Type 0 where
     pub last : State
     pub asks : AsksIn g s session c last
-    pub stays : IsSessionsState found es last
+    pub stays : IsSessionsState o found es last
     pub calls : CallStep g last session c step new
 
   -- it waits on, or is stopped there
@@ -83,7 +84,7 @@ module _ (g : Geometry) (found : List LogRecord) (es : List Entry) (s : State) (
     pub between : List Interlude
     pub from : State
     pub midway : IsMidway g s session c between from
-    pub paused : IsPaused g found es session (txn_of s.sessions session) c from
+    pub paused : IsPaused g o found es session (txn_of s.sessions session) c from
     pub ends : StaysWaiting from session step new ⊎ IsCutShort from session step new
 
   pub call_asked_last : (step : Step) (new : State) → SettledCall g s session c step new → AskedLast step new ⊎ StoppedAt step new
@@ -93,28 +94,28 @@ module _ (g : Geometry) (found : List LogRecord) (es : List Entry) (s : State) (
       (settled_call_to g s session c step new h)
     where
       by : (came : CallCameTo g s session c step new) → EndsFrom g came.from session step new → AskedLast step new ⊎ StoppedAt step new
-      by came (inl still) = inr (record { between = came.between; from = came.from; midway = came.midway; paused = midway_paused g found es s k session c came.between came.from came.midway; ends = inl still })
+      by came (inl still) = inr (record { between = came.between; from = came.from; midway = came.midway; paused = midway_paused g o found es s k session c came.between came.from came.midway; ends = inl still })
       by came (inr (inl stopped)) =
-          inr (record { between = came.between; from = came.from; midway = came.midway; paused = midway_paused g found es s k session c came.between came.from came.midway; ends = inr stopped })
+          inr (record { between = came.between; from = came.from; midway = came.midway; paused = midway_paused g o found es s k session c came.between came.from came.midway; ends = inr stopped })
       by came (inr (inr goes)) =
-          let p = midway_paused g found es s k session c came.between came.from came.midway in
+          let p = midway_paused g o found es s k session c came.between came.from came.midway in
           let m = came.midway in
           inl (record {
             last = wait_refused came.from session;
             asks = inr (came.between, came.from, m, refl);
-            stays = goes_from g found es session (txn_of s.sessions session) c came.from p (waits_may g s m.waits session c m.at m.calls) step new goes.0 goes.1;
-            calls = goes_as_call g found es session (txn_of s.sessions session) c came.from p (waits_may g s m.waits session c m.at m.calls) step new goes.0 goes.1;
+            stays = goes_from g o found es session (txn_of s.sessions session) c came.from p (waits_may g s m.waits session c m.at m.calls) step new goes.0 goes.1;
+            calls = goes_as_call g o found es session (txn_of s.sessions session) c came.from p (waits_may g s m.waits session c m.at m.calls) step new goes.0 goes.1;
           })
 
 -- ---- a resume
 
-module _ (g : Geometry) (found : List LogRecord) (es : List Entry) (s : State) (k : IsStateAfter found es s) (may : LockWaitsMayAsk g s) (session : ℕ) where
+module _ (g : Geometry) (o : Opening) (found : List LogRecord) (es : List Entry) (s : State) (k : IsStateAfter o found es s) (may : LockWaitsMayAsk g s) (session : ℕ) where
   -- A call of the session waited. A device had failed; or it is stopped there; or it came to what it comes to in the state in which it asked last.
   abbrev pub IsRefusedSo : Waiting → Fault → State → Type 0
   IsRefusedSo w f new =
       (IsTrue s.failed × (f ≡ fault.Failed))
-      ⊎ (((between : List Interlude) × (from : State) × Intervene g session s between from × IsPaused g found es session (txn_of s.sessions session) w.call s × IsCutShort from session (Refused f) new)
-      ⊎ ((last : State) × AsksAgainIn g s session last × IsSessionsState found es last × CallStep g last session w.call (Refused f) new))
+      ⊎ (((between : List Interlude) × (from : State) × Intervene g session s between from × IsPaused g o found es session (txn_of s.sessions session) w.call s × IsCutShort from session (Refused f) new)
+      ⊎ ((last : State) × AsksAgainIn g s session last × IsSessionsState o found es last × CallStep g last session w.call (Refused f) new))
 
   pub record RefusedResume (f : Fault) (new : State) : Type 0 where
     pub waited : Waiting
@@ -125,18 +126,19 @@ module _ (g : Geometry) (found : List LogRecord) (es : List Entry) (s : State) (
   module _ (f : Fault) (new : State) where
     -- it goes on from there
     from_paused : (at : Granule) (w : Waiting) (there : IsAmong w s.waiting) (lock : w.wait ≡ Lock at) (between : List Interlude) (x : State) → Intervene g session s between x
-        → IsPaused g found es session (txn_of s.sessions session) w.call x → ResumeStep g x session (Refused f) new → IsRefusedSo w f new
+        → IsPaused g o found es session (txn_of s.sessions session) w.call x → ResumeStep g x session (Refused f) new → IsRefusedSo w f new
     from_paused at w there lock between x way p h = inr (inr (
       wait_refused x session,
       (between, x, way, refl),
-      goes_from g found es session (txn_of s.sessions session) w.call x p (may w there at lock) (Refused f) new tt h,
-      goes_as_call g found es session (txn_of s.sessions session) w.call x p (may w there at lock) (Refused f) new tt h,
+      goes_from g o found es session (txn_of s.sessions session) w.call x p (may w there at lock) (Refused f) new tt h,
+      goes_as_call g o found es session (txn_of s.sessions session) w.call x p (may w there at lock) (Refused f) new tt h,
     ))
 
     -- no commit that waits is refused
     waits_for_lock : (w : Waiting) (wait : Wait) → ResumesWait g s w wait (Refused f) new → (at : Granule) × (wait ≡ Lock at)
     waits_for_lock w (Durable n) (inl h) = let clash = h.1 in absurd cc
-    waits_for_lock w (Durable n) (inr h) = let clash = h.1 in absurd cc
+    waits_for_lock w (Durable n) (inr (inl h)) = let clash = h.1 in absurd cc
+    waits_for_lock w (Durable n) (inr (inr h)) = let clash = h.1 in absurd cc
     waits_for_lock w (Lock at) h = (at, refl)
 
     at_once : (w : Waiting) → IsAmong w s.waiting → w.session ≡ session → ResumeStep g s session (Refused f) new → ResumesCall g s w (Refused f) new → RefusedResume f new
@@ -176,12 +178,12 @@ module _ (g : Geometry) (found : List LogRecord) (es : List Entry) (s : State) (
     by_way : (was : HasWaited s session) (came : CameTo g session s (Refused f) new) → EndsFrom g came.from session (Refused f) new → RefusedResume f new
     by_way was came ends =
         let w = was.waits.waited in
-        let first : IsPaused g found es session (txn_of s.sessions session) w.call s = record {
+        let first : IsPaused g o found es session (txn_of s.sessions session) w.call s = record {
           stays = k;
           at = was.at;
           waits = record { waited = w; there = was.waits.there; of = was.waits.of; its = refl; lock = was.waits.lock; number = refl; running = was.waits.running };
         } in
-        let p = kept_midway g found es session (txn_of s.sessions session) w.call (λ y. Unit {0}) (λ y later e q t i. tt) s came.between came.from first tt came.intervene in
+        let p = kept_midway g o found es session (txn_of s.sessions session) w.call (λ y. Unit {0}) (λ y later e q t i. tt) s came.between came.from first tt came.intervene in
         record {
           waited = w;
           there = was.waits.there;

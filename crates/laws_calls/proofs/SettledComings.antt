@@ -4,14 +4,17 @@ use Rattle.std.specs.List.{AllByRecursion}
 use Rattle.std.proofs.lemmas.List.{take-append-le}
 use Rattle.shore_types.specs.declared.layout.Geometry.{Geometry}
 use Rattle.shore_model.specs.declared.calls.Call.{Call}
+use Rattle.shore_model.specs.declared.histories.Decision.{Decision}
+use Rattle.shore_model.specs.declared.histories.Decision.TheVariants as decision
 use Rattle.shore_model.specs.declared.histories.Entry.{Entry}
+use Rattle.shore_model.specs.declared.histories.Opening.{Opening}
 use Rattle.shore_model.specs.declared.log_records.LogRecord.{LogRecord}
-use Rattle.shore_model.specs.Logs.{committed_in}
+use Rattle.laws_lives.specs.LogPrefixes.{IsDecidedIn}
+use Rattle.laws_lives.specs.ManagerSteps.{decision_resolved}
 use Rattle.laws_room.specs.Claims.{SlotCounts}
 use Rattle.shore_cycles.specs.declared.victims.Victim.{Victim}
-use Rattle.laws_lives.specs.SessionSteps.{AnswerAbort, AnswerCommit, AppendCommit, BeginTxn, Doom, GiveReply, MoveLocks, PutBack, RefuseCall, SessionEvent, entries_by}
+use Rattle.laws_lives.specs.SessionSteps.{AnswerAbort, AnswerCommit, AnswerInDoubt, AnswerPrepare, AnswerResolve, AppendCommit, AppendPrepare, AppendResolve, AppendRollback, BeginTxn, Doom, EndRollback, GiveReply, MoveLocks, PutBack, RefuseCall, SessionEvent, entries_by}
 use Rattle.laws_lives.specs.Sessions.{Sessions}
-use Rattle.laws_lives.specs.Views.{IsAmong}
 use Rattle.shore_model.specs.declared.step.Step.{Step}
 use Rattle.laws_calls.proofs.Comings.{like_itself, nothing_comes, session_call_comes, session_resume_comes}
 use Rattle.laws_calls.proofs.Links.{ComesBy, Goes, GoesBy, IsDurable, IsLike, Writes}
@@ -83,11 +86,13 @@ all_then : (P : SessionEvent → Type 0) (xs ys : List SessionEvent) → AllByRe
 all_then P [] ys h k = k
 all_then P (x ∷ xs) ys h k = (h.0, all_then P xs ys h.1 k)
 
--- a commit that is durable once the log has gone on was durable before
+-- a decision that is durable once the log has gone on was durable before
+decided_back : (s mid : State) → GoesFurther s mid → s.durable ≤ length s.log → (d : Decision) → IsDecidedIn (take mid.durable mid.log) d → IsDecidedIn (take s.durable s.log) d
+decided_back s mid on within d h =
+    subst (λ rs. IsDecidedIn rs d) (ap (λ n. take n mid.log) on.durable ∙ ap (take s.durable) on.on.1 ∙ take-append-le s.durable s.log on.on.0 within) h
+
 durable_back : (s mid : State) → GoesFurther s mid → s.durable ≤ length s.log → (e : SessionEvent) → IsDurable mid e → IsDurable s e
-durable_back s mid on within (AnswerCommit a) h =
-    subst (λ rs. IsAmong a.txn (committed_in rs))
-    (ap (λ n. take n mid.log) on.durable ∙ ap (take s.durable) on.on.1 ∙ take-append-le s.durable s.log on.on.0 within) h
+durable_back s mid on within (AnswerCommit a) h = decided_back s mid on within (decision.Commit a.txn) h
 durable_back s mid on within (MoveLocks held) h = tt
 durable_back s mid on within (BeginTxn session) h = tt
 durable_back s mid on within (GiveReply a c reply) h = tt
@@ -96,6 +101,13 @@ durable_back s mid on within (PutBack a kept e r) h = tt
 durable_back s mid on within (Doom a) h = tt
 durable_back s mid on within (AnswerAbort a) h = tt
 durable_back s mid on within (RefuseCall session t c f) h = tt
+durable_back s mid on within (AppendPrepare a global granules) h = tt
+durable_back s mid on within (AnswerPrepare session t global) h = decided_back s mid on within (decision.Prepare t global) h
+durable_back s mid on within (AppendResolve a global) h = tt
+durable_back s mid on within (AppendRollback a global) h = tt
+durable_back s mid on within (EndRollback a) h = tt
+durable_back s mid on within (AnswerResolve session r) h = decided_back s mid on within (decision_resolved r) h
+durable_back s mid on within (AnswerInDoubt session t pairs) h = tt
 
 all_back : (s mid : State) → GoesFurther s mid → s.durable ≤ length s.log → (events : List SessionEvent) → AllByRecursion (IsDurable mid) events → AllByRecursion (IsDurable s) events
 all_back s mid on within [] h = tt
@@ -122,19 +134,19 @@ comes_on g s mid new made later within on h k =
 
 -- ---- victims
 
-pub victims_come : (g : Geometry) (found : List LogRecord) (es : List Entry) (s : State) → IsStateAfter found es s → (t : ℕ) (vs : List Victim) (new : State) → TakesVictims s t vs new
+pub victims_come : (g : Geometry) (o : Opening) (found : List LogRecord) (es : List Entry) (s : State) → IsStateAfter o found es s → (t : ℕ) (vs : List Victim) (new : State) → TakesVictims s t vs new
     → ComesBy g s new []
-victims_come g found es s k t [] new h = nothing_comes g s new (subst (IsLike s) (sym h) (like_itself s))
-victims_come g found es s k t (v ∷ vs) new h =
-    comes_on g s h.0 new [] [] k.forced.most (victims_further s t (v ∷ []) h.0 (h.0, h.1, refl)) (victim_comes found es s k g t v h.0 h.1)
-    (victims_come g found es h.0 (victim_stays found es s k t v h.0 h.1) t vs new h.2)
+victims_come g o found es s k t [] new h = nothing_comes g s new (subst (IsLike s) (sym h) (like_itself s))
+victims_come g o found es s k t (v ∷ vs) new h =
+    comes_on g s h.0 new [] [] k.forced.most (victims_further s t (v ∷ []) h.0 (h.0, h.1, refl)) (victim_comes o found es s k g t v h.0 h.1)
+    (victims_come g o found es h.0 (victim_stays o found es s k t v h.0 h.1) t vs new h.2)
 
 -- ---- rounds
 
-module _ (g : Geometry) (found : List LogRecord) (session n : ℕ) (c : Call) (es : List Entry) (start : State) (within : start.durable ≤ length start.log) where
+module _ (g : Geometry) (o : Opening) (found : List LogRecord) (session n : ℕ) (c : Call) (es : List Entry) (start : State) (within : start.durable ≤ length start.log) where
   -- events have led so far
   record HasComeBy (step : Step) (s : State) : Type 0 where
-    to : HasComeTo found session n c es step s
+    to : HasComeTo o found session n c es step s
     by : ComesBy g start s (ended_entries session n c step)
     on : GoesFurther start s
 
@@ -146,28 +158,28 @@ module _ (g : Geometry) (found : List LogRecord) (session n : ℕ) (c : Call) (e
       let a = h.0 in
       let at = h.1 in
       let broken = h.2 in
-      let b = is_broken found session n c es first s k.to a at broken h.3 h.4 vs h.5 in
+      let b = is_broken o found session n c es first s k.to a at broken h.3 h.4 vs h.5 in
       let on = further_then start s broken k.on (victims_further s a.txn vs broken h.5) in
       let come : ComesBy g start broken [] =
-      comes_on g start s broken [] [] within k.on (subst (λ (x : Step). ComesBy g start s (ended_entries session n c x)) h.4 k.by) (victims_come g found es s b.before a.txn vs broken h.5) in
+      comes_on g start s broken [] [] within k.on (subst (λ (x : Step). ComesBy g start s (ended_entries session n c x)) h.4 k.by) (victims_come g o found es s b.before a.txn vs broken h.5) in
       let then : (later : Step) (x : State) → ComesBy g broken x (entries_of_resume broken session later) → ComesBy g start x (ended_entries session n c later) =
       λ later x more. comes_on g start broken x [] (ended_entries session n c later) within on come
-      (subst (ComesBy g broken x) (resume_entries found session n c es broken b.stays at b.waits later) more) in
+      (subst (ComesBy g broken x) (resume_entries o found session n c es broken b.stays at b.waits later) more) in
       ⊎_elim
       (λ ends. ⊎_elim
       (λ still. subst (λ (x : State). ComesBy g start x (ended_entries session n c step)) (sym still.3)
       (subst (λ (x : Step). ComesBy g start broken (ended_entries session n c x)) (sym (still.2 ∙ h.4)) come))
       (λ end. ⊎_elim
-      (λ told. then step new (told_comes found es broken b.stays g session step new told))
+      (λ told. then step new (told_comes o found es broken b.stays g session step new told))
       (λ back. then step new
-      (withdrawn_comes found es broken b.stays b.txn session b.of b.waits.waited b.waits.there b.waits.of at b.waits.lock g step new
-      (its_withdraws found session n c es broken b.stays at b.waits a b.txn b.its b.number b.of step new back.1)))
+      (withdrawn_comes o found es broken b.stays b.txn session b.of b.waits.waited b.waits.there b.waits.of at b.waits.lock g step new
+      (its_withdraws o found session n c es broken b.stays at b.waits a b.txn b.its b.number b.of step new back.1)))
       end)
       ends.1)
       (λ goes. settles_comes goes.1 goes.0 rounds step new
       (record {
-        to = resume_comes found session n c es broken b.stays at b.waits g goes.0 goes.1 goes.3;
-        by = then goes.0 goes.1 (session_resume_comes g found es broken b.stays session goes.0 goes.1 goes.3);
+        to = resume_comes o found session n c es broken b.stays at b.waits g goes.0 goes.1 goes.3;
+        by = then goes.0 goes.1 (session_resume_comes g o found es broken b.stays session goes.0 goes.1 goes.3);
         on = further_then start broken goes.1 on (resume_further g broken session goes.0 goes.1 goes.3);
       })
       goes.4)
@@ -175,22 +187,22 @@ module _ (g : Geometry) (found : List LogRecord) (session n : ℕ) (c : Call) (e
 
 -- ---- calls, resumes and events
 
-module _ (g : Geometry) (found : List LogRecord) (es : List Entry) (s : State) (k : IsStateAfter found es s) where
+module _ (g : Geometry) (o : Opening) (found : List LogRecord) (es : List Entry) (s : State) (k : IsStateAfter o found es s) where
   settled_by : (session : ℕ) (c : Call) (step : Step) (new : State) (first : Step) (mid : State) → CallStep g s session c first mid → (rounds : List (List Victim))
       → Settles g mid session first rounds step new → ComesBy g s new (entries_of_call s session c step)
   settled_by session c step new first mid calls [] h =
       subst (λ (x : State). ComesBy g s x (entries_of_call s session c step)) (sym h.2)
-      (subst (λ (x : Step). ComesBy g s mid (entries_of_call s session c x)) (sym h.1) (session_call_comes g found es s k session c first mid calls))
+      (subst (λ (x : Step). ComesBy g s mid (entries_of_call s session c x)) (sym h.1) (session_call_comes g o found es s k session c first mid calls))
   settled_by session c step new first mid calls (vs ∷ rounds) h =
       let n = txn_of s.sessions session in
       let asked = call_has_asked g s session c h.1 first mid h.4 calls in
-      let to = waiting_call_comes found es s k g session c first mid h.1 h.4 calls in
-      let come = settles_stays found session n c g es mid first (vs ∷ rounds) step new to h in
+      let to = waiting_call_comes o found es s k g session c first mid h.1 h.4 calls in
+      let come = settles_stays o found session n c g es mid first (vs ∷ rounds) step new to h in
       subst (ComesBy g s new) (call_entries s session c asked.lock asked.asked step come.undecided)
-      (settles_comes g found session n c es s k.forced.most mid first (vs ∷ rounds) step new
+      (settles_comes g o found session n c es s k.forced.most mid first (vs ∷ rounds) step new
       (record {
         to = to;
-        by = subst (ComesBy g s mid) (sym (call_entries s session c asked.lock asked.asked first to.undecided)) (session_call_comes g found es s k session c first mid calls);
+        by = subst (ComesBy g s mid) (sym (call_entries s session c asked.lock asked.asked first to.undecided)) (session_call_comes g o found es s k session c first mid calls);
         on = call_further g s session c first mid calls;
       })
       h)
@@ -202,23 +214,23 @@ module _ (g : Geometry) (found : List LogRecord) (es : List Entry) (s : State) (
       → Settles g mid session first rounds step new → ComesBy g s new (entries_of_resume s session step)
   went_by session step new first mid resumes [] h =
       subst (λ (x : State). ComesBy g s x (entries_of_resume s session step)) (sym h.2)
-      (subst (λ (x : Step). ComesBy g s mid (entries_of_resume s session x)) (sym h.1) (session_resume_comes g found es s k session first mid resumes))
+      (subst (λ (x : Step). ComesBy g s mid (entries_of_resume s session x)) (sym h.1) (session_resume_comes g o found es s k session first mid resumes))
   went_by session step new first mid resumes (vs ∷ rounds) h =
       let n = txn_of s.sessions session in
       let was = resume_has_waited g s session h.1 first mid h.4 resumes in
-      let its = resume_entries found session n was.call es s k was.at was.waits in
+      let its = resume_entries o found session n was.call es s k was.at was.waits in
       subst (ComesBy g s new) (sym (its step))
-      (settles_comes g found session n was.call es s k.forced.most mid first (vs ∷ rounds) step new
+      (settles_comes g o found session n was.call es s k.forced.most mid first (vs ∷ rounds) step new
       (record {
-        to = resume_comes found session n was.call es s k was.at was.waits g first mid resumes;
-        by = subst (ComesBy g s mid) (its first) (session_resume_comes g found es s k session first mid resumes);
+        to = resume_comes o found session n was.call es s k was.at was.waits g first mid resumes;
+        by = subst (ComesBy g s mid) (its first) (session_resume_comes g o found es s k session first mid resumes);
         on = resume_further g s session first mid resumes;
       })
       h)
 
   pub settled_resume_comes : (session : ℕ) (step : Step) (new : State) → SettledResume g s session step new → ComesBy g s new (entries_of_resume s session step)
-  settled_resume_comes session step new (inl told) = told_comes found es s k g session step new told
-  settled_resume_comes session step new (inr (inl still)) = session_resume_comes g found es s k session step new still.0
+  settled_resume_comes session step new (inl told) = told_comes o found es s k g session step new told
+  settled_resume_comes session step new (inr (inl still)) = session_resume_comes g o found es s k session step new still.0
   settled_resume_comes session step new (inr (inr on)) = went_by session step new on.first on.mid on.resumes on.rounds on.settles
 
   pub session_event_comes : (new : State) (e : ManagerEvent) → EventMoves g s e new → ComesBy g s new (entries_of s e)

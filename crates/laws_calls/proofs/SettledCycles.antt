@@ -3,6 +3,7 @@ use Rattle.std.proofs.Common.{◌≡◌, inl, inr, ⊎_elim, ◌++◌, ◌∷◌
 use Rattle.shore_types.specs.declared.layout.Geometry.{Geometry}
 use Rattle.shore_model.specs.declared.calls.Call.{Call}
 use Rattle.shore_model.specs.declared.histories.Entry.{Entry}
+use Rattle.shore_model.specs.declared.histories.Opening.{Opening}
 use Rattle.shore_model.specs.declared.log_records.LogRecord.{LogRecord}
 use Rattle.shore_model.specs.declared.requests.Request.{Request}
 use Rattle.shore_model.specs.Requests.{HasNoCycle}
@@ -43,26 +44,27 @@ quiet_free rs t each quiet cycle closed =
 cancelled_each : (rs : List Request) (t u : ℕ) → IsOrderly rs → IsOnEachCycle rs t → IsOnEachCycle (cancelled u rs) t
 cancelled_each rs t u orderly each cycle closed = each cycle (cycle_as (cancelled u rs) rs cycle (λ a b in_a in_b h. cancelled_adds_none rs u a b orderly h) closed)
 
-pub none_in_none : (rs : List Request) → rs ≡ [] → HasNoCycle rs
+-- nobody waits on a cycle if nobody waits
+pub none_in_none : (rs : List Request) → ((t : ℕ) → is_waiting t rs ≡ false) → HasNoCycle rs
 none_in_none rs none [] closed = closed
 none_in_none rs none (u ∷ us) closed =
     let next = member_waits rs (u ∷ us) u closed (inl refl) in
-    let waits : is_waiting u [] ≡ true = ap (is_waiting u) (sym none) ∙ waiter_waits rs u next.0 next.1 in
+    let clash : true ≡ false = sym (waiter_waits rs u next.0 next.1) ∙ none u in
     absurd cc
 
 -- ---- victims
 
-victims_each : (found : List LogRecord) (es : List Entry) (s : State) → IsStateAfter found es s → (t u : ℕ) (vs : List Victim) (new : State) → TakesVictims s u vs new
+victims_each : (o : Opening) (found : List LogRecord) (es : List Entry) (s : State) → IsStateAfter o found es s → (t u : ℕ) (vs : List Victim) (new : State) → TakesVictims s u vs new
     → IsOnEachCycle s.locks.requests t → IsOnEachCycle new.locks.requests t
-victims_each found es s k t u [] new h each = subst (λ (x : State). IsOnEachCycle x.locks.requests t) (sym h) each
-victims_each found es s k t u (v ∷ vs) new h each =
-    victims_each found es h.0 (victim_stays found es s k u v h.0 h.1) t u vs new h.2
+victims_each o found es s k t u [] new h each = subst (λ (x : State). IsOnEachCycle x.locks.requests t) (sym h) each
+victims_each o found es s k t u (v ∷ vs) new h each =
+    victims_each o found es h.0 (victim_stays o found es s k u v h.0 h.1) t u vs new h.2
     (subst (λ (x : State). IsOnEachCycle x.locks.requests t) (sym h.1.is) (cancelled_each s.locks.requests t h.1.txn.txn k.sessions.locks.orderly each))
 
 -- who is to be told its cycle waits for nothing
-told_quiet : (found : List LogRecord) (es : List Entry) (s : State) → IsStateAfter found es s → (session : ℕ) (step : Step) (new : State) → TellsVictim s session step new
+told_quiet : (o : Opening) (found : List LogRecord) (es : List Entry) (s : State) → IsStateAfter o found es s → (session : ℕ) (step : Step) (new : State) → TellsVictim s session step new
     → (a : SessionTxn) → IsOfSession s session a → is_waiting a.txn s.locks.requests ≡ false
-told_quiet found es s k session step new h a of = k.sessions.locks.waits h.running a of.0 spared
+told_quiet o found es s k session step new h a of = k.sessions.locks.waits h.running a of.0.0 spared
   where
     spared : (w : Waiting) → IsAmong w s.waiting → w.cycle ≡ None → w.session ≡ a.session → ⊥
     spared w m none same =
@@ -72,16 +74,16 @@ told_quiet found es s k session step new h a of = k.sessions.locks.waits h.runni
 
 -- ---- rounds
 
-module _ (g : Geometry) (found : List LogRecord) (session n : ℕ) (c : Call) (es : List Entry) where
-  settles_free : (s : State) (first : Step) (rounds : List (List Victim)) (step : Step) (new : State) → HasComeTo found session n c es first s → ClosesAtMost n first s
+module _ (g : Geometry) (o : Opening) (found : List LogRecord) (session n : ℕ) (c : Call) (es : List Entry) where
+  settles_free : (s : State) (first : Step) (rounds : List (List Victim)) (step : Step) (new : State) → HasComeTo o found session n c es first s → ClosesAtMost n first s
       → Settles g s session first rounds step new → HasNoCycle new.locks.requests
   settles_free s first [] step new k closes h = subst (λ (x : State). HasNoCycle x.locks.requests) (sym h.2) (closes.free h.0)
   settles_free s first (vs ∷ rounds) step new k closes h =
       let a = h.0 in
       let at = h.1 in
       let broken = h.2 in
-      let b = is_broken found session n c es first s k a at broken h.3 h.4 vs h.5 in
-      let each = victims_each found es s b.before n a.txn vs broken h.5 closes.each in
+      let b = is_broken o found session n c es first s k a at broken h.3 h.4 vs h.5 in
+      let each = victims_each o found es s b.before n a.txn vs broken h.5 closes.each in
       let its : IsOnEachCycle broken.locks.requests a.txn = subst (IsOnEachCycle broken.locks.requests) (sym b.number) each in
       ⊎_elim
       (λ ends. ⊎_elim
@@ -89,7 +91,7 @@ module _ (g : Geometry) (found : List LogRecord) (session n : ℕ) (c : Call) (e
       (λ end. ⊎_elim
       (λ told.
       let quiet : is_waiting n broken.locks.requests ≡ false =
-      subst (λ t. is_waiting t broken.locks.requests ≡ false) b.txn_number (told_quiet found es broken b.stays session step new told b.txn b.of) in
+      subst (λ t. is_waiting t broken.locks.requests ≡ false) b.txn_number (told_quiet o found es broken b.stays session step new told b.txn b.of) in
       none_as_before broken new (ap (λ (x : State). x.locks) told.is) (quiet_free broken.locks.requests n each quiet))
       (λ back.
       let orderly = b.stays.sessions.locks.orderly in
@@ -100,21 +102,21 @@ module _ (g : Geometry) (found : List LogRecord) (session n : ℕ) (c : Call) (e
       (λ goes.
       let none = quiet_free broken.locks.requests a.txn its goes.2 in
       settles_free goes.1 goes.0 rounds step new
-      (resume_comes found session n c es broken b.stays at b.waits g goes.0 goes.1 goes.3)
-      (subst (λ t. ClosesAtMost t goes.0 goes.1) b.waits.number (resume_closes g found es broken b.stays.sessions none session goes.0 goes.1 goes.3))
+      (resume_comes o found session n c es broken b.stays at b.waits g goes.0 goes.1 goes.3)
+      (subst (λ t. ClosesAtMost t goes.0 goes.1) b.waits.number (resume_closes g o found es broken b.stays.sessions none session goes.0 goes.1 goes.3))
       goes.4)
       h.6
 
 -- ---- calls, resumes and events
 
-module _ (g : Geometry) (found : List LogRecord) (es : List Entry) (s : State) (k : IsStateAfter found es s) (none : HasNoCycle s.locks.requests) where
+module _ (g : Geometry) (o : Opening) (found : List LogRecord) (es : List Entry) (s : State) (k : IsStateAfter o found es s) (none : HasNoCycle s.locks.requests) where
   settled_in : (session : ℕ) (c : Call) (step : Step) (new : State) (first : Step) (mid : State) → CallStep g s session c first mid → (rounds : List (List Victim))
       → Settles g mid session first rounds step new → HasNoCycle new.locks.requests
   settled_in session c step new first mid calls [] h =
-      subst (λ (x : State). HasNoCycle x.locks.requests) (sym h.2) ((call_closes g found es s k.sessions none session c first mid calls).free h.0)
+      subst (λ (x : State). HasNoCycle x.locks.requests) (sym h.2) ((call_closes g o found es s k.sessions none session c first mid calls).free h.0)
   settled_in session c step new first mid calls (vs ∷ rounds) h =
-      settles_free g found session (txn_of s.sessions session) c es mid first (vs ∷ rounds) step new (waiting_call_comes found es s k g session c first mid h.1 h.4 calls)
-      (call_closes g found es s k.sessions none session c first mid calls) h
+      settles_free g o found session (txn_of s.sessions session) c es mid first (vs ∷ rounds) step new (waiting_call_comes o found es s k g session c first mid h.1 h.4 calls)
+      (call_closes g o found es s k.sessions none session c first mid calls) h
 
   pub settled_call_free : (session : ℕ) (c : Call) (step : Step) (new : State) → SettledCall g s session c step new → HasNoCycle new.locks.requests
   settled_call_free session c step new h = settled_in session c step new h.first h.mid h.calls h.rounds h.settles
@@ -122,12 +124,12 @@ module _ (g : Geometry) (found : List LogRecord) (es : List Entry) (s : State) (
   went_on_in : (session : ℕ) (step : Step) (new : State) (first : Step) (mid : State) → ResumeStep g s session first mid → (rounds : List (List Victim))
       → Settles g mid session first rounds step new → HasNoCycle new.locks.requests
   went_on_in session step new first mid resumes [] h =
-      subst (λ (x : State). HasNoCycle x.locks.requests) (sym h.2) ((resume_closes g found es s k.sessions none session first mid resumes).free h.0)
+      subst (λ (x : State). HasNoCycle x.locks.requests) (sym h.2) ((resume_closes g o found es s k.sessions none session first mid resumes).free h.0)
   went_on_in session step new first mid resumes (vs ∷ rounds) h =
       let was = resume_has_waited g s session h.1 first mid h.4 resumes in
-      settles_free g found session (txn_of s.sessions session) was.call es mid first (vs ∷ rounds) step new
-      (resume_comes found session (txn_of s.sessions session) was.call es s k was.at was.waits g first mid resumes)
-      (resume_closes g found es s k.sessions none session first mid resumes) h
+      settles_free g o found session (txn_of s.sessions session) was.call es mid first (vs ∷ rounds) step new
+      (resume_comes o found session (txn_of s.sessions session) was.call es s k was.at was.waits g first mid resumes)
+      (resume_closes g o found es s k.sessions none session first mid resumes) h
 
   pub settled_resume_free : (session : ℕ) (step : Step) (new : State) → SettledResume g s session step new → HasNoCycle new.locks.requests
   settled_resume_free session step new (inl told) = none_as_before s new (ap (λ (x : State). x.locks) told.is) none
@@ -140,13 +142,13 @@ module _ (g : Geometry) (found : List LogRecord) (es : List Entry) (s : State) (
   event_free new (Forced n) h = none_as_before s new (ap (λ (x : State). x.locks) h.2) none
   event_free new HasFailed h = none_as_before s new (ap (λ (x : State). x.locks) h) none
 
-pub events_free : (g : Geometry) (found : List LogRecord) (es : List Entry) (s : State) (events : List ManagerEvent) (last : State) → IsStateAfter found es s → HasNoCycle s.locks.requests
+pub events_free : (g : Geometry) (o : Opening) (found : List LogRecord) (es : List Entry) (s : State) (events : List ManagerEvent) (last : State) → IsStateAfter o found es s → HasNoCycle s.locks.requests
     → EventsMove g s events last → HasNoCycle last.locks.requests
-events_free g found es s [] last k none h = subst (λ (x : State). HasNoCycle x.locks.requests) (sym h) none
-events_free g found es s (e ∷ events) last k none h =
-    events_free g found (es ++ entries_of s e) h.0 events last (session_event_stays g found es s h.0 e k h.1) (event_free g found es s k none h.0 e h.1) h.2
+events_free g o found es s [] last k none h = subst (λ (x : State). HasNoCycle x.locks.requests) (sym h) none
+events_free g o found es s (e ∷ events) last k none h =
+    events_free g o found (es ++ entries_of s e) h.0 events last (session_event_stays g o found es s h.0 e k h.1) (event_free g o found es s k none h.0 e h.1) h.2
 
-pub opened_free : (g : Geometry) (found : List LogRecord) (first : State) (events : List ManagerEvent) (last : State) → IsOpened found first → first.locks.requests ≡ []
+pub opened_free : (g : Geometry) (o : Opening) (found : List LogRecord) (first : State) (events : List ManagerEvent) (last : State) → IsOpened o found first
     → EventsMove g first events last → HasNoCycle last.locks.requests
-opened_free g found first events last opened none h =
-    events_free g found [] first events last (sessions_after_open found first opened none) (none_in_none first.locks.requests none) h
+opened_free g o found first events last opened h =
+    events_free g o found [] first events last (sessions_after_open o found first opened) (none_in_none first.locks.requests opened.locks.nobody_waits) h

@@ -6,6 +6,7 @@ use Rattle.shore_types.specs.declared.layout.Geometry.{Geometry}
 use Rattle.shore_types.specs.declared.locking.Granule.{Granule}
 use Rattle.shore_model.specs.declared.calls.Call.{Call}
 use Rattle.shore_model.specs.declared.histories.Entry.{Entry}
+use Rattle.shore_model.specs.declared.histories.Opening.{Opening}
 use Rattle.shore_model.specs.declared.log_records.LogRecord.{LogRecord}
 use Rattle.shore_cycles.specs.declared.victims.Victim.{Victim}
 use Rattle.laws_lives.specs.Sessions.{SessionTxn}
@@ -22,6 +23,7 @@ use Rattle.laws_calls.specs.Events.{IsStateAfter}
 use Rattle.laws_calls.specs.Midway.{Interlude, Intervene, Intervenes, IsItsCycle, IsMidway, Takes, WaitsAnew}
 use Rattle.laws_calls.specs.States.{IsOfSession, State, Waiting}
 use Rattle.laws_calls.specs.Victims.{TakesVictim}
+use Rattle.laws_calls.proofs.VictimSteps.{victim_seat}
 
 pub same_cycle : (x y : List ℕ) → Some x ≡ Some y → x ≡ y
 same_cycle x y e = cc
@@ -31,14 +33,14 @@ abbrev pub AreKnown : ℕ → (List ℕ → Type 0) → State → Type 0
 AreKnown session Known s = (w : Waiting) → IsAmong w s.waiting → w.session ≡ session → (cycle : List ℕ) → w.cycle ≡ Some cycle → Known cycle
 
 -- the one that waits is to be told none
-spared_known : (found : List LogRecord) (es : List Entry) (s : State) → IsStateAfter found es s → (session n : ℕ) (c : Call) (at : Granule) → IsSpared session n c at s
+spared_known : (o : Opening) (found : List LogRecord) (es : List Entry) (s : State) → IsStateAfter o found es s → (session n : ℕ) (c : Call) (at : Granule) → IsSpared session n c at s
     → (Known : List ℕ → Type 0) → AreKnown session Known s
-spared_known found es s k session n c at w Known v there of cycle told =
+spared_known o found es s k session n c at w Known v there of cycle told =
     let same = k.waits.once v w.waits.waited there w.waits.there (of ∙ sym w.waits.of) in
     let clash : None ≡ Some cycle = sym w.none ∙ ap (λ (x : Waiting). x.cycle) (sym same) ∙ told in
     absurd cc
 
-module _ (g : Geometry) (found : List LogRecord) (es : List Entry) (session n : ℕ) (c : Call) (Reach : State → Type 0) (Known : State → List ℕ → Type 0)
+module _ (g : Geometry) (o : Opening) (found : List LogRecord) (es : List Entry) (session n : ℕ) (c : Call) (Reach : State → Type 0) (Known : State → List ℕ → Type 0)
     (next : (x new : State) (e : Interlude) → Reach x → Intervenes g session x e new → Reach new)
     (carry : (x new : State) (e : Interlude) (cycle : List ℕ) → Intervenes g session x e new → Known x cycle → Known new cycle)
     (known : (x new : State) (e : Interlude) (cycle : List ℕ) → Reach x → IsItsCycle x session cycle → Intervenes g session x e new → Known new cycle) where
@@ -46,16 +48,16 @@ module _ (g : Geometry) (found : List LogRecord) (es : List Entry) (session n : 
   So x = Reach x × AreKnown session (Known x) x
 
   -- whose victim is of the session is told a cycle that passes its transaction
-  its_cycle : (x new : State) → IsPaused g found es session n c x → (a : SessionTxn) → IsOfSession x session a → (v : Victim) (h : TakesVictim x a.txn v new) → h.txn.session ≡ session → IsItsCycle x session v.cycle
+  its_cycle : (x new : State) → IsPaused g o found es session n c x → (a : SessionTxn) → IsOfSession x session a → (v : Victim) (h : TakesVictim x a.txn v new) → h.txn.session ≡ session → IsItsCycle x session v.cycle
   its_cycle x new p a of v h own =
-      let same : v.txn ≡ a.txn = sym h.number ∙ one_txn p.stays.sessions.agree h.txn a (inl h.active) (inl of.0) (own ∙ sym of.1) in
-      record { txn = a; of = of; closed = h.victim.stands.closed; passes = h.victim.passes; greatest = subst (λ t. All (λ u. u ≤ t) v.cycle) same h.victim.greatest }
+      let same : v.txn ≡ a.txn = sym h.number ∙ one_txn x.sessions h.txn a (victim_seat o found es x p.stays a.txn v new h).1 of.0.1 (own ∙ sym of.1) in
+      record { txn = a; of = (of.0.0, of.1); closed = h.victim.stands.closed; passes = h.victim.passes; greatest = subst (λ t. All (λ u. u ≤ t) v.cycle) same h.victim.greatest }
 
-  known_next : (x new : State) (e : Interlude) → IsPaused g found es session n c x → So x → Intervenes g session x e new → So new
+  known_next : (x new : State) (e : Interlude) → IsPaused g o found es session n c x → So x → Intervenes g session x e new → So new
   known_next x new (WaitsAnew at) p so h =
-      let come = resume_comes found session n c es x p.stays p.at p.waits g (Waits (Lock at)) new h in (
+      let come = resume_comes o found session n c es x p.stays p.at p.waits g (Waits (Lock at)) new h in (
         next x new (WaitsAnew at) so.0 h,
-        spared_known found _ new come.stays session n c at (come.waits at refl) (Known new),
+        spared_known o found _ new come.stays session n c at (come.waits at refl) (Known new),
       )
   known_next x new (Takes b v) p so h = (next x new (Takes b v) so.0 h, told)
     where
@@ -75,8 +77,8 @@ module _ (g : Geometry) (found : List LogRecord) (es : List Entry) (session n : 
           carry x new (Takes b v) cycle h (so.1 was.was was.there (was.session_is ∙ of) cycle (ap (λ (y : Waiting). y.cycle) same ∙ is)))
           (cases_Bool (was.was.session == taken.txn.session))
 
-  pub known_midway : (x : State) (between : List Interlude) (last : State) → IsPaused g found es session n c x → So x → Intervene g session x between last → So last
-  known_midway x between last p so h = (kept_midway g found es session n c So known_next x between last p so h).1
+  pub known_midway : (x : State) (between : List Interlude) (last : State) → IsPaused g o found es session n c x → So x → Intervene g session x between last → So last
+  known_midway x between last p so h = (kept_midway g o found es session n c So known_next x between last p so h).1
 
 -- one more comes between
 one_more : (g : Geometry) (session : ℕ) (s x new : State) (between : List Interlude) (e : Interlude) → Intervene g session s between x → Intervenes g session x e new → Intervene g session s (between ++ e ∷ []) new
@@ -84,7 +86,7 @@ one_more g session s x new between e way h = intervene_on g session s between x 
 
 -- ---- a call
 
-module _ (g : Geometry) (found : List LogRecord) (es : List Entry) (s : State) (k : IsStateAfter found es s) (session : ℕ) (c : Call) where
+module _ (g : Geometry) (o : Opening) (found : List LogRecord) (es : List Entry) (s : State) (k : IsStateAfter o found es s) (session : ℕ) (c : Call) where
   -- it was a cycle at some point of the very call, from which the call came here
   abbrev pub StoodMidway : State → List ℕ → Type 0
   StoodMidway y cycle =
@@ -103,14 +105,14 @@ module _ (g : Geometry) (found : List LogRecord) (es : List Entry) (s : State) (
   pub cycles_stood : (between : List Interlude) (x : State) → IsMidway g s session c between x → AreKnown session (StoodMidway x) x
   cycles_stood between x m =
       let spared = call_waits_at g s session c (Waits (Lock m.at)) m.waits m.calls m.at refl in
-      let p = paused_at_first g found es s k session c m.at m.waits m.calls in
-      (known_midway g found es session (txn_of s.sessions session) c Reach StoodMidway next carry (λ y new e cycle r its h. (r.0, y, r.1, its, (e ∷ [], (new, h, refl)))) m.waits between x p
-      (([], record { at = m.at; waits = m.waits; calls = m.calls; intervene = refl }), spared_known found es m.waits p.stays session (txn_of s.sessions session) c m.at spared (StoodMidway m.waits))
+      let p = paused_at_first g o found es s k session c m.at m.waits m.calls in
+      (known_midway g o found es session (txn_of s.sessions session) c Reach StoodMidway next carry (λ y new e cycle r its h. (r.0, y, r.1, its, (e ∷ [], (new, h, refl)))) m.waits between x p
+      (([], record { at = m.at; waits = m.waits; calls = m.calls; intervene = refl }), spared_known o found es m.waits p.stays session (txn_of s.sessions session) c m.at spared (StoodMidway m.waits))
       m.intervene).1
 
 -- ---- a resume
 
-module _ (g : Geometry) (found : List LogRecord) (es : List Entry) (s : State) (session n : ℕ) (c : Call) (p : IsPaused g found es session n c s) where
+module _ (g : Geometry) (o : Opening) (found : List LogRecord) (es : List Entry) (s : State) (session n : ℕ) (c : Call) (p : IsPaused g o found es session n c s) where
   -- its session was to be told it before, or it was a cycle at some point of the very resume, from which it came here
   abbrev pub StoodBefore : State → List ℕ → Type 0
   StoodBefore y cycle =
@@ -129,5 +131,5 @@ module _ (g : Geometry) (found : List LogRecord) (es : List Entry) (s : State) (
 
   pub cycles_stood_before : (between : List Interlude) (x : State) → Intervene g session s between x → AreKnown session (StoodBefore x) x
   cycles_stood_before between x way =
-      (known_midway g found es session n c GoneTo StoodBefore goes_to still_stood (λ y new e cycle r its h. inr (r.0, y, r.1, its, (e ∷ [], (new, h, refl)))) s between x p
+      (known_midway g o found es session n c GoneTo StoodBefore goes_to still_stood (λ y new e cycle r its h. inr (r.0, y, r.1, its, (e ∷ [], (new, h, refl)))) s between x p
       (([], refl), λ w there of cycle is. inl (w, there, of, is)) way).1

@@ -7,6 +7,7 @@ use Rattle.shore_types.specs.declared.locking.Granule.{Granule}
 use Rattle.shore_model.specs.declared.calls.Answer.{Answer}
 use Rattle.shore_model.specs.declared.calls.Call.{Call}
 use Rattle.shore_model.specs.declared.histories.Entry.{Entry}
+use Rattle.shore_model.specs.declared.histories.Opening.{Opening}
 use Rattle.shore_model.specs.declared.log_records.LogRecord.{LogRecord}
 use Rattle.shore_cycles.specs.declared.victims.Victim.{Victim}
 use Rattle.shore_model.specs.declared.rollbacks.Rollback.TheVariants.{Whole}
@@ -27,6 +28,7 @@ use Rattle.laws_calls.specs.Events.{IsStateAfter}
 use Rattle.laws_calls.specs.Settling.{SettledCall, SettledResume, Settles}
 use Rattle.laws_calls.specs.States.{DoesNotWait, State, Waiting, next_number}
 use Rattle.laws_calls.specs.Victims.{TellsVictim, Withdraws}
+use Rattle.laws_calls.proofs.Outside.{outside_same}
 
 -- an answer or a refusal
 abbrev pub IsEnd : Step → Type 0
@@ -82,7 +84,9 @@ module _ (g : Geometry) (s new : State) where
   call_leaves session c step (inr (inr (inl h))) end = ap (λ (x : State). x.waiting) h.3
   call_leaves session c step (inr (inr (inr (inl h)))) end = begin_leaves session step h.3 end
   call_leaves session c step (inr (inr (inr (inr (inl h))))) end = ap (λ (x : State). x.waiting) h.5
-  call_leaves session c step (inr (inr (inr (inr (inr h))))) end = inner_leaves h.2.0 c step h.2.2 end
+  call_leaves session c step (inr (inr (inr (inr (inr (inr (inl h))))))) end = ap (λ (x : State). x.waiting) h.5
+  call_leaves session c step (inr (inr (inr (inr (inr (inr (inr h))))))) end = ap (λ (x : State). x.waiting) (outside_same s c step new h.2)
+  call_leaves session c step (inr (inr (inr (inr (inr (inl h)))))) end = inner_leaves h.2.0 c step h.2.2 end
 
   -- a call that is not refused is made by a session that does not wait
   pub idle_before : (session : ℕ) (c : Call) (step : Step) → ((f : Fault) → step ≢ Refused f) → CallStep g s session c step new → DoesNotWait s session
@@ -91,21 +95,23 @@ module _ (g : Geometry) (s new : State) where
   idle_before session c step taken (inr (inr (inl h))) = absurd (taken fault.Busy h.2)
   idle_before session c step taken (inr (inr (inr (inl h)))) = h.1
   idle_before session c step taken (inr (inr (inr (inr (inl h))))) = h.1
-  idle_before session c step taken (inr (inr (inr (inr (inr h))))) = h.1
+  idle_before session c step taken (inr (inr (inr (inr (inr (inr (inl h))))))) = h.1
+  idle_before session c step taken (inr (inr (inr (inr (inr (inr (inr h))))))) = h.1
+  idle_before session c step taken (inr (inr (inr (inr (inr (inl h)))))) = h.1
 
 -- ---- rounds
 
-module _ (g : Geometry) (found : List LogRecord) (es : List Entry) (s : State) (k : IsStateAfter found es s) (session : ℕ) (new : State) where
+module _ (g : Geometry) (o : Opening) (found : List LogRecord) (es : List Entry) (s : State) (k : IsStateAfter o found es s) (session : ℕ) (new : State) where
   call_ends : (c : Call) (step : Step) → DoesNotWait s session → CallStep g s session c step new → EndsSo session step new
   call_ends c step idle h = record {
     idle = λ end w m. idle w (subst (IsAmong w) (call_leaves g s new session c step h end) m);
-    fails = λ f is. call_fails g found es s k session c f new (subst (λ (x : Step). CallStep g s session c x new) is h);
+    fails = λ f is. call_fails g o found es s k session c f new (subst (λ (x : Step). CallStep g s session c x new) is h);
   }
 
   resume_ends : (step : Step) → ResumeStep g s session step new → EndsSo session step new
   resume_ends step h = record {
     idle = by step h;
-    fails = λ f is. resume_fails g found es s k session f new (subst (λ (x : Step). ResumeStep g s session x new) is h);
+    fails = λ f is. resume_fails g o found es s k session f new (subst (λ (x : Step). ResumeStep g s session x new) is h);
   }
     where
       by : (step : Step) → ResumeStep g s session step new → IsEnd step → DoesNotWait new session
@@ -141,20 +147,20 @@ still_ends session step at new is = record {
   fails = λ f other. let clash : Waits (Lock at) ≡ Refused f = sym is ∙ other in absurd cc;
 }
 
-settles_ends : (g : Geometry) (found : List LogRecord) (session n : ℕ) (c : Call) (es : List Entry) (s : State) (first : Step) (rounds : List (List Victim)) (step : Step) (new : State)
-    → HasComeTo found session n c es first s → EndsSo session first s → Settles g s session first rounds step new → EndsSo session step new
-settles_ends g found session n c es s first [] step new k ends h = subst (EndsSo session step) (sym h.2) (subst (λ (x : Step). EndsSo session x s) (sym h.1) ends)
-settles_ends g found session n c es s first (vs ∷ rounds) step new k ends h =
+settles_ends : (g : Geometry) (o : Opening) (found : List LogRecord) (session n : ℕ) (c : Call) (es : List Entry) (s : State) (first : Step) (rounds : List (List Victim)) (step : Step) (new : State)
+    → HasComeTo o found session n c es first s → EndsSo session first s → Settles g s session first rounds step new → EndsSo session step new
+settles_ends g o found session n c es s first [] step new k ends h = subst (EndsSo session step) (sym h.2) (subst (λ (x : Step). EndsSo session x s) (sym h.1) ends)
+settles_ends g o found session n c es s first (vs ∷ rounds) step new k ends h =
     let broken = h.2 in
-    let b = is_broken found session n c es first s k h.0 h.1 broken h.3 h.4 vs h.5 in
+    let b = is_broken o found session n c es first s k h.0 h.1 broken h.3 h.4 vs h.5 in
     ⊎_elim
     (λ over. ⊎_elim
     (λ still. still_ends session step h.1 new (still.2 ∙ h.4))
     (λ end. ⊎_elim (told_ends broken session step new) (λ back. withdrawn_ends broken h.0 session step new b.its back.1) end)
     over.1)
-    (λ goes. settles_ends g found session n c es goes.1 goes.0 rounds step new
-    (resume_comes found session n c es broken b.stays h.1 b.waits g goes.0 goes.1 goes.3)
-    (resume_ends g found es broken b.stays session goes.1 goes.0 goes.3) goes.4)
+    (λ goes. settles_ends g o found session n c es goes.1 goes.0 rounds step new
+    (resume_comes o found session n c es broken b.stays h.1 b.waits g goes.0 goes.1 goes.3)
+    (resume_ends g o found es broken b.stays session goes.1 goes.0 goes.3) goes.4)
     h.6
 
 -- ---- calls and resumes
@@ -175,7 +181,8 @@ durable_in g s new w (Durable m) n (inl h) = (ap wait_of (sym h.1), h.2)
     wait_of (Done answer) = Durable m
     wait_of (Refused f) = Durable m
     wait_of Nothing = Durable m
-durable_in g s new w (Durable m) n (inr h) = let clash = h.1 in absurd cc
+durable_in g s new w (Durable m) n (inr (inl h)) = let clash = h.1 in absurd cc
+durable_in g s new w (Durable m) n (inr (inr h)) = let clash = h.1 in absurd cc
 durable_in g s new w (Lock at) n h = ⊎_elim
     (λ still. let clash = still.1 in absurd cc)
     (λ free. let clash = free.1.4 in absurd cc)
@@ -194,13 +201,13 @@ durable_spared g s new session n (inr h) = subst (λ m. WaitsSpared m (Durable n
 spared_as : (session n : ℕ) (c : Call) (at : Granule) (s : State) → IsSpared session n c at s → WaitsSpared session (Lock at) s
 spared_as session n c at s h = (h.waits.waited, h.waits.there, h.waits.of, h.waits.lock, h.none)
 
-module _ (g : Geometry) (found : List LogRecord) (es : List Entry) (s : State) (k : IsStateAfter found es s) where
+module _ (g : Geometry) (o : Opening) (found : List LogRecord) (es : List Entry) (s : State) (k : IsStateAfter o found es s) where
   module _ (session : ℕ) (c : Call) (new : State) where
     -- it waits for a lock first
     settled_on : (step first : Step) (mid : State) → CallStep g s session c first mid → (vs : List Victim) (rounds : List (List Victim)) → Settles g mid session first (vs ∷ rounds) step new
-        → HasComeTo found session (txn_of s.sessions session) c es step new
+        → HasComeTo o found session (txn_of s.sessions session) c es step new
     settled_on step first mid calls vs rounds h =
-        settles_stays found session (txn_of s.sessions session) c g es mid first (vs ∷ rounds) step new (waiting_call_comes found es s k g session c first mid h.1 h.4 calls) h
+        settles_stays o found session (txn_of s.sessions session) c g es mid first (vs ∷ rounds) step new (waiting_call_comes o found es s k g session c first mid h.1 h.4 calls) h
 
     begins_in : (wait : Wait) (first : Step) (mid : State) → CallStep g s session c first mid → (rounds : List (List Victim)) → Settles g mid session first rounds (Waits wait) new
         → CallWaits session c wait new
@@ -224,10 +231,10 @@ module _ (g : Geometry) (found : List LogRecord) (es : List Entry) (s : State) (
     ends_in : (step first : Step) (mid : State) → DoesNotWait s session → CallStep g s session c first mid → (rounds : List (List Victim)) → Settles g mid session first rounds step new
         → EndsSo session step new
     ends_in step first mid idle calls [] h =
-        subst (EndsSo session step) (sym h.2) (subst (λ (x : Step). EndsSo session x mid) (sym h.1) (call_ends g found es s k session mid c first idle calls))
+        subst (EndsSo session step) (sym h.2) (subst (λ (x : Step). EndsSo session x mid) (sym h.1) (call_ends g o found es s k session mid c first idle calls))
     ends_in step first mid idle calls (vs ∷ rounds) h =
-        settles_ends g found session (txn_of s.sessions session) c es mid first (vs ∷ rounds) step new (waiting_call_comes found es s k g session c first mid h.1 h.4 calls)
-        (call_ends g found es s k session mid c first idle calls) h
+        settles_ends g o found session (txn_of s.sessions session) c es mid first (vs ∷ rounds) step new (waiting_call_comes o found es s k g session c first mid h.1 h.4 calls)
+        (call_ends g o found es s k session mid c first idle calls) h
 
     -- the session did not wait, or its call was refused at once
     pub settled_call_ends : (step : Step) → DoesNotWait s session → SettledCall g s session c step new → EndsSo session step new
@@ -236,7 +243,7 @@ module _ (g : Geometry) (found : List LogRecord) (es : List Entry) (s : State) (
     fails_in : (step first : Step) (mid : State) → CallStep g s session c first mid → (rounds : List (List Victim)) → Settles g mid session first rounds step new
         → (f : Fault) → step ≡ Refused f → Fails f new
     fails_in step first mid calls [] h f is =
-        subst (Fails f) (sym h.2) (call_fails g found es s k session c f mid (subst (λ (x : Step). CallStep g s session c x mid) (sym h.1 ∙ is) calls))
+        subst (Fails f) (sym h.2) (call_fails g o found es s k session c f mid (subst (λ (x : Step). CallStep g s session c x mid) (sym h.1 ∙ is) calls))
     fails_in step first mid calls (vs ∷ rounds) h f is = (ends_in step first mid idle calls (vs ∷ rounds) h).fails f is
       where
         idle : DoesNotWait s session
@@ -257,11 +264,11 @@ module _ (g : Geometry) (found : List LogRecord) (es : List Entry) (s : State) (
 
   module _ (session : ℕ) (new : State) where
     went_on : (step first : Step) (mid : State) (resumes : ResumeStep g s session first mid) (vs : List Victim) (rounds : List (List Victim)) (h : Settles g mid session first (vs ∷ rounds) step new)
-        → HasComeTo found session (txn_of s.sessions session) (resume_has_waited g s session h.1 first mid h.4 resumes).call es step new
+        → HasComeTo o found session (txn_of s.sessions session) (resume_has_waited g s session h.1 first mid h.4 resumes).call es step new
     went_on step first mid resumes vs rounds h =
         let was = resume_has_waited g s session h.1 first mid h.4 resumes in
-        settles_stays found session (txn_of s.sessions session) was.call g es mid first (vs ∷ rounds) step new
-        (resume_comes found session (txn_of s.sessions session) was.call es s k was.at was.waits g first mid resumes) h
+        settles_stays o found session (txn_of s.sessions session) was.call g es mid first (vs ∷ rounds) step new
+        (resume_comes o found session (txn_of s.sessions session) was.call es s k was.at was.waits g first mid resumes) h
 
     resumed_spared : (wait : Wait) (x : State) → ResumeStep g s session (Waits wait) x → WaitsSpared session wait x
     resumed_spared (Durable n) x h = durable_spared g s x session n h
@@ -285,14 +292,14 @@ module _ (g : Geometry) (found : List LogRecord) (es : List Entry) (s : State) (
 
     resume_ends_in : (step first : Step) (mid : State) → ResumeStep g s session first mid → (rounds : List (List Victim)) → Settles g mid session first rounds step new → EndsSo session step new
     resume_ends_in step first mid resumes [] h =
-        subst (EndsSo session step) (sym h.2) (subst (λ (x : Step). EndsSo session x mid) (sym h.1) (resume_ends g found es s k session mid first resumes))
+        subst (EndsSo session step) (sym h.2) (subst (λ (x : Step). EndsSo session x mid) (sym h.1) (resume_ends g o found es s k session mid first resumes))
     resume_ends_in step first mid resumes (vs ∷ rounds) h =
         let was = resume_has_waited g s session h.1 first mid h.4 resumes in
-        settles_ends g found session (txn_of s.sessions session) was.call es mid first (vs ∷ rounds) step new
-        (resume_comes found session (txn_of s.sessions session) was.call es s k was.at was.waits g first mid resumes)
-        (resume_ends g found es s k session mid first resumes) h
+        settles_ends g o found session (txn_of s.sessions session) was.call es mid first (vs ∷ rounds) step new
+        (resume_comes o found session (txn_of s.sessions session) was.call es s k was.at was.waits g first mid resumes)
+        (resume_ends g o found es s k session mid first resumes) h
 
     pub settled_resume_ends : (step : Step) → SettledResume g s session step new → EndsSo session step new
     settled_resume_ends step (inl told) = told_ends s session step new told
-    settled_resume_ends step (inr (inl still)) = resume_ends g found es s k session new step still.0
+    settled_resume_ends step (inr (inl still)) = resume_ends g o found es s k session new step still.0
     settled_resume_ends step (inr (inr on)) = resume_ends_in step on.first on.mid on.resumes on.rounds on.settles

@@ -9,6 +9,7 @@ use Rattle.shore_model.specs.declared.calls.Call.{Call}
 use Rattle.shore_model.specs.declared.calls.Call.TheVariants as call
 use Rattle.shore_model.specs.Locks.{path}
 use Rattle.shore_model.specs.declared.histories.Entry.{Entry}
+use Rattle.shore_model.specs.declared.histories.Opening.{Opening}
 use Rattle.shore_model.specs.declared.log_records.LogRecord.{LogRecord}
 use Rattle.shore_model.specs.declared.requests.Request.{Request}
 use Rattle.shore_model.specs.declared.step.Step.{Step}
@@ -54,7 +55,8 @@ use Rattle.laws_calls.specs.Midway.{EndsFrom, Interlude, Intervene, IsMidway, Ta
 use Rattle.laws_calls.specs.SessionWaits.{WaitsThere}
 use Rattle.laws_calls.specs.Settling.{SettledCall, SettledResume, WaitsForNoLock}
 use Rattle.laws_calls.specs.StateChanges.{wait_refused}
-use Rattle.laws_calls.specs.States.{IsOfSession, State, Waiting}
+use Rattle.laws_calls.specs.States.{IsOfSession, State, Waiting, HasSeat}
+use Rattle.laws_calls.proofs.Outside.{outside_same}
 
 -- ---- words
 
@@ -78,26 +80,26 @@ AreIn vs [] = Unit {0}
 AreIn vs (Takes b v ∷ between) = (is_victim vs v.txn ≡ true) × AreIn vs between
 AreIn vs (WaitsAnew at ∷ between) = AreIn vs between
 
-module _ (g : Geometry) (found : List LogRecord) (es : List Entry) (session n : ℕ) (c : Call) (lock : Asked) (asked : lock_asked_by c ≡ Some lock) (rs : List Request) (vs : List Victim) where
+module _ (g : Geometry) (o : Opening) (found : List LogRecord) (es : List Entry) (session n : ℕ) (c : Call) (lock : Asked) (asked : lock_asked_by c ≡ Some lock) (rs : List Request) (vs : List Victim) where
   abbrev HasGrown : State → Type 0
   HasGrown x = Grown rs n lock.granule lock.mode vs x.locks.requests
 
   -- the call asks
-  goes_grown : (x : State) → IsSessionsState found es x → (a : SessionTxn) → IsAmong a x.sessions.active → a.txn ≡ n → is_waiting a.txn x.locks.requests ≡ false → HasGrown x
+  goes_grown : (x : State) → IsSessionsState o found es x → (a : SessionTxn) → HasSeat x.sessions a → a.txn ≡ n → is_waiting a.txn x.locks.requests ≡ false → HasGrown x
       → HasGrown (behind_lock x a c lock)
   goes_grown x k a mem is quiet grown =
       subst (λ t. Grown rs t lock.granule lock.mode vs (behind_lock x a c lock).locks.requests) is
-      (grown_acquired rs a.txn lock.granule lock.mode vs (on_conflict_of c) x.locks k.locks.orderly quiet (leaves found es x k a mem quiet (on_conflict_of c) lock.granule lock.mode)
+      (grown_acquired rs a.txn lock.granule lock.mode vs (on_conflict_of c) x.locks k.locks.orderly quiet (leaves o found es x k a mem quiet (on_conflict_of c) lock.granule lock.mode)
       (subst (λ t. Grown rs t lock.granule lock.mode vs x.locks.requests) (sym is) grown))
 
   -- .. and waits
-  waits_grown : (x : State) → IsSessionsState found es x → (a : SessionTxn) → IsAmong a x.sessions.active → a.txn ≡ n → is_waiting a.txn x.locks.requests ≡ false → (wait : Wait) (new : State)
+  waits_grown : (x : State) → IsSessionsState o found es x → (a : SessionTxn) → HasSeat x.sessions a → a.txn ≡ n → is_waiting a.txn x.locks.requests ≡ false → (wait : Wait) (new : State)
       → CallGoesOn g x a c (Waits wait) new → HasGrown x → HasGrown new
   waits_grown x k a mem is quiet wait new h grown =
       let same = same_lock (lock_asked_by c) lock h.0 asked h.2 in
       subst HasGrown (sym h.5) (subst (λ (l : Asked). Grown rs n lock.granule lock.mode vs (behind_lock x a c l).locks.requests) same (goes_grown x k a mem is quiet grown))
 
-  anew_grown : (x new : State) (at : Granule) → IsPaused g found es session n c x → ResumeStep g x session (Waits (Lock at)) new → HasGrown x → HasGrown new
+  anew_grown : (x new : State) (at : Granule) → IsPaused g o found es session n c x → ResumeStep g x session (Waits (Lock at)) new → HasGrown x → HasGrown new
   anew_grown x new at p h grown = ⊎_elim
       (λ failed. let clash = failed.1 in absurd cc)
       (λ runs. by (subst (λ (w : Wait). ResumesWait g x p.waits.waited w (Waits (Lock at)) new) p.waits.lock runs.1))
@@ -107,22 +109,22 @@ module _ (g : Geometry) (found : List LogRecord) (es : List Entry) (session n : 
       by y = ⊎_elim
           (λ still. subst HasGrown (sym still.2) grown)
           (λ free.
-          let number : y.0.txn ≡ n = sym (its_txn p.stays.sessions.agree y.0 session (inl y.1.0) (y.1.1 ∙ p.waits.of)) ∙ p.waits.number in
-          waits_grown (wait_refused x p.waits.waited.session) (woken g found es x p.stays.sessions y.0 p.waits.waited.session y.1 free.0) y.0 y.1.0 number free.0 (Lock at) new
+          let number : y.0.txn ≡ n = sym (its_txn x.sessions y.0 session y.1.0.1 (y.1.1 ∙ p.waits.of)) ∙ p.waits.number in
+          waits_grown (wait_refused x p.waits.waited.session) (woken g o found es x p.stays.sessions y.0 p.waits.waited.session y.1 free.0) y.0 y.1.0 number free.0 (Lock at) new
           (subst (λ (d : Call). CallGoesOn g (wait_refused x p.waits.waited.session) y.0 d (Waits (Lock at)) new) p.waits.its free.1) grown)
           y.2
 
-  grown_midway : (x : State) (between : List Interlude) (last : State) → AreIn vs between → IsPaused g found es session n c x → HasGrown x → Intervene g session x between last
-      → IsPaused g found es session n c last × HasGrown last
-  grown_midway x [] last are p grown h = (subst (IsPaused g found es session n c) (sym h) p, subst HasGrown (sym h) grown)
+  grown_midway : (x : State) (between : List Interlude) (last : State) → AreIn vs between → IsPaused g o found es session n c x → HasGrown x → Intervene g session x between last
+      → IsPaused g o found es session n c last × HasGrown last
+  grown_midway x [] last are p grown h = (subst (IsPaused g o found es session n c) (sym h) p, subst HasGrown (sym h) grown)
   grown_midway x (Takes b v ∷ between) last are p grown h =
       let taken = h.1.2.0 in
-      grown_midway h.0 between last are.1 (paused_next g found es session n c x h.0 (Takes b v) p h.1)
+      grown_midway h.0 between last are.1 (paused_next g o found es session n c x h.0 (Takes b v) p h.1)
       (subst HasGrown (sym taken.is)
       (grown_cancelled rs n lock.granule lock.mode vs taken.txn.txn x.locks.requests p.stays.sessions.locks.orderly (inr (subst (λ u. is_victim vs u ≡ true) (sym taken.number) are.0)) grown))
       h.2
   grown_midway x (WaitsAnew at ∷ between) last are p grown h =
-      grown_midway h.0 between last are (paused_next g found es session n c x h.0 (WaitsAnew at) p h.1) (anew_grown x h.0 at p h.1 grown) h.2
+      grown_midway h.0 between last are (paused_next g o found es session n c x h.0 (WaitsAnew at) p h.1) (anew_grown x h.0 at p h.1 grown) h.2
 
   -- ---- the end
 
@@ -133,14 +135,14 @@ module _ (g : Geometry) (found : List LogRecord) (es : List Entry) (session n : 
   as_grown new grown = record { others = only_grants n vs rs new grown.others; lock = lock; asked = asked; own = inl grown.own; none_weaker = grown.weaker }
 
   -- the place of an insert, behind the lock of its store
-  placed : (x : State) → IsSessionsState found es x → (a : SessionTxn) → IsAmong a x.sessions.active → a.txn ≡ n → is_waiting a.txn x.locks.requests ≡ false → HasGrown x
+  placed : (x : State) → IsSessionsState o found es x → (a : SessionTxn) → HasSeat x.sessions a → a.txn ≡ n → is_waiting a.txn x.locks.requests ≡ false → HasGrown x
       → (lock_outcome x a c lock).answer ≡ Ok acquire.Done → (new : State) → PlaceLocks (behind_lock x a c lock) a c new → ChangesSo new.locks.requests
   placed x k a mem is quiet grown done new h =
       let mid = behind_lock x a c lock in
-      let first = leaves found es x k a mem quiet (on_conflict_of c) lock.granule lock.mode in
-      let kept = locked_state found es x k a mem quiet (on_conflict_of c) lock.granule lock.mode (never_waiting done) in
+      let first = leaves o found es x k a mem quiet (on_conflict_of c) lock.granule lock.mode in
+      let kept = locked_state o found es x k a mem quiet (on_conflict_of c) lock.granule lock.mode (never_waiting done) in
       let still = first.quiet (never_waiting done) in
-      let place = leaves found es mid kept a mem still conflict.Refuse (granule.Record h.id) EX in
+      let place = leaves o found es mid kept a mem still conflict.Refuse (granule.Record h.id) EX in
       let before = goes_grown x k a mem is quiet grown in
       let after = spares_acquired conflict.Refuse mid.locks a.txn (granule.Record h.id) EX vs (fit_of mid.locks.requests kept.locks.orderly) still in
       let left : List Request = (place_outcome mid a h.id).requests in
@@ -163,7 +165,7 @@ module _ (g : Geometry) (found : List LogRecord) (es : List Entry) (session n : 
       })
 
   -- the call goes on, to whatever it comes
-  goes_changes : (x : State) → IsSessionsState found es x → (a : SessionTxn) → IsAmong a x.sessions.active → a.txn ≡ n → is_waiting a.txn x.locks.requests ≡ false → HasGrown x
+  goes_changes : (x : State) → IsSessionsState o found es x → (a : SessionTxn) → HasSeat x.sessions a → a.txn ≡ n → is_waiting a.txn x.locks.requests ≡ false → HasGrown x
       → (step : Step) (new : State) → CallGoesOn g x a c step new → ChangesSo new.locks.requests
   goes_changes x k a mem is quiet grown step new h = ⊎_elim
       (λ same. subst ChangesSo (sym (ap (λ (y : Table). y.requests) same)) (as_grown x.locks.requests grown))
@@ -177,11 +179,11 @@ module _ (g : Geometry) (found : List LogRecord) (es : List Entry) (session n : 
       taken.2)
       (goes_on_locks g x a c step new h)
 
-  ends_changes : (x new : State) (step : Step) → IsPaused g found es session n c x → HasGrown x → EndsFrom g x session step new → ChangesSo new.locks.requests
+  ends_changes : (x new : State) (step : Step) → IsPaused g o found es session n c x → HasGrown x → EndsFrom g x session step new → ChangesSo new.locks.requests
   ends_changes x new step p grown (inl still) = subst (λ (y : State). ChangesSo y.locks.requests) (sym still.is) (as_grown x.locks.requests grown)
   ends_changes x new step p grown (inr (inl (inl told))) = subst (λ (y : State). ChangesSo y.locks.requests) (sym told.is) (as_grown x.locks.requests grown)
   ends_changes x new step p grown (inr (inl (inr back))) =
-      let number : back.0.txn ≡ n = sym (its_txn p.stays.sessions.agree back.0 session (inl back.1.0) back.1.1) ∙ p.waits.number in
+      let number : back.0.txn ≡ n = sym (its_txn x.sessions back.0 session back.1.0.1 back.1.1) ∙ p.waits.number in
       subst (λ (y : State). ChangesSo y.locks.requests) (sym back.2.1)
       (as_grown (cancelled back.0.txn x.locks.requests) (grown_cancelled rs n lock.granule lock.mode vs back.0.txn x.locks.requests p.stays.sessions.locks.orderly (inl number) grown))
   ends_changes x new step p grown (inr (inr goes)) = ⊎_elim
@@ -193,8 +195,8 @@ module _ (g : Geometry) (found : List LogRecord) (es : List Entry) (session n : 
       by y = ⊎_elim
           (λ still. absurd (subst WaitsForNoLock still.1 goes.0))
           (λ free.
-          let number : y.0.txn ≡ n = sym (its_txn p.stays.sessions.agree y.0 session (inl y.1.0) (y.1.1 ∙ p.waits.of)) ∙ p.waits.number in
-          goes_changes (wait_refused x p.waits.waited.session) (woken g found es x p.stays.sessions y.0 p.waits.waited.session y.1 free.0) y.0 y.1.0 number free.0 grown step new
+          let number : y.0.txn ≡ n = sym (its_txn x.sessions y.0 session y.1.0.1 (y.1.1 ∙ p.waits.of)) ∙ p.waits.number in
+          goes_changes (wait_refused x p.waits.waited.session) (woken g o found es x p.stays.sessions y.0 p.waits.waited.session y.1 free.0) y.0 y.1.0 number free.0 grown step new
           (subst (λ (d : Call). CallGoesOn g (wait_refused x p.waits.waited.session) y.0 d step new) p.waits.its free.1))
           y.2
 
@@ -218,7 +220,7 @@ all_in (WaitsAnew at ∷ between) = all_in between
 
 -- ---- a call
 
-module _ (g : Geometry) (found : List LogRecord) (es : List Entry) (s : State) (k : IsStateAfter found es s) (session : ℕ) (c : Call) where
+module _ (g : Geometry) (o : Opening) (found : List LogRecord) (es : List Entry) (s : State) (k : IsStateAfter o found es s) (session : ℕ) (c : Call) where
   -- nothing, or an abort's answer, or the call asks
   abbrev StepsSo : Step → State → Type 0
   StepsSo step new =
@@ -247,8 +249,10 @@ module _ (g : Geometry) (found : List LogRecord) (es : List Entry) (s : State) (
   call_so step new (inr (inr (inl h))) = inl (ap (λ (x : State). x.locks) h.3)
   call_so step new (inr (inr (inr (inl h)))) = inl (begin_keeps_locks s session step new h.3)
   call_so step new (inr (inr (inr (inr (inl h))))) = inl (ap (λ (x : State). x.locks) h.5)
-  call_so step new (inr (inr (inr (inr (inr h))))) =
-      inner_so h.2.0 h.2.1 (k.sessions.locks.waits h.0 h.2.0 h.2.1.0 (λ w m spared same. h.1 w m (same ∙ h.2.1.1))) step new h.2.2
+  call_so step new (inr (inr (inr (inr (inr (inr (inl h))))))) = inl (ap (λ (x : State). x.locks) h.5)
+  call_so step new (inr (inr (inr (inr (inr (inr (inr h))))))) = inl (ap (λ (x : State). x.locks) (outside_same s c step new h.2))
+  call_so step new (inr (inr (inr (inr (inr (inl h)))))) =
+      inner_so h.2.0 h.2.1 (k.sessions.locks.waits h.0 h.2.0 h.2.1.0.0 (λ w m spared same. h.1 w m (same ∙ h.2.1.1))) step new h.2.2
 
   -- what asks for a lock
   asks_lock : (a : SessionTxn) (step : Step) (new : State) → CallGoesOn g s a c step new → ((lock : Asked) × (lock_asked_by c ≡ Some lock)) ⊎ (new.locks ≡ s.locks)
@@ -275,7 +279,7 @@ module _ (g : Geometry) (found : List LogRecord) (es : List Entry) (s : State) (
         (
           [],
           inl refl,
-          goes_changes g found es session goes.0.txn c asks.0 asks.1 s.locks.requests [] s k.sessions goes.0 goes.1.0 refl goes.2
+          goes_changes g o found es session goes.0.txn c asks.0 asks.1 s.locks.requests [] s k.sessions goes.0 goes.1.0 refl goes.2
               (grown_from s.locks.requests goes.0.txn asks.0.granule asks.0.mode [] goes.2) step new goes.3,
         ),
       )))
@@ -292,12 +296,12 @@ module _ (g : Geometry) (found : List LogRecord) (es : List Entry) (s : State) (
       let goes = asks.1 in
       let a = t.txn in
       let vs = cycles_among came.between in
-      let quiet = k.sessions.locks.waits t.running a t.of.0 (λ w there spared same. t.idle w there (same ∙ t.of.1)) in
-      let number = its_txn k.sessions.agree a session (inl t.of.0) t.of.1 in
-      let p = subst (λ n. IsPaused g found es session n c m.waits) number (paused_at_first g found es s k session c m.at m.waits m.calls) in
-      let first = waits_grown g found es session a.txn c goes.0 goes.2 s.locks.requests vs s k.sessions a t.of.0 refl quiet (Lock m.at) m.waits goes (grown_from s.locks.requests a.txn goes.0.granule goes.0.mode vs quiet) in
-      let last = grown_midway g found es session a.txn c goes.0 goes.2 s.locks.requests vs m.waits came.between came.from (all_in came.between) p first m.intervene in
-      inr (inr (a, t.of, (came.between, inr (came.from, m), ends_changes g found es session a.txn c goes.0 goes.2 s.locks.requests vs came.from new step last.0 last.1 came.ends))))
+      let quiet = k.sessions.locks.waits t.running a t.of.0.0 (λ w there spared same. t.idle w there (same ∙ t.of.1)) in
+      let number = its_txn s.sessions a session t.of.0.1 t.of.1 in
+      let p = subst (λ n. IsPaused g o found es session n c m.waits) number (paused_at_first g o found es s k session c m.at m.waits m.calls) in
+      let first = waits_grown g o found es session a.txn c goes.0 goes.2 s.locks.requests vs s k.sessions a t.of.0 refl quiet (Lock m.at) m.waits goes (grown_from s.locks.requests a.txn goes.0.granule goes.0.mode vs quiet) in
+      let last = grown_midway g o found es session a.txn c goes.0 goes.2 s.locks.requests vs m.waits came.between came.from (all_in came.between) p first m.intervene in
+      inr (inr (a, t.of, (came.between, inr (came.from, m), ends_changes g o found es session a.txn c goes.0 goes.2 s.locks.requests vs came.from new step last.0 last.1 came.ends))))
       (λ commits. absurd (durable_no_lock _ m.at (sym commits.1.0)))
       t.how
 
@@ -306,7 +310,7 @@ module _ (g : Geometry) (found : List LogRecord) (es : List Entry) (s : State) (
 
 -- ---- a resume
 
-module _ (g : Geometry) (found : List LogRecord) (es : List Entry) (s : State) (k : IsStateAfter found es s) (session : ℕ) (there : WaitsThere s session) where
+module _ (g : Geometry) (o : Opening) (found : List LogRecord) (es : List Entry) (s : State) (k : IsStateAfter o found es s) (session : ℕ) (there : WaitsThere s session) where
   -- The requests stay; or a commit is answered, and all of its transaction's go; or they change as the call asks that waited.
   abbrev pub LocksSettleAgain : Step → State → Type 0
   LocksSettleAgain step new =
@@ -317,7 +321,8 @@ module _ (g : Geometry) (found : List LogRecord) (es : List Entry) (s : State) (
 
   wait_settles : (w : Waiting) → IsAmong w s.waiting → w.session ≡ session → (wait : Wait) → w.wait ≡ wait → (step : Step) (new : State) → ResumesWait g s w wait step new → LocksSettleAgain step new
   wait_settles w m of (Durable n) is step new (inl h) = inl (ap (λ (x : State). x.locks.requests) h.2)
-  wait_settles w m of (Durable n) is step new (inr h) = inr (inl (h.1, (h.2.0, h.2.1, h.2.2 ∙ of, ap (λ (x : State). x.locks.requests) h.2.3)))
+  wait_settles w m of (Durable n) is step new (inr (inl h)) = inr (inl (h.1, (h.2.0, h.2.1, h.2.2 ∙ of, ap (λ (x : State). x.locks.requests) h.2.3)))
+  wait_settles w m of (Durable n) is step new (inr (inr h)) = inl (ap (λ (x : State). x.locks.requests) h.2.4)
   wait_settles w m of (Lock at) is step new h = ⊎_elim
       (λ still. inl (ap (λ (x : State). x.locks.requests) still.2))
       (λ free. ⊎_elim
@@ -333,7 +338,7 @@ module _ (g : Geometry) (found : List LogRecord) (es : List Entry) (s : State) (
           (
             [],
             (s, refl),
-            goes_changes g found es w.session h.0.txn w.call locks.lock locks.asked s.locks.requests [] (wait_refused s w.session) (woken g found es s k.sessions h.0 w.session h.1 free.0) h.0 h.1.0 refl free.0
+            goes_changes g o found es w.session h.0.txn w.call locks.lock locks.asked s.locks.requests [] (wait_refused s w.session) (woken g o found es s k.sessions h.0 w.session h.1 free.0) h.0 h.1.0 refl free.0
                 (grown_from s.locks.requests h.0.txn locks.lock.granule locks.lock.mode [] free.0) step new free.1,
           ),
         ),
@@ -366,14 +371,14 @@ module _ (g : Geometry) (found : List LogRecord) (es : List Entry) (s : State) (
       (λ locks.
       let a = locks.txn in
       let of : IsOfSession s session a = (locks.active, locks.of ∙ was.waits.of) in
-      let number = its_txn k.sessions.agree a session (inl of.0) of.1 in
-      let p : IsPaused g found es session a.txn w.call s = record {
+      let number = its_txn s.sessions a session of.0.1 of.1 in
+      let p : IsPaused g o found es session a.txn w.call s = record {
         stays = k;
         at = was.at;
         waits = record { waited = w; there = was.waits.there; of = was.waits.of; its = refl; lock = was.waits.lock; number = number; running = was.waits.running };
       } in
       let vs = cycles_among came.between in
-      let last = grown_midway g found es session a.txn w.call locks.lock locks.asked s.locks.requests vs s came.between came.from (all_in came.between) p
+      let last = grown_midway g o found es session a.txn w.call locks.lock locks.asked s.locks.requests vs s came.between came.from (all_in came.between) p
       (grown_waiting s.locks.requests a.txn locks.lock.granule locks.lock.mode vs k.sessions.locks.orderly (asks_so w was.waits.there was.waits.of was.at was.waits.lock locks.lock locks.asked a of)) came.intervene in
       inr (inr (
         w,
@@ -385,7 +390,7 @@ module _ (g : Geometry) (found : List LogRecord) (es : List Entry) (s : State) (
           (
             came.between,
             (came.from, came.intervene),
-            ends_changes g found es session a.txn w.call locks.lock locks.asked s.locks.requests vs came.from new step last.0 last.1 came.ends,
+            ends_changes g o found es session a.txn w.call locks.lock locks.asked s.locks.requests vs came.from new step last.0 last.1 came.ends,
           ),
         ),
       )))

@@ -6,6 +6,7 @@ use Rattle.shore_types.specs.declared.faults.Fault.TheVariants as fault
 use Rattle.shore_types.specs.declared.layout.Geometry.{Geometry}
 use Rattle.shore_model.specs.declared.calls.Call.{Call}
 use Rattle.shore_model.specs.declared.histories.Entry.{Entry}
+use Rattle.shore_model.specs.declared.histories.Opening.{Opening}
 use Rattle.shore_model.specs.declared.log_records.LogRecord.{LogRecord}
 use Rattle.shore_model.specs.declared.step.Step.TheVariants.{Refused}
 use Rattle.laws_lives.specs.Views.{IsAmong}
@@ -32,7 +33,7 @@ same_told f cycle is = same_fault f (fault.Deadlock cycle) is
 same_list : (x y : List ℕ) → fault.Deadlock x ≡ fault.Deadlock y → x ≡ y
 same_list x y e = cc
 
-module _ (g : Geometry) (found : List LogRecord) (es : List Entry) (s : State) (k : IsStateAfter found es s) (session : ℕ) where
+module _ (g : Geometry) (o : Opening) (found : List LogRecord) (es : List Entry) (s : State) (k : IsStateAfter o found es s) (session : ℕ) where
   -- ---- calls
 
   module _ (c : Call) where
@@ -40,12 +41,12 @@ module _ (g : Geometry) (found : List LogRecord) (es : List Entry) (s : State) (
     IsEarned f new = (last : State) × AsksIn g s session c last × CallStep g last session c (Refused f) new × EarnsRefusal g last session c f
 
     pub settled_call_earned : (f : Fault) (new : State) → IsNoDeadlock f → f ≢ fault.Memory → SettledCall g s session c (Refused f) new → IsEarned f new
-    settled_call_earned f new none ample h = ⊎_elim asked stopped (call_asked_last g found es s k session c (Refused f) new h)
+    settled_call_earned f new none ample h = ⊎_elim asked stopped (call_asked_last g o found es s k session c (Refused f) new h)
       where
-        asked : AskedLast g found es s k session c (Refused f) new → IsEarned f new
-        asked t = (t.last, t.asks, t.calls, call_earns g found es t.last t.stays session c f new t.calls)
+        asked : AskedLast g o found es s k session c (Refused f) new → IsEarned f new
+        asked t = (t.last, t.asks, t.calls, call_earns g o found es t.last t.stays session c f new t.calls)
 
-        stopped : StoppedAt g found es s k session c (Refused f) new → IsEarned f new
+        stopped : StoppedAt g o found es s k session c (Refused f) new → IsEarned f new
         stopped t = ⊎_elim
             (λ still. let clash = still.step_is in absurd cc)
             (⊎_elim
@@ -57,17 +58,17 @@ module _ (g : Geometry) (found : List LogRecord) (es : List Entry) (s : State) (
         → (between : List Interlude) × (x : State) × IsMidway g s session c between x × IsItsCycle x session cycle
         × ((later : List Interlude) × (from : State) × Intervene g session x later from × TellsVictim from session (Refused (fault.Deadlock cycle)) new)
     settled_call_deadlock cycle new h = ⊎_elim
-        (λ t. absurd (call_earns g found es t.last t.stays session c (fault.Deadlock cycle) new t.calls))
+        (λ t. absurd (call_earns g o found es t.last t.stays session c (fault.Deadlock cycle) new t.calls))
         (λ t. ⊎_elim
         (λ still. let clash = still.step_is in absurd cc)
         (⊎_elim
         (λ told.
         let same : told.cycle ≡ cycle = sym (same_list cycle told.cycle (same_fault (fault.Deadlock cycle) (fault.Deadlock told.cycle) told.told)) in
-        let stood = subst (StoodMidway g found es s k session c t.from) same (cycles_stood g found es s k session c t.between t.from t.midway told.waited told.there told.of told.cycle told.victim) in
+        let stood = subst (StoodMidway g o found es s k session c t.from) same (cycles_stood g o found es s k session c t.between t.from t.midway told.waited told.there told.of told.cycle told.victim) in
         (stood.0, stood.1, stood.2, stood.3, (stood.4.0, t.from, stood.4.1, told)))
         (λ back. let clash = same_fault (fault.Deadlock cycle) fault.Memory back.2.0 in absurd cc))
         t.ends)
-        (call_asked_last g found es s k session c (Refused (fault.Deadlock cycle)) new h)
+        (call_asked_last g o found es s k session c (Refused (fault.Deadlock cycle)) new h)
 
   -- ---- resumes
 
@@ -80,22 +81,22 @@ module _ (g : Geometry) (found : List LogRecord) (es : List Entry) (s : State) (
     pub settled_resume_earned : (f : Fault) (new : State) → IsNoDeadlock f → f ≢ fault.Memory → SettledResume g s session (Refused f) new
         → (w : Waiting) × IsAmong w s.waiting × (w.session ≡ session) × IsEarnedAgain w f new
     settled_resume_earned f new none ample h =
-        let t = resume_refused_so g found es s k may session f new h in (t.waited, t.there, t.of, by t t.so)
+        let t = resume_refused_so g o found es s k may session f new h in (t.waited, t.there, t.of, by t t.so)
       where
-        by : (t : RefusedResume g found es s k may session f new) → IsRefusedSo g found es s k may session t.waited f new → IsEarnedAgain t.waited f new
+        by : (t : RefusedResume g o found es s k may session f new) → IsRefusedSo g o found es s k may session t.waited f new → IsEarnedAgain t.waited f new
         by t (inl failed) = inl failed
         by t (inr (inl stopped)) = ⊎_elim
             (λ told. absurd (none told.cycle (same_told f told.cycle told.told)))
             (λ back. absurd (ample (same_fault f fault.Memory back.2.0)))
             stopped.4
-        by t (inr (inr asked)) = inr (asked.0, asked.1, asked.3, call_earns g found es asked.0 asked.2 session t.waited.call f new asked.3)
+        by t (inr (inr asked)) = inr (asked.0, asked.1, asked.3, call_earns g o found es asked.0 asked.2 session t.waited.call f new asked.3)
 
     pub settled_resume_deadlock : (cycle : List ℕ) (new : State) → SettledResume g s session (Refused (fault.Deadlock cycle)) new
         → ((w : Waiting) × IsAmong w s.waiting × (w.session ≡ session) × (w.cycle ≡ Some cycle))
         ⊎ ((between : List Interlude) × (x : State) × Intervene g session s between x × IsItsCycle x session cycle
         × ((later : List Interlude) × (from : State) × Intervene g session x later from × TellsVictim from session (Refused (fault.Deadlock cycle)) new))
     settled_resume_deadlock cycle new h =
-        let t = resume_refused_so g found es s k may session (fault.Deadlock cycle) new h in ⊎_elim
+        let t = resume_refused_so g o found es s k may session (fault.Deadlock cycle) new h in ⊎_elim
         (λ failed. let clash = failed.1 in absurd cc)
         (⊎_elim
         (λ stopped. ⊎_elim
@@ -104,8 +105,8 @@ module _ (g : Geometry) (found : List LogRecord) (es : List Entry) (s : State) (
         ⊎_elim
         (λ before. inl (before.0, before.1, before.2, before.3 ∙ ap Some same))
         (λ stood. inr (stood.0, stood.1, stood.2, subst (IsItsCycle stood.1 session) same stood.3, (stood.4.0, stopped.1, stood.4.1, told)))
-        (cycles_stood_before g found es s session (txn_of s.sessions session) t.waited.call stopped.3 stopped.0 stopped.1 stopped.2 told.waited told.there told.of told.cycle told.victim))
+        (cycles_stood_before g o found es s session (txn_of s.sessions session) t.waited.call stopped.3 stopped.0 stopped.1 stopped.2 told.waited told.there told.of told.cycle told.victim))
         (λ back. let clash = same_fault (fault.Deadlock cycle) fault.Memory back.2.0 in absurd cc)
         stopped.4)
-        (λ asked. absurd (call_earns g found es asked.0 asked.2 session t.waited.call (fault.Deadlock cycle) new asked.3)))
+        (λ asked. absurd (call_earns g o found es asked.0 asked.2 session t.waited.call (fault.Deadlock cycle) new asked.3)))
         t.so

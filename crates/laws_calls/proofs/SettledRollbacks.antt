@@ -5,6 +5,7 @@ use Rattle.shore_types.specs.declared.layout.Geometry.{Geometry}
 use Rattle.shore_model.specs.declared.calls.Call.{Call}
 use Rattle.shore_model.specs.declared.calls.Call.TheVariants as call
 use Rattle.shore_model.specs.declared.histories.Entry.{Entry}
+use Rattle.shore_model.specs.declared.histories.Opening.{Opening}
 use Rattle.shore_model.specs.declared.log_records.LogRecord.{LogRecord}
 use Rattle.shore_model.specs.declared.rollbacks.Rollback.{Rollback}
 use Rattle.shore_model.specs.declared.rollbacks.Rollback.TheVariants.{Whole}
@@ -45,8 +46,8 @@ module _ (g : Geometry) (s new : State) (session : ℕ) where
   pub settled_abort_stops : (f : Fault) → SettledCall g s session call.Abort (Refused f) new → StopsAborts f
   settled_abort_stops f h = abort_stops g s new session f (rollback_at_once call.Abort Whole refl (Refused f) h)
 
-pub no_rollback_waits : (found : List LogRecord) (es : List Entry) (s : State) (w : Waiting) → IsStateAfter found es s → IsAmong w s.waiting → rollback_of w.call ≡ None
-no_rollback_waits found es s w k there = ⊎_elim
-    (λ commits. ap (λ (x : Waiting). rollback_of x.call) commits.is)
+pub no_rollback_waits : (o : Opening) (found : List LogRecord) (es : List Entry) (s : State) (w : Waiting) → IsStateAfter o found es s → IsAmong w s.waiting → rollback_of w.call ≡ None
+no_rollback_waits o found es s w k there = ⊎_elim
+    (λ decides. ⊎_elim (λ h. ap rollback_of h.3) (λ h. ap rollback_of h.3) decides.unanswered)
     (λ locks. lock_no_rollback w.call locks.lock locks.asked)
     (k.waits.each w there)

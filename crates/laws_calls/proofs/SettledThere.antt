@@ -6,6 +6,7 @@ use Rattle.shore_types.specs.declared.locking.Granule.{Granule}
 use Rattle.shore_model.specs.declared.calls.Call.{Call}
 use Rattle.shore_model.specs.declared.calls.Call.TheVariants as call
 use Rattle.shore_model.specs.declared.histories.Entry.{Entry}
+use Rattle.shore_model.specs.declared.histories.Opening.{Opening}
 use Rattle.shore_model.specs.declared.log_records.LogRecord.{LogRecord}
 use Rattle.shore_model.specs.declared.requests.Request.{Request}
 use Rattle.shore_model.specs.declared.step.Step.{Step}
@@ -26,49 +27,49 @@ use Rattle.laws_calls.specs.CallHistories.{IsOpened, txn_of}
 use Rattle.laws_calls.specs.CallSteps.{ResumeStep, ResumesWait}
 use Rattle.laws_calls.specs.Events.{Called, EventMoves, EventsMove, Forced, HasFailed, IsStateAfter, ManagerEvent, Resumed, entries_of}
 use Rattle.laws_calls.specs.Midway.{EndsFrom, HasItsWait, Interlude, Intervenes, Takes, WaitsAnew}
-use Rattle.laws_calls.specs.SessionWaits.{AllWaitThere, IsCommitWait, IsLockWait}
+use Rattle.laws_calls.specs.SessionWaits.{AllWaitThere, IsDecisionWait, IsLockWait}
 use Rattle.laws_calls.specs.Settling.{SettledCall, SettledResume}
 use Rattle.laws_calls.specs.StateChanges.{committed, wait_refused}
 use Rattle.laws_calls.specs.States.{IsOfSession, State, Waiting, next_number}
 
 -- ---- it is kept
 
-module _ (g : Geometry) (found : List LogRecord) (es : List Entry) (session n : ℕ) (c : Call) where
-  there_next : (x new : State) (e : Interlude) → IsPaused g found es session n c x → AllWaitThere x → Intervenes g session x e new → AllWaitThere new
-  there_next x new (Takes b v) p was h = victim_there found es x p.stays was h.0.txn v new h.2.0
-  there_next x new (WaitsAnew at) p was h = resume_there g found es x p.stays session (Waits (Lock at)) new h was
+module _ (g : Geometry) (o : Opening) (found : List LogRecord) (es : List Entry) (session n : ℕ) (c : Call) where
+  there_next : (x new : State) (e : Interlude) → IsPaused g o found es session n c x → AllWaitThere x → Intervenes g session x e new → AllWaitThere new
+  there_next x new (Takes b v) p was h = victim_there o found es x p.stays was h.0.txn v new h.2.0
+  there_next x new (WaitsAnew at) p was h = resume_there g o found es x p.stays session (Waits (Lock at)) new h was
 
-  ends_there : (x : State) → IsPaused g found es session n c x → AllWaitThere x → (step : Step) (new : State) → EndsFrom g x session step new → AllWaitThere new
+  ends_there : (x : State) → IsPaused g o found es session n c x → AllWaitThere x → (step : Step) (new : State) → EndsFrom g x session step new → AllWaitThere new
   ends_there x p was step new (inl still) = subst AllWaitThere (sym still.is) was
-  ends_there x p was step new (inr (inl (inl told))) = told_there found es x p.stays was session step new told
-  ends_there x p was step new (inr (inl (inr back))) = withdrawn_there found es x p.stays was back.0 step new back.2
-  ends_there x p was step new (inr (inr goes)) = resume_there g found es x p.stays session step new goes.1 was
+  ends_there x p was step new (inr (inl (inl told))) = told_there o found es x p.stays was session step new told
+  ends_there x p was step new (inr (inl (inr back))) = withdrawn_there o found es x p.stays was back.0 step new back.2
+  ends_there x p was step new (inr (inr goes)) = resume_there g o found es x p.stays session step new goes.1 was
 
-  came_there : (s : State) → IsPaused g found es session n c s → AllWaitThere s → (step : Step) (new : State) → CameTo g session s step new → AllWaitThere new
+  came_there : (s : State) → IsPaused g o found es session n c s → AllWaitThere s → (step : Step) (new : State) → CameTo g session s step new → AllWaitThere new
   came_there s p was step new came =
-      let kept = kept_midway g found es session n c AllWaitThere there_next s came.between came.from p was came.intervene in
+      let kept = kept_midway g o found es session n c AllWaitThere there_next s came.between came.from p was came.intervene in
       ends_there came.from kept.0 kept.1 step new came.ends
 
-module _ (g : Geometry) (found : List LogRecord) (es : List Entry) (s : State) (k : IsStateAfter found es s) where
+module _ (g : Geometry) (o : Opening) (found : List LogRecord) (es : List Entry) (s : State) (k : IsStateAfter o found es s) where
   pub settled_call_there : (session : ℕ) (c : Call) (step : Step) (new : State) → AllWaitThere s → SettledCall g s session c step new → AllWaitThere new
   settled_call_there session c step new was h = ⊎_elim
-      (λ once. call_there g found es s k session c step new once.1 was)
+      (λ once. call_there g o found es s k session c step new once.1 was)
       (λ came.
       let m = came.midway in
-      came_there g found es session (txn_of s.sessions session) c m.waits (paused_at_first g found es s k session c m.at m.waits m.calls)
-      (call_there g found es s k session c (Waits (Lock m.at)) m.waits m.calls was) step new
+      came_there g o found es session (txn_of s.sessions session) c m.waits (paused_at_first g o found es s k session c m.at m.waits m.calls)
+      (call_there g o found es s k session c (Waits (Lock m.at)) m.waits m.calls was) step new
       (record { between = came.between; from = came.from; intervene = m.intervene; ends = came.ends }))
       (settled_call_to g s session c step new h)
 
-  paused_of : (session : ℕ) (was : HasWaited s session) → IsPaused g found es session (txn_of s.sessions session) was.call s
+  paused_of : (session : ℕ) (was : HasWaited s session) → IsPaused g o found es session (txn_of s.sessions session) was.call s
   paused_of session was = record { stays = k; at = was.at; waits = was.waits }
 
   pub settled_resume_there : (session : ℕ) (step : Step) (new : State) → AllWaitThere s → SettledResume g s session step new → AllWaitThere new
   settled_resume_there session step new was h = ⊎_elim
-      (λ once. resume_there g found es s k session step new once was)
+      (λ once. resume_there g o found es s k session step new once was)
       (⊎_elim
-      (told_there found es s k was session step new)
-      (λ on. came_there g found es session (txn_of s.sessions session) on.0.call s (paused_of session on.0) was step new on.1))
+      (told_there o found es s k was session step new)
+      (λ on. came_there g o found es session (txn_of s.sessions session) on.0.call s (paused_of session on.0) was step new on.1))
       (settled_resume_to g s session step new h)
 
   event_there : (new : State) (e : ManagerEvent) → AllWaitThere s → EventMoves g s e new → AllWaitThere new
@@ -77,14 +78,14 @@ module _ (g : Geometry) (found : List LogRecord) (es : List Entry) (s : State) (
   event_there new (Forced n) was h = subst AllWaitThere (sym h.2) was
   event_there new HasFailed was h = subst AllWaitThere (sym h) was
 
-pub events_there : (g : Geometry) (found : List LogRecord) (es : List Entry) (s : State) (events : List ManagerEvent) (last : State) → IsStateAfter found es s → AllWaitThere s
+pub events_there : (g : Geometry) (o : Opening) (found : List LogRecord) (es : List Entry) (s : State) (events : List ManagerEvent) (last : State) → IsStateAfter o found es s → AllWaitThere s
     → EventsMove g s events last → AllWaitThere last
-events_there g found es s [] last k was h = subst AllWaitThere (sym h) was
-events_there g found es s (e ∷ events) last k was h =
-    events_there g found (es ++ entries_of s e) h.0 events last (session_event_stays g found es s h.0 e k h.1) (event_there g found es s k h.0 e was h.1) h.2
+events_there g o found es s [] last k was h = subst AllWaitThere (sym h) was
+events_there g o found es s (e ∷ events) last k was h =
+    events_there g o found (es ++ entries_of s e) h.0 events last (session_event_stays g o found es s h.0 e k h.1) (event_there g o found es s k h.0 e was h.1) h.2
 
-pub opened_there : (found : List LogRecord) (s : State) → IsOpened found s → AllWaitThere s
-opened_there found s h session w m = absurd (subst (IsAmong w) h.waiting m)
+pub opened_there : (o : Opening) (found : List LogRecord) (s : State) → IsOpened o found s → AllWaitThere s
+opened_there o found s h session w m = absurd (subst (IsAmong w) h.waiting m)
 
 -- ---- what waits, and where
 
@@ -101,7 +102,7 @@ its_wait_at : (s : State) (session : ℕ) (at : Granule) → AllWaitThere s → 
 its_wait_at s session at there w m its lock a of waits =
     let r = waiter_of a.txn s waits in record { txn = a; of = of; request = r.0; waits = r.1; there = (there session w m its at lock a of r.0 r.1).there }
 
-module _ (g : Geometry) (found : List LogRecord) (es : List Entry) (s : State) (k : IsStateAfter found es s) (was : AllWaitThere s) (session : ℕ) (at : Granule) (new : State) where
+module _ (g : Geometry) (o : Opening) (found : List LogRecord) (es : List Entry) (s : State) (k : IsStateAfter o found es s) (was : AllWaitThere s) (session : ℕ) (at : Granule) (new : State) where
   pub settled_call_waits_at : (c : Call) → SettledCall g s session c (Waits (Lock at)) new → HasItsWait new session at
   settled_call_waits_at c h = ⊎_elim
       (λ once. absurd once.0)
@@ -110,8 +111,8 @@ module _ (g : Geometry) (found : List LogRecord) (es : List Entry) (s : State) (
     where
       by : (came : CallCameTo g s session c (Waits (Lock at)) new) → EndsFrom g came.from session (Waits (Lock at)) new → HasItsWait new session at
       by came (inl still) =
-          its_wait_at new session at (settled_call_there g found es s k session c (Waits (Lock at)) new was h) (record { session = session; call = c; wait = Lock at; cycle = None })
-          (settled_call_waits g found es s k session c new (Lock at) h) refl refl still.txn (subst (λ (x : State). IsOfSession x session still.txn) (sym still.is) still.of)
+          its_wait_at new session at (settled_call_there g o found es s k session c (Waits (Lock at)) new was h) (record { session = session; call = c; wait = Lock at; cycle = None })
+          (settled_call_waits g o found es s k session c new (Lock at) h) refl refl still.txn (subst (λ (x : State). IsOfSession x session still.txn) (sym still.is) still.of)
           (subst (λ (x : State). is_waiting still.txn.txn x.locks.requests ≡ true) (sym still.is) still.waits)
       by came (inr (inl (inl told))) = let clash = told.told in absurd cc
       by came (inr (inl (inr back))) = let clash = back.2.0 in absurd cc
@@ -127,7 +128,8 @@ module _ (g : Geometry) (found : List LogRecord) (es : List Entry) (s : State) (
     where
       by : (wait : Wait) → ResumesWait g s h.0 wait (Waits (Lock at)) new → (a : SessionTxn) × IsOfSession new session a × (is_waiting a.txn new.locks.requests ≡ true)
       by (Durable n) (inl x) = let clash = x.1 in absurd cc
-      by (Durable n) (inr x) = let clash = x.1 in absurd cc
+      by (Durable n) (inr (inl x)) = let clash = x.1 in absurd cc
+      by (Durable n) (inr (inr x)) = let clash = x.1 in absurd cc
       by (Lock there) x = ⊎_elim
           (λ still. (
             x.0,
@@ -136,16 +138,16 @@ module _ (g : Geometry) (found : List LogRecord) (es : List Entry) (s : State) (
           ))
           (λ free.
           let y = wait_refused s h.0.session in
-          let ready = woken g found es s k.sessions x.0 h.0.session x.1 free.0 in
-          let one = fresh g found es y ready x.0 x.1.0 free.0 h.0.call at new free.1 in
-          (x.0, (fresh_active g found es y ready x.0 x.1.0 free.0 h.0.call at new free.1, x.1.1 ∙ h.2), ap is_some one.1))
+          let ready = woken g o found es s k.sessions x.0 h.0.session x.1 free.0 in
+          let one = fresh g o found es y ready x.0 x.1.0 free.0 h.0.call at new free.1 in
+          (x.0, (fresh_active g o found es y ready x.0 x.1.0 free.0 h.0.call at new free.1, x.1.1 ∙ h.2), ap is_some one.1))
           x.2
 
   pub settled_resume_waits_at : SettledResume g s session (Waits (Lock at)) new → HasItsWait new session at
   settled_resume_waits_at h =
       let t = ⊎_elim resumed_txn (⊎_elim (λ told. let clash = told.told in absurd cc) (λ on. ends on.1.from on.1.ends)) (settled_resume_to g s session (Waits (Lock at)) new h) in
-      let w = settled_still_waits g found es s k session new (Lock at) h in
-      its_wait_at new session at (settled_resume_there g found es s k session (Waits (Lock at)) new was h) w.0 w.1 w.2 w.3 t.0 t.1 t.2
+      let w = settled_still_waits g o found es s k session new (Lock at) h in
+      its_wait_at new session at (settled_resume_there g o found es s k session (Waits (Lock at)) new was h) w.0 w.1 w.2 w.3 t.0 t.1 t.2
     where
       ends : (x : State) → EndsFrom g x session (Waits (Lock at)) new → (a : SessionTxn) × IsOfSession new session a × (is_waiting a.txn new.locks.requests ≡ true)
       ends x (inl still) = (
@@ -159,7 +161,7 @@ module _ (g : Geometry) (found : List LogRecord) (es : List Entry) (s : State) (
 
 -- ---- commits
 
-module _ (g : Geometry) (found : List LogRecord) (es : List Entry) (s : State) (k : IsStateAfter found es s) (session n : ℕ) (new : State) where
+module _ (g : Geometry) (o : Opening) (found : List LogRecord) (es : List Entry) (s : State) (k : IsStateAfter o found es s) (session n : ℕ) (new : State) where
   same_number : (m : ℕ) → Durable n ≡ Durable m → n ≡ m
   same_number m e = cc
 
@@ -184,7 +186,7 @@ module _ (g : Geometry) (found : List LogRecord) (es : List Entry) (s : State) (
       (⊎_elim
       (⊎_elim (λ told. let clash = told.told in absurd cc) (λ back. let clash = back.2.0 in absurd cc))
       (λ goes.
-      let p = midway_paused g found es s k session c came.between came.from came.midway in
+      let p = midway_paused g o found es s k session c came.between came.from came.midway in
       absurd (resume_undecided session (txn_of s.sessions session) c p.at g came.from p.waits p.stays.waits.once (Waits (Durable n)) new goes.1 n refl)))
       came.ends)
       (settled_call_to g s session c (Waits (Durable n)) new h)
@@ -195,7 +197,7 @@ module _ (g : Geometry) (found : List LogRecord) (es : List Entry) (s : State) (
     pub there : IsAmong waited s.waiting
     pub of : waited.session ≡ session
     pub lock : waited.wait ≡ Durable n
-    pub commit : IsCommitWait (length found) s waited
+    pub commit : IsDecisionWait (length found) s waited
     pub above : s.durable < n
     pub is : new ≡ s
 
@@ -207,10 +209,11 @@ module _ (g : Geometry) (found : List LogRecord) (es : List Entry) (s : State) (
       its_wait : Waits (Durable n) ≡ Waits (Durable n') → Durable n ≡ Durable n'
       its_wait e = cc
 
-      commit_in : (w : Waiting) → IsAmong w s.waiting → (m : ℕ) → w.wait ≡ Durable m → IsCommitWait (length found) s w ⊎ IsLockWait s w → IsCommitWait (length found) s w
+      commit_in : (w : Waiting) → IsAmong w s.waiting → (m : ℕ) → w.wait ≡ Durable m → IsDecisionWait (length found) s w ⊎ IsLockWait s w → IsDecisionWait (length found) s w
       commit_in w there m is (inl c) = c
       commit_in w there m is (inr l) = absurd (durable_no_lock m l.at (sym is ∙ l.is))
-  waits_on w m of (Durable n') is (inr h) = let clash = h.1 in absurd cc
+  waits_on w m of (Durable n') is (inr (inl h)) = let clash = h.1 in absurd cc
+  waits_on w m of (Durable n') is (inr (inr h)) = let clash = h.1 in absurd cc
   waits_on w m of (Lock at) is h = ⊎_elim
       (λ still. let clash = still.1 in absurd cc)
       (λ free. let clash = free.1.4 in absurd cc)
@@ -230,8 +233,8 @@ module _ (g : Geometry) (found : List LogRecord) (es : List Entry) (s : State) (
       (⊎_elim
       (⊎_elim (λ told. let clash = told.told in absurd cc) (λ back. let clash = back.2.0 in absurd cc))
       (λ goes.
-      let start : IsPaused g found es session (txn_of s.sessions session) on.0.call s = record { stays = k; at = on.0.at; waits = on.0.waits } in
-      let p = (kept_midway g found es session (txn_of s.sessions session) on.0.call (λ y. Unit {0}) (λ y later e q t i. tt) s on.1.between on.1.from start tt on.1.intervene).0 in
+      let start : IsPaused g o found es session (txn_of s.sessions session) on.0.call s = record { stays = k; at = on.0.at; waits = on.0.waits } in
+      let p = (kept_midway g o found es session (txn_of s.sessions session) on.0.call (λ y. Unit {0}) (λ y later e q t i. tt) s on.1.between on.1.from start tt on.1.intervene).0 in
       absurd (resume_undecided session (txn_of s.sessions session) on.0.call p.at g on.1.from p.waits p.stays.waits.once (Waits (Durable n)) new goes.1 n refl)))
       on.1.ends))
       (settled_resume_to g s session (Waits (Durable n)) new h)

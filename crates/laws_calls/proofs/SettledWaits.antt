@@ -1,28 +1,31 @@
 -- A call that waits for a lock waits on while victims are taken, and after a resume that waits anew.
 use Rattle.std.proofs.Common.{◌≡◌, ◌≢◌, inl, inr, ⊎_elim, ℕ, List, [], ◌∷◌, Bool, true, false, cond, None, Some, refl, sym, ap, subst, ◌∙◌}
+use Rattle.std.proofs.lemmas.Bool.{cases_Bool, eqb-false, eqb-true}
 use Rattle.std.specs.Prelude.{◌==◌, Option}
 use Rattle.shore_types.specs.declared.layout.Geometry.{Geometry}
 use Rattle.shore_types.specs.declared.locking.Granule.{Granule}
 use Rattle.shore_model.specs.declared.calls.Call.{Call}
 use Rattle.shore_model.specs.declared.histories.Entry.{Entry}
+use Rattle.shore_model.specs.declared.histories.Opening.{Opening}
 use Rattle.shore_model.specs.declared.log_records.LogRecord.{LogRecord}
 use Rattle.shore_locks.specs.Tables.{is_waiting}
 use Rattle.laws_locks.specs.CallLocks.{Asked, lock_asked_by}
 use Rattle.shore_cycles.specs.declared.victims.Victim.{Victim}
-use Rattle.laws_lives.proofs.Members.{with_among}
-use Rattle.laws_lives.specs.Sessions.{SessionTxn, with_undo}
-use Rattle.laws_lives.specs.UndoLists.{UndoList}
+use Rattle.laws_lives.specs.Sessions.{SessionTxn, with_undo, Sessions}
+use Rattle.laws_lives.specs.UndoLists.{UndoList, undo_rolled}
 use Rattle.laws_lives.specs.Views.{IsAmong}
 use Rattle.shore_model.specs.declared.step.Step.{Step}
 use Rattle.shore_model.specs.declared.step.Step.TheVariants.{Done, Nothing, Refused, Waits}
 use Rattle.shore_model.specs.declared.step.Wait.{Wait}
 use Rattle.shore_model.specs.declared.step.Wait.TheVariants.{Durable, Lock}
 use Rattle.laws_calls.proofs.SessionEndings.{call_waits}
-use Rattle.laws_calls.specs.CallHistories.{txn_among, txn_of}
+use Rattle.laws_calls.specs.CallHistories.{txn_of}
 use Rattle.laws_calls.specs.CallSteps.{CallStep, InnerStep, ResumeStep, ResumesCall, ResumesWait, lock_waiting}
 use Rattle.laws_calls.specs.Events.{IsStateAfter}
-use Rattle.laws_calls.specs.States.{IsOfSession, State, Waiting}
+use Rattle.laws_calls.specs.States.{IsOfSession, State, Waiting, HasSeat}
 use Rattle.laws_calls.specs.Victims.{TakesVictim, TakesVictims, with_cycle}
+use Rattle.laws_calls.proofs.Unwinding.{its_list, other_list, with_list}
+use Rattle.shore_model.specs.declared.rollbacks.Rollback.TheVariants.{Whole}
 
 -- the call of a session, whose transaction has this number, waits for a lock
 pub record WaitsAt (session n : ℕ) (c : Call) (at : Granule) (s : State) : Type 0 where
@@ -51,15 +54,15 @@ entry_there session n c at s h =
     h.waits.there
 
 -- whose request still waits is no victim
-pub still_spared : (found : List LogRecord) (es : List Entry) (s : State) → IsStateAfter found es s → (session n : ℕ) (c : Call) (at : Granule) → WaitsAt session n c at s
+pub still_spared : (o : Opening) (found : List LogRecord) (es : List Entry) (s : State) → IsStateAfter o found es s → (session n : ℕ) (c : Call) (at : Granule) → WaitsAt session n c at s
     → (a : SessionTxn) → IsOfSession s session a → a.txn ≡ n → is_waiting n s.locks.requests ≡ true → IsSpared session n c at s
-still_spared found es s k session n c at w a of its waits = by w.waited.cycle refl
+still_spared o found es s k session n c at w a of its waits = by w.waited.cycle refl
   where
     by : (o : Option (List ℕ)) → w.waited.cycle ≡ o → IsSpared session n c at s
     by None is = record { waits = w; none = is }
     by (Some cycle) is =
         let quiet : is_waiting a.txn s.locks.requests ≡ false =
-        k.sessions.locks.waits w.running a of.0
+        k.sessions.locks.waits w.running a of.0.0
         (λ v m none same.
         let one : v ≡ w.waited = k.waits.once v w.waited m w.there (same ∙ of.1 ∙ sym w.of) in
         let clash : Some cycle ≡ None = sym is ∙ (ap (λ (x : Waiting). x.cycle) (sym one) ∙ none) in
@@ -89,24 +92,19 @@ cycle_stays session cycle w (x ∷ ws) (inl same) = subst (λ (w : Waiting). Sti
     by false = record { now = x; there = inl refl; of = refl; its = refl; wait = refl }
 cycle_stays session cycle w (x ∷ ws) (inr later) = still_later w _ (with_cycle session cycle ws) (cycle_stays session cycle w ws later)
 
--- the transactions of sessions keep their numbers
-numbers_stay : (session t : ℕ) (undo : UndoList) (none : ℕ) (xs : List SessionTxn) → txn_among session (with_undo t undo xs) none ≡ txn_among session xs none
-numbers_stay session t undo none [] = refl
-numbers_stay session t undo none (x ∷ xs) = by (x.txn == t) (numbers_stay session t undo none xs)
-  where
-    by : (b : Bool) → txn_among session (with_undo t undo xs) none ≡ txn_among session xs none
-        → cond ((cond b (record { session = x.session; txn = x.txn; undo = undo }) x).session == session)
-        (cond b (record { session = x.session; txn = x.txn; undo = undo }) x).txn (txn_among session (with_undo t undo xs) none)
-        ≡ cond (x.session == session) x.txn (txn_among session xs none)
-    by true rest = ap (cond (x.session == session) x.txn) rest
-    by false rest = ap (cond (x.session == session) x.txn) rest
+-- with another undo list in the place of one a session has its transaction still
+still_seated : (t : ℕ) (undo : UndoList) (s : Sessions) (a : SessionTxn) → HasSeat s a → (b : SessionTxn) × HasSeat (record s { active = with_undo t undo s.active }) b × (b.session ≡ a.session)
+still_seated t undo s a m = ⊎_elim
+    (λ own. (with_list a undo, (subst (λ n. IsAmong (with_list a undo) (with_undo n undo s.active)) (eqb-true a.txn t own) (its_list a undo s.active m.0), m.1, m.2), refl))
+    (λ other. (a, (other_list t undo a s.active m.0 (eqb-false a.txn t other), m.1, m.2), refl))
+    (cases_Bool (a.txn == t))
 
 -- a session stays in its transaction
 pub victims_keep_txn : (session : ℕ) (s : State) (t : ℕ) (vs : List Victim) (new : State) → TakesVictims s t vs new → (a : SessionTxn) → IsOfSession s session a
     → (b : SessionTxn) × IsOfSession new session b
 victims_keep_txn session s t [] new h a of = (a, subst (λ (x : State). IsOfSession x session a) (sym h) of)
 victims_keep_txn session s t (v ∷ vs) new h a of =
-    let b = with_among h.1.txn.txn _ a s.sessions.active of.0 in
+    let b = still_seated h.1.txn.txn (undo_rolled h.1.txn.undo h.1.txn.undo.images Whole) s.sessions a of.0 in
     victims_keep_txn session h.0 t vs new h.2 b.0 (subst (λ (x : State). IsOfSession x session b.0) (sym h.1.is) (b.1, b.2 ∙ of.1))
 
 module _ (session n : ℕ) (c : Call) (at : Granule) where
@@ -120,7 +118,7 @@ module _ (session n : ℕ) (c : Call) (at : Granule) where
         of = still.of ∙ w.of;
         its = still.its ∙ w.its;
         lock = still.wait ∙ w.lock;
-        number = numbers_stay session h.txn.txn _ (txn_among session s.sessions.committing 0) s.sessions.active ∙ w.number;
+        number = w.number;
         running = w.running;
       })
 
@@ -204,7 +202,9 @@ call_asked g s session c at new (inr (inl h)) = let clash = h.1 in absurd cc
 call_asked g s session c at new (inr (inr (inl h))) = let clash = h.2 in absurd cc
 call_asked g s session c at new (inr (inr (inr (inl h)))) = absurd h.3
 call_asked g s session c at new (inr (inr (inr (inr (inl h))))) = let clash = h.4 in absurd cc
-call_asked g s session c at new (inr (inr (inr (inr (inr h))))) = inner_asked g s session c at new h.2.0 h.0 h.2.2
+call_asked g s session c at new (inr (inr (inr (inr (inr (inr (inl h))))))) = let clash = h.4 in absurd cc
+call_asked g s session c at new (inr (inr (inr (inr (inr (inr (inr h))))))) = absurd h.2.1
+call_asked g s session c at new (inr (inr (inr (inr (inr (inl h)))))) = inner_asked g s session c at new h.2.0 h.0 h.2.2
 
 pub call_has_asked : (g : Geometry) (s : State) (session : ℕ) (c : Call) (at : Granule) (step : Step) (new : State) → step ≡ Waits (Lock at) → CallStep g s session c step new → HasAsked s session c new
 call_has_asked g s session c at step new is h = call_asked g s session c at new (subst (λ (x : Step). CallStep g s session c x new) is h)
@@ -229,7 +229,8 @@ call_waits_at g s session c step new h at is =
 -- whose resume waits for a lock waited for one
 lock_waited : (g : Geometry) (s : State) (w : Waiting) (its : Wait) (at : Granule) (new : State) → ResumesWait g s w its (Waits (Lock at)) new → (there : Granule) × (its ≡ Lock there)
 lock_waited g s w (Durable n) at new (inl h) = let clash = h.1 in absurd cc
-lock_waited g s w (Durable n) at new (inr h) = let clash = h.1 in absurd cc
+lock_waited g s w (Durable n) at new (inr (inl h)) = let clash = h.1 in absurd cc
+lock_waited g s w (Durable n) at new (inr (inr h)) = let clash = h.1 in absurd cc
 lock_waited g s w (Lock there) at new h = (there, refl)
 
 resumed_waited : (g : Geometry) (s : State) (w : Waiting) (at : Granule) (new : State) → ResumesCall g s w (Waits (Lock at)) new → (there : Granule) × (w.wait ≡ Lock there) × (s.failed ≡ false)

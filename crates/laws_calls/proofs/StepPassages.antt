@@ -7,34 +7,36 @@ use Rattle.shore_types.specs.declared.ids.Rid.{Rid}
 use Rattle.shore_types.specs.declared.layout.Geometry.{Geometry}
 use Rattle.shore_types.specs.declared.locking.Granule.{Granule}
 use Rattle.shore_model.specs.declared.calls.Answer.{Answer}
-use Rattle.shore_model.specs.declared.calls.Answer.TheVariants.{Committed}
+use Rattle.shore_model.specs.declared.calls.Answer.TheVariants.{Committed, Prepared}
 use Rattle.shore_model.specs.declared.calls.Call.{Call}
 use Rattle.shore_model.specs.declared.calls.Call.TheVariants as call
 use Rattle.shore_model.specs.declared.histories.Decision.TheVariants as decision
 use Rattle.shore_model.specs.declared.histories.Entry.{Entry}
+use Rattle.shore_model.specs.declared.histories.Opening.{Opening}
 use Rattle.shore_model.specs.declared.histories.Entry.TheVariants.{Decided, Exchanged}
 use Rattle.shore_model.specs.declared.log_records.LogRecord.{LogRecord}
 use Rattle.laws_lives.specs.RepliesInPlace.{IsKnownAbsent}
-use Rattle.laws_lives.specs.SessionSteps.{BeginTxn, TellsNothing, exchange}
-use Rattle.laws_lives.specs.Sessions.{SessionTxn, txn_begun}
+use Rattle.laws_lives.specs.SessionSteps.{BeginTxn, TellsNothing, exchange, AnswerInDoubt}
+use Rattle.laws_lives.specs.Sessions.{SessionTxn}
 use Rattle.laws_lives.specs.Views.{IsAmong}
 use Rattle.shore_model.specs.declared.step.Step.{Step}
 use Rattle.shore_model.specs.declared.step.Step.TheVariants.{Done, Nothing, Refused, Waits}
 use Rattle.shore_model.specs.declared.step.Wait.{Wait}
 use Rattle.shore_model.specs.declared.step.Wait.TheVariants.{Durable, Lock}
 use Rattle.laws_calls.proofs.Elements.{waits_on}
-use Rattle.laws_calls.proofs.Links.{GoesQuietly, begin_goes, quietly_one}
+use Rattle.laws_calls.proofs.Links.{GoesQuietly, begin_goes, quietly_one, listing_goes}
 use Rattle.laws_calls.proofs.Passing.{absence_passes, goes_on_passes, told_passes}
 use Rattle.laws_calls.proofs.RefusalTells.{tells_or_none}
 use Rattle.laws_calls.proofs.RollingPassages.{Aborts, abort_refused_passes, back_passes, savepoint_passes}
 use Rattle.laws_calls.proofs.SessionCalls.{names_no_slot}
 use Rattle.laws_calls.proofs.SessionResumes.{WaitsWhole, same_entries, woken}
 use Rattle.laws_calls.specs.CallHistories.{txn_of}
-use Rattle.laws_calls.specs.StateChanges.{committed, wait_refused}
+use Rattle.laws_calls.specs.StateChanges.{committed, wait_refused, begun}
 use Rattle.laws_calls.specs.Rollbacks.{TakesCall}
-use Rattle.laws_calls.specs.CallSteps.{AbortStep, BeginStep, CommitStep, InnerStep, OpenStep, RefusesEarly, ResumesCall, ResumesWait, CallStep, commit_ended}
-use Rattle.laws_calls.specs.LockedStates.{IsSessionsState, entries_of_resumed, entries_of_call, resumed_call}
+use Rattle.laws_calls.specs.CallSteps.{AbortStep, BeginStep, CommitStep, InnerStep, OpenStep, RefusesEarly, ResumesCall, ResumesWait, CallStep, commit_ended, InDoubtStep, OutsideStep, listed_in_doubt, IsPreparing, prepare_ended}
+use Rattle.laws_calls.specs.LockedStates.{IsSessionsState, entries_of_resumed, entries_of_call}
 use Rattle.laws_calls.specs.States.{DoesNotWait, IsOfSession, State, Waiting}
+use Rattle.laws_calls.proofs.Listings.{listing_steps}
 
 -- ---- calls
 
@@ -50,16 +52,16 @@ pub record Commits (s : State) (session : ℕ) (new : State) (made : List Entry)
 abbrev pub CallPasses : Geometry → State → ℕ → State → List Entry → Type 0
 CallPasses g s session new made = GoesQuietly g session s new made ⊎ (Commits s session new made ⊎ Aborts s session new made)
 
-module _ (g : Geometry) (found : List LogRecord) (es : List Entry) (s : State) (k : IsSessionsState found es s) (session : ℕ) where
+module _ (g : Geometry) (o : Opening) (found : List LogRecord) (es : List Entry) (s : State) (k : IsSessionsState o found es s) (session : ℕ) where
   begin_passes : (step : Step) (new : State) → BeginStep s session step new → GoesQuietly g session s new (entries_of_call s session call.Begin step)
   begin_passes (Done answer) new h =
       subst (λ (n : State). GoesQuietly g session s n (entries_of_call s session call.Begin (Done answer))) (sym h.4)
-      (subst (λ (x : Answer). GoesQuietly g session s (record s { sessions = txn_begun s.sessions session }) (entries_of_call s session call.Begin (Done x))) (sym h.3)
-      (quietly_one g session s (BeginTxn session) (record s { sessions = txn_begun s.sessions session }) (record s { sessions = txn_begun s.sessions session }) tt
+      (subst (λ (x : Answer). GoesQuietly g session s (begun s session) (entries_of_call s session call.Begin (Done x))) (sym h.3)
+      (quietly_one g session s (BeginTxn session) (begun s session) (begun s session) tt
       (begin_goes g s session h.0 h.1 h.2) (inl refl)))
   begin_passes (Waits wait) new h = absurd h
   begin_passes (Refused f) new h =
-      told_passes g found es session s new call.Begin f
+      told_passes g o found es session s new call.Begin f
       (⊎_elim (λ one. subst TellsNothing (sym one.0) tt) (λ more. ⊎_elim (λ two. subst TellsNothing (sym two.0) tt) (λ three. subst TellsNothing (sym three.0) tt) more) h.0) (inl h.1)
   begin_passes Nothing new h = absurd h
 
@@ -73,12 +75,12 @@ module _ (g : Geometry) (found : List LogRecord) (es : List Entry) (s : State) (
 
   early_passes : (a : SessionTxn) → a.undo.rolling ≡ None → IsOfSession s session a → (c : Call) (f : Fault) → RefusesEarly g c f → GoesQuietly g session s s (Exchanged session (txn_of s.sessions session) (exchange c (Err f)) ∷ [])
   early_passes a whole mem c f h = ⊎_elim
-      (λ nothing. told_passes g found es session s s c f nothing (inl refl))
+      (λ nothing. told_passes g o found es session s s c f nothing (inl refl))
       (λ none.
-      let names = names_no_slot g found es s k session c (subst (RefusesEarly g c) none h) in
+      let names = names_no_slot g o found es s k session c (subst (RefusesEarly g c) none h) in
       subst (λ (x : Fault). GoesQuietly g session s s (Exchanged session (txn_of s.sessions session) (exchange c (Err x)) ∷ [])) (sym none)
-      (absence_passes g found es session a mem.1 whole s k mem.0 c names.inner
-      (subst (λ (o : Option Rid). IsSomeAnd o (IsKnownAbsent s.sessions.held a.txn s.sessions.records)) (sym names.named) (inr names.beyond))))
+      (absence_passes g o found es session a mem.1 whole s k mem.0 c names.inner
+      (subst (λ (x : Option Rid). IsSomeAnd x (IsKnownAbsent s.sessions.held a.txn s.sessions.records)) (sym names.named) (inr names.beyond))))
       (tells_or_none f)
 
   open_passes : s.failed ≡ false → (a : SessionTxn) → a.undo.rolling ≡ None → IsOfSession s session a → DoesNotWait s session → (c : Call) (step : Step) (new : State) → OpenStep g s a c step new
@@ -87,24 +89,24 @@ module _ (g : Geometry) (found : List LogRecord) (es : List Entry) (s : State) (
       inl (subst (λ (n : State). GoesQuietly g session s n (entries_of_call s session c step)) (sym h.3)
       (subst (λ (x : Step). GoesQuietly g session s s (entries_of_call s session c x)) (sym h.2) (early_passes a whole mem c h.0 h.1)))
   open_passes running a whole mem idle c step new (inr (inl h)) =
-      inl (goes_on_passes g found es session a mem.1 whole s k mem.0 (k.locks.waits running a mem.0 (λ w m spared same. idle w m (same ∙ mem.1))) idle c step new h.1)
+      inl (goes_on_passes g o found es session a mem.1 whole s k mem.0 (k.locks.waits running a mem.0.0 (λ w m spared same. idle w m (same ∙ mem.1))) idle c step new h.1)
   open_passes running a whole mem idle c step new (inr (inr (inl h))) =
       inr (inl (subst (λ (x : Call). Commits s session new (entries_of_call s session x step)) (sym h.0) (commit_passes a whole mem idle step new h.1)))
   open_passes running a whole mem idle c step new (inr (inr (inr h))) =
       inl (subst (λ (x : Call). GoesQuietly g session s new (entries_of_call s session x step)) (sym h.0)
-      (savepoint_passes g found es session a mem.1 s k mem.0 idle whole step new h.1))
+      (savepoint_passes g o found es session a mem.1 s k mem.0 idle whole step new h.1))
 
   abort_passes : (a : SessionTxn) → IsOfSession s session a → DoesNotWait s session → (step : Step) (new : State) → AbortStep s a step new
       → CallPasses g s session new (entries_of_call s session call.Abort step)
   abort_passes a mem idle (Done answer) new h =
       inr (inr (record { txn = a; of = mem; idle = idle; is = h.1; entries = ap (λ (x : Answer). entries_of_call s session call.Abort (Done x)) h.0 }))
-  abort_passes a mem idle (Refused f) new h = inl (abort_refused_passes g found es session a mem.1 s k mem.0 idle f new h)
+  abort_passes a mem idle (Refused f) new h = inl (abort_refused_passes g o found es session a mem.1 s k mem.0 idle f new h)
   abort_passes a mem idle (Waits wait) new h = absurd h
   abort_passes a mem idle Nothing new h = absurd h
 
   refused_passes : (c : Call) (step : Step) (new : State) (f : Fault) → TellsNothing f → step ≡ Refused f → new ≡ s → GoesQuietly g session s new (entries_of_call s session c step)
   refused_passes c step new f nothing is same =
-      subst (λ (x : Step). GoesQuietly g session s new (entries_of_call s session c x)) (sym is) (told_passes g found es session s new c f nothing (inl same))
+      subst (λ (x : Step). GoesQuietly g session s new (entries_of_call s session c x)) (sym is) (told_passes g o found es session s new c f nothing (inl same))
 
   inner_passes : s.failed ≡ false → (a : SessionTxn) → IsOfSession s session a → DoesNotWait s session → (c : Call) (step : Step) (new : State) → InnerStep g s a c step new
       → CallPasses g s session new (entries_of_call s session c step)
@@ -112,9 +114,22 @@ module _ (g : Geometry) (found : List LogRecord) (es : List Entry) (s : State) (
   inner_passes running a mem idle c step new (inr (inl h)) = open_passes running a h.0 mem idle c step new h.1
   inner_passes running a mem idle c step new (inr (inr (inl h))) =
       inl (subst (λ (x : Call). GoesQuietly g session s new (entries_of_call s session x step)) (sym h.1)
-      (back_passes g found es session a mem.1 s k mem.0 idle h.0 (subst (TakesCall a.undo) h.1 h.2) step new h.3))
+      (back_passes g o found es session a mem.1 s k mem.0 idle h.0 (subst (TakesCall a.undo) h.1 h.2) step new h.3))
   inner_passes running a mem idle c step new (inr (inr (inr h))) =
       subst (λ (x : Call). CallPasses g s session new (entries_of_call s session x step)) (sym h.0) (abort_passes a mem idle step new h.1)
+
+  outside_passes : (c : Call) (step : Step) (new : State) → OutsideStep s c step new → GoesQuietly g session s new (entries_of_call s session c step)
+  outside_passes c step new h = subst (λ (x : Call). GoesQuietly g session s new (entries_of_call s session x step)) (sym h.0) (by step new h.1)
+    where
+      by : (step : Step) (new : State) → InDoubtStep s step new → GoesQuietly g session s new (entries_of_call s session call.InDoubt step)
+      by (Done answer) new h =
+          subst (λ (n : State). GoesQuietly g session s n (entries_of_call s session call.InDoubt (Done answer))) (sym h.1)
+          (subst (λ (x : Answer). GoesQuietly g session s s (entries_of_call s session call.InDoubt (Done x))) (sym h.0)
+          (quietly_one g session s (AnswerInDoubt session (txn_of s.sessions session) (listed_in_doubt s.sessions)) s s tt
+          (listing_goes g s session (txn_of s.sessions session) (listed_in_doubt s.sessions) (listing_steps k session)) (inl refl)))
+      by (Waits wait) new h = absurd h
+      by (Refused f) new h = absurd h
+      by Nothing new h = absurd h
 
   pub call_passes : (c : Call) (step : Step) (new : State) → CallStep g s session c step new → CallPasses g s session new (entries_of_call s session c step)
   call_passes c step new (inl h) = inl (refused_passes c step new fault.Memory tt h.0 h.1)
@@ -123,7 +138,9 @@ module _ (g : Geometry) (found : List LogRecord) (es : List Entry) (s : State) (
   call_passes c step new (inr (inr (inr (inl h)))) =
       inl (subst (λ (x : Call). GoesQuietly g session s new (entries_of_call s session x step)) (sym h.2) (begin_passes step new h.3))
   call_passes c step new (inr (inr (inr (inr (inl h))))) = inl (refused_passes c step new fault.NoTransaction tt h.4 h.5)
-  call_passes c step new (inr (inr (inr (inr (inr h))))) = inner_passes h.0 h.2.0 h.2.1 h.1 c step new h.2.2
+  call_passes c step new (inr (inr (inr (inr (inr (inr (inl h))))))) = inl (refused_passes c step new fault.IsPrepared tt h.4 h.5)
+  call_passes c step new (inr (inr (inr (inr (inr (inr (inr h))))))) = inl (outside_passes c step new h.2)
+  call_passes c step new (inr (inr (inr (inr (inr (inl h)))))) = inner_passes h.0 h.2.0 h.2.1 h.1 c step new h.2.2
 
 -- ---- going on
 
@@ -138,20 +155,49 @@ pub record IsAnswered (s : State) (session : ℕ) (wait : Wait) (new : State) (m
   pub is : new ≡ commit_ended s txn
   pub entries : made ≡ Exchanged session (txn_of s.sessions session) (exchange call.Commit (Ok Committed)) ∷ []
 
+-- .. or a prepare
+pub record IsPrepareTold (s : State) (session : ℕ) (wait : Wait) (c : Call) (new : State) (made : List Entry) : Type 0 where
+  pub number : ℕ
+  pub waits : wait ≡ Durable number
+  pub durable : number ≤ s.durable
+  pub txn : ℕ
+  pub global : List ℕ
+  pub preparing : IsPreparing s.sessions session txn global
+  pub asks : c ≡ call.Prepare global
+  pub is : new ≡ prepare_ended s session txn global
+  pub entries : made ≡ Exchanged session (txn_of s.sessions session) (exchange (call.Prepare global) (Ok Prepared)) ∷ []
+
 -- the call waits no more: a device has failed, or it goes on behind its lock
 pub record GoesOnQuietly (g : Geometry) (s : State) (session : ℕ) (wait : Wait) (new : State) (made : List Entry) : Type 0 where
   pub why : IsTrue s.failed ⊎ ((at : Granule) × (wait ≡ Lock at) × ((a : SessionTxn) × IsOfSession s session a))
   pub on : GoesQuietly g session (wait_refused s session) new made
 
 -- or nothing is done
-abbrev pub ResumePasses : Geometry → State → ℕ → Wait → State → List Entry → Type 0
-ResumePasses g s session wait new made = ((new ≡ s) × (made ≡ [])) ⊎ (GoesOnQuietly g s session wait new made ⊎ IsAnswered s session wait new made)
+abbrev pub ResumePasses : Geometry → State → ℕ → Wait → Call → State → List Entry → Type 0
+ResumePasses g s session wait c new made = ((new ≡ s) × (made ≡ [])) ⊎ (GoesOnQuietly g s session wait new made ⊎ (IsAnswered s session wait new made ⊎ IsPrepareTold s session wait c new made))
 
-module _ (g : Geometry) (found : List LogRecord) (es : List Entry) (s : State) (k : IsSessionsState found es s) where
+module _ (g : Geometry) (o : Opening) (found : List LogRecord) (es : List Entry) (s : State) (k : IsSessionsState o found es s) where
+  prepare_told : (w : Waiting) (n : ℕ) (step : Step) (new : State)
+      → (n ≤ s.durable) × (step ≡ Done Prepared) × ((t : ℕ) × (global : List ℕ) × IsPreparing s.sessions w.session t global × (w.call ≡ call.Prepare global) × (new ≡ prepare_ended s w.session t global))
+      → IsPrepareTold s w.session (Durable n) w.call new (entries_of_resumed s (record { session = w.session; call = w.call; wait = Durable n; cycle = w.cycle }) step)
+  prepare_told w n step new h = record {
+    number = n;
+    waits = refl;
+    durable = h.0;
+    txn = h.2.0;
+    global = h.2.1;
+    preparing = h.2.2;
+    asks = h.2.3;
+    is = h.2.4;
+    entries =
+        ap (entries_of_resumed s (record { session = w.session; call = w.call; wait = Durable n; cycle = w.cycle })) h.1
+        ∙ ap (λ (c : Call). Exchanged w.session (txn_of s.sessions w.session) (exchange c (Ok Prepared)) ∷ []) h.2.3;
+  }
+
   wait_passes : (w : Waiting) (wait : Wait) → WaitsWhole s w.session wait → (step : Step) (new : State) → ResumesWait g s w wait step new
-      → ResumePasses g s w.session wait new (entries_of_resumed s (record { session = w.session; call = w.call; wait = wait; cycle = w.cycle }) step)
+      → ResumePasses g s w.session wait w.call new (entries_of_resumed s (record { session = w.session; call = w.call; wait = wait; cycle = w.cycle }) step)
   wait_passes w (Durable n) whole step new (inl h) = inl (h.2, ap (entries_of_resumed s (record { session = w.session; call = w.call; wait = Durable n; cycle = w.cycle })) h.1)
-  wait_passes w (Durable n) whole step new (inr h) = inr (inr (record {
+  wait_passes w (Durable n) whole step new (inr (inl h)) = inr (inr (inl (record {
     number = n;
     waits = refl;
     durable = h.0;
@@ -159,8 +205,11 @@ module _ (g : Geometry) (found : List LogRecord) (es : List Entry) (s : State) (
     committing = h.2.1;
     of = h.2.2;
     is = h.2.3;
-    entries = ap (entries_of_resumed s (record { session = w.session; call = w.call; wait = Durable n; cycle = w.cycle })) h.1;
-  }))
+    entries =
+        ap (entries_of_resumed s (record { session = w.session; call = w.call; wait = Durable n; cycle = w.cycle })) h.1
+        ∙ ap (λ (c : Call). Exchanged w.session (txn_of s.sessions w.session) (exchange c (Ok Committed)) ∷ []) h.3;
+  })))
+  wait_passes w (Durable n) whole step new (inr (inr h)) = inr (inr (inr (prepare_told w n step new h)))
   wait_passes w (Lock at) whole step new h = ⊎_elim
       (λ still. inl (still.2, ap (entries_of_resumed s (record { session = w.session; call = w.call; wait = Lock at; cycle = w.cycle })) still.1))
       (λ free.
@@ -168,16 +217,16 @@ module _ (g : Geometry) (found : List LogRecord) (es : List Entry) (s : State) (
         why = inr (at, refl, (h.0, h.1));
         on =
             subst (λ made. GoesQuietly g w.session (wait_refused s w.session) new made) (same_entries g (wait_refused s w.session) h.0 w.session w.call at step new free.1)
-            (goes_on_passes g found es w.session h.0 h.1.1 (whole at h.0 refl h.1) (wait_refused s w.session) (woken g found es s k h.0 w.session h.1 free.0) h.1.0 free.0
+            (goes_on_passes g o found es w.session h.0 h.1.1 (whole at h.0 refl h.1) (wait_refused s w.session) (woken g o found es s k h.0 w.session h.1 free.0) h.1.0 free.0
             (λ v m. (waits_on w.session v s.waiting m).1) w.call step new free.1);
       })))
       h.2
 
-  pub resume_passes : (w : Waiting) → (w.cycle ≡ None → WaitsWhole s w.session w.wait) → (step : Step) (new : State) → ResumesCall g s w step new → ResumePasses g s w.session w.wait new (entries_of_resumed s w step)
+  pub resume_passes : (w : Waiting) → (w.cycle ≡ None → WaitsWhole s w.session w.wait) → (step : Step) (new : State) → ResumesCall g s w step new → ResumePasses g s w.session w.wait w.call new (entries_of_resumed s w step)
   resume_passes w whole step new (inl h) = inr (inl (record {
     why = inl h.0;
     on =
         subst (λ (x : Step). GoesQuietly g w.session (wait_refused s w.session) new (entries_of_resumed s w x)) (sym h.1)
-        (told_passes g found es w.session (wait_refused s w.session) new (resumed_call w.call w.wait) fault.Failed tt (inl h.2));
+        (told_passes g o found es w.session (wait_refused s w.session) new w.call fault.Failed tt (inl h.2));
   }))
   resume_passes w whole step new (inr h) = wait_passes w w.wait (whole h.2) step new h.1

@@ -1,5 +1,6 @@
 -- A cycle that a session is to be told stood within an earlier event of the run.
 use Rattle.std.proofs.Common.{◌≡◌, ◌⊎◌, inl, inr, ⊎_elim, ◌≤◌, ℕ, List, [], ◌∷◌, Some, None, refl, sym, ap, subst, ◌∙◌}
+use Rattle.shore_model.specs.declared.histories.Opening.{Opening}
 use Rattle.std.specs.Prelude.{◌==◌, All, Contains}
 use Rattle.std.proofs.lemmas.Bool.{cases_Bool, eqb-false, eqb-true}
 use Rattle.shore_types.specs.declared.layout.Geometry.{Geometry}
@@ -70,7 +71,8 @@ call_told g s new session c Nothing h = absurd (call_nothing g s new session c h
 
 wait_told : (g : Geometry) (s new : State) (w : Waiting) (wait : Wait) (step : Step) → ResumesWait g s w wait step new → WereToBeTold s new
 wait_told g s new w (Durable n) step (inl h) = same_told s new (ap (λ (x : State). x.waiting) h.2)
-wait_told g s new w (Durable n) step (inr h) = without_told s new h.2.0.session (ap (λ (x : State). x.waiting) h.2.3)
+wait_told g s new w (Durable n) step (inr (inl h)) = without_told s new h.2.0.session (ap (λ (x : State). x.waiting) h.2.3)
+wait_told g s new w (Durable n) step (inr (inr h)) = without_told s new w.session (ap (λ (x : State). x.waiting) h.2.4)
 wait_told g s new w (Lock at) step h = ⊎_elim
     (λ still. same_told s new (ap (λ (x : State). x.waiting) still.2))
     (λ free. then_told s (wait_refused s w.session) new (without_told s (wait_refused s w.session) w.session refl) (goes_told g (wait_refused s w.session) new h.0 w.call step free.1))
@@ -177,7 +179,7 @@ told_among g s (e ∷ events) last h w m cycle is = ⊎_elim
     (λ stood. inr (h.0, h.1, h.2, inr stood))
     (told_among g h.0 events last h.2 w m cycle is)
 
-pub opened_told_among : (g : Geometry) (found : List LogRecord) (first : State) (events : List ManagerEvent) (last : State) → IsOpened found first → EventsMove g first events last
+pub opened_told_among : (g : Geometry) (o : Opening) (found : List LogRecord) (first : State) (events : List ManagerEvent) (last : State) → IsOpened o found first → EventsMove g first events last
     → (w : Waiting) → IsAmong w last.waiting → (cycle : List ℕ) → w.cycle ≡ Some cycle → StoodAmong g first events last w.session cycle
-opened_told_among g found first events last opened h w m cycle is =
+opened_told_among g o found first events last opened h w m cycle is =
     ⊎_elim (λ before. absurd (subst (IsAmong w) opened.waiting before)) (λ stood. stood) (told_among g first events last h w m cycle is)

@@ -1,5 +1,5 @@
 -- Victims of cycles of waits: who they are, what they keep, what they are told, and what is left to them.
-use Rattle.std.proofs.Common.{◌≡◌, ◌≢◌, ◌⊎◌, inl, inr, ⊎_elim, ◌++◌, ◌∷◌, ℕ, List, [], true, false, None, Some, refl, sym, ap, subst, ◌∙◌}
+use Rattle.std.proofs.Common.{◌≡◌, ◌≢◌, ◌⊎◌, inl, inr, ⊎_elim, ◌++◌, ◌∷◌, ℕ, List, [], false, None, Some, refl, sym, ap, subst, ◌∙◌, ◌<◌}
 use Rattle.std.specs.Prelude.{◌==◌, Contains}
 use Rattle.std.proofs.lemmas.Bool.{cases_Bool, eqb-false, eqb-true}
 use Rattle.shore_types.specs.declared.faults.Fault.TheVariants as fault
@@ -7,6 +7,7 @@ use Rattle.shore_types.specs.declared.layout.Geometry.{Geometry}
 use Rattle.shore_model.specs.declared.calls.Call.{Call}
 use Rattle.shore_model.specs.declared.calls.Call.TheVariants as call
 use Rattle.shore_model.specs.declared.histories.Entry.{Entry}
+use Rattle.shore_model.specs.declared.histories.Opening.{Opening}
 use Rattle.shore_model.specs.declared.holds.Hold.{Hold}
 use Rattle.shore_model.specs.declared.log_records.LogRecord.{LogRecord}
 use Rattle.shore_model.specs.Locks.{HoldsAtLeast}
@@ -17,29 +18,26 @@ use Rattle.shore_locks.proofs.Outcomes.{quiet_after_cancel}
 use Rattle.shore_path.proofs.Freeing.{weaker_cancelled}
 use Rattle.shore_path.proofs.Holding.{enough_of, holder_from_lock, holder_of, lock_from_holder}
 use Rattle.shore_cycles.specs.declared.victims.Victim.{Victim}
-use Rattle.shore_cycles.proofs.Steps.{quiet_waits_not}
 use Rattle.shore_cycles.proofs.VictimLemmas.{first_In}
-use Rattle.shore_cycles.proofs.Walks.{member_waits}
-use Rattle.laws_lives.proofs.Doomed.{doomed_left}
 use Rattle.laws_lives.proofs.Members.{among_with, same_member}
 use Rattle.shore_model.specs.declared.rollbacks.Rollback.TheVariants.{To, Whole}
 use Rattle.laws_lives.specs.SessionSteps.{KeepsLocks}
-use Rattle.laws_lives.specs.Sessions.{SessionTxn, doomed}
-use Rattle.laws_lives.specs.UndoLists.{undo_rolled}
+use Rattle.laws_lives.specs.Sessions.{SessionTxn, in_txn}
+use Rattle.laws_lives.specs.UndoLists.{undo_rolled, UndoList}
 use Rattle.laws_lives.specs.Views.{IsAmong}
 use Rattle.laws_calls.proofs.Elements.{waits_on}
-use Rattle.laws_calls.proofs.Sessions.{one_txn}
+use Rattle.laws_calls.proofs.Sessions.{one_txn, not_prepared, one_member, in_one}
 use Rattle.laws_calls.proofs.ToldCycles.{own_waits, to_tell}
-use Rattle.laws_calls.proofs.VictimSteps.{told_stays, victim_stays}
+use Rattle.laws_calls.proofs.VictimSteps.{told_stays, victim_stays, victim_is_waiting, victim_seat}
 use Rattle.shore_model.specs.declared.step.Step.{Step}
 use Rattle.shore_model.specs.declared.step.Step.TheVariants.{Refused}
-use Rattle.laws_calls.specs.CallSteps.{CallStep, InnerStep, ResumeStep}
+use Rattle.laws_calls.specs.CallSteps.{CallStep, InnerStep, ResumeStep, NeedsTxn}
 use Rattle.laws_calls.specs.Events.{IsStateAfter, entries_of_resume}
 use Rattle.laws_calls.specs.LockedStates.{IsSessionsState}
 use Rattle.laws_calls.specs.Rollbacks.{TakesCall}
 use Rattle.laws_calls.specs.Settling.{SettledResume}
 use Rattle.laws_calls.specs.StateChanges.{wait_refused}
-use Rattle.laws_calls.specs.States.{DoesNotWait, IsOfSession, State, Waiting}
+use Rattle.laws_calls.specs.States.{DoesNotWait, IsOfSession, State, Waiting, HasSeat}
 use Rattle.laws_calls.specs.Victims.{TakesVictim, TellsVictim}
 
 -- ---- who is one
@@ -47,18 +45,9 @@ use Rattle.laws_calls.specs.Victims.{TakesVictim, TellsVictim}
 pub victim_among : {s new : State} {t : ℕ} {v : Victim} → TakesVictim s t v new → Contains v.cycle v.txn
 victim_among {s} {new} {t} {v} h = In-Contains v.cycle v.txn (first_In v.cycle v.txn h.victim.stands.first)
 
--- a victim waits
-pub victim_is_waiting : (s new : State) (t : ℕ) (v : Victim) → TakesVictim s t v new → is_waiting v.txn s.locks.requests ≡ true
-victim_is_waiting s new t v h = ⊎_elim
-    (λ waits. waits)
-    (λ quiet.
-    let next = member_waits s.locks.requests v.cycle v.txn h.victim.stands.closed (first_In v.cycle v.txn h.victim.stands.first) in
-    absurd (quiet_waits_not v.txn s.locks.requests quiet next.0 next.1))
-    (cases_Bool (is_waiting v.txn s.locks.requests))
-
 -- ---- what is kept
 
-module _ (found : List LogRecord) (es : List Entry) (s new : State) (t : ℕ) (v : Victim) (k : IsStateAfter found es s) (h : TakesVictim s t v new) where
+module _ (o : Opening) (found : List LogRecord) (es : List Entry) (s new : State) (t : ℕ) (v : Victim) (k : IsStateAfter o found es s) (h : TakesVictim s t v new) where
   pub victim_keeps_locks : (u : ℕ) → KeepsLocks s.sessions.held new.sessions.held u
   victim_keeps_locks u m at held =
       let rs = s.locks.requests in
@@ -87,7 +76,8 @@ module _ (found : List LogRecord) (es : List Entry) (s new : State) (t : ℕ) (v
 
 pub victim_doomed : (s new : State) (t : ℕ) (v : Victim) (b : SessionTxn) → TakesVictim s t v new → IsAmong b new.sessions.active → b.txn ≡ v.txn → b.undo.rolling ≡ Some Whole
 victim_doomed s new t v b h there same =
-    (doomed_left s.sessions (doomed s.sessions h.txn) h.txn b (h.active, refl) (subst (λ (x : State). IsAmong b x.sessions.active) h.is there) (same ∙ sym h.number)).1
+    let one = among_with h.txn.txn (undo_rolled h.txn.undo h.txn.undo.images Whole) b s.sessions.active (subst (λ (x : State). IsAmong b x.sessions.active) h.is there) in
+    ⊎_elim (λ own. ap (λ (undo : UndoList). undo.rolling) own.1) (λ other. absurd (other.0 (same ∙ sym h.number))) one.one
 
 -- ---- what is told
 
@@ -102,15 +92,15 @@ waits_or_not session (x ∷ ws) = ⊎_elim
     (waits_or_not session ws))
     (cases_Bool (x.session == session))
 
-module _ (found : List LogRecord) (es : List Entry) (s : State) (k : IsStateAfter found es s) (running : s.failed ≡ false) where
+module _ (o : Opening) (found : List LogRecord) (es : List Entry) (s : State) (k : IsStateAfter o found es s) (running : s.failed ≡ false) where
   -- the call with which a victim waits is to be told
   pub victim_to_tell : (new : State) (t : ℕ) (v : Victim) (b : SessionTxn) → TakesVictim s t v new → IsAmong b new.sessions.active → b.txn ≡ v.txn
       → (w : Waiting) × IsAmong w new.waiting × (w.session ≡ b.session) × (w.cycle ≡ Some v.cycle)
   victim_to_tell new t v b h there same =
-      let after = victim_stays found es s k t v new h in
+      let after = victim_stays o found es s k t v new h in
       let a = h.txn in
       let was = among_with a.txn (undo_rolled a.undo a.undo.images Whole) b s.sessions.active (subst (λ (x : State). IsAmong b x.sessions.active) h.is there) in
-      let of : a.session ≡ b.session = k.sessions.agree.one a was.was (inl h.active) (inl was.there) (h.number ∙ sym same ∙ was.txn) ∙ sym was.session in
+      let of : a.session ≡ b.session = ap (λ (x : SessionTxn). x.session) (one_member k.sessions a was.was h.active was.there (h.number ∙ sym same ∙ was.txn)) ∙ sym was.session in
       ⊎_elim
       (λ waits. (
         to_tell v.cycle waits.0,
@@ -144,15 +134,15 @@ module _ (found : List LogRecord) (es : List Entry) (s : State) (k : IsStateAfte
 -- ---- what is left
 
 -- of a transaction that is rolled back as a whole nothing but an abort is taken
-module _ (g : Geometry) (found : List LogRecord) (es : List Entry) (s new : State) (k : IsSessionsState found es s) (session : ℕ) (b : SessionTxn) (of : IsOfSession s session b)
-    (whole : b.undo.rolling ≡ Some Whole) (c : Call) (no_begin : c ≢ call.Begin) (no_abort : c ≢ call.Abort) (step : Step) where
+module _ (g : Geometry) (o : Opening) (found : List LogRecord) (es : List Entry) (s new : State) (k : IsSessionsState o found es s) (session : ℕ) (b : SessionTxn) (of : IsOfSession s session b)
+    (whole : b.undo.rolling ≡ Some Whole) (c : Call) (needs : NeedsTxn c) (no_abort : c ≢ call.Abort) (step : Step) where
   abbrev IsRefused : Type 0
   IsRefused = ((step ≡ Refused fault.MustAbort) ⊎ (step ≡ Refused fault.Memory)) × (new ≡ s)
 
   rolls : (a : SessionTxn) → IsOfSession s session a → a.undo.rolling ≡ Some Whole
   rolls a mem =
-      let number = one_txn k.agree b a (inl of.0) (inl mem.0) (of.1 ∙ sym mem.1) in
-      subst (λ (x : SessionTxn). x.undo.rolling ≡ Some Whole) (same_member b a s.sessions.active k.agree.once of.0 mem.0 number) whole
+      let number = one_txn s.sessions b a of.0.1 mem.0.1 (of.1 ∙ sym mem.1) in
+      subst (λ (x : SessionTxn). x.undo.rolling ≡ Some Whole) (one_member k b a of.0.0 mem.0.0 number) whole
 
   takes_no_way : (a : SessionTxn) → a.undo.rolling ≡ Some Whole → TakesCall a.undo c → ⊥
   takes_no_way a its (inl none) = let clash : Some Whole ≡ None = sym its ∙ none in absurd cc
@@ -169,17 +159,32 @@ module _ (g : Geometry) (found : List LogRecord) (es : List Entry) (s new : Stat
   only_aborts running idle (inl h) = (inr h.0, h.1)
   only_aborts running idle (inr (inl h)) = let failed = h.0 in absurd cc
   only_aborts running idle (inr (inr (inl h))) = absurd (h.1 idle)
-  only_aborts running idle (inr (inr (inr (inl h)))) = absurd (no_begin h.2)
-  only_aborts running idle (inr (inr (inr (inr (inl h))))) = absurd (h.3 b (inl of.0) of.1)
-  only_aborts running idle (inr (inr (inr (inr (inr h))))) = inner_refused h.2.0 (rolls h.2.0 h.2.1) h.2.2
+  only_aborts running idle (inr (inr (inr (inl h)))) = absurd (subst NeedsTxn h.2 needs)
+  only_aborts running idle (inr (inr (inr (inr (inl h))))) = absurd (in_one s session b of h.3)
+  only_aborts running idle (inr (inr (inr (inr (inr (inr (inl h))))))) = absurd (not_prepared s session b of h.3)
+  only_aborts running idle (inr (inr (inr (inr (inr (inr (inr h))))))) = absurd (subst NeedsTxn h.2.0 needs)
+  only_aborts running idle (inr (inr (inr (inr (inr (inl h)))))) = inner_refused h.2.0 (rolls h.2.0 h.2.1) h.2.2
+
+-- a victim is still its session's
+victim_still_seated : (o : Opening) (found : List LogRecord) (es : List Entry) (s mid : State) (t : ℕ) (v : Victim) (b : SessionTxn) → IsStateAfter o found es s → TakesVictim s t v mid
+    → IsAmong b mid.sessions.active → b.txn ≡ v.txn → HasSeat mid.sessions b
+victim_still_seated o found es s mid t v b k h there same =
+    let a = h.txn in
+    let seat = victim_seat o found es s k t v mid h in
+    let was = among_with a.txn (undo_rolled a.undo a.undo.images Whole) b s.sessions.active (subst (λ (x : State). IsAmong b x.sessions.active) h.is there) in
+    let is = one_member k.sessions was.was a was.there h.active (sym was.txn ∙ same ∙ sym h.number) in (
+      there,
+      subst (λ (x : State). x.sessions.seats b.session ≡ in_txn b.txn) (sym h.is) (ap s.sessions.seats (was.session ∙ ap (λ (x : SessionTxn). x.session) is) ∙ seat.1 ∙ ap in_txn (h.number ∙ sym same)),
+      subst (λ t. 0 < t) (h.number ∙ sym same) seat.2,
+    )
 
 -- .. so it is once a victim's session is told
-pub told_only_aborts : (g : Geometry) (found : List LogRecord) (es : List Entry) (s mid told new : State) (t session : ℕ) (v : Victim) (b : SessionTxn) (first step : Step) (c : Call)
-    → IsStateAfter found es s → TakesVictim s t v mid → IsAmong b mid.sessions.active → b.txn ≡ v.txn → b.session ≡ session → TellsVictim mid session first told
-    → c ≢ call.Begin → c ≢ call.Abort → CallStep g told session c step new → ((step ≡ Refused fault.MustAbort) ⊎ (step ≡ Refused fault.Memory)) × (new ≡ told)
-told_only_aborts g found es s mid told new t session v b first step c k h there same of tells no_begin no_abort calls =
-    let after = told_stays found es mid (victim_stays found es s k t v mid h) session first told tells in
-    let still = subst (λ (x : State). IsOfSession x session b) (sym tells.is) (there, of) in
+pub told_only_aborts : (g : Geometry) (o : Opening) (found : List LogRecord) (es : List Entry) (s mid told new : State) (t session : ℕ) (v : Victim) (b : SessionTxn) (first step : Step) (c : Call)
+    → IsStateAfter o found es s → TakesVictim s t v mid → IsAmong b mid.sessions.active → b.txn ≡ v.txn → b.session ≡ session → TellsVictim mid session first told
+    → NeedsTxn c → c ≢ call.Abort → CallStep g told session c step new → ((step ≡ Refused fault.MustAbort) ⊎ (step ≡ Refused fault.Memory)) × (new ≡ told)
+told_only_aborts g o found es s mid told new t session v b first step c k h there same of tells needs no_abort calls =
+    let after = told_stays o found es mid (victim_stays o found es s k t v mid h) session first told tells in
+    let still = subst (λ (x : State). IsOfSession x session b) (sym tells.is) (victim_still_seated o found es s mid t v b k h there same, of) in
     let running = ap (λ (x : State). x.failed) tells.is ∙ tells.running in
     let idle = subst (λ (x : State). DoesNotWait x session) (sym tells.is) (λ w m. (waits_on session w mid.waiting m).1) in
-    only_aborts g found (es ++ entries_of_resume mid session first) told new after.sessions session b still (victim_doomed s mid t v b h there same) c no_begin no_abort step running idle calls
+    only_aborts g o found (es ++ entries_of_resume mid session first) told new after.sessions session b still (victim_doomed s mid t v b h there same) c needs no_abort step running idle calls

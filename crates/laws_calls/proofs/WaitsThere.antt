@@ -1,7 +1,7 @@
 -- A request with which a transaction waits is its session's call's, at the granule for which that waits: each step keeps that.
-use Rattle.std.proofs.Common.{◌≡◌, ◌≢◌, ◌⊎◌, inl, inr, ⊎_elim, ◌++◌, ℕ, List, ◌∷◌, true, false, Option, Some, None, refl, sym, ap, subst, ◌∙◌}
+use Rattle.std.proofs.Common.{◌≡◌, ◌≢◌, ◌⊎◌, inl, inr, ⊎_elim, ◌++◌, ℕ, List, ◌∷◌, true, false, Option, Some, None, refl, sym, ap, subst, ◌∙◌, cond, arith, ◌<◌}
 use Rattle.std.specs.Prelude.{◌==◌, is_some}
-use Rattle.std.proofs.lemmas.Bool.{cases_Bool, eqb-false, eqb-true}
+use Rattle.std.proofs.lemmas.Bool.{cases_Bool, eqb-false, eqb-true, eq-eqb}
 use Rattle.shore_types.specs.declared.faults.Fault.{Fault}
 use Rattle.shore_types.specs.declared.faults.Fault.TheVariants as fault
 use Rattle.shore_types.specs.declared.layout.Geometry.{Geometry}
@@ -10,6 +10,7 @@ use Rattle.shore_model.specs.declared.calls.Answer.{Answer}
 use Rattle.shore_model.specs.declared.calls.Call.{Call}
 use Rattle.shore_model.specs.declared.calls.Call.TheVariants as call
 use Rattle.shore_model.specs.declared.histories.Entry.{Entry}
+use Rattle.shore_model.specs.declared.histories.Opening.{Opening}
 use Rattle.shore_model.specs.declared.log_records.LogRecord.{LogRecord}
 use Rattle.shore_model.specs.declared.requests.Request.{Request}
 use Rattle.shore_model.specs.declared.rollbacks.Rollback.{Rollback}
@@ -25,7 +26,7 @@ use Rattle.shore_locks.proofs.Members.{In}
 use Rattle.shore_cycles.proofs.Steps.{waits_as}
 use Rattle.shore_cycles.specs.declared.victims.Victim.{Victim}
 use Rattle.laws_lives.proofs.Members.{among_with, among_without}
-use Rattle.laws_lives.specs.Sessions.{SessionTxn, txn_begun, with_undo, without_txn}
+use Rattle.laws_lives.specs.Sessions.{SessionTxn, with_undo, without_txn, Sessions, in_txn, prepare_answered}
 use Rattle.laws_lives.specs.UndoLists.{UndoList}
 use Rattle.laws_lives.specs.Views.{IsAmong}
 use Rattle.laws_calls.proofs.AfterRefusals.{goes_leaves}
@@ -36,20 +37,24 @@ use Rattle.laws_calls.proofs.SessionEndings.{call_waits, done_leaves, refusing_l
 use Rattle.laws_calls.proofs.SessionInversions.{durable_no_lock, waits_in}
 use Rattle.laws_calls.proofs.SessionResumes.{woken}
 use Rattle.laws_calls.proofs.SessionStates.{session_call_stays, session_resume_stays}
-use Rattle.laws_calls.proofs.Sessions.{one_txn}
+use Rattle.laws_calls.proofs.Sessions.{one_txn, one_member, prepare_seats}
 use Rattle.laws_calls.proofs.SettledEnds.{call_leaves, idle_before}
 use Rattle.laws_calls.proofs.TakenLocks.{leaves}
 use Rattle.laws_calls.proofs.WaitingRequests.{NoneWaitsAnew, cancelled_none, found_waiting, others_none, released_none}
-use Rattle.laws_calls.specs.CallSteps.{AbortStep, AnswersBehind, BeginStep, CallGoesOn, CallStep, CommitStep, InnerStep, ResumeStep, ResumesWait, behind_lock, commit_ended, lock_waiting, on_conflict_of, with_requests}
+use Rattle.laws_calls.specs.CallSteps.{AbortStep, AnswersBehind, BeginStep, CallGoesOn, CallStep, CommitStep, InnerStep, ResumeStep, ResumesWait, behind_lock, commit_ended, lock_waiting, on_conflict_of, with_requests, prepare_ended}
 use Rattle.laws_calls.specs.Events.{IsStateAfter, entries_of_resume}
 use Rattle.laws_calls.specs.LockChanges.{TakesAsAsked}
 use Rattle.laws_calls.specs.LockedStates.{IsSessionsState}
 use Rattle.laws_calls.specs.Rollbacks.{BackToStep, IsInterrupted, IsUnwound, SavepointStep}
 use Rattle.laws_calls.specs.SessionWaits.{AllWaitThere, IsItsRequest, WaitsThere}
 use Rattle.laws_calls.specs.Shapes.{with_locks_of}
-use Rattle.laws_calls.specs.StateChanges.{after_refusal, commit_waiting, wait_refused}
-use Rattle.laws_calls.specs.States.{DoesNotWait, IsOfSession, State, Waiting, next_number, without_waiting}
+use Rattle.laws_calls.specs.StateChanges.{after_refusal, decision_waiting, wait_refused, begun}
+use Rattle.laws_calls.specs.States.{DoesNotWait, IsOfSession, State, Waiting, next_number, without_waiting, HasSeat}
 use Rattle.laws_calls.specs.Victims.{TakesVictim, TellsVictim, Withdraws, victim_taken, with_cycle}
+use Rattle.laws_calls.proofs.Waiters.{other_seat}
+use Rattle.shore_model.specs.declared.sessions.SessionState.{SessionState}
+use Rattle.shore_model.specs.Histories.{free}
+use Rattle.laws_calls.proofs.Outside.{outside_same}
 
 -- ---- transactions under way
 
@@ -57,21 +62,27 @@ use Rattle.laws_calls.specs.Victims.{TakesVictim, TellsVictim, Withdraws, victim
 abbrev pub WasUnderWay : State → SessionTxn → Type 0
 WasUnderWay s b = (a : SessionTxn) × IsOfSession s b.session a × (a.txn ≡ b.txn)
 
-was_it : (s : State) (b : SessionTxn) → IsAmong b s.sessions.active → WasUnderWay s b
+was_it : (s : State) (b : SessionTxn) → HasSeat s.sessions b → WasUnderWay s b
 was_it s b m = (b, (m, refl), refl)
 
-was_with : (s : State) (t : ℕ) (undo : UndoList) (b : SessionTxn) → IsAmong b (with_undo t undo s.sessions.active) → WasUnderWay s b
-was_with s t undo b m = let w = among_with t undo b s.sessions.active m in (w.was, (w.there, sym w.session), sym w.txn)
+was_with : (s : State) (t : ℕ) (undo : UndoList) (b : SessionTxn) → HasSeat (record s.sessions { active = with_undo t undo s.sessions.active }) b → WasUnderWay s b
+was_with s t undo b m =
+    let w = among_with t undo b s.sessions.active m.0 in
+    (w.was, ((w.there, ap s.sessions.seats (sym w.session) ∙ m.1 ∙ ap in_txn w.txn, subst (λ t. 0 < t) w.txn m.2), sym w.session), sym w.txn)
 
-was_without : (s : State) (t : ℕ) (b : SessionTxn) → IsAmong b (without_txn t s.sessions.active) → WasUnderWay s b
-was_without s t b m = was_it s b (among_without t b s.sessions.active m).0
+was_without : (s : State) (t : ℕ) (b : SessionTxn) → HasSeat (record s.sessions { active = without_txn t s.sessions.active }) b → WasUnderWay s b
+was_without s t b m = was_it s b ((among_without t b s.sessions.active m.0).0, m.1, m.2)
+
+-- one session's seat is another one
+was_beside : (s : State) (session : ℕ) (seat : SessionState) (b : SessionTxn) → session ≢ b.session → HasSeat (record s.sessions { seats = λ n. cond (session == n) seat (s.sessions.seats n) }) b → HasSeat s.sessions b
+was_beside s session seat b apart m = (m.0, sym (other_seat s.sessions.seats session b.session seat apart) ∙ m.1, m.2)
 
 -- as the new state has them
-was_in : (s new l : State) (b : SessionTxn) → new ≡ l → (IsAmong b l.sessions.active → WasUnderWay s b) → IsAmong b new.sessions.active → WasUnderWay s b
-was_in s new l b is by m = by (subst (λ (x : State). IsAmong b x.sessions.active) is m)
+was_in : (s new l : State) (b : SessionTxn) → new ≡ l → (HasSeat l.sessions b → WasUnderWay s b) → HasSeat new.sessions b → WasUnderWay s b
+was_in s new l b is by m = by (subst (λ (x : State). HasSeat x.sessions b) is m)
 
 abbrev AllWereUnderWay : State → State → Type 0
-AllWereUnderWay s new = (b : SessionTxn) → IsAmong b new.sessions.active → WasUnderWay s b
+AllWereUnderWay s new = (b : SessionTxn) → HasSeat new.sessions b → WasUnderWay s b
 
 refused_sessions : (f : Fault) (s : State) → (after_refusal f s).sessions ≡ s.sessions
 refused_sessions fault.Device s = refl
@@ -79,9 +90,9 @@ refused_sessions (fault.Damaged device place) s = refl
 refused_sessions _ s = refl
 
 interrupted_were : (s : State) (a : SessionTxn) (r : Rollback) (f : Fault) (new : State) → IsInterrupted s a r f new → AllWereUnderWay s new
-interrupted_were s a r f new h b m = unwound h.1 (subst (λ n. IsAmong b n.active) (ap (λ (x : State). x.sessions) h.3 ∙ refused_sessions f h.0) m)
+interrupted_were s a r f new h b m = unwound h.1 (subst (λ (n : Sessions). HasSeat n b) (ap (λ (x : State). x.sessions) h.3 ∙ refused_sessions f h.0) m)
   where
-    unwound : IsUnwound s a r h.0 → IsAmong b h.0.sessions.active → WasUnderWay s b
+    unwound : IsUnwound s a r h.0 → HasSeat h.0.sessions b → WasUnderWay s b
     unwound (inl same) = was_in s h.0 s b same (was_it s b)
     unwound (inr back) = was_in s h.0 _ b back.5 (was_with s a.txn _ b)
 
@@ -108,14 +119,17 @@ goes_were g s a c Nothing new h b m = absurd h
 module _ (g : Geometry) (s new : State) (session : ℕ) where
   -- of other sessions
   abbrev pub OthersWereUnderWay : Type 0
-  OthersWereUnderWay = (b : SessionTxn) → IsAmong b new.sessions.active → b.session ≢ session → WasUnderWay s b
+  OthersWereUnderWay = (b : SessionTxn) → HasSeat new.sessions b → b.session ≢ session → WasUnderWay s b
 
   begin_were : (step : Step) → BeginStep s session step new → OthersWereUnderWay
-  begin_were (Done answer) h b m other = by (subst (λ (x : State). IsAmong b x.sessions.active) h.4 m)
+  begin_were (Done answer) h b m other = by now.0
     where
-      by : IsAmong b (txn_begun s.sessions session).active → WasUnderWay s b
+      now : HasSeat (begun s session).sessions b
+      now = subst (λ (x : State). HasSeat x.sessions b) h.4 m
+
+      by : IsAmong b (begun s session).sessions.active → WasUnderWay s b
       by (inl same) = absurd (other (ap (λ (x : SessionTxn). x.session) (sym same)))
-      by (inr later) = was_it s b later
+      by (inr later) = was_it s b (was_beside s session (in_txn s.sessions.next_txn) b (λ same. other (sym same)) (later, now.1, now.2))
   begin_were (Refused f) h b m other = was_in s new s b h.1 (was_it s b) m
   begin_were (Waits wait) h b m other = absurd h
   begin_were Nothing h b m other = absurd h
@@ -139,20 +153,21 @@ module _ (g : Geometry) (s new : State) (session : ℕ) where
   back_were a n (Waits wait) h b = absurd h
   back_were a n Nothing h b = absurd h
 
-  abort_were : (a : SessionTxn) (step : Step) → AbortStep s a step new → AllWereUnderWay s new
-  abort_were a (Done answer) h b = was_in s new _ b h.1 (was_without s a.txn b)
-  abort_were a (Refused f) h b = interrupted_were s a Whole f new h b
-  abort_were a (Waits wait) h b = absurd h
-  abort_were a Nothing h b = absurd h
+  abort_were : (a : SessionTxn) → a.session ≡ session → (step : Step) → AbortStep s a step new → OthersWereUnderWay
+  abort_were a of (Done answer) h b m other =
+      was_in s new _ b h.1 (λ now. was_it s b (was_beside s a.session free b (λ same. other (sym same ∙ of)) ((among_without a.txn b s.sessions.active now.0).0, now.1, now.2))) m
+  abort_were a of (Refused f) h b m other = interrupted_were s a Whole f new h b m
+  abort_were a of (Waits wait) h b m other = absurd h
+  abort_were a of Nothing h b m other = absurd h
 
-  inner_were : (a : SessionTxn) (c : Call) (step : Step) → InnerStep g s a c step new → AllWereUnderWay s new
-  inner_were a c step (inl h) b = was_in s new s b h.3 (was_it s b)
-  inner_were a c step (inr (inl (whole, inl h))) b = was_in s new s b h.3 (was_it s b)
-  inner_were a c step (inr (inl (whole, inr (inl h)))) b = goes_were g s a c step new h.1 b
-  inner_were a c step (inr (inl (whole, inr (inr (inl h))))) b = commit_were a step h.1 b
-  inner_were a c step (inr (inl (whole, inr (inr (inr h))))) b = savepoint_were a step h.1 b
-  inner_were a c step (inr (inr (inl h))) b = back_were a h.0 step h.3 b
-  inner_were a c step (inr (inr (inr h))) b = abort_were a step h.1 b
+  inner_were : (a : SessionTxn) → a.session ≡ session → (c : Call) (step : Step) → InnerStep g s a c step new → OthersWereUnderWay
+  inner_were a of c step (inl h) b m other = was_in s new s b h.3 (was_it s b) m
+  inner_were a of c step (inr (inl (whole, inl h))) b m other = was_in s new s b h.3 (was_it s b) m
+  inner_were a of c step (inr (inl (whole, inr (inl h)))) b m other = goes_were g s a c step new h.1 b m
+  inner_were a of c step (inr (inl (whole, inr (inr (inl h))))) b m other = commit_were a step h.1 b m
+  inner_were a of c step (inr (inl (whole, inr (inr (inr h))))) b m other = savepoint_were a step h.1 b m
+  inner_were a of c step (inr (inr (inl h))) b m other = back_were a h.0 step h.3 b m
+  inner_were a of c step (inr (inr (inr h))) b m other = abort_were a of step h.1 b m other
 
   call_were : (c : Call) (step : Step) → CallStep g s session c step new → OthersWereUnderWay
   call_were c step (inl h) b m other = was_in s new s b h.1 (was_it s b) m
@@ -160,7 +175,9 @@ module _ (g : Geometry) (s new : State) (session : ℕ) where
   call_were c step (inr (inr (inl h))) b m other = was_in s new s b h.3 (was_it s b) m
   call_were c step (inr (inr (inr (inl h)))) b m other = begin_were step h.3 b m other
   call_were c step (inr (inr (inr (inr (inl h))))) b m other = was_in s new s b h.5 (was_it s b) m
-  call_were c step (inr (inr (inr (inr (inr h))))) b m other = inner_were h.2.0 c step h.2.2 b m
+  call_were c step (inr (inr (inr (inr (inr (inr (inl h))))))) b m other = was_in s new s b h.5 (was_it s b) m
+  call_were c step (inr (inr (inr (inr (inr (inr (inr h))))))) b m other = was_in s new s b (outside_same s c step new h.2) (was_it s b) m
+  call_were c step (inr (inr (inr (inr (inr (inl h)))))) b m other = inner_were h.2.0 h.2.1.1 c step h.2.2 b m other
 
   -- ---- no call comes to nothing
 
@@ -170,7 +187,9 @@ module _ (g : Geometry) (s new : State) (session : ℕ) where
   call_nothing c (inr (inr (inl h))) = let clash = h.2 in cc
   call_nothing c (inr (inr (inr (inl h)))) = h.3
   call_nothing c (inr (inr (inr (inr (inl h))))) = let clash = h.4 in cc
-  call_nothing c (inr (inr (inr (inr (inr h))))) = by h.2.2
+  call_nothing c (inr (inr (inr (inr (inr (inr (inl h))))))) = let clash = h.4 in cc
+  call_nothing c (inr (inr (inr (inr (inr (inr (inr h))))))) = h.2.1
+  call_nothing c (inr (inr (inr (inr (inr (inl h)))))) = by h.2.2
     where
       by : InnerStep g s h.2.0 c Nothing new → ⊥
       by (inl x) = let clash = x.2 in cc
@@ -203,7 +222,7 @@ module _ (g : Geometry) (s new : State) (session : ℕ) where
       let t = waits_in g s new session c wait h in
       ⊎_elim
       (λ asks. one_waited (lock_waiting t.txn c asks.1.1) t.of.1 (ap (λ (x : State). x.waiting) asks.1.5))
-      (λ commits. one_waited (commit_waiting t.txn.session (next_number s)) t.of.1 (ap (λ (x : State). x.waiting) commits.1.1))
+      (λ commits. one_waited (decision_waiting t.txn.session call.Commit (next_number s)) t.of.1 (ap (λ (x : State). x.waiting) commits.1.1))
       t.how
   call_waited c Nothing h = absurd (call_nothing c h)
 
@@ -239,25 +258,25 @@ same_request : (o : Option Request) (q r : Request) → o ≡ Some q → o ≡ S
 same_request o q r d e = cc
 
 -- whose call has just come to wait at a granule waits there, and with that one request alone
-module _ (g : Geometry) (found : List LogRecord) (es : List Entry) (s : State) (k : IsSessionsState found es s) (a : SessionTxn) (mem : IsAmong a s.sessions.active) (quiet : is_waiting a.txn s.locks.requests ≡ false)
+module _ (g : Geometry) (o : Opening) (found : List LogRecord) (es : List Entry) (s : State) (k : IsSessionsState o found es s) (a : SessionTxn) (mem : HasSeat s.sessions a) (quiet : is_waiting a.txn s.locks.requests ≡ false)
     (c : Call) (at : Granule) (new : State) (h : CallGoesOn g s a c (Waits (Lock at)) new) where
   lock_at : (wait : Wait) (there : Granule) → Lock at ≡ Lock there → at ≡ there
   lock_at wait there e = cc
 
   pub fresh : (request : Request) × (waiting_request a.txn new.locks.requests ≡ Some request) × IsItsRequest c at request
   fresh =
-      let waits = (leaves found es s k a mem quiet (on_conflict_of c) h.0.granule h.0.mode).waits h.1 h.3 in
+      let waits = (leaves o found es s k a mem quiet (on_conflict_of c) h.0.granule h.0.mode).waits h.1 h.3 in
       let there : at ≡ h.1 = lock_at (Lock at) h.1 h.4 in (
         waits.1.request,
         ap (λ (x : State). waiting_request a.txn x.locks.requests) h.5 ∙ waits.1.waits,
         subst (λ (x : Granule). IsItsRequest c x waits.1.request) (sym there) (record { lock = h.0; asked = h.2; there = waits.1.at; on = waits.0; wanted = waits.1.wanted }),
       )
 
-  pub fresh_active : IsAmong a new.sessions.active
-  fresh_active = subst (λ (x : State). IsAmong a x.sessions.active) (sym h.5) mem
+  pub fresh_active : HasSeat new.sessions a
+  fresh_active = subst (λ (x : State). HasSeat x.sessions a) (sym h.5) mem
 
 -- the fresh wait of a session's call
-module _ (found : List LogRecord) (es : List Entry) (new : State) (k : IsStateAfter found es new) (session : ℕ) (a : SessionTxn) (of : IsOfSession new session a) (at : Granule) (c : Call)
+module _ (o : Opening) (found : List LogRecord) (es : List Entry) (new : State) (k : IsStateAfter o found es new) (session : ℕ) (a : SessionTxn) (of : IsOfSession new session a) (at : Granule) (c : Call)
     (fresh : (request : Request) × (waiting_request a.txn new.locks.requests ≡ Some request) × IsItsRequest c at request)
     (w : Waiting) (there : IsAmong w new.waiting) (its : w.session ≡ session) (asks : w.call ≡ c) (lock : w.wait ≡ Lock at) where
   same_granule : (x y : Granule) → Lock x ≡ Lock y → x ≡ y
@@ -266,21 +285,21 @@ module _ (found : List LogRecord) (es : List Entry) (new : State) (k : IsStateAf
   pub fresh_there : WaitsThere new session
   fresh_there v m mine to waits b ofb r is =
       let one = k.waits.once w v there m (its ∙ sym mine) in
-      let same : a.txn ≡ b.txn = one_txn k.sessions.agree a b (inl of.0) (inl ofb.0) (of.1 ∙ sym ofb.1) in
+      let same : a.txn ≡ b.txn = one_txn new.sessions a b of.0.1 ofb.0.1 (of.1 ∙ sym ofb.1) in
       let request = same_request (waiting_request b.txn new.locks.requests) fresh.0 r (ap (λ t. waiting_request t new.locks.requests) (sym same) ∙ fresh.1) is in
       subst (λ (x : Request). IsItsRequest v.call to x) request
       (subst (λ (x : Granule). IsItsRequest v.call x fresh.0) (same_granule at to (sym lock ∙ ap (λ (x : Waiting). x.wait) one ∙ waits))
       (subst (λ (d : Call). IsItsRequest d at fresh.0) (sym asks ∙ ap (λ (x : Waiting). x.call) one) fresh.2))
 
-module _ (g : Geometry) (found : List LogRecord) (es : List Entry) (s : State) (k : IsStateAfter found es s) (session : ℕ) (c : Call) where
+module _ (g : Geometry) (o : Opening) (found : List LogRecord) (es : List Entry) (s : State) (k : IsStateAfter o found es s) (session : ℕ) (c : Call) where
   -- another's requests are only granted
-  call_stood : (step : Step) (new : State) → CallStep g s session c step new → (a : SessionTxn) → IsAmong a s.sessions.active → a.session ≢ session
+  call_stood : (step : Step) (new : State) → CallStep g s session c step new → (a : SessionTxn) → HasSeat s.sessions a → a.session ≢ session
       → (r : Request) → In r new.locks.requests → r.txn ≡ a.txn → is_some r.wanted ≡ true → In r s.locks.requests
-  call_stood step new h a mem other r there own wants = by (call_changes g found es s k session c step new h)
+  call_stood step new h a mem other r there own wants = by (call_changes g o found es s k session c step new h)
     where
       -- it is no request of the caller's
       apart : (t : SessionTxn) → IsOfSession s session t → r.txn ≢ t.txn
-      apart t of same = other (k.sessions.agree.one a t (inl mem) (inl of.0) (sym own ∙ same) ∙ of.1)
+      apart t of same = other (ap (λ (x : SessionTxn). x.session) (one_member k.sessions a t mem.0 of.0.0 (sym own ∙ same)) ∙ of.1)
 
       by : ChangesByCall s session c step new → In r s.locks.requests
       by (inl (inl same)) = subst (In r) same there
@@ -308,7 +327,9 @@ module _ (g : Geometry) (found : List LogRecord) (es : List Entry) (s : State) (
       refused f (inr (inr (inl h))) same = as_it_was h.3
       refused f (inr (inr (inr (inl h)))) same = idle (λ w m. h.1 w (subst (IsAmong w) same m))
       refused f (inr (inr (inr (inr (inl h))))) same = as_it_was h.5
-      refused f (inr (inr (inr (inr (inr h))))) same = idle (λ w m. h.1 w (subst (IsAmong w) same m))
+      refused f (inr (inr (inr (inr (inr (inr (inl h))))))) same = as_it_was h.5
+      refused f (inr (inr (inr (inr (inr (inr (inr h))))))) same = absurd h.2.1
+      refused f (inr (inr (inr (inr (inr (inl h)))))) same = idle (λ w m. h.1 w (subst (IsAmong w) same m))
 
       by : (step : Step) → CallStep g s session c step new → WaitsThere new session
       by (Done answer) h =
@@ -316,17 +337,17 @@ module _ (g : Geometry) (found : List LogRecord) (es : List Entry) (s : State) (
       by (Refused f) h = refused f h (call_leaves g s new session c (Refused f) h tt)
       by Nothing h = absurd (call_nothing g s new session c h)
       by (Waits (Durable n)) h = λ w m of at lock.
-          let later = session_call_stays found es s k g session c (Waits (Durable n)) new h in
+          let later = session_call_stays o found es s k g session c (Waits (Durable n)) new h in
           let one = later.waits.once w (record { session = session; call = c; wait = Durable n; cycle = None }) m (call_waits g s new session c (Durable n) h) of in
           absurd (durable_no_lock n at (ap (λ (x : Waiting). x.wait) (sym one) ∙ lock))
       by (Waits (Lock at)) h =
           let t = waits_in g s new session c (Lock at) h in
-          let later = session_call_stays found es s k g session c (Waits (Lock at)) new h in
+          let later = session_call_stays o found es s k g session c (Waits (Lock at)) new h in
           ⊎_elim
           (λ asks.
-          let quiet = k.sessions.locks.waits t.running t.txn t.of.0 (λ w m spared same. t.idle w m (same ∙ t.of.1)) in
-          fresh_there found _ new later session t.txn (fresh_active g found es s k.sessions t.txn t.of.0 quiet c at new asks.1, t.of.1) at c
-          (fresh g found es s k.sessions t.txn t.of.0 quiet c at new asks.1) (record { session = session; call = c; wait = Lock at; cycle = None }) (call_waits g s new session c (Lock at) h) refl refl refl)
+          let quiet = k.sessions.locks.waits t.running t.txn t.of.0.0 (λ w m spared same. t.idle w m (same ∙ t.of.1)) in
+          fresh_there o found _ new later session t.txn (fresh_active g o found es s k.sessions t.txn t.of.0 quiet c at new asks.1, t.of.1) at c
+          (fresh g o found es s k.sessions t.txn t.of.0 quiet c at new asks.1) (record { session = session; call = c; wait = Lock at; cycle = None }) (call_waits g s new session c (Lock at) h) refl refl refl)
           (λ commits. absurd (durable_no_lock _ at (sym commits.1.0)))
           t.how
 
@@ -344,14 +365,14 @@ module _ (g : Geometry) (found : List LogRecord) (es : List Entry) (s : State) (
 
 -- ---- a call that goes on
 
-module _ (g : Geometry) (found : List LogRecord) (es : List Entry) (s : State) (k : IsSessionsState found es s) (a : SessionTxn) (session : ℕ) (of : IsOfSession s session a) (idle : DoesNotWait s session)
+module _ (g : Geometry) (o : Opening) (found : List LogRecord) (es : List Entry) (s : State) (k : IsSessionsState o found es s) (a : SessionTxn) (session : ℕ) (of : IsOfSession s session a) (idle : DoesNotWait s session)
     (quiet : is_waiting a.txn s.locks.requests ≡ false) (c : Call) (new : State) where
-  goes_stood : (step : Step) → CallGoesOn g s a c step new → (b : SessionTxn) → IsAmong b s.sessions.active → b.session ≢ session
+  goes_stood : (step : Step) → CallGoesOn g s a c step new → (b : SessionTxn) → HasSeat s.sessions b → b.session ≢ session
       → (r : Request) → In r new.locks.requests → r.txn ≡ b.txn → is_some r.wanted ≡ true → In r s.locks.requests
-  goes_stood step h b mem other r there own wants = by (on_changes g found es session a of.1 s k of.0 quiet c step new h)
+  goes_stood step h b mem other r there own wants = by (on_changes g o found es session a of.1 s k of.0 quiet c step new h)
     where
       apart : r.txn ≢ a.txn
-      apart same = other (k.agree.one b a (inl mem) (inl of.0) (sym own ∙ same) ∙ of.1)
+      apart same = other (ap (λ (x : SessionTxn). x.session) (one_member k b a mem.0 of.0.0 (sym own ∙ same)) ∙ of.1)
 
       by : (new.locks.requests ≡ s.locks.requests) ⊎ TakesAsAsked s.locks.requests a.txn c new.locks.requests → In r s.locks.requests
       by (inl same) = subst (In r) same there
@@ -365,14 +386,14 @@ module _ (g : Geometry) (found : List LogRecord) (es : List Entry) (s : State) (
   goes_waited (Waits wait) h = one_waited g s new session (lock_waiting a c h.1) of.1 (ap (λ (x : State). x.waiting) h.5)
   goes_waited Nothing h = absurd h
 
-  module _ (later : List Entry) (stays : IsStateAfter found later new) where
+  module _ (later : List Entry) (stays : IsStateAfter o found later new) where
     goes_own : (step : Step) → CallGoesOn g s a c step new → WaitsThere new session
     goes_own (Done answer) h = λ w m its. absurd (idle w (subst (IsAmong w) (done_leaves g s a c answer new h) m) its)
     goes_own (Refused f) h = λ w m its. absurd (idle w (subst (IsAmong w) (refusing_leaves g s a c f new h) m) its)
     goes_own Nothing h = absurd h
     goes_own (Waits (Durable n)) h = absurd (durable_no_lock n h.1 h.4)
     goes_own (Waits (Lock at)) h =
-        fresh_there found later new stays session a (fresh_active g found es s k a of.0 quiet c at new h, of.1) at c (fresh g found es s k a of.0 quiet c at new h)
+        fresh_there o found later new stays session a (fresh_active g o found es s k a of.0 quiet c at new h, of.1) at c (fresh g o found es s k a of.0 quiet c at new h)
         (lock_waiting a c h.1) (subst (λ (x : State). IsAmong (lock_waiting a c h.1) x.waiting) (sym h.5) (inl refl)) of.1 refl (sym h.4)
 
     pub goes_there : (step : Step) → CallGoesOn g s a c step new → AllWaitThere s → AllWaitThere new
@@ -393,7 +414,7 @@ module _ (g : Geometry) (found : List LogRecord) (es : List Entry) (s : State) (
 still_waited : (s : State) (n : ℕ) (w : Waiting) → IsAmong w (without_waiting n s.waiting) → (v : Waiting) × IsAmong v s.waiting × (v.session ≡ w.session) × (v.wait ≡ w.wait) × (v.call ≡ w.call)
 still_waited s n w m = (w, (waits_on n w s.waiting m).0, refl, refl, refl)
 
-module _ (g : Geometry) (found : List LogRecord) (es : List Entry) (s : State) (k : IsStateAfter found es s) (session : ℕ) (step : Step) (new : State) (resumes : ResumeStep g s session step new)
+module _ (g : Geometry) (o : Opening) (found : List LogRecord) (es : List Entry) (s : State) (k : IsStateAfter o found es s) (session : ℕ) (step : Step) (new : State) (resumes : ResumeStep g s session step new)
     (was : AllWaitThere s) where
   same_there : new ≡ s → AllWaitThere new
   same_there same = subst AllWaitThere (sym same) was
@@ -401,15 +422,32 @@ module _ (g : Geometry) (found : List LogRecord) (es : List Entry) (s : State) (
   woken_there : (n : ℕ) → AllWaitThere (wait_refused s n)
   woken_there n = all_there s (wait_refused s n) k.sessions.locks.orderly (still_waited s n) (was_it s) (λ r there wants. there) was
 
+  -- who is its session's once a commit is answered was so
+  freed_were : (a b : SessionTxn) → HasSeat (record s.sessions { seats = λ n. cond (a.session == n) free (s.sessions.seats n) }) b → WasUnderWay s b
+  freed_were a b m = was_it s b (was_beside s a.session free b other m)
+    where
+      other : a.session ≢ b.session
+      other same =
+          let above = m.2 in
+          let here : cond (a.session == b.session) free (s.sessions.seats b.session) ≡ free = ap (λ c. cond c free (s.sessions.seats b.session)) (eq-eqb a.session b.session same) in
+          let none : b.txn ≡ 0 = ap (λ (p : SessionState). p.txn) (sym m.1 ∙ here) in
+          omega arith
+
+  prepared_there : (w : Waiting) (t : ℕ) (global : List ℕ) → AllWaitThere (prepare_ended s w.session t global)
+  prepared_there w t global =
+      subst (λ (x : Sessions). AllWaitThere (record s { sessions = x; waiting = without_waiting w.session s.waiting })) (prepare_seats s.sessions w.session t global)
+      (all_there s (record s { sessions = prepare_answered s.sessions t; waiting = without_waiting w.session s.waiting }) k.sessions.locks.orderly (still_waited s w.session) (was_it s) (λ r there wants. there) was)
+
   wait_there : (w : Waiting) → w.session ≡ session → (wait : Wait) → ResumesWait g s w wait step new → AllWaitThere new
   wait_there w of (Durable n) (inl h) = same_there h.2
-  wait_there w of (Durable n) (inr h) = subst AllWaitThere (sym h.2.3)
-      (all_there s (commit_ended s h.2.0) k.sessions.locks.orderly (still_waited s h.2.0.session) (was_it s) (released_none h.2.0.txn s.locks.requests k.sessions.locks.orderly.one_each) was)
+  wait_there w of (Durable n) (inr (inl h)) = subst AllWaitThere (sym h.2.3)
+      (all_there s (commit_ended s h.2.0) k.sessions.locks.orderly (still_waited s h.2.0.session) (freed_were h.2.0) (released_none h.2.0.txn s.locks.requests k.sessions.locks.orderly.one_each) was)
+  wait_there w of (Durable n) (inr (inr h)) = subst AllWaitThere (sym h.2.4) (prepared_there w h.2.0 h.2.1)
   wait_there w of (Lock at) h = ⊎_elim
       (λ still. same_there still.2)
       (λ free.
-      goes_there g found es (wait_refused s w.session) (woken g found es s k.sessions h.0 w.session h.1 free.0) h.0 w.session h.1 (λ v m. (waits_on w.session v s.waiting m).1) free.0 w.call new
-      (es ++ entries_of_resume s session step) (session_resume_stays found es s k g session step new resumes) step free.1 (woken_there w.session))
+      goes_there g o found es (wait_refused s w.session) (woken g o found es s k.sessions h.0 w.session h.1 free.0) h.0 w.session h.1 (λ v m. (waits_on w.session v s.waiting m).1) free.0 w.call new
+      (es ++ entries_of_resume s session step) (session_resume_stays o found es s k g session step new resumes) step free.1 (woken_there w.session))
       h.2
 
   pub resume_there : AllWaitThere new
@@ -424,7 +462,7 @@ module _ (g : Geometry) (found : List LogRecord) (es : List Entry) (s : State) (
 
 -- ---- victims, and what stops a call
 
-module _ (found : List LogRecord) (es : List Entry) (s : State) (k : IsStateAfter found es s) (was : AllWaitThere s) where
+module _ (o : Opening) (found : List LogRecord) (es : List Entry) (s : State) (k : IsStateAfter o found es s) (was : AllWaitThere s) where
   pub victim_there : (t : ℕ) (v : Victim) (new : State) → TakesVictim s t v new → AllWaitThere new
   victim_there t v new h = subst AllWaitThere (sym h.is)
       (all_there s (victim_taken s h.txn v.cycle) k.sessions.locks.orderly waited (λ b. was_with s h.txn.txn _ b) (cancelled_none h.txn.txn s.locks.requests k.sessions.locks.orderly.one_each) was)

@@ -1,5 +1,5 @@
 -- Answers of sessions that must not come.
-use Rattle.std.proofs.Common.{◌≡◌, ◌≢◌, inl, ◌≤◌, ◌<◌, ℕ, List, Some, None, sym, ap, subst, ◌∙◌, length, arith, Ok}
+use Rattle.std.proofs.Common.{◌≡◌, ◌≢◌, ◌≤◌, ◌<◌, ℕ, List, Some, None, sym, ap, subst, ◌∙◌, length, arith, Ok}
 use Rattle.std.specs.FinMap.{get}
 use Rattle.std.specs.Prelude.{Option, IsSome, IsTrue}
 use Rattle.shore_types.specs.Layout.{HasPage, HasSlot}
@@ -26,11 +26,12 @@ use Rattle.laws_lives.specs.Sessions.{SessionTxn}
 use Rattle.laws_lives.specs.Views.{IsAmong}
 use Rattle.shore_model.specs.declared.step.Step.TheVariants.{Done}
 use Rattle.laws_calls.proofs.Decided.{both_ways, no_record_both}
-use Rattle.laws_calls.proofs.SessionInversions.{AnsweredFrom, AnsweredIn, answered_in, answered_of, answered_running, asks_no_begin, asks_no_lockless, begun_in, insert_asks, same_lock}
+use Rattle.laws_calls.proofs.SessionInversions.{AnsweredFrom, AnsweredIn, answered_in, answered_of, answered_running, asks_in_txn, asks_no_lockless, begun_in, insert_asks, same_lock}
 use Rattle.laws_calls.specs.StateChanges.{CanLog, FitsAt, MayChange, answered}
-use Rattle.laws_calls.specs.CallSteps.{AnswersBehind, HasPlace, ServesTxn, CallStep, behind_lock, behind_place, lock_outcome, place_outcome, txn_count}
+use Rattle.laws_calls.specs.CallSteps.{AnswersBehind, HasPlace, ServesTxn, CallStep, behind_lock, behind_place, lock_outcome, place_outcome, txn_count, NeedsTxn}
 use Rattle.laws_calls.specs.Shapes.{ForItsTxn, store_locked}
 use Rattle.laws_calls.specs.States.{HasNoTxn, IsInTxn, MayBegin, State, Waiting}
+use Rattle.laws_calls.proofs.Sessions.{in_one}
 
 same_bytes : (x y : List ℕ) → Got x ≡ Got y → x ≡ y
 same_bytes x y e = cc
@@ -70,22 +71,22 @@ module _ (g : Geometry) (s new : State) (session : ℕ) where
   Answered c answer = CallStep g s session c (Done answer) new
 
   got : (id : Rid) (answer : Answer) → Answered (call.Get id) answer → AnsweredIn g s session (call.Get id) answer new
-  got id answer h = answered_in g s new session (call.Get id) answer (λ e. cc) (λ x. x) h
+  got id answer h = answered_in g s new session (call.Get id) answer tt (λ x. x) h
 
   got_for_update : (id : Rid) (answer : Answer) → Answered (call.GetForUpdate id) answer → AnsweredIn g s session (call.GetForUpdate id) answer new
-  got_for_update id answer h = answered_in g s new session (call.GetForUpdate id) answer (λ e. cc) (λ x. x) h
+  got_for_update id answer h = answered_in g s new session (call.GetForUpdate id) answer tt (λ x. x) h
 
   inserted : (store : ℕ) (bytes : List ℕ) (answer : Answer) → Answered (call.Insert store bytes) answer → AnsweredIn g s session (call.Insert store bytes) answer new
-  inserted store bytes answer h = answered_in g s new session (call.Insert store bytes) answer (λ e. cc) (λ x. x) h
+  inserted store bytes answer h = answered_in g s new session (call.Insert store bytes) answer tt (λ x. x) h
 
   updated : (id : Rid) (bytes : List ℕ) (answer : Answer) → Answered (call.Update id bytes) answer → AnsweredIn g s session (call.Update id bytes) answer new
-  updated id bytes answer h = answered_in g s new session (call.Update id bytes) answer (λ e. cc) (λ x. x) h
+  updated id bytes answer h = answered_in g s new session (call.Update id bytes) answer tt (λ x. x) h
 
   deleted : (id : Rid) (answer : Answer) → Answered (call.Delete id) answer → AnsweredIn g s session (call.Delete id) answer new
-  deleted id answer h = answered_in g s new session (call.Delete id) answer (λ e. cc) (λ x. x) h
+  deleted id answer h = answered_in g s new session (call.Delete id) answer tt (λ x. x) h
 
   scanned : (store : ℕ) (answer : Answer) → Answered (call.Scan store) answer → AnsweredIn g s session (call.Scan store) answer new
-  scanned store answer h = answered_in g s new session (call.Scan store) answer (λ e. cc) (λ x. x) h
+  scanned store answer h = answered_in g s new session (call.Scan store) answer tt (λ x. x) h
 
   -- ---- reads
 
@@ -196,12 +197,12 @@ module _ (g : Geometry) (s new : State) (session : ℕ) where
   begin_when_full answer full h = let less = (begun_in g s new session answer h).2.1 in omega arith
 
   pub second_begin : (answer : Answer) → IsInTxn s session → Answered call.Begin answer → ⊥
-  second_begin answer mine h = (begun_in g s new session answer h).2.0 mine.0 (inl mine.1.0) mine.1.1
+  second_begin answer mine h = mine (begun_in g s new session answer h).2.0
 
   -- ---- any call
 
-  pub answer_in_no_txn : (c : Call) (answer : Answer) → c ≢ call.Begin → HasNoTxn s session → Answered c answer → ⊥
-  answer_in_no_txn c answer other none h = let t = answered_of g s new session c answer other h in none t.0 (inl t.1.0) t.1.1
+  pub answer_in_no_txn : (c : Call) (answer : Answer) → NeedsTxn c → HasNoTxn s session → Answered c answer → ⊥
+  answer_in_no_txn c answer needs none h = let t = answered_of g s new session c answer needs h in in_one s session t.0 t.1 none
 
   pub answer_while_waiting : (c : Call) (answer : Answer) (w : Waiting) → IsAmong w s.waiting → w.session ≡ session → Answered c answer → ⊥
   answer_while_waiting c answer w m of h = (answered_running g s new session c answer h).1 w m of
@@ -210,11 +211,11 @@ module _ (g : Geometry) (s new : State) (session : ℕ) where
   answer_after_failure c answer failed h = both_ways s.failed failed (answered_running g s new session c answer h).0
 
   pub commit_at_once : (answer : Answer) → Answered call.Commit answer → ⊥
-  commit_at_once answer h = (answered_in g s new session call.Commit answer (λ e. cc) (λ x. x) h).may
+  commit_at_once answer h = (answered_in g s new session call.Commit answer tt (λ x. x) h).may
 
   -- a call is not answered if its lock is not taken
   pub answer_unlocked : (c : Call) (answer : Answer) (lock : Asked) → lock_asked_by c ≡ Some lock
       → ForItsTxn s session (λ a. (lock_outcome s a c lock).answer ≢ Ok acquire.Done) → Answered c answer → ⊥
   answer_unlocked c answer lock asks none h =
-      let t = answered_in g s new session c answer (asks_no_begin c lock asks) (asks_no_lockless c lock asks) h in
+      let t = answered_in g s new session c answer (asks_in_txn c lock asks) (asks_no_lockless c lock asks) h in
       none t.txn t.of (subst (λ (l : Asked). (lock_outcome s t.txn c l).answer ≡ Ok acquire.Done) (same_lock (lock_asked_by c) t.from.lock lock t.from.asks asks) t.from.done)

@@ -1,5 +1,5 @@
 -- Refusals of sessions that must not come.
-use Rattle.std.proofs.Common.{◌≡◌, ◌≢◌, inl, inr, ⊎_elim, ◌<◌, ℕ, List, false, None, refl, sym, subst, ◌∙◌, arith}
+use Rattle.std.proofs.Common.{◌≡◌, ◌≢◌, inl, inr, ⊎_elim, ◌<◌, ℕ, List, false, None, refl, sym, subst, ◌∙◌, arith, true, ap}
 use Rattle.std.specs.Prelude.{IsTrue}
 use Rattle.shore_types.specs.declared.faults.Fault.{Fault}
 use Rattle.shore_types.specs.declared.faults.Fault.TheVariants as fault
@@ -18,11 +18,13 @@ use Rattle.shore_model.specs.declared.step.Step.TheVariants.{Refused}
 use Rattle.laws_calls.proofs.AcquireAnswers.{IsLockFault, acquire_fault}
 use Rattle.laws_calls.proofs.Decided.{both_ways}
 use Rattle.laws_calls.proofs.SessionInversions.{IsOwn, same_fault}
-use Rattle.laws_calls.specs.CallSteps.{BeginStep, CallGoesOn, InnerStep, IsTooLong, MayAsk, RefusesBehind, RefusesEarly, RefusesGranule, RefusesId, RefusesLock, RefusesRead, CallStep, on_conflict_of, txn_count}
+use Rattle.laws_calls.specs.CallSteps.{BeginStep, CallGoesOn, InnerStep, IsTooLong, MayAsk, RefusesBehind, RefusesEarly, RefusesGranule, RefusesId, RefusesLock, RefusesRead, CallStep, on_conflict_of, txn_count, NeedsTxn}
 use Rattle.laws_calls.specs.StateChanges.{IsPageFault}
 use Rattle.laws_calls.specs.Rollbacks.{IsInterrupted}
 use Rattle.laws_calls.specs.Shapes.{ForItsTxn}
-use Rattle.laws_calls.specs.States.{DoesNotWait, HasNoTxn, IsInTxn, IsOfSession, MayBegin, State}
+use Rattle.laws_calls.specs.States.{DoesNotWait, HasNoTxn, IsInTxn, IsOfSession, MayBegin, State, HasPrepared}
+use Rattle.laws_calls.proofs.Sessions.{in_one, not_prepared}
+use Rattle.shore_model.specs.declared.sessions.SessionState.{SessionState}
 
 -- ---- which refusals there are
 
@@ -159,6 +161,7 @@ module _ (g : Geometry) (s new : State) (session : ℕ) where
     is_busy : (DoesNotWait s session → ⊥) → f ≡ fault.Busy → Origin c f
     begins : c ≡ call.Begin → BeginStep s session (Refused f) new → Origin c f
     in_none : HasNoTxn s session → f ≡ fault.NoTransaction → Origin c f
+    in_doubt : HasPrepared s session → f ≡ fault.IsPrepared → Origin c f
     rolls_back : (a : SessionTxn) → IsOfSession s session a → (a.undo.rolling ≡ None → ⊥) → f ≡ fault.MustAbort → (c ≡ call.Begin → ⊥) → Origin c f
     inside : IsInTxn s session → IsInner f → (c ≡ call.Begin → ⊥) → (c ≡ call.Commit → ⊥) → Origin c f
 
@@ -168,7 +171,9 @@ module _ (g : Geometry) (s new : State) (session : ℕ) where
   origin_of c f (inr (inr (inl h))) = is_busy h.1 (same_fault f fault.Busy h.2)
   origin_of c f (inr (inr (inr (inl h)))) = begins h.2 h.3
   origin_of c f (inr (inr (inr (inr (inl h))))) = in_none h.3 (same_fault f fault.NoTransaction h.4)
-  origin_of c f (inr (inr (inr (inr (inr h))))) = by h.2.2
+  origin_of c f (inr (inr (inr (inr (inr (inr (inl h))))))) = in_doubt h.3 (same_fault f fault.IsPrepared h.4)
+  origin_of c f (inr (inr (inr (inr (inr (inr (inr h))))))) = absurd h.2.1
+  origin_of c f (inr (inr (inr (inr (inr (inl h)))))) = by h.2.2
     where
       no_early : (other : Call) (f : Fault) → (RefusesEarly g other f → ⊥) → c ≡ other → RefusesEarly g c f → ⊥
       no_early other f never e h = never (subst (λ (c : Call). RefusesEarly g c f) e h)
@@ -183,18 +188,18 @@ module _ (g : Geometry) (s new : State) (session : ℕ) where
       interrupted r x = ⊎_elim (λ memory. subst IsInner (sym memory) tt) (λ page. behind_inner f (page_behind x.0 f page)) x.2
 
       by : InnerStep g s h.2.0 c (Refused f) new → Origin c f
-      by (inl x) = rolls_back h.2.0 h.2.1 (λ whole. x.1 (inl whole)) (same_fault f fault.MustAbort x.2) x.0
+      by (inl x) = rolls_back h.2.0 h.2.1 (λ whole. x.1 (inl whole)) (same_fault f fault.MustAbort x.2) (λ e. subst NeedsTxn e x.0)
       by (inr (inl (whole, inl x))) =
-          inside (h.2.0, h.2.1) (subst IsInner (sym (same_fault f x.0 x.2)) (early_inner x.0 (refused_early g c x.0 x.1))) (λ e. no_early call.Begin x.0 (λ x. x) e x.1) (λ e. no_early call.Commit x.0 (λ x. x) e x.1)
-      by (inr (inl (whole, inr (inl x)))) = inside (h.2.0, h.2.1) (goes_inner h.2.0 c f x.1) (λ e. asks_none call.Begin (λ x. x) e x.0) (λ e. asks_none call.Commit (λ x. x) e x.0)
+          inside (in_one s session h.2.0 h.2.1) (subst IsInner (sym (same_fault f x.0 x.2)) (early_inner x.0 (refused_early g c x.0 x.1))) (λ e. no_early call.Begin x.0 (λ x. x) e x.1) (λ e. no_early call.Commit x.0 (λ x. x) e x.1)
+      by (inr (inl (whole, inr (inl x)))) = inside (in_one s session h.2.0 h.2.1) (goes_inner h.2.0 c f x.1) (λ e. asks_none call.Begin (λ x. x) e x.0) (λ e. asks_none call.Commit (λ x. x) e x.0)
       by (inr (inl (whole, inr (inr (inl x))))) = absurd x.1
       by (inr (inl (whole, inr (inr (inr x))))) =
-          inside (h.2.0, h.2.1) (subst IsInner (sym x.1.0) tt) (λ e. apart_calls call.Savepoint call.Begin (λ d. cc) x.0 e) (λ e. apart_calls call.Savepoint call.Commit (λ d. cc) x.0 e)
+          inside (in_one s session h.2.0 h.2.1) (subst IsInner (sym x.1.0) tt) (λ e. apart_calls call.Savepoint call.Begin (λ d. cc) x.0 e) (λ e. apart_calls call.Savepoint call.Commit (λ d. cc) x.0 e)
       by (inr (inr (inl x))) =
-          inside (h.2.0, h.2.1) (⊎_elim (λ late. subst IsInner (sym late.0) tt) (λ rolls. interrupted (To x.0) rolls.1) x.3)
+          inside (in_one s session h.2.0 h.2.1) (⊎_elim (λ late. subst IsInner (sym late.0) tt) (λ rolls. interrupted (To x.0) rolls.1) x.3)
           (λ e. apart_calls (call.BackTo x.0) call.Begin (λ d. cc) x.1 e) (λ e. apart_calls (call.BackTo x.0) call.Commit (λ d. cc) x.1 e)
       by (inr (inr (inr x))) =
-          inside (h.2.0, h.2.1) (interrupted Whole x.1) (λ e. apart_calls call.Abort call.Begin (λ d. cc) x.0 e) (λ e. apart_calls call.Abort call.Commit (λ d. cc) x.0 e)
+          inside (in_one s session h.2.0 h.2.1) (interrupted Whole x.1) (λ e. apart_calls call.Abort call.Begin (λ d. cc) x.0 e) (λ e. apart_calls call.Abort call.Commit (λ d. cc) x.0 e)
 
   -- what a begin is refused with
   pub begin_fault : (P : Fault → Type 0) → P fault.AlreadyActive → P fault.TooManyTransactions → P fault.LogFull → (f : Fault) → BeginStep s session (Refused f) new → P f
@@ -212,6 +217,7 @@ module _ (g : Geometry) (s new : State) (session : ℕ) where
       by (is_busy waits e) = absurd cc
       by (begins e x) = absurd (begin_fault (λ f. f ≢ fault.MustAbort) (λ e. cc) (λ e. cc) (λ e. cc) fault.MustAbort x refl)
       by (in_none none e) = absurd cc
+      by (in_doubt doubt e) = absurd cc
       by (inside mine inner first other) = absurd inner
 
   pub busy_though_idle : (c : Call) → DoesNotWait s session → RefusedWith c fault.Busy → ⊥
@@ -223,6 +229,7 @@ module _ (g : Geometry) (s new : State) (session : ℕ) where
       by (is_busy waits e) = waits idle
       by (begins e x) = begin_fault (λ f. f ≢ fault.Busy) (λ e. cc) (λ e. cc) (λ e. cc) fault.Busy x refl
       by (in_none none e) = cc
+      by (in_doubt doubt e) = cc
       by (rolls_back a of rolling e first) = cc
       by (inside mine inner first other) = inner
 
@@ -234,9 +241,30 @@ module _ (g : Geometry) (s new : State) (session : ℕ) where
       by (has_failed failed e) = cc
       by (is_busy waits e) = cc
       by (begins e x) = begin_fault (λ f. f ≢ fault.NoTransaction) (λ e. cc) (λ e. cc) (λ e. cc) fault.NoTransaction x refl
-      by (in_none none e) = none mine.0 (inl mine.1.0) mine.1.1
+      by (in_none none e) = mine none
+      by (in_doubt doubt e) = cc
       by (rolls_back a of rolling e first) = cc
       by (inside mine inner first other) = inner
+
+  -- only in one that is prepared
+  pub prepared_in_doubt : (c : Call) → RefusedWith c fault.IsPrepared → HasPrepared s session
+  prepared_in_doubt c h = by (origin_of c fault.IsPrepared h)
+    where
+      by : Origin c fault.IsPrepared → HasPrepared s session
+      by (lacks_memory e) = absurd cc
+      by (has_failed failed e) = absurd cc
+      by (is_busy waits e) = absurd cc
+      by (begins e x) = absurd (begin_fault (λ f. f ≢ fault.IsPrepared) (λ e. cc) (λ e. cc) (λ e. cc) fault.IsPrepared x refl)
+      by (in_none none e) = absurd cc
+      by (in_doubt doubt e) = doubt
+      by (rolls_back a of rolling e first) = absurd cc
+      by (inside mine inner first other) = absurd inner
+
+  pub prepared_though_at_work : (c : Call) → ForItsTxn s session (λ a. RefusedWith c fault.IsPrepared → ⊥)
+  prepared_though_at_work c a of h = not_prepared s session a of (prepared_in_doubt c h)
+
+  pub prepared_though_free : (c : Call) → HasNoTxn s session → RefusedWith c fault.IsPrepared → ⊥
+  prepared_though_free c none h = let clash : false ≡ true = sym (ap (λ (p : SessionState). p.prepared) none) ∙ prepared_in_doubt c h in cc
 
   pub failed_though_running : (c : Call) → s.failed ≡ false → RefusedWith c fault.Failed → ⊥
   failed_though_running c running h = by (origin_of c fault.Failed h)
@@ -247,6 +275,7 @@ module _ (g : Geometry) (s new : State) (session : ℕ) where
       by (is_busy waits e) = cc
       by (begins e x) = begin_fault (λ f. f ≢ fault.Failed) (λ e. cc) (λ e. cc) (λ e. cc) fault.Failed x refl
       by (in_none none e) = cc
+      by (in_doubt doubt e) = cc
       by (rolls_back a of rolling e first) = cc
       by (inside mine inner first other) = inner
 
@@ -259,6 +288,7 @@ module _ (g : Geometry) (s new : State) (session : ℕ) where
       by (is_busy waits e) = absurd (subst IsOwn e own)
       by (begins e x) = x
       by (in_none none e) = absurd (subst IsOwn e own)
+      by (in_doubt doubt e) = absurd (subst IsOwn e own)
       by (rolls_back a of rolling e first) = absurd (subst IsOwn e own)
       by (inside mine inner first other) = absurd (outside inner)
 
@@ -269,7 +299,7 @@ module _ (g : Geometry) (s new : State) (session : ℕ) where
 
   pub active_though_none : (c : Call) → HasNoTxn s session → RefusedWith c fault.AlreadyActive → ⊥
   active_though_none c none h =
-      ⊎_elim (λ x. none x.1.0 (inl x.1.1.0) x.1.1.1) (λ more. ⊎_elim (λ x. let clash = x.0 in cc) (λ x. let clash = x.0 in cc) more)
+      ⊎_elim (λ x. x.1 none) (λ more. ⊎_elim (λ x. let clash = x.0 in cc) (λ x. let clash = x.0 in cc) more)
       (begin_when c fault.AlreadyActive tt (λ x. x) h).0
 
   pub begin_refused : (f : Fault) → IsOwn f → RefusedWith call.Begin f → BeginStep s session (Refused f) new
@@ -281,6 +311,7 @@ module _ (g : Geometry) (s new : State) (session : ℕ) where
       by (is_busy waits e) = absurd (subst IsOwn e own)
       by (begins e x) = x
       by (in_none none e) = absurd (subst IsOwn e own)
+      by (in_doubt doubt e) = absurd (subst IsOwn e own)
       by (rolls_back a of rolling e first) = absurd (first refl)
       by (inside mine inner first other) = absurd (first refl)
 
@@ -288,16 +319,17 @@ module _ (g : Geometry) (s new : State) (session : ℕ) where
   begin_full_though_room may h =
       ⊎_elim (λ x. let clash = x.0 in cc) (λ more. ⊎_elim (λ x. let clash = x.0 in cc) (λ x. x.3 may) more) (begin_refused fault.LogFull tt h).0
 
-  pub commit_in_txn : (f : Fault) → IsInTxn s session → ForItsTxn s session (λ a. a.undo.rolling ≡ None) → f ≢ fault.Memory → s.failed ≡ false → DoesNotWait s session → RefusedWith call.Commit f → ⊥
-  commit_in_txn f mine whole memory running idle h = by (origin_of call.Commit f h)
+  pub commit_in_txn : (f : Fault) (b : SessionTxn) → IsOfSession s session b → ForItsTxn s session (λ a. a.undo.rolling ≡ None) → f ≢ fault.Memory → s.failed ≡ false → DoesNotWait s session → RefusedWith call.Commit f → ⊥
+  commit_in_txn f b of whole memory running idle h = by (origin_of call.Commit f h)
     where
       by : Origin call.Commit f → ⊥
-      by (rolls_back a of rolling e first) = rolling (whole a of)
+      by (rolls_back a mine rolling e first) = rolling (whole a mine)
       by (lacks_memory e) = memory e
       by (has_failed failed e) = both_ways s.failed failed running
       by (is_busy waits e) = waits idle
       by (begins e x) = cc
-      by (in_none none e) = none mine.0 (inl mine.1.0) mine.1.1
+      by (in_none none e) = in_one s session b of none
+      by (in_doubt doubt e) = not_prepared s session b of doubt
       by (inside mine inner first other) = other refl
 
   pub too_long_in_no_txn : (c : Call) → HasNoTxn s session → RefusedWith c fault.TooLong → ⊥
@@ -309,8 +341,9 @@ module _ (g : Geometry) (s new : State) (session : ℕ) where
       by (is_busy waits e) = cc
       by (begins e x) = begin_fault (λ f. f ≢ fault.TooLong) (λ e. cc) (λ e. cc) (λ e. cc) fault.TooLong x refl
       by (in_none outside e) = cc
+      by (in_doubt doubt e) = cc
       by (rolls_back a of rolling e first) = cc
-      by (inside mine inner first other) = none mine.0 (inl mine.1.0) mine.1.1
+      by (inside mine inner first other) = mine none
 
   pub commit_forces_none : (n : ℕ) → RefusedWith call.Commit (fault.NeedForce n) → ⊥
   commit_forces_none n h = by (origin_of call.Commit (fault.NeedForce n) h)
@@ -321,5 +354,6 @@ module _ (g : Geometry) (s new : State) (session : ℕ) where
       by (is_busy waits e) = cc
       by (begins e x) = cc
       by (in_none none e) = cc
+      by (in_doubt doubt e) = cc
       by (rolls_back a of rolling e first) = cc
       by (inside mine inner first other) = other refl

@@ -12,9 +12,10 @@ use Rattle.shore_types.specs.declared.locking.Mode.{Mode}
 use Rattle.shore_model.specs.Locks.{HoldsAtLeast, path}
 use Rattle.shore_model.specs.Modes.{is_allowed}
 use Rattle.shore_model.specs.declared.calls.Answer.{Answer}
-use Rattle.shore_model.specs.declared.calls.Answer.TheVariants.{Committed}
+use Rattle.shore_model.specs.declared.calls.Answer.TheVariants.{Committed, Prepared}
 use Rattle.shore_model.specs.declared.calls.Call.{Call}
 use Rattle.shore_model.specs.declared.histories.Entry.{Entry}
+use Rattle.shore_model.specs.declared.histories.Opening.{Opening}
 use Rattle.shore_model.specs.declared.holds.Hold.{Hold}
 use Rattle.shore_model.specs.declared.log_records.LogRecord.{LogRecord}
 use Rattle.shore_model.specs.declared.requests.Request.{Request}
@@ -43,7 +44,7 @@ use Rattle.laws_calls.proofs.Decided.{both_ways}
 use Rattle.laws_calls.proofs.SessionInversions.{durable_no_lock}
 use Rattle.laws_calls.proofs.SessionResumes.{WaitsWhole}
 use Rattle.laws_calls.proofs.SessionStates.{waits_whole}
-use Rattle.laws_calls.proofs.Sessions.{one_txn}
+use Rattle.laws_calls.proofs.Sessions.{one_txn, committed_seat, parted, seat_apart}
 use Rattle.laws_calls.specs.Events.{Forced, IsStateAfter, EventMoves}
 use Rattle.laws_calls.specs.StateChanges.{wait_refused}
 use Rattle.laws_calls.specs.CallSteps.{CallGoesOn, MayAsk, ResumesCall, ResumesWait, CallStep, ResumeStep, commit_ended, on_conflict_of}
@@ -120,7 +121,8 @@ module _ (g : Geometry) (s new : State) (session : ℕ) where
     where
       none : (v : Waiting) (wait : Wait) → ResumesWait g s v wait Nothing new → ⊥
       none v (Durable n) (inl x) = let clash = x.1 in cc
-      none v (Durable n) (inr x) = let clash = x.1 in cc
+      none v (Durable n) (inr (inl x)) = let clash = x.1 in cc
+      none v (Durable n) (inr (inr x)) = let clash = x.1 in cc
       none v (Lock at) x = ⊎_elim (λ still. let clash = still.1 in cc) (λ goes. goes.1) x.2
 
   -- ---- of a commit
@@ -129,13 +131,13 @@ module _ (g : Geometry) (s new : State) (session : ℕ) where
   done_though_not_durable answer on h =
       let t = done answer h in
       let r = on_record (λ n. s.durable < n) on (Done answer) t (runs (Done answer) (λ e. cc) t.waited t.how).1 in
-      ⊎_elim (λ still. waits_no_done (Durable r.0) answer still.1) (λ ends. let le = ends.0 in let less = r.1 in omega arith) r.2
+      ⊎_elim (λ still. waits_no_done (Durable r.0) answer still.1) (⊎_elim (λ ends. let le = ends.0 in let less = r.1 in omega arith) (λ ends. let le = ends.0 in let less = r.1 in omega arith)) r.2
 
   pub waits_though_durable : (wait : Wait) → WaitsOnRecords s session (λ n. n ≤ s.durable) → ResumesTo (Waits wait) → ⊥
   waits_though_durable wait on h =
       let t = waits wait h in
       let r = on_record (λ n. n ≤ s.durable) on (Waits wait) t (runs (Waits wait) (λ e. cc) t.waited t.how).1 in
-      ⊎_elim (λ still. let less = still.0 in let le = r.1 in omega arith) (λ ends. waits_no_done wait Committed (sym ends.1)) r.2
+      ⊎_elim (λ still. let less = still.0 in let le = r.1 in omega arith) (⊎_elim (λ ends. waits_no_done wait Committed (sym ends.1)) (λ ends. waits_no_done wait Prepared (sym ends.1))) r.2
 
   pub commit_refused : (f : Fault) → s.failed ≡ false → WaitsOnRecords s session (λ n. Unit {0}) → ResumesTo (Refused f) → ⊥
   commit_refused f running on h =
@@ -144,7 +146,7 @@ module _ (g : Geometry) (s new : State) (session : ℕ) where
       (λ failed. both_ways s.failed failed.0 running)
       (λ runs.
       let r = on_record (λ n. Unit {0}) on (Refused f) t runs.1 in
-      ⊎_elim (λ still. let clash = still.1 in cc) (λ ends. let clash = ends.1 in cc) r.2)
+      ⊎_elim (λ still. let clash = still.1 in cc) (⊎_elim (λ ends. let clash = ends.1 in cc) (λ ends. let clash = ends.1 in cc)) r.2)
       t.how
 
   pub waits_for_other : (n : ℕ) → ((w : Waiting) → IsAmong w s.waiting → w.session ≡ session → w.wait ≢ Durable n) → ResumesTo (Waits (Durable n)) → ⊥
@@ -154,7 +156,8 @@ module _ (g : Geometry) (s new : State) (session : ℕ) where
     where
       its : (wait : Wait) → ResumesWait g s (waits (Durable n) h).waited wait (Waits (Durable n)) new → wait ≡ Durable n
       its (Durable m) (inl x) = sym (same_wait (Durable n) (Durable m) x.1)
-      its (Durable m) (inr x) = absurd (waits_no_done (Durable n) Committed (sym x.1))
+      its (Durable m) (inr (inl x)) = absurd (waits_no_done (Durable n) Committed (sym x.1))
+      its (Durable m) (inr (inr x)) = absurd (waits_no_done (Durable n) Prepared (sym x.1))
       its (Lock at) x =
           ⊎_elim
           (λ still. absurd (durable_no_lock n at (same_wait (Durable n) (Lock at) still.1)))
@@ -203,7 +206,7 @@ told_to_wait c table t target mode at orderly quiet = by (is_allowed (level_of t
     by true is = ap is_some (waits_after c t target mode table.limit (reverse (path target)) table.requests (fit_of table.requests orderly) quiet at is).2.waits
     by false is = absurd cc
 
-module _ (g : Geometry) (found : List LogRecord) (es : List Entry) (s : State) (k : IsSessionsState found es s) (session : ℕ) where
+module _ (g : Geometry) (o : Opening) (found : List LogRecord) (es : List Entry) (s : State) (k : IsSessionsState o found es s) (session : ℕ) where
   -- .. does not wait on as if nothing had happened
   pub waits_though_granted : (wait : Wait) → WaitsOnLocks s session → ForItsTxn s session (λ a. is_waiting a.txn s.locks.requests ≡ false) → ResumeStep g s session (Waits wait) s → ⊥
   waits_though_granted wait on quiet h =
@@ -219,7 +222,7 @@ module _ (g : Geometry) (found : List LogRecord) (es : List Entry) (s : State) (
 
 -- ---- a call that goes on behind its lock
 
-module _ (g : Geometry) (found : List LogRecord) (es : List Entry) (s : State) (k : IsStateAfter found es s) (session : ℕ) where
+module _ (g : Geometry) (o : Opening) (found : List LogRecord) (es : List Entry) (s : State) (k : IsStateAfter o found es s) (session : ℕ) where
   -- it is as if it were made now
   pub goes_on_as_call : (w : Waiting) → IsAmong w s.waiting → w.session ≡ session → (at : Granule) → w.wait ≡ Lock at → MayAsk g w.call → s.failed ≡ false
       → ForItsTxn s session (λ a. is_waiting a.txn s.locks.requests ≡ false) → (step : Step) (new : State) → ResumeStep g s session step new
@@ -233,7 +236,7 @@ module _ (g : Geometry) (found : List LogRecord) (es : List Entry) (s : State) (
           let mine : IsOfSession s session x.0 = (x.1.0, x.1.1 ∙ of) in
           ⊎_elim
           (λ still. absurd (both_ways (is_waiting x.0.txn s.locks.requests) still.0 (quiet x.0 mine)))
-          (λ goes. inr (inr (inr (inr (inr (
+          (λ goes. inr (inr (inr (inr (inr (inl (
             running,
             λ v m. of_another session s.waiting v m,
             (
@@ -241,12 +244,12 @@ module _ (g : Geometry) (found : List LogRecord) (es : List Entry) (s : State) (
               mine,
               inr (inl (whole at x.0 is x.1, inr (inl (may, subst (λ (n : ℕ). CallGoesOn g (wait_refused s n) x.0 w.call step new) of goes.1)))),
             ),
-          ))))))
+          )))))))
           x.2
 
       by : ResumesCall g s w step new → CallStep g (wait_refused s session) session w.call step new
       by (inl failed) = absurd (both_ways s.failed failed.0 running)
-      by (inr runs) = on (waits_whole found es s k w there runs.2) (subst (λ (x : Wait). ResumesWait g s w x step new) is runs.1)
+      by (inr runs) = on (waits_whole o found es s k w there runs.2) (subst (λ (x : Wait). ResumesWait g s w x step new) is runs.1)
 
 -- ---- a commit that is answered
 
@@ -271,7 +274,7 @@ gone t rs orderly =
     (subst (All (λ (k : ℕ × Granule). k.0 ≢ t)) (sym (released_own rs t orderly.one_each))
     (All-map (λ (k : ℕ × Granule). k.0 ≢ t) (λ (r : Request). (r.txn, r.granule)) (of_others t rs) (not_of t rs)))
 
-module _ (g : Geometry) (found : List LogRecord) (es : List Entry) (s new : State) (k : IsSessionsState found es s) (session : ℕ) (a : SessionTxn)
+module _ (g : Geometry) (o : Opening) (found : List LogRecord) (es : List Entry) (s new : State) (k : IsSessionsState o found es s) (session : ℕ) (a : SessionTxn)
     (mem : IsAmong a s.sessions.committing) (of : a.session ≡ session) (answer : Answer) (h : ResumeStep g s session (Done answer) new) where
   pub ends : new ≡ commit_ended s a
   ends = by t.waited.wait (runs g s new session (Done answer) (λ e. cc) t.waited t.how).1
@@ -281,13 +284,14 @@ module _ (g : Geometry) (found : List LogRecord) (es : List Entry) (s new : Stat
 
       same : (b : SessionTxn) → IsAmong b s.sessions.committing → b.session ≡ t.waited.session → commit_ended s b ≡ commit_ended s a
       same b m is =
-          ap (λ (n : ℕ). commit_ended s (record { session = b.session; txn = n; undo = a.undo })) (one_txn k.agree b a (inr m) (inr mem) (is ∙ t.of ∙ sym of))
+          ap (λ (n : ℕ). commit_ended s (record { session = b.session; txn = n; undo = a.undo })) (one_txn s.sessions b a (committed_seat k b m) (committed_seat k a mem) (is ∙ t.of ∙ sym of))
           ∙ ap (λ (n : ℕ). commit_ended s (record { session = n; txn = a.txn; undo = a.undo })) (is ∙ t.of ∙ sym of)
 
       by : (wait : Wait) → ResumesWait g s t.waited wait (Done answer) new → new ≡ commit_ended s a
       by (Durable n) (inl x) = absurd (waits_no_done (Durable n) answer x.1)
-      by (Durable n) (inr x) = x.2.3 ∙ same x.2.0 x.2.1 x.2.2
-      by (Lock at) x = absurd (k.agree.apart x.0 a x.1.0 mem (one_txn k.agree x.0 a (inl x.1.0) (inr mem) (x.1.1 ∙ t.of ∙ sym of)))
+      by (Durable n) (inr (inl x)) = x.2.3 ∙ same x.2.0 x.2.1 x.2.2
+      by (Durable n) (inr (inr x)) = absurd (seat_apart (committed_seat k a mem) (ap s.sessions.seats (of ∙ sym t.of) ∙ x.2.2.1))
+      by (Lock at) x = absurd (parted k x.0 a x.1.0.0 mem (one_txn s.sessions x.0 a x.1.0.1 (committed_seat k a mem) (x.1.1 ∙ t.of ∙ sym of)))
 
   pub no_lock_left : All (λ h. h.txn ≢ a.txn) new.sessions.held
   no_lock_left = subst (λ (s : State). All (λ h. h.txn ≢ a.txn) s.sessions.held) (sym ends) (gone_of s.locks.requests a.txn k.locks.orderly)

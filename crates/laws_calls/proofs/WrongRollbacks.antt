@@ -15,15 +15,15 @@ use Rattle.shore_model.specs.declared.calls.Answer.TheVariants.{Aborted, Saved, 
 use Rattle.shore_model.specs.declared.calls.Call.{Call}
 use Rattle.shore_model.specs.declared.calls.Call.TheVariants as call
 use Rattle.shore_model.specs.declared.histories.Entry.{Entry}
+use Rattle.shore_model.specs.declared.histories.Opening.{Opening}
 use Rattle.shore_model.specs.declared.log_records.LogRecord.{LogRecord}
 use Rattle.shore_model.specs.declared.log_records.Payload.TheVariants.{End}
 use Rattle.shore_model.specs.Logs.{previous_of}
 use Rattle.laws_locks.proofs.Held.{gone_of}
-use Rattle.laws_lives.proofs.Members.{among_without}
 use Rattle.shore_model.specs.declared.rollbacks.Rollback.{Rollback}
 use Rattle.shore_model.specs.declared.rollbacks.Rollback.TheVariants.{To, Whole}
 use Rattle.laws_lives.specs.Logged.{and_compensations, and_record}
-use Rattle.laws_lives.specs.Sessions.{IsCurrent, SessionTxn}
+use Rattle.laws_lives.specs.Sessions.{SessionTxn}
 use Rattle.laws_lives.specs.UndoLists.{images_since, rolled_back}
 use Rattle.shore_model.specs.declared.step.Step.TheVariants.{Done, Refused, Waits}
 use Rattle.shore_model.specs.declared.step.Wait.{Wait}
@@ -32,12 +32,13 @@ use Rattle.laws_calls.proofs.Sessions.{one_txn}
 use Rattle.laws_calls.proofs.AcquireAnswers.{IsLockFault, acquire_fault}
 use Rattle.laws_calls.proofs.WrongRefusals.{IsBehind, IsEarly, begin_fault, must_of, page_behind, refused_behind, refused_early}
 use Rattle.laws_calls.proofs.WrongResumes.{gone}
-use Rattle.laws_calls.specs.CallSteps.{AbortStep, CallStep, CallGoesOn, InnerStep, OpenStep, on_conflict_of}
+use Rattle.laws_calls.specs.CallSteps.{AbortStep, CallStep, CallGoesOn, InnerStep, OpenStep, on_conflict_of, NeedsTxn}
 use Rattle.laws_calls.specs.LockedStates.{IsSessionsState}
 use Rattle.laws_calls.specs.Rollbacks.{Interrupts, IsInterrupted, IsUnwound, TakesCall}
 use Rattle.laws_calls.specs.Shapes.{ForItsTxn, IsLackOfRoom, StopsAborts, rollback_of}
 use Rattle.laws_calls.specs.StateChanges.{IsPageFault, after_refusal}
 use Rattle.laws_calls.specs.States.{HasNoTxn, IsOfSession, State}
+use Rattle.shore_model.specs.Histories.{free}
 
 same_savepoint : (n m : ℕ) → call.BackTo n ≡ call.BackTo m → n ≡ m
 same_savepoint n m e = cc
@@ -53,7 +54,7 @@ Stopped s session r f new = (new ≡ s) ⊎ ((a : SessionTxn) × IsOfSession s s
 
 -- the faults of a rollback
 abbrev IsStop : Fault → Type 0
-IsStop f = (f ≡ fault.Memory) ⊎ ((f ≡ fault.Failed) ⊎ ((f ≡ fault.Busy) ⊎ ((f ≡ fault.NoTransaction) ⊎ ((f ≡ fault.MustAbort) ⊎ ((f ≡ fault.NoSavepoint) ⊎ ((x : State) × IsPageFault x f))))))
+IsStop f = (f ≡ fault.Memory) ⊎ ((f ≡ fault.Failed) ⊎ ((f ≡ fault.Busy) ⊎ ((f ≡ fault.NoTransaction) ⊎ ((f ≡ fault.MustAbort) ⊎ ((f ≡ fault.NoSavepoint) ⊎ (((x : State) × IsPageFault x f) ⊎ (f ≡ fault.IsPrepared)))))))
 
 module _ (g : Geometry) (s new : State) (session : ℕ) where
   -- how the call of a transaction under way is refused, that asks for a rollback
@@ -69,7 +70,7 @@ module _ (g : Geometry) (s new : State) (session : ℕ) where
   interrupted : (c : Call) (r : Rollback) (f : Fault) (a : SessionTxn) → IsOfSession s session a → IsInterrupted s a r f new → StoppedIn c r f
   interrupted c r f a of h = record {
     left = inr (a, of, (h.0, h.1, h.2, h.3));
-    fault_is = ⊎_elim (λ memory. inl memory) (λ page. inr (inr (inr (inr (inr (inr (h.0, page))))))) h.2;
+    fault_is = ⊎_elim (λ memory. inl memory) (λ page. inr (inr (inr (inr (inr (inr (inl (h.0, page)))))))) h.2;
     own = λ e. absurd (no_own h.2 e);
     late = λ e. absurd (no_late h.2 e);
   }
@@ -101,7 +102,10 @@ module _ (g : Geometry) (s new : State) (session : ℕ) where
   stopped_in c r f is (inr (inr (inr (inl h)))) = let clash : rollback_of call.Begin ≡ Some r = subst (λ (x : Call). rollback_of x ≡ Some r) h.2 is in absurd cc
   stopped_in c r f is (inr (inr (inr (inr (inl h))))) =
       let e = same_fault f fault.NoTransaction h.4 in plainly c r f fault.NoTransaction e h.5 (inr (inr (inr (inl e)))) (λ d. cc) (λ d. cc)
-  stopped_in c r f is (inr (inr (inr (inr (inr h))))) = by h.2.2
+  stopped_in c r f is (inr (inr (inr (inr (inr (inr (inl h))))))) =
+      let e = same_fault f fault.IsPrepared h.4 in plainly c r f fault.IsPrepared e h.5 (inr (inr (inr (inr (inr (inr (inr e))))))) (λ d. cc) (λ d. cc)
+  stopped_in c r f is (inr (inr (inr (inr (inr (inr (inr h))))))) = absurd h.2.1
+  stopped_in c r f is (inr (inr (inr (inr (inr (inl h)))))) = by h.2.2
     where
       by : InnerStep g s h.2.0 c (Refused f) new → StoppedIn c r f
       by (inl x) =
@@ -137,25 +141,25 @@ module _ (g : Geometry) (s new : State) (session : ℕ) where
   page_not x f device damaged force (inr (inr h)) = force h.0 h.1
 
   full_stop : (exact : Fault) → ((x : State) → IsPageFault x exact → ⊥) → exact ≢ fault.Memory → exact ≢ fault.Failed → exact ≢ fault.Busy → exact ≢ fault.NoTransaction
-      → exact ≢ fault.MustAbort → exact ≢ fault.NoSavepoint → IsStop exact → ⊥
-  full_stop exact page a b c d e f stop = ⊎_elim a (⊎_elim b (⊎_elim c (⊎_elim d (⊎_elim e (⊎_elim f (λ x. page x.0 x.1)))))) stop
+      → exact ≢ fault.MustAbort → exact ≢ fault.NoSavepoint → exact ≢ fault.IsPrepared → IsStop exact → ⊥
+  full_stop exact page a b c d e f g stop = ⊎_elim a (⊎_elim b (⊎_elim c (⊎_elim d (⊎_elim e (⊎_elim f (⊎_elim (λ x. page x.0 x.1) g)))))) stop
 
   pub undo_has_room : (c : Call) (r : Rollback) (f : Fault) → rollback_of c ≡ Some r → IsLackOfRoom f → CallStep g s session c (Refused f) new → ⊥
   undo_has_room c r f is lacks h = by lacks (stopped_in c r f is h).fault_is
     where
       by : IsLackOfRoom f → IsStop f → ⊥
       by (inl e) stop =
-          full_stop fault.StoreFull (λ x. page_not x fault.StoreFull (λ d. cc) (λ device offset d. cc) (λ n d. cc)) (λ d. cc) (λ d. cc) (λ d. cc) (λ d. cc) (λ d. cc) (λ d. cc) (subst IsStop e stop)
+          full_stop fault.StoreFull (λ x. page_not x fault.StoreFull (λ d. cc) (λ device offset d. cc) (λ n d. cc)) (λ d. cc) (λ d. cc) (λ d. cc) (λ d. cc) (λ d. cc) (λ d. cc) (λ d. cc) (subst IsStop e stop)
       by (inr (inl e)) stop =
-          full_stop fault.LogFull (λ x. page_not x fault.LogFull (λ d. cc) (λ device offset d. cc) (λ n d. cc)) (λ d. cc) (λ d. cc) (λ d. cc) (λ d. cc) (λ d. cc) (λ d. cc) (subst IsStop e stop)
+          full_stop fault.LogFull (λ x. page_not x fault.LogFull (λ d. cc) (λ device offset d. cc) (λ n d. cc)) (λ d. cc) (λ d. cc) (λ d. cc) (λ d. cc) (λ d. cc) (λ d. cc) (λ d. cc) (subst IsStop e stop)
       by (inr (inr (inl e))) stop =
-          full_stop fault.LockTableFull (λ x. page_not x fault.LockTableFull (λ d. cc) (λ device offset d. cc) (λ n d. cc)) (λ d. cc) (λ d. cc) (λ d. cc) (λ d. cc) (λ d. cc) (λ d. cc)
+          full_stop fault.LockTableFull (λ x. page_not x fault.LockTableFull (λ d. cc) (λ device offset d. cc) (λ n d. cc)) (λ d. cc) (λ d. cc) (λ d. cc) (λ d. cc) (λ d. cc) (λ d. cc) (λ d. cc)
           (subst IsStop e stop)
       by (inr (inr (inr (inl e)))) stop =
-          full_stop (fault.Deadlock e.0) (λ x. page_not x (fault.Deadlock e.0) (λ d. cc) (λ device offset d. cc) (λ n d. cc)) (λ d. cc) (λ d. cc) (λ d. cc) (λ d. cc) (λ d. cc) (λ d. cc)
+          full_stop (fault.Deadlock e.0) (λ x. page_not x (fault.Deadlock e.0) (λ d. cc) (λ device offset d. cc) (λ n d. cc)) (λ d. cc) (λ d. cc) (λ d. cc) (λ d. cc) (λ d. cc) (λ d. cc) (λ d. cc)
           (subst IsStop e.1 stop)
       by (inr (inr (inr (inr e)))) stop =
-          full_stop (fault.WouldBlock e.0) (λ x. page_not x (fault.WouldBlock e.0) (λ d. cc) (λ device offset d. cc) (λ n d. cc)) (λ d. cc) (λ d. cc) (λ d. cc) (λ d. cc) (λ d. cc) (λ d. cc)
+          full_stop (fault.WouldBlock e.0) (λ x. page_not x (fault.WouldBlock e.0) (λ d. cc) (λ device offset d. cc) (λ n d. cc)) (λ d. cc) (λ d. cc) (λ d. cc) (λ d. cc) (λ d. cc) (λ d. cc) (λ d. cc)
           (subst IsStop e.1 stop)
 
   pub abort_stops : (f : Fault) → CallStep g s session call.Abort (Refused f) new → StopsAborts f
@@ -165,13 +169,14 @@ module _ (g : Geometry) (s new : State) (session : ℕ) where
       t = stopped_in call.Abort Whole f refl h
 
       by : IsStop f → StopsAborts f
-      by (inl memory) = inr (inr (inr (s, inl memory)))
+      by (inl memory) = inr (inr (inr (inr (s, inl memory))))
       by (inr (inl failed)) = inl failed
       by (inr (inr (inl busy))) = inr (inl busy)
       by (inr (inr (inr (inl none)))) = inr (inr (inl none))
       by (inr (inr (inr (inr (inl must))))) = absurd (t.own must (λ a of. inr (inl refl)))
       by (inr (inr (inr (inr (inr (inl late)))))) = let n = t.late late in let clash = n.1 in absurd cc
-      by (inr (inr (inr (inr (inr (inr page)))))) = inr (inr (inr (page.0, inr page.1)))
+      by (inr (inr (inr (inr (inr (inr (inl page))))))) = inr (inr (inr (inr (page.0, inr page.1))))
+      by (inr (inr (inr (inr (inr (inr (inr doubt))))))) = inr (inr (inr (inl doubt)))
 
   pub abort_must_not : CallStep g s session call.Abort (Refused fault.MustAbort) new → ⊥
   abort_must_not h = (stopped_in call.Abort Whole fault.MustAbort refl h).own refl (λ a of. inr (inl refl))
@@ -229,14 +234,16 @@ module _ (g : Geometry) (s new : State) (session : ℕ) where
   too_many_below c below (inr (inr (inr (inl h)))) =
       begin_fault g s new session (λ f. f ≢ fault.TooManySavepoints) (λ e. cc) (λ e. cc) (λ e. cc) fault.TooManySavepoints h.3 refl
   too_many_below c below (inr (inr (inr (inr (inl h))))) = let clash = same_fault fault.TooManySavepoints fault.NoTransaction h.4 in cc
-  too_many_below c below (inr (inr (inr (inr (inr h))))) =
+  too_many_below c below (inr (inr (inr (inr (inr (inr (inl h))))))) = let clash = same_fault fault.TooManySavepoints fault.IsPrepared h.4 in cc
+  too_many_below c below (inr (inr (inr (inr (inr (inr (inr h))))))) = h.2.1
+  too_many_below c below (inr (inr (inr (inr (inr (inl h)))))) =
       let full = full_in h.2.0 c h.2.2 in let less = below h.2.0 h.2.1 in omega (arith, full, less)
 
   -- ---- a rollback goes on alone
 
-  pub no_answer_in_rollback : (c : Call) (answer : Answer) → c ≢ call.Begin → rollback_of c ≡ None → ForItsTxn s session (λ a. a.undo.rolling ≢ None)
+  pub no_answer_in_rollback : (c : Call) (answer : Answer) → NeedsTxn c → rollback_of c ≡ None → ForItsTxn s session (λ a. a.undo.rolling ≢ None)
       → CallStep g s session c (Done answer) new → ⊥
-  no_answer_in_rollback c answer other plain rolls h = let t = answered_of g s new session c answer other h in rolls t.0 t.1 (by t.0 t.2)
+  no_answer_in_rollback c answer needs plain rolls h = let t = answered_of g s new session c answer needs h in rolls t.0 t.1 (by t.0 t.2)
     where
       by : (a : SessionTxn) → InnerStep g s a c (Done answer) new → a.undo.rolling ≡ None
       by a (inl x) = let clash = x.2 in absurd cc
@@ -313,13 +320,13 @@ module _ (g : Geometry) (s new : State) (session : ℕ) where
 
   -- ---- an abort that is answered
 
-  module _ (found : List LogRecord) (es : List Entry) (k : IsSessionsState found es s) where
+  module _ (o : Opening) (found : List LogRecord) (es : List Entry) (k : IsSessionsState o found es s) where
     module _ (a : SessionTxn) (of : IsOfSession s session a) (answer : Answer) (h : CallStep g s session call.Abort (Done answer) new) where
       its : (a : SessionTxn) × IsOfSession s session a × AbortStep s a (Done answer) new
       its = aborted_in g s new session answer h
 
       number : its.0.txn ≡ a.txn
-      number = one_txn k.agree its.0 a (inl its.1.0) (inl of.0) (its.1.1 ∙ sym of.1)
+      number = one_txn s.sessions its.0 a its.1.0.1 of.0.1 (its.1.1 ∙ sym of.1)
 
       pub no_lock_left : All (λ h. h.txn ≢ a.txn) new.sessions.held
       no_lock_left =
@@ -332,9 +339,6 @@ module _ (g : Geometry) (s new : State) (session : ℕ) where
           (subst (λ (x : State). All (λ r. r.txn ≢ its.0.txn) x.locks.requests) (sym its.2.1) (gone its.0.txn s.locks.requests k.locks.orderly))
 
     pub aborted_in_none : (answer : Answer) → CallStep g s session call.Abort (Done answer) new → HasNoTxn new session
-    aborted_in_none answer h b now same =
+    aborted_in_none answer h =
         let t = aborted_in g s new session answer h in
-        ⊎_elim
-        (λ active. let was = among_without t.0.txn b s.sessions.active active in was.1 (one_txn k.agree b t.0 (inl was.0) (inl t.1.0) (same ∙ sym t.1.1)))
-        (λ committing. k.agree.apart t.0 b t.1.0 committing (one_txn k.agree t.0 b (inl t.1.0) (inr committing) (t.1.1 ∙ sym same)))
-        (subst (λ (n : State). IsCurrent n.sessions b) t.2.1 now)
+        ap (λ (n : State). n.sessions.seats session) t.2.1 ∙ ap (λ b. cond b free (s.sessions.seats session)) (eq-eqb t.0.session session t.1.1)

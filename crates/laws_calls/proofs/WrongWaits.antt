@@ -19,10 +19,11 @@ use Rattle.shore_model.specs.declared.step.Wait.TheVariants.{Durable, Lock}
 use Rattle.laws_calls.proofs.AcquireAnswers.{try_never_waits}
 use Rattle.laws_calls.proofs.Decided.{both_ways}
 use Rattle.laws_calls.proofs.SessionInversions.{WaitsIn, durable_no_lock, waits_in}
-use Rattle.laws_calls.specs.StateChanges.{commit_waiting, committed}
+use Rattle.laws_calls.specs.StateChanges.{decision_waiting, committed}
 use Rattle.laws_calls.specs.CallSteps.{CallStep, lock_outcome}
 use Rattle.laws_calls.specs.Shapes.{ForItsTxn}
 use Rattle.laws_calls.specs.States.{HasNoTxn, State, Waiting, next_number}
+use Rattle.laws_calls.proofs.Sessions.{in_one}
 
 same_granule_waited : (at other : Granule) → Lock at ≡ Lock other → other ≡ at
 same_granule_waited at other e = cc
@@ -81,7 +82,7 @@ module _ (g : Geometry) (s new : State) (session : ℕ) where
   begin_waits wait h = ⊎_elim (λ asks. asks.0) (λ commits. let clash = commits.0 in cc) (waits_in g s new session call.Begin wait h).how
 
   pub waits_in_no_txn : (c : Call) (wait : Wait) → HasNoTxn s session → WaitsFor c wait → ⊥
-  waits_in_no_txn c wait none h = let t = waits_in g s new session c wait h in none t.txn (inl t.of.0) t.of.1
+  waits_in_no_txn c wait none h = let t = waits_in g s new session c wait h in in_one s session t.txn t.of none
 
   pub waits_after_failure : (c : Call) (wait : Wait) → IsTrue s.failed → WaitsFor c wait → ⊥
   waits_after_failure c wait failed h = both_ways s.failed failed (waits_in g s new session c wait h).running
@@ -97,7 +98,7 @@ module _ (g : Geometry) (s new : State) (session : ℕ) where
       (λ asks. subst (λ (s : State). IsAmong (record { session = session; call = c; wait = wait; cycle = None }) s.waiting) (sym asks.1.5)
       (inl (ap (λ (n : ℕ). record { session = n; call = c; wait = Lock asks.1.1; cycle = None }) t.of.1 ∙ ap (λ (x : Wait). record { session = session; call = c; wait = x; cycle = None }) (sym asks.1.4))))
       (λ commits. subst (λ (s : State). IsAmong (record { session = session; call = c; wait = wait; cycle = None }) s.waiting) (sym commits.1.1)
-      (inl (ap (λ (n : ℕ). commit_waiting n (next_number s)) t.of.1
+      (inl (ap (λ (n : ℕ). decision_waiting n call.Commit (next_number s)) t.of.1
       ∙ ap (λ (x : Call). record { session = session; call = x; wait = Durable (next_number s); cycle = None }) (sym commits.0)
       ∙ ap (λ (x : Wait). record { session = session; call = c; wait = x; cycle = None }) (sym commits.1.0))))
       t.how

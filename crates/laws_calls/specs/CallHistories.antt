@@ -1,31 +1,30 @@
 -- The history that calls make, and what holds of a state after it. No value keeps the history: it is spoken of as what was called and
 -- answered since an open.
-use Rattle.std.specs.Prelude.{◌≡◌, ◌<◌, ◌≤◌, ◌==◌, ℕ, List, [], ◌∷◌, ◌++◌, All, Contains, false, if◌then◌else◌, length, take}
+use Rattle.std.specs.Prelude.{◌≡◌, ◌<◌, ◌≤◌, ℕ, List, [], ◌++◌, All, Contains, false, length, take}
 use Rattle.std.specs.List.{AllByRecursion}
-use Rattle.shore_types.specs.declared.layout.TheConstants.{LONGEST_FRAME}
+use Rattle.shore_types.specs.declared.layout.TheConstants.{LONGEST_FRAME, MAX_TRANSACTIONS}
 use Rattle.shore_model.specs.declared.calls.Call.{Call}
 use Rattle.shore_model.specs.declared.calls.Call.TheVariants as call
 use Rattle.shore_model.specs.declared.histories.Entry.{Entry}
+use Rattle.shore_model.specs.declared.histories.Opening.{Opening}
 use Rattle.shore_model.specs.declared.log_records.LogRecord.{LogRecord}
 use Rattle.shore_model.specs.Histories.{acknowledged}
+use Rattle.shore_model.specs.Requests.{held_by_all}
+use Rattle.shore_locks.specs.Orderly.{IsOrderly}
+use Rattle.shore_locks.specs.Tables.{is_waiting}
+use Rattle.shore_path.specs.Rooted.{AreRooted}
 use Rattle.laws_lives.specs.LogPrefixes.{decisions_in}
-use Rattle.laws_lives.specs.LogTells.{records_committed}
-use Rattle.laws_lives.specs.Sessions.{SessionTxn, Sessions}
-use Rattle.laws_lives.specs.Soundness.{IsJustOpened}
+use Rattle.laws_lives.specs.Sessions.{Sessions}
+use Rattle.laws_lives.specs.WholeLogs.{IsOpenOn}
 use Rattle.laws_room.specs.Claims.{Claimed}
 use Rattle.laws_room.specs.LogRooms.{HasLogRoom}
 use Rattle.laws_calls.specs.States.{State, log_room}
 
 -- ---- the history
 
--- the number of a session's transaction among some, 0 if it has none there
-abbrev pub txn_among : ℕ → List SessionTxn → ℕ → ℕ
-txn_among session [] none = none
-txn_among session (a ∷ others) none = if a.session == session then a.txn else txn_among session others none
-
--- the number that a session's calls go under
+-- the number that a session's calls go under: that of its transaction, or 0
 abbrev pub txn_of : Sessions → ℕ → ℕ
-txn_of s session = txn_among session s.active (txn_among session s.committing 0)
+txn_of s session = (s.seats session).txn
 
 -- the number that a call which was answered goes under: a begin's is the one that it began
 abbrev pub answered_under : Sessions → ℕ → Call → ℕ
@@ -43,20 +42,29 @@ pub record IsForced (base : ℕ) (es : List Entry) (s : State) : Type 0 where
 -- its pages have room for all that stands and for all that may come back, and so has the log
 pub record IsRoomyState (s : State) : Type 0 where
   pub pages : Claimed s.sessions.records s.sessions.active s.counts
-  pub log : HasLogRoom LONGEST_FRAME s.sessions.active (log_room s)
+  pub log : HasLogRoom LONGEST_FRAME (length s.sessions.prepared) s.sessions.active (log_room s)
 
 -- ---- from an open to a crash
 
--- What an open leaves: the records that the list tells, no transaction, as the next transaction's number the least above all of the
--- list's, and all of the list durable.
-pub record IsOpened (found : List LogRecord) (s : State) : Type 0 where
-  pub just : IsJustOpened (records_committed found) s.sessions
+-- The lock table has the locks of the sessions, with their intentions, and nobody waits in it.
+pub record HasGrantedLocks (s : State) : Type 0 where
+  pub held : s.sessions.held ≡ held_by_all s.locks.requests
+  pub orderly : IsOrderly s.locks.requests
+  pub rooted : AreRooted s.locks.requests
+  pub below : All (λ r. r.txn < s.sessions.next_txn) s.locks.requests
+  pub nobody_waits : (t : ℕ) → is_waiting t s.locks.requests ≡ false
+
+-- What an open leaves: the records that the list tells, under way those in doubt alone, with their undo lists and locks, as the next transaction's number
+-- the least above all of the list's, and all of the list durable. They are no more than there may be.
+pub record IsOpened (o : Opening) (found : List LogRecord) (s : State) : Type 0 where
+  pub on : IsOpenOn o found s.sessions
   pub log : s.log ≡ found
-  pub above : AllByRecursion (λ r. r.txn < s.sessions.next_txn) found
   pub least : (n : ℕ) → 0 < n → AllByRecursion (λ r. r.txn < n) found → s.sessions.next_txn ≤ n
   pub durable : s.durable ≡ length found
   pub waiting : s.waiting ≡ []
   pub running : s.failed ≡ false
+  pub locks : HasGrantedLocks s
+  pub few : length s.sessions.active ≤ MAX_TRANSACTIONS
 
 -- what a crash keeps: of the log its first so many records, of which the durable are some
 abbrev pub KeepsDurable : State → ℕ → Type 0

@@ -1,7 +1,10 @@
 -- What the calls of many sessions come to under locks: what refuses a call before it asks for its locks, what the lock table makes of it,
 -- and what it is answered or refused with behind its locks. The locks that a refused or a waiting call has taken stay.
-use Rattle.std.specs.Prelude.{◌≡◌, ◌≢◌, ◌⊎◌, ◌<◌, ◌≤◌, ◌+◌, ℕ, List, ◌∷◌, Ok, Err, None, Some, false, true, IsTrue, IsFalse, IsSome, length}
-use Rattle.std.specs.FinMap.{get}
+use Rattle.std.specs.Prelude.{◌≡◌, ◌⊎◌, ◌<◌, ◌≤◌, ◌+◌, ◌==◌, ℕ, List, ◌∷◌, Ok, Err, None, Some, false, true, not, IsTrue, IsFalse, IsSome, filter, length, map}
+use Rattle.std.specs.List.{list_any}
+use Rattle.std.specs.Cmp.Lexicographic.{slice_cmp}
+use Rattle.std.specs.FinMap.{entries, from_entries, get}
+use Rattle.std.specs.Ordering.{nat_cmp}
 use Rattle.shore_types.specs.Layout.{HasPage, HasSlot, HasStore}
 use Rattle.shore_types.specs.Locking.{level_of}
 use Rattle.shore_types.specs.declared.faults.Fault.{Fault}
@@ -14,7 +17,7 @@ use Rattle.shore_types.specs.declared.locking.Granule.TheVariants as granule
 use Rattle.shore_types.specs.declared.locking.Mode.{Mode}
 use Rattle.shore_types.specs.declared.locking.Mode.TheVariants.{EX}
 use Rattle.shore_model.specs.declared.calls.Answer.{Answer}
-use Rattle.shore_model.specs.declared.calls.Answer.TheVariants.{Aborted, Began, Committed, Deleted, Got, Inserted, Locked, Scanned, Updated}
+use Rattle.shore_model.specs.declared.calls.Answer.TheVariants.{Aborted, AreInDoubt, Began, Committed, Deleted, Got, Inserted, Locked, Prepared, Scanned, Updated}
 use Rattle.shore_model.specs.declared.calls.Call.{Call}
 use Rattle.shore_model.specs.declared.calls.Call.TheVariants as call
 use Rattle.shore_model.specs.declared.requests.Request.{Request}
@@ -32,8 +35,8 @@ use Rattle.laws_locks.specs.CallLocks.{Asked, CanLockNow, lock_asked_by}
 use Rattle.laws_room.specs.Choosing.{IsLowest}
 use Rattle.laws_room.specs.Claims.{SlotCounts}
 use Rattle.laws_lives.specs.Logged.{log_after}
-use Rattle.laws_lives.specs.SessionSteps.{AnswerAbort}
-use Rattle.laws_lives.specs.Sessions.{SessionTxn, abort_answered, commit_answered, locks_moved, txn_begun}
+use Rattle.laws_lives.specs.SessionSteps.{AnswerAbort, AnswerCommit, AnswerPrepare, entries_by}
+use Rattle.laws_lives.specs.Sessions.{ResolvedTxn, SessionTxn, Sessions, abort_answered, commit_answered, in_prepared, locks_moved, prepare_answered, seated}
 use Rattle.laws_lives.specs.Views.{IsAmong}
 use Rattle.shore_model.specs.declared.step.Step.{Step}
 use Rattle.shore_model.specs.declared.step.Step.TheVariants.{Done, Nothing, Refused, Waits}
@@ -41,8 +44,8 @@ use Rattle.shore_model.specs.declared.step.Wait.{Wait}
 use Rattle.shore_model.specs.declared.step.Wait.TheVariants.{Durable, Lock}
 use Rattle.shore_model.specs.declared.rollbacks.Rollback.TheVariants.{Whole}
 use Rattle.laws_calls.specs.Rollbacks.{BackToStep, IsInterrupted, SavepointStep, TakesCall}
-use Rattle.laws_calls.specs.StateChanges.{CanLog, FitsAt, IsPageFault, IsShort, MayChange, after_refusal, answered, committed, wait_refused}
-use Rattle.laws_calls.specs.States.{DoesNotWait, HasNoTxn, IsInTxn, IsOfSession, MayBegin, State, Waiting, next_number, without_waiting}
+use Rattle.laws_calls.specs.StateChanges.{CanLog, FitsAt, IsPageFault, IsShort, MayChange, after_refusal, answered, begun, committed, wait_refused}
+use Rattle.laws_calls.specs.States.{DoesNotWait, HasNoTxn, HasPrepared, IsInTxn, IsOfSession, MayBegin, State, Waiting, next_number, without_waiting}
 
 -- ---- the lock table
 
@@ -260,12 +263,17 @@ CallGoesOn g s a c Nothing new = ⊥
 
 -- ---- steps
 
+-- those that a resolve has decided, and that are no more under way
+abbrev pub ended_among : List SessionTxn → List ResolvedTxn → List ResolvedTxn
+ended_among active rs = filter (λ r. not (list_any (λ a. a.txn == r.txn) active)) rs
+
+-- the transactions in the table: those under way, and those that are decided and not answered
 abbrev pub txn_count : State → ℕ
-txn_count s = length s.sessions.active + length s.sessions.committing
+txn_count s = length s.sessions.active + length s.sessions.committing + length (ended_among s.sessions.active s.sessions.resolving)
 
 abbrev pub BeginStep : State → ℕ → Step → State → Type 0
 BeginStep s session (Done answer) new =
-    HasNoTxn s session × (txn_count s < MAX_TRANSACTIONS) × MayBegin s × (answer ≡ Began s.sessions.next_txn) × (new ≡ record s { sessions = txn_begun s.sessions session })
+    HasNoTxn s session × (txn_count s < MAX_TRANSACTIONS) × MayBegin s × (answer ≡ Began s.sessions.next_txn) × (new ≡ begun s session)
 BeginStep s session (Waits wait) new = ⊥
 BeginStep s session (Refused f) new =
     (((f ≡ fault.AlreadyActive) × IsInTxn s session)
@@ -282,13 +290,52 @@ CommitStep s a Nothing new = ⊥
 -- the abort is answered, and then its locks go
 abbrev pub aborted : State → SessionTxn → State
 aborted s a =
-    with_requests (record s { sessions = abort_answered s.sessions a; log = log_after s.log s.sessions (AnswerAbort a) }) (released a.txn s.locks.requests)
+    with_requests
+    (record s { sessions = seated s.sessions (entries_by s.sessions (AnswerAbort a)) (abort_answered s.sessions a); log = log_after s.log s.sessions (AnswerAbort a) })
+    (released a.txn s.locks.requests)
 
 abbrev pub AbortStep : State → SessionTxn → Step → State → Type 0
 AbortStep s a (Done answer) new = (answer ≡ Aborted) × (new ≡ aborted s a)
 AbortStep s a (Refused f) new = IsInterrupted s a Whole f new
 AbortStep s a (Waits wait) new = ⊥
 AbortStep s a Nothing new = ⊥
+
+-- ---- calls that need no transaction
+
+-- the call is one that a session makes in its transaction
+abbrev pub NeedsTxn : Call → Type 0
+NeedsTxn (call.Get id) = Unit {0}
+NeedsTxn (call.GetForUpdate id) = Unit {0}
+NeedsTxn (call.Insert store bytes) = Unit {0}
+NeedsTxn (call.Update id bytes) = Unit {0}
+NeedsTxn (call.Delete id) = Unit {0}
+NeedsTxn (call.Scan store) = Unit {0}
+NeedsTxn (call.Lock at mode) = Unit {0}
+NeedsTxn (call.TryLock at mode) = Unit {0}
+NeedsTxn call.Savepoint = Unit {0}
+NeedsTxn (call.BackTo index) = Unit {0}
+NeedsTxn call.Commit = Unit {0}
+NeedsTxn call.Abort = Unit {0}
+NeedsTxn (call.Prepare global) = Unit {0}
+NeedsTxn call.Begin = ⊥
+NeedsTxn (call.Resolve global outcome) = ⊥
+NeedsTxn call.InDoubt = ⊥
+
+-- those in doubt, by their global ids in the order of the bytes
+abbrev pub listed_in_doubt : Sessions → List (List ℕ × ℕ)
+listed_in_doubt s = entries (from_entries {R = slice_cmp nat_cmp} (map (λ p. (p.global, p.txn)) s.prepared))
+
+abbrev pub InDoubtStep : State → Step → State → Type 0
+InDoubtStep s (Done answer) new = (answer ≡ AreInDoubt (listed_in_doubt s.sessions)) × (new ≡ s)
+InDoubtStep s (Waits wait) new = ⊥
+InDoubtStep s (Refused f) new = ⊥
+InDoubtStep s Nothing new = ⊥
+
+-- a call from outside of any transaction, or of another's
+abbrev pub OutsideStep : State → Call → Step → State → Type 0
+OutsideStep s c step new = (c ≡ call.InDoubt) × InDoubtStep s step new
+
+-- ---- calls of a transaction
 
 -- the call of a transaction under way that no rollback keeps from it
 abbrev pub OpenStep : Geometry → State → SessionTxn → Call → Step → State → Type 0
@@ -298,10 +345,10 @@ OpenStep g s a c step new =
     ⊎ ((c ≡ call.Commit) × CommitStep s a step new)
     ⊎ ((c ≡ call.Savepoint) × SavepointStep s a step new)
 
--- The call of a transaction under way. Once a rollback has begun, nothing else is taken than what ends it; a begin is refused as it ever is.
+-- The call of a transaction under way. Once a rollback has begun, nothing else is taken than what ends it; what needs no transaction comes to what it ever does.
 abbrev pub InnerStep : Geometry → State → SessionTxn → Call → Step → State → Type 0
 InnerStep g s a c step new =
-    ((c ≢ call.Begin) × (TakesCall a.undo c → ⊥) × (step ≡ Refused fault.MustAbort) × (new ≡ s))
+    (NeedsTxn c × (TakesCall a.undo c → ⊥) × (step ≡ Refused fault.MustAbort) × (new ≡ s))
     ⊎ ((a.undo.rolling ≡ None) × OpenStep g s a c step new)
     ⊎ ((n : ℕ) × (c ≡ call.BackTo n) × TakesCall a.undo c × BackToStep s a n step new)
     ⊎ ((c ≡ call.Abort) × AbortStep s a step new)
@@ -313,20 +360,37 @@ CallStep g s session c step new =
     ⊎ (IsTrue s.failed × (step ≡ Refused fault.Failed) × (new ≡ s))
     ⊎ ((s.failed ≡ false) × (DoesNotWait s session → ⊥) × (step ≡ Refused fault.Busy) × (new ≡ s))
     ⊎ ((s.failed ≡ false) × DoesNotWait s session × (c ≡ call.Begin) × BeginStep s session step new)
-    ⊎ ((s.failed ≡ false) × DoesNotWait s session × (c ≢ call.Begin) × HasNoTxn s session × (step ≡ Refused fault.NoTransaction) × (new ≡ s))
+    ⊎ ((s.failed ≡ false) × DoesNotWait s session × NeedsTxn c × HasNoTxn s session × (step ≡ Refused fault.NoTransaction) × (new ≡ s))
     ⊎ ((s.failed ≡ false) × DoesNotWait s session × ((a : SessionTxn) × IsOfSession s session a × InnerStep g s a c step new))
+    ⊎ ((s.failed ≡ false) × DoesNotWait s session × NeedsTxn c × HasPrepared s session × (step ≡ Refused fault.IsPrepared) × (new ≡ s))
+    ⊎ ((s.failed ≡ false) × DoesNotWait s session × OutsideStep s c step new)
 
 -- the commit is answered, and then its locks go
 abbrev pub commit_ended : State → SessionTxn → State
 commit_ended s a =
-    with_requests (record s { sessions = commit_answered s.sessions a; waiting = without_waiting a.session s.waiting }) (released a.txn s.locks.requests)
+    with_requests
+    (record s { sessions = seated s.sessions (entries_by s.sessions (AnswerCommit a)) (commit_answered s.sessions a); waiting = without_waiting a.session s.waiting })
+    (released a.txn s.locks.requests)
 
--- Going on with a call that waits for this. While its record is not durable, or its request still waits, nothing is done. A commit is answered then, and
--- a call goes on from its locks as if it were made now.
+-- the Prepare of the session's transaction is appended, under this global id, and it is not answered
+abbrev pub IsPreparing : Sessions → ℕ → ℕ → List ℕ → Type 0
+IsPreparing s session t global = IsAmong (record { txn = t; global = global; answered = false }) s.prepared × (s.seats session ≡ in_prepared t)
+
+-- the prepare is answered: its transaction waits for a resolve
+abbrev pub prepare_ended : State → ℕ → ℕ → List ℕ → State
+prepare_ended s session t global = record s {
+  sessions = seated s.sessions (entries_by s.sessions (AnswerPrepare session t global)) (prepare_answered s.sessions t);
+  waiting = without_waiting session s.waiting;
+}
+
+-- Going on with a call that waits for this. While its record is not durable, or its request still waits, nothing is done. A commit or a prepare is answered
+-- then, and a call goes on from its locks as if it were made now.
 abbrev pub ResumesWait : Geometry → State → Waiting → Wait → Step → State → Type 0
 ResumesWait g s w (Durable n) step new =
     ((s.durable < n) × (step ≡ Waits (Durable n)) × (new ≡ s))
-    ⊎ ((n ≤ s.durable) × (step ≡ Done Committed) × ((a : SessionTxn) × IsAmong a s.sessions.committing × (a.session ≡ w.session) × (new ≡ commit_ended s a)))
+    ⊎ ((n ≤ s.durable) × (step ≡ Done Committed) × ((a : SessionTxn) × IsAmong a s.sessions.committing × (a.session ≡ w.session) × (new ≡ commit_ended s a)) × (w.call ≡ call.Commit))
+    ⊎ ((n ≤ s.durable) × (step ≡ Done Prepared)
+    × ((t : ℕ) × (global : List ℕ) × IsPreparing s.sessions w.session t global × (w.call ≡ call.Prepare global) × (new ≡ prepare_ended s w.session t global)))
 ResumesWait g s w (Lock at) step new =
     (a : SessionTxn) × IsOfSession s w.session a
     × (((is_waiting a.txn s.locks.requests ≡ true) × (step ≡ Waits (Lock at)) × (new ≡ s))

@@ -1,5 +1,5 @@
 -- What a call is refused for: each fault by its cause, in the state in which the call asks.
-use Rattle.std.specs.Prelude.{◌≡◌, ◌≢◌, ◌⊎◌, ◌<◌, ◌≤◌, ℕ, List, Option, None, Some, IsFalse, IsTrue, length}
+use Rattle.std.specs.Prelude.{◌≡◌, ◌⊎◌, ◌<◌, ◌≤◌, ℕ, List, Option, None, Some, IsFalse, IsTrue, length}
 use Rattle.shore_types.specs.Locking.{level_of}
 use Rattle.shore_types.specs.declared.faults.Fault.{Fault}
 use Rattle.shore_types.specs.declared.faults.Fault.TheVariants as fault
@@ -18,11 +18,11 @@ use Rattle.shore_model.specs.declared.calls.Call.TheVariants as call
 use Rattle.shore_path.specs.Acquires.{IsBlockedBy, IsFullOnPath}
 use Rattle.laws_locks.specs.CallLocks.{Asked, lock_asked_by}
 use Rattle.laws_lives.specs.Sessions.{SessionTxn}
-use Rattle.laws_calls.specs.CallSteps.{HasPlace, IsPlaceOf, ServesTxn, behind_lock, behind_place, txn_count}
+use Rattle.laws_calls.specs.CallSteps.{HasPlace, IsPlaceOf, ServesTxn, behind_lock, behind_place, txn_count, NeedsTxn}
 use Rattle.laws_calls.specs.Rollbacks.{TakesCall}
 use Rattle.laws_calls.specs.Shapes.{store_locked}
 use Rattle.laws_calls.specs.StateChanges.{CanLog, FitsAt}
-use Rattle.laws_calls.specs.States.{DoesNotWait, HasNoTxn, IsInTxn, IsOfSession, MayBegin, State}
+use Rattle.laws_calls.specs.States.{DoesNotWait, HasNoTxn, HasPrepared, IsInTxn, IsOfSession, MayBegin, State}
 
 -- the session is in a transaction under way of which this holds
 abbrev pub InItsTxn : State → ℕ → (SessionTxn → Type 0) → Type 0
@@ -140,7 +140,7 @@ WouldWaitFor s session c holder = (at : Granule) × (mode : Mode) × (c ≡ call
 -- What earns a refusal of a call of a session in a state. `Memory` has its cause outside of it, and so have a device's faults; that a transaction is the victim
 -- of a cycle is told beside this.
 abbrev pub EarnsRefusal : Geometry → State → ℕ → Call → Fault → Type 0
-EarnsRefusal g s session c fault.NoTransaction = (c ≢ call.Begin) × HasNoTxn s session
+EarnsRefusal g s session c fault.NoTransaction = NeedsTxn c × HasNoTxn s session
 EarnsRefusal g s session c fault.AlreadyActive = (c ≡ call.Begin) × IsInTxn s session
 EarnsRefusal g s session c fault.TooManyTransactions = (c ≡ call.Begin) × (MAX_TRANSACTIONS ≤ txn_count s)
 EarnsRefusal g s session c fault.NoStore = NamesOne store_of_granule c (λ store. HasStore g store → ⊥)
@@ -152,11 +152,11 @@ EarnsRefusal g s session c fault.LogFull = LacksLog g s session c
 EarnsRefusal g s session c fault.LockTableFull = LacksNode g s session c
 EarnsRefusal g s session c fault.BadMode = (lock : Asked) × (lock_asked_by c ≡ Some lock) × IsFalse (is_allowed (level_of lock.granule) lock.mode)
 EarnsRefusal g s session c (fault.Deadlock cycle) = ⊥
-EarnsRefusal g s session c fault.MustAbort = (c ≢ call.Begin) × InItsTxn s session (λ a. TakesCall a.undo c → ⊥)
+EarnsRefusal g s session c fault.MustAbort = NeedsTxn c × InItsTxn s session (λ a. TakesCall a.undo c → ⊥)
 EarnsRefusal g s session c fault.Busy = DoesNotWait s session → ⊥
 EarnsRefusal g s session c fault.NoSavepoint = (n : ℕ) × (c ≡ call.BackTo n) × InItsTxn s session (λ a. length a.undo.marks ≤ n)
 EarnsRefusal g s session c fault.TooManySavepoints = (c ≡ call.Savepoint) × InItsTxn s session (λ a. MAX_SAVEPOINTS ≤ length a.undo.marks)
-EarnsRefusal g s session c fault.IsPrepared = ⊥
+EarnsRefusal g s session c fault.IsPrepared = NeedsTxn c × HasPrepared s session
 EarnsRefusal g s session c fault.BadGlobalId = ⊥
 EarnsRefusal g s session c fault.GlobalIdInUse = ⊥
 EarnsRefusal g s session c fault.NoGlobalId = ⊥

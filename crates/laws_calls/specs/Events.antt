@@ -4,6 +4,7 @@ use Rattle.shore_types.specs.declared.layout.Geometry.{Geometry}
 use Rattle.shore_types.specs.declared.layout.TheConstants.{MAX_TRANSACTIONS}
 use Rattle.shore_model.specs.declared.calls.Call.{Call}
 use Rattle.shore_model.specs.declared.histories.Entry.{Entry}
+use Rattle.shore_model.specs.declared.histories.Opening.{Opening}
 use Rattle.shore_model.specs.declared.log_records.LogRecord.{LogRecord}
 use Rattle.shore_model.specs.declared.step.Step.{Step}
 use Rattle.shore_model.specs.Calls.{IsServed}
@@ -66,8 +67,8 @@ MovesMaking g s (e ∷ events) last made = (new : State) × (later : List Entry)
 
 -- The state is what a manager has come to that was opened on this list, after these entries: its sessions, log and locks are, its calls wait truly,
 -- what was acknowledged is durable, and there are no more transactions than there may be.
-pub record IsStateAfter (found : List LogRecord) (es : List Entry) (s : State) : Type 0 where
-  pub sessions : IsSessionsState found es s
+pub record IsStateAfter (o : Opening) (found : List LogRecord) (es : List Entry) (s : State) : Type 0 where
+  pub sessions : IsSessionsState o found es s
   pub waits : WaitsOfSessions (length found) s
   pub forced : IsForced (length found) es s
   pub few : txn_count s ≤ MAX_TRANSACTIONS

@@ -14,6 +14,7 @@ use Rattle.shore_model.specs.declared.step.Wait.TheVariants.{Lock}
 use Rattle.laws_calls.specs.CallSteps.{CallStep, ResumeStep}
 use Rattle.laws_calls.specs.Settling.{WaitsForNoLock}
 use Rattle.laws_calls.specs.StateChanges.{wait_refused}
+use Rattle.laws_lives.specs.Views.{IsAmong}
 use Rattle.laws_calls.specs.States.{IsOfSession, State}
 use Rattle.laws_calls.specs.Victims.{TakesVictim, TellsVictim, Withdraws}
 
@@ -50,7 +51,7 @@ pub record HasItsWait (s : State) (session : ℕ) (at : Granule) : Type 0 where
 -- a cycle of waits that passes the transaction under way of the session, which is the greatest of it
 pub record IsItsCycle (s : State) (session : ℕ) (cycle : List ℕ) : Type 0 where
   pub txn : SessionTxn
-  pub of : IsOfSession s session txn
+  pub of : IsAmong txn s.sessions.active × (txn.session ≡ session)
   pub closed : IsCycle s.locks.requests cycle
   pub passes : Contains cycle txn.txn
   pub greatest : All (λ u. u ≤ txn.txn) cycle

@@ -1,8 +1,10 @@
 -- What the calls of sessions wait for, and what is forced, beside their history.
-use Rattle.std.specs.Prelude.{◌≡◌, ◌<◌, ◌≤◌, ◌⊎◌, ℕ, None, Some, Contains, false, length, take}
+use Rattle.std.specs.Prelude.{◌≡◌, ◌<◌, ◌≤◌, ◌⊎◌, ℕ, List, None, Some, Contains, false, length, take}
 use Rattle.shore_types.specs.declared.locking.Granule.{Granule}
+use Rattle.shore_model.specs.declared.histories.Decision.{Decision}
 use Rattle.shore_model.specs.declared.histories.Decision.TheVariants as decision
 use Rattle.shore_model.specs.declared.calls.Call.{Call}
+use Rattle.shore_model.specs.declared.calls.Call.TheVariants as call
 use Rattle.shore_model.specs.declared.requests.Request.{Request}
 use Rattle.shore_model.specs.Locks.{path}
 use Rattle.shore_locks.specs.Grants.{wanted_mode}
@@ -10,26 +12,33 @@ use Rattle.shore_locks.specs.Tables.{waiting_request}
 use Rattle.shore_path.specs.Walks.{asked_of}
 use Rattle.laws_locks.specs.CallLocks.{Asked, lock_asked_by}
 use Rattle.laws_lives.specs.LogPrefixes.{decisions_in}
-use Rattle.laws_lives.specs.Sessions.{SessionTxn}
+use Rattle.laws_lives.specs.Sessions.{PreparedTxn, SessionTxn, Sessions, in_prepared}
 use Rattle.laws_lives.specs.Views.{IsAmong}
 use Rattle.shore_model.specs.declared.step.Wait.TheVariants.{Lock}
-use Rattle.laws_calls.specs.StateChanges.{commit_waiting}
-use Rattle.laws_calls.specs.States.{IsOfSession, State, Waiting}
+use Rattle.laws_calls.specs.CallSteps.{IsPreparing}
+use Rattle.laws_calls.specs.StateChanges.{decision_waiting}
+use Rattle.laws_calls.specs.States.{HasSeat, IsOfSession, State, Waiting}
 
--- a commit waits for its record, which the log has
-pub record IsCommitWait (base : ℕ) (s : State) (w : Waiting) : Type 0 where
+-- a commit or a prepare has decided this, and is not answered
+abbrev pub IsUnanswered : Sessions → ℕ → Call → Decision → Type 0
+IsUnanswered s session c d =
+    ((a : SessionTxn) × IsAmong a s.committing × (a.session ≡ session) × (c ≡ call.Commit) × (d ≡ decision.Commit a.txn))
+    ⊎ ((t : ℕ) × (global : List ℕ) × IsPreparing s session t global × (c ≡ call.Prepare global) × (d ≡ decision.Prepare t global))
+
+-- a commit or a prepare waits for its record, which the log has
+pub record IsDecisionWait (base : ℕ) (s : State) (w : Waiting) : Type 0 where
   pub number : ℕ
-  pub txn : SessionTxn
-  pub is : w ≡ commit_waiting txn.session number
-  pub committing : IsAmong txn s.sessions.committing
+  pub decision : Decision
+  pub is : w ≡ decision_waiting w.session w.call number
+  pub unanswered : IsUnanswered s.sessions w.session w.call decision
   pub some : 0 < number
   pub there : number ≤ length s.log
-  pub decided : Contains (decisions_in base (take number s.log)) (decision.Commit txn.txn)
+  pub decided : Contains (decisions_in base (take number s.log)) decision
 
 -- a call of a transaction under way waits for a lock, which it asks for
 pub record IsLockWait (s : State) (w : Waiting) : Type 0 where
   pub txn : SessionTxn
-  pub active : IsAmong txn s.sessions.active
+  pub active : HasSeat s.sessions txn
   pub of : txn.session ≡ w.session
   -- no rollback of it has begun, unless it is a victim
   pub whole : w.cycle ≡ None → txn.undo.rolling ≡ None
@@ -38,12 +47,14 @@ pub record IsLockWait (s : State) (w : Waiting) : Type 0 where
   pub lock : Asked
   pub asked : lock_asked_by w.call ≡ Some lock
 
--- Each call that waits is a commit or a call that asks for a lock, a session waits with one, and as long as no device has failed each transaction that is
--- committed and not answered has such a call.
+-- Each call that waits is a commit, a prepare, or a call that asks for a lock, a session waits with one, and as long as no device has failed each transaction
+-- that is committed or prepared, and not answered, has such a call.
 pub record WaitsOfSessions (base : ℕ) (s : State) : Type 0 where
-  pub each : (w : Waiting) → IsAmong w s.waiting → IsCommitWait base s w ⊎ IsLockWait s w
+  pub each : (w : Waiting) → IsAmong w s.waiting → IsDecisionWait base s w ⊎ IsLockWait s w
   pub once : (v w : Waiting) → IsAmong v s.waiting → IsAmong w s.waiting → v.session ≡ w.session → v ≡ w
-  pub all : s.failed ≡ false → (a : SessionTxn) → IsAmong a s.sessions.committing → (n : ℕ) × IsAmong (commit_waiting a.session n) s.waiting
+  pub all : s.failed ≡ false → (a : SessionTxn) → IsAmong a s.sessions.committing → (n : ℕ) × IsAmong (decision_waiting a.session call.Commit n) s.waiting
+  pub prepares : s.failed ≡ false → (p : PreparedTxn) → IsAmong p s.sessions.prepared → p.answered ≡ false
+      → (session : ℕ) × (n : ℕ) × IsAmong (decision_waiting session (call.Prepare p.global) n) s.waiting × (s.sessions.seats session ≡ in_prepared p.txn)
 
 -- a request at a granule on the path to a call's lock, for the mode that the call asks there, joined to the one held
 pub record IsItsRequest (c : Call) (at : Granule) (r : Request) : Type 0 where

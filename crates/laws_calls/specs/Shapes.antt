@@ -73,4 +73,4 @@ IsLackOfRoom f =
 
 -- what an abort may be refused by: what refuses any call of a session, and what interrupts a rollback
 abbrev pub StopsAborts : Fault → Type 0
-StopsAborts f = (f ≡ fault.Failed) ⊎ (f ≡ fault.Busy) ⊎ (f ≡ fault.NoTransaction) ⊎ ((x : State) × Interrupts x f)
+StopsAborts f = (f ≡ fault.Failed) ⊎ (f ≡ fault.Busy) ⊎ (f ≡ fault.NoTransaction) ⊎ (f ≡ fault.IsPrepared) ⊎ ((x : State) × Interrupts x f)

@@ -13,7 +13,8 @@ use Rattle.shore_model.specs.declared.step.Step.{Step}
 use Rattle.shore_model.specs.declared.step.Step.TheVariants.{Done, Waits, Refused, Nothing}
 use Rattle.shore_model.specs.declared.step.Wait.TheVariants.{Durable}
 use Rattle.laws_lives.specs.Logged.{and_record, log_after_answer}
-use Rattle.laws_lives.specs.Sessions.{SessionTxn, commit_appended, reply_given}
+use Rattle.laws_lives.specs.SessionSteps.{BeginTxn, entries_by}
+use Rattle.laws_lives.specs.Sessions.{SessionTxn, commit_appended, reply_given, seated, txn_begun}
 use Rattle.laws_room.specs.Claims.{SlotCounts, Grows}
 use Rattle.laws_calls.specs.States.{State, Waiting, next_number, without_waiting, log_room, page_slots}
 use Rattle.shore_types.specs.declared.faults.Device.TheVariants.{Volume}
@@ -44,15 +45,20 @@ answered s a c answer counts = record s {
   log = log_after_answer s.log s.sessions.records a c answer;
 }
 
-abbrev pub commit_waiting : ℕ → ℕ → Waiting
-commit_waiting session n = record { session = session; call = call.Commit; wait = Durable n; cycle = None }
+-- a session begins its transaction
+abbrev pub begun : State → ℕ → State
+begun s session = record s { sessions = seated s.sessions (entries_by s.sessions (BeginTxn session)) (txn_begun s.sessions session) }
+
+-- a call that has appended a decision's record waits for that to be durable
+abbrev pub decision_waiting : ℕ → Call → ℕ → Waiting
+decision_waiting session c n = record { session = session; call = c; wait = Durable n; cycle = None }
 
 -- the Commit goes last, and the call waits for its force
 abbrev pub committed : State → SessionTxn → State
 committed s a = record s {
   sessions = commit_appended s.sessions a;
   log = and_record a.txn s.log payload.Commit;
-  waiting = commit_waiting a.session (next_number s) ∷ s.waiting;
+  waiting = decision_waiting a.session call.Commit (next_number s) ∷ s.waiting;
 }
 
 -- the call that waited is refused

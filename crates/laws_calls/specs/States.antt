@@ -1,6 +1,6 @@
 -- A manager without its devices, as plain data: sessions at work, their log, the slots of the pages, and what is durable. What is reserved
 -- and what is claimed are no state: they are functions of the undo lists.
-use Rattle.std.specs.Prelude.{◌≡◌, ◌≢◌, ◌<◌, ◌+◌, ◌==◌, ℕ, List, Bool, None, Option, not, filter, length}
+use Rattle.std.specs.Prelude.{◌≡◌, ◌≢◌, ◌<◌, ◌+◌, ◌*◌, ◌==◌, ℕ, List, Bool, IsTrue, None, Option, not, filter, length}
 use Rattle.std.specs.List.{sum_by}
 use Rattle.shore_types.specs.declared.ids.PageId.{PageId}
 use Rattle.shore_types.specs.declared.layout.TheConstants.{ENDING_COST, LAST_TXN}
@@ -9,7 +9,7 @@ use Rattle.shore_model.specs.declared.log_records.LogRecord.{LogRecord}
 use Rattle.shore_locks.specs.Tables.{Table}
 use Rattle.shore_logrec.specs.Text.{cost_of}
 use Rattle.shore_model.specs.declared.step.Wait.{Wait}
-use Rattle.laws_lives.specs.Sessions.{IsInNoTxn, SessionTxn, Sessions}
+use Rattle.laws_lives.specs.Sessions.{IsInNoTxn, SessionTxn, Sessions, in_txn}
 use Rattle.laws_lives.specs.Views.{IsAmong}
 use Rattle.shore_page.specs.Slots.{Slot}
 use Rattle.laws_room.specs.Claims.{SlotCounts, slots_of}
@@ -43,15 +43,23 @@ pub record State : Type 0 where
 
 -- ---- transactions
 
--- the transaction under way of a session
-abbrev pub IsOfSession : State → ℕ → SessionTxn → Type 0
-IsOfSession s session a = IsAmong a s.sessions.active × (a.session ≡ session)
+-- the transaction is under way, and its session is in it; it is not prepared
+abbrev pub HasSeat : Sessions → SessionTxn → Type 0
+HasSeat s a = IsAmong a s.active × (s.seats a.session ≡ in_txn a.txn) × (0 < a.txn)
 
-abbrev pub IsInTxn : State → ℕ → Type 0
-IsInTxn s session = (a : SessionTxn) × IsOfSession s session a
+-- .. and this is its session
+abbrev pub IsOfSession : State → ℕ → SessionTxn → Type 0
+IsOfSession s session a = HasSeat s.sessions a × (a.session ≡ session)
 
 abbrev pub HasNoTxn : State → ℕ → Type 0
 HasNoTxn s session = IsInNoTxn s.sessions session
+
+abbrev pub IsInTxn : State → ℕ → Type 0
+IsInTxn s session = HasNoTxn s session → ⊥
+
+-- the transaction of the session is prepared
+abbrev pub HasPrepared : State → ℕ → Type 0
+HasPrepared s session = IsTrue (s.sessions.seats session).prepared
 
 -- the session has no call that waits
 abbrev pub DoesNotWait : State → ℕ → Type 0
@@ -79,11 +87,11 @@ page_slots s p = slots_of s.sessions.records s.sessions.active p (s.counts p)
 abbrev pub cost_of_log : List LogRecord → ℕ
 cost_of_log rs = sum_by (λ r. cost_of r.payload) rs
 
--- the room of the log: what its records take, and what is reserved for the undo and the ending of each transaction
+-- the room of the log: what its records take, and what is reserved for the undo and the ending of each transaction, and for one in doubt an ending more
 abbrev pub log_room : State → LogRoom
 log_room s = record {
   kept = cost_of_log s.log;
-  reserved = owed_by_all s.sessions.active;
+  reserved = owed_by_all s.sessions.active + ENDING_COST * length s.sessions.prepared;
   stream_bytes = s.stream_bytes;
   last_lsn = length s.log;
 }

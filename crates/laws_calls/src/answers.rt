@@ -1,22 +1,31 @@
 //! Answers that must not come.
 ghost use Rattle.std.specs.Prelude.{◌≡◌, ◌≢◌, ◌≤◌, ℕ, IsSome, IsTrue, List, Some, length, ◌+◌, ◌<◌, false, None, Ok};
-ghost use Rattle.std.specs.FinMap.{get};
+ghost use Rattle.std.specs.Cmp.Lexicographic.{slice_cmp};
+ghost use Rattle.std.specs.FinMap.{get, is_sorted};
+ghost use Rattle.std.specs.Ordering.{nat_cmp};
 ghost use Rattle.shore_types.specs.Layout.{HasPage, HasStore, HasSlot};
 ghost use Rattle.shore_types.specs.declared.ids.Rid.{Rid};
 ghost use Rattle.shore_types.specs.declared.layout.Geometry.{Geometry};
 ghost use Rattle.shore_types.specs.declared.layout.TheConstants.{MAX_RECORD_BYTES, MAX_TRANSACTIONS};
 ghost use Rattle.shore_types.specs.declared.locking.Granule.{Granule};
 ghost use Rattle.shore_model.specs.declared.calls.Answer.{Answer};
-ghost use Rattle.shore_model.specs.declared.calls.Answer.TheVariants.{Began, Deleted, Got, Inserted, Locked, Scanned, Updated};
+ghost use Rattle.shore_model.specs.declared.calls.Answer.TheVariants.{AreInDoubt, Began, Deleted, Got, Inserted, Locked, Scanned, Updated};
 ghost use Rattle.shore_model.specs.declared.calls.Call.{Call};
-ghost use Rattle.shore_model.specs.declared.calls.Call.TheVariants.{Commit, Begin, Delete, Get, GetForUpdate, Insert, Scan, TryLock, Update};
+ghost use Rattle.shore_model.specs.declared.calls.Call.TheVariants.{Commit, Begin, Delete, Get, GetForUpdate, InDoubt, Insert, Scan, TryLock, Update};
 ghost use Rattle.shore_model.specs.Records.{scan_of};
 ghost use Rattle.laws_room.specs.Choosing.{IsBefore};
+ghost use Rattle.shore_model.specs.Histories.{decisions, in_doubt};
+ghost use Rattle.shore_model.specs.declared.histories.Entry.{Entry};
+ghost use Rattle.shore_model.specs.declared.histories.Opening.{Opening};
+ghost use Rattle.shore_model.specs.declared.log_records.LogRecord.{LogRecord};
+ghost use Rattle.shore_model.specs.declared.step.Step.{Step};
+ghost use Rattle.laws_lives.specs.Sessions.{SessionTxn, in_txn};
+ghost use Rattle.laws_calls.specs.Events.{IsStateAfter};
 ghost use Rattle.laws_lives.specs.Views.{IsAmong};
 ghost use Rattle.shore_model.specs.declared.step.Step.TheVariants.{Done};
 ghost use Rattle.shore_model.specs.declared.step.Wait.TheVariants.{Lock};
 ghost use Rattle.laws_calls.specs.StateChanges.{CanLog, FitsAt};
-ghost use Rattle.laws_calls.specs.CallSteps.{ServesTxn, CallStep, HasGranule, lock_outcome, place_outcome, txn_count};
+ghost use Rattle.laws_calls.specs.CallSteps.{ServesTxn, CallStep, HasGranule, NeedsTxn, lock_outcome, place_outcome, txn_count};
 ghost use Rattle.laws_calls.specs.States.{State, Waiting, HasNoTxn, IsInTxn, MayBegin};
 ghost use Rattle.shore_types.specs.Locking.{level_of};
 ghost use Rattle.shore_types.specs.declared.locking.Granule.TheVariants.{Record};
@@ -61,7 +70,7 @@ pub fn wrong_answers_do_not_come()
     ensures second_begin { (g : Geometry) (s new : State) (session : ℕ) (answer : Answer) →
         IsInTxn s session → CallStep g s session Begin (Done answer) new → ⊥ }
     ensures in_no_txn { (g : Geometry) (s new : State) (session : ℕ) (c : Call) (answer : Answer) →
-        c ≢ Begin → HasNoTxn s session → CallStep g s session c (Done answer) new → ⊥ }
+        NeedsTxn c → HasNoTxn s session → CallStep g s session c (Done answer) new → ⊥ }
     ensures while_waiting { (g : Geometry) (s new : State) (session : ℕ) (c : Call) (answer : Answer) (w : Waiting) →
         IsAmong w s.waiting → w.session ≡ session → CallStep g s session c (Done answer) new → ⊥ }
     ensures after_failure { (g : Geometry) (s new : State) (session : ℕ) (c : Call) (answer : Answer) →
@@ -76,7 +85,8 @@ pub fn wrong_answers_do_not_come()
 /// insert without its slot, another answer than the call's.
 pub fn answers_are_done()
     ensures begin_left_out { (g : Geometry) (s new : State) (session : ℕ) (answer : Answer) →
-        ¬ IsInTxn new session → CallStep g s session Begin (Done answer) new → ⊥ }
+        ((a : SessionTxn) → IsAmong a new.sessions.active → a.session ≡ session → new.sessions.seats session ≢ in_txn a.txn)
+        → CallStep g s session Begin (Done answer) new → ⊥ }
     ensures begin_unnumbered { (g : Geometry) (s new : State) (session : ℕ) (answer : Answer) →
         new.sessions.next_txn ≢ s.sessions.next_txn + 1 → CallStep g s session Begin (Done answer) new → ⊥ }
     ensures update_left_out { (g : Geometry) (s new : State) (session : ℕ) (id : Rid) (bytes : List ℕ) (answer : Answer) →
@@ -149,4 +159,17 @@ pub fn wrong_inserts_do_not_come()
         get new.sessions.records id ≢ Some bytes → CallStep g s session (Insert store bytes) (Done (Inserted id)) new → ⊥ }
     ensures unlogged { (g : Geometry) (s new : State) (session store : ℕ) (bytes : List ℕ) (id : Rid) →
         new.log ≡ s.log → CallStep g s session (Insert store bytes) (Done (Inserted id)) new → ⊥ }
+{}
+
+/// Who is in doubt is told to any session that does not wait: by their global ids, rising by the bytes, exactly those whom the decisions leave so.
+pub fn those_in_doubt_are_listed()
+    ensures each { (g : Geometry) (o : Opening) (found : List LogRecord) (es : List Entry) (s new : State) (session t : ℕ) (global : List ℕ) (pairs : List (List ℕ × ℕ)) →
+        IsStateAfter o found es s → CallStep g s session InDoubt (Done (AreInDoubt pairs)) new → IsAmong (global, t) pairs → IsAmong (t, global) (in_doubt o.in_doubt (decisions es)) }
+    ensures all { (g : Geometry) (o : Opening) (found : List LogRecord) (es : List Entry) (s new : State) (session t : ℕ) (global : List ℕ) (pairs : List (List ℕ × ℕ)) →
+        IsStateAfter o found es s → CallStep g s session InDoubt (Done (AreInDoubt pairs)) new → IsAmong (t, global) (in_doubt o.in_doubt (decisions es)) → IsAmong (global, t) pairs }
+    ensures rising { (g : Geometry) (s new : State) (session : ℕ) (pairs : List (List ℕ × ℕ)) →
+        CallStep g s session InDoubt (Done (AreInDoubt pairs)) new → IsTrue (is_sorted (slice_cmp nat_cmp) pairs) }
+    ensures answered_other { (g : Geometry) (s new : State) (session : ℕ) (answer : Answer) → ((pairs : List (List ℕ × ℕ)) → answer ≢ AreInDoubt pairs) →
+        CallStep g s session InDoubt (Done answer) new → ⊥ }
+    ensures changes_nothing { (g : Geometry) (s new : State) (session : ℕ) (step : Step) → CallStep g s session InDoubt step new → new ≡ s }
 {}

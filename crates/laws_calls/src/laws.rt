@@ -1,6 +1,7 @@
 //! The laws of calls: what each event keeps, and what a history and a crash then have. Each is the contract of an empty function.
 ghost use Rattle.std.specs.Prelude.{◌≡◌, ◌≢◌, ◌⊎◌, ◌<◌, ◌≤◌, ◌∷◌, ◌++◌, ℕ, All, IsSome, IsTrue, List, [], None, Some, length, take, ◌+◌, true};
-ghost use Rattle.std.specs.FinMap.{get};
+ghost use Rattle.std.specs.FinMap.{empty, get};
+ghost use Rattle.std.specs.List.{AllByRecursion};
 ghost use Rattle.shore_types.specs.Layout.{HasPage, HasStore};
 ghost use Rattle.shore_types.specs.declared.faults.Device.{Device};
 ghost use Rattle.shore_types.specs.declared.faults.Fault.{Fault};
@@ -10,23 +11,27 @@ ghost use Rattle.shore_types.specs.declared.ids.Rid.{Rid};
 ghost use Rattle.shore_types.specs.declared.layout.Geometry.{Geometry};
 ghost use Rattle.shore_types.specs.declared.layout.TheConstants.{LAST_OPENED, LONGEST_FRAME, MAX_LOG_BYTES, MAX_RECORD_BYTES};
 ghost use Rattle.shore_model.specs.declared.calls.Answer.{Answer};
-ghost use Rattle.shore_model.specs.declared.calls.Answer.TheVariants.{Aborted, Committed};
+ghost use Rattle.shore_model.specs.declared.calls.Answer.TheVariants.{Aborted, Committed, Prepared};
 ghost use Rattle.shore_model.specs.declared.calls.Call.{Call};
 ghost use Rattle.shore_model.specs.declared.calls.Call.TheVariants.{Abort, Commit};
 ghost use Rattle.shore_model.specs.declared.histories.Decision.TheVariants as decision;
 ghost use Rattle.shore_model.specs.declared.histories.Entry.{Entry};
+ghost use Rattle.shore_model.specs.declared.histories.Opening.{Opening};
 ghost use Rattle.shore_model.specs.declared.log_records.LogRecord.{LogRecord};
-ghost use Rattle.shore_model.specs.Histories.{IsHistory, Kept, RunsAloneAfter, Sound, acknowledged, decisions, serial};
+ghost use Rattle.shore_model.specs.Histories.{IsHistory, Kept, RunsAloneAfter, Sound, acknowledged, decisions, in_doubt, serial, shown};
+ghost use Rattle.shore_model.specs.Lives.{next_opening};
+ghost use Rattle.shore_model.specs.Logs.{records_told};
 ghost use Rattle.shore_model.specs.Locks.{Harmony, WellRooted};
 ghost use Rattle.shore_model.specs.Records.{overlay};
 ghost use Rattle.shore_model.specs.Requests.{held_by_all};
 ghost use Rattle.shore_locks.specs.Grants.{released};
 ghost use Rattle.shore_page.specs.Room.{HasRoom};
 ghost use Rattle.laws_room.specs.Claims.{slots_of};
+ghost use Rattle.laws_lives.specs.Doubts.{DoubtsStand, IsOpeningOf};
 ghost use Rattle.laws_lives.specs.LogPrefixes.{decisions_in};
 ghost use Rattle.laws_lives.specs.LogTells.{records_committed};
-ghost use Rattle.laws_lives.specs.Sessions.{SessionTxn};
-ghost use Rattle.laws_lives.specs.Soundness.{history_from, serial_after, written_by};
+ghost use Rattle.laws_lives.specs.Sessions.{SessionTxn, pairs_of};
+ghost use Rattle.laws_lives.specs.Soundness.{history_from, opening_with, serial_after, written_by};
 ghost use Rattle.laws_lives.specs.Views.{IsAmong};
 ghost use Rattle.shore_model.specs.declared.step.Step.{Step};
 ghost use Rattle.shore_model.specs.declared.step.Step.TheVariants.{Done, Refused, Waits};
@@ -38,31 +43,31 @@ ghost use Rattle.laws_calls.specs.StateChanges.{with_durable, with_failure};
 ghost use Rattle.laws_calls.specs.LockChanges.{TakesAsAsked};
 ghost use Rattle.laws_calls.specs.CallSteps.{ResumesCall, CallStep, ResumeStep};
 ghost use Rattle.laws_calls.specs.LockedStates.{entries_of_call};
-ghost use Rattle.laws_calls.specs.States.{DoesNotWait, IsOfSession, State, Waiting, cost_of_log, next_number};
+ghost use Rattle.laws_calls.specs.States.{DoesNotWait, HasSeat, IsOfSession, State, Waiting, cost_of_log, log_room, next_number};
 ghost use Rattle.laws_calls.specs.WorkedRun.{first_id, first_page, one_insert, opened_empty};
 
-/// What an open leaves, with no request in its lock table, is a state after no entries.
+/// What an open leaves is a state after no entries.
 pub fn open_begins_a_state()
-    ensures { (found : List LogRecord) (s : State) → IsOpened found s → s.locks.requests ≡ [] → IsStateAfter found [] s }
+    ensures { (o : Opening) (found : List LogRecord) (s : State) → IsOpened o found s → IsStateAfter o found [] s }
 {}
 
 /// Each call of each session, whatever it comes to, goes on with the history: what waits and what is forced stay true as well.
 pub fn calls_keep_state()
-    ensures { (g : Geometry) (found : List LogRecord) (es : List Entry) (old new : State) (session : ℕ) (c : Call) (step : Step) → IsStateAfter found es old →
-        CallStep g old session c step new → IsStateAfter found (es ++ entries_of_call old session c step) new }
+    ensures { (g : Geometry) (o : Opening) (found : List LogRecord) (es : List Entry) (old new : State) (session : ℕ) (c : Call) (step : Step) → IsStateAfter o found es old →
+        CallStep g old session c step new → IsStateAfter o found (es ++ entries_of_call old session c step) new }
 {}
 
 /// So does each resume.
 pub fn resumes_keep_state()
-    ensures { (g : Geometry) (found : List LogRecord) (es : List Entry) (old new : State) (session : ℕ) (step : Step) → IsStateAfter found es old →
-        ResumeStep g old session step new → IsStateAfter found (es ++ entries_of_resume old session step) new }
+    ensures { (g : Geometry) (o : Opening) (found : List LogRecord) (es : List Entry) (old new : State) (session : ℕ) (step : Step) → IsStateAfter o found es old →
+        ResumeStep g old session step new → IsStateAfter o found (es ++ entries_of_resume old session step) new }
 {}
 
 /// A force that is told, and a failure, leave the history as it is.
 pub fn forces_and_failures_keep_state()
-    ensures durable { (found : List LogRecord) (es : List Entry) (s : State) (n : ℕ) →
-        IsStateAfter found es s → s.durable ≤ n → n ≤ length s.log → IsStateAfter found es (with_durable n s) }
-    ensures failed { (found : List LogRecord) (es : List Entry) (s : State) → IsStateAfter found es s → IsStateAfter found es (with_failure s) }
+    ensures durable { (o : Opening) (found : List LogRecord) (es : List Entry) (s : State) (n : ℕ) →
+        IsStateAfter o found es s → s.durable ≤ n → n ≤ length s.log → IsStateAfter o found es (with_durable n s) }
+    ensures failed { (o : Opening) (found : List LogRecord) (es : List Entry) (s : State) → IsStateAfter o found es s → IsStateAfter o found es (with_failure s) }
 {}
 
 /// After any events from an open on, the state is what they have come to. Any events make entries.
@@ -71,59 +76,71 @@ pub fn events_keep_state()
         EventsMove g s events last → (made : List Entry) × MovesMaking g s events last made }
     ensures events { (g : Geometry) (s last : State) (events : List ManagerEvent) (made : List Entry) →
         MovesMaking g s events last made → EventsMove g s events last }
-    ensures keep { (g : Geometry) (found : List LogRecord) (first last : State) (events : List ManagerEvent) (made : List Entry) →
-        IsOpened found first → first.locks.requests ≡ [] → MovesMaking g first events last made → IsStateAfter found made last }
+    ensures keep { (g : Geometry) (o : Opening) (found : List LogRecord) (first last : State) (events : List ManagerEvent) (made : List Entry) →
+        IsOpened o found first → MovesMaking g first events last made → IsStateAfter o found made last }
 {}
 
 /// What was called and answered since an open is a history, and a sound one.
 pub fn states_have_sound_histories()
-    ensures history { (found : List LogRecord) (es : List Entry) (s : State) → IsStateAfter found es s → IsHistory (history_from (records_committed found) es) }
-    ensures sound { (found : List LogRecord) (es : List Entry) (s : State) → IsStateAfter found es s → Sound (history_from (records_committed found) es) }
+    ensures history { (o : Opening) (found : List LogRecord) (es : List Entry) (s : State) → IsStateAfter o found es s → IsHistory (history_from o es) }
+    ensures sound { (o : Opening) (found : List LogRecord) (es : List Entry) (s : State) → IsStateAfter o found es s → Sound (history_from o es) }
 {}
 
-/// What a crash keeps of the log tells the serial records of a prefix of the decisions that holds every acknowledged one.
+/// What a crash keeps of the log tells the serial records of a prefix of the decisions that holds every acknowledged one. It opens as these decisions say:
+/// with the transactions that they leave in doubt, who stand beside each other, and with their changes in place.
 pub fn crash_keeps_acknowledged_commits()
-    ensures { (found : List LogRecord) (es : List Entry) (s : State) (n : ℕ) → IsStateAfter found es s → KeepsDurable s n →
+    ensures kept { (o : Opening) (found : List LogRecord) (es : List Entry) (s : State) (n : ℕ) → IsStateAfter o found es s → KeepsDurable s n →
         Kept es (decisions_in (length found) (take n s.log))
-        × (records_committed (take n s.log) ≡ serial (written_by es) (records_committed found) (decisions_in (length found) (take n s.log))) }
+        × (records_committed (take n s.log) ≡ serial (written_by o es) o.records (decisions_in (length found) (take n s.log))) }
+    ensures opens { (o : Opening) (found : List LogRecord) (es : List Entry) (s : State) (n : ℕ) → IsStateAfter o found es s → KeepsDurable s n →
+        IsOpeningOf (take n s.log) (next_opening o (record { entries = es; kept = decisions_in (length found) (take n s.log) })) × DoubtsStand (take n s.log)
+        × (records_told (take n s.log) ≡ shown (history_from o es) (decisions_in (length found) (take n s.log))) }
 {}
 
-/// The log tells the serial records of all decisions. A call that is answered, refused or waits for a lock adds nothing to what it tells, a rollback neither,
+/// The log tells the serial records of all decisions, and with the changes of those in doubt what the decisions show. Those are in doubt whom the decisions
+/// leave so. A call that is answered, refused or waits for a lock adds nothing to what it tells, a rollback neither,
 /// and a Commit what its transaction has written, which is what stands at those ids while no rollback of it is under way. If nobody is under way, all that is
 /// in place is told.
 pub fn log_tells_what_is_decided()
-    ensures decided { (found : List LogRecord) (es : List Entry) (s : State) →
-        IsStateAfter found es s → records_committed s.log ≡ serial_after (records_committed found) es }
-    ensures in_place { (found : List LogRecord) (es : List Entry) (s : State) →
-        IsStateAfter found es s → s.sessions.active ≡ [] → s.sessions.records ≡ records_committed s.log }
-    ensures call { (g : Geometry) (found : List LogRecord) (es : List Entry) (old new : State) (session : ℕ) (c : Call) (step : Step) → IsStateAfter found es old
+    ensures decided { (o : Opening) (found : List LogRecord) (es : List Entry) (s : State) →
+        IsStateAfter o found es s → records_committed s.log ≡ serial_after o es }
+    ensures shown { (o : Opening) (found : List LogRecord) (es : List Entry) (s : State) →
+        IsStateAfter o found es s → records_told s.log ≡ shown (history_from o es) (decisions es) }
+    ensures doubts { (o : Opening) (found : List LogRecord) (es : List Entry) (s : State) →
+        IsStateAfter o found es s → pairs_of s.sessions.prepared ≡ in_doubt o.in_doubt (decisions es) }
+    ensures in_place { (o : Opening) (found : List LogRecord) (es : List Entry) (s : State) →
+        IsStateAfter o found es s → s.sessions.active ≡ [] → s.sessions.records ≡ records_committed s.log }
+    ensures call { (g : Geometry) (o : Opening) (found : List LogRecord) (es : List Entry) (old new : State) (session : ℕ) (c : Call) (step : Step) → IsStateAfter o found es old
         → CallStep g old session c step new → ((n : ℕ) → step ≢ Waits (Durable n)) → records_committed new.log ≡ records_committed old.log }
-    ensures resume { (g : Geometry) (found : List LogRecord) (es : List Entry) (old new : State) (session : ℕ) (step : Step) → IsStateAfter found es old
+    ensures resume { (g : Geometry) (o : Opening) (found : List LogRecord) (es : List Entry) (old new : State) (session : ℕ) (step : Step) → IsStateAfter o found es old
         → ResumeStep g old session step new → records_committed new.log ≡ records_committed old.log }
-    ensures commit { (g : Geometry) (found : List LogRecord) (es : List Entry) (old new : State) (session n : ℕ) (c : Call) → IsStateAfter found es old
+    ensures commit { (g : Geometry) (o : Opening) (found : List LogRecord) (es : List Entry) (old new : State) (session n : ℕ) (c : Call) → IsStateAfter o found es old
         → CallStep g old session c (Waits (Durable n)) new
-        → records_committed new.log ≡ overlay (records_committed old.log) (written_by es (txn_of old.sessions session)) }
-    ensures own { (found : List LogRecord) (es : List Entry) (s : State) (a : SessionTxn) (id : Rid) → IsStateAfter found es s → IsAmong a s.sessions.active
-        → a.undo.rolling ≡ None → IsSome (get (written_by es a.txn) id)
-        → get s.sessions.records id ≡ get (overlay (records_committed s.log) (written_by es a.txn)) id }
+        → records_committed new.log ≡ overlay (records_committed old.log) (written_by o es (txn_of old.sessions session)) }
+    ensures own { (o : Opening) (found : List LogRecord) (es : List Entry) (s : State) (a : SessionTxn) (id : Rid) → IsStateAfter o found es s → IsAmong a s.sessions.active
+        → a.undo.rolling ≡ None → IsSome (get (written_by o es a.txn) id)
+        → get s.sessions.records id ≡ get (overlay (records_committed s.log) (written_by o es a.txn)) id }
 {}
 
-/// A transaction under way runs alone on the serial records of now.
+/// A transaction whose session is in it runs alone on the serial records of now.
 pub fn undecided_transactions_run_alone()
-    ensures { (found : List LogRecord) (es : List Entry) (s : State) (a : SessionTxn) → IsStateAfter found es s → IsAmong a s.sessions.active →
-        RunsAloneAfter (history_from (records_committed found) es) (decisions es) a.txn }
+    ensures { (o : Opening) (found : List LogRecord) (es : List Entry) (s : State) (a : SessionTxn) → IsStateAfter o found es s → HasSeat s.sessions a →
+        RunsAloneAfter (history_from o es) (decisions es) a.txn }
 {}
 
 /// Each call and each resume leaves room on pages and in the log for all that stands and all that may come back, a rollback too, which no lack of room
 /// refuses: so undo is never refused. So does an open whose pages and log have place for what they hold.
 pub fn calls_keep_room()
-    ensures calls { (g : Geometry) (found : List LogRecord) (es : List Entry) (old new : State) (session : ℕ) (c : Call) (step : Step) →
-        IsStateAfter found es old → IsRoomyState old → CallStep g old session c step new → IsRoomyState new }
-    ensures resumes { (g : Geometry) (found : List LogRecord) (es : List Entry) (old new : State) (session : ℕ) (step : Step) →
-        IsStateAfter found es old → IsRoomyState old → ResumeStep g old session step new → IsRoomyState new }
-    ensures open { (found : List LogRecord) (s : State) → IsOpened found s → ((p : PageId) → HasRoom (slots_of s.sessions.records [] p (s.counts p)))
-        → ((id : Rid) → s.counts id.page ≤ id.slot → get s.sessions.records id ≡ None) → cost_of_log found + LONGEST_FRAME ≤ s.stream_bytes
-        → length found < LAST_OPENED → s.stream_bytes ≤ MAX_LOG_BYTES → IsRoomyState s }
+    ensures calls { (g : Geometry) (o : Opening) (found : List LogRecord) (es : List Entry) (old new : State) (session : ℕ) (c : Call) (step : Step) →
+        IsStateAfter o found es old → IsRoomyState old → CallStep g old session c step new → IsRoomyState new }
+    ensures resumes { (g : Geometry) (o : Opening) (found : List LogRecord) (es : List Entry) (old new : State) (session : ℕ) (step : Step) →
+        IsStateAfter o found es old → IsRoomyState old → ResumeStep g old session step new → IsRoomyState new }
+    ensures open { (o : Opening) (found : List LogRecord) (s : State) → IsOpened o found s
+        → ((p : PageId) → HasRoom (slots_of s.sessions.records s.sessions.active p (s.counts p)))
+        → ((id : Rid) → s.counts id.page ≤ id.slot → get s.sessions.records id ≡ None)
+        → ((a : SessionTxn) → IsAmong a s.sessions.active → AllByRecursion (λ e. e.0.slot < s.counts e.0.page) a.undo.images)
+        → cost_of_log found + (log_room s).reserved + LONGEST_FRAME ≤ s.stream_bytes
+        → length found + (log_room s).reserved < LAST_OPENED → s.stream_bytes ≤ MAX_LOG_BYTES → IsRoomyState s }
 {}
 
 /// A call that comes to a wait waits, a commit for its own record. It waits no more once it is answered or refused. A device that fails, and a page that
@@ -136,14 +153,14 @@ pub fn waits_end_and_faults_fail()
         (w : Waiting) × IsAmong w new.waiting × (w.session ≡ session) × (w.wait ≡ wait) }
     ensures told { (g : Geometry) (s new : State) (session : ℕ) (answer : Answer) → ResumeStep g s session (Done answer) new → DoesNotWait new session }
     ensures refused { (g : Geometry) (s new : State) (session : ℕ) (f : Fault) → ResumeStep g s session (Refused f) new → DoesNotWait new session }
-    ensures device { (g : Geometry) (found : List LogRecord) (es : List Entry) (s new : State) (session : ℕ) (c : Call) → IsStateAfter found es s →
+    ensures device { (g : Geometry) (o : Opening) (found : List LogRecord) (es : List Entry) (s new : State) (session : ℕ) (c : Call) → IsStateAfter o found es s →
         CallStep g s session c (Refused fault.Device) new → IsTrue new.failed }
-    ensures damage { (g : Geometry) (found : List LogRecord) (es : List Entry) (s new : State) (session : ℕ) (c : Call) (device : Device) (offset : ℕ) →
-        IsStateAfter found es s → CallStep g s session c (Refused (fault.Damaged device offset)) new → IsTrue new.failed }
-    ensures resumed_device { (g : Geometry) (found : List LogRecord) (es : List Entry) (s new : State) (session : ℕ) → IsStateAfter found es s →
+    ensures damage { (g : Geometry) (o : Opening) (found : List LogRecord) (es : List Entry) (s new : State) (session : ℕ) (c : Call) (device : Device) (offset : ℕ) →
+        IsStateAfter o found es s → CallStep g s session c (Refused (fault.Damaged device offset)) new → IsTrue new.failed }
+    ensures resumed_device { (g : Geometry) (o : Opening) (found : List LogRecord) (es : List Entry) (s new : State) (session : ℕ) → IsStateAfter o found es s →
         ResumeStep g s session (Refused fault.Device) new → IsTrue new.failed }
-    ensures resumed_damage { (g : Geometry) (found : List LogRecord) (es : List Entry) (s new : State) (session : ℕ) (device : Device) (offset : ℕ) →
-        IsStateAfter found es s → ResumeStep g s session (Refused (fault.Damaged device offset)) new → IsTrue new.failed }
+    ensures resumed_damage { (g : Geometry) (o : Opening) (found : List LogRecord) (es : List Entry) (s new : State) (session : ℕ) (device : Device) (offset : ℕ) →
+        IsStateAfter o found es s → ResumeStep g s session (Refused (fault.Damaged device offset)) new → IsTrue new.failed }
 {}
 
 /// The log of each event begins by the log before.
@@ -153,31 +170,33 @@ pub fn logs_go_on()
 
 /// The locks of the sessions are those of the lock table. They are in harmony, and have their intentions.
 pub fn locks_stay_in_harmony()
-    ensures held { (found : List LogRecord) (es : List Entry) (s : State) → IsStateAfter found es s → s.sessions.held ≡ held_by_all s.locks.requests }
-    ensures rooted { (found : List LogRecord) (es : List Entry) (s : State) → IsStateAfter found es s → WellRooted s.sessions.held }
-    ensures harmony { (found : List LogRecord) (es : List Entry) (s : State) → IsStateAfter found es s → Harmony s.sessions.held }
+    ensures held { (o : Opening) (found : List LogRecord) (es : List Entry) (s : State) → IsStateAfter o found es s → s.sessions.held ≡ held_by_all s.locks.requests }
+    ensures rooted { (o : Opening) (found : List LogRecord) (es : List Entry) (s : State) → IsStateAfter o found es s → WellRooted s.sessions.held }
+    ensures harmony { (o : Opening) (found : List LogRecord) (es : List Entry) (s : State) → IsStateAfter o found es s → Harmony s.sessions.held }
 {}
 
 /// Locks are taken only as calls ask: by a call of a session, and going on with it, the requests of every other transaction stay or are granted, the own ones
 /// grow along the path to the granule that is asked for, an insert's to its place too, and nobody's become weaker. A commit keeps all of its locks until
-/// its answer, and has none after it; so does an abort, however often it is interrupted.
+/// its answer, and has none after it; so does an abort, however often it is interrupted. The answer of a prepare leaves all locks.
 pub fn locks_change_as_asked()
-    ensures calls { (g : Geometry) (found : List LogRecord) (es : List Entry) (old new : State) (session : ℕ) (c : Call) (step : Step) → IsStateAfter found es old
+    ensures calls { (g : Geometry) (o : Opening) (found : List LogRecord) (es : List Entry) (old new : State) (session : ℕ) (c : Call) (step : Step) → IsStateAfter o found es old
         → CallStep g old session c step new → ((new.locks.requests ≡ old.locks.requests)
         ⊎ ((a : SessionTxn) × IsOfSession old session a × TakesAsAsked old.locks.requests a.txn c new.locks.requests))
         ⊎ ((c ≡ Abort) × (step ≡ Done Aborted) × ((a : SessionTxn) × IsOfSession old session a
         × (new.locks.requests ≡ released a.txn old.locks.requests))) }
-    ensures resumes { (g : Geometry) (found : List LogRecord) (es : List Entry) (old new : State) (w : Waiting) (step : Step) → IsStateAfter found es old
+    ensures resumes { (g : Geometry) (o : Opening) (found : List LogRecord) (es : List Entry) (old new : State) (w : Waiting) (step : Step) → IsStateAfter o found es old
         → ResumesCall g old w step new → ((new.locks.requests ≡ old.locks.requests)
         ⊎ ((a : SessionTxn) × IsOfSession old w.session a × TakesAsAsked old.locks.requests a.txn w.call new.locks.requests))
         ⊎ ((step ≡ Done Committed) × ((a : SessionTxn) × IsAmong a old.sessions.committing × (a.session ≡ w.session)
         × (new.locks.requests ≡ released a.txn old.locks.requests))) }
-    ensures commit { (g : Geometry) (found : List LogRecord) (es : List Entry) (old new : State) (session : ℕ) (step : Step) → IsStateAfter found es old
+    ensures commit { (g : Geometry) (o : Opening) (found : List LogRecord) (es : List Entry) (old new : State) (session : ℕ) (step : Step) → IsStateAfter o found es old
         → CallStep g old session Commit step new → new.locks.requests ≡ old.locks.requests }
-    ensures told { (g : Geometry) (found : List LogRecord) (es : List Entry) (old new : State) (w : Waiting) (n : ℕ) (answer : Answer) → IsStateAfter found es old
-        → w.wait ≡ Durable n → ResumesCall g old w (Done answer) new → (new.locks.requests ≡ released (txn_of old.sessions w.session) old.locks.requests)
+    ensures told { (g : Geometry) (o : Opening) (found : List LogRecord) (es : List Entry) (old new : State) (w : Waiting) (n : ℕ) → IsStateAfter o found es old
+        → w.wait ≡ Durable n → ResumesCall g old w (Done Committed) new → (new.locks.requests ≡ released (txn_of old.sessions w.session) old.locks.requests)
         × All (λ h. h.txn ≢ txn_of old.sessions w.session) new.sessions.held }
-    ensures told_abort { (g : Geometry) (found : List LogRecord) (es : List Entry) (old new : State) (session : ℕ) (answer : Answer) → IsStateAfter found es old
+    ensures told_prepare { (g : Geometry) (old new : State) (w : Waiting) (n : ℕ) → w.wait ≡ Durable n → ResumesCall g old w (Done Prepared) new
+        → (new.locks.requests ≡ old.locks.requests) × (new.sessions.held ≡ old.sessions.held) }
+    ensures told_abort { (g : Geometry) (o : Opening) (found : List LogRecord) (es : List Entry) (old new : State) (session : ℕ) (answer : Answer) → IsStateAfter o found es old
         → CallStep g old session Abort (Done answer) new → (new.locks.requests ≡ released (txn_of old.sessions session) old.locks.requests)
         × All (λ h. h.txn ≢ txn_of old.sessions session) new.sessions.held }
 {}
@@ -185,6 +204,6 @@ pub fn locks_change_as_asked()
 /// The conditions can be met: over an empty volume, a transaction locks a store and a place, inserts a record and commits, and the commit is answered.
 pub fn one_insert_comes_through()
     ensures { (g : Geometry) (stream_bytes : ℕ) (bytes : List ℕ) → HasStore g 0 → HasPage g first_page → length bytes ≤ MAX_RECORD_BYTES → 100000 ≤ stream_bytes →
-        (last : State) × (made : List Entry) × IsOpened [] (opened_empty stream_bytes) × MovesMaking g (opened_empty stream_bytes) (one_insert bytes) last made
+        (last : State) × (made : List Entry) × IsOpened (opening_with empty) [] (opened_empty stream_bytes) × MovesMaking g (opened_empty stream_bytes) (one_insert bytes) last made
         × (get last.sessions.records first_id ≡ Some bytes) × (acknowledged made ≡ decision.Commit 1 ∷ []) }
 {}

@@ -8,6 +8,7 @@ ghost use Rattle.shore_model.specs.declared.calls.Answer.TheVariants.{Aborted, I
 ghost use Rattle.shore_model.specs.declared.calls.Call.{Call};
 ghost use Rattle.shore_model.specs.declared.calls.Call.TheVariants.{Commit, Delete, Get, GetForUpdate, Insert, Scan, Update};
 ghost use Rattle.shore_model.specs.declared.histories.Entry.{Entry};
+ghost use Rattle.shore_model.specs.declared.histories.Opening.{Opening};
 ghost use Rattle.shore_model.specs.declared.log_records.LogRecord.{LogRecord};
 ghost use Rattle.shore_model.specs.Locks.{MayRead, MayWrite};
 ghost use Rattle.laws_lives.specs.Sessions.{SessionTxn};
@@ -24,12 +25,12 @@ ghost use Rattle.laws_lives.specs.SessionSteps.{KeepsLocks};
 /// An answer has the locks that it needs, and no call makes a lock of another transaction weaker, whatever it comes to, nor one of its own, unless it is an
 /// abort that is answered: so neither a refusal, nor the append of a commit, nor a way back, nor an abort that is interrupted gives a lock back.
 pub fn calls_take_and_keep_locks()
-    ensures has { (g : Geometry) (found : List LogRecord) (es : List Entry) (s new : State) (session : ℕ) (c : Call) (answer : Answer) (a : SessionTxn) →
-        IsSessionsState found es s → IsOfSession s session a → CallStep g s session c (Done answer) new → HasLocksFor new.sessions.held a.txn c answer }
-    ensures keeps { (g : Geometry) (found : List LogRecord) (es : List Entry) (s new : State) (session : ℕ) (c : Call) (step : Step) (u : ℕ) →
-        IsSessionsState found es s → step ≢ Done Aborted → CallStep g s session c step new → KeepsLocks s.sessions.held new.sessions.held u }
-    ensures keeps_others { (g : Geometry) (found : List LogRecord) (es : List Entry) (s new : State) (session : ℕ) (c : Call) (step : Step)
-        (a : SessionTxn) (u : ℕ) → IsSessionsState found es s → IsOfSession s session a → u ≢ a.txn → CallStep g s session c step new → KeepsLocks s.sessions.held new.sessions.held u }
+    ensures has { (g : Geometry) (o : Opening) (found : List LogRecord) (es : List Entry) (s new : State) (session : ℕ) (c : Call) (answer : Answer) (a : SessionTxn) →
+        IsSessionsState o found es s → IsOfSession s session a → CallStep g s session c (Done answer) new → HasLocksFor new.sessions.held a.txn c answer }
+    ensures keeps { (g : Geometry) (o : Opening) (found : List LogRecord) (es : List Entry) (s new : State) (session : ℕ) (c : Call) (step : Step) (u : ℕ) →
+        IsSessionsState o found es s → step ≢ Done Aborted → CallStep g s session c step new → KeepsLocks s.sessions.held new.sessions.held u }
+    ensures keeps_others { (g : Geometry) (o : Opening) (found : List LogRecord) (es : List Entry) (s new : State) (session : ℕ) (c : Call) (step : Step)
+        (a : SessionTxn) (u : ℕ) → IsSessionsState o found es s → IsOfSession s session a → u ≢ a.txn → CallStep g s session c step new → KeepsLocks s.sessions.held new.sessions.held u }
     ensures append { (g : Geometry) (s new : State) (session : ℕ) (wait : Wait) → new.locks ≢ s.locks → CallStep g s session Commit (Waits wait) new → ⊥ }
     ensures append_held { (g : Geometry) (s new : State) (session : ℕ) (wait : Wait) →
         new.sessions.held ≢ s.sessions.held → CallStep g s session Commit (Waits wait) new → ⊥ }
@@ -37,36 +38,36 @@ pub fn calls_take_and_keep_locks()
 
 /// No read is answered of a record that another transaction may write, and no change of one that another may read or write.
 pub fn nobody_reads_what_another_may_write()
-    ensures get { (g : Geometry) (found : List LogRecord) (es : List Entry) (s new : State) (session : ℕ) (answer : Answer) (a : SessionTxn) (u : ℕ) (id : Rid) →
-        IsSessionsState found es s → IsOfSession s session a → u ≢ a.txn → MayWrite s.sessions.held u id →
+    ensures get { (g : Geometry) (o : Opening) (found : List LogRecord) (es : List Entry) (s new : State) (session : ℕ) (answer : Answer) (a : SessionTxn) (u : ℕ) (id : Rid) →
+        IsSessionsState o found es s → IsOfSession s session a → u ≢ a.txn → MayWrite s.sessions.held u id →
         CallStep g s session (Get id) (Done answer) new → ⊥ }
-    ensures get_for_update { (g : Geometry) (found : List LogRecord) (es : List Entry) (s new : State) (session : ℕ) (answer : Answer) (a : SessionTxn) (u : ℕ) (id : Rid) →
-        IsSessionsState found es s → IsOfSession s session a → u ≢ a.txn → MayWrite s.sessions.held u id →
+    ensures get_for_update { (g : Geometry) (o : Opening) (found : List LogRecord) (es : List Entry) (s new : State) (session : ℕ) (answer : Answer) (a : SessionTxn) (u : ℕ) (id : Rid) →
+        IsSessionsState o found es s → IsOfSession s session a → u ≢ a.txn → MayWrite s.sessions.held u id →
         CallStep g s session (GetForUpdate id) (Done answer) new → ⊥ }
-    ensures scan { (g : Geometry) (found : List LogRecord) (es : List Entry) (s new : State) (session : ℕ) (answer : Answer) (a : SessionTxn) (u : ℕ) (id : Rid) →
-        IsSessionsState found es s → IsOfSession s session a → u ≢ a.txn → MayWrite s.sessions.held u id →
+    ensures scan { (g : Geometry) (o : Opening) (found : List LogRecord) (es : List Entry) (s new : State) (session : ℕ) (answer : Answer) (a : SessionTxn) (u : ℕ) (id : Rid) →
+        IsSessionsState o found es s → IsOfSession s session a → u ≢ a.txn → MayWrite s.sessions.held u id →
         CallStep g s session (Scan id.page.store) (Done answer) new → ⊥ }
-    ensures update { (g : Geometry) (found : List LogRecord) (es : List Entry) (s new : State) (session : ℕ) (bytes : List ℕ) (answer : Answer) (a : SessionTxn) (u : ℕ) (id : Rid) →
-        IsSessionsState found es s → IsOfSession s session a → u ≢ a.txn → MayRead s.sessions.held u id →
+    ensures update { (g : Geometry) (o : Opening) (found : List LogRecord) (es : List Entry) (s new : State) (session : ℕ) (bytes : List ℕ) (answer : Answer) (a : SessionTxn) (u : ℕ) (id : Rid) →
+        IsSessionsState o found es s → IsOfSession s session a → u ≢ a.txn → MayRead s.sessions.held u id →
         CallStep g s session (Update id bytes) (Done answer) new → ⊥ }
-    ensures delete { (g : Geometry) (found : List LogRecord) (es : List Entry) (s new : State) (session : ℕ) (answer : Answer) (a : SessionTxn) (u : ℕ) (id : Rid) →
-        IsSessionsState found es s → IsOfSession s session a → u ≢ a.txn → MayRead s.sessions.held u id →
+    ensures delete { (g : Geometry) (o : Opening) (found : List LogRecord) (es : List Entry) (s new : State) (session : ℕ) (answer : Answer) (a : SessionTxn) (u : ℕ) (id : Rid) →
+        IsSessionsState o found es s → IsOfSession s session a → u ≢ a.txn → MayRead s.sessions.held u id →
         CallStep g s session (Delete id) (Done answer) new → ⊥ }
-    ensures insert { (g : Geometry) (found : List LogRecord) (es : List Entry) (s new : State) (session store : ℕ) (bytes : List ℕ) (a : SessionTxn) (u : ℕ) (id : Rid) →
-        IsSessionsState found es s → IsOfSession s session a → u ≢ a.txn → MayRead s.sessions.held u id →
+    ensures insert { (g : Geometry) (o : Opening) (found : List LogRecord) (es : List Entry) (s new : State) (session store : ℕ) (bytes : List ℕ) (a : SessionTxn) (u : ℕ) (id : Rid) →
+        IsSessionsState o found es s → IsOfSession s session a → u ≢ a.txn → MayRead s.sessions.held u id →
         CallStep g s session (Insert store bytes) (Done (Inserted id)) new → ⊥ }
 {}
 
 /// A commit that is answered leaves none of its transaction's locks and requests, and others theirs.
 pub fn answered_commits_give_locks_back()
-    ensures locks { (g : Geometry) (found : List LogRecord) (es : List Entry) (s new : State) (session : ℕ) (a : SessionTxn) (answer : Answer) →
-        IsSessionsState found es s →
+    ensures locks { (g : Geometry) (o : Opening) (found : List LogRecord) (es : List Entry) (s new : State) (session : ℕ) (a : SessionTxn) (answer : Answer) →
+        IsSessionsState o found es s →
         IsAmong a s.sessions.committing → a.session ≡ session → ResumeStep g s session (Done answer) new → All (λ h. h.txn ≢ a.txn) new.sessions.held }
-    ensures requests { (g : Geometry) (found : List LogRecord) (es : List Entry) (s new : State) (session : ℕ) (a : SessionTxn) (answer : Answer) →
-        IsSessionsState found es s →
+    ensures requests { (g : Geometry) (o : Opening) (found : List LogRecord) (es : List Entry) (s new : State) (session : ℕ) (a : SessionTxn) (answer : Answer) →
+        IsSessionsState o found es s →
         IsAmong a s.sessions.committing → a.session ≡ session → ResumeStep g s session (Done answer) new → All (λ r. r.txn ≢ a.txn) new.locks.requests }
-    ensures others { (g : Geometry) (found : List LogRecord) (es : List Entry) (s new : State) (session : ℕ) (a : SessionTxn) (answer : Answer) (u : ℕ) →
-        IsSessionsState found es s →
+    ensures others { (g : Geometry) (o : Opening) (found : List LogRecord) (es : List Entry) (s new : State) (session : ℕ) (a : SessionTxn) (answer : Answer) (u : ℕ) →
+        IsSessionsState o found es s →
         IsAmong a s.sessions.committing → a.session ≡ session → ResumeStep g s session (Done answer) new → u ≢ a.txn →
         KeepsLocks s.sessions.held new.sessions.held u }
 {}

@@ -1,11 +1,14 @@
 //! Steps leave no gap and no overlap, and can be made: each call comes to something, to one thing, and a call that waited goes on.
 ghost use Rattle.std.specs.Prelude.{◌≡◌, ◌≢◌, ◌⊎◌, ◌≤◌, ℕ, List, [], None, length, false};
+ghost use Rattle.std.specs.FinMap.{empty};
 ghost use Rattle.shore_types.specs.Layout.{HasPage, HasStore};
 ghost use Rattle.shore_types.specs.declared.layout.Geometry.{Geometry};
 ghost use Rattle.shore_types.specs.declared.layout.TheConstants.{MAX_RECORD_BYTES};
 ghost use Rattle.shore_types.specs.declared.locking.Granule.{Granule};
 ghost use Rattle.shore_model.specs.declared.calls.Call.{Call};
+ghost use Rattle.shore_model.specs.declared.calls.Call.TheVariants.{InDoubt};
 ghost use Rattle.shore_model.specs.declared.histories.Entry.{Entry};
+ghost use Rattle.shore_model.specs.declared.histories.Opening.{Opening};
 ghost use Rattle.shore_model.specs.declared.log_records.LogRecord.{LogRecord};
 ghost use Rattle.laws_lives.specs.Views.{IsAmong};
 ghost use Rattle.shore_model.specs.declared.step.Step.{Step};
@@ -23,23 +26,27 @@ ghost use Rattle.shore_locks.specs.Tables.{is_waiting};
 ghost use Rattle.laws_calls.specs.WorkedSessions.{told_to_two, two_sessions};
 ghost use Rattle.laws_calls.specs.Shapes.{ForItsTxn, LockWaitsMayAsk, rollback_of};
 ghost use Rattle.laws_calls.specs.Victims.{TellsVictim};
+ghost use Rattle.laws_lives.specs.Soundness.{opening_with};
 
-/// The refusals and their order leave no gap: each call that is served comes to an answer, a wait, or a refusal that comes of the state alone.
+/// The refusals and their order leave no gap: each call that is served comes to an answer, a wait, or a refusal that comes of the state alone; and so does
+/// a question who is in doubt.
 pub fn calls_come_to_something()
-    ensures { (g : Geometry) (found : List LogRecord) (es : List Entry) (s : State) (session : ℕ) (c : Call) → IsServed c
-        → IsStateAfter found es s → IsRoomyState s → (step : Step) × (new : State) × CallStep g s session c step new × ComesOfState step }
+    ensures served { (g : Geometry) (o : Opening) (found : List LogRecord) (es : List Entry) (s : State) (session : ℕ) (c : Call) → IsServed c
+        → IsStateAfter o found es s → IsRoomyState s → (step : Step) × (new : State) × CallStep g s session c step new × ComesOfState step }
+    ensures in_doubt { (g : Geometry) (o : Opening) (found : List LogRecord) (es : List Entry) (s : State) (session : ℕ) →
+        IsStateAfter o found es s → IsRoomyState s → (step : Step) × (new : State) × CallStep g s session InDoubt step new × ComesOfState step }
 {}
 
 /// So does each resume, of a commit, of a call that waits for a lock, or of a victim's.
 pub fn resumes_come_to_something()
-    ensures { (g : Geometry) (found : List LogRecord) (es : List Entry) (s : State) (session : ℕ) → IsStateAfter found es s → IsRoomyState s
+    ensures { (g : Geometry) (o : Opening) (found : List LogRecord) (es : List Entry) (s : State) (session : ℕ) → IsStateAfter o found es s → IsRoomyState s
         → (step : Step) × (new : State) × (ResumeStep g s session step new ⊎ TellsVictim s session step new) × ComesOfState step }
 {}
 
 /// A call that waited for a lock, and waits no more, goes on as if it were made now.
 pub fn resumed_calls_go_on_as_calls()
-    ensures { (g : Geometry) (found : List LogRecord) (es : List Entry) (s new : State) (session : ℕ) (w : Waiting) (at : Granule) (step : Step) →
-        IsStateAfter found es s →
+    ensures { (g : Geometry) (o : Opening) (found : List LogRecord) (es : List Entry) (s new : State) (session : ℕ) (w : Waiting) (at : Granule) (step : Step) →
+        IsStateAfter o found es s →
         IsAmong w s.waiting → w.session ≡ session → w.wait ≡ Lock at → MayAsk g w.call → s.failed ≡ false →
         ForItsTxn s session (λ a. is_waiting a.txn s.locks.requests ≡ false) → ResumeStep g s session step new →
         CallStep g (wait_refused s session) session w.call step new }
@@ -47,7 +54,7 @@ pub fn resumed_calls_go_on_as_calls()
 
 /// A call that waits for a lock was not to be refused before it asked: so it is after an open, and after any events.
 pub fn calls_that_wait_may_ask()
-    ensures open { (g : Geometry) (found : List LogRecord) (s : State) → IsOpened found s → LockWaitsMayAsk g s }
+    ensures open { (g : Geometry) (o : Opening) (found : List LogRecord) (s : State) → IsOpened o found s → LockWaitsMayAsk g s }
     ensures events { (g : Geometry) (s last : State) (events : List ManagerEvent) → EventsMove g s events last → LockWaitsMayAsk g s →
         LockWaitsMayAsk g last }
 {}
@@ -56,7 +63,7 @@ pub fn calls_that_wait_may_ask()
 /// of the first is answered.
 pub fn two_sessions_come_through()
     ensures { (g : Geometry) (stream_bytes : ℕ) (bytes : List ℕ) → HasStore g 0 → HasPage g first_page → length bytes ≤ MAX_RECORD_BYTES → 100000 ≤ stream_bytes →
-        (last : State) × (made : List Entry) × IsOpened [] (opened_empty stream_bytes)
+        (last : State) × (made : List Entry) × IsOpened (opening_with empty) [] (opened_empty stream_bytes)
         × MovesMaking g (opened_empty stream_bytes) (two_sessions bytes) last made × (made ≡ told_to_two bytes) }
 {}
 
@@ -64,16 +71,16 @@ pub fn two_sessions_come_through()
 /// that is interrupted. So no refusal can come before its turn. After a lack of memory the locks that were taken till then stay, and after an interrupted
 /// rollback what was put back till then.
 pub fn calls_come_to_one_thing()
-    ensures call_step { (g : Geometry) (found : List LogRecord) (es : List Entry) (s new later : State) (session : ℕ) (c : Call) (step other : Step) →
-        IsStateAfter found es s →
+    ensures call_step { (g : Geometry) (o : Opening) (found : List LogRecord) (es : List Entry) (s new later : State) (session : ℕ) (c : Call) (step other : Step) →
+        IsStateAfter o found es s →
         CallStep g s session c step new → CallStep g s session c other later → ComesOfState step → ComesOfState other → step ≡ other }
-    ensures call_state { (g : Geometry) (found : List LogRecord) (es : List Entry) (s new later : State) (session : ℕ) (c : Call) (step : Step) →
-        IsStateAfter found es s →
+    ensures call_state { (g : Geometry) (o : Opening) (found : List LogRecord) (es : List Entry) (s new later : State) (session : ℕ) (c : Call) (step : Step) →
+        IsStateAfter o found es s →
         step ≢ Refused Memory → ComesOfState step ⊎ (rollback_of c ≡ None) →
         CallStep g s session c step new → CallStep g s session c step later → new ≡ later }
-    ensures resume_step { (g : Geometry) (found : List LogRecord) (es : List Entry) (s new later : State) (session : ℕ) (step other : Step) →
-        IsStateAfter found es s →
+    ensures resume_step { (g : Geometry) (o : Opening) (found : List LogRecord) (es : List Entry) (s new later : State) (session : ℕ) (step other : Step) →
+        IsStateAfter o found es s →
         ResumeStep g s session step new → ResumeStep g s session other later → ComesOfState step → ComesOfState other → step ≡ other }
-    ensures resume_state { (g : Geometry) (found : List LogRecord) (es : List Entry) (s new later : State) (session : ℕ) (step : Step) → IsStateAfter found es s →
+    ensures resume_state { (g : Geometry) (o : Opening) (found : List LogRecord) (es : List Entry) (s new later : State) (session : ℕ) (step : Step) → IsStateAfter o found es s →
         step ≢ Refused Memory → ResumeStep g s session step new → ResumeStep g s session step later → new ≡ later }
 {}

@@ -12,6 +12,7 @@ ghost use Rattle.shore_types.specs.declared.locking.Granule.{Granule};
 ghost use Rattle.shore_model.specs.declared.calls.Call.{Call};
 ghost use Rattle.shore_model.specs.declared.calls.Call.TheVariants.{Commit, Begin, Delete, Get, GetForUpdate, Insert, TryLock, Update};
 ghost use Rattle.shore_model.specs.declared.histories.Entry.{Entry};
+ghost use Rattle.shore_model.specs.declared.histories.Opening.{Opening};
 ghost use Rattle.shore_model.specs.declared.log_records.LogRecord.{LogRecord};
 ghost use Rattle.laws_lives.specs.Sessions.{SessionTxn};
 ghost use Rattle.shore_model.specs.declared.step.Step.TheVariants.{Done, Refused};
@@ -20,7 +21,7 @@ ghost use Rattle.laws_calls.specs.CallSteps.{IsPlaceOf, ServesTxn, CallStep, beh
 ghost use Rattle.laws_calls.specs.LockedStates.{IsSessionsState};
 ghost use Rattle.laws_calls.specs.States.{DoesNotWait, IsOfSession, State, HasNoTxn, IsInTxn, MayBegin};
 ghost use Rattle.shore_types.specs.Locking.{level_of};
-ghost use Rattle.shore_types.specs.declared.faults.Fault.TheVariants.{AlreadyActive, BadMode, Busy, Failed, LockTableFull, LogFull, Memory, NeedForce, NoPage, NoRecord, NoStore, NoTransaction, StoreFull, TooLong, TooManyTransactions, WouldBlock};
+ghost use Rattle.shore_types.specs.declared.faults.Fault.TheVariants.{AlreadyActive, BadMode, Busy, Failed, IsPrepared, LockTableFull, LogFull, Memory, NeedForce, NoPage, NoRecord, NoStore, NoTransaction, StoreFull, TooLong, TooManyTransactions, WouldBlock};
 ghost use Rattle.shore_types.specs.declared.locking.Granule.TheVariants.{Record};
 ghost use Rattle.shore_types.specs.declared.locking.Mode.{Mode};
 ghost use Rattle.shore_types.specs.declared.locking.Mode.TheVariants.{EX};
@@ -39,6 +40,10 @@ pub fn refusals_of_sessions_have_their_causes()
         CallStep g s session c (Refused Busy) new → ⊥ }
     ensures none_though_in_one { (g : Geometry) (s new : State) (session : ℕ) (c : Call) →
         IsInTxn s session → CallStep g s session c (Refused NoTransaction) new → ⊥ }
+    ensures prepared_though_at_work { (g : Geometry) (s new : State) (session : ℕ) (c : Call) →
+        ForItsTxn s session (λ a. CallStep g s session c (Refused IsPrepared) new → ⊥) }
+    ensures prepared_though_free { (g : Geometry) (s new : State) (session : ℕ) (c : Call) →
+        HasNoTxn s session → CallStep g s session c (Refused IsPrepared) new → ⊥ }
     ensures failed_though_running { (g : Geometry) (s new : State) (session : ℕ) (c : Call) → s.failed ≡ false →
         CallStep g s session c (Refused Failed) new → ⊥ }
     ensures too_many_below { (g : Geometry) (s new : State) (session : ℕ) (c : Call) →
@@ -47,8 +52,8 @@ pub fn refusals_of_sessions_have_their_causes()
         HasNoTxn s session → CallStep g s session c (Refused AlreadyActive) new → ⊥ }
     ensures begin_full_though_room { (g : Geometry) (s new : State) (session : ℕ) → MayBegin s → CallStep g s session Begin (Refused LogFull) new → ⊥ }
     ensures commit_in_txn { (g : Geometry) (s new : State) (session : ℕ) (f : Fault) →
-        IsInTxn s session → ForItsTxn s session (λ a. a.undo.rolling ≡ None) →
-        f ≢ Memory → s.failed ≡ false → DoesNotWait s session → CallStep g s session Commit (Refused f) new → ⊥ }
+        ForItsTxn s session (λ b. ForItsTxn s session (λ a. a.undo.rolling ≡ None) →
+        f ≢ Memory → s.failed ≡ false → DoesNotWait s session → CallStep g s session Commit (Refused f) new → ⊥) }
     ensures too_long_in_no_txn { (g : Geometry) (s new : State) (session : ℕ) (c : Call) →
         HasNoTxn s session → CallStep g s session c (Refused TooLong) new → ⊥ }
     ensures commit_forces_none { (g : Geometry) (s new : State) (session n : ℕ) → CallStep g s session Commit (Refused (NeedForce n)) new → ⊥ }
@@ -127,11 +132,11 @@ pub fn refusals_leave_locks_alone()
     ensures no_other { (g : Geometry) (s new : State) (session : ℕ) (c : Call) (f : Fault) → f ≢ fault.Device →
         ((device : Device) (offset : ℕ) → f ≢ fault.Damaged device offset) →
         CallStep g s session c (Refused f) new → new.failed ≡ s.failed }
-    ensures log_full { (g : Geometry) (found : List LogRecord) (es : List Entry) (s new : State) (session store : ℕ) (bytes : List ℕ) (a : SessionTxn) →
-        IsSessionsState found es s →
+    ensures log_full { (g : Geometry) (o : Opening) (found : List LogRecord) (es : List Entry) (s new : State) (session store : ℕ) (bytes : List ℕ) (a : SessionTxn) →
+        IsSessionsState o found es s →
         IsOfSession s session a → CallStep g s session (Insert store bytes) (Refused LogFull) new →
         (id : Rid) × (¬ CanLog s id (Some bytes)) × HasLock new.sessions.held a.txn (Record id) EX }
-    ensures absence { (g : Geometry) (found : List LogRecord) (es : List Entry) (s new : State) (session : ℕ) (c : Call) (id : Rid) (lock : Asked) (a : SessionTxn) → IsSessionsState found es s →
+    ensures absence { (g : Geometry) (o : Opening) (found : List LogRecord) (es : List Entry) (s new : State) (session : ℕ) (c : Call) (id : Rid) (lock : Asked) (a : SessionTxn) → IsSessionsState o found es s →
         record_named_by c ≡ Some id → id.slot < MAX_SLOTS → lock_asked_by c ≡ Some lock → IsOfSession s session a →
         CallStep g s session c (Refused NoRecord) new → HasLock new.sessions.held a.txn lock.granule lock.mode }
 {}

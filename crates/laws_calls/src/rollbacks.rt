@@ -1,6 +1,6 @@
 //! Savepoints, ways back to them and aborts: that undo is never refused, and which steps of them must not come.
 ghost use Rattle.std.specs.Prelude.{◌≡◌, ◌≢◌, ◌⊎◌, ◌++◌, ◌<◌, ◌≤◌, ◌∷◌, ℕ, All, List, [], None, Some, length};
-ghost use Rattle.std.specs.FinMap.{get};
+ghost use Rattle.std.specs.FinMap.{empty, get};
 ghost use Rattle.shore_types.specs.Images.{Image};
 ghost use Rattle.shore_types.specs.Layout.{HasPage, HasStore};
 ghost use Rattle.shore_types.specs.declared.faults.Fault.{Fault};
@@ -11,9 +11,10 @@ ghost use Rattle.shore_types.specs.declared.layout.TheConstants.{MAX_RECORD_BYTE
 ghost use Rattle.shore_model.specs.declared.calls.Answer.{Answer};
 ghost use Rattle.shore_model.specs.declared.calls.Answer.TheVariants.{Aborted, Saved, WentBack};
 ghost use Rattle.shore_model.specs.declared.calls.Call.{Call};
-ghost use Rattle.shore_model.specs.declared.calls.Call.TheVariants.{Abort, BackTo, Begin, Savepoint};
+ghost use Rattle.shore_model.specs.declared.calls.Call.TheVariants.{Abort, BackTo, Savepoint};
 ghost use Rattle.shore_model.specs.declared.histories.Decision.TheVariants as decision;
 ghost use Rattle.shore_model.specs.declared.histories.Entry.{Entry};
+ghost use Rattle.shore_model.specs.declared.histories.Opening.{Opening};
 ghost use Rattle.shore_model.specs.Histories.{acknowledged};
 ghost use Rattle.shore_model.specs.declared.log_records.LogRecord.{LogRecord};
 ghost use Rattle.shore_model.specs.declared.log_records.Payload.TheVariants.{End};
@@ -28,7 +29,7 @@ ghost use Rattle.laws_lives.specs.Views.{IsAmong};
 ghost use Rattle.shore_model.specs.declared.step.Step.TheVariants.{Done, Refused, Waits};
 ghost use Rattle.shore_model.specs.declared.step.Wait.{Wait};
 ghost use Rattle.laws_calls.specs.CallHistories.{IsOpened};
-ghost use Rattle.laws_calls.specs.CallSteps.{CallStep, aborted};
+ghost use Rattle.laws_calls.specs.CallSteps.{CallStep, NeedsTxn, aborted};
 ghost use Rattle.laws_calls.specs.Events.{MovesMaking};
 ghost use Rattle.laws_calls.specs.LockedStates.{IsSessionsState};
 ghost use Rattle.laws_calls.specs.Rollbacks.{Interrupts, IsUnwound, put_back, rolled};
@@ -37,6 +38,7 @@ ghost use Rattle.laws_calls.specs.StateChanges.{after_refusal, answered};
 ghost use Rattle.laws_calls.specs.States.{HasNoTxn, IsOfSession, State};
 ghost use Rattle.laws_calls.specs.WorkedRollbacks.{abort_twice, back_and_commit};
 ghost use Rattle.laws_calls.specs.WorkedRun.{first_id, first_page, opened_empty};
+ghost use Rattle.laws_lives.specs.Soundness.{opening_with};
 
 /// Undo is never refused: neither an abort nor a way back for lack of room on a page or in the log, or by the lock table. An abort is refused by nothing of
 /// its transaction, only by what interrupts it.
@@ -63,7 +65,7 @@ pub fn refusals_of_rollbacks_have_their_causes()
 
 /// A transaction that rolls back only goes on with that: no other call of it is answered or waits, a commit neither, and no way back to another savepoint.
 pub fn rollbacks_go_on_alone()
-    ensures answered { (g : Geometry) (s new : State) (session : ℕ) (c : Call) (answer : Answer) → c ≢ Begin → rollback_of c ≡ None →
+    ensures answered { (g : Geometry) (s new : State) (session : ℕ) (c : Call) (answer : Answer) → NeedsTxn c → rollback_of c ≡ None →
         ForItsTxn s session (λ a. a.undo.rolling ≢ None) → CallStep g s session c (Done answer) new → ⊥ }
     ensures waits { (g : Geometry) (s new : State) (session : ℕ) (c : Call) (wait : Wait) →
         ForItsTxn s session (λ a. a.undo.rolling ≢ None) → CallStep g s session c (Waits wait) new → ⊥ }
@@ -111,7 +113,7 @@ pub fn interrupted_rollbacks_keep_their_steps()
 
 /// A rollback that was interrupted ends as one that was not: its abort leaves the same state, whatever was put back before, and so does its way back.
 pub fn interrupted_rollbacks_end_alike()
-    ensures abort { (found : List LogRecord) (es : List Entry) (s : State) (a : SessionTxn) (kept undone : List (Rid × Image)) → IsSessionsState found es s →
+    ensures abort { (o : Opening) (found : List LogRecord) (es : List Entry) (s : State) (a : SessionTxn) (kept undone : List (Rid × Image)) → IsSessionsState o found es s →
         IsAmong a s.sessions.active → undone ≢ [] → a.undo.images ≡ kept ++ undone →
         aborted (put_back s a kept undone Whole) (rolled a kept Whole) ≡ aborted s a }
     ensures back_to { (s : State) (a : SessionTxn) (kept undone : List (Rid × Image)) (n : ℕ) → a.undo.images ≡ kept ++ undone → n < length a.undo.marks →
@@ -121,15 +123,15 @@ pub fn interrupted_rollbacks_end_alike()
 
 /// An abort that is answered leaves none of its transaction's locks and requests, and others theirs; and its session is in no transaction.
 pub fn answered_aborts_give_locks_back()
-    ensures locks { (g : Geometry) (found : List LogRecord) (es : List Entry) (s new : State) (session : ℕ) (a : SessionTxn) (answer : Answer) →
-        IsSessionsState found es s → IsOfSession s session a → CallStep g s session Abort (Done answer) new → All (λ h. h.txn ≢ a.txn) new.sessions.held }
-    ensures requests { (g : Geometry) (found : List LogRecord) (es : List Entry) (s new : State) (session : ℕ) (a : SessionTxn) (answer : Answer) →
-        IsSessionsState found es s → IsOfSession s session a → CallStep g s session Abort (Done answer) new → All (λ r. r.txn ≢ a.txn) new.locks.requests }
-    ensures others { (g : Geometry) (found : List LogRecord) (es : List Entry) (s new : State) (session : ℕ) (a : SessionTxn) (answer : Answer) (u : ℕ) →
-        IsSessionsState found es s → IsOfSession s session a → CallStep g s session Abort (Done answer) new → u ≢ a.txn →
+    ensures locks { (g : Geometry) (o : Opening) (found : List LogRecord) (es : List Entry) (s new : State) (session : ℕ) (a : SessionTxn) (answer : Answer) →
+        IsSessionsState o found es s → IsOfSession s session a → CallStep g s session Abort (Done answer) new → All (λ h. h.txn ≢ a.txn) new.sessions.held }
+    ensures requests { (g : Geometry) (o : Opening) (found : List LogRecord) (es : List Entry) (s new : State) (session : ℕ) (a : SessionTxn) (answer : Answer) →
+        IsSessionsState o found es s → IsOfSession s session a → CallStep g s session Abort (Done answer) new → All (λ r. r.txn ≢ a.txn) new.locks.requests }
+    ensures others { (g : Geometry) (o : Opening) (found : List LogRecord) (es : List Entry) (s new : State) (session : ℕ) (a : SessionTxn) (answer : Answer) (u : ℕ) →
+        IsSessionsState o found es s → IsOfSession s session a → CallStep g s session Abort (Done answer) new → u ≢ a.txn →
         KeepsLocks s.sessions.held new.sessions.held u }
-    ensures ended { (g : Geometry) (found : List LogRecord) (es : List Entry) (s new : State) (session : ℕ) (answer : Answer) →
-        IsSessionsState found es s → CallStep g s session Abort (Done answer) new → HasNoTxn new session }
+    ensures ended { (g : Geometry) (o : Opening) (found : List LogRecord) (es : List Entry) (s new : State) (session : ℕ) (answer : Answer) →
+        IsSessionsState o found es s → CallStep g s session Abort (Done answer) new → HasNoTxn new session }
 {}
 
 /// The conditions can be met: over an empty volume a transaction inserts a record, sets a savepoint, updates the record, goes back and commits, and the record
@@ -137,7 +139,7 @@ pub fn answered_aborts_give_locks_back()
 pub fn rollback_to_a_savepoint()
     ensures { (g : Geometry) (stream_bytes : ℕ) (bytes more : List ℕ) → HasStore g 0 → HasPage g first_page → length bytes ≤ MAX_RECORD_BYTES →
         length more ≤ MAX_RECORD_BYTES → 200000 ≤ stream_bytes →
-        (last : State) × (made : List Entry) × IsOpened [] (opened_empty stream_bytes)
+        (last : State) × (made : List Entry) × IsOpened (opening_with empty) [] (opened_empty stream_bytes)
         × MovesMaking g (opened_empty stream_bytes) (back_and_commit bytes more) last made
         × (get last.sessions.records first_id ≡ Some bytes) × (acknowledged made ≡ decision.Commit 1 ∷ []) }
 {}
@@ -146,6 +148,6 @@ pub fn rollback_to_a_savepoint()
 pub fn an_interrupted_abort_comes_through()
     ensures { (g : Geometry) (stream_bytes : ℕ) (bytes : List ℕ) → HasStore g 0 → HasPage g first_page → length bytes ≤ MAX_RECORD_BYTES →
         100000 ≤ stream_bytes →
-        (last : State) × (made : List Entry) × IsOpened [] (opened_empty stream_bytes) × MovesMaking g (opened_empty stream_bytes) (abort_twice bytes) last made
+        (last : State) × (made : List Entry) × IsOpened (opening_with empty) [] (opened_empty stream_bytes) × MovesMaking g (opened_empty stream_bytes) (abort_twice bytes) last made
         × (get last.sessions.records first_id ≡ None) × (last.sessions.active ≡ []) × (last.locks.requests ≡ []) × (acknowledged made ≡ []) }
 {}

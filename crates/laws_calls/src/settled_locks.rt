@@ -5,6 +5,7 @@ ghost use Rattle.shore_model.specs.declared.calls.Answer.TheVariants.{Aborted, C
 ghost use Rattle.shore_model.specs.declared.calls.Call.{Call};
 ghost use Rattle.shore_model.specs.declared.calls.Call.TheVariants.{Abort};
 ghost use Rattle.shore_model.specs.declared.histories.Entry.{Entry};
+ghost use Rattle.shore_model.specs.declared.histories.Opening.{Opening};
 ghost use Rattle.shore_model.specs.declared.log_records.LogRecord.{LogRecord};
 ghost use Rattle.shore_model.specs.declared.step.Step.{Step};
 ghost use Rattle.shore_model.specs.declared.step.Step.TheVariants.{Done};
@@ -22,13 +23,13 @@ ghost use Rattle.laws_calls.specs.States.{IsOfSession, State, Waiting};
 /// on the way: its own grow along the path to its lock alone, those of others are only granted, but those of victims, which wait no more, and nobody's become
 /// weaker. So it is by a resume, for the call that waited; or a commit is answered, and all of its transaction's go.
 pub fn settled_locks_change_as_asked()
-    ensures call { (g : Geometry) (found : List LogRecord) (es : List Entry) (s new : State) (session : ℕ) (c : Call) (step : Step) → IsStateAfter found es s →
+    ensures call { (g : Geometry) (o : Opening) (found : List LogRecord) (es : List Entry) (s new : State) (session : ℕ) (c : Call) (step : Step) → IsStateAfter o found es s →
         SettledCall g s session c step new →
         (new.locks.requests ≡ s.locks.requests)
         ⊎ (((c ≡ Abort) × (step ≡ Done Aborted) × ((a : SessionTxn) × IsOfSession s session a × (new.locks.requests ≡ released a.txn s.locks.requests)))
         ⊎ ((a : SessionTxn) × IsOfSession s session a
         × ((between : List Interlude) × ((between ≡ []) ⊎ ((x : State) × IsMidway g s session c between x)) × ChangesLocks s.locks.requests a.txn c (cycles_among between) new.locks.requests))) }
-    ensures resume { (g : Geometry) (found : List LogRecord) (es : List Entry) (s new : State) (session : ℕ) (step : Step) → IsStateAfter found es s →
+    ensures resume { (g : Geometry) (o : Opening) (found : List LogRecord) (es : List Entry) (s new : State) (session : ℕ) (step : Step) → IsStateAfter o found es s →
         AllWaitThere s → SettledResume g s session step new →
         (new.locks.requests ≡ s.locks.requests)
         ⊎ (((step ≡ Done Committed) × ((a : SessionTxn) × IsAmong a s.sessions.committing × (a.session ≡ session) × (new.locks.requests ≡ released a.txn s.locks.requests)))

@@ -6,6 +6,7 @@ ghost use Rattle.shore_types.specs.declared.faults.Fault.TheVariants as fault;
 ghost use Rattle.shore_types.specs.declared.layout.Geometry.{Geometry};
 ghost use Rattle.shore_model.specs.declared.calls.Call.{Call};
 ghost use Rattle.shore_model.specs.declared.histories.Entry.{Entry};
+ghost use Rattle.shore_model.specs.declared.histories.Opening.{Opening};
 ghost use Rattle.shore_model.specs.declared.log_records.LogRecord.{LogRecord};
 ghost use Rattle.shore_model.specs.declared.step.Step.TheVariants.{Refused};
 ghost use Rattle.laws_lives.specs.Views.{IsAmong};
@@ -24,10 +25,10 @@ ghost use Rattle.laws_calls.specs.Victims.{TellsVictim};
 /// in which it was made, or the one that its victims left as it went on. So has a refused resume, for the call that waited, unless a device had failed. That its
 /// transaction is a victim is told below; `Memory` has its cause outside of the state.
 pub fn settled_refusals_are_earned()
-    ensures call { (g : Geometry) (found : List LogRecord) (es : List Entry) (s new : State) (session : ℕ) (c : Call) (f : Fault) → IsStateAfter found es s →
+    ensures call { (g : Geometry) (o : Opening) (found : List LogRecord) (es : List Entry) (s new : State) (session : ℕ) (c : Call) (f : Fault) → IsStateAfter o found es s →
         ((cycle : List ℕ) → f ≢ fault.Deadlock cycle) → f ≢ fault.Memory → SettledCall g s session c (Refused f) new →
         (last : State) × AsksIn g s session c last × CallStep g last session c (Refused f) new × EarnsRefusal g last session c f }
-    ensures resume { (g : Geometry) (found : List LogRecord) (es : List Entry) (s new : State) (session : ℕ) (f : Fault) → IsStateAfter found es s → LockWaitsMayAsk g s →
+    ensures resume { (g : Geometry) (o : Opening) (found : List LogRecord) (es : List Entry) (s new : State) (session : ℕ) (f : Fault) → IsStateAfter o found es s → LockWaitsMayAsk g s →
         ((cycle : List ℕ) → f ≢ fault.Deadlock cycle) → f ≢ fault.Memory → SettledResume g s session (Refused f) new →
         (w : Waiting) × IsAmong w s.waiting × (w.session ≡ session) × ((IsTrue s.failed × (f ≡ fault.Failed))
         ⊎ ((last : State) × AsksAgainIn g s session last × CallStep g last session w.call (Refused f) new × EarnsRefusal g last session w.call f)) }
@@ -36,11 +37,11 @@ pub fn settled_refusals_are_earned()
 /// A call that is refused as a victim's is told a cycle of waits that stood in the midst of that very call, which passed its transaction, the greatest of it. A
 /// resume is told one that stood in its midst, or that its session was to be told already.
 pub fn told_cycles_stood()
-    ensures call { (g : Geometry) (found : List LogRecord) (es : List Entry) (s new : State) (session : ℕ) (c : Call) (cycle : List ℕ) → IsStateAfter found es s →
+    ensures call { (g : Geometry) (o : Opening) (found : List LogRecord) (es : List Entry) (s new : State) (session : ℕ) (c : Call) (cycle : List ℕ) → IsStateAfter o found es s →
         SettledCall g s session c (Refused (fault.Deadlock cycle)) new →
         (between : List Interlude) × (x : State) × IsMidway g s session c between x × IsItsCycle x session cycle
         × ((later : List Interlude) × (from : State) × Intervene g session x later from × TellsVictim from session (Refused (fault.Deadlock cycle)) new) }
-    ensures resume { (g : Geometry) (found : List LogRecord) (es : List Entry) (s new : State) (session : ℕ) (cycle : List ℕ) → IsStateAfter found es s → LockWaitsMayAsk g s →
+    ensures resume { (g : Geometry) (o : Opening) (found : List LogRecord) (es : List Entry) (s new : State) (session : ℕ) (cycle : List ℕ) → IsStateAfter o found es s → LockWaitsMayAsk g s →
         SettledResume g s session (Refused (fault.Deadlock cycle)) new →
         ((w : Waiting) × IsAmong w s.waiting × (w.session ≡ session) × (w.cycle ≡ Some cycle))
         ⊎ ((between : List Interlude) × (x : State) × Intervene g session s between x × IsItsCycle x session cycle
@@ -50,7 +51,7 @@ pub fn told_cycles_stood()
 /// A cycle that a session is to be told, after any events from an open on, stood within one of them: it was a cycle of waits then, of which the session's
 /// transaction was the greatest. So a `Deadlock` that is told later by a resume once stood.
 pub fn cycles_to_be_told_stood()
-    ensures { (g : Geometry) (found : List LogRecord) (first last : State) (events : List ManagerEvent) (w : Waiting) (cycle : List ℕ) → IsOpened found first →
+    ensures { (g : Geometry) (o : Opening) (found : List LogRecord) (first last : State) (events : List ManagerEvent) (w : Waiting) (cycle : List ℕ) → IsOpened o found first →
         EventsMove g first events last → IsAmong w last.waiting → w.cycle ≡ Some cycle → StoodAmong g first events last w.session cycle }
 {}
 

@@ -5,6 +5,7 @@ ghost use Rattle.shore_types.specs.declared.layout.Geometry.{Geometry};
 ghost use Rattle.shore_model.specs.declared.calls.Call.{Call};
 ghost use Rattle.shore_model.specs.declared.calls.Call.TheVariants.{Abort};
 ghost use Rattle.shore_model.specs.declared.histories.Entry.{Entry};
+ghost use Rattle.shore_model.specs.declared.histories.Opening.{Opening};
 ghost use Rattle.shore_model.specs.declared.log_records.LogRecord.{LogRecord};
 ghost use Rattle.shore_model.specs.declared.rollbacks.Rollback.{Rollback};
 ghost use Rattle.shore_model.specs.declared.step.Step.TheVariants.{Refused};
@@ -20,5 +21,5 @@ pub fn settled_undo_is_never_refused()
     ensures room { (g : Geometry) (s new : State) (session : ℕ) (c : Call) (r : Rollback) (f : Fault) →
         rollback_of c ≡ Some r → IsLackOfRoom f → SettledCall g s session c (Refused f) new → ⊥ }
     ensures abort { (g : Geometry) (s new : State) (session : ℕ) (f : Fault) → SettledCall g s session Abort (Refused f) new → StopsAborts f }
-    ensures never_waits { (found : List LogRecord) (es : List Entry) (s : State) (w : Waiting) → IsStateAfter found es s → IsAmong w s.waiting → rollback_of w.call ≡ None }
+    ensures never_waits { (o : Opening) (found : List LogRecord) (es : List Entry) (s : State) (w : Waiting) → IsStateAfter o found es s → IsAmong w s.waiting → rollback_of w.call ≡ None }
 {}

@@ -8,6 +8,7 @@ ghost use Rattle.shore_model.specs.declared.calls.Answer.{Answer};
 ghost use Rattle.shore_model.specs.declared.calls.Call.{Call};
 ghost use Rattle.shore_model.specs.declared.calls.Call.TheVariants.{Commit, Begin, TryLock};
 ghost use Rattle.shore_model.specs.declared.histories.Entry.{Entry};
+ghost use Rattle.shore_model.specs.declared.histories.Opening.{Opening};
 ghost use Rattle.shore_model.specs.declared.log_records.LogRecord.{LogRecord};
 ghost use Rattle.laws_lives.specs.Sessions.{SessionTxn};
 ghost use Rattle.laws_lives.specs.Views.{IsAmong};
@@ -74,7 +75,7 @@ pub fn wrong_resumes_do_not_come()
         ForItsTxn s session (λ a. is_waiting a.txn s.locks.requests ≡ true) → ResumeStep g s session (Refused f) new → ⊥ }
     ensures changed_though_waiting { (g : Geometry) (s new : State) (session : ℕ) (wait : Wait) → new ≢ s → WaitsOnLocks s session →
         ForItsTxn s session (λ a. is_waiting a.txn s.locks.requests ≡ true) → ResumeStep g s session (Waits wait) new → ⊥ }
-    ensures waits_though_granted { (g : Geometry) (found : List LogRecord) (es : List Entry) (s : State) (session : ℕ) (wait : Wait) → IsSessionsState found es s →
+    ensures waits_though_granted { (g : Geometry) (o : Opening) (found : List LogRecord) (es : List Entry) (s : State) (session : ℕ) (wait : Wait) → IsSessionsState o found es s →
         WaitsOnLocks s session → ForItsTxn s session (λ a. is_waiting a.txn s.locks.requests ≡ false) → ResumeStep g s session (Waits wait) s → ⊥ }
 {}
 
@@ -86,10 +87,10 @@ pub fn resumed_sessions_wait_no_more()
 
 /// A transaction whose commit waits is under way no more, and once it is answered its session is in none.
 pub fn commits_end_transactions()
-    ensures waits { (g : Geometry) (found : List LogRecord) (es : List Entry) (s new : State) (session : ℕ) (wait : Wait) (a : SessionTxn) →
-        IsSessionsState found es s → CallStep g s session Commit (Waits wait) new → IsOfSession new session a → ⊥ }
-    ensures answered { (g : Geometry) (found : List LogRecord) (es : List Entry) (s new : State) (session : ℕ) (a : SessionTxn) (answer : Answer) →
-        IsSessionsState found es s → IsAmong a s.sessions.committing → a.session ≡ session → ResumeStep g s session (Done answer) new →
+    ensures waits { (g : Geometry) (o : Opening) (found : List LogRecord) (es : List Entry) (s new : State) (session : ℕ) (wait : Wait) (a : SessionTxn) →
+        IsSessionsState o found es s → CallStep g s session Commit (Waits wait) new → IsOfSession new session a → ⊥ }
+    ensures answered { (g : Geometry) (o : Opening) (found : List LogRecord) (es : List Entry) (s new : State) (session : ℕ) (a : SessionTxn) (answer : Answer) →
+        IsSessionsState o found es s → IsAmong a s.sessions.committing → a.session ≡ session → ResumeStep g s session (Done answer) new →
         HasNoTxn new session }
 {}
 
@@ -97,8 +98,8 @@ pub fn commits_end_transactions()
 pub fn wrong_forces_and_opens_do_not_come()
     ensures back { (g : Geometry) (s new : State) (n : ℕ) → n < s.durable → EventMoves g s (Forced n) new → ⊥ }
     ensures beyond { (g : Geometry) (s new : State) (n : ℕ) → length s.log < n → EventMoves g s (Forced n) new → ⊥ }
-    ensures opened_undurable { (found : List LogRecord) (s : State) → s.durable ≢ length found → IsOpened found s → ⊥ }
-    ensures opened_too_high { (found : List LogRecord) (s : State) (n : ℕ) →
-        0 < n → AllByRecursion (λ r. r.txn < n) found → n < s.sessions.next_txn → IsOpened found s → ⊥ }
-    ensures opened_too_low { (r : LogRecord) (found : List LogRecord) (s : State) → s.sessions.next_txn ≤ r.txn → IsOpened (r ∷ found) s → ⊥ }
+    ensures opened_undurable { (o : Opening) (found : List LogRecord) (s : State) → s.durable ≢ length found → IsOpened o found s → ⊥ }
+    ensures opened_too_high { (o : Opening) (found : List LogRecord) (s : State) (n : ℕ) →
+        0 < n → AllByRecursion (λ r. r.txn < n) found → n < s.sessions.next_txn → IsOpened o found s → ⊥ }
+    ensures opened_too_low { (r : LogRecord) (o : Opening) (found : List LogRecord) (s : State) → s.sessions.next_txn ≤ r.txn → IsOpened o (r ∷ found) s → ⊥ }
 {}

@@ -1,50 +1,44 @@
 -- Which decisions are acknowledged, and why each of them is in what is durable.
-use Rattle.std.proofs.Common.{◌≡◌, ◌⊎◌, inl, inr, ⊎_elim, ◌+◌, ◌≤◌, ◌<◌, ℕ, zero, suc, List, [], ◌∷◌, ◌++◌, Bool, true, false, cond, map, Option, Some, None, refl, sym, ap, subst, ◌∙◌, drop, take, length, arith, append-nil, take-append-drop}
-use Rattle.std.specs.Prelude.{Contains, is_ok}
-use Rattle.std.specs.List.{AllByRecursion, cons_option}
+use Rattle.std.proofs.Common.{◌≡◌, ◌≢◌, ◌⊎◌, inl, inr, ⊎_elim, ◌+◌, ◌≤◌, ◌<◌, ℕ, zero, suc, List, [], ◌∷◌, ◌++◌, Bool, true, false, cond, map, Option, Some, None, refl, sym, ap, subst, ◌∙◌, drop, take, length, arith, append-nil, take-append-drop}
+use Rattle.std.specs.Prelude.{◌==◌, ◌&&◌, ◌||◌, Contains, IfSome, is_ok, not}
+use Rattle.std.specs.List.{AllByRecursion, cons_option, filter_map}
+use Rattle.std.proofs.lemmas.Bool.{eq-eqb, true≢false}
 use Rattle.std.proofs.lemmas.List.{take-append-le, take-take}
 use Rattle.std.proofs.lemmas.List.Elements.{filter_map-append}
 use Rattle.shore_model.specs.declared.calls.Call.{Call}
 use Rattle.shore_model.specs.declared.calls.Call.TheVariants as call
+use Rattle.shore_model.specs.declared.calls.Outcome.{Outcome}
+use Rattle.shore_model.specs.declared.calls.Outcome.TheVariants as outcome
 use Rattle.shore_model.specs.declared.histories.Decision.{Decision}
 use Rattle.shore_model.specs.declared.histories.Decision.TheVariants as decision
 use Rattle.shore_model.specs.declared.histories.Entry.{Entry}
 use Rattle.shore_model.specs.declared.log_records.LogRecord.{LogRecord}
+use Rattle.shore_model.specs.declared.log_records.Payload.{Payload}
+use Rattle.shore_model.specs.declared.log_records.Payload.TheVariants.{Commit, Prepare, RollbackDecided}
 use Rattle.shore_model.specs.Histories.{acknowledged, acknowledged_by, decision_asked_by}
-use Rattle.shore_model.specs.Logs.{commit_of, committed_in, is_commit}
-use Rattle.shore_model.specs.Records.{Records}
-use Rattle.shore_model.proofs.RecordPaths.{head_contained, rest_contained}
-use Rattle.laws_lives.proofs.Lists.{recursion-push}
+use Rattle.shore_model.specs.Logs.{has, is_commit, is_prepare, is_rollback}
+use Rattle.laws_lives.proofs.Booleans.{or_right}
+use Rattle.laws_lives.proofs.DoubtRecords.{among_filter, none_of_it}
+use Rattle.laws_lives.proofs.DoubtSteps.{still_without}
+use Rattle.laws_lives.proofs.Lists.{among_append, among_map, recursion-push, recursion-weaker}
 use Rattle.laws_lives.proofs.LogPrefixes.{decisions_in-take}
-use Rattle.laws_lives.proofs.Members.{among_with, among_without}
-use Rattle.laws_lives.specs.LogPrefixes.{decisions_in}
-use Rattle.laws_lives.specs.SessionSteps.{AnswerAbort, AnswerCommit, AppendCommit, BeginTxn, Doom, GiveReply, IsInnerCall, MoveLocks, PutBack, RefuseCall, SessionEvent, StepsTo, entries_by}
-use Rattle.laws_lives.specs.Sessions.{IsCurrent, SessionTxn, Sessions, with_undo}
-use Rattle.laws_lives.specs.UndoLists.{UndoList}
+use Rattle.laws_lives.proofs.Members.{among_with, among_without, txn_among, txn_without, txns_with}
+use Rattle.laws_lives.proofs.Steps.{among_push, answered_txns, prepared_among, still_prepared, still_resolved, txns_push, was_prepared}
+use Rattle.laws_lives.specs.LogPrefixes.{IsDecidedIn, decision_asked, decision_by, decision_in, decisions_in}
+use Rattle.laws_lives.specs.ManagerSteps.{AnswersDurable, decision_resolved}
+use Rattle.laws_lives.specs.Recovery.{RecoveryState}
+use Rattle.laws_lives.specs.SessionSteps.{AnswerAbort, AnswerCommit, AnswerInDoubt, AnswerPrepare, AnswerResolve, AppendCommit, AppendPrepare, AppendResolve, AppendRollback, BeginTxn, Doom, EndRollback, GiveReply, IsInnerCall, MoveLocks, PutBack, RefuseCall, SessionEvent, StepsTo, entries_by}
+use Rattle.laws_lives.specs.Sessions.{IsFree, PreparedTxn, ResolvedTxn, SessionTxn, Sessions, in_doubt_of, resolved_of, txns_of, with_answered, without_prepared}
+use Rattle.laws_lives.specs.Soundness.{decided_txn}
 use Rattle.laws_lives.specs.Views.{IsAmong}
 
 -- ---- elements of lists
-
-pub among_contained : {A : Type 0} (x : A) (xs : List A) → IsAmong x xs → Contains xs x
-among_contained x [] h = absurd h
-among_contained x (y ∷ xs) (inl e) = subst (λ z. Contains (z ∷ xs) x) (sym e) (head_contained x xs)
-among_contained x (y ∷ xs) (inr later) = rest_contained y xs x (among_contained x xs later)
 
 among_take : {A : Type 0} (x : A) (n : ℕ) (xs : List A) → IsAmong x (take n xs) → IsAmong x xs
 among_take x zero xs h = absurd h
 among_take x (suc n) [] h = absurd h
 among_take x (suc n) (y ∷ xs) (inl e) = inl e
 among_take x (suc n) (y ∷ xs) (inr later) = inr (among_take x n xs later)
-
-among_append : {A : Type 0} (x : A) (xs ys : List A) → IsAmong x (xs ++ ys) → IsAmong x xs ⊎ IsAmong x ys
-among_append x [] ys h = inr h
-among_append x (y ∷ xs) ys (inl e) = inl (inl e)
-among_append x (y ∷ xs) ys (inr later) = ⊎_elim (λ h. inl (inr h)) (λ h. inr h) (among_append x xs ys later)
-
-among_map : {A B : Type 0} (f : A → B) (x : A) (xs : List A) → IsAmong x xs → IsAmong (f x) (map f xs)
-among_map f x [] h = absurd h
-among_map f x (y ∷ xs) (inl e) = inl (ap f e)
-among_map f x (y ∷ xs) (inr later) = inr (among_map f x xs later)
 
 -- a decision in a prefix is in every longer prefix, also if the log goes on
 pub still_decided : (base n m : ℕ) (log more : List LogRecord) (d : Decision) → n ≤ m → n ≤ length log → IsAmong d (decisions_in base (take n log))
@@ -57,72 +51,238 @@ still_decided base n m log more d le within h =
 
 -- ---- the numbers that this manager gives
 
--- what the first restart found has numbers below `floor`, and what is current now has others
+-- The transaction has no decision among the records that the first restart found, but a Prepare.
+pub record IsUnresolved (base : ℕ) (log : List LogRecord) (t : ℕ) : Type 0 where
+  pub uncommitted : has is_commit t (take base log) ≡ false
+  pub not_rolled : has is_rollback t (take base log) ≡ false
+
+-- what the first restart found has numbers below `floor`, and what is current now has others, but for those that were found in doubt
 pub record NumbersAreNew (base floor : ℕ) (s : Sessions) (log : List LogRecord) : Type 0 where
   pub old : AllByRecursion (λ r. r.txn < floor) (take base log)
   pub next : floor ≤ s.next_txn
-  pub each : (a : SessionTxn) → IsCurrent s a → floor ≤ a.txn
+  pub each : (t : ℕ) → IsAmong t (txns_of s.active) → IsFree s t → floor ≤ t
+  pub committing : (a : SessionTxn) → IsAmong a s.committing → floor ≤ a.txn
+  pub preparing : (p : PreparedTxn) → IsAmong p s.prepared → p.answered ≡ false → floor ≤ p.txn
+  pub prepared : (t : ℕ) → IsAmong t (in_doubt_of s) → IsUnresolved base log t
+  pub resolved : (t : ℕ) → IsAmong t (resolved_of s) → IsUnresolved base log t
+
+pub still_preparing : (t : ℕ) (p : PreparedTxn) (ps : List PreparedTxn) → IsAmong p (with_answered t ps) → p.answered ≡ false → IsAmong p ps
+still_preparing t p [] h e = h
+still_preparing t p (q ∷ ps) h e = (elim (q.txn == t) as (λ b. IsAmong p (cond b (record { txn = q.txn; global = q.global; answered = true }) q ∷ with_answered t ps) → IsAmong p (q ∷ ps)) [
+  | true ↦ λ h. ⊎_elim (λ same. absurd (true≢false (ap (λ (p : PreparedTxn). p.answered) same ∙ e))) (λ later. inr (still_preparing t p ps later e)) h
+  | false ↦ λ h. ⊎_elim (λ same. inl same) (λ later. inr (still_preparing t p ps later e)) h
+]) h
+
+pub among_kept : (t : ℕ) (p : PreparedTxn) (ps : List PreparedTxn) → IsAmong p (without_prepared t ps) → IsAmong p ps
+among_kept t p ps h = (among_filter (λ p. not (t == p.txn)) p ps h).0
 
 module _ (base floor : ℕ) (old : Sessions) (log : List LogRecord) (k : NumbersAreNew base floor old log) where
-  numbers_in : (new : Sessions) → floor ≤ new.next_txn → ((a : SessionTxn) → IsCurrent new a → floor ≤ a.txn) → NumbersAreNew base floor new log
-  numbers_in new next each = record { old = k.old; next = next; each = each }
+  -- a number of this manager's is in no record that was found
+  pub new_unresolved : (t : ℕ) → floor ≤ t → IsUnresolved base log t
+  new_unresolved t le =
+      let none = recursion-weaker (λ r. r.txn < floor) (λ r. r.txn ≢ t) (λ r less same. omega arith) (take base log) k.old in
+      record { uncommitted = none_of_it is_commit t (take base log) none; not_rolled = none_of_it is_rollback t (take base log) none }
 
-  -- another undo list of one of them changes no number
-  listed_anew : (R : Records) (t : ℕ) (undo : UndoList) → NumbersAreNew base floor record old { records = R; active = with_undo t undo old.active } log
-  listed_anew R t undo = numbers_in _ k.next (λ b. ⊎_elim
-      (λ active. let x = among_with t undo b old.active active in subst (λ n. floor ≤ n) (sym x.txn) (k.each x.was (inl x.there)))
-      (λ committing. k.each b (inr committing)))
+  -- the same but for transactions under way
+  listed_anew : (new : Sessions) → new.next_txn ≡ old.next_txn → new.committing ≡ old.committing → new.prepared ≡ old.prepared → new.resolving ≡ old.resolving
+      → ((t : ℕ) → IsAmong t (txns_of new.active) → IsAmong t (txns_of old.active)) → NumbersAreNew base floor new log
+  listed_anew new next committing prepared resolving fewer = record {
+    old = k.old;
+    next = subst (λ n. floor ≤ n) (sym next) k.next;
+    each = λ t b is. k.each t (fewer t b)
+        (λ h. is.0 (subst (λ ps. IsAmong t (map (λ p. p.txn) ps)) (sym prepared) h), λ h. is.1 (subst (λ rs. IsAmong t (map (λ r. r.txn) rs)) (sym resolving) h));
+    committing = λ a m. k.committing a (subst (IsAmong a) committing m);
+    preparing = λ p m e. k.preparing p (subst (IsAmong p) prepared m) e;
+    prepared = λ t b. k.prepared t (subst (λ ps. IsAmong t (map (λ p. p.txn) ps)) prepared b);
+    resolved = λ t b. k.resolved t (subst (λ rs. IsAmong t (map (λ r. r.txn) rs)) resolving b);
+  }
 
   pub numbers_stay_new : (new : Sessions) (e : SessionEvent) → StepsTo old e new → NumbersAreNew base floor new log
-  numbers_stay_new new (MoveLocks held) steps = subst (λ s. NumbersAreNew base floor s log) (sym steps.3) (numbers_in _ k.next k.each)
+  numbers_stay_new new (MoveLocks held) steps = subst (λ s. NumbersAreNew base floor s log) (sym steps.3) (listed_anew _ refl refl refl refl (λ t b. b))
   numbers_stay_new new (BeginTxn session) steps =
       let next = k.next in
-      let more : floor ≤ old.next_txn + 1 = omega arith in
-      subst (λ s. NumbersAreNew base floor s log) (sym steps.1)
-      (numbers_in _ more (λ a. ⊎_elim
-      (λ active. ⊎_elim (λ e. subst (λ (x : SessionTxn). floor ≤ x.txn) e k.next) (λ later. k.each a (inl later)) active)
-      (λ committing. k.each a (inr committing))))
-  numbers_stay_new new (GiveReply a c reply) steps = subst (λ s. NumbersAreNew base floor s log) (sym steps.4) (listed_anew _ a.txn _)
+      subst (λ s. NumbersAreNew base floor s log) (sym steps.1) (record {
+        old = k.old;
+        next = omega arith;
+        each = λ t b is. ⊎_elim (λ e. subst (λ t. floor ≤ t) e k.next) (λ later. k.each t later is) b;
+        committing = k.committing;
+        preparing = k.preparing;
+        prepared = k.prepared;
+        resolved = k.resolved;
+      })
+  numbers_stay_new new (GiveReply a c reply) steps =
+      subst (λ s. NumbersAreNew base floor s log) (sym steps.4) (listed_anew _ refl refl refl refl (λ t b. subst (IsAmong t) (txns_with a.txn _ old.active) b))
   numbers_stay_new new (AppendCommit a) steps =
-      subst (λ s. NumbersAreNew base floor s log) (sym steps.2)
-      (numbers_in _ k.next (λ b. ⊎_elim
-      (λ active. k.each b (inl (among_without a.txn b old.active active).0))
-      (λ committing. ⊎_elim (λ e. subst (λ (x : SessionTxn). floor ≤ x.txn) e (k.each a (inl steps.0))) (λ later. k.each b (inr later)) committing)))
-  numbers_stay_new new (PutBack a kept e r) steps = subst (λ s. NumbersAreNew base floor s log) (sym steps.4) (listed_anew _ a.txn _)
-  numbers_stay_new new (Doom a) steps = subst (λ s. NumbersAreNew base floor s log) (sym steps.1) (listed_anew _ a.txn _)
+      subst (λ s. NumbersAreNew base floor s log) (sym steps.2) (record {
+        old = k.old;
+        next = k.next;
+        each = λ t b is. k.each t (txn_without a.txn t old.active b).0 is;
+        committing = λ b m. ⊎_elim (λ e. subst (λ (x : SessionTxn). floor ≤ x.txn) e (k.each a.txn (txn_among a old.active steps.0.0) steps.0.2)) (λ later. k.committing b later) m;
+        preparing = k.preparing;
+        prepared = k.prepared;
+        resolved = k.resolved;
+      })
+  numbers_stay_new new (PutBack a kept e r) steps =
+      subst (λ s. NumbersAreNew base floor s log) (sym steps.4) (listed_anew _ refl refl refl refl (λ t b. subst (IsAmong t) (txns_with a.txn _ old.active) b))
+  numbers_stay_new new (Doom a) steps =
+      subst (λ s. NumbersAreNew base floor s log) (sym steps.1) (listed_anew _ refl refl refl refl (λ t b. subst (IsAmong t) (txns_with a.txn _ old.active) b))
   numbers_stay_new new (AnswerAbort a) steps =
-      subst (λ s. NumbersAreNew base floor s log) (sym steps.1)
-      (numbers_in _ k.next (λ b. ⊎_elim (λ active. k.each b (inl (among_without a.txn b old.active active).0)) (λ committing. k.each b (inr committing))))
+      subst (λ s. NumbersAreNew base floor s log) (sym steps.1) (listed_anew _ refl refl refl refl (λ t b. (txn_without a.txn t old.active b).0))
   numbers_stay_new new (AnswerCommit a) steps =
-      subst (λ s. NumbersAreNew base floor s log) (sym steps.1)
-      (numbers_in _ k.next (λ b. ⊎_elim (λ active. k.each b (inl active)) (λ committing. k.each b (inr (among_without a.txn b old.committing committing).0))))
-  numbers_stay_new new (RefuseCall session t c fault) steps = subst (λ s. NumbersAreNew base floor s log) (sym steps.2) k
+      subst (λ s. NumbersAreNew base floor s log) (sym steps.1) (record {
+        old = k.old;
+        next = k.next;
+        each = k.each;
+        committing = λ b m. k.committing b (among_without a.txn b old.committing m).0;
+        preparing = k.preparing;
+        prepared = k.prepared;
+        resolved = k.resolved;
+      })
+  numbers_stay_new new (RefuseCall session t c fault) steps = subst (λ s. NumbersAreNew base floor s log) (sym steps.2) (listed_anew _ refl refl refl refl (λ t b. b))
+  numbers_stay_new new (AppendPrepare a global granules) steps =
+      let one : PreparedTxn = record { txn = a.txn; global = global; answered = false } in
+      let own = k.each a.txn (txn_among a old.active steps.0.0) steps.0.2 in
+      let was : (t : ℕ) → IsAmong t (map (λ p. p.txn) (old.prepared ++ one ∷ [])) → IsAmong t (in_doubt_of old) ⊎ (a.txn ≡ t) =
+      λ t b. ⊎_elim (λ before. inl before) (λ now. ⊎_elim (λ e. inr e) (λ no. absurd no) now) (among_append t (in_doubt_of old) (a.txn ∷ []) (subst (IsAmong t) (txns_push one old.prepared) b)) in
+      subst (λ s. NumbersAreNew base floor s log) (sym steps.4) (record {
+        old = k.old;
+        next = k.next;
+        each = λ t b is. k.each t b (λ h. is.0 (subst (IsAmong t) (sym (txns_push one old.prepared)) (among_push t a.txn (in_doubt_of old) h)), is.1);
+        committing = k.committing;
+        preparing = λ p m e. ⊎_elim (λ before. k.preparing p before e) (λ now. ⊎_elim (λ same. subst (λ (p : PreparedTxn). floor ≤ p.txn) same own) (λ no. absurd no) now) (among_append p old.prepared (one ∷ []) m);
+        prepared = λ t b. ⊎_elim (λ before. k.prepared t before) (λ e. subst (IsUnresolved base log) e (new_unresolved a.txn own)) (was t b);
+        resolved = k.resolved;
+      })
+  numbers_stay_new new (AnswerPrepare session t global) steps =
+      let same = answered_txns t old.prepared in
+      subst (λ s. NumbersAreNew base floor s log) (sym steps.2) (record {
+        old = k.old;
+        next = k.next;
+        each = λ u b is. k.each u b (λ h. is.0 (subst (IsAmong u) (sym same) h), is.1);
+        committing = k.committing;
+        preparing = λ p m e. k.preparing p (still_preparing t p old.prepared m e) e;
+        prepared = λ u b. k.prepared u (subst (IsAmong u) same b);
+        resolved = k.resolved;
+      })
+  numbers_stay_new new (AppendResolve a global) steps =
+      subst (λ s. NumbersAreNew base floor s log) (sym steps.3) (record {
+        old = k.old;
+        next = k.next;
+        each = λ t b is.
+            let was = txn_without a.txn t old.active b in
+            k.each t was.0 (λ h. is.0 (still_prepared a.txn t old.prepared h was.1), λ h. is.1 (inr h));
+        committing = k.committing;
+        preparing = λ p m e. k.preparing p (among_kept a.txn p old.prepared m) e;
+        prepared = λ t b. k.prepared t (was_prepared a.txn t old.prepared b).0;
+        resolved = λ t b. ⊎_elim (λ e. subst (IsUnresolved base log) e (k.prepared a.txn (prepared_among _ old.prepared steps.2))) (λ later. k.resolved t later) b;
+      })
+  numbers_stay_new new (AppendRollback a global) steps =
+      subst (λ s. NumbersAreNew base floor s log) (sym steps.2) (record {
+        old = k.old;
+        next = k.next;
+        each = λ t b is.
+            k.each t (subst (IsAmong t) (txns_with a.txn _ old.active) b)
+            (λ h. is.0 (still_prepared a.txn t old.prepared h (λ same. is.1 (inl (sym same)))), λ h. is.1 (inr h));
+        committing = k.committing;
+        preparing = λ p m e. k.preparing p (among_kept a.txn p old.prepared m) e;
+        prepared = λ t b. k.prepared t (was_prepared a.txn t old.prepared b).0;
+        resolved = λ t b. ⊎_elim (λ e. subst (IsUnresolved base log) e (k.prepared a.txn (prepared_among _ old.prepared steps.1))) (λ later. k.resolved t later) b;
+      })
+  numbers_stay_new new (EndRollback a) steps =
+      subst (λ s. NumbersAreNew base floor s log) (sym steps.2) (listed_anew _ refl refl refl refl (λ t b. (txn_without a.txn t old.active b).0))
+  numbers_stay_new new (AnswerResolve session r) steps =
+      subst (λ s. NumbersAreNew base floor s log) (sym steps.2) (record {
+        old = k.old;
+        next = k.next;
+        each = λ t b is. k.each t b (is.0, λ h. is.1 (still_resolved r.txn t old.resolving h (λ same. steps.1 (subst (λ v. IsAmong v (txns_of old.active)) same b))));
+        committing = k.committing;
+        preparing = k.preparing;
+        prepared = k.prepared;
+        resolved = λ t b. k.resolved t (still_without r.txn t old.resolving b);
+      })
+  numbers_stay_new new (AnswerInDoubt session t pairs) steps = subst (λ s. NumbersAreNew base floor s log) (sym steps.2) (listed_anew _ refl refl refl refl (λ t b. b))
 
   pub new_in_longer : (more : List LogRecord) → base ≤ length log → NumbersAreNew base floor old (log ++ more)
   new_in_longer more long =
-      record { old = subst (AllByRecursion (λ r. r.txn < floor)) (sym (take-append-le base log more long)) k.old; next = k.next; each = k.each }
+      let same : take base (log ++ more) ≡ take base log = take-append-le base log more long in
+      let still : (t : ℕ) → IsUnresolved base log t → IsUnresolved base (log ++ more) t =
+      λ t h. record { uncommitted = ap (has is_commit t) same ∙ h.uncommitted; not_rolled = ap (has is_rollback t) same ∙ h.not_rolled } in
+      record {
+        old = subst (AllByRecursion (λ r. r.txn < floor)) (sym same) k.old;
+        next = k.next;
+        each = k.each;
+        committing = k.committing;
+        preparing = k.preparing;
+        prepared = λ t b. still t (k.prepared t b);
+        resolved = λ t b. still t (k.resolved t b);
+      }
 
-not_committed_below : (floor t : ℕ) (log : List LogRecord) → floor ≤ t → AllByRecursion (λ r. r.txn < floor) log → IsAmong t (committed_in log) → ⊥
-not_committed_below floor t [] le h a = a
-not_committed_below floor t (r ∷ log) le h a =
-    (elim (is_commit r.payload) as (λ b. IsAmong t (cons_option (cond b (Some r.txn) None) (committed_in log)) → ⊥) [
-      | true ↦ λ a. ⊎_elim (λ e. let less = h.0 in omega arith) (λ later. not_committed_below floor t log le h.1 later) a
-      | false ↦ not_committed_below floor t log le h.1
-    ]) a
+-- ---- decisions of this manager
 
--- so a durable Commit of such a number is a decision of this manager, and of none before it
-pub commit_is_own : (base floor n t : ℕ) (log : List LogRecord) → base ≤ n → floor ≤ t → AllByRecursion (λ r. r.txn < floor) (take base log)
-    → IsAmong t (committed_in (take n log)) → IsAmong (decision.Commit t) (decisions_in base (take n log))
-commit_is_own base floor n t log le own old h =
+-- the kind of record that a decision has
+abbrev kind : Decision → Payload → Bool
+kind (decision.Commit t) p = is_commit p
+kind (decision.Prepare t global) p = is_prepare p
+kind (decision.RollBack t) p = is_rollback p
+
+is_kind : (t : ℕ) (p : Payload) (d : Decision) → decision_by t p ≡ Some d → (kind d p ≡ true) × (decided_txn d ≡ t)
+is_kind t Commit d e = subst (λ d. (kind d Commit ≡ true) × (decided_txn d ≡ t)) (some_same e) (refl, refl)
+  where
+    some_same : {c d : Decision} → Some c ≡ Some d → c ≡ d
+    some_same e = cc
+is_kind t (Prepare global gs) d e = subst (λ d. (kind d (Prepare global gs) ≡ true) × (decided_txn d ≡ t)) (some_same e) (refl, refl)
+  where
+    some_same : {c d : Decision} → Some c ≡ Some d → c ≡ d
+    some_same e = cc
+is_kind t RollbackDecided d e = subst (λ d. (kind d RollbackDecided ≡ true) × (decided_txn d ≡ t)) (some_same e) (refl, refl)
+  where
+    some_same : {c d : Decision} → Some c ≡ Some d → c ≡ d
+    some_same e = cc
+is_kind t _ d e = cc
+
+decided_has : (d : Decision) (rs : List LogRecord) → IsAmong d (filter_map decision_in rs) → has (kind d) (decided_txn d) rs ≡ true
+decided_has d [] h = absurd h
+decided_has d (r ∷ rs) h = (elim (decision_in r) as (λ o. decision_in r ≡ o → IsAmong d (cons_option o (filter_map decision_in rs)) → (((r.txn == decided_txn d) && kind d r.payload) || has (kind d) (decided_txn d) rs) ≡ true) [
+  | None ↦ λ e h. or_right ((r.txn == decided_txn d) && kind d r.payload) (has (kind d) (decided_txn d) rs) (decided_has d rs h)
+  | Some c ↦ λ e h. ⊎_elim
+      (λ same.
+      let is = is_kind r.txn r.payload d (e ∙ ap Some same) in
+      ap (λ b. b || has (kind d) (decided_txn d) rs) (ap (λ b. b && kind d r.payload) (eq-eqb r.txn (decided_txn d) (sym is.1)) ∙ is.0))
+      (λ later. or_right ((r.txn == decided_txn d) && kind d r.payload) (has (kind d) (decided_txn d) rs) (decided_has d rs later)) h
+] refl) h
+
+-- a durable decision that was not among the records that the first restart found is one of this manager
+pub decision_is_own : (base n : ℕ) (log : List LogRecord) (d : Decision) → base ≤ n → has (kind d) (decided_txn d) (take base log) ≡ false
+    → IsDecidedIn (take n log) d → IsAmong d (decisions_in base (take n log))
+decision_is_own base n log d le none h =
     let front = take n log in
-    let split : committed_in front ≡ committed_in (take base front) ++ committed_in (drop base front) =
-    ap committed_in (sym (take-append-drop base front)) ∙ filter_map-append commit_of (take base front) (drop base front) in
+    let split : filter_map decision_in front ≡ filter_map decision_in (take base front) ++ decisions_in base front =
+    ap (filter_map decision_in) (sym (take-append-drop base front)) ∙ filter_map-append decision_in (take base front) (drop base front) in
     ⊎_elim
-    (λ found. absurd (not_committed_below floor t (take base front) own (subst (AllByRecursion (λ r. r.txn < floor)) (sym (take-take base n log le)) old) found))
-    (λ gained. among_map decision.Commit t (committed_in (drop base front)) gained)
-    (among_append t (committed_in (take base front)) (committed_in (drop base front)) (subst (IsAmong t) split h))
+    (λ found. absurd (true≢false (sym (decided_has d (take base front) found) ∙ ap (has (kind d) (decided_txn d)) (take-take base n log le) ∙ none)))
+    (λ gained. gained)
+    (among_append d (filter_map decision_in (take base front)) (decisions_in base front) (subst (IsAmong d) split h))
 
 -- ---- entries that acknowledge
+
+-- the decision that an event acknowledges
+abbrev pub acknowledged_in : SessionEvent → Option Decision
+acknowledged_in (AnswerCommit a) = Some (decision.Commit a.txn)
+acknowledged_in (AnswerPrepare session t global) = Some (decision.Prepare t global)
+acknowledged_in (AnswerResolve session r) = Some (decision_resolved r)
+acknowledged_in (MoveLocks held) = None
+acknowledged_in (BeginTxn session) = None
+acknowledged_in (GiveReply a c reply) = None
+acknowledged_in (AppendCommit a) = None
+acknowledged_in (PutBack a kept e r) = None
+acknowledged_in (Doom a) = None
+acknowledged_in (AnswerAbort a) = None
+acknowledged_in (RefuseCall session t c fault) = None
+acknowledged_in (AppendPrepare a global granules) = None
+acknowledged_in (AppendResolve a global) = None
+acknowledged_in (AppendRollback a global) = None
+acknowledged_in (EndRollback a) = None
+acknowledged_in (AnswerInDoubt session t pairs) = None
 
 inner_asks_none : (t : ℕ) (c : Call) → IsInnerCall c → decision_asked_by t c ≡ None
 inner_asks_none t call.Begin inner = absurd inner
@@ -151,8 +311,8 @@ module _ (P : Decision → Type 0) (es : List Entry) (h : AllByRecursion P (ackn
       subst (AllByRecursion P) (sym (filter_map-append acknowledged_by es (e ∷ []) ∙ ap (λ o. acknowledged es ++ cons_option o []) some))
       (recursion-push P (acknowledged es) d h p)
 
-  -- only the answer of a commit acknowledges
-  pub event_acknowledges : (old new : Sessions) (e : SessionEvent) → StepsTo old e new → ((a : SessionTxn) → e ≡ AnswerCommit a → P (decision.Commit a.txn))
+  -- only the answers of a commit, of a prepare and of a resolve acknowledge
+  pub event_acknowledges : (old new : Sessions) (e : SessionEvent) → StepsTo old e new → IfSome (acknowledged_in e) P
       → AllByRecursion P (acknowledged (es ++ entries_by old e))
   event_acknowledges old new (MoveLocks held) steps own = subst (λ es. AllByRecursion P (acknowledged es)) (sym (append-nil es)) h
   event_acknowledges old new (BeginTxn session) steps own = acknowledges_none _ refl
@@ -162,5 +322,37 @@ module _ (P : Decision → Type 0) (es : List Entry) (h : AllByRecursion P (ackn
   event_acknowledges old new (PutBack a kept e r) steps own = subst (λ es. AllByRecursion P (acknowledged es)) (sym (append-nil es)) h
   event_acknowledges old new (Doom a) steps own = subst (λ es. AllByRecursion P (acknowledged es)) (sym (append-nil es)) h
   event_acknowledges old new (AnswerAbort a) steps own = acknowledges_none _ refl
-  event_acknowledges old new (AnswerCommit a) steps own = acknowledges_one _ (decision.Commit a.txn) refl (own a refl)
+  event_acknowledges old new (AnswerCommit a) steps own = acknowledges_one _ (decision.Commit a.txn) refl own
   event_acknowledges old new (RefuseCall session t c fault) steps own = acknowledges_none _ refl
+  event_acknowledges old new (AppendPrepare a global granules) steps own = acknowledges_none _ refl
+  event_acknowledges old new (AnswerPrepare session t global) steps own = acknowledges_one _ (decision.Prepare t global) refl own
+  event_acknowledges old new (AppendResolve a global) steps own = acknowledges_none _ refl
+  event_acknowledges old new (AppendRollback a global) steps own = acknowledges_none _ refl
+  event_acknowledges old new (EndRollback a) steps own = subst (λ es. AllByRecursion P (acknowledged es)) (sym (append-nil es)) h
+  event_acknowledges old new (AnswerResolve session r) steps own = acknowledges_one _ (decision_resolved r) (resolve_asks r.txn r.global r.outcome) own
+    where
+      resolve_asks : (t : ℕ) (global : List ℕ) (o : Outcome) → decision_asked_by t (call.Resolve global o) ≡ Some (decision_asked t o)
+      resolve_asks t global outcome.Commit = refl
+      resolve_asks t global outcome.Abort = refl
+  event_acknowledges old new (AnswerInDoubt session t pairs) steps own = acknowledges_none _ refl
+
+-- what an event acknowledges is durable, and a decision of this manager
+pub acknowledges_own : (base floor : ℕ) (old new : Sessions) (store : RecoveryState) (e : SessionEvent) → NumbersAreNew base floor old store.log → base ≤ store.durable
+    → StepsTo old e new → AnswersDurable store e → IfSome (acknowledged_in e) (λ d. IsAmong d (decisions_in base (take store.durable store.log)))
+acknowledges_own base floor old new store (AnswerCommit a) k le steps durable =
+    decision_is_own base store.durable store.log (decision.Commit a.txn) le (new_unresolved base floor old store.log k a.txn (k.committing a steps.0.0)).uncommitted durable
+acknowledges_own base floor old new store (AnswerPrepare session t global) k le steps durable =
+    let own = k.preparing (record { txn = t; global = global; answered = false }) steps.0 refl in
+    decision_is_own base store.durable store.log (decision.Prepare t global) le
+    (none_of_it is_prepare t (take base store.log) (recursion-weaker (λ r. r.txn < floor) (λ r. r.txn ≢ t) (λ r less same. omega arith) (take base store.log) k.old)) durable
+acknowledges_own base floor old new store (AnswerResolve session r) k le steps durable =
+    of_outcome r.outcome (k.resolved r.txn (resolved_among r old.resolving steps.0)) durable
+  where
+    resolved_among : (r : ResolvedTxn) (rs : List ResolvedTxn) → IsAmong r rs → IsAmong r.txn (map (λ r. r.txn) rs)
+    resolved_among r rs h = among_map (λ (r : ResolvedTxn). r.txn) r rs h
+
+    of_outcome : (o : Outcome) → IsUnresolved base store.log r.txn → IsDecidedIn (take store.durable store.log) (decision_asked r.txn o)
+        → IsAmong (decision_asked r.txn o) (decisions_in base (take store.durable store.log))
+    of_outcome outcome.Commit h is = decision_is_own base store.durable store.log (decision.Commit r.txn) le h.uncommitted is
+    of_outcome outcome.Abort h is = decision_is_own base store.durable store.log (decision.RollBack r.txn) le h.not_rolled is
+acknowledges_own base floor old new store _ k le steps durable = tt

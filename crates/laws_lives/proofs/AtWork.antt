@@ -3,19 +3,19 @@ use Rattle.std.proofs.Common.{◌≡◌, ◌≤◌, inr, ◌++◌, ℕ, List, []
 use Rattle.std.specs.FinMap.{get}
 use Rattle.std.specs.List.{AllByRecursion}
 use Rattle.shore_types.specs.declared.ids.Rid.{Rid}
+use Rattle.shore_model.specs.declared.histories.Opening.{Opening}
 use Rattle.shore_model.specs.declared.histories.Entry.{Entry}
 use Rattle.shore_model.specs.Histories.{acknowledged}
-use Rattle.shore_model.specs.Records.{Records}
 use Rattle.laws_lives.proofs.Invariant.{redone_whole}
 use Rattle.laws_lives.specs.Recovery.{IsRecoverable, RecoveryState}
 use Rattle.laws_lives.proofs.Lists.{recursion-weaker}
 use Rattle.laws_lives.proofs.LogDecisions.{event_decides}
 use Rattle.laws_lives.specs.LogPrefixes.{LogDecides, decisions_in}
 use Rattle.laws_lives.specs.Logged.{log_after}
-use Rattle.laws_lives.specs.SessionSteps.{AnswerCommit, SessionEvent, StepsTo, entries_by}
+use Rattle.laws_lives.specs.SessionSteps.{SessionEvent, StepsTo, entries_by}
 use Rattle.laws_lives.specs.Sessions.{Sessions}
 use Rattle.laws_lives.specs.Views.{IsAmong}
-use Rattle.laws_lives.proofs.Acknowledged.{NumbersAreNew, commit_is_own, event_acknowledges, new_in_longer, numbers_stay_new, still_decided}
+use Rattle.laws_lives.proofs.Acknowledged.{NumbersAreNew, acknowledges_own, event_acknowledges, new_in_longer, numbers_stay_new, still_decided}
 use Rattle.laws_lives.proofs.WholeLogs.{image_in_place}
 use Rattle.laws_lives.proofs.WholeRuns.{AllHold, event_keeps_all}
 use Rattle.laws_lives.proofs.Works.{HasWorked, all_work}
@@ -26,7 +26,7 @@ abbrev pub AcknowledgedAreDurable : ℕ → List Entry → RecoveryState → Typ
 AcknowledgedAreDurable base es s = AllByRecursion (λ d. IsAmong d (decisions_in base (take s.durable s.log))) (acknowledged es)
 
 -- All that holds of a manager. Its first restart found `base` records, and its sessions opened with `floor` as the next number.
-pub record IsAtWork (base floor : ℕ) (o : Records) (es : List Entry) (m : ManagerState) : Type 0 where
+pub record IsAtWork (base floor : ℕ) (o : Opening) (es : List Entry) (m : ManagerState) : Type 0 where
   pub sessions : AllHold o es m.sessions m.store.log
   pub decides : LogDecides base o es m.store.log
   pub recoverable : IsRecoverable m.store
@@ -44,7 +44,7 @@ durable_after_work base es s new within w h =
     (still_decided base s.durable new.durable s.log w.more d w.durable within there))
     (acknowledged es) h
 
-module _ (base floor : ℕ) (o : Records) (es : List Entry) (m : ManagerState) (k : IsAtWork base floor o es m) where
+module _ (base floor : ℕ) (o : Opening) (es : List Entry) (m : ManagerState) (k : IsAtWork base floor o es m) where
   numbers_after_work : (new : RecoveryState) → HasWorked m.store new → (s : Sessions) → NumbersAreNew base floor s m.store.log → NumbersAreNew base floor s new.log
   numbers_after_work new w s n = subst (NumbersAreNew base floor s) (sym w.grows) (new_in_longer base floor s m.store.log n w.more k.decides.long)
 
@@ -57,17 +57,14 @@ module _ (base floor : ℕ) (o : Records) (es : List Entry) (m : ManagerState) (
       record {
         sessions = subst (AllHold o es' new.sessions) (sym log) (event_keeps_all o es m.sessions new.sessions e m.store.log k.sessions steps);
         decides = subst (LogDecides base o es') (sym log)
-            (event_decides base o es m.sessions new.sessions e m.store.log k.sessions.sound k.sessions.logged k.decides steps);
+            (event_decides base o es m.sessions new.sessions e m.store.log k.sessions.sound k.sessions.agree k.sessions.logged k.sessions.tracks k.decides steps);
         recoverable = w.recoverable;
         redone = w.redone;
         durable = omega arith;
         numbers = numbers_after_work new.store w new.sessions (numbers_stay_new base floor m.sessions m.store.log k.numbers new.sessions e steps);
         acknowledged = durable_after_work base es' m.store new.store k.recoverable.durable w
             (event_acknowledges (λ d. IsAmong d (decisions_in base (take m.store.durable m.store.log))) es k.acknowledged m.sessions new.sessions e steps
-            (λ a is.
-            let of_commit : StepsTo m.sessions (AnswerCommit a) new.sessions = subst (λ e. StepsTo m.sessions e new.sessions) is steps in
-            let is_durable : AnswersDurable m.store (AnswerCommit a) = subst (AnswersDurable m.store) is answers in
-            commit_is_own base floor m.store.durable a.txn m.store.log k.durable (k.numbers.each a (inr of_commit.0)) k.numbers.old is_durable));
+            (acknowledges_own base floor m.sessions new.sessions m.store e k.numbers k.durable steps answers));
       }
 
   tended : (new : ManagerState) → new.sessions ≡ m.sessions → HasWorked m.store new.store → new.store.log ≡ m.store.log → IsAtWork base floor o es new
@@ -95,7 +92,7 @@ module _ (base floor : ℕ) (o : Records) (es : List Entry) (m : ManagerState) (
   pages_have_records id =
       redone_whole m.store k.recoverable k.redone id.page id.slot ∙ image_in_place k.sessions.sound k.sessions.logged k.sessions.whole id
 
-pub all_stay_at_work : (base floor : ℕ) (o : Records) (es : List Entry) (m : ManagerState) (events : List StretchEvent) (last : ManagerState) (made : List Entry)
+pub all_stay_at_work : (base floor : ℕ) (o : Opening) (es : List Entry) (m : ManagerState) (events : List StretchEvent) (last : ManagerState) (made : List Entry)
     → IsAtWork base floor o es m → ManagerRunsTo m events es last made → IsAtWork base floor o made last
 all_stay_at_work base floor o es m [] last made k runs =
     subst (λ es. IsAtWork base floor o es last) (sym runs.1) (subst (IsAtWork base floor o es) (sym runs.0) k)

@@ -19,7 +19,7 @@ other_first true t u us h rest =
 other_first false t u us h rest = rest
 
 -- the committed are others than one without a Commit
-uncommitted_apart : (t : ℕ) (log : List LogRecord) → has is_commit t log ≡ false → AreOthers t (committed_in log)
+pub uncommitted_apart : (t : ℕ) (log : List LogRecord) → has is_commit t log ≡ false → AreOthers t (committed_in log)
 uncommitted_apart t [] h = tt
 uncommitted_apart t (r ∷ log) h =
     let none = or_none ((r.txn == t) && is_commit r.payload) (has is_commit t log) h in

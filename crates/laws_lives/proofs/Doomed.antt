@@ -1,18 +1,19 @@
 -- A doomed transaction: what is left of it, and what cannot come any more.
-use Rattle.std.proofs.Common.{◌≡◌, inl, ⊎_elim, ℕ, List, Some, Result, refl, sym, ap, subst, ◌∙◌, arith}
+use Rattle.std.proofs.Common.{◌≡◌, ◌<◌, ⊎_elim, ℕ, List, Some, Result, refl, sym, ap, subst, ◌∙◌, arith}
 use Rattle.shore_types.specs.Images.{Image}
 use Rattle.shore_types.specs.declared.faults.Fault.{Fault}
 use Rattle.shore_types.specs.declared.ids.Rid.{Rid}
+use Rattle.shore_model.specs.declared.histories.Opening.{Opening}
 use Rattle.shore_model.specs.declared.calls.Answer.{Answer}
 use Rattle.shore_model.specs.declared.calls.Call.{Call}
 use Rattle.shore_model.specs.declared.histories.Entry.{Entry}
 use Rattle.shore_model.specs.Records.{Records}
-use Rattle.laws_lives.proofs.Members.{among_with, among_without, same_member}
+use Rattle.laws_lives.proofs.Members.{among_with, among_without, same_member, txn_among}
 use Rattle.laws_lives.proofs.Rollings.{some_not_none}
 use Rattle.shore_model.specs.declared.rollbacks.Rollback.{Rollback}
 use Rattle.shore_model.specs.declared.rollbacks.Rollback.TheVariants.{Whole, To}
-use Rattle.laws_lives.specs.SessionSteps.{AnswerAbort, AnswerCommit, AppendCommit, BeginTxn, Doom, GiveReply, MoveLocks, PutBack, RefuseCall, SessionEvent, StepsTo}
-use Rattle.laws_lives.specs.Sessions.{SessionTxn, Sessions, with_undo}
+use Rattle.laws_lives.specs.SessionSteps.{AnswerAbort, AnswerCommit, AnswerInDoubt, AnswerPrepare, AnswerResolve, AppendCommit, AppendPrepare, AppendResolve, AppendRollback, BeginTxn, Doom, EndRollback, GiveReply, MoveLocks, PutBack, RefuseCall, SessionEvent, StepsTo}
+use Rattle.laws_lives.specs.Sessions.{SessionTxn, Sessions, txns_of, with_undo}
 use Rattle.laws_lives.specs.Soundness.{SessionsAgree}
 use Rattle.laws_lives.specs.UndoLists.{UndoList, undo_after, undo_rolled}
 use Rattle.laws_lives.specs.Views.{IsAmong}
@@ -36,7 +37,7 @@ module _ (s mid : Sessions) (a b : SessionTxn) (doom : StepsTo s (Doom a) mid) w
       (ap (λ (undo : UndoList). undo.images) (doomed_undo among same), doomed_rolls among same, ap (λ (s : Sessions). s.records) doom.1)
 
   pub commit_of_doomed : (new : Sessions) → b.txn ≡ a.txn → StepsTo mid (AppendCommit b) new → ⊥
-  commit_of_doomed new same step = some_not_none Whole (sym (doomed_rolls step.0 same) ∙ step.1)
+  commit_of_doomed new same step = some_not_none Whole (sym (doomed_rolls step.0.0 same) ∙ step.1)
 
 -- ---- of one that is rolled back as a whole
 
@@ -49,7 +50,7 @@ module _ (s new : Sessions) (a : SessionTxn) (whole : a.undo.rolling ≡ Some Wh
 
 -- ---- it stays so
 
-module _ {o : Records} {es : List Entry} {s : Sessions} (k : SessionsAgree o es s) (a : SessionTxn) (mem : IsAmong a s.active) (whole : a.undo.rolling ≡ Some Whole) (b : SessionTxn) (same : b.txn ≡ a.txn) where
+module _ {o : Opening} {es : List Entry} {s : Sessions} (k : SessionsAgree o es s) (below : (t : ℕ) → IsAmong t (txns_of s.active) → t < s.next_txn) (a : SessionTxn) (mem : IsAmong a s.active) (whole : a.undo.rolling ≡ Some Whole) (b : SessionTxn) (same : b.txn ≡ a.txn) where
   abbrev RollsWhole : Type 0
   RollsWhole = b.undo.rolling ≡ Some Whole
 
@@ -71,16 +72,16 @@ module _ {o : Records} {es : List Entry} {s : Sessions} (k : SessionsAgree o es 
   put_back_whole : (new : Sessions) (c : SessionTxn) (kept : List (Rid × Image)) (e : Rid × Image) (r : Rollback) → StepsTo s (PutBack c kept e r) new
       → c.txn ≡ a.txn → Some r ≡ Some Whole
   put_back_whole new c kept e Whole step own = refl
-  put_back_whole new c kept e (To n) step own = absurd (doomed_to_savepoint s new c (it_is c step.0 own) kept e n step)
+  put_back_whole new c kept e (To n) step own = absurd (doomed_to_savepoint s new c (it_is c step.0.0 own) kept e n step)
 
   pub stays_doomed : (new : Sessions) (e : SessionEvent) → StepsTo s e new → IsAmong b new.active → RollsWhole
   stays_doomed new (MoveLocks held) step among = as_before (subst (λ (s : Sessions). IsAmong b s.active) step.3 among)
   stays_doomed new (BeginTxn session) step among =
       ⊎_elim
-      (λ new_one. let less = k.below a (inl mem) in let is : s.next_txn ≡ a.txn = ap (λ (b : SessionTxn). b.txn) new_one ∙ same in absurd (omega arith))
+      (λ new_one. let less = below a.txn (txn_among a s.active mem) in let is : s.next_txn ≡ a.txn = ap (λ (b : SessionTxn). b.txn) new_one ∙ same in absurd (omega arith))
       as_before (subst (λ (s : Sessions). IsAmong b s.active) step.1 among)
   stays_doomed new (GiveReply c call reply) step among =
-      listed_anew c (undo_after s.records c.undo call reply) (λ own. absurd (reply_to_doomed s new c (it_is c step.0 own) call reply step))
+      listed_anew c (undo_after s.records c.undo call reply) (λ own. absurd (reply_to_doomed s new c (it_is c step.0.0 own) call reply step))
       (subst (λ (s : Sessions). IsAmong b s.active) step.4 among)
   stays_doomed new (AppendCommit c) step among = as_before (among_without c.txn b s.active (subst (λ (s : Sessions). IsAmong b s.active) step.2 among)).0
   stays_doomed new (PutBack c kept e r) step among =
@@ -90,3 +91,11 @@ module _ {o : Records} {es : List Entry} {s : Sessions} (k : SessionsAgree o es 
   stays_doomed new (AnswerAbort c) step among = as_before (among_without c.txn b s.active (subst (λ (s : Sessions). IsAmong b s.active) step.1 among)).0
   stays_doomed new (AnswerCommit c) step among = as_before (subst (λ (s : Sessions). IsAmong b s.active) step.1 among)
   stays_doomed new (RefuseCall session t c fault) step among = as_before (subst (λ (s : Sessions). IsAmong b s.active) step.2 among)
+  stays_doomed new (AppendPrepare c global granules) step among = as_before (subst (λ (s : Sessions). IsAmong b s.active) step.4 among)
+  stays_doomed new (AnswerPrepare session t global) step among = as_before (subst (λ (s : Sessions). IsAmong b s.active) step.2 among)
+  stays_doomed new (AppendResolve c global) step among = as_before (among_without c.txn b s.active (subst (λ (s : Sessions). IsAmong b s.active) step.3 among)).0
+  stays_doomed new (AppendRollback c global) step among =
+      listed_anew c (undo_rolled c.undo c.undo.images Whole) (λ own. refl) (subst (λ (s : Sessions). IsAmong b s.active) step.2 among)
+  stays_doomed new (EndRollback c) step among = as_before (among_without c.txn b s.active (subst (λ (s : Sessions). IsAmong b s.active) step.2 among)).0
+  stays_doomed new (AnswerResolve session r) step among = as_before (subst (λ (s : Sessions). IsAmong b s.active) step.2 among)
+  stays_doomed new (AnswerInDoubt session t pairs) step among = as_before (subst (λ (s : Sessions). IsAmong b s.active) step.2 among)

@@ -1,11 +1,12 @@
 -- A transaction's calls with one reply more, and replies that change nothing of a transaction.
-use Rattle.std.proofs.Common.{◌≡◌, List, [], ◌∷◌, ◌++◌, Ok, Err, refl}
+use Rattle.std.proofs.Common.{◌≡◌, ℕ, List, [], ◌∷◌, ◌++◌, Ok, Err, refl}
 use Rattle.shore_types.specs.declared.faults.Fault.{Fault}
 use Rattle.shore_types.specs.declared.faults.Fault.TheVariants.{NoRecord}
-use Rattle.shore_model.specs.declared.calls.Answer.TheVariants.{Committed}
+use Rattle.shore_model.specs.declared.calls.Answer.TheVariants.{Aborted, AreInDoubt, Committed, Prepared, Resolved}
 use Rattle.shore_model.specs.declared.calls.Call.{Call}
 use Rattle.shore_model.specs.declared.calls.Call.TheVariants as call
 use Rattle.shore_model.specs.declared.calls.Exchange.{Exchange}
+use Rattle.shore_model.specs.declared.calls.Outcome.{Outcome}
 use Rattle.shore_model.specs.declared.progress.Progress.{Progress}
 use Rattle.shore_model.specs.Alone.{MayRefuse, MayReply, MayReplyAll, after, after_reply}
 use Rattle.shore_model.specs.Records.{Records}
@@ -34,3 +35,15 @@ refusal_is_quiet c fault h = record { may = λ R p. tells_nothing _ c fault h; l
 
 pub commit_is_quiet : IsQuiet (exchange call.Commit (Ok Committed))
 commit_is_quiet = record { may = λ R p. refl; leaves = λ p. refl }
+
+pub abort_is_quiet : IsQuiet (exchange call.Abort (Ok Aborted))
+abort_is_quiet = record { may = λ R p. refl; leaves = λ p. refl }
+
+pub prepare_is_quiet : (global : List ℕ) → IsQuiet (exchange (call.Prepare global) (Ok Prepared))
+prepare_is_quiet global = record { may = λ R p. refl; leaves = λ p. refl }
+
+pub resolve_is_quiet : (global : List ℕ) (outcome : Outcome) → IsQuiet (exchange (call.Resolve global outcome) (Ok Resolved))
+resolve_is_quiet global outcome = record { may = λ R p. refl; leaves = λ p. refl }
+
+pub in_doubt_is_quiet : (pairs : List (List ℕ × ℕ)) → IsQuiet (exchange call.InDoubt (Ok (AreInDoubt pairs)))
+in_doubt_is_quiet pairs = record { may = λ R p. (pairs, refl); leaves = λ p. refl }

@@ -1,7 +1,9 @@
 -- Prefixes and rests of lists, and what holds of each element.
-use Rattle.std.proofs.Common.{◌≡◌, ◌⊎◌, inl, inr, ⊎_elim, ◌++◌, ◌<◌, ◌≤◌, ◌+◌, ℕ, zero, suc, List, [], ◌∷◌, Some, refl, ap, subst, length, drop, map, take, arith}
-use Rattle.std.specs.Prelude.{slice_get}
+use Rattle.std.proofs.Common.{◌≡◌, ◌⊎◌, inl, inr, ⊎_elim, ◌++◌, ◌<◌, ◌≤◌, ◌+◌, ℕ, zero, suc, List, [], ◌∷◌, Some, refl, sym, ap, subst, length, drop, map, take, arith}
+use Rattle.std.specs.Prelude.{Contains, slice_get}
+use Rattle.shore_model.proofs.RecordPaths.{head_contained, rest_contained}
 use Rattle.std.specs.List.{AllByRecursion}
+use Rattle.laws_lives.specs.Views.{IsAmong}
 
 -- ---- each element
 
@@ -120,3 +122,34 @@ map-take f (suc n) (x ∷ xs) = ap (λ ys. f x ∷ ys) (map-take f n xs)
 pub map-push : {A B : Type 0} (f : A → B) (xs : List A) (x : A) → map f (xs ++ x ∷ []) ≡ map f xs ++ f x ∷ []
 map-push f [] x = refl
 map-push f (y ∷ xs) x = ap (λ ys. f y ∷ ys) (map-push f xs x)
+
+-- ---- elements
+
+pub among_left : {A : Type 0} (x : A) (xs ys : List A) → IsAmong x xs → IsAmong x (xs ++ ys)
+among_left x [] ys h = absurd h
+among_left x (y ∷ xs) ys (inl e) = inl e
+among_left x (y ∷ xs) ys (inr later) = inr (among_left x xs ys later)
+
+pub among_right : {A : Type 0} (x : A) (xs ys : List A) → IsAmong x ys → IsAmong x (xs ++ ys)
+among_right x [] ys h = h
+among_right x (y ∷ xs) ys h = inr (among_right x xs ys h)
+
+pub among_append : {A : Type 0} (x : A) (xs ys : List A) → IsAmong x (xs ++ ys) → IsAmong x xs ⊎ IsAmong x ys
+among_append x [] ys h = inr h
+among_append x (y ∷ xs) ys (inl e) = inl (inl e)
+among_append x (y ∷ xs) ys (inr later) = ⊎_elim (λ h. inl (inr h)) (λ h. inr h) (among_append x xs ys later)
+
+pub among_map : {A B : Type 0} (f : A → B) (x : A) (xs : List A) → IsAmong x xs → IsAmong (f x) (map f xs)
+among_map f x [] h = absurd h
+among_map f x (y ∷ xs) (inl e) = inl (ap f e)
+among_map f x (y ∷ xs) (inr later) = inr (among_map f x xs later)
+
+pub mapped_one : {A B : Type 0} (f : A → B) (y : B) (xs : List A) → IsAmong y (map f xs) → (x : A) × IsAmong x xs × (f x ≡ y)
+mapped_one f y [] h = absurd h
+mapped_one f y (x ∷ xs) (inl e) = (x, inl refl, e)
+mapped_one f y (x ∷ xs) (inr later) = let r = mapped_one f y xs later in (r.0, inr r.1, r.2)
+
+pub among_contained : {A : Type 0} (x : A) (xs : List A) → IsAmong x xs → Contains xs x
+among_contained x [] h = absurd h
+among_contained x (y ∷ xs) (inl e) = subst (λ z. Contains (z ∷ xs) x) (sym e) (head_contained x xs)
+among_contained x (y ∷ xs) (inr later) = rest_contained y xs x (among_contained x xs later)

@@ -7,46 +7,49 @@ use Rattle.std.proofs.lemmas.Bool.{eqb-true, eqb-false, ne_eqb}
 use Rattle.shore_types.specs.Ids.{rid_cmp}
 use Rattle.shore_types.specs.declared.faults.Fault.{Fault}
 use Rattle.shore_types.specs.declared.ids.Rid.{Rid}
+use Rattle.shore_model.specs.declared.histories.Opening.{Opening}
 use Rattle.shore_model.specs.declared.calls.Answer.{Answer}
-use Rattle.shore_model.specs.declared.calls.Answer.TheVariants.{Inserted, Aborted, Committed}
+use Rattle.shore_model.specs.declared.calls.Answer.TheVariants.{Inserted, Aborted, AreInDoubt, Committed, Prepared, Resolved}
 use Rattle.shore_model.specs.declared.calls.Call.{Call}
 use Rattle.shore_model.specs.declared.calls.Call.TheVariants as call
 use Rattle.shore_model.specs.declared.calls.Exchange.{Exchange}
+use Rattle.shore_model.specs.declared.histories.Decision.{Decision}
+use Rattle.shore_model.specs.declared.histories.Decision.TheVariants as decision
 use Rattle.shore_model.specs.declared.histories.Entry.{Entry}
-use Rattle.shore_model.specs.declared.histories.Entry.TheVariants.{Exchanged}
+use Rattle.shore_model.specs.declared.histories.Entry.TheVariants.{Exchanged, Decided}
 use Rattle.shore_model.specs.declared.holds.Hold.{Hold}
 use Rattle.shore_model.specs.declared.log_records.LogRecord.{LogRecord}
 use Rattle.shore_model.specs.declared.log_records.Payload.{Payload}
-use Rattle.shore_model.specs.declared.log_records.Payload.TheVariants.{Change, Compensation, Commit, End}
+use Rattle.shore_model.specs.declared.log_records.Payload.TheVariants.{Change, Compensation, Commit, End, Prepare, RollbackDecided}
 use Rattle.shore_model.specs.declared.progress.Progress.{Progress}
 use Rattle.shore_model.specs.Alone.{start, after, after_answer, after_reply}
-use Rattle.shore_model.specs.Histories.{calls_of}
+use Rattle.shore_model.specs.Histories.{calls_of, serial, writes_given}
 use Rattle.shore_model.specs.Locks.{MayWrite}
-use Rattle.shore_model.specs.Logs.{in_doubt_in, records_told, committed_in, is_commit, last_images, logged_writes, previous_of}
-use Rattle.shore_model.specs.Records.{overlays, Records, WriteSet, overlay, put_image}
+use Rattle.shore_model.specs.Logs.{committed_in, image_in, is_commit, last_images, logged_writes, previous_of}
+use Rattle.shore_model.specs.Records.{Records, WriteSet, overlay, put_image}
 use Rattle.shore_types.specs.Images.{Image}
-use Rattle.laws_lives.proofs.Exchanges.{IsQuiet, after-push, commit_is_quiet, refusal_is_quiet}
+use Rattle.laws_lives.proofs.Exchanges.{IsQuiet, abort_is_quiet, after-push, commit_is_quiet, in_doubt_is_quiet, prepare_is_quiet, refusal_is_quiet, resolve_is_quiet}
 use Rattle.laws_lives.proofs.Ids.{told_apart, wrote_here, wrote_there}
 use Rattle.laws_lives.proofs.Lists.{recursion-drop, recursion-push, recursion-take, recursion-unpush, recursion-weaker}
 use Rattle.laws_lives.proofs.LogTells.{committed_one, committed_same, compensations_tell, image_tells, logged_as_written, logged_elsewhere, logged_imageless, logged_own, none_some, tells_commit, tells_same}
 use Rattle.laws_lives.proofs.LoggedUndos.{own_reply, still_logged, with_compensations, with_reply}
 use Rattle.laws_lives.proofs.Members.{HasNewUndo, among_with, among_without, txn_among, txn_without, txns_with}
 use Rattle.laws_lives.proofs.BeginSteps.{begin_called, begin_now, begin_others, not_yet}
-use Rattle.laws_lives.proofs.EndSteps.{abort_can, commit_called, commit_now, commit_sees}
+use Rattle.laws_lives.proofs.EndSteps.{abort_can, commit_called, commit_now, commit_sees, rollback_elsewhere, rollback_stays_sound}
 use Rattle.laws_lives.proofs.QuietSteps.{all_kept, quiet_now}
-use Rattle.laws_lives.proofs.PutBacks.{may_put_back}
-use Rattle.laws_lives.proofs.ReplySteps.{others_called, others_see, own_called, reply_now, t_below}
+use Rattle.laws_lives.proofs.Turns.{decision_after, kept_by_decided, own_progress as own_progress_of}
+use Rattle.laws_lives.proofs.PutBacks.{doom_stays_sound, may_put_back}
+use Rattle.laws_lives.proofs.ReplySteps.{others_called, own_called, reply_now, t_below}
 use Rattle.laws_lives.proofs.StrongerLocks.{writes_up}
-use Rattle.laws_lives.proofs.UndoLists.{undone_changes}
 use Rattle.laws_lives.proofs.Views.{read_of_write, writer_excludes}
 use Rattle.laws_lives.specs.LogTells.{records_committed, AreLogged, HasLogged, IsLogAfter, TellsSerial}
 use Rattle.laws_lives.specs.Logged.{and_compensations, and_record, log_after, log_after_answer, log_after_reply, next_to_undo}
 use Rattle.laws_lives.specs.RepliesInPlace.{MayReplyInPlace, Permit}
 use Rattle.shore_model.specs.declared.rollbacks.Rollback.{Rollback}
 use Rattle.shore_model.specs.declared.rollbacks.Rollback.TheVariants.{Whole}
-use Rattle.laws_lives.specs.SessionSteps.{AnswerAbort, AnswerCommit, AppendCommit, BeginTxn, Doom, GiveReply, KeepsLocks, MoveLocks, PutBack, RefuseCall, SessionEvent, StepsTo, entries_by, exchange}
-use Rattle.laws_lives.specs.Sessions.{SessionTxn, Sessions, abort_answered, commit_appended, doomed, image_put_back, locks_moved, reply_given, txn_begun, txns_of, without_txn}
-use Rattle.laws_lives.specs.Soundness.{IsJustOpened, IsSoundAfter, progress_in, serial_after}
+use Rattle.laws_lives.specs.SessionSteps.{AnswerAbort, AnswerCommit, AnswerInDoubt, AnswerPrepare, AnswerResolve, AppendCommit, AppendPrepare, AppendResolve, AppendRollback, BeginTxn, Doom, EndRollback, GiveReply, KeepsLocks, MoveLocks, PutBack, RefuseCall, SessionEvent, StepsTo, entries_by, exchange}
+use Rattle.laws_lives.specs.Sessions.{IsFree, SessionTxn, Sessions, commit_appended, rollback_ended, seated, doomed, image_put_back, locks_moved, reply_given, txn_begun, txns_of, without_txn}
+use Rattle.laws_lives.specs.Soundness.{IsSoundAfter, decided_txn, progress_from, progress_in, serial_after, written_by}
 use Rattle.laws_lives.specs.UndoLists.{CanUndo, UndoList, in_place_after, in_place_after_answer, mark_of, undo_after, undo_rolled, rolled_back}
 use Rattle.laws_lives.specs.Views.{IsAmong}
 
@@ -166,7 +169,7 @@ further ts' q still l = record {
   each = λ u b. (still u b).1 (l.each u (still u b).0);
 }
 
-module _ {o : Records} {es : List Entry} {s : Sessions} {log : List LogRecord} (k : IsSoundAfter o es s) (l : IsLogAfter o es s log) where
+module _ {o : Opening} {es : List Entry} {s : Sessions} {log : List LogRecord} (k : IsSoundAfter o es s) (l : IsLogAfter o es s log) where
   abbrev now : Records
   now = serial_after o es
 
@@ -198,7 +201,7 @@ module _ {o : Records} {es : List Entry} {s : Sessions} {log : List LogRecord} (
   reply_grown a c (Ok answer) less = answer_grown a c answer less
   reply_grown a c (Err fault) less = l.below
 
-  module _ (a : SessionTxn) (mem : IsAmong a s.active) (c : Call) (reply : Result Answer Fault) (served : MayReplyInPlace s.held a.txn s.records (length a.undo.marks) c reply) where
+  module _ (a : SessionTxn) (mem : IsAmong a s.active) (is_free : IsFree s a.txn) (c : Call) (reply : Result Answer Fault) (served : MayReplyInPlace s.held a.txn s.records (length a.undo.marks) c reply) where
     abbrev more : List Entry
     more = es ++ Exchanged a.session a.txn (exchange c reply) ∷ []
 
@@ -208,26 +211,30 @@ module _ {o : Records} {es : List Entry} {s : Sessions} {log : List LogRecord} (
     abbrev log' : List LogRecord
     log' = log_after_reply log s.records a c reply
 
-    reply_on : TellsOn s.held disjoint now s.records log (txns_of s.active) (progress_in es) a (txn_among a s.active mem) (k.undoes a mem)
-        l.tells_serial log' R' (after_reply (progress_in es a.txn) c reply)
+    reply_on : TellsOn s.held disjoint now s.records log (txns_of s.active) (progress_in o es) a (txn_among a s.active mem) (k.undoes a mem)
+        l.tells_serial log' R' (after_reply (progress_in o es a.txn) c reply)
     reply_on =
-        reply_tells s.held disjoint now s.records log (txns_of s.active) (progress_in es) a (txn_among a s.active mem) (k.undoes a mem)
+        reply_tells s.held disjoint now s.records log (txns_of s.active) (progress_in o es) a (txn_among a s.active mem) (k.undoes a mem)
         l.tells_serial (length a.undo.marks) c reply served
 
-    own_progress : progress_in more a.txn ≡ after_reply (progress_in es a.txn) c reply
-    own_progress = ap (after start) (own_called k a mem (exchange c reply)) ∙ after-push start (calls_of a.txn es) (exchange c reply)
+    own_progress : progress_in o more a.txn ≡ after_reply (progress_in o es a.txn) c reply
+    own_progress =
+        let given = writes_given o.in_doubt a.txn in
+        let not_found : given ≡ None = k.own a.txn (txn_among a s.active mem) is_free in
+        own_progress_of given (calls_of a.txn more) not_found ∙ ap (after start) (own_called k a mem is_free (exchange c reply)) ∙ after-push start (calls_of a.txn es) (exchange c reply)
+        ∙ ap (λ p. after_reply p c reply) (sym (own_progress_of given (calls_of a.txn es) not_found))
 
-    other_progress : (u : ℕ) → u ≢ a.txn → progress_in more u ≡ progress_in es u
-    other_progress u other = ap (after start) (others_called k a mem (exchange c reply) u other)
+    other_progress : (u : ℕ) → u ≢ a.txn → progress_in o more u ≡ progress_in o es u
+    other_progress u other = ap (progress_from (writes_given o.in_doubt u)) (others_called k a mem is_free (exchange c reply) u other)
 
-    comes_further : (u : ℕ) → StillLogged s.held R' u (logged_writes log' u) (progress_in es u) (progress_in more u)
+    comes_further : (u : ℕ) → StillLogged s.held R' u (logged_writes log' u) (progress_in o es u) (progress_in o more u)
     comes_further u =
-        elim (u == a.txn) as (λ x. (u == a.txn) ≡ x → StillLogged s.held R' u (logged_writes log' u) (progress_in es u) (progress_in more u)) [
+        elim (u == a.txn) as (λ x. (u == a.txn) ≡ x → StillLogged s.held R' u (logged_writes log' u) (progress_in o es u) (progress_in o more u)) [
           | true ↦ λ e.
-              subst (λ v. StillLogged s.held R' v (logged_writes log' v) (progress_in es v) (progress_in more v)) (sym (eqb-true u a.txn e))
-              (subst (StillLogged s.held R' a.txn (logged_writes log' a.txn) (progress_in es a.txn)) (sym own_progress) reply_on.still)
+              subst (λ v. StillLogged s.held R' v (logged_writes log' v) (progress_in o es v) (progress_in o more v)) (sym (eqb-true u a.txn e))
+              (subst (StillLogged s.held R' a.txn (logged_writes log' a.txn) (progress_in o es a.txn)) (sym own_progress) reply_on.still)
           | false ↦ λ e.
-              subst (StillLogged s.held R' u (logged_writes log' u) (progress_in es u)) (sym (other_progress u (eqb-false u a.txn e))) (λ g. g)
+              subst (StillLogged s.held R' u (logged_writes log' u) (progress_in o es u)) (sym (other_progress u (eqb-false u a.txn e))) (λ g. g)
         ] refl
 
     abbrev undo' : UndoList
@@ -244,11 +251,11 @@ module _ {o : Records} {es : List Entry} {s : Sessions} {log : List LogRecord} (
     pub reply_keeps_log : IsLogAfter o more (reply_given s a c reply) log'
     reply_keeps_log = record {
       tells_serial =
-          subst (λ ts. TellsSerial log' s.held (serial_after o more) R' ts (progress_in more)) (sym (txns_with a.txn undo' s.active))
-          (subst (λ now. TellsSerial log' s.held now R' (txns_of s.active) (progress_in more)) (sym (reply_now k a mem (exchange c reply)))
-          (further (txns_of s.active) (progress_in more) (λ u b. (b, comes_further u)) reply_on.tells_serial));
+          subst (λ ts. TellsSerial log' s.held (serial_after o more) R' ts (progress_in o more)) (sym (txns_with a.txn undo' s.active))
+          (subst (λ now. TellsSerial log' s.held now R' (txns_of s.active) (progress_in o more)) (sym (reply_now k a mem is_free (exchange c reply)))
+          (further (txns_of s.active) (progress_in o more) (λ u b. (b, comes_further u)) reply_on.tells_serial));
       undo_logged = λ b in_with. reply_logged b (among_with a.txn undo' b s.active in_with);
-      below = reply_grown a c reply (t_below k a mem (exchange c reply));
+      below = reply_grown a c reply (t_below k a mem is_free (exchange c reply));
     }
 
   module _ (a : SessionTxn) (mem : IsAmong a s.active) where
@@ -258,7 +265,7 @@ module _ {o : Records} {es : List Entry} {s : Sessions} {log : List LogRecord} (
     less : a.txn < s.next_txn
     less = k.below a.txn t_in
 
-    pub commit_keeps_log : a.undo.rolling ≡ None → IsLogAfter o (es ++ entries_by s (AppendCommit a)) (commit_appended s a) (log_after log s (AppendCommit a))
+    pub commit_keeps_log : a.undo.rolling ≡ None → IsLogAfter o (es ++ Decided (decision.Commit a.txn) ∷ []) (commit_appended s a) (and_record a.txn log Commit)
     commit_keeps_log none =
         let r : LogRecord = record { txn = a.txn; previous = previous_of a.txn log; payload = Commit } in
         record {
@@ -270,8 +277,8 @@ module _ {o : Records} {es : List Entry} {s : Sessions} {log : List LogRecord} (
                 subst (AllByRecursion (λ v. v ≢ u)) (sym (committed_one log r refl))
                 (recursion-push (λ v. v ≢ u) (committed_in log) a.txn (l.tells_serial.uncommitted u there.0) (λ same. there.1 (sym same)));
             each = λ u b.
-                subst (λ p. HasLogged s.held s.records u p (logged_writes (log ++ r ∷ []) u)) (sym (ap (after start) (commit_called k a mem u)))
-                (subst (HasLogged s.held s.records u (progress_in es u)) (sym (logged_imageless log r refl u))
+                subst (λ p. HasLogged s.held s.records u p (logged_writes (log ++ r ∷ []) u)) (sym (ap (progress_from (writes_given o.in_doubt u)) (commit_called k a mem u)))
+                (subst (HasLogged s.held s.records u (progress_in o es u)) (sym (logged_imageless log r refl u))
                 (l.tells_serial.each u (txn_without a.txn u s.active b).0));
           };
           undo_logged = λ b in_rest. still_logged b.txn b.undo.images log r (l.undo_logged b (among_without a.txn b s.active in_rest).0);
@@ -294,9 +301,9 @@ module _ {o : Records} {es : List Entry} {s : Sessions} {log : List LogRecord} (
         → IsLogAfter o es (image_put_back s a kept e r) (log_after log s (PutBack a kept e r))
     put_back_keeps_log kept e r is = record {
       tells_serial =
-          subst (λ ts. TellsSerial (log_after log s (PutBack a kept e r)) s.held now (put_image s.records e.0 e.1) ts (progress_in es))
+          subst (λ ts. TellsSerial (log_after log s (PutBack a kept e r)) s.held now (put_image s.records e.0 e.1) ts (progress_in o es))
           (sym (txns_with a.txn (undo_rolled a.undo kept r) s.active))
-          (compensations_tell s.held disjoint now (txns_of s.active) (progress_in es) a.txn t_in s.records log (e ∷ []) (may_put_back k a mem kept e is, tt) l.tells_serial);
+          (compensations_tell s.held disjoint now (txns_of s.active) (progress_in o es) a.txn t_in s.records log (e ∷ []) (may_put_back k a mem kept e is, tt) l.tells_serial);
       undo_logged = λ b in_with. put_back_logged kept e r is b (among_with a.txn (undo_rolled a.undo kept r) b s.active in_with);
       below = grown a.txn log (Compensation e.0 e.1 (next_to_undo a.txn log)) less l.below;
     }
@@ -306,7 +313,7 @@ module _ {o : Records} {es : List Entry} {s : Sessions} {log : List LogRecord} (
     doom_keeps_log =
         let undo = undo_rolled a.undo a.undo.images Whole in
         record {
-          tells_serial = subst (λ ts. TellsSerial log s.held now s.records ts (progress_in es)) (sym (txns_with a.txn undo s.active)) l.tells_serial;
+          tells_serial = subst (λ ts. TellsSerial log s.held now s.records ts (progress_in o es)) (sym (txns_with a.txn undo s.active)) l.tells_serial;
           undo_logged = λ b in_with. let one = among_with a.txn undo b s.active in_with in
               ⊎_elim
               (λ it. subst (λ u. AreLogged log u b.undo.images) (sym it.0)
@@ -316,22 +323,18 @@ module _ {o : Records} {es : List Entry} {s : Sessions} {log : List LogRecord} (
           below = l.below;
         }
 
-    abbrev aborted : Exchange
-    aborted = exchange call.Abort (Ok Aborted)
-
     abbrev undone : Records
     undone = rolled_back s.records a.undo.images
 
     -- the list tells the same, and the others have logged what they had
-    ended_keeps : (log' : List LogRecord) → TellsSerial log' s.held now undone (txns_of s.active) (progress_in es)
+    ended_keeps : (log' : List LogRecord) → TellsSerial log' s.held now undone (txns_of s.active) (progress_in o es)
         → ((b : SessionTxn) → IsAmong b s.active → AreLogged log' b.txn b.undo.images)
-        → AllByRecursion (λ r. r.txn < s.next_txn) log' → IsLogAfter o (es ++ entries_by s (AnswerAbort a)) (abort_answered s a) log'
+        → AllByRecursion (λ r. r.txn < s.next_txn) log' → IsLogAfter o es (rollback_ended s a) log'
     ended_keeps log' tells logged below = record {
       tells_serial = record {
-        tells = tells.tells ∙ sym (reply_now k a mem aborted);
+        tells = tells.tells;
         uncommitted = λ u b. tells.uncommitted u (txn_without a.txn u s.active b).0;
-        each = λ u b. let there = txn_without a.txn u s.active b in
-            subst (λ p. HasLogged s.held undone u p (logged_writes log' u)) (sym (ap (after start) (others_called k a mem aborted u there.1))) (tells.each u there.0);
+        each = λ u b. tells.each u (txn_without a.txn u s.active b).0;
       };
       undo_logged = λ b in_rest. logged b (among_without a.txn b s.active in_rest).0;
       below = below;
@@ -341,40 +344,38 @@ module _ {o : Records} {es : List Entry} {s : Sessions} {log : List LogRecord} (
     abbrev aborts : List LogRecord
     aborts = and_compensations a.txn log a.undo.images
 
-    abort_undone : TellsSerial aborts s.held now undone (txns_of s.active) (progress_in es)
+    abort_undone : TellsSerial aborts s.held now undone (txns_of s.active) (progress_in o es)
     abort_undone =
-        compensations_tell s.held disjoint now (txns_of s.active) (progress_in es) a.txn t_in s.records log a.undo.images (abort_can k a mem).changed
+        compensations_tell s.held disjoint now (txns_of s.active) (progress_in o es) a.txn t_in s.records log a.undo.images (abort_can k a mem).changed
         l.tells_serial
 
-    end_keeps : IsLogAfter o (es ++ entries_by s (AnswerAbort a)) (abort_answered s a) (and_record a.txn aborts End)
+    pub end_keeps : IsLogAfter o es (rollback_ended s a) (and_record a.txn aborts End)
     end_keeps =
         let r : LogRecord = record { txn = a.txn; previous = previous_of a.txn aborts; payload = End } in
         ended_keeps (aborts ++ r ∷ []) (record {
           tells = tells_same aborts r refl (abort_undone.uncommitted a.txn t_in) ∙ abort_undone.tells;
           uncommitted = λ u b. subst (AllByRecursion (λ v. v ≢ u)) (sym (committed_same aborts r refl)) (abort_undone.uncommitted u b);
-          each = λ u b. subst (HasLogged s.held undone u (progress_in es u)) (sym (logged_imageless aborts r refl u)) (abort_undone.each u b);
+          each = λ u b. subst (HasLogged s.held undone u (progress_in o es u)) (sym (logged_imageless aborts r refl u)) (abort_undone.each u b);
         })
         (λ b there. still_logged b.txn b.undo.images aborts r (with_compensations b.txn b.undo.images a.txn log a.undo.images (l.undo_logged b there)))
         (grown a.txn aborts End less (undo_grown a.txn log a.undo.images less l.below))
 
     -- or nothing, of one that has logged nothing
-    unlogged_keeps : IsLogAfter o (es ++ entries_by s (AnswerAbort a)) (abort_answered s a) log
+    unlogged_keeps : IsLogAfter o es (rollback_ended s a) log
     unlogged_keeps = record {
       tells_serial = record {
-        tells = l.tells_serial.tells ∙ sym (reply_now k a mem aborted);
+        tells = l.tells_serial.tells;
         uncommitted = λ u b. l.tells_serial.uncommitted u (txn_without a.txn u s.active b).0;
         each = λ u b. let there = txn_without a.txn u s.active b in
-            subst (λ p. HasLogged s.held undone u p (logged_writes log u)) (sym (ap (after start) (others_called k a mem aborted u there.1)))
-            (logged_elsewhere undone (λ id w. others_see k a mem aborted undone (undone_changes (abort_can k a mem)) u there.1 id (read_of_write s.held u id w))
-            (l.tells_serial.each u there.0));
+            logged_elsewhere undone (λ id w. rollback_elsewhere k a mem u there.1 id (read_of_write s.held u id w)) (l.tells_serial.each u there.0);
       };
       undo_logged = λ b in_rest. l.undo_logged b (among_without a.txn b s.active in_rest).0;
       below = l.below;
     }
 
-    pub abort_keeps_log : IsLogAfter o (es ++ entries_by s (AnswerAbort a)) (abort_answered s a) (log_after log s (AnswerAbort a))
-    abort_keeps_log =
-        elim (previous_of a.txn log == 0) as (λ b. IsLogAfter o (es ++ entries_by s (AnswerAbort a)) (abort_answered s a) (cond b log (and_record a.txn aborts End))) [
+    pub rollback_keeps_log : IsLogAfter o es (rollback_ended s a) (log_after log s (AnswerAbort a))
+    rollback_keeps_log =
+        elim (previous_of a.txn log == 0) as (λ b. IsLogAfter o es (rollback_ended s a) (cond b log (and_record a.txn aborts End))) [
           | true ↦ unlogged_keeps
           | false ↦ end_keeps
         ]
@@ -385,19 +386,19 @@ module _ {o : Records} {es : List Entry} {s : Sessions} {log : List LogRecord} (
       let unseen = recursion-weaker (λ r. r.txn < s.next_txn) (λ r. r.txn ≢ s.next_txn) (λ r less same. omega arith) log l.below in
       record {
         tells_serial =
-            subst (λ now. TellsSerial log s.held now s.records (s.next_txn ∷ txns_of s.active) (progress_in more)) (sym (begin_now k session)) (record {
+            subst (λ now. TellsSerial log s.held now s.records (s.next_txn ∷ txns_of s.active) (progress_in o more)) (sym (begin_now k session)) (record {
               tells = l.tells_serial.tells;
               uncommitted = λ u b. ⊎_elim
                   (λ same. subst (λ u. AllByRecursion (λ v. v ≢ u) (committed_in log)) same (committed_below s.next_txn log l.below))
                   (λ later. l.tells_serial.uncommitted u later)
                   b;
               each = λ u b. ⊎_elim
-                  (λ same. subst (λ u. HasLogged s.held s.records u (progress_in more u) (logged_writes log u)) same
-                  (subst (λ p. HasLogged s.held s.records s.next_txn p (logged_writes log s.next_txn)) (sym (ap (after start) (begin_called k session)))
+                  (λ same. subst (λ u. HasLogged s.held s.records u (progress_in o more u) (logged_writes log u)) same
+                  (subst (λ p. HasLogged s.held s.records s.next_txn p (logged_writes log s.next_txn)) (sym (own_progress_of (writes_given o.in_doubt s.next_txn) (calls_of s.next_txn more) (k.found_below s.next_txn (omega arith)) ∙ ap (after start) (begin_called k session)))
                   (subst (HasLogged s.held s.records s.next_txn start) (sym (none_logged s.next_txn log unseen)) (nothing_logged s.held s.records s.next_txn))))
                   (λ later.
                   let other : u ≢ s.next_txn = λ same. not_yet k session (subst (λ v. IsAmong v (txns_of s.active)) same later) in
-                  subst (λ p. HasLogged s.held s.records u p (logged_writes log u)) (sym (ap (after start) (begin_others k session u other))) (l.tells_serial.each u later))
+                  subst (λ p. HasLogged s.held s.records u p (logged_writes log u)) (sym (ap (progress_from (writes_given o.in_doubt u)) (begin_others k session u other))) (l.tells_serial.each u later))
                   b;
             });
         undo_logged = λ a m. ⊎_elim (λ same. subst (λ (a : SessionTxn). AreLogged log a.txn a.undo.images) same tt) (λ later. l.undo_logged a later) m;
@@ -420,59 +421,103 @@ module _ {o : Records} {es : List Entry} {s : Sessions} {log : List LogRecord} (
     below = l.below;
   }
 
-  pub quiet_keeps_log : (session u : ℕ) (x : Exchange) (committing : List SessionTxn) → IsQuiet x → IsLogAfter o (es ++ Exchanged session u x ∷ []) record s { committing = committing } log
-  quiet_keeps_log session u x committing quiet =
+  pub quiet_keeps_log : (session u : ℕ) (x : Exchange) → IsQuiet x → IsLogAfter o (es ++ Exchanged session u x ∷ []) s log
+  quiet_keeps_log session u x quiet =
       let more = es ++ Exchanged session u x ∷ [] in
-      let still : (v : ℕ) → StillLogged s.held s.records v (logged_writes log v) (progress_in es v) (progress_in more v) =
-      λ v. subst (StillLogged s.held s.records v (logged_writes log v) (progress_in es v)) (sym (all_kept k session u x quiet v).progress) (λ g. g) in
+      let still : (v : ℕ) → StillLogged s.held s.records v (logged_writes log v) (progress_in o es v) (progress_in o more v) =
+      λ v. subst (StillLogged s.held s.records v (logged_writes log v) (progress_in o es v)) (sym (all_kept k session u x quiet v).progress) (λ g. g) in
       record {
         tells_serial =
-            subst (λ now. TellsSerial log s.held now s.records (txns_of s.active) (progress_in more)) (sym (quiet_now k session u x quiet))
-            (further (txns_of s.active) (progress_in more) (λ v b. (b, still v)) l.tells_serial);
+            subst (λ now. TellsSerial log s.held now s.records (txns_of s.active) (progress_in o more)) (sym (quiet_now k session u x quiet))
+            (further (txns_of s.active) (progress_in o more) (λ v b. (b, still v)) l.tells_serial);
         undo_logged = l.undo_logged;
         below = l.below;
       }
 
+  pub log_beside : (new : Sessions) → new.records ≡ s.records → new.active ≡ s.active → new.held ≡ s.held → new.next_txn ≡ s.next_txn → IsLogAfter o es new log
+  log_beside new records active held next = record {
+    tells_serial = subst (λ xs. TellsSerial log new.held now new.records (txns_of xs) (progress_in o es)) (sym active)
+        (subst (λ R. TellsSerial log new.held now R (txns_of s.active) (progress_in o es)) (sym records)
+        (subst (λ held. TellsSerial log held now s.records (txns_of s.active) (progress_in o es)) (sym held) l.tells_serial));
+    undo_logged = λ a m. l.undo_logged a (subst (IsAmong a) active m);
+    below = subst (λ n. AllByRecursion (λ r. r.txn < n) log) (sym next) l.below;
+  }
+
+  -- a decision that leaves the serial records, and its record
+  pub decision_keeps_log : (d : Decision) (payload : Payload) → is_commit payload ≡ false → image_in payload ≡ None → decided_txn d < s.next_txn
+      → ((R : Records) → serial (written_by o (es ++ Decided d ∷ [])) R (d ∷ []) ≡ R) → IsAmong (decided_txn d) (txns_of s.active)
+      → IsLogAfter o (es ++ Decided d ∷ []) s (and_record (decided_txn d) log payload)
+  decision_keeps_log d payload no_commit no_image less passes among =
+      let t = decided_txn d in
+      let more = es ++ Decided d ∷ [] in
+      let r : LogRecord = record { txn = t; previous = previous_of t log; payload = payload } in
+      record {
+        tells_serial = record {
+          tells = tells_same log r no_commit (l.tells_serial.uncommitted t among) ∙ l.tells_serial.tells ∙ sym (decision_after o es d passes);
+          uncommitted = λ u b. subst (AllByRecursion (λ v. v ≢ u)) (sym (committed_same log r no_commit)) (l.tells_serial.uncommitted u b);
+          each = λ u b.
+              subst (λ p. HasLogged s.held s.records u p (logged_writes (log ++ r ∷ []) u)) (sym (kept_by_decided o es u d).progress)
+              (subst (HasLogged s.held s.records u (progress_in o es u)) (sym (logged_imageless log r no_image u)) (l.tells_serial.each u b));
+        };
+        undo_logged = λ b there. still_logged b.txn b.undo.images log r (l.undo_logged b there);
+        below = grown t log payload less l.below;
+      }
+
 -- ---- all of them
 
-at_new : (o : Records) (more : List Entry) (log : List LogRecord) (left new : Sessions) → new ≡ left → IsLogAfter o more left log
+at_new : (o : Opening) (more : List Entry) (log : List LogRecord) (left new : Sessions) → new ≡ left → IsLogAfter o more left log
     → IsLogAfter o more new log
 at_new o more log left new e h = subst (λ s. IsLogAfter o more s log) (sym e) h
 
-pub event_keeps_log : (o : Records) (es : List Entry) (old new : Sessions) (e : SessionEvent) (log : List LogRecord) → IsSoundAfter o es old
+module _ {o : Opening} {es : List Entry} {s : Sessions} {log : List LogRecord} (k : IsSoundAfter o es s) (l : IsLogAfter o es s log) where
+  -- other seats
+  log_seated : {left : Sessions} {more : List Entry} {log' : List LogRecord} (added : List Entry) → IsLogAfter o more left log' → IsLogAfter o more (seated s added left) log'
+  log_seated {left} added h = record { tells_serial = h.tells_serial; undo_logged = h.undo_logged; below = h.below }
+
+pub event_keeps_log : (o : Opening) (es : List Entry) (old new : Sessions) (e : SessionEvent) (log : List LogRecord) → IsSoundAfter o es old
     → IsLogAfter o es old log → StepsTo old e new → IsLogAfter o (es ++ entries_by old e) new (log_after log old e)
 event_keeps_log o es old new (MoveLocks held) log k l moves =
     at_new o _ _ _ new moves.3
     (subst (λ es. IsLogAfter o es (locks_moved old held) log) (sym (append-nil es)) (locks_keep_log k l held moves.1))
-event_keeps_log o es old new (BeginTxn session) log k l moves = at_new o _ _ _ new moves.1 (begin_keeps_log k l session)
+event_keeps_log o es old new (BeginTxn session) log k l moves = at_new o _ _ _ new moves.1 (log_seated k l (entries_by old (BeginTxn session)) (begin_keeps_log k l session))
 event_keeps_log o es old new (GiveReply a c reply) log k l moves =
-    at_new o _ _ _ new moves.4 (reply_keeps_log k l a moves.0 c reply moves.2)
-event_keeps_log o es old new (AppendCommit a) log k l moves = at_new o _ _ _ new moves.2 (commit_keeps_log k l a moves.0 moves.1)
+    at_new o _ _ _ new moves.4 (log_seated k l (entries_by old (GiveReply a c reply)) (reply_keeps_log k l a moves.0.0 moves.0.2 c reply moves.2))
+event_keeps_log o es old new (AppendCommit a) log k l moves = at_new o _ _ _ new moves.2 (log_seated k l (entries_by old (AppendCommit a)) (commit_keeps_log k l a moves.0.0 moves.1))
 event_keeps_log o es old new (PutBack a kept e r) log k l moves =
     at_new o _ _ _ new moves.4
-    (subst (λ es. IsLogAfter o es (image_put_back old a kept e r) (log_after log old (PutBack a kept e r))) (sym (append-nil es)) (put_back_keeps_log k l a moves.0 kept e r moves.1))
+    (subst (λ es. IsLogAfter o es (image_put_back old a kept e r) (log_after log old (PutBack a kept e r))) (sym (append-nil es)) (put_back_keeps_log k l a moves.0.0 kept e r moves.1))
 event_keeps_log o es old new (Doom a) log k l moves =
-    at_new o _ _ _ new moves.1 (subst (λ es. IsLogAfter o es (doomed old a) log) (sym (append-nil es)) (doom_keeps_log k l a moves.0))
-event_keeps_log o es old new (AnswerAbort a) log k l moves = at_new o _ _ _ new moves.1 (abort_keeps_log k l a moves.0)
-event_keeps_log o es old new (AnswerCommit a) log k l moves =
+    at_new o _ _ _ new moves.1 (subst (λ es. IsLogAfter o es (doomed old a) log) (sym (append-nil es)) (doom_keeps_log k l a moves.0.0))
+event_keeps_log o es old new (AnswerAbort a) log k l moves =
     at_new o _ _ _ new moves.1
-    (quiet_keeps_log k l a.session a.txn (exchange call.Commit (Ok Committed)) (without_txn a.txn old.committing) commit_is_quiet)
+    (log_seated k l (entries_by old (AnswerAbort a))
+    (quiet_keeps_log (rollback_stays_sound k a moves.0.0) (rollback_keeps_log k l a moves.0.0) a.session a.txn (exchange call.Abort (Ok Aborted)) abort_is_quiet))
+event_keeps_log o es old new (AnswerCommit a) log k l moves =
+    let h = quiet_keeps_log k l a.session a.txn (exchange call.Commit (Ok Committed)) commit_is_quiet in
+    at_new o _ _ _ new moves.1 (record { tells_serial = h.tells_serial; undo_logged = h.undo_logged; below = h.below })
 event_keeps_log o es old new (RefuseCall session t c fault) log k l moves =
     at_new o _ _ _ new moves.2
-    (quiet_keeps_log k l session t (exchange c (Err fault)) old.committing (refusal_is_quiet c fault moves.1))
-
--- the log that an open found
-pub open_has_log : (o : Records) (s : Sessions) (log : List LogRecord) → IsJustOpened o s → records_committed log ≡ o
-    → AllByRecursion (λ r. r.txn < s.next_txn) log → IsLogAfter o [] s log
-open_has_log o s log opened tells below =
-    let nobody : (t : ℕ) → IsAmong t (txns_of s.active) → ⊥ = λ t a. subst (λ xs. IsAmong t (txns_of xs)) opened.active a in
-    record {
-      tells_serial = record { tells = tells; uncommitted = λ t a. absurd (nobody t a); each = λ t a. absurd (nobody t a) };
-      undo_logged = λ a m. absurd (nobody a.txn (txn_among a s.active m));
-      below = below;
-    }
-
--- nobody is in doubt
-pub tells_if_none_prepared : (o : Records) (es : List Entry) (s : Sessions) (log : List LogRecord) → IsLogAfter o es s log → in_doubt_in log ≡ []
-    → records_told log ≡ serial_after o es
-tells_if_none_prepared o es s log l none = ap (λ ts. overlays (records_committed log) (map (logged_writes log) ts)) none ∙ l.tells_serial.tells
+    (log_seated k l (entries_by old (RefuseCall session t c fault)) (quiet_keeps_log k l session t (exchange c (Err fault)) (refusal_is_quiet c fault moves.1)))
+event_keeps_log o es old new (AppendPrepare a global granules) log k l moves =
+    let t_in = txn_among a old.active moves.0.0 in
+    let h = decision_keeps_log k l (decision.Prepare a.txn global) (Prepare global granules) refl refl (k.below a.txn t_in) (λ R. refl) t_in in
+    at_new o _ _ _ new moves.4 (record { tells_serial = h.tells_serial; undo_logged = h.undo_logged; below = h.below })
+event_keeps_log o es old new (AnswerPrepare session t global) log k l moves =
+    let h = quiet_keeps_log k l session t (exchange (call.Prepare global) (Ok Prepared)) (prepare_is_quiet global) in
+    at_new o _ _ _ new moves.2 (record { tells_serial = h.tells_serial; undo_logged = h.undo_logged; below = h.below })
+event_keeps_log o es old new (AppendResolve a global) log k l moves =
+    let h = commit_keeps_log k l a moves.0 moves.1 in
+    at_new o _ _ _ new moves.3 (record { tells_serial = h.tells_serial; undo_logged = h.undo_logged; below = h.below })
+event_keeps_log o es old new (AppendRollback a global) log k l moves =
+    let t_in = txn_among a old.active moves.0 in
+    let h = decision_keeps_log (doom_stays_sound k a moves.0) (doom_keeps_log k l a moves.0) (decision.RollBack a.txn) RollbackDecided refl refl (k.below a.txn t_in) (λ R. refl)
+    (subst (IsAmong a.txn) (sym (txns_with a.txn (undo_rolled a.undo a.undo.images Whole) old.active)) t_in) in
+    at_new o _ _ _ new moves.2 (record { tells_serial = h.tells_serial; undo_logged = h.undo_logged; below = h.below })
+event_keeps_log o es old new (EndRollback a) log k l moves =
+    at_new o _ _ _ new moves.2 (subst (λ es. IsLogAfter o es (rollback_ended old a) (log_after log old (EndRollback a))) (sym (append-nil es)) (end_keeps k l a moves.0.0))
+event_keeps_log o es old new (AnswerResolve session r) log k l moves =
+    let h = quiet_keeps_log k l session r.txn (exchange (call.Resolve r.global r.outcome) (Ok Resolved)) (resolve_is_quiet r.global r.outcome) in
+    at_new o _ _ _ new moves.2 (record { tells_serial = h.tells_serial; undo_logged = h.undo_logged; below = h.below })
+event_keeps_log o es old new (AnswerInDoubt session t pairs) log k l moves =
+    at_new o _ _ _ new moves.2
+    (log_seated k l (entries_by old (AnswerInDoubt session t pairs)) (quiet_keeps_log k l session t (exchange call.InDoubt (Ok (AreInDoubt pairs))) (in_doubt_is_quiet pairs)))

@@ -6,6 +6,7 @@ use Rattle.std.specs.FinMap.{get}
 use Rattle.std.specs.List.{AllByRecursion}
 use Rattle.shore_types.specs.Images.{Image}
 use Rattle.shore_types.specs.declared.ids.Rid.{Rid}
+use Rattle.shore_model.specs.declared.histories.Opening.{Opening}
 use Rattle.shore_model.specs.declared.histories.Entry.{Entry}
 use Rattle.shore_model.specs.declared.log_records.LogRecord.{LogRecord}
 use Rattle.shore_model.specs.Locks.{MayRead}
@@ -25,7 +26,7 @@ one_of_all : (P : Rid → Type 0) (id : Rid) (xs : List (Rid × Image)) → AllB
 one_of_all P id [] h a = absurd a
 one_of_all P id (x ∷ xs) h a = ⊎_elim (λ same. subst P same h.0) (λ later. one_of_all P id xs h.1 later) a
 
-module _ {o : Records} {es : List Entry} {s : Sessions} {log : List LogRecord} (k : IsSoundAfter o es s) (l : IsLogAfter o es s log) where
+module _ {o : Opening} {es : List Entry} {s : Sessions} {log : List LogRecord} (k : IsSoundAfter o es s) (l : IsLogAfter o es s log) where
   abbrev now : Records
   now = serial_after o es
 

@@ -31,7 +31,7 @@ image_still W (Some e) id h =
     ⊎_elim (λ same. subst (λ q. IsSome (get (insert W e.0 e.1) q)) (sym same) (subst IsSome (sym (wrote_here W e.0 e.1)) refl))
     (λ other. subst IsSome (sym (wrote_there W e.0 e.1 id other)) h) (told_apart id e.0)
 
-record_still : (u : ℕ) (log : List LogRecord) (r : LogRecord) (id : Rid) → IsSome (get (logged_writes log u) id)
+pub record_still : (u : ℕ) (log : List LogRecord) (r : LogRecord) (id : Rid) → IsSome (get (logged_writes log u) id)
     → IsSome (get (logged_writes (log ++ r ∷ []) u) id)
 record_still u log r id h =
     elim (r.txn == u) as (λ b. (r.txn == u) ≡ b → IsSome (get (logged_writes (log ++ r ∷ []) u) id)) [

@@ -156,7 +156,7 @@ undone_elsewhere log t q none image (c ∷ cs) h = ⊎_elim
 
 -- ---- others
 
-changed_there : (q : Rid) (p : Payload) → changes_id q p ≡ true → id_in p ≡ Some q
+pub changed_there : (q : Rid) (p : Payload) → changes_id q p ≡ true → id_in p ≡ Some q
 changed_there q (Change id before after) h = ap Some (sym (same_id q id h))
 changed_there q (Compensation id after undo_next) h = ap Some (sym (same_id q id h))
 changed_there q _ h = cc

@@ -4,6 +4,7 @@ use Rattle.std.specs.FinMap.{get}
 use Rattle.std.specs.List.{AllByRecursion}
 use Rattle.shore_types.specs.Images.{Image}
 use Rattle.shore_types.specs.declared.ids.Rid.{Rid}
+use Rattle.shore_model.specs.declared.histories.Opening.{Opening}
 use Rattle.shore_model.specs.declared.histories.Entry.{Entry}
 use Rattle.shore_model.specs.Locks.{MayRead, MayWrite}
 use Rattle.shore_model.specs.Records.{Records, put_image}
@@ -17,7 +18,7 @@ use Rattle.laws_lives.specs.Soundness.{IsSoundAfter}
 use Rattle.laws_lives.specs.UndoLists.{MayRoll, least_kept}
 use Rattle.laws_lives.specs.Views.{IsAmong}
 
-module _ {o : Records} {es : List Entry} {s : Sessions} (k : IsSoundAfter o es s) (a : SessionTxn) (mem : IsAmong a s.active) where
+module _ {o : Opening} {es : List Entry} {s : Sessions} (k : IsSoundAfter o es s) (a : SessionTxn) (mem : IsAmong a s.active) where
   pub doom_stays_sound : IsSoundAfter o es (doomed s a)
   doom_stays_sound = rolling_stays_sound k a mem s.records (λ id. inl refl) a.undo.images Whole (doom_undoes (k.undoes a mem))
 

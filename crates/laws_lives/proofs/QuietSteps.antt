@@ -1,34 +1,36 @@
 -- Events that leave every transaction as far as it was: a refusal, the answer to a commit, and locks that move.
-use Rattle.std.proofs.Common.{◌≡◌, ◌≢◌, ◌++◌, ◌<◌, ℕ, List, [], ◌∷◌, sym, ap, subst, ◌∙◌, arith}
+use Rattle.std.proofs.Common.{◌≡◌, ◌≢◌, ◌++◌, ◌<◌, ◌≤◌, ℕ, List, [], ◌∷◌, sym, ap, subst, ◌∙◌, arith}
 use Rattle.std.specs.Prelude.{All}
 use Rattle.std.specs.FinMap.{get}
 use Rattle.std.specs.List.{AllByRecursion}
 use Rattle.shore_types.specs.declared.ids.Rid.{Rid}
+use Rattle.shore_model.specs.declared.histories.Opening.{Opening}
 use Rattle.shore_model.specs.declared.calls.Exchange.{Exchange}
+use Rattle.shore_model.specs.declared.histories.Decision.{Decision}
 use Rattle.shore_model.specs.declared.histories.Entry.{Entry}
-use Rattle.shore_model.specs.declared.histories.Entry.TheVariants.{Exchanged}
+use Rattle.shore_model.specs.declared.progress.Progress.{Progress}
+use Rattle.shore_model.specs.declared.histories.Entry.TheVariants.{Exchanged, Decided}
 use Rattle.shore_model.specs.declared.holds.Hold.{Hold}
-use Rattle.shore_model.specs.Alone.{start, after}
-use Rattle.shore_model.specs.Histories.{calls_of, decisions, serial}
+use Rattle.shore_model.specs.Histories.{Sound, calls_of, decisions, serial}
 use Rattle.shore_model.specs.Locks.{Harmony, MayRead, MayWrite}
 use Rattle.shore_model.specs.Records.{Records}
-use Rattle.laws_lives.proofs.Entries.{calls-other, decisions-exchanged}
+use Rattle.laws_lives.proofs.Entries.{calls-decided, calls-other, decisions-decided, decisions-exchanged}
 use Rattle.laws_lives.proofs.Exchanges.{IsQuiet}
-use Rattle.laws_lives.proofs.Lists.{recursion-each}
+use Rattle.laws_lives.proofs.Lists.{recursion-each, recursion-push}
 use Rattle.laws_lives.proofs.Members.{txn_among}
 use Rattle.laws_lives.proofs.Soundness.{sound_stays}
 use Rattle.laws_lives.proofs.StrongerLocks.{reads_up, writes_up}
 use Rattle.laws_lives.proofs.Standing.{stands_on}
-use Rattle.laws_lives.proofs.Turns.{KeepsTurn, kept_by_quiet, serial-kept}
+use Rattle.laws_lives.proofs.Turns.{AreKept, KeepsTurn, kept_by_decided, kept_by_quiet, decision_after, serial-kept}
 use Rattle.laws_lives.proofs.UndoLists.{undo_kept_by_locks}
 use Rattle.laws_lives.proofs.Views.{locks_may_move}
 use Rattle.laws_lives.specs.SessionSteps.{KeepsLocks}
-use Rattle.laws_lives.specs.Sessions.{SessionTxn, Sessions, locks_moved, txns_of}
-use Rattle.laws_lives.specs.Soundness.{IsSoundAfter, decided_txn, serial_after, written_by}
+use Rattle.laws_lives.specs.Sessions.{IsFree, SessionTxn, Sessions, locks_moved, txns_of}
+use Rattle.laws_lives.specs.Soundness.{IsSoundAfter, decided_txn, history_from, progress_in, serial_after, written_by}
 use Rattle.laws_lives.specs.UndoLists.{CanUndo}
-use Rattle.laws_lives.specs.Views.{IsAmong, Stand}
+use Rattle.laws_lives.specs.Views.{IsAmong, Stand, StayRight}
 
-module _ {o : Records} {es : List Entry} {s : Sessions} (k : IsSoundAfter o es s) where
+module _ {o : Opening} {es : List Entry} {s : Sessions} (k : IsSoundAfter o es s) where
   abbrev now : Records
   now = serial_after o es
 
@@ -37,31 +39,91 @@ module _ {o : Records} {es : List Entry} {s : Sessions} (k : IsSoundAfter o es s
     abbrev pub with_quiet : List Entry
     with_quiet = es ++ Exchanged session u x ∷ []
 
-    pub all_kept : (t : ℕ) → KeepsTurn es with_quiet t
-    all_kept t = kept_by_quiet es t u session x quiet
+    pub all_kept : (t : ℕ) → KeepsTurn o es with_quiet t
+    all_kept t = kept_by_quiet o es t u session x quiet
 
     pub quiet_now : serial_after o with_quiet ≡ now
     quiet_now =
-        ap (serial (written_by with_quiet) o) (decisions-exchanged es u session x)
-        ∙ serial-kept es with_quiet o (decisions es)
-        (recursion-each (λ d. KeepsTurn es with_quiet (decided_txn d)) (λ d. all_kept (decided_txn d)) (decisions es))
+        ap (serial (written_by o with_quiet) o.records) (decisions-exchanged es u session x)
+        ∙ serial-kept o es with_quiet (decisions es)
+        (recursion-each (λ d. KeepsTurn o es with_quiet (decided_txn d)) (λ d. all_kept (decided_txn d)) (decisions es))
 
-    pub quiet_stays_sound : (committing : List SessionTxn) → u < s.next_txn → IsSoundAfter o with_quiet record s { committing = committing }
-    quiet_stays_sound committing below = record {
+    pub quiet_stays_sound : u < s.next_txn → IsSoundAfter o with_quiet s
+    quiet_stays_sound below = record {
       sound =
           sound_stays o es with_quiet (decisions-exchanged es u session x)
-          (recursion-each (λ d. KeepsTurn es with_quiet (decided_txn d)) (λ d. all_kept (decided_txn d)) (decisions es)) k.sound;
+          (recursion-each (λ d. KeepsTurn o es with_quiet (decided_txn d)) (λ d. all_kept (decided_txn d)) (decisions es)) k.sound;
       standing = k.standing;
-      stands_for = λ a m. stands_on es with_quiet a (k.standing a.txn) (ap (λ p. p.writes) (all_kept a.txn).progress) (k.stands_for a m);
+      stands_for = λ a m. stands_on o es with_quiet a (k.standing a.txn) (ap (λ (p : Progress). p.writes) (all_kept a.txn).progress) (k.stands_for a m);
       stand = subst (λ now. Stand s.held now s.records (txns_of s.active) k.standing) (sym quiet_now) k.stand;
       replies = λ t a S agree. (all_kept t).replies S (k.replies t a S (λ id r. agree id r ∙ ap (λ R. get R id) quiet_now));
-      undoes = λ a m. subst (λ now. CanUndo s.held now s.records a.txn a.undo (after start (calls_of a.txn with_quiet))) (sym quiet_now)
+      undoes = λ a m. subst (λ now. CanUndo s.held now s.records a.txn a.undo (progress_in o with_quiet a.txn)) (sym quiet_now)
           (subst (CanUndo s.held now s.records a.txn a.undo) (sym (all_kept a.txn).progress) (k.undoes a m));
-      undecided = λ t a. subst (AllByRecursion (λ d. decided_txn d ≢ t)) (sym (decisions-exchanged es u session x)) (k.undecided t a);
+      undecided = λ t a is_free. subst (AllByRecursion (λ d. decided_txn d ≢ t)) (sym (decisions-exchanged es u session x)) (k.undecided t a is_free);
       below = k.below;
       decided = subst (AllByRecursion (λ d. decided_txn d < s.next_txn)) (sym (decisions-exchanged es u session x)) k.decided;
       uncalled = λ t le. calls-other es t u session x (λ same. omega arith) ∙ k.uncalled t le;
       unheld = k.unheld;
+      own = k.own;
+      found_below = k.found_below;
+    }
+
+  -- what neither records, nor locks, nor transactions under way are of may change
+  pub sound_beside : (new : Sessions) → new.records ≡ s.records → new.active ≡ s.active → new.held ≡ s.held → new.next_txn ≡ s.next_txn
+      → ((t : ℕ) → IsAmong t (txns_of s.active) → IsFree new t → IsFree s t) → IsSoundAfter o es new
+  sound_beside new records active held next free =
+      let at : (t : ℕ) → IsAmong t (txns_of new.active) → IsAmong t (txns_of s.active) = λ t b. subst (λ xs. IsAmong t (txns_of xs)) active b in
+      let member : (a : SessionTxn) → IsAmong a new.active → IsAmong a s.active = λ a m. subst (IsAmong a) active m in
+      record {
+        sound = k.sound;
+        standing = k.standing;
+        stands_for = λ a m. k.stands_for a (member a m);
+        stand = subst (λ xs. Stand new.held now new.records (txns_of xs) k.standing) (sym active)
+            (subst (λ R. Stand new.held now R (txns_of s.active) k.standing) (sym records)
+            (subst (λ held. Stand held now s.records (txns_of s.active) k.standing) (sym held) k.stand));
+        replies = λ t b. subst (λ held. StayRight held t now (calls_of t es)) (sym held) (k.replies t (at t b));
+        undoes = λ a m. subst (λ R. CanUndo new.held now R a.txn a.undo (progress_in o es a.txn)) (sym records)
+            (subst (λ held. CanUndo held now s.records a.txn a.undo (progress_in o es a.txn)) (sym held) (k.undoes a (member a m)));
+        undecided = λ t b is_free. k.undecided t (at t b) (free t (at t b) is_free);
+        below = λ t b. subst (λ n. t < n) (sym next) (k.below t (at t b));
+        decided = subst (λ n. AllByRecursion (λ d. decided_txn d < n) (decisions es)) (sym next) k.decided;
+        uncalled = λ t le. k.uncalled t (subst (λ n. n ≤ t) next le);
+        unheld = subst (λ held. All (λ (h : Hold). h.txn < new.next_txn) held) (sym held) (subst (λ n. All (λ (h : Hold). h.txn < n) s.held) (sym next) k.unheld);
+        own = λ t b is_free. k.own t (at t b) (free t (at t b) is_free);
+        found_below = λ t le. k.found_below t (subst (λ n. n ≤ t) next le);
+      }
+
+  -- a decision that leaves the serial records, and takes its turn if it has one
+  module _ (d : Decision) (turn : Sound (history_from o (es ++ Decided d ∷ []))) (passes : (R : Records) → serial (written_by o (es ++ Decided d ∷ [])) R (d ∷ []) ≡ R) (own : decided_txn d < s.next_txn) where
+    abbrev pub with_decision : List Entry
+    with_decision = es ++ Decided d ∷ []
+
+    pub decision_kept : AreKept o es with_decision (decisions es)
+    decision_kept = recursion-each (λ c. KeepsTurn o es with_decision (decided_txn c)) (λ c. kept_by_decided o es (decided_txn c) d) (decisions es)
+
+    pub decision_now : serial_after o with_decision ≡ now
+    decision_now = decision_after o es d passes
+
+    pub decision_called : (t : ℕ) → calls_of t with_decision ≡ calls_of t es
+    decision_called t = calls-decided es t d
+
+    pub decision_stays_sound : ((t : ℕ) → IsAmong t (txns_of s.active) → IsFree s t → decided_txn d ≢ t) → IsSoundAfter o with_decision s
+    decision_stays_sound others = record {
+      sound = turn;
+      standing = k.standing;
+      stands_for = λ a m. stands_on o es with_decision a (k.standing a.txn) (ap (λ (p : Progress). p.writes) (kept_by_decided o es a.txn d).progress) (k.stands_for a m);
+      stand = subst (λ now. Stand s.held now s.records (txns_of s.active) k.standing) (sym decision_now) k.stand;
+      replies = λ t a S agree. (kept_by_decided o es t d).replies S (k.replies t a S (λ id r. agree id r ∙ ap (λ R. get R id) decision_now));
+      undoes = λ a m. subst (λ now. CanUndo s.held now s.records a.txn a.undo (progress_in o with_decision a.txn)) (sym decision_now)
+          (subst (CanUndo s.held now s.records a.txn a.undo) (sym (kept_by_decided o es a.txn d).progress) (k.undoes a m));
+      undecided = λ t a is_free. subst (AllByRecursion (λ c. decided_txn c ≢ t)) (sym (decisions-decided es d))
+          (recursion-push (λ c. decided_txn c ≢ t) (decisions es) d (k.undecided t a is_free) (others t a is_free));
+      below = k.below;
+      decided = subst (AllByRecursion (λ c. decided_txn c < s.next_txn)) (sym (decisions-decided es d)) (recursion-push (λ c. decided_txn c < s.next_txn) (decisions es) d k.decided own);
+      uncalled = λ t le. decision_called t ∙ k.uncalled t le;
+      unheld = k.unheld;
+      own = k.own;
+      found_below = k.found_below;
     }
 
   -- locks
@@ -89,4 +151,6 @@ module _ {o : Records} {es : List Entry} {s : Sessions} (k : IsSoundAfter o es s
       decided = k.decided;
       uncalled = k.uncalled;
       unheld = known;
+      own = k.own;
+      found_below = k.found_below;
     }

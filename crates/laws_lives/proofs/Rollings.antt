@@ -4,6 +4,7 @@ use Rattle.std.specs.Prelude.{IsSome}
 use Rattle.std.specs.FinMap.{get}
 use Rattle.shore_types.specs.Images.{Image}
 use Rattle.shore_types.specs.declared.ids.Rid.{Rid}
+use Rattle.shore_model.specs.declared.histories.Opening.{Opening}
 use Rattle.shore_model.specs.declared.histories.Entry.{Entry}
 use Rattle.shore_model.specs.Locks.{MayRead, MayWrite}
 use Rattle.shore_model.specs.Records.{Records, WriteSet}
@@ -20,7 +21,7 @@ use Rattle.laws_lives.specs.Views.{IsAmong, Sees, Stand}
 pub some_not_none : {A : Type 0} {P : Type 0} (x : A) → Some x ≡ None → P
 some_not_none x e = cc
 
-module _ {o : Records} {es : List Entry} {s : Sessions} (k : IsSoundAfter o es s) (a : SessionTxn) (mem : IsAmong a s.active) where
+module _ {o : Opening} {es : List Entry} {s : Sessions} (k : IsSoundAfter o es s) (a : SessionTxn) (mem : IsAmong a s.active) where
   abbrev now : Records
   now = serial_after o es
 
@@ -30,7 +31,7 @@ module _ {o : Records} {es : List Entry} {s : Sessions} (k : IsSoundAfter o es s
     rolling_elsewhere u other id r =
         ⊎_elim (λ same. same) (λ w. absurd (writer_excludes k.stand a.txn u id (λ same. other (sym same)) w r)) (changes id)
 
-    module _ (kept : List (Rid × Image)) (r : Rollback) (can : CanUndo s.held now R' a.txn (undo_rolled a.undo kept r) (progress_in es a.txn)) where
+    module _ (kept : List (Rid × Image)) (r : Rollback) (can : CanUndo s.held now R' a.txn (undo_rolled a.undo kept r) (progress_in o es a.txn)) where
       abbrev undo' : UndoList
       undo' = undo_rolled a.undo kept r
 
@@ -38,7 +39,7 @@ module _ {o : Records} {es : List Entry} {s : Sessions} (k : IsSoundAfter o es s
       abbrev standing' : ℕ → WriteSet
       standing' = with_standing k.standing a.txn (written_at R' kept)
 
-      left_for : (b : SessionTxn) → HasNewUndo a.txn undo' s.active b → IsWriteSetOf es b (standing' b.txn)
+      left_for : (b : SessionTxn) → HasNewUndo a.txn undo' s.active b → IsWriteSetOf o es b (standing' b.txn)
       left_for b one =
           ⊎_elim
           (λ it.
@@ -51,15 +52,15 @@ module _ {o : Records} {es : List Entry} {s : Sessions} (k : IsSoundAfter o es s
                 (left_stands can id (subst (λ W. IsSome (get W id)) its some));
           })
           (λ other.
-          subst (IsWriteSetOf es b) (sym (standing_others k.standing a.txn (written_at R' kept) b.txn other.0))
+          subst (IsWriteSetOf o es b) (sym (standing_others k.standing a.txn (written_at R' kept) b.txn other.0))
           (k.stands_for b (subst (λ y. IsAmong y s.active) (sym other.1) one.there)))
           one.one
 
-      left_can : (b : SessionTxn) → HasNewUndo a.txn undo' s.active b → CanUndo s.held now R' b.txn b.undo (progress_in es b.txn)
+      left_can : (b : SessionTxn) → HasNewUndo a.txn undo' s.active b → CanUndo s.held now R' b.txn b.undo (progress_in o es b.txn)
       left_can b one =
           ⊎_elim
-          (λ it. subst (λ u. CanUndo s.held now R' u b.undo (progress_in es u)) (sym it.0)
-          (subst (λ tr. CanUndo s.held now R' a.txn tr (progress_in es a.txn)) (sym it.1) can))
+          (λ it. subst (λ u. CanUndo s.held now R' u b.undo (progress_in o es u)) (sym it.0)
+          (subst (λ tr. CanUndo s.held now R' a.txn tr (progress_in o es a.txn)) (sym it.1) can))
           (λ other.
           undo_kept_by_others (k.undoes b (subst (λ y. IsAmong y s.active) (sym other.1) one.there)) now R'
           (λ id r. (rolling_elsewhere b.txn other.0 id r, refl)))
@@ -76,9 +77,11 @@ module _ {o : Records} {es : List Entry} {s : Sessions} (k : IsSoundAfter o es s
             (subst (Sees s.held now R' a.txn) (sym (standing_its k.standing a.txn (written_at R' kept))) (sees_left can)));
         replies = λ u b. k.replies u (subst (IsAmong u) (txns_with a.txn undo' s.active) b);
         undoes = λ b in_with. left_can b (among_with a.txn undo' b s.active in_with);
-        undecided = λ u b. k.undecided u (subst (IsAmong u) (txns_with a.txn undo' s.active) b);
+        undecided = λ u b is_free. k.undecided u (subst (IsAmong u) (txns_with a.txn undo' s.active) b) is_free;
         below = λ u b. k.below u (subst (IsAmong u) (txns_with a.txn undo' s.active) b);
         decided = k.decided;
         uncalled = k.uncalled;
         unheld = k.unheld;
+        own = λ u b is_free. k.own u (subst (IsAmong u) (txns_with a.txn undo' s.active) b) is_free;
+        found_below = k.found_below;
       }

@@ -8,6 +8,7 @@ use Rattle.shore_types.specs.Ids.{rid_cmp}
 use Rattle.shore_types.specs.Images.{Image}
 use Rattle.shore_types.specs.declared.ids.Rid.{Rid}
 use Rattle.shore_model.specs.declared.histories.Entry.{Entry}
+use Rattle.shore_model.specs.declared.histories.Opening.{Opening}
 use Rattle.shore_model.specs.declared.holds.Hold.{Hold}
 use Rattle.shore_model.specs.declared.progress.Progress.{Progress}
 use Rattle.shore_model.specs.Locks.{MayWrite}
@@ -35,13 +36,13 @@ standing_others standing t W u other = ap (λ b. cond b W (standing u)) (ne_eqb 
 -- ---- what stands for a transaction
 
 -- no rollback is under way
-pub stands_whole : (es : List Entry) (a : SessionTxn) (W : WriteSet) → a.undo.rolling ≡ None → W ≡ written_by es a.txn → IsWriteSetOf es a W
-stands_whole es a W none is = record { written = λ i. is; left = λ rolls. absurd (rolls none) }
+pub stands_whole : (o : Opening) (es : List Entry) (a : SessionTxn) (W : WriteSet) → a.undo.rolling ≡ None → W ≡ written_by o es a.txn → IsWriteSetOf o es a W
+stands_whole o es a W none is = record { written = λ i. is; left = λ rolls. absurd (rolls none) }
 
 -- the history says of it what it said
-pub stands_on : (es more : List Entry) (a : SessionTxn) (W : WriteSet) → written_by more a.txn ≡ written_by es a.txn → IsWriteSetOf es a W
-    → IsWriteSetOf more a W
-stands_on es more a W same h = record { written = λ none. h.written none ∙ sym same; left = h.left }
+pub stands_on : (o : Opening) (es more : List Entry) (a : SessionTxn) (W : WriteSet) → written_by o more a.txn ≡ written_by o es a.txn → IsWriteSetOf o es a W
+    → IsWriteSetOf o more a W
+stands_on o es more a W same h = record { written = λ none. h.written none ∙ sym same; left = h.left }
 
 -- ---- a rollback is under way
 

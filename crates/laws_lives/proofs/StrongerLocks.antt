@@ -11,7 +11,7 @@ use Rattle.shore_model.specs.Locks.{Harmony, MayRead, MayWrite, path}
 use Rattle.shore_model.specs.Modes.{is_at_most, is_read, is_write}
 use Rattle.laws_lives.specs.SessionSteps.{KeepsLocks}
 
-at_most_itself : (m : Mode) → IsTrue (is_at_most m m)
+pub at_most_itself : (m : Mode) → IsTrue (is_at_most m m)
 at_most_itself IS = refl
 at_most_itself IX = refl
 at_most_itself SH = refl

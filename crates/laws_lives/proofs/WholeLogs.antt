@@ -7,6 +7,7 @@ use Rattle.std.proofs.lemmas.Bool.{eq-eqb, ne_eqb, cases_Bool, true≢false}
 use Rattle.std.proofs.lemmas.List.Elements.{All-from_recursion}
 use Rattle.shore_types.specs.Images.{Image}
 use Rattle.shore_types.specs.declared.ids.Rid.{Rid}
+use Rattle.shore_model.specs.declared.histories.Opening.{Opening}
 use Rattle.shore_model.specs.declared.histories.Entry.{Entry}
 use Rattle.shore_model.specs.declared.log_records.LogRecord.{LogRecord}
 use Rattle.shore_model.specs.declared.log_records.Payload.{Payload}
@@ -18,8 +19,8 @@ use Rattle.laws_lives.proofs.OneMore.{has-not_its, id_itself, writes_none}
 use Rattle.laws_lives.proofs.UndoRecords.{lawful_next}
 use Rattle.laws_lives.proofs.Writers.{never_true, one_writer_at_most, same_or_not}
 use Rattle.laws_lives.specs.Writers.{HasOneWriterAtMost, changes_id, is_this_id}
+use Rattle.laws_lives.proofs.DoubtRecords.{DecidesNone, compensations_decide_none}
 use Rattle.laws_lives.proofs.EndedTxns.{over_same}
-use Rattle.laws_lives.proofs.Lists.{recursion-push}
 use Rattle.laws_lives.proofs.LogSteps.{disjoint}
 use Rattle.laws_lives.proofs.LoggedInPlace.{stand_logged}
 use Rattle.laws_lives.proofs.UnansweredChanges.{compensation_answers, unanswered_other}
@@ -28,47 +29,15 @@ use Rattle.laws_lives.specs.Logged.{and_compensations, and_record, next_to_undo}
 use Rattle.laws_lives.specs.Sessions.{Sessions, txns_of}
 use Rattle.laws_lives.specs.Soundness.{IsSoundAfter}
 use Rattle.laws_lives.specs.Views.{IsAmong}
-use Rattle.laws_lives.specs.WholeLogs.{HasNoPrepare, IsWholeLog}
-
--- ---- nobody has prepared
-
-prepares_none : (log : List LogRecord) → HasNoPrepare log → filter_map prepare_of log ≡ []
-prepares_none [] h = refl
-prepares_none (r ∷ log) h = ap (λ b. cons_option (cond b (Some r.txn) None) (filter_map prepare_of log)) h.0 ∙ prepares_none log h.1
-
-and_false : (a b : Bool) → b ≡ false → (a && b) ≡ false
-and_false true b e = e
-and_false false b e = refl
-
-or_false : (a b : Bool) → a ≡ false → b ≡ false → (a || b) ≡ false
-or_false true b e f = e
-or_false false b e f = f
-
-has_no_prepare : (t : ℕ) (log : List LogRecord) → HasNoPrepare log → has is_prepare t log ≡ false
-has_no_prepare t [] h = refl
-has_no_prepare t (r ∷ log) h =
-    or_false ((r.txn == t) && is_prepare r.payload) (has is_prepare t log) (and_false (r.txn == t) (is_prepare r.payload) h.0) (has_no_prepare t log h.1)
-
-pub all_unprepared : (t : ℕ) (log : List LogRecord) → HasNoPrepare log → is_unprepared t log ≡ true
-all_unprepared t log h = ap not (has_no_prepare t log h)
-
-pub all_undoable : (t : ℕ) (log : List LogRecord) → HasNoPrepare log → is_undoable t log ≡ true
-all_undoable t log h = ap (λ b. b || has is_rollback t log) (all_unprepared t log h)
-
-pub none_in_doubt : (t : ℕ) (log : List LogRecord) → HasNoPrepare log → is_in_doubt t log ≡ false
-none_in_doubt t log h = ap (λ b. b && not (has is_commit t log) && not (has is_rollback t log)) (has_no_prepare t log h)
-
-pub tells_the_committed : (log : List LogRecord) → HasNoPrepare log → records_told log ≡ records_committed log
-tells_the_committed log h =
-    ap (λ us. overlays (records_committed log) (map (logged_writes log) (filter (λ t. is_in_doubt t log) us))) (prepares_none log h)
+use Rattle.laws_lives.specs.WholeLogs.{IsWholeLog}
 
 -- ---- records in place
 
 -- a record that names the id is a change of it
-names_change : (id : Rid) (r : LogRecord) → id_in r.payload ≡ Some id → changes_id id r.payload ≡ true
+pub names_change : (id : Rid) (r : LogRecord) → id_in r.payload ≡ Some id → changes_id id r.payload ≡ true
 names_change id r e = ap (is_this_id id) e ∙ id_itself id
 
-module _ {o : Records} {es : List Entry} {s : Sessions} {log : List LogRecord} (k : IsSoundAfter o es s) (l : IsLogAfter o es s log) (w : IsWholeLog log s) where
+module _ {o : Opening} {es : List Entry} {s : Sessions} {log : List LogRecord} (k : IsSoundAfter o es s) (l : IsLogAfter o es s log) (w : IsWholeLog log s) where
   -- without a writer what is committed stands there, and a writer's last image if there is one
   image_by_writer : (id : Rid) → HasOneWriterAtMost log id → image_of_record log id ≡ get s.records id
   image_by_writer id (inl none) =
@@ -121,22 +90,20 @@ module _ {o : Records} {es : List Entry} {s : Sessions} {log : List LogRecord} (
 -- the log with more records of t, none of them its end
 pub record HasMoreOf (t : ℕ) (log more : List LogRecord) : Type 0 where
   pub lawful : Lawful more
-  pub no_prepare : HasNoPrepare more
   pub over : (u : ℕ) → is_over u more ≡ is_over u log
   pub others : (u : ℕ) → u ≢ t → unanswered u more ≡ unanswered u log
   pub changed : (u : ℕ) (id : Rid) → u ≢ t → has (changes_id id) u more ≡ has (changes_id id) u log
 
-pub no_more : (t : ℕ) (log : List LogRecord) → Lawful log → HasNoPrepare log → HasMoreOf t log log
-no_more t log lawful no_prepare =
-    record { lawful = lawful; no_prepare = no_prepare; over = λ u. refl; others = λ u other. refl; changed = λ u id other. refl }
+pub no_more : (t : ℕ) (log : List LogRecord) → Lawful log → HasMoreOf t log log
+no_more t log lawful =
+    record { lawful = lawful; over = λ u. refl; others = λ u other. refl; changed = λ u id other. refl }
 
-pub one_more : (t : ℕ) (log more : List LogRecord) (p : Payload) → HasMoreOf t log more → is_commit p ≡ false → is_end p ≡ false → is_prepare p ≡ false
+pub one_more : (t : ℕ) (log more : List LogRecord) (p : Payload) → HasMoreOf t log more → is_commit p ≡ false → is_end p ≡ false
     → MayFollow more record { txn = t; previous = previous_of t more; payload = p } → HasMoreOf t log (and_record t more p)
-one_more t log more p k no_commit no_end no_prepare follows =
+one_more t log more p k no_commit no_end follows =
     let r : LogRecord = record { txn = t; previous = previous_of t more; payload = p } in
     record {
       lawful = lawful_next more r k.lawful follows;
-      no_prepare = recursion-push (λ r. is_prepare r.payload ≡ false) more r k.no_prepare no_prepare;
       over = λ u. over_same more r no_commit no_end u ∙ k.over u;
       others = λ u other. unanswered_other u more r (λ e. other (sym e)) ∙ k.others u other;
       changed = λ u id other. has-not_its more r (changes_id id) u (λ e. other (sym e)) ∙ k.changed u id other;
@@ -146,16 +113,23 @@ module _ (t : ℕ) (log : List LogRecord) (above : 0 < t) (not_over : is_over t 
   pub is_of_txn : (p : Payload) → is_of_checkpoint p ≡ false → is_of_checkpoint p ≡ (t == 0)
   is_of_txn p e = e ∙ sym (ne_eqb t 0 (λ is. omega arith))
 
-  pub compensations_on : (kept images : List (Rid × Image)) → Lawful log → HasNoPrepare log → MatchesUndo log t (kept ++ images)
-      → HasMoreOf t log (and_compensations t log images)
-  compensations_on kept [] lawful no_prepare h = no_more t log lawful no_prepare
-  compensations_on kept (e ∷ images) lawful no_prepare h =
-      let k = compensations_on (kept ++ e ∷ []) images lawful no_prepare (subst (MatchesUndo log t) (sym (append_assoc kept (e ∷ []) images)) h) in
-      let so_far = and_compensations t log images in
-      let p : Payload = Compensation e.0 e.1 (next_to_undo t so_far) in
-      one_more t log so_far p k refl refl refl record {
-        of = is_of_txn p refl;
-        previous = refl;
-        not_over = k.over t ∙ not_over;
-        says = (all_undoable t so_far k.no_prepare, compensation_answers t log kept images e h);
-      }
+  -- it has no Prepare, or a Rollback decided
+  module _ (undoable : is_undoable t log ≡ true) where
+    still_undoable : (more : List LogRecord) → DecidesNone log more → is_undoable t more ≡ true
+    still_undoable more none = ap (λ b. not b || has is_rollback t more) (none.prepares t) ∙ ap (λ b. not (has is_prepare t log) || b) (none.rollbacks t) ∙ undoable
+
+    pub compensations_on : (kept images : List (Rid × Image)) → Lawful log → MatchesUndo log t (kept ++ images) → HasMoreOf t log (and_compensations t log images)
+    compensations_on kept [] lawful h = no_more t log lawful
+    compensations_on kept (e ∷ images) lawful h =
+        let k = compensations_on (kept ++ e ∷ []) images lawful (subst (MatchesUndo log t) (sym (append_assoc kept (e ∷ []) images)) h) in
+        let so_far = and_compensations t log images in
+        let p : Payload = Compensation e.0 e.1 (next_to_undo t so_far) in
+        one_more t log so_far p k refl refl record {
+          of = is_of_txn p refl;
+          previous = refl;
+          not_over = k.over t ∙ not_over;
+          says = (still_undoable so_far (compensations_decide_none t log images), compensation_answers t log kept images e h);
+        }
+
+    pub undoable_after : (images : List (Rid × Image)) → is_undoable t (and_compensations t log images) ≡ true
+    undoable_after images = still_undoable (and_compensations t log images) (compensations_decide_none t log images)

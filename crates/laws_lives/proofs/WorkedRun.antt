@@ -17,7 +17,8 @@ use Rattle.shore_model.specs.Records.{Records, put_image}
 use Rattle.shore_model.proofs.RecordPaths.{OnPath, at_page, at_record, at_store, at_volume, head_contained, on_path}
 use Rattle.laws_lives.proofs.Ids.{put_here, put_there, told_apart}
 use Rattle.shore_model.specs.declared.rollbacks.Rollback.TheVariants.{Whole, To}
-use Rattle.laws_lives.specs.Sessions.{IsInNoTxn, SessionTxn, Sessions, abort_answered, commit_answered, commit_appended, image_put_back, locks_moved, reply_given, txn_begun}
+use Rattle.laws_lives.specs.SessionSteps.{AnswerAbort, AnswerCommit, AppendCommit, BeginTxn, GiveReply, entries_by}
+use Rattle.laws_lives.specs.Sessions.{SessionTxn, Sessions, seated, abort_answered, commit_answered, commit_appended, image_put_back, locks_moved, reply_given, txn_begun}
 use Rattle.laws_lives.specs.Soundness.{RunsTo}
 use Rattle.laws_lives.specs.WorkedRun.{abort_interrupted, half_way_back, interleaved, just_opened, once_deleted, once_put_back, once_saved, once_updated, read_lock, reader, reads_and_writes, saved_first, saved_then_deleted, saved_then_updated, twice_changed, way_back_interrupted, write_lock, writer}
 use Rattle.laws_lives.specs.UndoLists.{nothing_to_undo}
@@ -122,47 +123,40 @@ module _ (a b : Rid) (differ : a ≢ b) where
     after_undo = put_image after_delete b (get after_change b)
 
     abbrev s1 : Sessions
-    s1 = txn_begun (just_opened o) 1
+    s1 = seated (just_opened o) (entries_by (just_opened o) (BeginTxn 1)) (txn_begun (just_opened o) 1)
 
     abbrev s2 : Sessions
-    s2 = txn_begun s1 2
+    s2 = seated s1 (entries_by s1 (BeginTxn 2)) (txn_begun s1 2)
 
     abbrev s3 : Sessions
     s3 = locks_moved s2 (reads_and_writes a b)
 
     abbrev s4 : Sessions
-    s4 = reply_given s3 reader (call.Get a) (Ok (Got x))
+    s4 = seated s3 (entries_by s3 (GiveReply reader (call.Get a) (Ok (Got x)))) (reply_given s3 reader (call.Get a) (Ok (Got x)))
 
     abbrev s5 : Sessions
-    s5 = reply_given s4 (writer nothing_to_undo) (call.Update b z) (Ok Updated)
+    s5 = seated s4 (entries_by s4 (GiveReply (writer nothing_to_undo) (call.Update b z) (Ok Updated))) (reply_given s4 (writer nothing_to_undo) (call.Update b z) (Ok Updated))
 
     abbrev s6 : Sessions
-    s6 = reply_given s5 (writer (once_updated o b)) call.Savepoint (Ok (Saved 0))
+    s6 = seated s5 (entries_by s5 (GiveReply (writer (once_updated o b)) call.Savepoint (Ok (Saved 0)))) (reply_given s5 (writer (once_updated o b)) call.Savepoint (Ok (Saved 0)))
 
     abbrev s7 : Sessions
-    s7 = reply_given s6 (writer (once_saved o b)) (call.Delete b) (Ok Deleted)
+    s7 = seated s6 (entries_by s6 (GiveReply (writer (once_saved o b)) (call.Delete b) (Ok Deleted))) (reply_given s6 (writer (once_saved o b)) (call.Delete b) (Ok Deleted))
 
     abbrev s8 : Sessions
-    s8 = reply_given s7 (writer (once_deleted o b z)) (call.BackTo 0) (Ok WentBack)
+    s8 = seated s7 (entries_by s7 (GiveReply (writer (once_deleted o b z)) (call.BackTo 0) (Ok WentBack))) (reply_given s7 (writer (once_deleted o b z)) (call.BackTo 0) (Ok WentBack))
 
     abbrev s9 : Sessions
-    s9 = commit_appended s8 (writer (once_saved o b))
+    s9 = seated s8 (entries_by s8 (AppendCommit (writer (once_saved o b)))) (commit_appended s8 (writer (once_saved o b)))
 
     abbrev s10 : Sessions
-    s10 = reply_given s9 reader (call.Get a) (Ok (Got x))
+    s10 = seated s9 (entries_by s9 (GiveReply reader (call.Get a) (Ok (Got x)))) (reply_given s9 reader (call.Get a) (Ok (Got x)))
 
     abbrev s11 : Sessions
-    s11 = commit_answered s10 (writer (once_saved o b))
+    s11 = seated s10 (entries_by s10 (AnswerCommit (writer (once_saved o b)))) (commit_answered s10 (writer (once_saved o b)))
 
     abbrev s12 : Sessions
-    s12 = abort_answered s11 reader
-
-    one_differs_two : (n : ℕ) → 1 ≡ n → n ≡ 2 → ⊥
-    one_differs_two n e f = omega arith
-
-    second_is_idle : IsInNoTxn s1 2
-    second_is_idle c current e =
-        ⊎_elim (λ h. ⊎_elim (λ same. one_differs_two c.session (ap (λ (c : SessionTxn). c.session) same) e) (λ none. none) h) (λ none. none) current
+    s12 = seated s11 (entries_by s11 (AnswerAbort reader)) (abort_answered s11 reader)
 
     a_stays : get after_undo a ≡ Some x
     a_stays = other_image after_delete (get after_change b) ∙ other_image after_change None ∙ other_image o (Some z) ∙ at_a
@@ -172,22 +166,22 @@ module _ (a b : Rid) (differ : a ≢ b) where
 
     -- the abort of the writer, in two steps
     abbrev t4 : Sessions
-    t4 = reply_given s3 (writer nothing_to_undo) (call.Update b z) (Ok Updated)
+    t4 = seated s3 (entries_by s3 (GiveReply (writer nothing_to_undo) (call.Update b z) (Ok Updated))) (reply_given s3 (writer nothing_to_undo) (call.Update b z) (Ok Updated))
 
     abbrev t5 : Sessions
-    t5 = reply_given t4 (writer (once_updated o b)) (call.Delete b) (Ok Deleted)
+    t5 = seated t4 (entries_by t4 (GiveReply (writer (once_updated o b)) (call.Delete b) (Ok Deleted))) (reply_given t4 (writer (once_updated o b)) (call.Delete b) (Ok Deleted))
 
     abbrev t6 : Sessions
     t6 = image_put_back t5 (writer (twice_changed o b z)) ((b, get o b) ∷ []) (b, get after_change b) Whole
 
     abbrev t7 : Sessions
-    t7 = reply_given t6 reader (call.Get a) (Ok (Got x))
+    t7 = seated t6 (entries_by t6 (GiveReply reader (call.Get a) (Ok (Got x)))) (reply_given t6 reader (call.Get a) (Ok (Got x)))
 
     abbrev t8 : Sessions
-    t8 = abort_answered t7 (writer (once_put_back o b))
+    t8 = seated t7 (entries_by t7 (AnswerAbort (writer (once_put_back o b)))) (abort_answered t7 (writer (once_put_back o b)))
 
     abbrev t9 : Sessions
-    t9 = abort_answered t8 reader
+    t9 = seated t8 (entries_by t8 (AnswerAbort reader)) (abort_answered t8 reader)
 
     pub interrupt_abort : (last : Sessions) × (made : List Entry) × RunsTo (just_opened o) (abort_interrupted o a b x z) [] last made × (get last.records b ≡ Some y)
     interrupt_abort =
@@ -195,31 +189,31 @@ module _ (a b : Rid) (differ : a ≢ b) where
           _,
           (
             s1,
-            ((λ c current e. ⊎_elim (λ none. none) (λ none. none) current), refl),
+            (refl, refl),
             (
               s2,
-              (second_is_idle, refl),
+              (refl, refl),
               (
                 s3,
                 (harmony, (λ t among m g h. absurd (none_below_0 h.0 h.2)), given, refl),
                 (
                   t4,
-                  (inl refl, tt, (writes, (subst IsSome (sym at_b) refl, refl)), inl refl, refl),
+                  ((inl refl, refl, (λ h. h, λ h. h)), tt, (writes, (subst IsSome (sym at_b) refl, refl)), inl refl, refl),
                   (
                     t5,
-                    (inl refl, tt, (writes, (subst IsSome (sym (put_here o b (Some z))) refl, refl)), inl refl, refl),
+                    ((inl refl, refl, (λ h. h, λ h. h)), tt, (writes, (subst IsSome (sym (put_here o b (Some z))) refl, refl)), inl refl, refl),
                     (
                       t6,
-                      (inl refl, refl, tt, omega arith, refl),
+                      ((inl refl, λ h. h), refl, tt, omega arith, refl),
                       (
                         t7,
-                        (inr (inl refl), tt, (reads, got after_undo x a_stays), inl refl, refl),
+                        ((inr (inl refl), refl, (λ h. h, λ h. h)), tt, (reads, got after_undo x a_stays), inl refl, refl),
                         (
                           t8,
-                          (inl refl, refl),
+                          ((inl refl, refl, (λ h. h, λ h. h)), refl),
                           (
                             t9,
-                            (inl refl, refl),
+                            ((inl refl, refl, (λ h. h, λ h. h)), refl),
                             (refl, refl),
                           ),
                         ),
@@ -235,31 +229,31 @@ module _ (a b : Rid) (differ : a ≢ b) where
 
     -- the way back of the writer, in two steps
     abbrev u4 : Sessions
-    u4 = reply_given s3 (writer nothing_to_undo) call.Savepoint (Ok (Saved 0))
+    u4 = seated s3 (entries_by s3 (GiveReply (writer nothing_to_undo) call.Savepoint (Ok (Saved 0)))) (reply_given s3 (writer nothing_to_undo) call.Savepoint (Ok (Saved 0)))
 
     abbrev u5 : Sessions
-    u5 = reply_given u4 (writer saved_first) (call.Update b z) (Ok Updated)
+    u5 = seated u4 (entries_by u4 (GiveReply (writer saved_first) (call.Update b z) (Ok Updated))) (reply_given u4 (writer saved_first) (call.Update b z) (Ok Updated))
 
     abbrev u6 : Sessions
-    u6 = reply_given u5 (writer (saved_then_updated o b)) (call.Delete b) (Ok Deleted)
+    u6 = seated u5 (entries_by u5 (GiveReply (writer (saved_then_updated o b)) (call.Delete b) (Ok Deleted))) (reply_given u5 (writer (saved_then_updated o b)) (call.Delete b) (Ok Deleted))
 
     abbrev u7 : Sessions
     u7 = image_put_back u6 (writer (saved_then_deleted o b z)) ((b, get o b) ∷ []) (b, get after_change b) (To 0)
 
     abbrev u8 : Sessions
-    u8 = reply_given u7 reader (call.Get a) (Ok (Got x))
+    u8 = seated u7 (entries_by u7 (GiveReply reader (call.Get a) (Ok (Got x)))) (reply_given u7 reader (call.Get a) (Ok (Got x)))
 
     abbrev u9 : Sessions
-    u9 = reply_given u8 (writer (half_way_back o b)) (call.BackTo 0) (Ok WentBack)
+    u9 = seated u8 (entries_by u8 (GiveReply (writer (half_way_back o b)) (call.BackTo 0) (Ok WentBack))) (reply_given u8 (writer (half_way_back o b)) (call.BackTo 0) (Ok WentBack))
 
     abbrev u10 : Sessions
-    u10 = commit_appended u9 (writer saved_first)
+    u10 = seated u9 (entries_by u9 (AppendCommit (writer saved_first))) (commit_appended u9 (writer saved_first))
 
     abbrev u11 : Sessions
-    u11 = commit_answered u10 (writer saved_first)
+    u11 = seated u10 (entries_by u10 (AnswerCommit (writer saved_first))) (commit_answered u10 (writer saved_first))
 
     abbrev u12 : Sessions
-    u12 = abort_answered u11 reader
+    u12 = seated u11 (entries_by u11 (AnswerAbort reader)) (abort_answered u11 reader)
 
     pub interrupt_way_back : (last : Sessions) × (made : List Entry) × RunsTo (just_opened o) (way_back_interrupted o a b x z) [] last made × (get last.records b ≡ Some y)
     interrupt_way_back =
@@ -267,40 +261,40 @@ module _ (a b : Rid) (differ : a ≢ b) where
           _,
           (
             s1,
-            ((λ c current e. ⊎_elim (λ none. none) (λ none. none) current), refl),
+            (refl, refl),
             (
               s2,
-              (second_is_idle, refl),
+              (refl, refl),
               (
                 s3,
                 (harmony, (λ t among m g h. absurd (none_below_0 h.0 h.2)), given, refl),
                 (
                   u4,
-                  (inl refl, tt, (tt, refl), inl refl, refl),
+                  ((inl refl, refl, (λ h. h, λ h. h)), tt, (tt, refl), inl refl, refl),
                   (
                     u5,
-                    (inl refl, tt, (writes, (subst IsSome (sym at_b) refl, refl)), inl refl, refl),
+                    ((inl refl, refl, (λ h. h, λ h. h)), tt, (writes, (subst IsSome (sym at_b) refl, refl)), inl refl, refl),
                     (
                       u6,
-                      (inl refl, tt, (writes, (subst IsSome (sym (put_here o b (Some z))) refl, refl)), inl refl, refl),
+                      ((inl refl, refl, (λ h. h, λ h. h)), tt, (writes, (subst IsSome (sym (put_here o b (Some z))) refl, refl)), inl refl, refl),
                       (
                         u7,
-                        (inl refl, refl, (omega arith, inl refl), omega arith, refl),
+                        ((inl refl, λ h. h), refl, (omega arith, inl refl), omega arith, refl),
                         (
                           u8,
-                          (inr (inl refl), tt, (reads, got after_undo x a_stays), inl refl, refl),
+                          ((inr (inl refl), refl, (λ h. h, λ h. h)), tt, (reads, got after_undo x a_stays), inl refl, refl),
                           (
                             u9,
-                            (inl refl, tt, (tt, (omega arith, refl)), inr (0, WentBack, refl, refl, refl), refl),
+                            ((inl refl, refl, (λ h. h, λ h. h)), tt, (tt, (omega arith, refl)), inr (0, WentBack, refl, refl, refl), refl),
                             (
                               u10,
-                              (inl refl, refl, refl),
+                              ((inl refl, refl, (λ h. h, λ h. h)), refl, refl),
                               (
                                 u11,
-                                (inl refl, refl),
+                                ((inl refl, refl), refl),
                                 (
                                   u12,
-                                  (inl refl, refl),
+                                  ((inl refl, refl, (λ h. h, λ h. h)), refl),
                                   (refl, refl),
                                 ),
                               ),
@@ -323,40 +317,40 @@ module _ (a b : Rid) (differ : a ≢ b) where
           _,
           (
             s1,
-            ((λ c current e. ⊎_elim (λ none. none) (λ none. none) current), refl),
+            (refl, refl),
             (
               s2,
-              (second_is_idle, refl),
+              (refl, refl),
               (
                 s3,
                 (harmony, (λ t among m g h. absurd (none_below_0 h.0 h.2)), given, refl),
                 (
                   s4,
-                  (inr (inl refl), tt, (reads, got o x at_a), inl refl, refl),
+                  ((inr (inl refl), refl, (λ h. h, λ h. h)), tt, (reads, got o x at_a), inl refl, refl),
                   (
                     s5,
-                    (inl refl, tt, (writes, (subst IsSome (sym at_b) refl, refl)), inl refl, refl),
+                    ((inl refl, refl, (λ h. h, λ h. h)), tt, (writes, (subst IsSome (sym at_b) refl, refl)), inl refl, refl),
                     (
                       s6,
-                      (inl refl, tt, (tt, refl), inl refl, refl),
+                      ((inl refl, refl, (λ h. h, λ h. h)), tt, (tt, refl), inl refl, refl),
                       (
                         s7,
-                        (inl refl, tt, (writes, (subst IsSome (sym (put_here o b (Some z))) refl, refl)), inl refl, refl),
+                        ((inl refl, refl, (λ h. h, λ h. h)), tt, (writes, (subst IsSome (sym (put_here o b (Some z))) refl, refl)), inl refl, refl),
                         (
                           s8,
-                          (inl refl, tt, (tt, (omega arith, refl)), inl refl, refl),
+                          ((inl refl, refl, (λ h. h, λ h. h)), tt, (tt, (omega arith, refl)), inl refl, refl),
                           (
                             s9,
-                            (inl refl, refl, refl),
+                            ((inl refl, refl, (λ h. h, λ h. h)), refl, refl),
                             (
                               s10,
-                              (inl refl, tt, (reads, got after_undo x a_stays), inl refl, refl),
+                              ((inl refl, refl, (λ h. h, λ h. h)), tt, (reads, got after_undo x a_stays), inl refl, refl),
                               (
                                 s11,
-                                (inl refl, refl),
+                                ((inl refl, refl), refl),
                                 (
                                   s12,
-                                  (inl refl, refl),
+                                  ((inl refl, refl, (λ h. h, λ h. h)), refl),
                                   (refl, refl),
                                 ),
                               ),

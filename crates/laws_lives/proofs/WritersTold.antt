@@ -58,7 +58,7 @@ filtered p (u ∷ us) =
     ] refl
 
 module _ (t : ℕ) where
-  among_filtered : (p : ℕ → Bool) → p t ≡ true → (us : List ℕ) → IsAmong t us → IsAmong t (filter p us)
+  pub among_filtered : (p : ℕ → Bool) → p t ≡ true → (us : List ℕ) → IsAmong t us → IsAmong t (filter p us)
   among_filtered p passes [] h = absurd h
   among_filtered p passes (u ∷ us) h =
       elim (p u) as (λ b. p u ≡ b → IsAmong t (cond b (u ∷ filter p us) (filter p us))) [
@@ -72,7 +72,7 @@ module _ (t : ℕ) where
   one_prepared false true d u us f h rest = inr (rest h)
   one_prepared false false d u us f h rest = rest h
 
-  among_prepared : (log : List LogRecord) → has is_prepare t log ≡ true → IsAmong t (filter_map prepare_of log)
+  pub among_prepared : (log : List LogRecord) → has is_prepare t log ≡ true → IsAmong t (filter_map prepare_of log)
   among_prepared [] h = cc
   among_prepared (r ∷ log) h =
       one_prepared (r.txn == t) (is_prepare r.payload) (has is_prepare t log) r.txn (filter_map prepare_of log) (eqb-true r.txn t) h (among_prepared log)
@@ -117,7 +117,7 @@ module _ (log : List LogRecord) (lawful : Lawful log) where
   ends_undone : EndsUndone log
   ends_undone = by_records EndsUndone (λ t h. cc) (λ xs r follows h. end_next xs r follows h) log lawful
 
-  doubt_not_over : (t : ℕ) → is_in_doubt t log ≡ true → is_over t log ≡ false
+  pub doubt_not_over : (t : ℕ) → is_in_doubt t log ≡ true → is_over t log ≡ false
   doubt_not_over t doubt =
       let parts = in_doubt_parts (has is_prepare t log) (has is_commit t log) (has is_rollback t log) doubt in
       let no_end = never_true (has is_end t log) (λ ends. doubt_undoes_none (has is_prepare t log) (has is_commit t log) (has is_rollback t log) doubt (ends_undone t ends)) in

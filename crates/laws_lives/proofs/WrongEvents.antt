@@ -1,6 +1,11 @@
 -- Events that must not come: each is refused by one condition of a step.
-use Rattle.std.proofs.Common.{◌≡◌, ◌≢◌, inl, inr, ⊎_elim, ◌++◌, ℕ, List, [], ◌∷◌, None, Some, Result, Err, Ok, false, refl, sym, ap, subst, ◌∙◌, ◌<◌, ◌≤◌, length, arith}
-use Rattle.std.specs.Prelude.{Contains, IsTrue}
+use Rattle.std.proofs.Common.{◌≡◌, ◌≢◌, inl, inr, ⊎_elim, ◌++◌, ℕ, List, [], ◌∷◌, None, Some, Result, Err, Ok, true, false, refl, sym, ap, subst, ◌∙◌, ◌<◌, ◌≤◌, length, arith}
+use Rattle.std.specs.Prelude.{Contains, IsTrue, nat_eq}
+use Rattle.std.specs.Cmp.Lexicographic.{pointwise}
+use Rattle.std.proofs.lemmas.Bool.{true≢false}
+use Rattle.shore_model.specs.declared.sessions.SessionState.{SessionState}
+use Rattle.laws_lives.proofs.DoubtDecisions.{same_text}
+use Rattle.laws_lives.proofs.SessionsAgree.{each_at}
 use Rattle.std.proofs.lemmas.List.Elements.{All-contains}
 use Rattle.shore_types.specs.Images.{Image}
 use Rattle.shore_types.specs.declared.faults.Fault.{Fault}
@@ -21,8 +26,8 @@ use Rattle.laws_lives.proofs.WorkedRun.{only_one, record_on_path}
 use Rattle.shore_model.specs.declared.rollbacks.Rollback.{Rollback}
 use Rattle.shore_model.specs.declared.rollbacks.Rollback.TheVariants.{To}
 use Rattle.laws_lives.specs.RepliesInPlace.{MayReplyInPlace}
-use Rattle.laws_lives.specs.SessionSteps.{AppendCommit, BeginTxn, Doom, GiveReply, MoveLocks, PutBack, StepsTo}
-use Rattle.laws_lives.specs.Sessions.{IsCurrent, SessionTxn, Sessions, txns_of}
+use Rattle.laws_lives.specs.SessionSteps.{AppendCommit, AppendPrepare, AppendResolve, BeginTxn, Doom, GiveReply, MoveLocks, PutBack, StepsTo}
+use Rattle.laws_lives.specs.Sessions.{SessionTxn, Sessions, in_doubt_of, in_use, txns_of}
 use Rattle.laws_lives.specs.UndoLists.{mark_of}
 use Rattle.laws_lives.specs.Views.{IsAmong}
 use Rattle.laws_lives.specs.WorkedRun.{read_lock}
@@ -78,8 +83,28 @@ same_last : {A : Type 0} (xs ys : List A) (x y : A) → xs ++ x ∷ [] ≡ ys ++
 same_last xs ys x y e = sym (last_or-push x xs x) ∙ ap (last_or x) e ∙ last_or-push x ys y
 
 module _ (s new : Sessions) where
-  pub second_txn : (a : SessionTxn) → IsCurrent s a → StepsTo s (BeginTxn a.session) new → ⊥
-  second_txn a current step = step.0 a current (λ i. a.session)
+  pub second_txn : (session : ℕ) → 0 < (s.seats session).txn → StepsTo s (BeginTxn session) new → ⊥
+  second_txn session some step = let none : (s.seats session).txn ≡ 0 = ap (λ (p : SessionState). p.txn) step.0 in omega arith
+
+  -- one in doubt is left alone, until a resolve decides it, which comes only once its prepare is answered
+  pub commit_of_doubtful : (a : SessionTxn) → IsAmong a.txn (in_doubt_of s) → StepsTo s (AppendCommit a) new → ⊥
+  commit_of_doubtful a among step = step.0.2.0 among
+
+  pub undo_of_doubtful : (a : SessionTxn) (kept : List (Rid × Image)) (e : Rid × Image) (r : Rollback) → IsAmong a.txn (in_doubt_of s) → StepsTo s (PutBack a kept e r) new → ⊥
+  undo_of_doubtful a kept e r among step = step.0.1 among
+
+  pub resolve_of_unanswered : (a : SessionTxn) (global : List ℕ) → (IsAmong (record { txn = a.txn; global = global; answered = true }) s.prepared → ⊥) → StepsTo s (AppendResolve a global) new → ⊥
+  resolve_of_unanswered a global none step = none step.2
+
+  pub same_global_id : (a : SessionTxn) (global : List ℕ) (granules : List Granule) (p : ℕ × List ℕ) → IsAmong p (in_use s) → p.1 ≡ global → StepsTo s (AppendPrepare a global granules) new → ⊥
+  same_global_id a global granules p among same step =
+      true≢false (sym (same_text global) ∙ ap (pointwise nat_eq global) (sym same) ∙ each_at (λ p. pointwise nat_eq global p.1 ≡ false) (in_use s) p step.2 among)
+
+  -- a Prepare that does not name a granule which its transaction holds exclusively
+  pub too_few_granules : (a : SessionTxn) (global : List ℕ) (granules : List Granule) (h : Hold) → Contains s.held h → h.txn ≡ a.txn → IsTrue (is_write h.mode) → (Contains granules h.granule → ⊥)
+      → StepsTo s (AppendPrepare a global granules) new → ⊥
+  too_few_granules a global granules h among own writes none step =
+      none (All-contains (λ (h : Hold). h.txn ≡ a.txn → IsTrue (is_write h.mode) → Contains granules h.granule) s.held h step.3.all among own writes)
 
   pub lock_lost : (t : ℕ) (m : Mode) (g : Granule) → IsAmong t (txns_of s.active) → HoldsAtLeast s.held t m g → StepsTo s (MoveLocks []) new → ⊥
   lock_lost t m g among holds step = let kept = step.1 t among m g holds in omega (arith, kept.2)
@@ -118,4 +143,4 @@ module _ (s new : Sessions) where
   before_savepoint a kept e n less step = let least = step.3 in omega arith
 
   pub doom_of_another : (a : SessionTxn) → (IsAmong a s.active → ⊥) → StepsTo s (Doom a) new → ⊥
-  doom_of_another a other step = other step.0
+  doom_of_another a other step = other step.0.0

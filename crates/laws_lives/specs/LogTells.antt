@@ -6,6 +6,7 @@ use Rattle.std.specs.List.{AllByRecursion}
 use Rattle.shore_types.specs.Images.{Image}
 use Rattle.shore_types.specs.declared.ids.Rid.{Rid}
 use Rattle.shore_model.specs.declared.histories.Entry.{Entry}
+use Rattle.shore_model.specs.declared.histories.Opening.{Opening}
 use Rattle.shore_model.specs.declared.holds.Hold.{Hold}
 use Rattle.shore_model.specs.declared.log_records.LogRecord.{LogRecord}
 use Rattle.shore_model.specs.declared.progress.Progress.{Progress}
@@ -40,8 +41,8 @@ AreLogged log t images = AllByRecursion (λ e. IsSome (get (logged_writes log t)
 
 -- The list is one that the sessions' history has left: each transaction under way has logged what it has to put back. The next
 -- transaction's number is above all of its records.
-pub record IsLogAfter (o : Records) (es : List Entry) (s : Sessions) (log : List LogRecord) : Type 0 where
-  pub tells_serial : TellsSerial log s.held (serial_after o es) s.records (txns_of s.active) (progress_in es)
+pub record IsLogAfter (o : Opening) (es : List Entry) (s : Sessions) (log : List LogRecord) : Type 0 where
+  pub tells_serial : TellsSerial log s.held (serial_after o es) s.records (txns_of s.active) (progress_in o es)
   pub undo_logged : (a : SessionTxn) → IsAmong a s.active → AreLogged log a.txn a.undo.images
   pub below : AllByRecursion (λ r. r.txn < s.next_txn) log
 

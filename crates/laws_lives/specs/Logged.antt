@@ -10,10 +10,10 @@ use Rattle.shore_model.specs.declared.calls.Call.{Call}
 use Rattle.shore_model.specs.declared.calls.Call.TheVariants as call
 use Rattle.shore_model.specs.declared.log_records.LogRecord.{LogRecord}
 use Rattle.shore_model.specs.declared.log_records.Payload.{Payload}
-use Rattle.shore_model.specs.declared.log_records.Payload.TheVariants.{Change, Compensation, Commit, End}
+use Rattle.shore_model.specs.declared.log_records.Payload.TheVariants.{Change, Compensation, Commit, End, Prepare, RollbackDecided}
 use Rattle.shore_model.specs.Logs.{previous_of, undo_next_of, unanswered}
 use Rattle.shore_model.specs.Records.{Records}
-use Rattle.laws_lives.specs.SessionSteps.{SessionEvent, MoveLocks, BeginTxn, GiveReply, AppendCommit, PutBack, Doom, AnswerAbort, AnswerCommit, RefuseCall}
+use Rattle.laws_lives.specs.SessionSteps.{SessionEvent, MoveLocks, BeginTxn, GiveReply, AppendCommit, PutBack, Doom, AnswerAbort, AnswerCommit, RefuseCall, AppendPrepare, AnswerPrepare, AppendResolve, AppendRollback, EndRollback, AnswerResolve, AnswerInDoubt}
 use Rattle.laws_lives.specs.Sessions.{SessionTxn, Sessions}
 use Rattle.laws_lives.specs.UndoLists.{images_since}
 
@@ -71,3 +71,10 @@ log_after log s (Doom a) = log
 log_after log s (AnswerAbort a) = and_rollback a.txn log a.undo.images
 log_after log s (AnswerCommit a) = log
 log_after log s (RefuseCall session t c fault) = log
+log_after log s (AppendPrepare a global granules) = and_record a.txn log (Prepare global granules)
+log_after log s (AnswerPrepare session t global) = log
+log_after log s (AppendResolve a global) = and_record a.txn log Commit
+log_after log s (AppendRollback a global) = and_record a.txn log RollbackDecided
+log_after log s (EndRollback a) = and_record a.txn (and_compensations a.txn log a.undo.images) End
+log_after log s (AnswerResolve session r) = log
+log_after log s (AnswerInDoubt session t pairs) = log

@@ -1,15 +1,21 @@
 -- A manager: sessions at work over a log and pages. Nothing of the sessions knows of pages, and nothing of the pages of sessions; they meet
 -- in what the log is after an event.
-use Rattle.std.specs.Prelude.{◌≡◌, ◌<◌, ◌++◌, List, [], ◌∷◌, take}
+use Rattle.std.specs.Prelude.{◌≡◌, ◌<◌, ◌++◌, ℕ, List, [], ◌∷◌, map, take}
 use Rattle.std.specs.FinMap.{get}
 use Rattle.std.specs.List.{AllByRecursion}
 use Rattle.shore_types.specs.declared.ids.Rid.{Rid}
 use Rattle.shore_model.specs.declared.histories.Entry.{Entry}
-use Rattle.shore_model.specs.Logs.{committed_in}
+use Rattle.shore_model.specs.declared.histories.Opening.{Opening}
+use Rattle.shore_model.specs.Histories.{free}
+use Rattle.laws_lives.specs.Doubts.{AreRestored, undo_in}
+use Rattle.laws_lives.specs.Soundness.{found_in_doubt}
+use Rattle.shore_model.specs.declared.histories.Decision.{Decision}
+use Rattle.shore_model.specs.declared.histories.Decision.TheVariants as decision
+use Rattle.laws_lives.specs.LogPrefixes.{IsDecidedIn, decision_asked}
 use Rattle.laws_lives.specs.Recovery.{AppendRecord, FlushPage, ForceLog, LeadsTo, LosePower, RecoveryEvent, RecoveryState, RedoRecord}
 use Rattle.laws_lives.specs.Logged.{log_after}
-use Rattle.laws_lives.specs.SessionSteps.{AnswerAbort, AnswerCommit, AppendCommit, BeginTxn, Doom, GiveReply, MoveLocks, PutBack, RefuseCall, SessionEvent, StepsTo, entries_by}
-use Rattle.laws_lives.specs.Sessions.{Sessions}
+use Rattle.laws_lives.specs.SessionSteps.{AnswerAbort, AnswerCommit, AnswerInDoubt, AnswerPrepare, AnswerResolve, AppendCommit, AppendPrepare, AppendResolve, AppendRollback, BeginTxn, Doom, EndRollback, GiveReply, MoveLocks, PutBack, RefuseCall, SessionEvent, StepsTo, entries_by}
+use Rattle.laws_lives.specs.Sessions.{ResolvedTxn, SessionTxn, Sessions, txns_of}
 use Rattle.laws_lives.specs.Views.{IsAmong}
 
 pub record ManagerState : Type 0 where
@@ -38,9 +44,13 @@ pub data StretchEvent : Type 0 where
   Serve : SessionEvent → List RecoveryEvent → StretchEvent
   Tend : List RecoveryEvent → StretchEvent
 
--- a commit is not answered before its Commit is durable
+-- the decision of a resolve
+abbrev pub decision_resolved : ResolvedTxn → Decision
+decision_resolved r = decision_asked r.txn r.outcome
+
+-- a commit is not answered before its Commit is durable, nor a prepare before its Prepare, nor a resolve before its decision
 abbrev pub AnswersDurable : RecoveryState → SessionEvent → Type 0
-AnswersDurable store (AnswerCommit a) = IsAmong a.txn (committed_in (take store.durable store.log))
+AnswersDurable store (AnswerCommit a) = IsDecidedIn (take store.durable store.log) (decision.Commit a.txn)
 AnswersDurable store (MoveLocks held) = Unit {0}
 AnswersDurable store (BeginTxn session) = Unit {0}
 AnswersDurable store (GiveReply a c reply) = Unit {0}
@@ -49,6 +59,13 @@ AnswersDurable store (PutBack a kept e r) = Unit {0}
 AnswersDurable store (Doom a) = Unit {0}
 AnswersDurable store (AnswerAbort a) = Unit {0}
 AnswersDurable store (RefuseCall session t c fault) = Unit {0}
+AnswersDurable store (AppendPrepare a global granules) = Unit {0}
+AnswersDurable store (AnswerPrepare session t global) = IsDecidedIn (take store.durable store.log) (decision.Prepare t global)
+AnswersDurable store (AppendResolve a global) = Unit {0}
+AnswersDurable store (AppendRollback a global) = Unit {0}
+AnswersDurable store (EndRollback a) = Unit {0}
+AnswersDurable store (AnswerResolve session r) = IsDecidedIn (take store.durable store.log) (decision_resolved r)
+AnswersDurable store (AnswerInDoubt session t pairs) = Unit {0}
 
 abbrev pub ManagerStepsTo : ManagerState → StretchEvent → ManagerState → Type 0
 ManagerStepsTo m (Serve e works) new =
@@ -65,11 +82,16 @@ ManagerRunsTo m (e ∷ events) es last made = (new : ManagerState) × ManagerSte
 
 -- ---- an open
 
--- Sessions open on what a restart has left: the records that the pages show, nobody in a transaction, and numbers that no record has
-pub record OpensOver (ready : RecoveryState) (first : Sessions) : Type 0 where
+-- Sessions open on what a restart has left: the records that the pages show, no session in a transaction, and numbers that no record has. Those in
+-- doubt are under way, with the undo lists and locks that the log gives them.
+pub record OpensOver (o : Opening) (ready : RecoveryState) (first : Sessions) : Type 0 where
   pub records : (id : Rid) → get first.records id ≡ (ready.in_place id.page).slots id.slot
-  pub active : first.active ≡ []
+  pub seats : (n : ℕ) → first.seats n ≡ free
   pub committing : first.committing ≡ []
-  pub held : first.held ≡ []
+  pub resolving : first.resolving ≡ []
+  pub prepared : first.prepared ≡ map found_in_doubt o.in_doubt
+  pub active : txns_of first.active ≡ map (λ d. d.txn) o.in_doubt
+  pub undo_lists : (a : SessionTxn) → IsAmong a first.active → a.undo ≡ undo_in ready.log a.txn
+  pub locks : AreRestored ready.log first.held
   pub some : 0 < first.next_txn
   pub below : AllByRecursion (λ r. r.txn < first.next_txn) ready.log

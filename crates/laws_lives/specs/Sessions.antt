@@ -1,9 +1,16 @@
 -- Many sessions over one volume, under locks, as plain data: the state, and what is left of it after each event.
-use Rattle.std.specs.Prelude.{◌≡◌, ◌≢◌, ◌⊎◌, ◌==◌, ◌+◌, ℕ, List, [], ◌∷◌, not, if◌then◌else◌, Result, filter, map}
+use Rattle.std.specs.Prelude.{◌≡◌, ◌==◌, ◌+◌, ◌++◌, ℕ, List, [], ◌∷◌, Bool, true, false, not, nat_eq, if◌then◌else◌, Result, filter, map}
+use Rattle.std.specs.List.{AllByRecursion}
+use Rattle.std.specs.Cmp.Lexicographic.{pointwise}
 use Rattle.shore_types.specs.declared.faults.Fault.{Fault}
 use Rattle.shore_model.specs.declared.calls.Answer.{Answer}
 use Rattle.shore_model.specs.declared.calls.Call.{Call}
+use Rattle.shore_model.specs.declared.calls.Outcome.{Outcome}
+use Rattle.shore_model.specs.declared.calls.Outcome.TheVariants as outcome
+use Rattle.shore_model.specs.declared.histories.Entry.{Entry}
 use Rattle.shore_model.specs.declared.holds.Hold.{Hold}
+use Rattle.shore_model.specs.declared.sessions.SessionState.{SessionState}
+use Rattle.shore_model.specs.Histories.{free, session_state}
 use Rattle.shore_model.specs.Records.{Records, put_image}
 use Rattle.shore_types.specs.Images.{Image}
 use Rattle.shore_types.specs.declared.ids.Rid.{Rid}
@@ -18,16 +25,33 @@ pub record SessionTxn : Type 0 where
   pub txn : ℕ
   pub undo : UndoList
 
+-- a transaction in doubt, with its global id. Only one whose prepare is answered may be resolved; one that was found in doubt counts as such
+pub record PreparedTxn : Type 0 where
+  pub txn : ℕ
+  pub global : List ℕ
+  pub answered : Bool
+
+-- a resolve that is decided and not answered
+pub record ResolvedTxn : Type 0 where
+  pub txn : ℕ
+  pub global : List ℕ
+  pub outcome : Outcome
+
 pub record Sessions : Type 0 where
   -- the records in place, committed or not
   pub records : Records
-  -- the transactions under way
+  -- the transactions under way, those in doubt and those that a resolve has decided to roll back among them
   pub active : List SessionTxn
   -- those that are committed, while their calls wait for the answer
   pub committing : List SessionTxn
   pub held : List Hold
   -- what the next begin answers
   pub next_txn : ℕ
+  -- the transaction that each session is in
+  pub seats : ℕ → SessionState
+  -- those in doubt, in the order of their Prepares
+  pub prepared : List PreparedTxn
+  pub resolving : List ResolvedTxn
 
 -- ---- transactions in a list
 
@@ -47,17 +71,59 @@ without_txn t xs = filter (λ a. not (a.txn == t)) xs
 abbrev pub with_undo : ℕ → UndoList → List SessionTxn → List SessionTxn
 with_undo t undo xs = map (λ a. if a.txn == t then record { session = a.session; txn = a.txn; undo = undo } else a) xs
 
--- the session is in the transaction: it is under way, or its commit is not answered
-abbrev pub IsCurrent : Sessions → SessionTxn → Type 0
-IsCurrent s a = IsAmong a s.active ⊎ IsAmong a s.committing
-
 -- the session is in no transaction
 abbrev pub IsInNoTxn : Sessions → ℕ → Type 0
-IsInNoTxn s session = (a : SessionTxn) → IsCurrent s a → a.session ≢ session
+IsInNoTxn s session = s.seats session ≡ free
 
 -- the number that a session's calls go under: its transaction's, or 0
 abbrev pub IsTxnOf : Sessions → ℕ → ℕ → Type 0
-IsTxnOf s session t = ((a : SessionTxn) × IsCurrent s a × (a.session ≡ session) × (a.txn ≡ t)) ⊎ (IsInNoTxn s session × (t ≡ 0))
+IsTxnOf s session t = (s.seats session).txn ≡ t
+
+-- a session in a transaction that is not prepared
+abbrev pub in_txn : ℕ → SessionState
+in_txn t = record { txn = t; prepared = false }
+
+abbrev pub in_prepared : ℕ → SessionState
+in_prepared t = record { txn = t; prepared = true }
+
+-- ---- transactions in doubt
+
+abbrev pub pair_of : PreparedTxn → ℕ × List ℕ
+pair_of p = (p.txn, p.global)
+
+abbrev pub pairs_of : List PreparedTxn → List (ℕ × List ℕ)
+pairs_of ps = map pair_of ps
+
+abbrev pub pair_resolved : ResolvedTxn → ℕ × List ℕ
+pair_resolved r = (r.txn, r.global)
+
+-- those whose global ids are in use: that of a resolve until it is answered
+abbrev pub in_use : Sessions → List (ℕ × List ℕ)
+in_use s = pairs_of s.prepared ++ map pair_resolved s.resolving
+
+abbrev pub in_doubt_of : Sessions → List ℕ
+in_doubt_of s = map (λ p. p.txn) s.prepared
+
+abbrev pub resolved_of : Sessions → List ℕ
+resolved_of s = map (λ r. r.txn) s.resolving
+
+-- the transaction is neither in doubt nor decided by a resolve
+abbrev pub IsFree : Sessions → ℕ → Type 0
+IsFree s t = (IsAmong t (in_doubt_of s) → ⊥) × (IsAmong t (resolved_of s) → ⊥)
+
+-- no transaction in the table has the global id
+abbrev pub IsUnused : Sessions → List ℕ → Type 0
+IsUnused s global = AllByRecursion (λ p. pointwise nat_eq global p.1 ≡ false) (in_use s)
+
+abbrev pub without_prepared : ℕ → List PreparedTxn → List PreparedTxn
+without_prepared t ps = filter (λ p. not (t == p.txn)) ps
+
+abbrev pub without_resolved : ℕ → List ResolvedTxn → List ResolvedTxn
+without_resolved t rs = filter (λ r. not (t == r.txn)) rs
+
+-- the list, once the prepare of one transaction is answered
+abbrev pub with_answered : ℕ → List PreparedTxn → List PreparedTxn
+with_answered t ps = map (λ p. if p.txn == t then record { txn = p.txn; global = p.global; answered = true } else p) ps
 
 -- ---- what an event leaves
 
@@ -93,3 +159,34 @@ abort_answered s a = record s { records = rolled_back s.records a.undo.images; a
 
 abbrev pub commit_answered : Sessions → SessionTxn → Sessions
 commit_answered s a = record s { committing = without_txn a.txn s.committing }
+
+-- the seats after these entries
+abbrev pub seated : Sessions → List Entry → Sessions → Sessions
+seated s es left = record left { seats = λ n. session_state n (s.seats n) es }
+
+abbrev pub prepare_appended : Sessions → SessionTxn → List ℕ → Sessions
+prepare_appended s a global = record s { prepared = s.prepared ++ record { txn = a.txn; global = global; answered = false } ∷ [] }
+
+abbrev pub prepare_answered : Sessions → ℕ → Sessions
+prepare_answered s t = record s { prepared = with_answered t s.prepared }
+
+abbrev pub resolve_appended : Sessions → SessionTxn → List ℕ → Sessions
+resolve_appended s a global = record s {
+  active = without_txn a.txn s.active;
+  prepared = without_prepared a.txn s.prepared;
+  resolving = record { txn = a.txn; global = global; outcome = outcome.Commit } ∷ s.resolving;
+}
+
+-- from now on it can only be rolled back, whole
+abbrev pub rollback_appended : Sessions → SessionTxn → List ℕ → Sessions
+rollback_appended s a global = record (doomed s a) {
+  prepared = without_prepared a.txn s.prepared;
+  resolving = record { txn = a.txn; global = global; outcome = outcome.Abort } ∷ s.resolving;
+}
+
+-- what is left of a transaction is put back
+abbrev pub rollback_ended : Sessions → SessionTxn → Sessions
+rollback_ended s a = record s { records = rolled_back s.records a.undo.images; active = without_txn a.txn s.active }
+
+abbrev pub resolve_answered : Sessions → ℕ → Sessions
+resolve_answered s t = record s { resolving = without_resolved t s.resolving }

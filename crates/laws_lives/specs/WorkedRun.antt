@@ -10,6 +10,7 @@ use Rattle.shore_types.specs.declared.locking.Mode.TheVariants.{SH, EX}
 use Rattle.shore_model.specs.declared.calls.Answer.TheVariants.{Deleted, Got, Saved, Updated, WentBack}
 use Rattle.shore_model.specs.declared.calls.Call.TheVariants as call
 use Rattle.shore_model.specs.declared.holds.Hold.{Hold}
+use Rattle.shore_model.specs.Histories.{free}
 use Rattle.shore_model.specs.Records.{Records, put_image}
 use Rattle.shore_model.specs.declared.rollbacks.Rollback.TheVariants.{Whole, To}
 use Rattle.laws_lives.specs.SessionSteps.{AnswerAbort, AnswerCommit, AppendCommit, BeginTxn, GiveReply, MoveLocks, PutBack, SessionEvent}
@@ -17,7 +18,7 @@ use Rattle.laws_lives.specs.Sessions.{SessionTxn, Sessions}
 use Rattle.laws_lives.specs.UndoLists.{UndoList, nothing_to_undo}
 
 abbrev pub just_opened : Records → Sessions
-just_opened o = record { records = o; active = []; committing = []; held = []; next_txn = 1 }
+just_opened o = record { records = o; active = []; committing = []; held = []; next_txn = 1; seats = λ n. free; prepared = []; resolving = [] }
 
 -- session 1 has transaction 1, and session 2 transaction 2, each with this undo list
 abbrev pub reader : SessionTxn

@@ -1,6 +1,6 @@
 //! The laws of sessions under locks, each stated as the contract of an empty function.
-ghost use Rattle.std.specs.Prelude.{◌≡◌, ◌≢◌, ◌<◌, ◌≤◌, ◌∷◌, ◌++◌, ℕ, List, [], Contains, Err, IsSome, None, Ok, Some, Result, length, map, take};
-ghost use Rattle.std.specs.FinMap.{get, insert};
+ghost use Rattle.std.specs.Prelude.{◌≡◌, ◌≢◌, ◌<◌, ◌≤◌, ◌∷◌, ◌++◌, ℕ, List, [], true, All, Contains, Err, IsSome, IsTrue, None, Ok, Some, Result, length, map, take};
+ghost use Rattle.std.specs.FinMap.{empty, get, insert};
 ghost use Rattle.std.specs.List.{AllByRecursion};
 ghost use Rattle.shore_types.specs.Images.{Image};
 ghost use Rattle.shore_types.specs.declared.faults.Fault.{Fault};
@@ -8,34 +8,45 @@ ghost use Rattle.shore_types.specs.declared.faults.Fault.TheVariants.{NoRecord};
 ghost use Rattle.shore_types.specs.declared.ids.Rid.{Rid};
 ghost use Rattle.shore_types.specs.declared.layout.TheConstants.{MAX_SLOTS};
 ghost use Rattle.shore_types.specs.declared.locking.Granule.{Granule};
+ghost use Rattle.shore_types.specs.declared.locking.Granule.TheVariants.{Page, Record, Store, Volume};
 ghost use Rattle.shore_types.specs.declared.locking.Mode.{Mode};
 ghost use Rattle.shore_model.specs.declared.calls.Answer.{Answer};
 ghost use Rattle.shore_model.specs.declared.calls.Answer.TheVariants.{Inserted};
 ghost use Rattle.shore_model.specs.declared.calls.Call.{Call};
 ghost use Rattle.shore_model.specs.declared.calls.Call.TheVariants.{BackTo, Get, Insert, Scan};
 ghost use Rattle.shore_model.specs.declared.calls.Exchange.{Exchange};
+ghost use Rattle.shore_model.specs.declared.histories.Decision.{Decision};
+ghost use Rattle.shore_model.specs.declared.histories.Decision.TheVariants.{Commit, Prepare};
 ghost use Rattle.shore_model.specs.declared.histories.Entry.{Entry};
+ghost use Rattle.laws_lives.specs.WorkedDoubts.{changed_once, doubtful_log, doubtful_open, intention, late_answer, prepared_once, resolved_after_open, resolved_first, resolved_to_abort, resolved_to_commit};
+ghost use Rattle.shore_model.specs.declared.histories.Opening.{Opening};
 ghost use Rattle.shore_model.specs.declared.holds.Hold.{Hold};
 ghost use Rattle.shore_model.specs.declared.log_records.LogRecord.{LogRecord};
 ghost use Rattle.shore_model.specs.declared.log_records.Payload.TheVariants.{Change, Compensation};
 ghost use Rattle.shore_model.specs.declared.progress.Progress.{Progress};
 ghost use Rattle.shore_model.specs.Alone.{after, start, writes_of};
-ghost use Rattle.shore_model.specs.Histories.{IsHistory, Sound, decisions, serial};
-ghost use Rattle.shore_model.specs.Locks.{Harmony, HoldsAtLeast, MayRead, MayWrite};
-ghost use Rattle.shore_model.specs.Logs.{Answers, in_doubt_in, logged_writes, records_told, unanswered};
+ghost use Rattle.shore_model.specs.Histories.{IsHistory, Kept, Sound, decisions, in_doubt, shown};
+ghost use Rattle.shore_model.specs.Lives.{next_opening};
+ghost use Rattle.shore_model.specs.Locks.{Harmony, HoldsAtLeast, MayRead, MayWrite, WellRooted};
+ghost use Rattle.shore_model.specs.Logs.{Answers, Lawful, LiesUnder, has, logged_writes, records_told, unanswered};
+ghost use Rattle.shore_model.specs.Modes.{is_write};
+ghost use Rattle.laws_lives.specs.Doubts.{AreRestored, DoubtsStand, IsOpeningOf, LoggedDoubt, TracksDoubts, doubts_in, node_of, pair_logged, restored_locks, undo_in};
+ghost use Rattle.laws_lives.specs.WholeLogs.{IsOpenOn};
+ghost use Rattle.laws_lives.specs.Writers.{changes_id};
 ghost use Rattle.shore_model.specs.Records.{Records, WriteSet, overlays, put_image};
 ghost use Rattle.shore_model.specs.declared.rollbacks.Rollback.{Rollback};
 ghost use Rattle.shore_model.specs.declared.rollbacks.Rollback.TheVariants.{To, Whole};
 ghost use Rattle.laws_lives.specs.GranuleLocks.{HasLocksFor};
-ghost use Rattle.laws_lives.specs.LogPrefixes.{DecidesNothing, LogDecides, decisions_in};
-ghost use Rattle.laws_lives.specs.LogTells.{HasLogged, IsLogAfter, MatchesUndo, records_committed};
+ghost use Rattle.laws_lives.specs.OwnSeats.{HasOwnSeats};
+ghost use Rattle.laws_lives.specs.LogPrefixes.{DecidesNothing, LogDecides, TellsItsDecisions, decisions_in};
+ghost use Rattle.laws_lives.specs.LogTells.{HasLogged, IsLogAfter, MatchesUndo};
 ghost use Rattle.laws_lives.specs.Logged.{and_compensations, and_record, log_after, next_to_undo};
 ghost use Rattle.laws_lives.specs.RepliesInPlace.{MayReplyInPlace, Permit};
-ghost use Rattle.laws_lives.specs.SessionSteps.{AnswerAbort, AppendCommit, BeginTxn, Doom, GiveReply, MoveLocks, PutBack, SessionEvent, StepsTo, entries_by, exchange};
-ghost use Rattle.laws_lives.specs.Sessions.{IsCurrent, SessionTxn, Sessions, txns_of};
-ghost use Rattle.laws_lives.specs.Soundness.{IsJustOpened, IsSoundAfter, RunsTo, SessionsAgree, history_from, serial_after, written_by};
+ghost use Rattle.laws_lives.specs.SessionSteps.{AnswerAbort, AppendCommit, AppendPrepare, AppendResolve, AppendRollback, BeginTxn, Doom, EndRollback, GiveReply, MoveLocks, PutBack, SessionEvent, StepsTo, entries_by, exchange};
+ghost use Rattle.laws_lives.specs.Sessions.{EachOnce, PreparedTxn, SessionTxn, Sessions, in_doubt_of, in_use, resolved_of, txns_of};
+ghost use Rattle.laws_lives.specs.Soundness.{IsJustOpened, IsSoundAfter, RunsTo, SessionsAgree, history_from, opening_with, serial_after, written_by};
 ghost use Rattle.laws_lives.specs.UndoLists.{CanUndo, MayGiveReply, MayRoll, UndoList, images_since, in_place_after, in_place_after_answer, least_kept, mark_of, rolled_back, undo_after, undo_after_answer, undo_rolled};
-ghost use Rattle.laws_lives.specs.WorkedRun.{abort_interrupted, interleaved, just_opened, read_lock, way_back_interrupted};
+ghost use Rattle.laws_lives.specs.WorkedRun.{abort_interrupted, interleaved, just_opened, read_lock, way_back_interrupted, write_lock};
 ghost use Rattle.laws_lives.specs.Views.{IsAmong, Sees, Stand, StayRight};
 
 /// New locks never harm what transactions under way see, nor does it if others lose theirs.
@@ -61,19 +72,19 @@ pub fn replies_keep_views()
 
 /// Each event keeps both invariants, with what it adds to the history.
 pub fn session_events_keep_history_sound()
-    ensures sound { (o : Records) (es : List Entry) (old new : Sessions) (e : SessionEvent) →
+    ensures sound { (o : Opening) (es : List Entry) (old new : Sessions) (e : SessionEvent) →
         IsSoundAfter o es old → SessionsAgree o es old → StepsTo old e new → IsSoundAfter o (es ++ entries_by old e) new }
-    ensures agree { (o : Records) (es : List Entry) (old new : Sessions) (e : SessionEvent) →
-        SessionsAgree o es old → StepsTo old e new → SessionsAgree o (es ++ entries_by old e) new }
+    ensures agree { (o : Opening) (es : List Entry) (old new : Sessions) (e : SessionEvent) →
+        IsSoundAfter o es old → SessionsAgree o es old → StepsTo old e new → SessionsAgree o (es ++ entries_by old e) new }
 {}
 
 /// Whatever events come after an open, of however many sessions: what they make is a history, and it is sound.
 pub fn sessions_make_sound_histories()
-    ensures history { (o : Records) (first last : Sessions) (events : List SessionEvent) (made : List Entry) →
+    ensures history { (o : Opening) (first last : Sessions) (events : List SessionEvent) (made : List Entry) →
         IsJustOpened o first → RunsTo first events [] last made → IsHistory (history_from o made) }
-    ensures sound { (o : Records) (first last : Sessions) (events : List SessionEvent) (made : List Entry) →
+    ensures sound { (o : Opening) (first last : Sessions) (events : List SessionEvent) (made : List Entry) →
         IsJustOpened o first → RunsTo first events [] last made → Sound (history_from o made) }
-    ensures last { (o : Records) (first last : Sessions) (events : List SessionEvent) (made : List Entry) →
+    ensures last { (o : Opening) (first last : Sessions) (events : List SessionEvent) (made : List Entry) →
         IsJustOpened o first → RunsTo first events [] last made → IsSoundAfter o made last × SessionsAgree o made last }
 {}
 
@@ -81,30 +92,30 @@ pub fn sessions_make_sound_histories()
 /// under way. With the log beside them, they are overlaid with the last images that each has logged, in the midst of a rollback too, and
 /// each of these images is in place.
 pub fn records_in_place_are_overlaid()
-    ensures overlaid { (o : Records) (es : List Entry) (s : Sessions) (k : IsSoundAfter o es s) →
+    ensures overlaid { (o : Opening) (es : List Entry) (s : Sessions) (k : IsSoundAfter o es s) →
         s.records ≡ overlays (serial_after o es) (map k.standing (txns_of s.active)) }
-    ensures written { (o : Records) (es : List Entry) (s : Sessions) (a : SessionTxn) (k : IsSoundAfter o es s) →
-        IsAmong a s.active → a.undo.rolling ≡ None → k.standing a.txn ≡ written_by es a.txn }
-    ensures logged { (o : Records) (es : List Entry) (s : Sessions) (log : List LogRecord) → IsSoundAfter o es s → IsLogAfter o es s log →
+    ensures written { (o : Opening) (es : List Entry) (s : Sessions) (a : SessionTxn) (k : IsSoundAfter o es s) →
+        IsAmong a s.active → a.undo.rolling ≡ None → k.standing a.txn ≡ written_by o es a.txn }
+    ensures logged { (o : Opening) (es : List Entry) (s : Sessions) (log : List LogRecord) → IsSoundAfter o es s → IsLogAfter o es s log →
         s.records ≡ overlays (serial_after o es) (map (logged_writes log) (txns_of s.active)) }
-    ensures last_images { (o : Records) (es : List Entry) (s : Sessions) (log : List LogRecord) (t : ℕ) (id : Rid) (image : Image) → IsLogAfter o es s log →
+    ensures last_images { (o : Opening) (es : List Entry) (s : Sessions) (log : List LogRecord) (t : ℕ) (id : Rid) (image : Image) → IsLogAfter o es s log →
         IsAmong t (txns_of s.active) → get (logged_writes log t) id ≡ Some image → get s.records id ≡ image }
 {}
 
 /// What a transaction under way has written no other may read, or write over, nor what stands for it while it rolls back, nor what it has
 /// logged; and what one may read, no reply to another and no rollback of another changes in place, whole or image by image.
 pub fn transactions_are_isolated()
-    ensures written { (o : Records) (es : List Entry) (s : Sessions) (t : ℕ) (a : SessionTxn) (id : Rid) → IsSoundAfter o es s →
-        t ≢ a.txn → IsAmong a s.active → a.undo.rolling ≡ None → IsSome (get (written_by es a.txn) id) → MayRead s.held t id → ⊥ }
-    ensures standing { (o : Records) (es : List Entry) (s : Sessions) (t u : ℕ) (id : Rid) (k : IsSoundAfter o es s) →
+    ensures written { (o : Opening) (es : List Entry) (s : Sessions) (t : ℕ) (a : SessionTxn) (id : Rid) → IsSoundAfter o es s →
+        t ≢ a.txn → IsAmong a s.active → a.undo.rolling ≡ None → IsSome (get (written_by o es a.txn) id) → MayRead s.held t id → ⊥ }
+    ensures standing { (o : Opening) (es : List Entry) (s : Sessions) (t u : ℕ) (id : Rid) (k : IsSoundAfter o es s) →
         t ≢ u → IsAmong u (txns_of s.active) → IsSome (get (k.standing u) id) → MayRead s.held t id → ⊥ }
-    ensures logged { (o : Records) (es : List Entry) (s : Sessions) (log : List LogRecord) (t u : ℕ) (id : Rid) → IsSoundAfter o es s →
+    ensures logged { (o : Opening) (es : List Entry) (s : Sessions) (log : List LogRecord) (t u : ℕ) (id : Rid) → IsSoundAfter o es s →
         IsLogAfter o es s log → t ≢ u → IsAmong u (txns_of s.active) → IsSome (get (logged_writes log u) id) → MayRead s.held t id → ⊥ }
-    ensures reply { (o : Records) (es : List Entry) (old new : Sessions) (a : SessionTxn) (c : Call) (reply : Result Answer Fault) (t : ℕ) (id : Rid) →
+    ensures reply { (o : Opening) (es : List Entry) (old new : Sessions) (a : SessionTxn) (c : Call) (reply : Result Answer Fault) (t : ℕ) (id : Rid) →
         IsSoundAfter o es old → StepsTo old (GiveReply a c reply) new → t ≢ a.txn → MayRead old.held t id → get new.records id ≡ get old.records id }
-    ensures rollback { (o : Records) (es : List Entry) (old new : Sessions) (a : SessionTxn) (t : ℕ) (id : Rid) →
+    ensures rollback { (o : Opening) (es : List Entry) (old new : Sessions) (a : SessionTxn) (t : ℕ) (id : Rid) →
         IsSoundAfter o es old → StepsTo old (AnswerAbort a) new → t ≢ a.txn → MayRead old.held t id → get new.records id ≡ get old.records id }
-    ensures put_back { (o : Records) (es : List Entry) (old new : Sessions) (a : SessionTxn) (kept : List (Rid × Image)) (e : Rid × Image) (r : Rollback) (t : ℕ) (id : Rid) →
+    ensures put_back { (o : Opening) (es : List Entry) (old new : Sessions) (a : SessionTxn) (kept : List (Rid × Image)) (e : Rid × Image) (r : Rollback) (t : ℕ) (id : Rid) →
         IsSoundAfter o es old → StepsTo old (PutBack a kept e r) new → t ≢ a.txn → MayRead old.held t id → get new.records id ≡ get old.records id }
 {}
 
@@ -113,26 +124,58 @@ pub fn granule_locks_permit_answers()
     ensures { (held : List Hold) (t : ℕ) (c : Call) (answer : Answer) → HasLocksFor held t c answer → Permit held t c answer }
 {}
 
-/// Each event keeps the log beside the history, rollbacks too. It tells the serial records, if nobody has prepared.
-pub fn log_tells_serial_records()
-    ensures open { (o : Records) (s : Sessions) (log : List LogRecord) →
-        IsJustOpened o s → records_committed log ≡ o → AllByRecursion (λ r. r.txn < s.next_txn) log → IsLogAfter o [] s log }
-    ensures each { (o : Records) (es : List Entry) (old new : Sessions) (e : SessionEvent) (log : List LogRecord) →
+/// Each event keeps the log beside the history, rollbacks too, and those in doubt in it. It tells what the history's decisions show: the serial records,
+/// overlaid with what those in doubt have written; and those have it in doubt whom the state has so.
+pub fn log_tells_what_is_shown()
+    ensures open { (o : Opening) (s : Sessions) (log : List LogRecord) → IsOpenOn o log s → IsJustOpened o s × IsLogAfter o [] s log × TracksDoubts log s }
+    ensures each { (o : Opening) (es : List Entry) (old new : Sessions) (e : SessionEvent) (log : List LogRecord) →
         IsSoundAfter o es old → IsLogAfter o es old log → StepsTo old e new → IsLogAfter o (es ++ entries_by old e) new (log_after log old e) }
-    ensures tells { (o : Records) (es : List Entry) (s : Sessions) (log : List LogRecord) →
-        IsLogAfter o es s log → in_doubt_in log ≡ [] → records_told log ≡ serial_after o es }
+    ensures doubts { (o : Opening) (es : List Entry) (old new : Sessions) (e : SessionEvent) (log : List LogRecord) →
+        IsSoundAfter o es old → SessionsAgree o es old → IsLogAfter o es old log → TracksDoubts log old → StepsTo old e new → TracksDoubts (log_after log old e) new }
+    ensures tells { (base : ℕ) (o : Opening) (es : List Entry) (s : Sessions) (log : List LogRecord) → Lawful log → IsSoundAfter o es s → SessionsAgree o es s →
+        IsLogAfter o es s log → TracksDoubts log s → LogDecides base o es log →
+        (records_told log ≡ shown (history_from o es) (decisions es)) × (in_doubt o.in_doubt (decisions es) ≡ map pair_logged (doubts_in log)) }
 {}
 
-/// A prefix of the log, as a crash may keep it, tells the serial records of a prefix of the decisions: of those whose Commits it has. It is so
-/// in the midst of an event too, while its records are appended and its entry is not made.
+/// A prefix of the log, as a crash may keep it, tells what a prefix of the decisions shows: of those whose records it has; and it opens as these
+/// say. It is so in the midst of an event too, while its records are appended and its entry is not made.
 pub fn log_prefixes_tell_decision_prefixes()
-    ensures open { (o : Records) (log : List LogRecord) → records_committed log ≡ o → LogDecides (length log) o [] log }
-    ensures each { (base : ℕ) (o : Records) (es : List Entry) (old new : Sessions) (e : SessionEvent) (log : List LogRecord) →
-        IsSoundAfter o es old → IsLogAfter o es old log → LogDecides base o es log → StepsTo old e new → LogDecides base o (es ++ entries_by old e) (log_after log old e) }
-    ensures midst { (base : ℕ) (o : Records) (es : List Entry) (old new : Sessions) (e : SessionEvent) (log : List LogRecord) →
-        IsSoundAfter o es old → IsLogAfter o es old log → LogDecides base o es log → StepsTo old e new → DecidesNothing e → LogDecides base o es (log_after log old e) }
-    ensures prefix { (base : ℕ) (o : Records) (es : List Entry) (log : List LogRecord) (n : ℕ) → LogDecides base o es log → base ≤ n → n ≤ length log →
-        (m : ℕ) × (decisions_in base (take n log) ≡ take m (decisions es)) × (records_committed (take n log) ≡ serial (written_by es) o (take m (decisions es))) }
+    ensures open { (o : Opening) (log : List LogRecord) → IsOpeningOf log o → DoubtsStand log → LogDecides (length log) o [] log }
+    ensures each { (base : ℕ) (o : Opening) (es : List Entry) (old new : Sessions) (e : SessionEvent) (log : List LogRecord) →
+        IsSoundAfter o es old → SessionsAgree o es old → IsLogAfter o es old log → TracksDoubts log old → LogDecides base o es log → StepsTo old e new → LogDecides base o (es ++ entries_by old e) (log_after log old e) }
+    ensures midst { (base : ℕ) (o : Opening) (es : List Entry) (old new : Sessions) (e : SessionEvent) (log : List LogRecord) →
+        IsSoundAfter o es old → SessionsAgree o es old → IsLogAfter o es old log → TracksDoubts log old → LogDecides base o es log → StepsTo old e new → DecidesNothing e → LogDecides base o es (log_after log old e) }
+    ensures prefix { (base : ℕ) (o : Opening) (es : List Entry) (log : List LogRecord) (n : ℕ) → LogDecides base o es log → base ≤ n → n ≤ length log →
+        (m : ℕ) × (decisions_in base (take n log) ≡ take m (decisions es)) × TellsItsDecisions base o (written_by o es) (take n log)
+        × IsOpeningOf (take n log) (next_opening o (record { entries = es; kept = decisions_in base (take n log) })) }
+    ensures shown { (base : ℕ) (o : Opening) (es : List Entry) (log : List LogRecord) → Lawful log → TellsItsDecisions base o (written_by o es) log →
+        records_told log ≡ shown (history_from o es) (decisions_in base log) }
+{}
+
+/// The locks that an open gives back to those in doubt are a function of the log. They are in harmony if the granules of no two Prepares in doubt lie on one
+/// path, and let each read and write just what lies under its granules. They are well rooted, and each was held before, so they are no more than there were.
+pub fn doubts_get_their_locks()
+    ensures made { (log : List LogRecord) → AreRestored log (restored_locks (doubts_in log)) }
+    ensures harmony { (log : List LogRecord) (held : List Hold) → DoubtsStand log → AreRestored log held → Harmony held }
+    ensures under { (log : List LogRecord) (held : List Hold) (t : ℕ) (id : Rid) → DoubtsStand log → AreRestored log held → MayRead held t id →
+        (d : LoggedDoubt) × IsAmong d (doubts_in log) × (t ≡ d.txn) × LiesUnder d.granules id }
+    ensures rooted { (log : List LogRecord) (held : List Hold) → AreRestored log held → WellRooted held }
+    ensures before { (log : List LogRecord) (s : Sessions) (held : List Hold) → TracksDoubts log s → WellRooted s.held → AreRestored log held →
+        All (λ h. HoldsAtLeast s.held h.txn h.mode h.granule) held }
+    ensures no_more { (log : List LogRecord) (s : Sessions) (held : List Hold) → TracksDoubts log s → WellRooted s.held → AreRestored log held → EachOnce (map node_of held) →
+        length held ≤ length s.held }
+    ensures changed { (log : List LogRecord) (d : LoggedDoubt) (id : Rid) → Lawful log → IsAmong d (doubts_in log) → has (changes_id id) d.txn log ≡ true → LiesUnder d.granules id }
+{}
+
+/// A resolve is never refused by the state: one in doubt whose prepare is answered may be decided either way, by any session, and its rollback ended, whatever
+/// has come between.
+pub fn doubts_can_be_resolved()
+    ensures commit { (o : Opening) (es : List Entry) (s : Sessions) (p : PreparedTxn) → SessionsAgree o es s → IsAmong p s.prepared → p.answered ≡ true →
+        (a : SessionTxn) × (new : Sessions) × (a.txn ≡ p.txn) × StepsTo s (AppendResolve a p.global) new }
+    ensures abort { (o : Opening) (es : List Entry) (s : Sessions) (p : PreparedTxn) → SessionsAgree o es s → IsAmong p s.prepared → p.answered ≡ true →
+        (a : SessionTxn) × (new : Sessions) × (a.txn ≡ p.txn) × StepsTo s (AppendRollback a p.global) new }
+    ensures end { (log : List LogRecord) (s : Sessions) (a : SessionTxn) → TracksDoubts log s → IsAmong a s.active → IsAmong a.txn (resolved_of s) →
+        (new : Sessions) × StepsTo s (EndRollback a) new }
 {}
 
 /// A rollback may be made of steps, with other events between them. What its transaction has logged stands for its write set: each
@@ -189,6 +232,40 @@ pub fn rollbacks_are_interrupted()
         (last : Sessions) × (made : List Entry) × RunsTo (just_opened o) (way_back_interrupted o a b x z) [] last made × (get last.records b ≡ Some y) }
 {}
 
+/// A session changes a record and prepares; its transaction is in doubt. Resolved to abort by another session, it leaves what was there before, though the
+/// first session begins anew before that; resolved to commit, its locks may go before the answer, and another session reads what it wrote.
+pub fn prepared_transactions_are_resolved()
+    ensures prepare { (o : Records) (a : Rid) (x z global : List ℕ) → get o a ≡ Some x →
+        (last : Sessions) × (made : List Entry) × RunsTo (just_opened o) (prepared_once o a z global) [] last made
+        × (decisions made ≡ Prepare 1 global ∷ []) × (in_doubt [] (decisions made) ≡ (1, global) ∷ []) }
+    ensures abort { (o : Records) (a : Rid) (x z global : List ℕ) → get o a ≡ Some x →
+        (last : Sessions) × (made : List Entry) × RunsTo (just_opened o) (resolved_to_abort o a z global) [] last made
+        × (get last.records a ≡ Some x) × (in_doubt [] (decisions made) ≡ []) }
+    ensures commit { (o : Records) (a : Rid) (x z global : List ℕ) → get o a ≡ Some x →
+        (last : Sessions) × (made : List Entry) × RunsTo (just_opened o) (resolved_to_commit o a z global) [] last made
+        × (get last.records a ≡ Some z) × (decisions made ≡ Prepare 1 global ∷ Commit 1 ∷ []) × (in_doubt [] (decisions made) ≡ []) }
+    ensures returned { (o : Records) (a : Rid) (x z global : List ℕ) → get o a ≡ Some x →
+        (last : Sessions) × (made : List Entry) × RunsTo (doubtful_open o a z global) (resolved_after_open o a global) [] last made
+        × (get last.records a ≡ Some x) × (in_doubt (record { txn = 1; global = global; writes = insert empty a (Some z) } ∷ []) (decisions made) ≡ []) }
+    ensures from_log { (o : Records) (a : Rid) (z global : List ℕ) →
+        (doubts_in (doubtful_log o a z global) ≡ record { txn = 1; global = global; granules = Record a ∷ [] } ∷ []) × (undo_in (doubtful_log o a z global) 1 ≡ changed_once o a)
+        × (restored_locks (doubts_in (doubtful_log o a z global)) ≡ write_lock 1 a ∷ intention (Page a.page) ∷ intention (Store a.page.store) ∷ intention Volume ∷ []) }
+{}
+
+/// A transaction under way that is neither in doubt nor resolved, and one that is being committed, is its session's; and a session that is in a transaction is in
+/// such a one, or in one that is in doubt. No two sessions are in one.
+pub fn sessions_are_in_their_transactions()
+    ensures open { (o : Opening) (s : Sessions) → IsJustOpened o s → HasOwnSeats s }
+    ensures each { (o : Opening) (es : List Entry) (old new : Sessions) (e : SessionEvent) → SessionsAgree o es old → HasOwnSeats old → StepsTo old e new → HasOwnSeats new }
+{}
+
+/// A prepare cannot be answered any more once a resolve has decided its transaction: the answer would be of a session in no transaction, and acknowledge a
+/// decision that is not among those made. So a resolve has to wait for the answer.
+pub fn prepares_are_answered_before_resolves()
+    ensures nobodys { (R : Records) (n : ℕ) (global : List ℕ) → IsHistory (history_from (opening_with R) (resolved_first global ++ late_answer n global ∷ [])) → n ≡ 0 }
+    ensures not_kept { (global : List ℕ) (ds : List Decision) → Kept (resolved_first global ++ late_answer 0 global ∷ []) ds → ⊥ }
+{}
+
 /// A doomed transaction can only be rolled back, whole. Nothing of it is put back at once. From then on, whatever else comes, it gets no reply and
 /// goes back to no savepoint; nor is it committed, as `wrong_events_do_not_come` says of each one that rolls back.
 pub fn doomed_transactions_can_only_roll_back()
@@ -198,7 +275,7 @@ pub fn doomed_transactions_can_only_roll_back()
         a.undo.rolling ≡ Some Whole → StepsTo s (GiveReply a c reply) new → ⊥ }
     ensures savepoint { (s new : Sessions) (a : SessionTxn) (kept : List (Rid × Image)) (e : Rid × Image) (n : ℕ) →
         a.undo.rolling ≡ Some Whole → StepsTo s (PutBack a kept e (To n)) new → ⊥ }
-    ensures stays { (o : Records) (es : List Entry) (s new : Sessions) (e : SessionEvent) (a b : SessionTxn) → SessionsAgree o es s → IsAmong a s.active →
+    ensures stays { (o : Opening) (es : List Entry) (s new : Sessions) (e : SessionEvent) (a b : SessionTxn) → IsSoundAfter o es s → SessionsAgree o es s → IsAmong a s.active →
         a.undo.rolling ≡ Some Whole → StepsTo s e new → IsAmong b new.active → b.txn ≡ a.txn → b.undo.rolling ≡ Some Whole }
 {}
 
@@ -214,7 +291,7 @@ pub fn wrong_events_do_not_come()
         MayReplyInPlace (read_lock t id ∷ []) t R n (Insert s bytes) (Ok (Inserted id)) → ⊥ }
     ensures scan_under_record_lock { (t n : ℕ) (R : Records) (a b : Rid) (answer : Answer) → a ≢ b →
         MayReplyInPlace (read_lock t a ∷ []) t R n (Scan b.page.store) (Ok answer) → ⊥ }
-    ensures second_txn { (s new : Sessions) (a : SessionTxn) → IsCurrent s a → StepsTo s (BeginTxn a.session) new → ⊥ }
+    ensures second_txn { (s new : Sessions) (session : ℕ) → 0 < (s.seats session).txn → StepsTo s (BeginTxn session) new → ⊥ }
     ensures lock_lost { (s new : Sessions) (t : ℕ) (m : Mode) (g : Granule) →
         IsAmong t (txns_of s.active) → HoldsAtLeast s.held t m g → StepsTo s (MoveLocks []) new → ⊥ }
     ensures locks_clash { (s new : Sessions) (held : List Hold) (t u : ℕ) (id : Rid) →
@@ -233,5 +310,14 @@ pub fn wrong_events_do_not_come()
         length kept < mark_of a.undo n → StepsTo s (PutBack a kept e (To n)) new → ⊥ }
     ensures commit_of_doomed { (s mid new : Sessions) (a b : SessionTxn) →
         StepsTo s (Doom a) mid → b.txn ≡ a.txn → StepsTo mid (AppendCommit b) new → ⊥ }
+    ensures commit_of_doubtful { (s new : Sessions) (a : SessionTxn) → IsAmong a.txn (in_doubt_of s) → StepsTo s (AppendCommit a) new → ⊥ }
+    ensures undo_of_doubtful { (s new : Sessions) (a : SessionTxn) (kept : List (Rid × Image)) (e : Rid × Image) (r : Rollback) →
+        IsAmong a.txn (in_doubt_of s) → StepsTo s (PutBack a kept e r) new → ⊥ }
+    ensures resolve_of_unanswered { (s new : Sessions) (a : SessionTxn) (global : List ℕ) →
+        (IsAmong (record { txn = a.txn; global = global; answered = true }) s.prepared → ⊥) → StepsTo s (AppendResolve a global) new → ⊥ }
+    ensures same_global_id { (s new : Sessions) (a : SessionTxn) (global : List ℕ) (granules : List Granule) (p : ℕ × List ℕ) →
+        IsAmong p (in_use s) → p.1 ≡ global → StepsTo s (AppendPrepare a global granules) new → ⊥ }
+    ensures too_few_granules { (s new : Sessions) (a : SessionTxn) (global : List ℕ) (granules : List Granule) (h : Hold) →
+        Contains s.held h → h.txn ≡ a.txn → IsTrue (is_write h.mode) → (Contains granules h.granule → ⊥) → StepsTo s (AppendPrepare a global granules) new → ⊥ }
     ensures doom_of_another { (s new : Sessions) (a : SessionTxn) → (IsAmong a s.active → ⊥) → StepsTo s (Doom a) new → ⊥ }
 {}

@@ -8,6 +8,7 @@ use Rattle.shore_model.specs.declared.calls.Answer.TheVariants.{Inserted}
 use Rattle.shore_model.specs.declared.calls.Call.{Call}
 use Rattle.shore_model.specs.declared.calls.Call.TheVariants as call
 use Rattle.shore_model.specs.declared.histories.Entry.{Entry}
+use Rattle.shore_model.specs.declared.histories.Opening.{Opening}
 use Rattle.shore_model.specs.Locks.{MayWrite}
 use Rattle.shore_types.specs.Images.{Image}
 use Rattle.shore_model.specs.Records.{Records, laid_over, put_image}
@@ -16,7 +17,7 @@ use Rattle.laws_room.specs.Events.{AnswerFits, ChangeFitsPage, EventFits}
 use Rattle.shore_model.specs.declared.rollbacks.Rollback.{Rollback}
 use Rattle.shore_model.specs.declared.rollbacks.Rollback.TheVariants.{Whole}
 use Rattle.laws_lives.specs.RepliesInPlace.{Permit}
-use Rattle.laws_lives.specs.SessionSteps.{AnswerAbort, AnswerCommit, AppendCommit, BeginTxn, Doom, GiveReply, MoveLocks, PutBack, RefuseCall, SessionEvent, StepsTo}
+use Rattle.laws_lives.specs.SessionSteps.{AnswerAbort, AnswerCommit, AnswerInDoubt, AnswerPrepare, AnswerResolve, AppendCommit, AppendPrepare, AppendResolve, AppendRollback, BeginTxn, Doom, EndRollback, GiveReply, MoveLocks, PutBack, RefuseCall, SessionEvent, StepsTo}
 use Rattle.laws_lives.specs.Sessions.{SessionTxn, Sessions, with_undo, without_txn}
 use Rattle.laws_lives.specs.Soundness.{IsSoundAfter}
 use Rattle.laws_lives.specs.UndoLists.{UndoList, in_place_after_answer, mark_of, marks_kept, nothing_to_undo, undo_after_answer, undo_rolled, with_before_image}
@@ -64,22 +65,23 @@ module _ (R : Records) (undos : List SessionTxn) (counts : SlotCounts) (k : Clai
 
 -- ---- events of the sessions
 
-module _ {o : Records} {es : List Entry} {s : Sessions} (after : IsSoundAfter o es s) (counts : SlotCounts) (k : Claimed s.records s.active counts) where
+module _ {o : Opening} {es : List Entry} {s : Sessions} (after : IsSoundAfter o es s) where
   -- nobody else has changed what a transaction may write
-  alone : (a : SessionTxn) → IsAmong a s.active → (id : Rid) → MayWrite s.held a.txn id → NoOthers s.active a.txn id
+  pub alone : (a : SessionTxn) → IsAmong a s.active → (id : Rid) → MayWrite s.held a.txn id → NoOthers s.active a.txn id
   alone a m id w b there other = ⊎_elim (λ none. none)
       (λ some.
       let v : MayWrite s.held b.txn id = found_at (MayWrite s.held b.txn) id b.undo.images (after.undoes b there).changed some in
       absurd (writer_excludes after.stand a.txn b.txn id (λ e. other (sym e)) w (read_of_write s.held b.txn id v)))
       (empty_or_not (befores_in id b.undo.images))
 
+module _ {o : Opening} {es : List Entry} {s : Sessions} (after : IsSoundAfter o es s) (counts : SlotCounts) (k : Claimed s.records s.active counts) where
   module _ (a : SessionTxn) (m : IsAmong a s.active) (new : SlotCounts) where
     same_counts : {R : Records} {undos : List SessionTxn} → new ≡ counts → Claimed R undos counts → Claimed R undos new
     same_counts {R} {undos} same h = subst (Claimed R undos) (sym same) h
 
     change_on : (id : Rid) (image : Image) → MayWrite s.held a.txn id → ChangeFitsPage s.records s.active counts id image new
         → Claimed (put_image s.records id image) (with_undo a.txn (with_before_image s.records a.undo id) s.active) new
-    change_on id image w h = change_keeps s.records s.active counts k a m id image (alone a m id w) h.0 new h.1
+    change_on id image w h = change_keeps s.records s.active counts k a m id image (alone after a m id w) h.0 new h.1
 
     stays_on : (undo : UndoList) → undo.images ≡ a.undo.images → new ≡ counts → Claimed s.records (with_undo a.txn undo s.active) new
     stays_on undo same is = same_counts is (marked_keeps s.records s.active counts k a m undo same)
@@ -103,6 +105,15 @@ module _ {o : Records} {es : List Entry} {s : Sessions} (after : IsSoundAfter o 
     answer_on call.Savepoint answer w h = stays_on (undo_after_answer s.records a.undo call.Savepoint answer) refl h
     answer_on _ answer w h = stays_on a.undo refl h
 
+  all_undone : (a : SessionTxn) → IsAmong a s.active → (counts' : SlotCounts) → counts' ≡ counts
+      → Claimed (laid_over s.records a.undo.images) (without_txn a.txn s.active) counts'
+  all_undone a m counts' fits =
+      let k1 = undone_keeps s.records s.active counts k a m a.undo.images [] [] None refl in
+      let m1 = new_among (split s.active a k.once m) nothing_to_undo in
+      subst (Claimed (laid_over s.records a.undo.images) (without_txn a.txn s.active)) (sym fits)
+      (subst (λ l. Claimed (laid_over s.records a.undo.images) l counts) (without_with a.txn nothing_to_undo s.active)
+      (left_keeps (laid_over s.records a.undo.images) (with_undo a.txn nothing_to_undo s.active) counts k1 (with_its a nothing_to_undo) m1))
+
   pub event_claims : (e : SessionEvent) (new : Sessions) (counts' : SlotCounts) → StepsTo s e new → EventFits s counts e counts'
       → Claimed new.records new.active counts'
   event_claims (MoveLocks held) new counts' h fits =
@@ -115,26 +126,34 @@ module _ {o : Records} {es : List Entry} {s : Sessions} (after : IsSoundAfter o 
       low : s.next_txn < s.next_txn → ⊥
       low less = omega arith
   event_claims (GiveReply a c (Ok answer)) new counts' h fits =
-      subst (λ (n : Sessions). Claimed n.records n.active counts') (sym h.4) (answer_on a h.0 counts' c answer h.2.0 fits)
+      subst (λ (n : Sessions). Claimed n.records n.active counts') (sym h.4) (answer_on a h.0.0 counts' c answer h.2.0 fits)
   event_claims (GiveReply a c (Err fault)) new counts' h fits =
-      subst (λ (n : Sessions). Claimed n.records n.active counts') (sym h.4) (stays_on a h.0 counts' a.undo refl fits)
+      subst (λ (n : Sessions). Claimed n.records n.active counts') (sym h.4) (stays_on a h.0.0 counts' a.undo refl fits)
   event_claims (AppendCommit a) new counts' h fits =
       subst (λ (n : Sessions). Claimed n.records n.active counts') (sym h.2)
-      (subst (Claimed s.records (without_txn a.txn s.active)) (sym fits) (left_keeps s.records s.active counts k a h.0))
+      (subst (Claimed s.records (without_txn a.txn s.active)) (sym fits) (left_keeps s.records s.active counts k a h.0.0))
   event_claims (PutBack a kept e r) new counts' h fits =
       subst (λ (n : Sessions). Claimed n.records n.active counts') (sym h.4)
       (subst (Claimed (put_image s.records e.0 e.1) (with_undo a.txn (undo_rolled a.undo kept r) s.active)) (sym fits)
-      (undo_keeps s.records s.active counts k a h.0 kept e (marks_kept r a.undo.marks) (Some r) h.1))
+      (undo_keeps s.records s.active counts k a h.0.0 kept e (marks_kept r a.undo.marks) (Some r) h.1))
   event_claims (Doom a) new counts' h fits =
-      subst (λ (n : Sessions). Claimed n.records n.active counts') (sym h.1) (stays_on a h.0 counts' (undo_rolled a.undo a.undo.images Whole) refl fits)
-  event_claims (AnswerAbort a) new counts' h fits =
-      let k1 = undone_keeps s.records s.active counts k a h.0 a.undo.images [] [] None refl in
-      let m1 = new_among (split s.active a k.once h.0) nothing_to_undo in
-      subst (λ (n : Sessions). Claimed n.records n.active counts') (sym h.1)
-      (subst (Claimed (laid_over s.records a.undo.images) (without_txn a.txn s.active)) (sym fits)
-      (subst (λ l. Claimed (laid_over s.records a.undo.images) l counts) (without_with a.txn nothing_to_undo s.active)
-      (left_keeps (laid_over s.records a.undo.images) (with_undo a.txn nothing_to_undo s.active) counts k1 (with_its a nothing_to_undo) m1)))
+      subst (λ (n : Sessions). Claimed n.records n.active counts') (sym h.1) (stays_on a h.0.0 counts' (undo_rolled a.undo a.undo.images Whole) refl fits)
+  event_claims (AnswerAbort a) new counts' h fits = subst (λ (n : Sessions). Claimed n.records n.active counts') (sym h.1) (all_undone a h.0.0 counts' fits)
   event_claims (AnswerCommit a) new counts' h fits =
       subst (λ (n : Sessions). Claimed n.records n.active counts') (sym h.1) (subst (Claimed s.records s.active) (sym fits) k)
   event_claims (RefuseCall session t c fault) new counts' h fits =
+      subst (λ (n : Sessions). Claimed n.records n.active counts') (sym h.2) (subst (Claimed s.records s.active) (sym fits) k)
+  event_claims (AppendPrepare a global granules) new counts' h fits =
+      subst (λ (n : Sessions). Claimed n.records n.active counts') (sym h.4) (subst (Claimed s.records s.active) (sym fits) k)
+  event_claims (AnswerPrepare session t global) new counts' h fits =
+      subst (λ (n : Sessions). Claimed n.records n.active counts') (sym h.2) (subst (Claimed s.records s.active) (sym fits) k)
+  event_claims (AppendResolve a global) new counts' h fits =
+      subst (λ (n : Sessions). Claimed n.records n.active counts') (sym h.3)
+      (subst (Claimed s.records (without_txn a.txn s.active)) (sym fits) (left_keeps s.records s.active counts k a h.0))
+  event_claims (AppendRollback a global) new counts' h fits =
+      subst (λ (n : Sessions). Claimed n.records n.active counts') (sym h.2) (stays_on a h.0 counts' (undo_rolled a.undo a.undo.images Whole) refl fits)
+  event_claims (EndRollback a) new counts' h fits = subst (λ (n : Sessions). Claimed n.records n.active counts') (sym h.2) (all_undone a h.0.0 counts' fits)
+  event_claims (AnswerResolve session r) new counts' h fits =
+      subst (λ (n : Sessions). Claimed n.records n.active counts') (sym h.2) (subst (Claimed s.records s.active) (sym fits) k)
+  event_claims (AnswerInDoubt session t pairs) new counts' h fits =
       subst (λ (n : Sessions). Claimed n.records n.active counts') (sym h.2) (subst (Claimed s.records s.active) (sym fits) k)

@@ -8,7 +8,7 @@ use Rattle.shore_model.specs.declared.calls.Call.{Call}
 use Rattle.shore_model.specs.declared.calls.Call.TheVariants as call
 use Rattle.shore_model.specs.Records.{Records}
 use Rattle.shore_page.specs.Room.{Fits}
-use Rattle.laws_lives.specs.SessionSteps.{AnswerAbort, AnswerCommit, AppendCommit, BeginTxn, Doom, GiveReply, MoveLocks, PutBack, RefuseCall, SessionEvent}
+use Rattle.laws_lives.specs.SessionSteps.{AnswerAbort, AnswerCommit, AnswerInDoubt, AnswerPrepare, AnswerResolve, AppendCommit, AppendPrepare, AppendResolve, AppendRollback, BeginTxn, Doom, EndRollback, GiveReply, MoveLocks, PutBack, RefuseCall, SessionEvent}
 use Rattle.laws_lives.specs.Sessions.{SessionTxn, Sessions}
 use Rattle.laws_room.specs.Claims.{Grows, SlotCounts, slots_of}
 
@@ -48,3 +48,10 @@ EventFits s counts (Doom a) new = new ≡ counts
 EventFits s counts (AnswerAbort a) new = new ≡ counts
 EventFits s counts (AnswerCommit a) new = new ≡ counts
 EventFits s counts (RefuseCall session t c fault) new = new ≡ counts
+EventFits s counts (AppendPrepare a global granules) new = new ≡ counts
+EventFits s counts (AnswerPrepare session t global) new = new ≡ counts
+EventFits s counts (AppendResolve a global) new = new ≡ counts
+EventFits s counts (AppendRollback a global) new = new ≡ counts
+EventFits s counts (EndRollback a) new = new ≡ counts
+EventFits s counts (AnswerResolve session r) new = new ≡ counts
+EventFits s counts (AnswerInDoubt session t pairs) new = new ≡ counts

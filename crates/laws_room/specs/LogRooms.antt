@@ -1,6 +1,6 @@
 -- The log's room over a table of transactions: what its records cost, and what is reserved for the undo and the ending of each
 -- transaction.
-use Rattle.std.specs.Prelude.{◌≡◌, ◌⊎◌, ◌<◌, ◌≤◌, ◌+◌, ◌-◌, ℕ, List, Option, [], ◌∷◌, ◌++◌, None, Some, Ok, Err, length}
+use Rattle.std.specs.Prelude.{◌≡◌, ◌⊎◌, ◌<◌, ◌≤◌, ◌+◌, ◌-◌, ◌*◌, ℕ, List, Option, [], ◌∷◌, ◌++◌, None, Some, Ok, Err, length}
 use Rattle.std.specs.FinMap.{get}
 use Rattle.shore_types.specs.Images.{Image}
 use Rattle.shore_types.specs.declared.ids.Rid.{Rid}
@@ -9,9 +9,12 @@ use Rattle.shore_model.specs.declared.calls.Answer.{Answer}
 use Rattle.shore_model.specs.declared.calls.Answer.TheVariants.{Inserted}
 use Rattle.shore_model.specs.declared.calls.Call.{Call}
 use Rattle.shore_model.specs.declared.calls.Call.TheVariants as call
+use Rattle.shore_types.specs.declared.locking.Granule.{Granule}
+use Rattle.shore_model.specs.declared.log_records.Payload.TheVariants.{Prepare}
 use Rattle.shore_model.specs.Records.{Records}
+use Rattle.shore_logrec.specs.Text.{cost_of}
 use Rattle.shore_model.specs.declared.rollbacks.Rollback.{Rollback}
-use Rattle.laws_lives.specs.SessionSteps.{AnswerAbort, AnswerCommit, AppendCommit, BeginTxn, Doom, GiveReply, MoveLocks, PutBack, RefuseCall, SessionEvent}
+use Rattle.laws_lives.specs.SessionSteps.{AnswerAbort, AnswerCommit, AnswerInDoubt, AnswerPrepare, AnswerResolve, AppendCommit, AppendPrepare, AppendResolve, AppendRollback, BeginTxn, Doom, EndRollback, GiveReply, MoveLocks, PutBack, RefuseCall, SessionEvent}
 use Rattle.laws_lives.specs.Sessions.{SessionTxn, Sessions, with_undo}
 use Rattle.laws_lives.specs.UndoLists.{images_since}
 use Rattle.laws_lives.specs.Views.{IsAmong}
@@ -49,10 +52,10 @@ pub record LogRoom : Type 0 where
   pub stream_bytes : ℕ
   pub last_lsn : ℕ
 
--- What is reserved is what is owed. Beside so many bytes to spare it has its room, and there are numbers for it: no record costs less
+-- What is reserved is what is owed, and for each one in doubt an ending more: a rollback of it logs a Rollback decided besides. Beside so many bytes to spare it has its room, and there are numbers for it: no record costs less
 -- than a byte.
-pub record HasLogRoom (spare : ℕ) (undos : List SessionTxn) (room : LogRoom) : Type 0 where
-  pub sum : room.reserved ≡ owed_by_all undos
+pub record HasLogRoom (spare doubts : ℕ) (undos : List SessionTxn) (room : LogRoom) : Type 0 where
+  pub sum : room.reserved ≡ owed_by_all undos + ENDING_COST * doubts
   pub fits : room.kept + room.reserved + spare ≤ room.stream_bytes
   pub lsns : room.last_lsn + room.reserved < LAST_OPENED
   pub short : room.stream_bytes ≤ MAX_LOG_BYTES
@@ -93,6 +96,17 @@ undone_rooms (e ∷ es) room = undone_room e.1 (undone_rooms es room)
 abbrev pub ended_room : ℕ → LogRoom → LogRoom
 ended_room owed room = record room { kept = room.kept + ENDING_COST; reserved = room.reserved - owed; last_lsn = room.last_lsn + 1 }
 
+-- what a Prepare costs, and what it reserves besides
+abbrev pub prepare_cost : List ℕ → List Granule → ℕ
+prepare_cost global granules = cost_of (Prepare global granules)
+
+abbrev pub prepared_room : List ℕ → List Granule → LogRoom → LogRoom
+prepared_room global granules room = record room {
+  kept = room.kept + prepare_cost global granules;
+  reserved = room.reserved + ENDING_COST;
+  last_lsn = room.last_lsn + 1;
+}
+
 -- no record is appended, since nothing was logged
 abbrev pub left_room : ℕ → LogRoom → LogRoom
 left_room owed room = record room { reserved = room.reserved - owed }
@@ -131,6 +145,13 @@ RoomAfter s (AnswerAbort a) room new =
 RoomAfter s (MoveLocks held) room new = new ≡ room
 RoomAfter s (AnswerCommit a) room new = new ≡ room
 RoomAfter s (RefuseCall session t c fault) room new = new ≡ room
+RoomAfter s (AppendPrepare a global granules) room new = new ≡ prepared_room global granules room
+RoomAfter s (AnswerPrepare session t global) room new = new ≡ room
+RoomAfter s (AppendResolve a global) room new = new ≡ ended_room (owed a + ENDING_COST) room
+RoomAfter s (AppendRollback a global) room new = new ≡ ended_room ENDING_COST room
+RoomAfter s (EndRollback a) room new = new ≡ ended_room ENDING_COST (undone_rooms a.undo.images room)
+RoomAfter s (AnswerResolve session r) room new = new ≡ room
+RoomAfter s (AnswerInDoubt session t pairs) room new = new ≡ room
 
 -- what a change asks for: its record, and the Compensation that may follow
 abbrev pub ChangeAdmits : Records → Rid → Image → LogRoom → Type 0
@@ -155,7 +176,7 @@ AnswerAdmits R (call.Prepare global) answer room = Unit {0}
 AnswerAdmits R (call.Resolve global outcome) answer room = Unit {0}
 AnswerAdmits R call.InDoubt answer room = Unit {0}
 
--- Begin, insert, update and delete ask for room; commits and rollbacks ask for none.
+-- Begin, insert, update, delete and prepare ask for room; commits, rollbacks and resolves ask for none.
 abbrev pub EventAdmits : Sessions → SessionEvent → LogRoom → Type 0
 EventAdmits s (BeginTxn session) room = Admits room ENDING_COST
 EventAdmits s (GiveReply a c (Ok answer)) room = AnswerAdmits s.records c answer room
@@ -167,6 +188,13 @@ EventAdmits s (Doom a) room = Unit {0}
 EventAdmits s (AnswerAbort a) room = Unit {0}
 EventAdmits s (AnswerCommit a) room = Unit {0}
 EventAdmits s (RefuseCall session t c fault) room = Unit {0}
+EventAdmits s (AppendPrepare a global granules) room = Admits room (prepare_cost global granules + ENDING_COST)
+EventAdmits s (AnswerPrepare session t global) room = Unit {0}
+EventAdmits s (AppendResolve a global) room = Unit {0}
+EventAdmits s (AppendRollback a global) room = Unit {0}
+EventAdmits s (EndRollback a) room = Unit {0}
+EventAdmits s (AnswerResolve session r) room = Unit {0}
+EventAdmits s (AnswerInDoubt session t pairs) room = Unit {0}
 
 -- ---- rollbacks in turns
 

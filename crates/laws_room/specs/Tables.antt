@@ -23,9 +23,9 @@ pub record TxnTable : Type 0 where
   pub room : LogRoom
 
 -- pages and log have room for all that could be undone
-pub record IsRoomy (spare : ℕ) (s : TxnTable) : Type 0 where
+pub record IsRoomy (spare doubts : ℕ) (s : TxnTable) : Type 0 where
   pub pages : Claimed s.records s.undos s.counts
-  pub log : HasLogRoom spare s.undos s.room
+  pub log : HasLogRoom spare doubts s.undos s.room
 
 pub data TableStep : Type 0 where
   -- a transaction enters the table

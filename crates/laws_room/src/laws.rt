@@ -1,12 +1,14 @@
 //! The laws of claims and of the log's room, each stated as the contract of an empty function.
-ghost use Rattle.std.specs.Prelude.{◌*◌, ◌+◌, ◌++◌, ◌<◌, ◌≡◌, ◌≢◌, ◌≤◌, ◌↔◌, ◌∷◌, ℕ, Bool, IsTrue, List, Option, [], None, Some, length, max};
+ghost use Rattle.std.specs.Prelude.{◌*◌, ◌+◌, ◌++◌, ◌<◌, ◌≡◌, ◌≢◌, ◌≤◌, ◌↔◌, ◌∷◌, ℕ, Bool, IsTrue, List, Option, [], None, Some, length, max, suc};
 ghost use Rattle.std.specs.FinMap.{get};
 ghost use Rattle.shore_types.specs.Images.{Image, image_len};
 ghost use Rattle.shore_types.specs.declared.ids.PageId.{PageId};
 ghost use Rattle.shore_types.specs.declared.ids.Rid.{Rid};
 ghost use Rattle.shore_types.specs.declared.layout.TheConstants.{ENDING_COST, GREATEST_CHECKPOINT, LONGEST_FRAME, MAX_SLOTS, PAGE_ROOM, SLOT_ENTRY_BYTES};
 ghost use Rattle.shore_model.specs.declared.histories.Entry.{Entry};
-ghost use Rattle.shore_model.specs.declared.log_records.Payload.TheVariants.{Change, Commit, Compensation, End};
+ghost use Rattle.shore_model.specs.declared.histories.Opening.{Opening};
+ghost use Rattle.shore_types.specs.declared.locking.Granule.{Granule};
+ghost use Rattle.shore_model.specs.declared.log_records.Payload.TheVariants.{Change, Commit, Compensation, End, Prepare, RollbackDecided};
 ghost use Rattle.shore_model.specs.Records.{Records, put_image};
 ghost use Rattle.shore_logrec.specs.Text.{cost_of};
 ghost use Rattle.shore_page.specs.Layout.{record_bytes};
@@ -14,7 +16,7 @@ ghost use Rattle.shore_page.specs.Room.{Fits, HasRoom, claim_at, claims, lowered
 ghost use Rattle.shore_page.specs.Slots.{settled, with_change, with_image};
 ghost use Rattle.shore_page.specs.Undo.{UndoFits, longest};
 ghost use Rattle.laws_lives.specs.SessionSteps.{SessionEvent, StepsTo};
-ghost use Rattle.laws_lives.specs.Sessions.{EachOnce, SessionTxn, Sessions, txns_of, with_undo, without_txn};
+ghost use Rattle.laws_lives.specs.Sessions.{EachOnce, SessionTxn, Sessions, in_doubt_of, txns_of, with_undo, without_txn};
 ghost use Rattle.laws_lives.specs.Soundness.{IsJustOpened, IsSoundAfter};
 ghost use Rattle.shore_model.specs.declared.rollbacks.Rollback.{Rollback};
 ghost use Rattle.laws_lives.specs.UndoLists.{UndoList, with_before_image};
@@ -23,7 +25,7 @@ ghost use Rattle.laws_room.specs.Choosing.{IsChoice, Serves, first_of};
 ghost use Rattle.laws_room.specs.Claims.{Claimed, Grows, NoOthers, SlotCounts, befores_at, befores_in, rid_on, slots_of, undecided_on};
 ghost use Rattle.laws_room.specs.Entries.{claim_before, claims_before};
 ghost use Rattle.laws_room.specs.Events.{ChangeFitsPage, EventFits};
-ghost use Rattle.laws_room.specs.LogRooms.{Admits, ChangeAdmits, EventAdmits, HasLogRoom, LogRoom, RoomAfter, Takes, TurnsTake, begun_room, change_cost, changed_room, compensation_cost, ended_room, left_room, owed, undone_room};
+ghost use Rattle.laws_room.specs.LogRooms.{Admits, ChangeAdmits, EventAdmits, HasLogRoom, LogRoom, RoomAfter, Takes, TurnsTake, begun_room, change_cost, changed_room, compensation_cost, ended_room, left_room, owed, prepare_cost, prepared_room, undone_room};
 ghost use Rattle.laws_room.specs.RolledBack.{all_rolled_back, images_on};
 ghost use Rattle.laws_room.specs.Settling.{AllReservesFit, let_go, reserved_for_all, settled_slots};
 ghost use Rattle.laws_room.specs.Tables.{AllHaveRoom, IsRoomy, MayStepAll, RunsWithRoom, TxnTable, TableStep, stepped_all};
@@ -179,59 +181,69 @@ pub fn search_finds_lowest_place()
 pub fn costs_are_those_of_records()
     ensures change { (id : Rid) (before after : Image) → change_cost before after ≡ cost_of (Change id before after) }
     ensures compensation { (id : Rid) (image : Image) (undo_next : ℕ) → compensation_cost image ≡ cost_of (Compensation id image undo_next) }
+    ensures prepare { (global : List ℕ) (granules : List Granule) →
+        (prepare_cost global granules ≡ cost_of (Prepare global granules)) × (prepare_cost global granules ≡ ENDING_COST + 5 + length global + 11 * length granules) }
+    ensures rollback { ENDING_COST ≡ cost_of RollbackDecided }
     ensures ending { (ENDING_COST ≡ cost_of Commit) × (ENDING_COST ≡ cost_of End) }
 {}
 
 /// Each step keeps the log's room. A begin and a change ask for it; a Compensation and an ending take what was reserved for them.
 pub fn steps_keep_log_room()
-    ensures begin { (spare : ℕ) (undos : List SessionTxn) (room : LogRoom) (a : SessionTxn) → spare ≤ LONGEST_FRAME + GREATEST_CHECKPOINT
-        → HasLogRoom spare undos room → a.undo.images ≡ [] → Admits room ENDING_COST → HasLogRoom spare (a ∷ undos) (begun_room room) }
-    ensures change { (spare : ℕ) (R : Records) (undos : List SessionTxn) (room : LogRoom) (a : SessionTxn) (id : Rid) (image : Image) →
-        spare ≤ LONGEST_FRAME + GREATEST_CHECKPOINT → HasLogRoom spare undos room → EachOnce (txns_of undos) → IsAmong a undos → ChangeAdmits R id image room
-        → HasLogRoom spare (with_undo a.txn (with_before_image R a.undo id) undos) (changed_room (get R id) image room) }
-    ensures marks { (spare : ℕ) (undos : List SessionTxn) (room : LogRoom) (a : SessionTxn) (undo : UndoList) → HasLogRoom spare undos room
-        → EachOnce (txns_of undos) → IsAmong a undos → undo.images ≡ a.undo.images → HasLogRoom spare (with_undo a.txn undo undos) room }
-    ensures compensation { (spare : ℕ) (undos : List SessionTxn) (room : LogRoom) (a : SessionTxn) (kept : List (Rid × Image)) (e : Rid × Image) (marks : List ℕ) (rolling : Option Rollback) →
-        HasLogRoom spare undos room → EachOnce (txns_of undos) → IsAmong a undos → a.undo.images ≡ kept ++ e ∷ [] →
+    ensures begin { (spare doubts : ℕ) (undos : List SessionTxn) (room : LogRoom) (a : SessionTxn) → spare ≤ LONGEST_FRAME + GREATEST_CHECKPOINT
+        → HasLogRoom spare doubts undos room → a.undo.images ≡ [] → Admits room ENDING_COST → HasLogRoom spare doubts (a ∷ undos) (begun_room room) }
+    ensures change { (spare doubts : ℕ) (R : Records) (undos : List SessionTxn) (room : LogRoom) (a : SessionTxn) (id : Rid) (image : Image) →
+        spare ≤ LONGEST_FRAME + GREATEST_CHECKPOINT → HasLogRoom spare doubts undos room → EachOnce (txns_of undos) → IsAmong a undos → ChangeAdmits R id image room
+        → HasLogRoom spare doubts (with_undo a.txn (with_before_image R a.undo id) undos) (changed_room (get R id) image room) }
+    ensures marks { (spare doubts : ℕ) (undos : List SessionTxn) (room : LogRoom) (a : SessionTxn) (undo : UndoList) → HasLogRoom spare doubts undos room
+        → EachOnce (txns_of undos) → IsAmong a undos → undo.images ≡ a.undo.images → HasLogRoom spare doubts (with_undo a.txn undo undos) room }
+    ensures compensation { (spare doubts : ℕ) (undos : List SessionTxn) (room : LogRoom) (a : SessionTxn) (kept : List (Rid × Image)) (e : Rid × Image) (marks : List ℕ) (rolling : Option Rollback) →
+        HasLogRoom spare doubts undos room → EachOnce (txns_of undos) → IsAmong a undos → a.undo.images ≡ kept ++ e ∷ [] →
         Takes spare room (compensation_cost e.1)
-        × HasLogRoom spare (with_undo a.txn record { images = kept; marks = marks; rolling = rolling } undos) (undone_room e.1 room) }
-    ensures ending { (spare : ℕ) (undos : List SessionTxn) (room : LogRoom) (a : SessionTxn) →
-        HasLogRoom spare undos room → EachOnce (txns_of undos) → IsAmong a undos →
+        × HasLogRoom spare doubts (with_undo a.txn record { images = kept; marks = marks; rolling = rolling } undos) (undone_room e.1 room) }
+    ensures prepare { (spare doubts : ℕ) (undos : List SessionTxn) (room : LogRoom) (global : List ℕ) (granules : List Granule) → spare ≤ LONGEST_FRAME + GREATEST_CHECKPOINT
+        → HasLogRoom spare doubts undos room → Admits room (prepare_cost global granules + ENDING_COST) → HasLogRoom spare (doubts + 1) undos (prepared_room global granules room) }
+    ensures resolve { (spare doubts : ℕ) (undos : List SessionTxn) (room : LogRoom) (a : SessionTxn) →
+        HasLogRoom spare (suc doubts) undos room → EachOnce (txns_of undos) → IsAmong a undos →
         Takes spare room ENDING_COST
-        × HasLogRoom spare (without_txn a.txn undos) (ended_room (owed a) room) × HasLogRoom spare (without_txn a.txn undos) (left_room (owed a) room) }
+        × HasLogRoom spare doubts (without_txn a.txn undos) (ended_room (owed a + ENDING_COST) room)
+        × ((undo : UndoList) → undo.images ≡ a.undo.images → HasLogRoom spare doubts (with_undo a.txn undo undos) (ended_room ENDING_COST room)) }
+    ensures ending { (spare doubts : ℕ) (undos : List SessionTxn) (room : LogRoom) (a : SessionTxn) →
+        HasLogRoom spare doubts undos room → EachOnce (txns_of undos) → IsAmong a undos →
+        Takes spare room ENDING_COST
+        × HasLogRoom spare doubts (without_txn a.txn undos) (ended_room (owed a) room) × HasLogRoom spare doubts (without_txn a.txn undos) (left_room (owed a) room) }
 {}
 
 /// Rollbacks of any transactions, in steps that take turns as they like, and the endings after them, have their room in the log.
 pub fn rollbacks_in_turns_have_log_room()
-    ensures { (spare : ℕ) (undos : List SessionTxn) (room : LogRoom) (turns : List ℕ) →
-        EachOnce (txns_of undos) → HasLogRoom spare undos room → TurnsTake spare undos room turns }
+    ensures { (spare doubts : ℕ) (undos : List SessionTxn) (room : LogRoom) (turns : List ℕ) →
+        EachOnce (txns_of undos) → HasLogRoom spare doubts undos room → TurnsTake spare undos room turns }
 {}
 
 /// Steps of any transactions, mingled as they like, keep the room of pages and log; and no Compensation and no ending lacks it.
 pub fn steps_keep_room()
-    ensures { (spare : ℕ) (s : TxnTable) (steps : List TableStep) → spare ≤ LONGEST_FRAME + GREATEST_CHECKPOINT → IsRoomy spare s → MayStepAll s steps →
-        IsRoomy spare (stepped_all s steps) × AllHaveRoom spare s steps }
+    ensures { (spare doubts : ℕ) (s : TxnTable) (steps : List TableStep) → spare ≤ LONGEST_FRAME + GREATEST_CHECKPOINT → IsRoomy spare doubts s → MayStepAll s steps →
+        IsRoomy spare doubts (stepped_all s steps) × AllHaveRoom spare s steps }
 {}
 
 /// Each event of the sessions keeps the claims: only insert, update and delete ask for room. That nobody else has changed the id follows
 /// from the locks.
 pub fn events_keep_claims()
-    ensures { (o : Records) (es : List Entry) (old new : Sessions) (e : SessionEvent) (counts later : SlotCounts) →
+    ensures { (o : Opening) (es : List Entry) (old new : Sessions) (e : SessionEvent) (counts later : SlotCounts) →
         IsSoundAfter o es old → Claimed old.records old.active counts → StepsTo old e new → EventFits old counts e later
         → Claimed new.records new.active later }
 {}
 
-/// Each event of the sessions keeps the log's room: only begin, insert, update and delete ask for it.
+/// Each event of the sessions keeps the log's room: only begin, insert, update, delete and prepare ask for it, and no resolve does.
 pub fn events_keep_log_room()
     ensures { (spare : ℕ) (old new : Sessions) (e : SessionEvent) (room later : LogRoom) → spare ≤ LONGEST_FRAME + GREATEST_CHECKPOINT
-        → HasLogRoom spare old.active room → EachOnce (txns_of old.active) → StepsTo old e new → EventAdmits old e room → RoomAfter old e room later
-        → HasLogRoom spare new.active later }
+        → HasLogRoom spare (length old.prepared) old.active room → EachOnce (txns_of old.active) → EachOnce (in_doubt_of old) → StepsTo old e new → EventAdmits old e room → RoomAfter old e room later
+        → HasLogRoom spare (length new.prepared) new.active later }
 {}
 
 /// After any events of any sessions, from an open on, all transactions under way can be rolled back, in any turns.
 pub fn undo_is_never_refused()
-    ensures { (spare : ℕ) (o : Records) (first last : Sessions) (counts c : SlotCounts) (room r : LogRoom) (events : List SessionEvent) (turns : List ℕ) →
-        spare ≤ LONGEST_FRAME + GREATEST_CHECKPOINT → IsJustOpened o first → Claimed o [] counts → HasLogRoom spare [] room
+    ensures { (spare : ℕ) (o : Opening) (first last : Sessions) (counts c : SlotCounts) (room r : LogRoom) (events : List SessionEvent) (turns : List ℕ) →
+        spare ≤ LONGEST_FRAME + GREATEST_CHECKPOINT → IsJustOpened o first → Claimed first.records first.active counts → HasLogRoom spare (length first.prepared) first.active room
         → RunsWithRoom first counts room events last c r
         → TurnsFit last.records last.active c turns × TurnsTake spare last.active r turns }
 {}

@@ -2,14 +2,16 @@
 use Rattle.std.proofs.Common.{◌≡◌, ◌++◌, List, [], ◌∷◌, refl, sym, ap, subst, ◌∙◌, take, append_assoc}
 use Rattle.std.specs.List.{AllByRecursion}
 use Rattle.shore_types.specs.declared.layout.Geometry.{Geometry}
+use Rattle.shore_model.specs.declared.histories.Decision.{Decision}
+use Rattle.shore_model.specs.declared.histories.Decision.TheVariants as decision
 use Rattle.shore_model.specs.declared.histories.Entry.{Entry}
+use Rattle.shore_model.specs.declared.histories.Opening.{Opening}
 use Rattle.shore_model.specs.declared.log_records.LogRecord.{LogRecord}
-use Rattle.shore_model.specs.Logs.{committed_in}
 use Rattle.laws_lives.specs.Recovery.{RecoveryEvent, RecoveryState}
 use Rattle.laws_lives.specs.Logged.{log_after}
-use Rattle.laws_lives.specs.SessionSteps.{AnswerAbort, AnswerCommit, AppendCommit, BeginTxn, Doom, GiveReply, MoveLocks, PutBack, RefuseCall, SessionEvent, entries_by}
+use Rattle.laws_lives.specs.LogPrefixes.{IsDecidedIn}
+use Rattle.laws_lives.specs.SessionSteps.{AnswerAbort, AnswerCommit, AnswerInDoubt, AnswerPrepare, AnswerResolve, AppendCommit, AppendPrepare, AppendResolve, AppendRollback, BeginTxn, Doom, EndRollback, GiveReply, MoveLocks, PutBack, RefuseCall, SessionEvent, entries_by}
 use Rattle.laws_lives.specs.Sessions.{Sessions}
-use Rattle.laws_lives.specs.Views.{IsAmong}
 use Rattle.laws_calls.proofs.SettledComings.{session_event_comes}
 use Rattle.laws_calls.proofs.Links.{ComesBy, GoesBy, IsDurable}
 use Rattle.laws_calls.proofs.SessionsWaiting.{goes_on_log}
@@ -18,7 +20,7 @@ use Rattle.laws_lives.proofs.Lists.{recursion-weaker}
 use Rattle.laws_calls.specs.Events as calls
 use Rattle.laws_calls.specs.Events.{IsStateAfter, EventMoves, entries_of}
 use Rattle.laws_calls.specs.States.{State}
-use Rattle.laws_lives.specs.ManagerSteps.{AnswersDurable, StretchEvent, ManagerRunsTo, ManagerState, Serve, Tend, WorksTo}
+use Rattle.laws_lives.specs.ManagerSteps.{AnswersDurable, StretchEvent, ManagerRunsTo, ManagerState, Serve, Tend, WorksTo, decision_resolved}
 use Rattle.laws_runs.specs.StoredRuns.{IsStored, StoredState}
 
 abbrev pub over : State → RecoveryState → ManagerState
@@ -32,11 +34,13 @@ Comes m es state made = (works : List RecoveryEvent) (store : RecoveryState) →
 -- ---- events of sessions over the store
 
 module _ (m : StoredState) (stored : IsStored m.state m.store) where
-  -- a commit that is answered is durable in the store
+  decided_in_store : (d : Decision) → IsDecidedIn (take m.state.durable m.state.log) d → IsDecidedIn (take m.store.durable m.store.log) d
+  decided_in_store d h =
+      subst (λ l. IsDecidedIn (take m.store.durable l) d) (sym stored.log) (subst (λ n. IsDecidedIn (take n m.state.log) d) (sym stored.durable) h)
+
+  -- a decision that is answered is durable in the store
   answers_durable : (e : SessionEvent) → IsDurable m.state e → AnswersDurable m.store e
-  answers_durable (AnswerCommit a) h =
-      subst (λ l. IsAmong a.txn (committed_in (take m.store.durable l))) (sym stored.log)
-      (subst (λ d. IsAmong a.txn (committed_in (take d m.state.log))) (sym stored.durable) h)
+  answers_durable (AnswerCommit a) h = decided_in_store (decision.Commit a.txn) h
   answers_durable (MoveLocks held) h = tt
   answers_durable (BeginTxn session) h = tt
   answers_durable (GiveReply a c reply) h = tt
@@ -45,6 +49,13 @@ module _ (m : StoredState) (stored : IsStored m.state m.store) where
   answers_durable (Doom a) h = tt
   answers_durable (AnswerAbort a) h = tt
   answers_durable (RefuseCall session t c f) h = tt
+  answers_durable (AppendPrepare a global granules) h = tt
+  answers_durable (AnswerPrepare session t global) h = decided_in_store (decision.Prepare t global) h
+  answers_durable (AppendResolve a global) h = tt
+  answers_durable (AppendRollback a global) h = tt
+  answers_durable (EndRollback a) h = tt
+  answers_durable (AnswerResolve session r) h = decided_in_store (decision_resolved r) h
+  answers_durable (AnswerInDoubt session t pairs) h = tt
 
   module _ (g : Geometry) (last_store : RecoveryState) where
     -- The events, from a state with the store's log on. The store appends what each of them appends with it, and does the rest of its work at the end.
@@ -88,9 +99,9 @@ module _ (m : StoredState) (stored : IsStored m.state m.store) where
             (subst (λ (x : Sessions). ManagerRunsTo (over h.start m.store) run.0 es (record { sessions = x; store = store }) (es ++ made)) (sym h.after.sessions) run.1),
       )
 
-  module _ (found : List LogRecord) (es : List Entry) (k : IsStateAfter found es m.state) where
+  module _ (o : Opening) (found : List LogRecord) (es : List Entry) (k : IsStateAfter o found es m.state) where
     pub event_comes : (g : Geometry) (new : State) (e : calls.ManagerEvent) → EventMoves g m.state e new → Comes m es new (entries_of m.state e)
-    event_comes g new e h = comes_over es g new (entries_of m.state e) (session_event_comes g found es m.state k new e h)
+    event_comes g new e h = comes_over es g new (entries_of m.state e) (session_event_comes g o found es m.state k new e h)
 
   pub rest_comes : (es : List Entry) (new : State) → new ≡ m.state → Comes m es new []
   rest_comes es new same works store work is = (

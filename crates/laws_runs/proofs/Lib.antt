@@ -1,4 +1,5 @@
 mod Losers
+mod NoPrepares
 mod Worked
 pub mod CanStore
 pub mod Events

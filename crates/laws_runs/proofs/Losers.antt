@@ -11,8 +11,7 @@ use Rattle.shore_model.specs.declared.log_records.Payload.TheVariants.{Prepare, 
 use Rattle.shore_model.specs.Logs.{Lawful, MaySay, first_number, has, is_commit, is_end, is_of_checkpoint, is_prepare}
 use Rattle.shore_analysis.proofs.Counted.{last_is_one}
 use Rattle.shore_analysis.specs.Meant.{IsInBounds, IsServedKind}
-use Rattle.laws_lives.proofs.WholeLogs.{none_in_doubt}
-use Rattle.laws_lives.specs.WholeLogs.{HasNoPrepare}
+use Rattle.laws_runs.proofs.NoPrepares.{HasNoPrepare, none_in_doubt}
 use Rattle.laws_lives.proofs.Numbers.{last_own, newest_other}
 use Rattle.laws_lives.proofs.OneMore.{id_itself}
 use Rattle.laws_lives.specs.Undo.{IsLoser}

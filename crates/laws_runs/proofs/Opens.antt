@@ -1,6 +1,6 @@
 -- What undo asks of a roomy log, what an open makes of one, and that analysis takes it.
 use Rattle.std.proofs.Common.{◌≡◌, ⊎_elim, ◌++◌, ◌+◌, ◌<◌, ◌≤◌, ℕ, nat_lt, List, [], ◌∷◌, true, false, cond, Option, Some, None, refl, sym, ap, subst, ◌∙◌, length, take, take_all, arith}
-use Rattle.std.specs.Prelude.{unwrap_or}
+use Rattle.std.specs.Prelude.{All, map, unwrap_or}
 use Rattle.std.specs.FinMap.{empty, get, get-empty, same_map}
 use Rattle.std.specs.List.{AllByRecursion}
 use Rattle.std.specs.Ordering.{eq_by_cmp}
@@ -24,7 +24,9 @@ use Rattle.shore_analysis.proofs.MeantLogs.{lawful_meant}
 use Rattle.shore_analysis.specs.Meant.{AreMeant, IsCrowded, IsInBounds}
 use Rattle.laws_calls.specs.CallHistories.{IsRoomyState}
 use Rattle.laws_calls.specs.States.{State, cost_of_log}
-use Rattle.laws_lives.proofs.WholeLogs.{none_in_doubt}
+use Rattle.laws_lives.specs.Doubts.{LoggedDoubt, doubts_in, pair_logged}
+use Rattle.laws_lives.specs.Sessions.{PreparedTxn, pairs_of}
+use Rattle.laws_runs.proofs.NoPrepares.{no_doubts, none_in_doubt}
 use Rattle.laws_lives.specs.WholeLogs.{IsWholeLog}
 use Rattle.shore_page.specs.Room.{HasRoom, HoldsItsImage}
 use Rattle.shore_page.specs.Slots.{settled}
@@ -79,7 +81,7 @@ empty_is_placed g = record {
 
 empty_is_roomy : (g : Geometry) (stream_bytes : ℕ) → LONGEST_FRAME ≤ stream_bytes → stream_bytes ≤ MAX_LOG_BYTES → IsRoomyLog g stream_bytes []
 unfolding empty_is_placed
-empty_is_roomy g stream_bytes least most = record { placed = empty_is_placed g; room = record { sum = refl; fits = omega arith; lsns = omega arith; short = most } }
+empty_is_roomy g stream_bytes least most = record { placed = empty_is_placed g; room = record { sum = omega arith; fits = omega arith; lsns = omega arith; short = most } }
 
 pub format_is_roomy : (g : Geometry) (stream_bytes : ℕ) → LONGEST_FRAME ≤ stream_bytes → stream_bytes ≤ MAX_LOG_BYTES → AreRoomy g stream_bytes 0 []
 format_is_roomy g stream_bytes least most = record {
@@ -169,9 +171,29 @@ module _ (g : Geometry) where
       none_some e = cc
 
 module _ (g : Geometry) (stream_bytes : ℕ) (log : List LogRecord) (s : State) (opened : IsOpenedFrom stream_bytes log s) where
+  -- with no Prepare in the log nobody is under way
+  module _ (inside : All (IsInBounds g) log) where
+    no_doubt : doubts_in log ≡ []
+    no_doubt = no_doubts log (bounds_prepare_none g log inside)
+
+    none_active : s.sessions.active ≡ []
+    none_active = no_txns s.sessions.active (opened.active ∙ ap (map (λ (d : LoggedDoubt). d.txn)) no_doubt)
+      where
+        no_txns : (undos : List SessionTxn) → txns_of undos ≡ [] → undos ≡ []
+        no_txns [] e = refl
+        no_txns (a ∷ undos) e = cc
+
+    none_prepared : s.sessions.prepared ≡ []
+    none_prepared = no_pairs s.sessions.prepared (opened.prepared ∙ ap (map pair_logged) no_doubt)
+      where
+        no_pairs : (ps : List PreparedTxn) → pairs_of ps ≡ [] → ps ≡ []
+        no_pairs [] e = refl
+        no_pairs (p ∷ ps) e = cc
+
   pub opens_roomy : IsRoomyLog g stream_bytes log → IsRoomyState s
   opens_roomy k =
-      let none = opened.active in
+      let none = none_active k.placed.inside in
+      let doubts : length s.sessions.prepared ≡ 0 = ap length (none_prepared k.placed.inside) in
       let same : k.placed.records ≡ s.sessions.records = same_map rids_total exact_rids k.placed.records s.sessions.records (λ id. k.placed.shown id ∙ sym (opened.records id)) in
       let claimed : Claimed k.placed.records [] (slot_count log) = rolled_claimed k.placed.records k.placed.undos [] (slot_count log) k.placed.pages (λ a m. absurd m) in
       let placed : Claimed s.sessions.records [] s.counts =
@@ -186,7 +208,7 @@ module _ (g : Geometry) (stream_bytes : ℕ) (log : List LogRecord) (s : State) 
       let long = opened.as_long in
       record {
         pages = subst (λ (undos : List SessionTxn). Claimed s.sessions.records undos s.counts) (sym none) placed;
-        log = record { sum = refl; fits = omega arith; lsns = omega arith; short = omega arith };
+        log = record { sum = omega arith; fits = omega (arith, fits, sum, reserved, kept, long, doubts); lsns = omega (arith, lsns, sum, reserved, last, doubts); short = omega arith };
       }
 
   pub opens_leaving : (least : ℕ) → AreRoomy g stream_bytes least log → Lawful log → HasNoLosers log → LeavesRoomyLogsFrom g stream_bytes least s
@@ -195,15 +217,14 @@ module _ (g : Geometry) (stream_bytes : ℕ) (log : List LogRecord) (s : State) 
       let none = bounds_prepare_none g log whole.inside in
       let numbers : AllByRecursion (λ r. r.txn < LAST_TXN) log =
       recursion-weaker (IsInBounds g) (λ r. r.txn < LAST_TXN) (λ r h. h.number) log (recursion_from_All (IsInBounds g) log whole.inside) in
-      let nobody : (t : ℕ) → IsAmong t (txns_of s.sessions.active) → ⊥ = λ t m. subst (λ (xs : List SessionTxn). IsAmong t (txns_of xs)) opened.active m in
+      let nobody : (t : ℕ) → IsAmong t (txns_of s.sessions.active) → ⊥ = λ t m. subst (λ (xs : List SessionTxn). IsAmong t (txns_of xs)) (none_active whole.inside) m in
       let is_whole : IsWholeLog log s.sessions =
       record {
         lawful = lawful;
-        no_prepare = none;
         writers = λ t id changed not_over. absurd (true≢false (sym (ended t id changed not_over) ∙ none_in_doubt t log none));
         unended = λ t m. absurd (nobody t m);
         above = λ t m. absurd (nobody t m);
-        undo_lists = λ a m. absurd (subst (IsAmong a) opened.active m);
+        undo_lists = λ a m. absurd (subst (IsAmong a) (none_active whole.inside) m);
         some = opened.some;
       } in
       record {

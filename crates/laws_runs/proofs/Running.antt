@@ -11,10 +11,10 @@ use Rattle.shore_types.specs.declared.ids.Rid.{Rid}
 use Rattle.shore_types.specs.declared.layout.Geometry.{Geometry}
 use Rattle.shore_types.specs.declared.layout.TheConstants.{LAST_TXN, MAX_TRANSACTIONS}
 use Rattle.shore_model.specs.declared.histories.Entry.{Entry}
+use Rattle.shore_model.specs.declared.histories.Opening.{Opening}
 use Rattle.shore_model.specs.declared.log_records.LogRecord.{LogRecord}
 use Rattle.shore_model.specs.declared.log_records.Payload.TheVariants as payload
 use Rattle.shore_model.specs.Logs.{image_in, id_in, previous_of}
-use Rattle.shore_model.specs.Records.{Records}
 use Rattle.shore_analysis.specs.Meant.{IsInBounds, IsServedKind}
 use Rattle.laws_calls.proofs.Comings.{goes_keeps, like_keeps}
 use Rattle.laws_calls.proofs.SettledComings.{session_event_comes}
@@ -26,14 +26,13 @@ use Rattle.laws_calls.proofs.Sessions.{AreSessionsAfter}
 use Rattle.laws_calls.proofs.TakenLocks.{sessions_of}
 use Rattle.laws_calls.specs.CallHistories.{IsRoomyState}
 use Rattle.laws_calls.specs.Events.{Called, Forced, HasFailed, IsStateAfter, ManagerEvent, EventMoves, MovesMaking, Resumed, entries_of}
-use Rattle.laws_calls.specs.CallSteps.{txn_count}
+use Rattle.laws_calls.specs.CallSteps.{ended_among, txn_count}
 use Rattle.laws_calls.specs.States.{State}
 use Rattle.laws_lives.proofs.WholeLogs.{image_in_place}
 use Rattle.laws_lives.proofs.WholeSteps.{event_stays_whole}
 use Rattle.laws_lives.specs.WholeLogs.{IsWholeLog}
 use Rattle.laws_room.proofs.Pages.{page_or_other}
 use Rattle.laws_room.specs.Claims.{Grows, SlotCounts}
-use Rattle.laws_lives.specs.LogTells.{records_committed}
 use Rattle.laws_lives.specs.SessionSteps.{SessionEvent, entries_by}
 use Rattle.laws_lives.specs.Sessions.{Sessions}
 use Rattle.laws_runs.proofs.Opens.{records_inside}
@@ -115,7 +114,7 @@ change_appends g s new h page = record {
 
 -- ---- one event of the sessions
 
-module _ (g : Geometry) (stream_bytes least base : ℕ) (o : Records) (es : List Entry) (s : State) (k : AreSessionsAfter base o es s.sessions s.log) (h : LeavesRoomyLogsFrom g stream_bytes least s) where
+module _ (g : Geometry) (stream_bytes least base : ℕ) (o : Opening) (es : List Entry) (s : State) (k : AreSessionsAfter base o es s.sessions s.log) (h : LeavesRoomyLogsFrom g stream_bytes least s) where
   -- the log and the slots stay
   stays_leaving : (new : State) → new.log ≡ s.log → new.counts ≡ s.counts → new.stream_bytes ≡ s.stream_bytes → IsWholeLog new.log new.sessions
       → new.sessions.next_txn ≤ LAST_TXN → LeavesRoomyLogsFrom g stream_bytes least new
@@ -163,7 +162,7 @@ module _ (g : Geometry) (stream_bytes least base : ℕ) (o : Records) (es : List
     its_page id (inl page) = page
     its_page id (inr there) = by (get s.sessions.records id) refl there
       where
-        by : (o : Option (List ℕ)) → get s.sessions.records id ≡ o → IsSome o → HasPage g id.page
+        by : (x : Option (List ℕ)) → get s.sessions.records id ≡ x → IsSome x → HasPage g id.page
         by None at some = cc
         by (Some bytes) at some =
             (records_inside g s.log s.sessions.records (whole_placed g stream_bytes least s.log h.prefixes) (λ id. sym (image_in_place k.sound k.logged h.whole id)) id bytes at).0.0
@@ -181,14 +180,14 @@ module _ (g : Geometry) (stream_bytes least base : ℕ) (o : Records) (es : List
   goes_leaving : (new : State) (e : SessionEvent) → IsRoomyState s → txn_count s ≤ MAX_TRANSACTIONS → Goes g s e new → LeavesRoomyLogsFrom g stream_bytes least new
   goes_leaving new e roomy few goes =
       let whole : IsWholeLog new.log new.sessions =
-      subst (λ l. IsWholeLog l new.sessions) (sym goes.log) (event_stays_whole o es s.sessions new.sessions e s.log k.sound k.logged h.whole goes.moves) in
+      subst (λ l. IsWholeLog l new.sessions) (sym goes.log) (event_stays_whole o es s.sessions new.sessions e s.log k.sound k.logged k.doubts h.whole goes.moves) in
       let many = goes.few few in
       writes_leaving new (es ++ entries_by s.sessions e) (goes_keeps base o es g s new e k goes) (goes_roomy base o es g s new e k roomy goes) (omega (arith, many)) goes.stream whole
       (goes.numbers h.txns) goes.writes
 
 -- ---- events of the sessions one after another
 
-by_leaving : (g : Geometry) (stream_bytes least base : ℕ) (o : Records) (es : List Entry) (s : State) (events : List SessionEvent) (new : State) (made : List Entry) → AreSessionsAfter base o es s.sessions s.log
+by_leaving : (g : Geometry) (stream_bytes least base : ℕ) (o : Opening) (es : List Entry) (s : State) (events : List SessionEvent) (new : State) (made : List Entry) → AreSessionsAfter base o es s.sessions s.log
     → IsRoomyState s → txn_count s ≤ MAX_TRANSACTIONS → LeavesRoomyLogsFrom g stream_bytes least s → GoesBy g s events new made → LeavesRoomyLogsFrom g stream_bytes least new
 by_leaving g stream_bytes least base o es s [] new made k roomy few h x = subst (LeavesRoomyLogsFrom g stream_bytes least) (sym x.0) h
 by_leaving g stream_bytes least base o es s (e ∷ events) new made k roomy few h x =
@@ -223,35 +222,35 @@ durable_rises g s new (Resumed session step) h = let same = (settled_resume_furt
 durable_rises g s new (Forced n) h = let same = ap (λ (x : State). x.durable) h.2 in let more = h.0 in omega (arith, same, more)
 durable_rises g s new HasFailed h = let same = ap (λ (x : State). x.durable) h in omega (arith, same)
 
-module _ (g : Geometry) (stream_bytes : ℕ) (found : List LogRecord) where
+module _ (g : Geometry) (stream_bytes : ℕ) (o : Opening) (found : List LogRecord) where
   module _ (least : ℕ) where
-    pub comes_leaving : (es : List Entry) (s new : State) (made : List Entry) → IsStateAfter found es s → IsRoomyState s → LeavesRoomyLogsFrom g stream_bytes least s → ComesBy g s new made
+    pub comes_leaving : (es : List Entry) (s new : State) (made : List Entry) → IsStateAfter o found es s → IsRoomyState s → LeavesRoomyLogsFrom g stream_bytes least s → ComesBy g s new made
         → LeavesRoomyLogsFrom g stream_bytes least new
     comes_leaving es s new made k roomy h comes =
-        let few : txn_count comes.start ≤ MAX_TRANSACTIONS = subst (λ (n : Sessions). length n.active + length n.committing ≤ MAX_TRANSACTIONS) (sym comes.before.sessions) k.few in
+        let few : txn_count comes.start ≤ MAX_TRANSACTIONS = subst (λ (n : Sessions). length n.active + length n.committing + length (ended_among n.active n.resolving) ≤ MAX_TRANSACTIONS) (sym comes.before.sessions) k.few in
         like_leaving g stream_bytes least comes.mid new comes.after
-        (by_leaving g stream_bytes least (length found) (records_committed found) es comes.start comes.events comes.mid made
-        (like_keeps (length found) (records_committed found) es s comes.start comes.before (sessions_of found es s k.sessions)) (like_roomy s comes.start comes.before roomy) few
+        (by_leaving g stream_bytes least (length found) o es comes.start comes.events comes.mid made
+        (like_keeps (length found) o es s comes.start comes.before (sessions_of o found es s k.sessions)) (like_roomy s comes.start comes.before roomy) few
         (like_leaving g stream_bytes least s comes.start comes.before h) comes.goes)
 
-    pub event_leaving_from : (es : List Entry) (s new : State) (e : ManagerEvent) → IsStateAfter found es s → IsRoomyState s → LeavesRoomyLogsFrom g stream_bytes least s → EventMoves g s e new
+    pub event_leaving_from : (es : List Entry) (s new : State) (e : ManagerEvent) → IsStateAfter o found es s → IsRoomyState s → LeavesRoomyLogsFrom g stream_bytes least s → EventMoves g s e new
         → LeavesRoomyLogsFrom g stream_bytes least new
-    event_leaving_from es s new e k roomy h x = comes_leaving es s new (entries_of s e) k roomy h (session_event_comes g found es s k new e x)
+    event_leaving_from es s new e k roomy h x = comes_leaving es s new (entries_of s e) k roomy h (session_event_comes g o found es s k new e x)
 
-    pub events_leaving_from : (es : List Entry) (s : State) (events : List ManagerEvent) (last : State) (made : List Entry) → IsStateAfter found es s → IsRoomyState s
+    pub events_leaving_from : (es : List Entry) (s : State) (events : List ManagerEvent) (last : State) (made : List Entry) → IsStateAfter o found es s → IsRoomyState s
         → LeavesRoomyLogsFrom g stream_bytes least s → MovesMaking g s events last made → LeavesRoomyLogsFrom g stream_bytes least last
     events_leaving_from es s [] last made k roomy h x = subst (LeavesRoomyLogsFrom g stream_bytes least) (sym x.0) h
     events_leaving_from es s (e ∷ events) last made k roomy h x =
-        events_leaving_from (es ++ entries_of s e) x.0 events last x.1 (session_event_stays g found es s x.0 e k x.2) (session_event_roomy found es s k roomy g x.0 e x.2)
+        events_leaving_from (es ++ entries_of s e) x.0 events last x.1 (session_event_stays g o found es s x.0 e k x.2) (session_event_roomy o found es s k roomy g x.0 e x.2)
         (event_leaving_from es s x.0 e k roomy h x.2) x.3
 
-  pub event_leaving : (es : List Entry) (s new : State) (e : ManagerEvent) → IsStateAfter found es s → IsRoomyState s → LeavesRoomyLogs g stream_bytes s → EventMoves g s e new
+  pub event_leaving : (es : List Entry) (s new : State) (e : ManagerEvent) → IsStateAfter o found es s → IsRoomyState s → LeavesRoomyLogs g stream_bytes s → EventMoves g s e new
       → LeavesRoomyLogs g stream_bytes new
   event_leaving es s new e k roomy h x = later_leaving g stream_bytes s.durable new (durable_rises g s new e x) (event_leaving_from s.durable es s new e k roomy h x)
 
-  pub events_leaving : (es : List Entry) (s : State) (events : List ManagerEvent) (last : State) (made : List Entry) → IsStateAfter found es s → IsRoomyState s
+  pub events_leaving : (es : List Entry) (s : State) (events : List ManagerEvent) (last : State) (made : List Entry) → IsStateAfter o found es s → IsRoomyState s
       → LeavesRoomyLogs g stream_bytes s → MovesMaking g s events last made → IsRoomyState last × LeavesRoomyLogs g stream_bytes last
   events_leaving es s [] last made k roomy h x = (subst IsRoomyState (sym x.0) roomy, subst (LeavesRoomyLogs g stream_bytes) (sym x.0) h)
   events_leaving es s (e ∷ events) last made k roomy h x =
-      events_leaving (es ++ entries_of s e) x.0 events last x.1 (session_event_stays g found es s x.0 e k x.2) (session_event_roomy found es s k roomy g x.0 e x.2)
+      events_leaving (es ++ entries_of s e) x.0 events last x.1 (session_event_stays g o found es s x.0 e k x.2) (session_event_roomy o found es s k roomy g x.0 e x.2)
       (event_leaving es s x.0 e k roomy h x.2) x.3

@@ -1,22 +1,23 @@
 -- What a restart may be handed it keeps sound, and so does its loss of power.
-use Rattle.std.proofs.Common.{◌≡◌, ◌≤◌, ◌++◌, ℕ, List, [], ◌∷◌, Option, Some, None, false, refl, sym, ap, subst, take, arith}
+use Rattle.std.proofs.Common.{◌≡◌, ◌≤◌, ◌++◌, ⊎_elim, ℕ, List, [], ◌∷◌, Option, Some, None, refl, sym, ap, subst, length, take, take_all, arith}
 use Rattle.std.specs.Prelude.{IsSomeAnd, slice_get}
-use Rattle.std.proofs.lemmas.List.{length-take-le}
+use Rattle.std.proofs.Math.Seq.{take-length}
+use Rattle.std.proofs.lemmas.List.{length-take, length-take-le, take-append-le}
+use Rattle.laws_lives.proofs.Lists.{take-beyond, within_or_beyond}
 use Rattle.shore_types.specs.declared.layout.Geometry.{Geometry}
 use Rattle.shore_types.specs.declared.layout.TheConstants.{LONGEST_FRAME, MAX_LOG_BYTES}
 use Rattle.shore_model.specs.declared.log_records.LogRecord.{LogRecord}
-use Rattle.shore_model.specs.declared.unanswered_changes.UnansweredChange.{UnansweredChange}
-use Rattle.shore_model.specs.Logs.{Lawful, is_prepare, unanswered}
+use Rattle.shore_model.specs.Logs.{Lawful}
 use Rattle.laws_lives.proofs.Invariant.{crash_stands, event_kept, from_the_first}
 use Rattle.laws_lives.proofs.UndoRecords.{lawful_front, lawful_next, undo_follows}
 use Rattle.laws_lives.specs.Pages.{AreAsOfOwnNumbers, LoggedPages, empty_page}
-use Rattle.laws_lives.specs.Recovery.{AppendRecord, FlushPage, ForceLog, IsRecoverable, LeadsTo, LosePower, MayCrash, RecoveryEvent, RecoveryState, RedoRecord, after_crash, after_redo}
+use Rattle.laws_lives.specs.Recovery.{AppendRecord, FlushPage, ForceLog, IsRecoverable, LeadsTo, LosePower, MayCrash, RecoveryEvent, RecoveryState, RedoRecord, after_append, after_crash, after_redo}
 use Rattle.laws_lives.specs.Restarts.{IsRestartStep, RestartsTo}
-use Rattle.laws_lives.specs.Undo.{undo_payload, undo_record}
-use Rattle.laws_lives.proofs.Lists.{recursion-push, recursion-take}
+use Rattle.laws_lives.specs.Undo.{undo_record}
+use Rattle.laws_lives.proofs.Openings.{undone_stand}
 use Rattle.laws_lives.proofs.LifeSteps.{format_may_be_found}
 use Rattle.laws_lives.specs.Stretches.{MayBeFound}
-use Rattle.laws_lives.specs.WholeLogs.{HasNoPrepare}
+use Rattle.laws_lives.specs.Doubts.{DoubtsStand}
 use Rattle.laws_runs.proofs.ManagerLogs.{restart_roomy}
 use Rattle.laws_runs.proofs.Opens.{format_is_roomy}
 use Rattle.laws_runs.proofs.Prefixes.{left_roomy}
@@ -25,39 +26,49 @@ use Rattle.laws_runs.specs.SoundStores.{IsLost, IsSoundStore, MayBeOpened, found
 
 -- ---- a restart
 
-undo_prepares_none : (cs : List UnansweredChange) → is_prepare (undo_payload cs) ≡ false
-undo_prepares_none [] = refl
-undo_prepares_none (c ∷ cs) = refl
+-- the log is lawful, and in each prefix that a crash may leave those in doubt stand beside each other
+record IsPlain (s : RecoveryState) : Type 0 where
+  lawful : Lawful s.log
+  doubts : (n : ℕ) → s.durable ≤ n → DoubtsStand (take n s.log)
 
-record IsPlain (log : List LogRecord) : Type 0 where
-  lawful : Lawful log
-  no_prepare : HasNoPrepare log
+same_plain : (s new : RecoveryState) → new ≡ s → IsPlain s → IsPlain new
+same_plain s new e k = subst IsPlain (sym e) k
 
-plain_front : (log : List LogRecord) (n : ℕ) → IsPlain log → IsPlain (take n log)
-plain_front log n k = record { lawful = lawful_front log n k.lawful; no_prepare = recursion-take (λ r. is_prepare r.payload ≡ false) n log k.no_prepare }
-
-same_plain : (s new : RecoveryState) → new ≡ s → IsPlain s.log → IsPlain new.log
-same_plain s new e k = subst (λ (x : RecoveryState). IsPlain x.log) (sym e) k
-
-step_plain : (s : RecoveryState) (e : RecoveryEvent) (new : RecoveryState) → IsPlain s.log → IsRestartStep s e → LeadsTo s e new → IsPlain new.log
-step_plain s (AppendRecord r) new k is leads =
-    subst (λ (x : RecoveryState). IsPlain x.log) (sym leads.1)
-    (subst (λ r. IsPlain (s.log ++ r ∷ [])) (sym is.2) (record {
-      lawful = lawful_next s.log (undo_record s.log is.0) k.lawful (undo_follows s.log is.0 is.1);
-      no_prepare = recursion-push (λ r. is_prepare r.payload ≡ false) s.log (undo_record s.log is.0) k.no_prepare (undo_prepares_none (unanswered is.0 s.log));
-    }))
-step_plain s RedoRecord new k is leads = redo_keeps (slice_get s.log s.redone) leads
+step_plain : (s : RecoveryState) (e : RecoveryEvent) (new : RecoveryState) → s.durable ≤ length s.log → IsPlain s → IsRestartStep s e → LeadsTo s e new → IsPlain new
+step_plain s (AppendRecord r) new within k is leads = subst IsPlain (sym leads.1) (subst (λ r. IsPlain (after_append s r)) (sym is.2) (record { lawful = lawful; doubts = doubts }))
   where
-    redo_keeps : (o : Option LogRecord) → IsSomeAnd o (λ r. new ≡ after_redo s r) → IsPlain new.log
-    redo_keeps None h = absurd h
-    redo_keeps (Some r) h = same_plain (after_redo s r) new h k
-step_plain s (ForceLog n) new k is leads = subst (λ (x : RecoveryState). IsPlain x.log) (sym leads.2) k
-step_plain s (FlushPage p) new k is leads = subst (λ (x : RecoveryState). IsPlain x.log) (sym leads.1) k
-step_plain s (LosePower n left begin) new k is leads = subst (λ (x : RecoveryState). IsPlain x.log) (sym leads.1) (plain_front s.log n k)
+    u : LogRecord
+    u = undo_record s.log is.0
 
-restart_plain : (s : RecoveryState) (works : List RecoveryEvent) (last : RecoveryState) → IsPlain s.log → RestartsTo s works last → IsPlain last.log
-restart_plain s [] last k h = same_plain s last h k
-restart_plain s (e ∷ works) last k h = restart_plain h.1 works last (step_plain s e h.1 k h.0 h.2) h.3
+    lawful : Lawful (s.log ++ u ∷ [])
+    lawful = lawful_next s.log u k.lawful (undo_follows s.log is.0 is.1)
+
+    whole : DoubtsStand (s.log ++ u ∷ [])
+    whole = undone_stand s.log (is.0 ∷ []) (s.log ++ u ∷ []) (is.1, refl) (subst DoubtsStand (take-length s.log) (k.doubts (length s.log) within))
+
+    doubts : (n : ℕ) → s.durable ≤ n → DoubtsStand (take n (s.log ++ u ∷ []))
+    doubts n least = ⊎_elim
+        (λ less. subst DoubtsStand (sym (take-append-le n s.log (u ∷ []) less)) (k.doubts n least))
+        (λ beyond. subst DoubtsStand (sym (take-beyond n s.log u beyond)) whole)
+        (within_or_beyond n (length s.log))
+step_plain s RedoRecord new within k is leads = redo_keeps (slice_get s.log s.redone) leads
+  where
+    redo_keeps : (o : Option LogRecord) → IsSomeAnd o (λ r. new ≡ after_redo s r) → IsPlain new
+    redo_keeps None h = absurd h
+    redo_keeps (Some r) h = same_plain (after_redo s r) new h (record { lawful = k.lawful; doubts = k.doubts })
+step_plain s (ForceLog n) new within k is leads =
+    subst IsPlain (sym leads.2) (record { lawful = k.lawful; doubts = λ m more. let least = leads.0 in k.doubts m (omega (arith, least, more)) })
+step_plain s (FlushPage p) new within k is leads = subst IsPlain (sym leads.1) (record { lawful = k.lawful; doubts = k.doubts })
+step_plain s (LosePower n left begin) new within k is leads =
+    subst IsPlain (sym leads.1) (record { lawful = lawful_front s.log n k.lawful; doubts = λ m more. front_stands s.log n m (k.doubts n leads.0.0) more })
+  where
+    front_stands : (log : List LogRecord) (n m : ℕ) → DoubtsStand (take n log) → n ≤ m → DoubtsStand (take m (take n log))
+    front_stands log n m h more = let short = length-take n log in subst DoubtsStand (sym (take_all m (take n log) (omega (arith, short, more)))) h
+
+restart_plain : (s : RecoveryState) (works : List RecoveryEvent) (last : RecoveryState) → IsRecoverable s → IsPlain s → RestartsTo s works last → IsPlain last
+restart_plain s [] last recoverable k h = same_plain s last h k
+restart_plain s (e ∷ works) last recoverable k h =
+    restart_plain h.1 works last (event_kept s e h.1 recoverable h.2) (step_plain s e h.1 recoverable.durable k h.0 h.2) h.3
 
 restart_recoverable : (s : RecoveryState) (works : List RecoveryEvent) (last : RecoveryState) → IsRecoverable s → RestartsTo s works last → IsRecoverable last
 restart_recoverable s [] last k h = subst IsRecoverable (sym h) k
@@ -83,26 +94,31 @@ module _ (g : Geometry) (stream_bytes : ℕ) where
   pub restart_sound : (s : RecoveryState) (works : List RecoveryEvent) (last : RecoveryState) → IsSoundStore g stream_bytes s → RestartsTo s works last
       → IsSoundStore g stream_bytes last
   restart_sound s works last k h =
-      let plain = restart_plain s works last (record { lawful = k.lawful; no_prepare = k.no_prepare }) h in
+      let plain = restart_plain s works last k.recoverable (record { lawful = k.lawful; doubts = k.doubts }) h in
       record {
         recoverable = restart_recoverable s works last k.recoverable h;
         lawful = plain.lawful;
-        no_prepare = plain.no_prepare;
+        doubts = plain.doubts;
         roomy = restart_roomy g stream_bytes s works last k.roomy h;
       }
 
   -- ---- what it is handed
 
   pub found_sound : (rs : List LogRecord) (pages : LoggedPages) → MayBeOpened g stream_bytes rs pages → IsSoundStore g stream_bytes (found_state rs pages)
-  found_sound rs pages k = record { recoverable = found_recoverable rs pages k.as_of; lawful = k.lawful; no_prepare = k.no_prepare; roomy = k.roomy }
+  found_sound rs pages k = record {
+    recoverable = found_recoverable rs pages k.as_of;
+    lawful = k.lawful;
+    doubts = λ n all. subst DoubtsStand (sym (take_all n rs all)) k.doubts;
+    roomy = k.roomy;
+  }
 
   pub found_may_be_found : (rs : List LogRecord) (pages : LoggedPages) → MayBeOpened g stream_bytes rs pages → MayBeFound (found_state rs pages)
-  found_may_be_found rs pages k = record { recoverable = found_recoverable rs pages k.as_of; lawful = k.lawful; no_prepare = k.no_prepare; durable = omega arith }
+  found_may_be_found rs pages k = record { recoverable = found_recoverable rs pages k.as_of; lawful = k.lawful; doubts = k.doubts; durable = omega arith }
 
   pub format_may_be_opened : LONGEST_FRAME ≤ stream_bytes → stream_bytes ≤ MAX_LOG_BYTES → MayBeOpened g stream_bytes [] (λ p. empty_page)
   format_may_be_opened least most = record {
     lawful = format_may_be_found.lawful;
-    no_prepare = tt;
+    doubts = format_may_be_found.doubts;
     roomy = format_is_roomy g stream_bytes least most;
     as_of = format_may_be_found.recoverable.volume;
   }
@@ -113,7 +129,7 @@ module _ (g : Geometry) (stream_bytes : ℕ) where
     pub left_may_be_opened : MayBeOpened g stream_bytes (take n s.log) left
     left_may_be_opened = record {
       lawful = lawful_front s.log n k.lawful;
-      no_prepare = recursion-take (λ r. is_prepare r.payload ≡ false) n s.log k.no_prepare;
+      doubts = k.doubts n lost.least;
       roomy = subst (λ m. AreRoomy g stream_bytes m (take n s.log)) (sym (length-take-le n s.log lost.most)) (left_roomy g stream_bytes s.durable s.log n lost.least k.roomy);
       as_of = crash_stands s k.recoverable n left lost.least lost.most lost.shows;
     }

@@ -1,20 +1,23 @@
 -- Work of a store that appends some records and then others is work that appends the first and work that appends the rest; and what is durable stays so.
 use Rattle.std.proofs.Common.{◌≡◌, inl, inr, ◌++◌, ◌≤◌, ℕ, zero, suc, List, [], ◌∷◌, refl, sym, ap, subst, ◌∙◌, arith, length, length-append, take, append-nil, append_assoc}
+use Rattle.std.specs.List.{filter_map}
 use Rattle.std.proofs.lemmas.List.{append_cancel_left}
 use Rattle.std.proofs.lemmas.List.Elements.{filter_map-append}
 use Rattle.shore_types.specs.declared.layout.Geometry.{Geometry}
 use Rattle.shore_model.specs.declared.log_records.LogRecord.{LogRecord}
+use Rattle.shore_model.specs.declared.histories.Decision.{Decision}
+use Rattle.shore_model.specs.declared.histories.Decision.TheVariants as decision
 use Rattle.shore_model.specs.declared.histories.Entry.{Entry}
-use Rattle.shore_model.specs.Logs.{commit_of, committed_in}
 use Rattle.laws_lives.specs.Recovery.{AppendRecord, FlushPage, ForceLog, LosePower, RecoveryEvent, RecoveryState, RedoRecord}
-use Rattle.laws_lives.specs.SessionSteps.{AnswerAbort, AnswerCommit, AppendCommit, BeginTxn, Doom, GiveReply, MoveLocks, PutBack, RefuseCall, SessionEvent}
+use Rattle.laws_lives.specs.LogPrefixes.{IsDecidedIn, decision_in}
+use Rattle.laws_lives.specs.SessionSteps.{AnswerAbort, AnswerCommit, AnswerInDoubt, AnswerPrepare, AnswerResolve, AppendCommit, AppendPrepare, AppendResolve, AppendRollback, BeginTxn, Doom, EndRollback, GiveReply, MoveLocks, PutBack, RefuseCall, SessionEvent}
 use Rattle.laws_lives.specs.Views.{IsAmong}
 use Rattle.laws_calls.proofs.Links.{GoesBy}
 use Rattle.laws_calls.proofs.Prefixes.{prefix_on, whole_prefix}
 use Rattle.laws_calls.proofs.SessionsWaiting.{goes_on_log}
 use Rattle.laws_calls.specs.CallHistories.{IsPrefix}
 use Rattle.laws_calls.specs.States.{State}
-use Rattle.laws_lives.specs.ManagerSteps.{AnswersDurable, WorksTo}
+use Rattle.laws_lives.specs.ManagerSteps.{AnswersDurable, WorksTo, decision_resolved}
 
 -- ---- what work leaves
 
@@ -23,10 +26,10 @@ pub record WorksOn (s new : RecoveryState) : Type 0 where
   pub on : IsPrefix s.log new.log
   pub durable : s.durable ≤ new.durable
 
-works_none : (s : RecoveryState) → WorksOn s s
+pub works_none : (s : RecoveryState) → WorksOn s s
 works_none s = record { on = whole_prefix s.log; durable = omega arith }
 
-works_then : (s mid new : RecoveryState) → WorksOn s mid → WorksOn mid new → WorksOn s new
+pub works_then : (s mid new : RecoveryState) → WorksOn s mid → WorksOn mid new → WorksOn s new
 works_then s mid new h k = let le = h.durable in let more = k.durable in record { on = prefix_on s.log mid.log new.log h.on k.on; durable = omega (arith, le, more) }
 
 pub works_on : (s : RecoveryState) (works : List RecoveryEvent) (new : RecoveryState) → WorksTo s works new → WorksOn s new
@@ -53,16 +56,19 @@ among_front x [] ys h = absurd h
 among_front x (y ∷ xs) ys (inl same) = inl same
 among_front x (y ∷ xs) ys (inr later) = inr (among_front x xs ys later)
 
-still_committed : (t : ℕ) (rs all : List LogRecord) → IsPrefix rs all → IsAmong t (committed_in rs) → IsAmong t (committed_in all)
-still_committed t rs all on h =
-    subst (λ xs. IsAmong t (committed_in xs)) (sym on.1)
-    (subst (IsAmong t) (sym (filter_map-append commit_of rs on.0)) (among_front t (committed_in rs) (committed_in on.0) h))
+still_decided : (d : Decision) (rs all : List LogRecord) → IsPrefix rs all → IsDecidedIn rs d → IsDecidedIn all d
+still_decided d rs all on h =
+    subst (λ xs. IsDecidedIn xs d) (sym on.1)
+    (subst (IsAmong d) (sym (filter_map-append decision_in rs on.0)) (among_front d (filter_map decision_in rs) (filter_map decision_in on.0) h))
 
-pub stays_durable : (s new : RecoveryState) → WorksOn s new → (e : SessionEvent) → AnswersDurable s e → AnswersDurable new e
-stays_durable s new h (AnswerCommit a) durable =
+decided_on : (s new : RecoveryState) → WorksOn s new → (d : Decision) → IsDecidedIn (take s.durable s.log) d → IsDecidedIn (take new.durable new.log) d
+decided_on s new h d durable =
     let on : IsPrefix (take s.durable s.log) (take new.durable new.log) =
     subst (λ l. IsPrefix (take s.durable s.log) (take new.durable l)) (sym h.on.1) (longer_take s.durable new.durable s.log h.on.0 h.durable) in
-    still_committed a.txn (take s.durable s.log) (take new.durable new.log) on durable
+    still_decided d (take s.durable s.log) (take new.durable new.log) on durable
+
+pub stays_durable : (s new : RecoveryState) → WorksOn s new → (e : SessionEvent) → AnswersDurable s e → AnswersDurable new e
+stays_durable s new h (AnswerCommit a) durable = decided_on s new h (decision.Commit a.txn) durable
 stays_durable s new h (MoveLocks held) durable = tt
 stays_durable s new h (BeginTxn session) durable = tt
 stays_durable s new h (GiveReply a c reply) durable = tt
@@ -71,6 +77,13 @@ stays_durable s new h (PutBack a kept e r) durable = tt
 stays_durable s new h (Doom a) durable = tt
 stays_durable s new h (AnswerAbort a) durable = tt
 stays_durable s new h (RefuseCall session t c f) durable = tt
+stays_durable s new h (AppendPrepare a global granules) durable = tt
+stays_durable s new h (AnswerPrepare session t global) durable = decided_on s new h (decision.Prepare t global) durable
+stays_durable s new h (AppendResolve a global) durable = tt
+stays_durable s new h (AppendRollback a global) durable = tt
+stays_durable s new h (EndRollback a) durable = tt
+stays_durable s new h (AnswerResolve session r) durable = decided_on s new h (decision_resolved r) durable
+stays_durable s new h (AnswerInDoubt session t pairs) durable = tt
 
 -- ---- work in two parts
 

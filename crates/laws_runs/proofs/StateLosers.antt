@@ -7,16 +7,17 @@ use Rattle.shore_types.specs.declared.ids.PageId.{PageId}
 use Rattle.shore_types.specs.declared.layout.Geometry.{Geometry}
 use Rattle.shore_types.specs.declared.layout.TheConstants.{MAX_TRANSACTIONS}
 use Rattle.shore_model.specs.declared.histories.Entry.{Entry}
+use Rattle.shore_model.specs.declared.histories.Opening.{Opening}
 use Rattle.shore_model.specs.declared.log_records.LogTxn.{LogTxn}
 use Rattle.shore_model.specs.Logs.{IsEntry, last_of, rise_above}
-use Rattle.shore_model.specs.Records.{Records}
 use Rattle.shore_analysis.proofs.Counted.{rise_first}
 use Rattle.shore_analysis.specs.Meant.{IsCrowded, IsInBounds}
 use Rattle.laws_calls.proofs.Links.{shorter_without}
 use Rattle.laws_calls.proofs.Sessions.{AreSessionsAfter}
 use Rattle.laws_calls.specs.CallHistories.{IsRoomyState}
 use Rattle.laws_calls.specs.States.{State}
-use Rattle.laws_lives.proofs.WholeLogs.{image_in_place, none_in_doubt}
+use Rattle.laws_lives.proofs.WholeLogs.{image_in_place}
+use Rattle.laws_runs.proofs.NoPrepares.{HasNoPrepare, none_in_doubt}
 use Rattle.laws_lives.specs.WholeLogs.{IsWholeLog}
 use Rattle.laws_lives.specs.Undo.{IsLoser}
 use Rattle.laws_room.proofs.Leaving.{left_keeps}
@@ -25,7 +26,7 @@ use Rattle.laws_room.specs.LogRooms.{owed, owed_by_all}
 use Rattle.laws_lives.proofs.Members.{among_without, member_stays, txn_among, txn_of_one, txn_stays}
 use Rattle.laws_lives.specs.Sessions.{EachOnce, SessionTxn, txns_of, without_txn}
 use Rattle.laws_lives.specs.Views.{IsAmong}
-use Rattle.laws_runs.proofs.Losers.{loser_writes}
+use Rattle.laws_runs.proofs.Losers.{bounds_prepare_none, loser_writes}
 use Rattle.laws_runs.proofs.SlotCounts.{same_claimed}
 use Rattle.laws_runs.specs.RoomyLogs.{AreLosers, IsRoomyLog}
 use Rattle.laws_runs.specs.SlotCounts.{slot_count}
@@ -116,10 +117,13 @@ module _ (s : State) where
 
 -- ---- the log of a state with room is roomy
 
-module _ (g : Geometry) (base : ℕ) (o : Records) (es : List Entry) (s : State) (k : AreSessionsAfter base o es s.sessions s.log) (roomy : IsRoomyState s) (few : length s.sessions.active ≤ MAX_TRANSACTIONS)
+module _ (g : Geometry) (base : ℕ) (o : Opening) (es : List Entry) (s : State) (k : AreSessionsAfter base o es s.sessions s.log) (roomy : IsRoomyState s) (few : length s.sessions.active ≤ MAX_TRANSACTIONS)
     (whole : IsWholeLog s.log s.sessions) (counts : (p : PageId) → s.counts p ≡ slot_count s.log p) (inside : All (IsInBounds g) s.log) where
+  no_prepare : HasNoPrepare s.log
+  no_prepare = bounds_prepare_none g s.log inside
+
   loser_under_way : (t : ℕ) → IsLoser s.log t → IsAmong t (txns_of s.sessions.active)
-  loser_under_way t h = let wrote = loser_writes s.log whole.lawful whole.no_prepare t h in whole.writers t wrote.0 wrote.1 h.not_over
+  loser_under_way t h = let wrote = loser_writes s.log whole.lawful no_prepare t h in whole.writers t wrote.0 wrote.1 h.not_over
 
   not_crowded : IsCrowded s.log → ⊥
   not_crowded crowded =
@@ -128,7 +132,7 @@ module _ (g : Geometry) (base : ℕ) (o : Records) (es : List Entry) (s : State)
       omega (arith, within, many, few)
     where
       is_loser : (e : LogTxn) → IsEntry s.log e → IsLoser s.log e.txn
-      is_loser e h = record { is_one = h.0.is_one; known = h.0.known; not_over = h.0.not_over; not_in_doubt = none_in_doubt e.txn s.log whole.no_prepare }
+      is_loser e h = record { is_one = h.0.is_one; known = h.0.known; not_over = h.0.not_over; not_in_doubt = none_in_doubt e.txn s.log no_prepare }
 
       all_under_way : (txns : List LogTxn) → AllByRecursion (IsEntry s.log) txns → AllByRecursion (λ e. IsAmong e.txn (txns_of s.sessions.active)) txns
       all_under_way [] all = tt
@@ -136,10 +140,10 @@ module _ (g : Geometry) (base : ℕ) (o : Records) (es : List Entry) (s : State)
 
   as_loser : (a : SessionTxn) → IsAmong a s.sessions.active → 0 < last_of a.txn s.log → IsLoser s.log a.txn
   as_loser a m known = record {
-    is_one = k.agree.above a (inl m);
+    is_one = whole.above a.txn (txn_among a s.sessions.active m);
     known = known;
     not_over = whole.unended a.txn (txn_among a s.sessions.active m);
-    not_in_doubt = none_in_doubt a.txn s.log whole.no_prepare;
+    not_in_doubt = none_in_doubt a.txn s.log no_prepare;
   }
 
   has_left : HasLeft s s.sessions.active s.sessions.active
@@ -172,5 +176,5 @@ module _ (g : Geometry) (base : ℕ) (o : Records) (es : List Entry) (s : State)
         let lsns = roomy.log.lsns in
         let sum = roomy.log.sum in
         let less = has_left.owed in
-        record { sum = refl; fits = omega (arith, fits, sum, less); lsns = omega (arith, lsns, sum, less); short = roomy.log.short };
+        record { sum = omega arith; fits = omega (arith, fits, sum, less); lsns = omega (arith, lsns, sum, less); short = roomy.log.short };
   }

@@ -12,14 +12,20 @@ use Rattle.shore_model.specs.declared.calls.Call.TheVariants as call
 use Rattle.shore_model.specs.declared.log_records.LogRecord.{LogRecord}
 use Rattle.shore_model.specs.declared.log_records.Payload.TheVariants.{Change}
 use Rattle.shore_model.specs.declared.step.Step.TheVariants.{Done}
+use Rattle.std.specs.Prelude.{Contains}
+use Rattle.shore_model.specs.declared.holds.Hold.{Hold}
+use Rattle.shore_model.specs.Lives.{next_opening}
 use Rattle.shore_model.specs.Logs.{first_number, image_of_record, is_over}
 use Rattle.shore_analysis.proofs.InTurn.{no_losers}
+use Rattle.laws_calls.proofs.EmptyOpens.{empty_is_opened, none_granted}
 use Rattle.laws_calls.proofs.SessionInsert.{session_inserts}
 use Rattle.laws_calls.specs.Events.{Called, EventMoves, Forced, ManagerEvent, entries_of}
 use Rattle.laws_calls.specs.StateChanges.{with_durable}
 use Rattle.laws_calls.specs.States.{State}
 use Rattle.laws_calls.specs.WorkedRun.{first_id, first_page, opened_empty}
 use Rattle.laws_lives.proofs.Invariant.{redone_whole}
+use Rattle.laws_lives.proofs.LifeSteps.{format_opens}
+use Rattle.laws_lives.specs.Soundness.{opening_with}
 use Rattle.laws_lives.proofs.Numbers.{newest_other}
 use Rattle.laws_lives.proofs.Redo.{image_of_record-push}
 use Rattle.laws_lives.proofs.Writers.{same_or_not}
@@ -35,7 +41,7 @@ use Rattle.laws_runs.proofs.Worked.{inserted_loser, opened_from_none}
 use Rattle.laws_runs.specs.SlotCounts.{slot_count}
 use Rattle.laws_runs.specs.SoundStores.{IsSoundStore, MayBeOpened, found_state}
 use Rattle.laws_runs.specs.Stays.{AreStoredStays, IsStoredUp, Up}
-use Rattle.laws_runs.specs.StoredRuns.{IsOpenedOver, Manage, StoredMoves, StoredRun, Tend}
+use Rattle.laws_runs.specs.StoredRuns.{IsOpenedOver, Manage, StoredMoves, StoredRun, Tend, span_of_run}
 use Rattle.laws_runs.specs.WorkedLogs.{inserted, taken_back}
 
 module _ (g : Geometry) (stream_bytes : ℕ) (bytes : List ℕ) (store : HasStore g 0) (page : HasPage g first_page) (short : length bytes ≤ MAX_RECORD_BYTES)
@@ -112,16 +118,30 @@ module _ (g : Geometry) (stream_bytes : ℕ) (bytes : List ℕ) (store : HasStor
   unchanged : false ≡ true → ⊥
   unchanged e = cc
 
-  opened_over_none : IsOpenedOver formatted (opened_empty stream_bytes)
-  opened_over_none = record {
-    sessions = record { records = λ id. get-empty rid_cmp id; active = refl; committing = refl; held = refl; some = omega arith; below = tt };
-    stored = record { log = refl; durable = refl };
-    locks = refl;
-    waiting = refl;
-    running = refl;
-  }
+  opened_over_none : IsOpenedOver (opening_with empty) formatted (opened_empty stream_bytes)
+  opened_over_none =
+      let opened = empty_is_opened stream_bytes in
+      record {
+        sessions = record {
+          records = λ id. get-empty rid_cmp id;
+          seats = λ n. refl;
+          committing = refl;
+          resolving = refl;
+          prepared = refl;
+          active = refl;
+          undo_lists = λ a m. absurd m;
+          locks = opened.on.locks;
+          some = omega arith;
+          below = tt;
+        };
+        stored = record { log = refl; durable = refl };
+        locks = opened.locks;
+        waiting = refl;
+        running = refl;
+        few = opened.few;
+      }
 
-  stolen_up : IsStoredUp g stream_bytes formatted stolen
+  stolen_up : IsStoredUp g stream_bytes (opening_with empty) formatted stolen
   stolen_up = record {
     restarts = refl;
     redone = refl;
@@ -140,7 +160,7 @@ module _ (g : Geometry) (stream_bytes : ℕ) (bytes : List ℕ) (store : HasStor
 
   left : MayBeOpened g stream_bytes (inserted bytes) with_flush.volume
   left =
-      (come g stream_bytes [] (λ p. empty_page) (format_may_be_opened g stream_bytes (omega (arith, long)) most) (Up stolen ∷ []) (inserted bytes) with_flush.volume
+      (come g stream_bytes (opening_with empty) [] (λ p. empty_page) (format_may_be_opened g stream_bytes (omega (arith, long)) most) format_opens (Up stolen ∷ []) (inserted bytes) with_flush.volume
       (stolen_up, (refl, refl))).opened
 
   abbrev passed : RecoveryState
@@ -218,7 +238,11 @@ module _ (g : Geometry) (stream_bytes : ℕ) (bytes : List ℕ) (store : HasStor
     begin = 0;
   }
 
-  opened_up : IsStoredUp g stream_bytes found opened
+  none_held : (h : Hold) → Contains [] h → ⊥
+  none_held h in_none = absurd (omega (arith, in_none.1))
+
+  -- the crash kept no decision
+  opened_up : IsStoredUp g stream_bytes (next_opening (opening_with empty) (span_of_run formatted stolen)) found opened
   opened_up = record {
     restarts = restarts;
     redone = refl;
@@ -226,22 +250,29 @@ module _ (g : Geometry) (stream_bytes : ℕ) (bytes : List ℕ) (store : HasStor
     opens = record {
       sessions = record {
         records = λ id. get-empty rid_cmp id ∙ sym (redone_whole ready sound.recoverable refl id.page id.slot ∙ leaves_nothing id);
-        active = refl;
+        seats = λ n. refl;
         committing = refl;
-        held = refl;
+        resolving = refl;
+        prepared = refl;
+        active = refl;
+        undo_lists = λ a m. absurd m;
+        locks = record { each = λ h among. absurd (none_held h among); all = λ d g among. absurd among; above = λ d g a among. absurd among };
         some = omega arith;
         below = (omega arith, (omega arith, (omega arith, tt)));
       };
       stored = record { log = refl; durable = refl };
-      locks = refl;
+      locks = none_granted first refl refl;
       waiting = refl;
       running = refl;
+      few = omega arith;
     };
     from = record {
       log = refl;
       as_long = refl;
       records = λ id. get-empty rid_cmp id ∙ sym (leaves_nothing id);
+      prepared = refl;
       active = refl;
+      undo_lists = λ a m. absurd m;
       counts = λ p. refl;
       some = omega arith;
       least = λ n some above. let one = above.0 in omega (arith, one);
@@ -252,7 +283,7 @@ module _ (g : Geometry) (stream_bytes : ℕ) (bytes : List ℕ) (store : HasStor
   }
 
   pub stolen_page_is_undone : (stolen : StoredRun) × (opened : StoredRun) × (pages : LoggedPages)
-      × AreStoredStays g stream_bytes [] (λ p. empty_page) (Up stolen ∷ Up opened ∷ []) (taken_back bytes) pages
+      × AreStoredStays g stream_bytes (opening_with empty) [] (λ p. empty_page) (Up stolen ∷ Up opened ∷ []) (taken_back bytes) pages
       × (take stolen.survive stolen.last.store.log ≡ inserted bytes) × ((stolen.pages first_page).slots 0 ≡ Some bytes)
       × ((id : Rid) → get opened.first.sessions.records id ≡ None)
   stolen_page_is_undone = (stolen, opened, ready.volume, (stolen_up, (opened_up, (refl, refl))), refl, refl, λ id. get-empty rid_cmp id)

@@ -1,8 +1,9 @@
 -- A manager under way stays so with each event over its store, and its store may lose power at any time.
-use Rattle.std.proofs.Common.{◌≡◌, inl, ◌++◌, ℕ, List, [], ◌∷◌, refl, sym, ap, subst, ◌∙◌, length, take, arith, append-nil, append_assoc}
+use Rattle.std.proofs.Common.{◌≡◌, ◌≤◌, inl, ⊎_elim, ◌++◌, ℕ, List, [], ◌∷◌, refl, sym, ap, subst, ◌∙◌, length, take, take_all, arith, append-nil, append_assoc}
 use Rattle.std.proofs.Math.Seq.{take-length}
 use Rattle.shore_types.specs.declared.layout.Geometry.{Geometry}
 use Rattle.shore_model.specs.declared.histories.Entry.{Entry}
+use Rattle.shore_model.specs.declared.histories.Opening.{Opening}
 use Rattle.shore_model.specs.declared.log_records.LogRecord.{LogRecord}
 use Rattle.shore_model.specs.Logs.{Lawful}
 use Rattle.shore_model.specs.Records.{AreRecords}
@@ -17,7 +18,8 @@ use Rattle.laws_lives.specs.Undo.{HasNoLosers}
 use Rattle.laws_lives.proofs.WholeLogs.{image_in_place}
 use Rattle.laws_lives.proofs.Works.{all_work}
 use Rattle.laws_lives.specs.Stretches.{MayBeFound}
-use Rattle.laws_lives.specs.WholeLogs.{HasNoPrepare}
+use Rattle.laws_lives.proofs.Lists.{within_or_beyond}
+use Rattle.laws_lives.specs.Doubts.{DoubtsStand, IsOpeningOf}
 use Rattle.laws_calls.proofs.LockWaits.{waits_may_ask}
 use Rattle.laws_calls.proofs.SettledCycles.{events_free, none_in_none}
 use Rattle.laws_calls.specs.Events.{EventsMove}
@@ -34,9 +36,9 @@ use Rattle.laws_runs.specs.SoundStores.{IsSoundStore, IsUnderWay, managed}
 
 -- ---- an open
 
-module _ (g : Geometry) (stream_bytes : ℕ) (s : RecoveryState) (f : MayBeFound s) (roomy : AreRoomy g stream_bytes s.durable s.log) (works : List RecoveryEvent) (ready : RecoveryState)
+module _ (g : Geometry) (stream_bytes : ℕ) (o : Opening) (s : RecoveryState) (f : MayBeFound s) (opening : IsOpeningOf s.log o) (roomy : AreRoomy g stream_bytes s.durable s.log) (works : List RecoveryEvent) (ready : RecoveryState)
     (first : State) (restarts : RestartsTo s works ready) (redone : ready.redone ≡ length ready.log) (no_losers : HasNoLosers ready.log)
-    (opens : IsOpenedOver ready first) (from : IsOpenedFrom stream_bytes ready.log first) where
+    (opens : IsOpenedOver o ready first) (from : IsOpenedFrom stream_bytes ready.log first) where
   restarted : IsRecoverable ready × IsRestartOf s.log ready
   restarted = events_restart s.log s works ready f.recoverable (record { turns = []; undone = refl; durable = f.durable }) restarts
 
@@ -54,7 +56,7 @@ module _ (g : Geometry) (stream_bytes : ℕ) (s : RecoveryState) (f : MayBeFound
     begin = 0;
   }
 
-  is_no_run : IsStoredRun g s no_run
+  is_no_run : IsStoredRun g o s no_run
   is_no_run = record {
     restarts = restarts;
     redone = redone;
@@ -69,13 +71,13 @@ module _ (g : Geometry) (stream_bytes : ℕ) (s : RecoveryState) (f : MayBeFound
     );
   }
 
-  pub opens_under_way : IsUnderWay g stream_bytes s.log [] (record { state = first; store = ready })
+  pub opens_under_way : IsUnderWay g stream_bytes o s.log [] (record { state = first; store = ready })
   opens_under_way =
       let room = restart_roomy g stream_bytes s works ready roomy restarts in
       record {
-        state = opened g s f no_run is_no_run;
+        state = opened g o s f opening no_run is_no_run;
         asks = λ w there. absurd (subst (IsAmong w) opens.waiting there);
-        no_cycle = none_in_none first.locks.requests opens.locks;
+        no_cycle = none_in_none first.locks.requests opens.locks.nobody_waits;
         stored = opens.stored;
         roomy = opens_roomy g stream_bytes ready.log first from (whole_roomy g stream_bytes ready.durable ready.log room);
         leaves = opens_leaving g stream_bytes ready.log first from first.durable (subst (λ n. AreRoomy g stream_bytes n ready.log) opens.stored.durable room) (undone_lawful s.log restarted.1.turns ready.log restarted.1.undone f.lawful) no_losers;
@@ -118,17 +120,17 @@ plain_moves g m [] last made h = ap (λ (x : StoredState). x.state) h.0
 plain_moves g m (Manage e works ∷ events) last made h = (h.0.state, h.2.0, plain_moves g h.0 events last h.1 h.3)
 plain_moves g m (Tend works ∷ events) last made h = subst (λ (s : State). EventsMove g s (managed events) last.state) h.2.0 (plain_moves g h.0 events last h.1 h.3)
 
-module _ (g : Geometry) (stream_bytes : ℕ) (found : List LogRecord) where
-  pub moves_under_way : (es : List Entry) (m : StoredState) (events : List StoredEvent) (last : StoredState) (made : List Entry) → IsUnderWay g stream_bytes found es m
-      → StoredMoves g m events last made → IsUnderWay g stream_bytes found (es ++ made) last
+module _ (g : Geometry) (stream_bytes : ℕ) (o : Opening) (found : List LogRecord) where
+  pub moves_under_way : (es : List Entry) (m : StoredState) (events : List StoredEvent) (last : StoredState) (made : List Entry) → IsUnderWay g stream_bytes o found es m
+      → StoredMoves g m events last made → IsUnderWay g stream_bytes o found (es ++ made) last
   moves_under_way es m events last made k h =
-      let come = events_come g found es m k.stored k.state events last made h in
-      let room = moves_leaving g stream_bytes found es m events last made k.state k.roomy k.leaves h in
+      let come = events_come g o found es m k.stored k.state events last made h in
+      let room = moves_leaving g stream_bytes o found es m events last made k.state k.roomy k.leaves h in
       let worked = moves_work g m events last made (record { recoverable = k.recoverable; redone = k.redone }) h in
       record {
         state = come.state;
         asks = moves_ask g m events last made k.asks h;
-        no_cycle = events_free g found es m.state (managed events) last.state k.state k.no_cycle (plain_moves g m events last made h);
+        no_cycle = events_free g o found es m.state (managed events) last.state k.state k.no_cycle (plain_moves g m events last made h);
         stored = come.stored;
         roomy = room.0;
         leaves = room.1;
@@ -136,22 +138,32 @@ module _ (g : Geometry) (stream_bytes : ℕ) (found : List LogRecord) where
         redone = worked.redone;
       }
 
-  pub step_under_way : (es : List Entry) (m : StoredState) (e : StoredEvent) (new : StoredState) → IsUnderWay g stream_bytes found es m → StoredSteps g m e new
-      → IsUnderWay g stream_bytes found (es ++ entries_made m e) new
+  pub step_under_way : (es : List Entry) (m : StoredState) (e : StoredEvent) (new : StoredState) → IsUnderWay g stream_bytes o found es m → StoredSteps g m e new
+      → IsUnderWay g stream_bytes o found (es ++ entries_made m e) new
   step_under_way es m e new k h = moves_under_way es m (e ∷ []) new (entries_made m e) k (new, [], h, (refl, refl), sym (append-nil (entries_made m e)))
 
-  pub under_way_inside : (es : List Entry) (m : StoredState) → IsUnderWay g stream_bytes found es m → AreRecords g m.state.sessions.records
+  pub under_way_inside : (es : List Entry) (m : StoredState) → IsUnderWay g stream_bytes o found es m → AreRecords g m.state.sessions.records
   under_way_inside es m k =
       records_inside g m.state.log m.state.sessions.records (whole_placed g stream_bytes m.state.durable m.state.log k.leaves.prefixes)
       (λ id. sym (image_in_place k.state.sessions.sound k.state.sessions.log k.leaves.whole id))
 
-  pub under_way_sound : (es : List Entry) (m : StoredState) → IsUnderWay g stream_bytes found es m → IsSoundStore g stream_bytes m.store
+  -- in each prefix that a crash may leave those in doubt stand beside each other
+  stands : (es : List Entry) (m : StoredState) → IsUnderWay g stream_bytes o found es m → (n : ℕ) → m.state.durable ≤ n → DoubtsStand (take n m.state.log)
+  stands es m k n least = ⊎_elim
+      (λ within. (k.state.sessions.decides.prefixes n (omega (arith, base, least)) within).stand)
+      (λ beyond. subst DoubtsStand (sym (take_all n m.state.log (omega (arith, beyond)))) k.state.sessions.doubts.stand)
+      (within_or_beyond n (length m.state.log))
+    where
+      base : length found ≤ m.state.durable
+      base = k.state.forced.least
+
+  pub under_way_sound : (es : List Entry) (m : StoredState) → IsUnderWay g stream_bytes o found es m → IsSoundStore g stream_bytes m.store
   under_way_sound es m k =
       let same = sym k.stored.log in
       record {
         recoverable = k.recoverable;
         lawful = subst Lawful same k.leaves.whole.lawful;
-        no_prepare = subst HasNoPrepare same k.leaves.whole.no_prepare;
+        doubts = λ n least. subst (λ rs. DoubtsStand (take n rs)) same (stands es m k n (subst (λ d. d ≤ n) k.stored.durable least));
         roomy = subst (λ n. AreRoomy g stream_bytes n m.store.log) (sym k.stored.durable) (subst (AreRoomy g stream_bytes m.state.durable) same k.leaves.prefixes);
       }
 

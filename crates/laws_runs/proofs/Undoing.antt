@@ -23,7 +23,7 @@ use Rattle.shore_analysis.proofs.Counted.{last_is_one}
 use Rattle.shore_analysis.proofs.Undone.{was_crowded}
 use Rattle.shore_analysis.specs.Meant.{IsCrowded, IsInBounds, IsServedKind}
 use Rattle.laws_calls.specs.States.{cost_of_log}
-use Rattle.laws_lives.proofs.WholeLogs.{none_in_doubt}
+use Rattle.laws_runs.proofs.NoPrepares.{none_in_doubt}
 use Rattle.laws_lives.proofs.OneMore.{id_itself}
 use Rattle.laws_lives.proofs.Redo.{image_of_record-push, or_image}
 use Rattle.laws_lives.proofs.UndoChains.{unanswered_chain}
@@ -58,15 +58,15 @@ pub cost_pushed : (log : List LogRecord) (r : LogRecord) → cost_of_log (log ++
 cost_pushed log r = sum_by_push (λ (r : LogRecord). cost_of r.payload) log r
 
 -- a room of these sums is the log's
-pub as_room_of_log : (stream_bytes : ℕ) (log : List LogRecord) (undos : List SessionTxn) (room : LogRoom) → HasLogRoom LONGEST_FRAME undos room
+pub as_room_of_log : (stream_bytes : ℕ) (log : List LogRecord) (undos : List SessionTxn) (room : LogRoom) → HasLogRoom LONGEST_FRAME 0 undos room
     → room.kept ≡ cost_of_log log → room.stream_bytes ≡ stream_bytes → room.last_lsn ≡ length log
-    → HasLogRoom LONGEST_FRAME undos (room_of_log stream_bytes log undos)
+    → HasLogRoom LONGEST_FRAME 0 undos (room_of_log stream_bytes log undos)
 as_room_of_log stream_bytes log undos room h kept stream last =
     let sum = h.sum in
     let fits = h.fits in
     let lsns = h.lsns in
     let short = h.short in
-    record { sum = refl; fits = omega arith; lsns = omega arith; short = omega arith }
+    record { sum = omega arith; fits = omega arith; lsns = omega arith; short = omega arith }
 
 -- what is put back is in place
 pub put_shown : (R : Records) (log : List LogRecord) (r : LogRecord) (e : Rid × Image) → image_in r.payload ≡ Some e
@@ -195,7 +195,7 @@ module _ (g : Geometry) (stream_bytes : ℕ) (log : List LogRecord) (k : IsRoomy
 
     pub compensated_roomy : IsRoomyLog g stream_bytes new
     compensated_roomy =
-        let room = (undone_takes LONGEST_FRAME k.placed.undos (room_of_log stream_bytes log k.placed.undos) k.room k.placed.pages.once a its.1 kept e a.undo.marks a.undo.rolling images).1 in
+        let room = (undone_takes LONGEST_FRAME 0 k.placed.undos (room_of_log stream_bytes log k.placed.undos) k.room k.placed.pages.once a its.1 kept e a.undo.marks a.undo.rolling images).1 in
         let cost = cost_pushed log r in
         let says_cost = ap cost_of says in
         let bytes = compensation_bytes c.id c.before (undo_next_of cs) in
@@ -226,7 +226,7 @@ module _ (g : Geometry) (stream_bytes : ℕ) (log : List LogRecord) (k : IsRoomy
     pub ended_roomy : IsRoomyLog g stream_bytes new
     ended_roomy =
         let undos_left = without_txn a.txn k.placed.undos in
-        let room = (ended_takes LONGEST_FRAME k.placed.undos (room_of_log stream_bytes log k.placed.undos) k.room k.placed.pages.once a its.1).1 in
+        let room = (ended_takes LONGEST_FRAME 0 k.placed.undos (room_of_log stream_bytes log k.placed.undos) k.room k.placed.pages.once a its.1).1 in
         let cost = cost_pushed log r in
         let says_cost = ap cost_of ends in
         let bytes : ENDING_COST ≡ cost_of End = refl in

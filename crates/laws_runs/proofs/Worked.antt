@@ -1,7 +1,7 @@
 -- A log that a run leaves, and logs that a restart may not take.
 use Rattle.std.proofs.Common.{◌≡◌, inl, ⊎_elim, ◌++◌, ◌+◌, ◌<◌, ◌≤◌, ℕ, suc, List, [], ◌∷◌, true, false, Some, None, refl, sym, ap, subst, ◌∙◌, length, take, take_all, arith}
 use Rattle.std.specs.Prelude.{◌*◌, slice_get}
-use Rattle.std.specs.FinMap.{get, get-empty}
+use Rattle.std.specs.FinMap.{empty, get, get-empty}
 use Rattle.std.proofs.lemmas.List.Elements.{All-cons, All-nil}
 use Rattle.std.proofs.lemmas.List.Sums.{sum_by-cons}
 use Rattle.shore_types.specs.Ids.{rid_cmp}
@@ -27,7 +27,7 @@ use Rattle.laws_lives.proofs.Writers.{same_or_not}
 use Rattle.laws_lives.specs.Pages.{empty_page}
 use Rattle.laws_lives.specs.Sessions.{SessionTxn}
 use Rattle.laws_lives.specs.Views.{IsAmong}
-use Rattle.laws_lives.specs.WholeLogs.{HasNoPrepare}
+use Rattle.laws_lives.specs.Soundness.{opening_with}
 use Rattle.laws_lives.specs.Undo.{IsLoser, undo_record}
 use Rattle.laws_room.proofs.Costs.{compensation_bytes}
 use Rattle.laws_room.proofs.Lists.{length-each}
@@ -51,7 +51,9 @@ opened_from_none stream_bytes = record {
   log = refl;
   as_long = refl;
   records = λ id. get-empty rid_cmp id ∙ sym (leaves_none id);
+  prepared = refl;
   active = refl;
+  undo_lists = λ a m. absurd m;
   counts = λ p. refl;
   some = omega arith;
   least = λ n some above. omega arith;
@@ -80,7 +82,7 @@ module _ (g : Geometry) (bytes : List ℕ) (store : HasStore g 0) (page : HasPag
         moves = h.3;
         there = h.4;
         log = session_leaves g stream_bytes bytes store page short long;
-        leaves = events_leaving_from g stream_bytes [] 0 [] (opened_empty stream_bytes) (one_insert bytes) h.0 h.1 (sessions_after_open [] (opened_empty stream_bytes) h.2 refl) roomy leaves h.3;
+        leaves = events_leaving_from g stream_bytes (opening_with empty) [] 0 [] (opened_empty stream_bytes) (one_insert bytes) h.0 h.1 (sessions_after_open (opening_with empty) [] (opened_empty stream_bytes) h.2) roomy leaves h.3;
       }
     where
       nothing : (n : ℕ) (r : LogRecord) → slice_get [] n ≡ Some r → ⊥
@@ -123,10 +125,10 @@ committed_may_be_opened g bytes store page short =
     let none = none_owed whole.placed.undos (λ a m. no_loser_left bytes a.txn (whole.placed.losers.each a m).0) in
     let fits = whole.room.fits in
     let roomy : IsRoomyLog g (cost_of_log (committed bytes) + LONGEST_FRAME) (committed bytes) =
-    record { placed = whole.placed; room = record { sum = refl; fits = omega (arith, none); lsns = omega (arith, none); short = omega (arith, fits) } } in
+    record { placed = whole.placed; room = record { sum = omega arith; fits = omega (arith, none); lsns = omega (arith, none); short = omega (arith, fits) } } in
     record {
       lawful = subst Lawful h.log h.leaves.whole.lawful;
-      no_prepare = subst HasNoPrepare h.log h.leaves.whole.no_prepare;
+      doubts = record { apart = λ d e g h a. absurd a; differ = λ d e a. absurd a };
       roomy = record {
         placed = longer.placed;
         roomy = λ n from. subst (IsRoomyLog g (cost_of_log (committed bytes) + LONGEST_FRAME)) (sym (take_all n (committed bytes) from)) roomy;

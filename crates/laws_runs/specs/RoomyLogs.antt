@@ -42,10 +42,10 @@ pub record IsPlacedLog (g : Geometry) (log : List LogRecord) : Type 0 where
   pub inside : All (IsInBounds g) log
   pub few : IsCrowded log → ⊥
 
--- .. and the stream has room for the log, for that undo, and for the longest frame besides
+-- .. and the stream has room for the log, for that undo, and for the longest frame besides. No Prepare is served, so nobody in it is in doubt.
 pub record IsRoomyLog (g : Geometry) (stream_bytes : ℕ) (log : List LogRecord) : Type 0 where
   pub placed : IsPlacedLog g log
-  pub room : HasLogRoom LONGEST_FRAME placed.undos (room_of_log stream_bytes log placed.undos)
+  pub room : HasLogRoom LONGEST_FRAME 0 placed.undos (room_of_log stream_bytes log placed.undos)
 
 -- The log is roomy, and so is each of its prefixes that a crash may leave, which have so many records at least. Of shorter ones the stream's room is not
 -- asked: a Commit gives away what was reserved before it. But redo comes by each, and analysis refuses a crowd at any.

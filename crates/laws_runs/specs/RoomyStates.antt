@@ -1,5 +1,5 @@
 -- States of a manager of whose log a crash leaves only what a restart takes.
-use Rattle.std.specs.Prelude.{◌≡◌, ◌<◌, ◌≤◌, ℕ, List, []}
+use Rattle.std.specs.Prelude.{◌≡◌, ◌<◌, ◌≤◌, ℕ, List, map}
 use Rattle.std.specs.FinMap.{get}
 use Rattle.std.specs.List.{AllByRecursion}
 use Rattle.shore_types.specs.declared.ids.PageId.{PageId}
@@ -8,6 +8,9 @@ use Rattle.shore_types.specs.declared.layout.Geometry.{Geometry}
 use Rattle.shore_types.specs.declared.layout.TheConstants.{LAST_TXN}
 use Rattle.shore_model.specs.declared.log_records.LogRecord.{LogRecord}
 use Rattle.shore_model.specs.Logs.{image_of_record}
+use Rattle.laws_lives.specs.Doubts.{doubts_in, pair_logged, undo_in}
+use Rattle.laws_lives.specs.Sessions.{SessionTxn, pairs_of, txns_of}
+use Rattle.laws_lives.specs.Views.{IsAmong}
 use Rattle.laws_lives.specs.WholeLogs.{IsWholeLog}
 use Rattle.laws_calls.specs.States.{State}
 use Rattle.laws_runs.specs.RoomyLogs.{AreRoomy}
@@ -27,13 +30,15 @@ pub record LeavesRoomyLogsFrom (g : Geometry) (stream_bytes least : ℕ) (s : St
 abbrev pub LeavesRoomyLogs : Geometry → ℕ → State → Type 0
 LeavesRoomyLogs g stream_bytes s = LeavesRoomyLogsFrom g stream_bytes s.durable s
 
--- What an open makes of a log over a stream of so many bytes: what the log leaves is in place, nobody is in a transaction, each page has the
--- slots that the log gave it, and the next transaction's number is the least above all of the log's.
+-- What an open makes of a log over a stream of so many bytes: what the log leaves is in place, those in doubt are under way and nobody else, with the
+-- undo lists that the log gives them, each page has the slots that the log gave it, and the next transaction's number is the least above all of the log's.
 pub record IsOpenedFrom (stream_bytes : ℕ) (found : List LogRecord) (s : State) : Type 0 where
   pub log : s.log ≡ found
   pub as_long : s.stream_bytes ≡ stream_bytes
   pub records : (id : Rid) → get s.sessions.records id ≡ image_of_record found id
-  pub active : s.sessions.active ≡ []
+  pub prepared : pairs_of s.sessions.prepared ≡ map pair_logged (doubts_in found)
+  pub active : txns_of s.sessions.active ≡ map (λ d. d.txn) (doubts_in found)
+  pub undo_lists : (a : SessionTxn) → IsAmong a s.sessions.active → a.undo ≡ undo_in found a.txn
   pub counts : (p : PageId) → s.counts p ≡ slot_count found p
   pub some : 0 < s.sessions.next_txn
   pub least : (n : ℕ) → 0 < n → AllByRecursion (λ r. r.txn < n) found → s.sessions.next_txn ≤ n

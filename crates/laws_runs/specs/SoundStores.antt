@@ -1,13 +1,14 @@
 -- Which logs and pages a restart may be handed, and which stores leave no others whenever power is lost.
-use Rattle.std.specs.Prelude.{◌≡◌, ◌≤◌, ℕ, List, [], ◌∷◌, length}
+use Rattle.std.specs.Prelude.{◌≡◌, ◌≤◌, ℕ, List, [], ◌∷◌, length, take}
 use Rattle.shore_types.specs.declared.layout.Geometry.{Geometry}
 use Rattle.shore_model.specs.declared.histories.Entry.{Entry}
+use Rattle.shore_model.specs.declared.histories.Opening.{Opening}
 use Rattle.shore_model.specs.declared.log_records.LogRecord.{LogRecord}
 use Rattle.shore_model.specs.Logs.{Lawful}
 use Rattle.shore_model.specs.Requests.{HasNoCycle}
+use Rattle.laws_lives.specs.Doubts.{DoubtsStand}
 use Rattle.laws_lives.specs.Pages.{AreAsOfOwnNumbers, LoggedPages}
 use Rattle.laws_lives.specs.Recovery.{CrashMayLeave, IsRecoverable, RecoveryState}
-use Rattle.laws_lives.specs.WholeLogs.{HasNoPrepare}
 use Rattle.laws_calls.specs.CallHistories.{IsRoomyState}
 use Rattle.laws_calls.specs.Events.{IsStateAfter, ManagerEvent}
 use Rattle.laws_calls.specs.Shapes.{LockWaitsMayAsk}
@@ -15,10 +16,11 @@ use Rattle.laws_runs.specs.StoredRuns.{IsStored, Manage, StoredEvent, StoredStat
 use Rattle.laws_runs.specs.RoomyLogs.{AreRoomy}
 use Rattle.laws_runs.specs.RoomyStates.{LeavesRoomyLogs}
 
--- What a restart may be handed: a lawful log with no Prepare that leaves room for its undo, and pages as of their own numbers.
+-- What a restart may be handed: a lawful log in which those in doubt stand beside each other, that leaves room for its undo, and pages as of their own
+-- numbers.
 pub record MayBeOpened (g : Geometry) (stream_bytes : ℕ) (rs : List LogRecord) (pages : LoggedPages) : Type 0 where
   pub lawful : Lawful rs
-  pub no_prepare : HasNoPrepare rs
+  pub doubts : DoubtsStand rs
   pub roomy : AreRoomy g stream_bytes (length rs) rs
   pub as_of : AreAsOfOwnNumbers rs pages
 
@@ -26,11 +28,12 @@ pub record MayBeOpened (g : Geometry) (stream_bytes : ℕ) (rs : List LogRecord)
 abbrev pub found_state : List LogRecord → LoggedPages → RecoveryState
 found_state rs pages = record { log = rs; durable = length rs; redone = 0; volume = pages; in_place = pages }
 
--- A store that may lose power now: it is recoverable, and its log is lawful, has no Prepare, and leaves room for its undo in each prefix that is left then.
+-- A store that may lose power now: it is recoverable, and its log is lawful. In each prefix that is left then those in doubt stand beside each other, and
+-- there is room for its undo.
 pub record IsSoundStore (g : Geometry) (stream_bytes : ℕ) (s : RecoveryState) : Type 0 where
   pub recoverable : IsRecoverable s
   pub lawful : Lawful s.log
-  pub no_prepare : HasNoPrepare s.log
+  pub doubts : (n : ℕ) → s.durable ≤ n → DoubtsStand (take n s.log)
   pub roomy : AreRoomy g stream_bytes s.durable s.log
 
 -- Power is lost over the store: so many records survive, all that are durable among them, and these pages are left.
@@ -41,8 +44,8 @@ pub record IsLost (s : RecoveryState) (survive : ℕ) (pages : LoggedPages) : Ty
 
 -- A manager under way over its store, these entries after its restart found this log: it is in a state after its calls, its calls that wait for locks
 -- may ask for them and wait in no cycle, and there is room on pages and in the log; the store has its log, and every record of it is done on its page.
-pub record IsUnderWay (g : Geometry) (stream_bytes : ℕ) (found : List LogRecord) (es : List Entry) (m : StoredState) : Type 0 where
-  pub state : IsStateAfter found es m.state
+pub record IsUnderWay (g : Geometry) (stream_bytes : ℕ) (o : Opening) (found : List LogRecord) (es : List Entry) (m : StoredState) : Type 0 where
+  pub state : IsStateAfter o found es m.state
   pub asks : LockWaitsMayAsk g m.state
   pub no_cycle : HasNoCycle m.state.locks.requests
   pub stored : IsStored m.state m.store

@@ -6,11 +6,13 @@ ghost use Rattle.shore_types.specs.declared.ids.PageId.{PageId};
 ghost use Rattle.shore_types.specs.declared.layout.Geometry.{Geometry};
 ghost use Rattle.shore_types.specs.declared.layout.TheConstants.{LAST_OPENED, LONGEST_FRAME, MAX_LOG_BYTES, MAX_RECORD_BYTES, PAGE_ROOM, SLOT_ENTRY_BYTES};
 ghost use Rattle.shore_model.specs.declared.histories.Entry.{Entry};
+ghost use Rattle.shore_model.specs.declared.histories.Opening.{Opening};
 ghost use Rattle.shore_model.specs.declared.log_records.LogRecord.{LogRecord};
 ghost use Rattle.shore_model.specs.Logs.{Lawful};
 ghost use Rattle.shore_model.specs.Records.{AreRecords};
 ghost use Rattle.shore_logrec.specs.Text.{cost_of};
 ghost use Rattle.shore_page.specs.Room.{HasRoom};
+ghost use Rattle.laws_lives.specs.Doubts.{IsOpeningOf};
 ghost use Rattle.laws_lives.specs.Recovery.{IsRecoverable, RecoveryEvent, RecoveryState};
 ghost use Rattle.laws_lives.specs.Restarts.{IsRestartOf, RestartsTo};
 ghost use Rattle.laws_lives.specs.Undo.{HasNoLosers, IsLoser, IsUndoneTo, undo_record};
@@ -57,14 +59,14 @@ pub fn redo_fits_pages()
 /// Each event of a manager leaves a log that a restart takes, whatever a crash leaves of it, if the state before did; and so do any events. The
 /// records in place lie in the geometry then. That the state before did so is known of each open (`opens_have_room`).
 pub fn events_leave_roomy_logs()
-    ensures each { (g : Geometry) (stream_bytes : ℕ) (found : List LogRecord) (es : List Entry) (old new : State) (e : ManagerEvent) →
-        IsStateAfter found es old → IsRoomyState old → LeavesRoomyLogs g stream_bytes old → EventMoves g old e new → LeavesRoomyLogs g stream_bytes new }
-    ensures run { (g : Geometry) (stream_bytes : ℕ) (found : List LogRecord) (es : List Entry) (first last : State) (events : List ManagerEvent) (made : List Entry) →
-        IsStateAfter found es first → IsRoomyState first → LeavesRoomyLogs g stream_bytes first → MovesMaking g first events last made →
+    ensures each { (g : Geometry) (stream_bytes : ℕ) (o : Opening) (found : List LogRecord) (es : List Entry) (old new : State) (e : ManagerEvent) →
+        IsStateAfter o found es old → IsRoomyState old → LeavesRoomyLogs g stream_bytes old → EventMoves g old e new → LeavesRoomyLogs g stream_bytes new }
+    ensures run { (g : Geometry) (stream_bytes : ℕ) (o : Opening) (found : List LogRecord) (es : List Entry) (first last : State) (events : List ManagerEvent) (made : List Entry) →
+        IsStateAfter o found es first → IsRoomyState first → LeavesRoomyLogs g stream_bytes first → MovesMaking g first events last made →
         IsRoomyState last × LeavesRoomyLogs g stream_bytes last }
     ensures crash { (g : Geometry) (stream_bytes : ℕ) (s : State) (n : ℕ) → LeavesRoomyLogs g stream_bytes s → KeepsDurable s n →
         AreRoomy g stream_bytes n (take n s.log) }
-    ensures inside { (g : Geometry) (stream_bytes : ℕ) (found : List LogRecord) (es : List Entry) (s : State) → IsStateAfter found es s →
+    ensures inside { (g : Geometry) (stream_bytes : ℕ) (o : Opening) (found : List LogRecord) (es : List Entry) (s : State) → IsStateAfter o found es s →
         LeavesRoomyLogs g stream_bytes s → AreRecords g s.sessions.records }
 {}
 
@@ -74,13 +76,13 @@ pub fn events_leave_roomy_logs()
 pub fn managers_leave_roomy_logs()
     ensures restart { (g : Geometry) (stream_bytes : ℕ) (s ready : RecoveryState) (events : List RecoveryEvent) → AreRoomy g stream_bytes s.durable s.log →
         RestartsTo s events ready → AreRoomy g stream_bytes ready.durable ready.log }
-    ensures moves { (g : Geometry) (stream_bytes : ℕ) (found : List LogRecord) (es : List Entry) (m last : StoredState) (events : List StoredEvent) (made : List Entry) →
-        IsStateAfter found es m.state → IsRoomyState m.state → LeavesRoomyLogs g stream_bytes m.state → StoredMoves g m events last made →
+    ensures moves { (g : Geometry) (stream_bytes : ℕ) (o : Opening) (found : List LogRecord) (es : List Entry) (m last : StoredState) (events : List StoredEvent) (made : List Entry) →
+        IsStateAfter o found es m.state → IsRoomyState m.state → LeavesRoomyLogs g stream_bytes m.state → StoredMoves g m events last made →
         IsRoomyState last.state × LeavesRoomyLogs g stream_bytes last.state }
-    ensures last { (g : Geometry) (stream_bytes : ℕ) (s : RecoveryState) (r : StoredRun) → MayBeFound s → AreRoomy g stream_bytes s.durable s.log → IsStoredRun g s r →
+    ensures last { (g : Geometry) (stream_bytes : ℕ) (o : Opening) (s : RecoveryState) (r : StoredRun) → MayBeFound s → IsOpeningOf s.log o → AreRoomy g stream_bytes s.durable s.log → IsStoredRun g o s r →
         IsOpenedFrom stream_bytes r.ready.log r.first → IsRoomyState r.last.state × LeavesRoomyLogs g stream_bytes r.last.state }
-    ensures runs { (g : Geometry) (stream_bytes : ℕ) (s last : RecoveryState) (runs : List StoredRun) → MayBeFound s → AreRoomy g stream_bytes s.durable s.log →
-        AreStoredRuns g s runs last → AreOpenedFrom stream_bytes runs → AreRoomy g stream_bytes last.durable last.log }
+    ensures runs { (g : Geometry) (stream_bytes : ℕ) (o : Opening) (s last : RecoveryState) (runs : List StoredRun) → MayBeFound s → IsOpeningOf s.log o → AreRoomy g stream_bytes s.durable s.log →
+        AreStoredRuns g o s runs last → AreOpenedFrom stream_bytes runs → AreRoomy g stream_bytes last.durable last.log }
 {}
 
 /// A record of undo keeps a log roomy, whichever loser takes its turn, and so do any turns. So a restart may lose power at any time.
@@ -114,8 +116,8 @@ pub fn opens_have_room()
         AreRecords g s.sessions.records }
     ensures leaves { (g : Geometry) (stream_bytes : ℕ) (log : List LogRecord) (s : State) → AreRoomy g stream_bytes s.durable log → Lawful log → HasNoLosers log →
         IsOpenedFrom stream_bytes log s → LeavesRoomyLogs g stream_bytes s }
-    ensures over { (stream_bytes : ℕ) (found : List LogRecord) (ready : RecoveryState) (s : State) → IsRecoverable ready → ready.redone ≡ length ready.log →
-        IsRestartOf found ready → IsOpenedOver ready s → s.stream_bytes ≡ stream_bytes → ((p : PageId) → s.counts p ≡ slot_count ready.log p) →
+    ensures over { (stream_bytes : ℕ) (o : Opening) (found : List LogRecord) (ready : RecoveryState) (s : State) → IsRecoverable ready → ready.redone ≡ length ready.log →
+        IsRestartOf found ready → IsOpeningOf found o → IsOpenedOver o ready s → s.stream_bytes ≡ stream_bytes → ((p : PageId) → s.counts p ≡ slot_count ready.log p) →
         IsNext found s.sessions.next_txn → IsOpenedFrom stream_bytes ready.log s }
 {}
 

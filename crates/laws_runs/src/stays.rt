@@ -1,19 +1,22 @@
 //! The laws of stays of the power, each stated as the contract of an empty function.
 ghost use Rattle.std.specs.Prelude.{◌≡◌, ◌+◌, ◌≤◌, ◌++◌, ◌∷◌, ℕ, List, [], None, Some, length, take};
-ghost use Rattle.std.specs.FinMap.{get};
+ghost use Rattle.std.specs.FinMap.{empty, get};
 ghost use Rattle.shore_types.specs.Layout.{HasPage, HasStore};
 ghost use Rattle.shore_types.specs.declared.ids.Rid.{Rid};
 ghost use Rattle.shore_types.specs.declared.layout.Geometry.{Geometry};
 ghost use Rattle.shore_types.specs.declared.layout.TheConstants.{LONGEST_FRAME, MAX_LOG_BYTES, MAX_RECORD_BYTES};
 ghost use Rattle.shore_model.specs.declared.histories.Entry.{Entry};
+ghost use Rattle.shore_model.specs.declared.histories.Opening.{Opening};
 ghost use Rattle.shore_model.specs.declared.log_records.LogRecord.{LogRecord};
 ghost use Rattle.shore_model.specs.Lives.{IsLife};
 ghost use Rattle.shore_model.specs.Records.{AreRecords};
+ghost use Rattle.laws_lives.specs.Doubts.{IsOpeningOf};
 ghost use Rattle.laws_lives.specs.Pages.{LoggedPages, empty_page};
 ghost use Rattle.laws_lives.specs.Recovery.{MayCrash, RecoveryEvent, RecoveryState, after_crash};
 ghost use Rattle.laws_lives.specs.Restarts.{RestartsTo};
 ghost use Rattle.laws_lives.specs.Undo.{HasNoLosers};
-ghost use Rattle.laws_lives.specs.Stretches.{MayBeFound, opening_told};
+ghost use Rattle.laws_lives.specs.Soundness.{opening_with};
+ghost use Rattle.laws_lives.specs.Stretches.{MayBeFound, opening_after};
 ghost use Rattle.laws_calls.specs.CallHistories.{IsRoomyState};
 ghost use Rattle.laws_calls.specs.States.{State, cost_of_log};
 ghost use Rattle.laws_calls.specs.WorkedRun.{first_page};
@@ -53,16 +56,16 @@ pub fn crashes_leave_what_may_be_opened()
 /// A manager that opens over a restart is under way, and stays so with each event. Then pages and log have room, its records lie in the geometry, and
 /// its store is sound.
 pub fn managers_stay_under_way()
-    ensures opens { (g : Geometry) (stream_bytes : ℕ) (s ready : RecoveryState) (works : List RecoveryEvent) (first : State) → MayBeFound s →
-        AreRoomy g stream_bytes s.durable s.log → RestartsTo s works ready → ready.redone ≡ length ready.log → HasNoLosers ready.log → IsOpenedOver ready first →
-        IsOpenedFrom stream_bytes ready.log first → IsUnderWay g stream_bytes s.log [] (record { state = first; store = ready }) }
-    ensures each { (g : Geometry) (stream_bytes : ℕ) (found : List LogRecord) (es : List Entry) (m new : StoredState) (e : StoredEvent) →
-        IsUnderWay g stream_bytes found es m → StoredSteps g m e new → IsUnderWay g stream_bytes found (es ++ entries_made m e) new }
-    ensures moves { (g : Geometry) (stream_bytes : ℕ) (found : List LogRecord) (es : List Entry) (m last : StoredState) (events : List StoredEvent) (made : List Entry) →
-        IsUnderWay g stream_bytes found es m → StoredMoves g m events last made → IsUnderWay g stream_bytes found (es ++ made) last }
-    ensures safe { (g : Geometry) (stream_bytes : ℕ) (found : List LogRecord) (es : List Entry) (m : StoredState) → IsUnderWay g stream_bytes found es m →
+    ensures opens { (g : Geometry) (stream_bytes : ℕ) (o : Opening) (s ready : RecoveryState) (works : List RecoveryEvent) (first : State) → MayBeFound s →
+        IsOpeningOf s.log o → AreRoomy g stream_bytes s.durable s.log → RestartsTo s works ready → ready.redone ≡ length ready.log → HasNoLosers ready.log → IsOpenedOver o ready first →
+        IsOpenedFrom stream_bytes ready.log first → IsUnderWay g stream_bytes o s.log [] (record { state = first; store = ready }) }
+    ensures each { (g : Geometry) (stream_bytes : ℕ) (o : Opening) (found : List LogRecord) (es : List Entry) (m new : StoredState) (e : StoredEvent) →
+        IsUnderWay g stream_bytes o found es m → StoredSteps g m e new → IsUnderWay g stream_bytes o found (es ++ entries_made m e) new }
+    ensures moves { (g : Geometry) (stream_bytes : ℕ) (o : Opening) (found : List LogRecord) (es : List Entry) (m last : StoredState) (events : List StoredEvent) (made : List Entry) →
+        IsUnderWay g stream_bytes o found es m → StoredMoves g m events last made → IsUnderWay g stream_bytes o found (es ++ made) last }
+    ensures safe { (g : Geometry) (stream_bytes : ℕ) (o : Opening) (found : List LogRecord) (es : List Entry) (m : StoredState) → IsUnderWay g stream_bytes o found es m →
         IsRoomyState m.state × AreRecords g m.state.sessions.records }
-    ensures sound { (g : Geometry) (stream_bytes : ℕ) (found : List LogRecord) (es : List Entry) (m : StoredState) → IsUnderWay g stream_bytes found es m →
+    ensures sound { (g : Geometry) (stream_bytes : ℕ) (o : Opening) (found : List LogRecord) (es : List Entry) (m : StoredState) → IsUnderWay g stream_bytes o found es m →
         IsSoundStore g stream_bytes m.store }
 {}
 
@@ -75,25 +78,27 @@ pub fn events_join()
         RestartsTo s (works ++ later) last }
 {}
 
-/// Any number of stays of the power, opens that lose power among them, from a log and pages that may be opened: what is left may be opened. The stays
+/// Any number of stays of the power, opens that lose power among them, from a log and pages that may be opened: what is left may be opened, and opens as
+/// the kept decisions say. The stays
 /// are runs of managers, and then restarts that lost power. They are a life: each history is sound, each crash keeps what was
 /// acknowledged, and the kept decisions make the records of the next opening, which each open shows. The log that a restart has found is a prefix of
 /// what every later one finds.
 pub fn committed_work_survives_every_stay()
-    ensures left { (g : Geometry) (stream_bytes : ℕ) (rs last : List LogRecord) (pages last_pages : LoggedPages) (stays : List StoredStay) →
-        MayBeOpened g stream_bytes rs pages → AreStoredStays g stream_bytes rs pages stays last last_pages → MayBeOpened g stream_bytes last last_pages }
-    ensures runs { (g : Geometry) (stream_bytes : ℕ) (rs last : List LogRecord) (pages last_pages : LoggedPages) (stays : List StoredStay) →
-        MayBeOpened g stream_bytes rs pages → AreStoredStays g stream_bytes rs pages stays last last_pages →
-        (end : RecoveryState) × AreStoredRuns g (found_state rs pages) (runs_of [] stays) end
+    ensures left { (g : Geometry) (stream_bytes : ℕ) (o : Opening) (rs last : List LogRecord) (pages last_pages : LoggedPages) (stays : List StoredStay) →
+        MayBeOpened g stream_bytes rs pages → IsOpeningOf rs o → AreStoredStays g stream_bytes o rs pages stays last last_pages → MayBeOpened g stream_bytes last last_pages
+        × IsOpeningOf last (opening_after o (spans_of_runs (found_state rs pages) (runs_of [] stays))) }
+    ensures runs { (g : Geometry) (stream_bytes : ℕ) (o : Opening) (rs last : List LogRecord) (pages last_pages : LoggedPages) (stays : List StoredStay) →
+        MayBeOpened g stream_bytes rs pages → IsOpeningOf rs o → AreStoredStays g stream_bytes o rs pages stays last last_pages →
+        (end : RecoveryState) × AreStoredRuns g o (found_state rs pages) (runs_of [] stays) end
         × ((works : List RecoveryEvent) × RestartsTo end works (found_state last last_pages)) }
-    ensures life { (g : Geometry) (stream_bytes : ℕ) (rs last : List LogRecord) (pages last_pages : LoggedPages) (stays : List StoredStay) →
-        MayBeOpened g stream_bytes rs pages → AreStoredStays g stream_bytes rs pages stays last last_pages →
-        IsLife (opening_told rs) (spans_of_runs (found_state rs pages) (runs_of [] stays)) (opening_told last) }
-    ensures shown { (g : Geometry) (stream_bytes : ℕ) (rs last : List LogRecord) (pages last_pages : LoggedPages) (stays : List StoredStay) →
-        MayBeOpened g stream_bytes rs pages → AreStoredStays g stream_bytes rs pages stays last last_pages →
-        RunsShow (opening_told rs) (found_state rs pages) (runs_of [] stays) }
-    ensures fixed { (g : Geometry) (stream_bytes : ℕ) (rs last : List LogRecord) (pages last_pages : LoggedPages) (stays : List StoredStay) →
-        MayBeOpened g stream_bytes rs pages → AreStoredStays g stream_bytes rs pages stays last last_pages → AreFixed (lists_found (found_state rs pages) (runs_of [] stays)) last }
+    ensures life { (g : Geometry) (stream_bytes : ℕ) (o : Opening) (rs last : List LogRecord) (pages last_pages : LoggedPages) (stays : List StoredStay) →
+        MayBeOpened g stream_bytes rs pages → IsOpeningOf rs o → AreStoredStays g stream_bytes o rs pages stays last last_pages →
+        IsLife o (spans_of_runs (found_state rs pages) (runs_of [] stays)) (opening_after o (spans_of_runs (found_state rs pages) (runs_of [] stays))) }
+    ensures shown { (g : Geometry) (stream_bytes : ℕ) (o : Opening) (rs last : List LogRecord) (pages last_pages : LoggedPages) (stays : List StoredStay) →
+        MayBeOpened g stream_bytes rs pages → IsOpeningOf rs o → AreStoredStays g stream_bytes o rs pages stays last last_pages →
+        RunsShow o (found_state rs pages) (runs_of [] stays) }
+    ensures fixed { (g : Geometry) (stream_bytes : ℕ) (o : Opening) (rs last : List LogRecord) (pages last_pages : LoggedPages) (stays : List StoredStay) →
+        MayBeOpened g stream_bytes rs pages → IsOpeningOf rs o → AreStoredStays g stream_bytes o rs pages stays last last_pages → AreFixed (lists_found (found_state rs pages) (runs_of [] stays)) last }
 {}
 
 /// Stays can be such: over an empty store a manager inserts a record and is not asked to commit, the log is forced, its page is written back, and the
@@ -102,7 +107,7 @@ pub fn flushed_losers_are_undone()
     ensures { (g : Geometry) (stream_bytes : ℕ) (bytes : List ℕ) → HasStore g 0 → HasPage g first_page → length bytes ≤ MAX_RECORD_BYTES →
         100000 ≤ stream_bytes → stream_bytes ≤ MAX_LOG_BYTES →
         (stolen : StoredRun) × (opened : StoredRun) × (pages : LoggedPages)
-        × AreStoredStays g stream_bytes [] (λ p. empty_page) (Up stolen ∷ Up opened ∷ []) (taken_back bytes) pages
+        × AreStoredStays g stream_bytes (opening_with empty) [] (λ p. empty_page) (Up stolen ∷ Up opened ∷ []) (taken_back bytes) pages
         × (take stolen.survive stolen.last.store.log ≡ inserted bytes) × ((stolen.pages first_page).slots 0 ≡ Some bytes)
         × ((id : Rid) → get opened.first.sessions.records id ≡ None) }
 {}

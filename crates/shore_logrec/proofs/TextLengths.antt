@@ -1,13 +1,15 @@
 -- How long the texts are.
-use Rattle.std.proofs.Common.{◌≡◌, ℕ, ◌+◌, ◌≤◌, List, [], ◌∷◌, ◌++◌, length, Some, None, arith}
-use Rattle.std.specs.Prelude.{option_map}
+use Rattle.std.proofs.Common.{◌≡◌, ℕ, ◌+◌, ◌≤◌, List, [], ◌∷◌, ◌++◌, length, Some, None, refl, arith}
+use Rattle.std.specs.Prelude.{◌*◌, flat_map, option_map, replicate}
 use Rattle.std.proofs.lemmas.List.{length-append}
 use Rattle.byteorder.specs.Endian.{little_bytes}
 use Rattle.byteorder.specs.Numbers.{length-bytes_low_first}
 use Rattle.shore_types.specs.declared.ids.Rid.{Rid}
 use Rattle.shore_types.specs.Images.{Image}
+use Rattle.shore_types.specs.declared.locking.Granule.{Granule}
+use Rattle.shore_types.specs.declared.locking.Granule.TheVariants.{Page, Record, Store, Volume}
 use Rattle.shore_model.specs.declared.log_records.LogRecord.{LogRecord}
-use Rattle.shore_logrec.specs.Text.{rid_text, string_text, image_text, image_text_len, change_text, compensation_text, payload_text, head_text, text}
+use Rattle.shore_logrec.specs.Text.{granule_text, prepare_text, rid_text, string_text, image_text, image_text_len, change_text, compensation_text, payload_text, head_text, text}
 
 pub length-little_bytes : (n x : ℕ) → length (little_bytes n x) ≡ n
 length-little_bytes n x = length-bytes_low_first 0 n x
@@ -40,4 +42,29 @@ pub length-text : (r : LogRecord) → length (text r) ≡ 21 + length (payload_t
 unfolding text
 length-text r = omega (arith, length-append (head_text r) (payload_text r.payload), length-head_text r)
 
-pub ruleset lengths = (length-append, length-little_bytes, length-rid_text, length-string_text, length-image_text, length-change_text, length-compensation_text, length-head_text, length-text)
+length-granule_text : (g : Granule) → length (granule_text g) ≡ 11
+length-granule_text Volume = refl
+length-granule_text (Store s) = omega (arith, length-append (little_bytes 4 s) (replicate 6 0), length-little_bytes 4 s)
+length-granule_text (Page p) =
+    omega (arith, length-append (little_bytes 4 p.store) (little_bytes 4 p.page ++ replicate 2 0), length-append (little_bytes 4 p.page) (replicate 2 0), length-little_bytes 4 p.store, length-little_bytes 4 p.page)
+length-granule_text (Record r) = omega (arith, length-rid_text r)
+
+length-granules : (gs : List Granule) → length (flat_map granule_text gs) ≡ 11 * length gs
+length-granules [] = refl
+length-granules (g ∷ gs) =
+    let one = length-granule_text g in
+    let rest = length-granules gs in
+    omega (arith, length-append (granule_text g) (flat_map granule_text gs))
+
+pub length-prepare_text : (global : List ℕ) (granules : List Granule) → length (prepare_text global granules) ≡ 5 + length global + 11 * length granules
+length-prepare_text global granules =
+    let all = length-granules granules in
+    omega (
+      arith,
+      length-string_text 1 global,
+      length-append (string_text 1 global ++ little_bytes 4 (length granules)) (flat_map granule_text granules),
+      length-append (string_text 1 global) (little_bytes 4 (length granules)),
+      length-little_bytes 4 (length granules),
+    )
+
+pub ruleset lengths = (length-append, length-little_bytes, length-rid_text, length-string_text, length-image_text, length-change_text, length-compensation_text, length-head_text, length-prepare_text, length-text)

@@ -79,8 +79,8 @@ impl PartialOrd for Granule {
 }
 
 impl Granule {
-    // How many granules it lies in.
-    fn depth(&self) -> u8
+    /// How many granules it lies in.
+    pub fn depth(&self) -> u8
         ensures { result ≡ depth_of (level_of self.now) }
     {
         match self {
@@ -91,8 +91,8 @@ impl Granule {
         }
     }
 
-    // Its ids, 0 where it has none.
-    fn ids(&self) -> Rid
+    /// Its ids, 0 where it has none.
+    pub fn ids(&self) -> Rid
         ensures { result ≡ ids_of self.now }
     {
         match self {

@@ -10,4 +10,4 @@ pub returns-clause-events : goal.returns-clause-events
 returns-clause-events d g s last events made h = session_entries_come g s events last made h
 
 pub returns-clause-keep : goal.returns-clause-keep
-returns-clause-keep d g found first last events made opened none moves = session_events_stay g found [] first events last made (sessions_after_open found first opened none) moves
+returns-clause-keep d g o found first last events made opened moves = session_events_stay g o found [] first events last made (sessions_after_open o found first opened) moves

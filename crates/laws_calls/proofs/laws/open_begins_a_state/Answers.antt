@@ -2,4 +2,4 @@ use Rattle.laws_calls.proofs.SessionOpens.{sessions_after_open}
 use Rattle.laws_calls.proofs.laws.open_begins_a_state.Goals as goal
 
 pub returns : goal.returns
-returns d found s opened none = sessions_after_open found s opened none
+returns d o found s opened = sessions_after_open o found s opened

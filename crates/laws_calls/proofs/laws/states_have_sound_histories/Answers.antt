@@ -1,7 +1,7 @@
 use Rattle.laws_calls.proofs.laws.states_have_sound_histories.Goals as goal
 
 pub returns-clause-history : goal.returns-clause-history
-returns-clause-history d found es s k = k.sessions.agree.history
+returns-clause-history d o found es s k = k.sessions.agree.history
 
 pub returns-clause-sound : goal.returns-clause-sound
-returns-clause-sound d found es s k = k.sessions.sound.sound
+returns-clause-sound d o found es s k = k.sessions.sound.sound

@@ -18,13 +18,13 @@ pub returns-clause-refused : goal.returns-clause-refused
 returns-clause-refused d g s new session f h = refused_resume_waits_no_more g s new session f h
 
 pub returns-clause-device : goal.returns-clause-device
-returns-clause-device d g found es s new session c k h = call_device_fails g found es s k session c new h
+returns-clause-device d g o found es s new session c k h = call_device_fails g o found es s k session c new h
 
 pub returns-clause-damage : goal.returns-clause-damage
-returns-clause-damage d g found es s new session c device offset k h = call_damage_fails g found es s k session c device offset new h
+returns-clause-damage d g o found es s new session c device offset k h = call_damage_fails g o found es s k session c device offset new h
 
 pub returns-clause-resumed_device : goal.returns-clause-resumed_device
-returns-clause-resumed_device d g found es s new session k h = resume_device_fails g found es s k session new h
+returns-clause-resumed_device d g o found es s new session k h = resume_device_fails g o found es s k session new h
 
 pub returns-clause-resumed_damage : goal.returns-clause-resumed_damage
-returns-clause-resumed_damage d g found es s new session device offset k h = resume_damage_fails g found es s k session device offset new h
+returns-clause-resumed_damage d g o found es s new session device offset k h = resume_damage_fails g o found es s k session device offset new h

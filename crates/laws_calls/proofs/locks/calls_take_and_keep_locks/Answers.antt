@@ -3,13 +3,13 @@ use Rattle.laws_calls.proofs.WrongWaits.{append_holds_all, append_keeps_all}
 use Rattle.laws_calls.proofs.locks.calls_take_and_keep_locks.Goals as goal
 
 pub returns-clause-has : goal.returns-clause-has
-returns-clause-has d g found es s new session c answer a k of h = answer_has_locks g found es s new k session c answer a of h
+returns-clause-has d g o found es s new session c answer a k of h = answer_has_locks g o found es s new k session c answer a of h
 
 pub returns-clause-keeps : goal.returns-clause-keeps
-returns-clause-keeps d g found es s new session c step u k other h = call_keeps_locks g found es s new k session c step other h u
+returns-clause-keeps d g o found es s new session c step u k other h = call_keeps_locks g o found es s new k session c step other h u
 
 pub returns-clause-keeps_others : goal.returns-clause-keeps_others
-returns-clause-keeps_others d g found es s new session c step a u k of other h = others_keep_locks g found es s new k session c step a of h u other
+returns-clause-keeps_others d g o found es s new session c step a u k of other h = others_keep_locks g o found es s new k session c step a of h u other
 
 pub returns-clause-append : goal.returns-clause-append
 returns-clause-append d = append_keeps_all

@@ -2,4 +2,4 @@ use Rattle.laws_calls.proofs.SessionDeciding.{resume_comes_to_something}
 use Rattle.laws_calls.proofs.progress.resumes_come_to_something.Goals as goal
 
 pub returns : goal.returns
-returns d g found es s session k roomy = resume_comes_to_something g s session found es k roomy
+returns d g o found es s session k roomy = resume_comes_to_something g s session o found es k roomy

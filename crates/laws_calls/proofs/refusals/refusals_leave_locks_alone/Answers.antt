@@ -15,7 +15,7 @@ pub returns-clause-no_other : goal.returns-clause-no_other
 returns-clause-no_other d = refusal_runs
 
 pub returns-clause-log_full : goal.returns-clause-log_full
-returns-clause-log_full d g found es s new session store bytes a k of h = log_full_locked g found es s new k session store bytes a of h
+returns-clause-log_full d g o found es s new session store bytes a k of h = log_full_locked g o found es s new k session store bytes a of h
 
 pub returns-clause-absence : goal.returns-clause-absence
-returns-clause-absence d g found es s new session c id lock a k named within asks of h = absence_locked g found es s new k session c id lock a named within asks of h
+returns-clause-absence d g o found es s new session c id lock a k named within asks of h = absence_locked g o found es s new k session c id lock a named within asks of h

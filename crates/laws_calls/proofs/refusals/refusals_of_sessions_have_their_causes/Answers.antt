@@ -1,4 +1,4 @@
-use Rattle.laws_calls.proofs.WrongRefusals.{active_though_none, begin_full_though_room, busy_though_idle, commit_forces_none, commit_in_txn, failed_though_running, none_though_in_one, too_long_in_no_txn, too_many_below}
+use Rattle.laws_calls.proofs.WrongRefusals.{active_though_none, begin_full_though_room, busy_though_idle, commit_forces_none, commit_in_txn, failed_though_running, none_though_in_one, prepared_though_at_work, prepared_though_free, too_long_in_no_txn, too_many_below}
 use Rattle.laws_calls.proofs.refusals.refusals_of_sessions_have_their_causes.Goals as goal
 
 pub returns-clause-busy_though_idle : goal.returns-clause-busy_though_idle
@@ -6,6 +6,12 @@ returns-clause-busy_though_idle d = busy_though_idle
 
 pub returns-clause-none_though_in_one : goal.returns-clause-none_though_in_one
 returns-clause-none_though_in_one d = none_though_in_one
+
+pub returns-clause-prepared_though_at_work : goal.returns-clause-prepared_though_at_work
+returns-clause-prepared_though_at_work d = prepared_though_at_work
+
+pub returns-clause-prepared_though_free : goal.returns-clause-prepared_though_free
+returns-clause-prepared_though_free d = prepared_though_free
 
 pub returns-clause-failed_though_running : goal.returns-clause-failed_though_running
 returns-clause-failed_though_running d = failed_though_running

@@ -5,13 +5,13 @@ use Rattle.laws_calls.proofs.WrongRollbacks.{aborted_in_none, no_lock_left, no_r
 use Rattle.laws_calls.proofs.rollbacks.answered_aborts_give_locks_back.Goals as goal
 
 pub returns-clause-locks : goal.returns-clause-locks
-returns-clause-locks d g found es s new session a answer k of h = no_lock_left g s new session found es k a of answer h
+returns-clause-locks d g o found es s new session a answer k of h = no_lock_left g s new session o found es k a of answer h
 
 pub returns-clause-requests : goal.returns-clause-requests
-returns-clause-requests d g found es s new session a answer k of h = no_request_left g s new session found es k a of answer h
+returns-clause-requests d g o found es s new session a answer k of h = no_request_left g s new session o found es k a of answer h
 
 pub returns-clause-others : goal.returns-clause-others
-returns-clause-others d g found es s new session a answer u k of h other = others_keep_locks g found es s new k session call.Abort (Done answer) a of h u other
+returns-clause-others d g o found es s new session a answer u k of h other = others_keep_locks g o found es s new k session call.Abort (Done answer) a of h u other
 
 pub returns-clause-ended : goal.returns-clause-ended
-returns-clause-ended d g found es s new session answer k h = aborted_in_none g s new session found es k answer h
+returns-clause-ended d g o found es s new session answer k h = aborted_in_none g s new session o found es k answer h

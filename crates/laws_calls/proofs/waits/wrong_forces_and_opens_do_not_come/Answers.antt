@@ -9,10 +9,10 @@ pub returns-clause-beyond : goal.returns-clause-beyond
 returns-clause-beyond d = force_beyond
 
 pub returns-clause-opened_undurable : goal.returns-clause-opened_undurable
-returns-clause-opened_undurable d found s other h = opened_undurable found s other h
+returns-clause-opened_undurable d o found s other h = opened_undurable o found s other h
 
 pub returns-clause-opened_too_high : goal.returns-clause-opened_too_high
-returns-clause-opened_too_high d found s n some above less h = opened_too_high found s n some above less h
+returns-clause-opened_too_high d o found s n some above less h = opened_too_high o found s n some above less h
 
 pub returns-clause-opened_too_low : goal.returns-clause-opened_too_low
-returns-clause-opened_too_low d r found s low h = opened_too_low r found s low h
+returns-clause-opened_too_low d r o found s low h = opened_too_low r o found s low h

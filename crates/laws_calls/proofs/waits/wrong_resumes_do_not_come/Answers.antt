@@ -32,4 +32,4 @@ pub returns-clause-changed_though_waiting : goal.returns-clause-changed_though_w
 returns-clause-changed_though_waiting d = changed_though_waiting
 
 pub returns-clause-waits_though_granted : goal.returns-clause-waits_though_granted
-returns-clause-waits_though_granted d g found es s session wait k on quiet h = waits_though_granted g found es s k session wait on quiet h
+returns-clause-waits_though_granted d g o found es s session wait k on quiet h = waits_though_granted g o found es s k session wait on quiet h

@@ -11,4 +11,4 @@ pub returns-clause-savepoint : goal.returns-clause-savepoint
 returns-clause-savepoint c s new a kept e n whole step = doomed_to_savepoint s new a whole kept e n step
 
 pub returns-clause-stays : goal.returns-clause-stays
-returns-clause-stays c o es s new e a b k among whole step still same = stays_doomed k a among whole b same new e step still
+returns-clause-stays c o es s new e a b sound k among whole step still same = stays_doomed k (λ t b. sound.below t b) a among whole b same new e step still

@@ -6,4 +6,4 @@ pub returns-clause-sound : goal.returns-clause-sound
 returns-clause-sound c o es old new e k agree moves = event_stays_sound o es old new e k agree moves
 
 pub returns-clause-agree : goal.returns-clause-agree
-returns-clause-agree c o es old new e agree moves = event_agrees o es old new e agree moves
+returns-clause-agree c o es old new e k agree moves = event_agrees o es old new e k agree moves

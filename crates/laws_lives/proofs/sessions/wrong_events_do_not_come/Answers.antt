@@ -1,5 +1,5 @@
 use Rattle.laws_lives.proofs.Doomed.{commit_of_doomed}
-use Rattle.laws_lives.proofs.WrongEvents.{absent_unlocked, before_savepoint, commit_in_rollback, doom_of_another, get_in_rollback, get_unlocked, insert_under_read_lock, lock_lost, lock_of_nobody, locks_clash, not_the_newest, other_back_to, other_savepoint, scan_under_record_lock, second_txn}
+use Rattle.laws_lives.proofs.WrongEvents.{absent_unlocked, before_savepoint, commit_in_rollback, commit_of_doubtful, doom_of_another, get_in_rollback, get_unlocked, insert_under_read_lock, lock_lost, lock_of_nobody, locks_clash, not_the_newest, other_back_to, other_savepoint, resolve_of_unanswered, same_global_id, scan_under_record_lock, second_txn, too_few_granules, undo_of_doubtful}
 use Rattle.laws_lives.proofs.sessions.wrong_events_do_not_come.Goals as goal
 
 pub returns-clause-get_unlocked : goal.returns-clause-get_unlocked
@@ -15,7 +15,7 @@ pub returns-clause-scan_under_record_lock : goal.returns-clause-scan_under_recor
 returns-clause-scan_under_record_lock c t n R a b answer differ h = scan_under_record_lock t R n a b answer differ h
 
 pub returns-clause-second_txn : goal.returns-clause-second_txn
-returns-clause-second_txn c s new a current step = second_txn s new a current step
+returns-clause-second_txn c s new session some step = second_txn s new session some step
 
 pub returns-clause-lock_lost : goal.returns-clause-lock_lost
 returns-clause-lock_lost c s new t m g among holds step = lock_lost s new t m g among holds step
@@ -49,3 +49,18 @@ returns-clause-commit_of_doomed c s mid new a b doom same step = commit_of_doome
 
 pub returns-clause-doom_of_another : goal.returns-clause-doom_of_another
 returns-clause-doom_of_another c s new a other step = doom_of_another s new a other step
+
+pub returns-clause-commit_of_doubtful : goal.returns-clause-commit_of_doubtful
+returns-clause-commit_of_doubtful c s new a among step = commit_of_doubtful s new a among step
+
+pub returns-clause-undo_of_doubtful : goal.returns-clause-undo_of_doubtful
+returns-clause-undo_of_doubtful c s new a kept e r among step = undo_of_doubtful s new a kept e r among step
+
+pub returns-clause-resolve_of_unanswered : goal.returns-clause-resolve_of_unanswered
+returns-clause-resolve_of_unanswered c s new a global none step = resolve_of_unanswered s new a global none step
+
+pub returns-clause-same_global_id : goal.returns-clause-same_global_id
+returns-clause-same_global_id c s new a global granules p among same step = same_global_id s new a global granules p among same step
+
+pub returns-clause-too_few_granules : goal.returns-clause-too_few_granules
+returns-clause-too_few_granules c s new a global granules h held own writes none step = too_few_granules s new a global granules h held own writes none step
