@@ -2,4 +2,6 @@ pub mod TextLengths
 pub mod Numbers
 pub mod Puttings
 pub mod Readers
+pub mod Granules
+pub mod GranulesLeft
 pub mod Records

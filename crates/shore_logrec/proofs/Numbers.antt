@@ -36,3 +36,7 @@ bytes-of_number (suc n) (b ∷ bytes) fits long =
     let high : (b + 256 * x) / 256 ≡ x = omega arith in
     let rest : little_bytes n x ≡ take n bytes = bytes-of_number n bytes (λ i. fits (suc i)) (omega arith) in
     ap (little_bytes (suc n)) whole ∙ rw (low, bytes_low_first-suc 0 n (b + 256 * x), high, rest) refl
+
+-- a byte is its own text
+pub one_byte : (n : ℕ) → n < 256 → little_bytes 1 n ≡ n ∷ []
+one_byte n small = let low : n % 256 ≡ n = omega arith in ap (λ (k : ℕ). k ∷ []) low

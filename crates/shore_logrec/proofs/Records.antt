@@ -1,21 +1,24 @@
 -- The two laws of a record: what is read is spelled so, and what is spelled so is read.
-use Rattle.std.proofs.Common.{◌≡◌, ◌⊎◌, ℕ, zero, suc, ◌^◌, ◌<◌, ◌≤◌, Bool, true, false, cond, eqb, ◌||◌, List, [], ◌∷◌, ◌++◌, ◌-◌, length, take, Option, Some, None, refl, sym, ap, subst, ◌∙◌, append_assoc, arith, inl, inr}
-use Rattle.std.specs.Prelude.{IsSome, is_some}
-use Rattle.std.proofs.lemmas.Bool.{eqb-true}
+use Rattle.std.proofs.Common.{◌≡◌, ◌⊎◌, ℕ, zero, suc, ◌^◌, ◌<◌, ◌≤◌, Bool, true, false, cond, eqb, ltb, ◌||◌, List, [], ◌∷◌, ◌++◌, ◌-◌, length, take, Option, Some, None, refl, sym, ap, subst, ◌∙◌, append_assoc, arith, inl, inr}
+use Rattle.std.specs.Prelude.{IsSome, flat_map, is_some}
+use Rattle.std.proofs.lemmas.Bool.{eqb-true, le-ltb, ltb-false}
 use Rattle.std.proofs.lemmas.Bool.Decides.{nat_tests}
 use Rattle.std.proofs.lemmas.List.{nil_from_length, length-append, take_at}
 use Rattle.byteorder.specs.Endian.{little_bytes}
 use Rattle.shore_types.specs.declared.ids.Rid.{Rid}
 use Rattle.shore_types.specs.Images.{Image}
+use Rattle.shore_types.specs.declared.layout.TheConstants.{MOST_MAX_LOCKS}
+use Rattle.shore_types.specs.declared.locking.Granule.{Granule}
 use Rattle.shore_model.specs.declared.log_records.LogRecord.{LogRecord}
 use Rattle.shore_model.specs.declared.log_records.Payload.{Payload}
 use Rattle.shore_model.specs.declared.log_records.Payload.TheVariants.{Change, Compensation, Commit, End, Prepare, RollbackDecided, CheckpointBegin, CheckpointEnd, Anchor}
 use Rattle.shore_logrec.specs.declared.reading.Head.{Head}
-use Rattle.shore_logrec.specs.Text.{rid_text, string_text, image_text, change_text, compensation_text, payload_text, kind_of, head_text, text, RidFits, ImageFits, ChangeFits, CompensationFits, PayloadFits, Fits}
-use Rattle.shore_logrec.specs.Reading.{◌>>=◌, pair_at, made_at, whole, byte_at, number_at, string_at, image_at, rid_at, change_fields_at, change_of, change_at, compensation_fields_at, compensation_of, compensation_at, empty_at, payload_at, head_of, front_at, record_of, record_at}
+use Rattle.shore_logrec.specs.Text.{granule_text, prepare_text, PrepareFits, rid_text, string_text, image_text, change_text, compensation_text, payload_text, kind_of, head_text, text, RidFits, ImageFits, ChangeFits, CompensationFits, PayloadFits, Fits}
+use Rattle.shore_logrec.specs.Reading.{global_at, granules_from, prepare_at, ◌>>=◌, pair_at, made_at, whole, byte_at, number_at, string_at, image_at, rid_at, change_fields_at, change_of, change_at, compensation_fields_at, compensation_of, compensation_at, empty_at, payload_at, head_of, front_at, record_of, record_at}
 use Rattle.shore_logrec.proofs.Numbers.{IsBytes}
 use Rattle.shore_logrec.proofs.Readers.{IsReader, IsBytes-behind, IsBytes-front, bind_some, some_is, guard_some, guard_kept, pair_reads, made_reads, whole_takes, whole_again, byte_reads, number_reads, string_reads, image_reads, rid_reads}
-use Rattle.shore_logrec.proofs.TextLengths.{length-image_text, length-change_text, length-compensation_text}
+use Rattle.shore_logrec.proofs.Granules.{AreSoMany, global_reads, granules_read}
+use Rattle.shore_logrec.proofs.TextLengths.{length-prepare_text, length-image_text, length-change_text, length-compensation_text}
 
 some_one : (a b : Image) → (is_some a || is_some b) ≡ true → IsSome a ⊎ IsSome b
 some_one (Some a) b e = inl refl
@@ -78,12 +81,62 @@ compensation_again id after undo_next fits =
     let read = whole_again compensation_fields_at (λ x. (rid_text x.0.0 ++ image_text x.0.1) ++ little_bytes 8 x.1) (λ x. (RidFits x.0.0 × ImageFits x.0.1) × (x.1 < 2 ^ 64)) compensation_fields_read ((id, after), undo_next) ((fits.rid, fits.image), fits.next) in
     rw read refl
 
+-- ---- a Prepare
+
+-- a test that did not fail, and what comes behind it
+none_kept : {A : Type 0} (b : Bool) (r : Option A) (y : A) → cond b None r ≡ Some y → (b ≡ false) × (r ≡ Some y)
+none_kept true r y e = absurd cc
+none_kept false r y e = (refl, e)
+
+prepare_takes : (bytes : List ℕ) (p : Payload) → IsBytes bytes → prepare_at bytes ≡ Some p → Says 5 bytes p
+unfolding prepare_at
+prepare_takes bytes p fits e =
+    let g = bind_some (global_at bytes) (λ global. number_at 4 global.1 >>= λ count. cond (ltb MOST_MAX_LOCKS count.0) None (whole (granules_from None count.0) count.1) >>= λ gs. Some (Prepare global.0 gs)) p e in
+    let n = bind_some (number_at 4 g.0.1) (λ count. cond (ltb MOST_MAX_LOCKS count.0) None (whole (granules_from None count.0) count.1) >>= λ gs. Some (Prepare g.0.0 gs)) p g.2 in
+    let x = bind_some (cond (ltb MOST_MAX_LOCKS n.0.0) None (whole (granules_from None n.0.0) n.0.1)) (λ gs. Some (Prepare g.0.0 gs)) p n.2 in
+    let k = none_kept (ltb MOST_MAX_LOCKS n.0.0) (whole (granules_from None n.0.0) n.0.1) x.0 x.1 in
+    let global = global_reads.takes bytes g.0.0 g.0.1 fits g.1 in
+    let behind = IsBytes-behind (string_text 1 g.0.0) g.0.1 bytes global.0 fits in
+    let count = (number_reads 4).takes g.0.1 n.0.0 n.0.1 behind n.1 in
+    let last = IsBytes-behind (little_bytes 4 n.0.0) n.0.1 g.0.1 count.0 behind in
+    let gs = whole_takes (granules_from None n.0.0) (flat_map granule_text) (AreSoMany None n.0.0) (granules_read None n.0.0) n.0.1 x.0 last k.1 in
+    let few : n.0.0 ≤ MOST_MAX_LOCKS = ltb-false _ _ k.0 in
+    let parts : bytes ≡ prepare_text g.0.0 x.0 =
+    global.0 ∙ ap (λ (l : List ℕ). string_text 1 g.0.0 ++ l) count.0
+    ∙ sym (append_assoc (string_text 1 g.0.0) (little_bytes 4 n.0.0) n.0.1)
+    ∙ ap (λ (l : List ℕ). (string_text 1 g.0.0 ++ little_bytes 4 n.0.0) ++ l) gs.0
+    ∙ ap (λ (k : ℕ). (string_text 1 g.0.0 ++ little_bytes 4 k) ++ flat_map granule_text x.0) (sym gs.1.count) in
+    let prepare : PrepareFits g.0.0 x.0 = record {
+      some = global.1.some;
+      short = global.1.short;
+      few = let c = gs.1.count in omega arith;
+      granules_fit = gs.1.fit;
+      rising = gs.1.rise;
+    } in
+    subst (Says 5 bytes) (some_is (Prepare g.0.0 x.0) p x.2) (record { kind_is = refl; parts = parts; fits = prepare })
+
+prepare_again : (global : List ℕ) (granules : List Granule) → PrepareFits global granules → prepare_at (prepare_text global granules) ≡ Some (Prepare global granules)
+unfolding prepare_at
+prepare_again global granules fits =
+    let all = flat_map granule_text granules in
+    let count = length granules in
+    let name = global_reads.again global (little_bytes 4 count ++ all) (record { some = fits.some; short = fits.short }) in
+    let number = (number_reads 4).again count all (let few = fits.few in omega arith) in
+    let few : ltb MOST_MAX_LOCKS count ≡ false = le-ltb _ _ fits.few in
+    let gs = whole_again (granules_from None count) (flat_map granule_text) (AreSoMany None count) (granules_read None count) granules (record { count = refl; fit = fits.granules_fit; rise = fits.rising }) in
+    ap prepare_at (append_assoc (string_text 1 global) (little_bytes 4 count) all) ∙ rw (name, number, few, gs) refl
+
 -- ---- payloads
 
--- which branch gave a value
-given_by : {A : Type 0} (test : Bool) (x y : Option A) (v : A) → cond test x y ≡ Some v → ((test ≡ true) × (x ≡ Some v)) ⊎ ((test ≡ false) × (y ≡ Some v))
-given_by true x y v e = inl (refl, e)
-given_by false x y v e = inr (refl, e)
+-- what was read is of the kind that is tested, or of another
+by_kind : (kind n : ℕ) (bytes : List ℕ) (p : Payload) (here behind : Option Payload) → cond (eqb kind n) here behind ≡ Some p
+    → (here ≡ Some p → Says n bytes p) → (behind ≡ Some p → Says kind bytes p) → Says kind bytes p
+by_kind kind n bytes p here behind e is other =
+    go (eqb kind n) e (λ test found. subst (λ (k : ℕ). Says k bytes p) (sym (eqb-true _ _ test)) (is found))
+  where
+    go : (test : Bool) → cond test here behind ≡ Some p → (test ≡ true → here ≡ Some p → Says kind bytes p) → Says kind bytes p
+    go true e same = same refl e
+    go false e same = other e
 
 -- a payload of no bytes
 empty_takes : (kind : ℕ) (empty : Payload) → kind ≡ kind_of empty → payload_text empty ≡ [] → PayloadFits empty
@@ -95,21 +148,18 @@ empty_takes kind empty kind_is nothing fits bytes p e =
 payload_takes : (kind : ℕ) (bytes : List ℕ) (p : Payload) → IsBytes bytes → payload_at kind bytes ≡ Some p → Says kind bytes p
 unfolding payload_at
 payload_takes kind bytes p fits e =
-    let last = cond (eqb kind 4) (empty_at End bytes) None in
-    let behind = cond (eqb kind 3) (empty_at Commit bytes) last in
-    elim (given_by (eqb kind 1) (change_at bytes) (cond (eqb kind 2) (compensation_at bytes) behind) p e) [
-      | inl change ↦ subst (λ (k : ℕ). Says k bytes p) (sym (eqb-true _ _ change.0)) (change_takes bytes p fits change.1)
-      | inr second ↦ elim (given_by (eqb kind 2) (compensation_at bytes) behind p second.1) [
-        | inl compensation ↦ subst (λ (k : ℕ). Says k bytes p) (sym (eqb-true _ _ compensation.0)) (compensation_takes bytes p fits compensation.1)
-        | inr third ↦ elim (given_by (eqb kind 3) (empty_at Commit bytes) last p third.1) [
-          | inl commit ↦ subst (λ (k : ℕ). Says k bytes p) (sym (eqb-true _ _ commit.0)) (empty_takes 3 Commit refl refl tt bytes p commit.1)
-          | inr fourth ↦ elim (given_by (eqb kind 4) (empty_at End bytes) None p fourth.1) [
-            | inl ended ↦ subst (λ (k : ℕ). Says k bytes p) (sym (eqb-true _ _ ended.0)) (empty_takes 4 End refl refl tt bytes p ended.1)
-            | inr none ↦ absurd (let e = none.1 in cc)
-          ]
-        ]
-      ]
-    ]
+    let sixth = cond (eqb kind 6) (empty_at RollbackDecided bytes) None in
+    let fifth = cond (eqb kind 5) (prepare_at bytes) sixth in
+    let fourth = cond (eqb kind 4) (empty_at End bytes) fifth in
+    let third = cond (eqb kind 3) (empty_at Commit bytes) fourth in
+    let second = cond (eqb kind 2) (compensation_at bytes) third in
+    by_kind kind 1 bytes p (change_at bytes) second e (change_takes bytes p fits)
+    (λ e. by_kind kind 2 bytes p (compensation_at bytes) third e (compensation_takes bytes p fits)
+    (λ e. by_kind kind 3 bytes p (empty_at Commit bytes) fourth e (empty_takes 3 Commit refl refl tt bytes p)
+    (λ e. by_kind kind 4 bytes p (empty_at End bytes) fifth e (empty_takes 4 End refl refl tt bytes p)
+    (λ e. by_kind kind 5 bytes p (prepare_at bytes) sixth e (prepare_takes bytes p fits)
+    (λ e. by_kind kind 6 bytes p (empty_at RollbackDecided bytes) None e (empty_takes 6 RollbackDecided refl refl tt bytes p)
+    (λ e. absurd cc))))))
 
 payload_again : (p : Payload) → PayloadFits p → payload_at (kind_of p) (payload_text p) ≡ Some p
 unfolding payload_at
@@ -117,8 +167,8 @@ payload_again (Change id before after) fits = change_again id before after fits
 payload_again (Compensation id after undo_next) fits = compensation_again id after undo_next fits
 payload_again Commit fits = refl
 payload_again End fits = refl
-payload_again (Prepare global granules) fits = absurd fits
-payload_again RollbackDecided fits = absurd fits
+payload_again (Prepare global granules) fits = prepare_again global granules fits
+payload_again RollbackDecided fits = refl
 payload_again CheckpointBegin fits = absurd fits
 payload_again (CheckpointEnd begin next txns dirty) fits = absurd fits
 payload_again (Anchor checkpoint tail) fits = absurd fits
@@ -127,12 +177,13 @@ image_most : (image : Image) → ImageFits image → length (image_text image) �
 image_most None fits = omega arith
 image_most (Some bytes) fits = omega (arith, length-image_text (Some bytes))
 
--- a payload has at most 8,016 bytes
-pub length-payload_text-le : (p : Payload) → PayloadFits p → length (payload_text p) ≤ 8016
+-- a payload has at most 45,125 bytes
+pub length-payload_text-le : (p : Payload) → PayloadFits p → length (payload_text p) ≤ 45125
 length-payload_text-le (Change id before after) fits =
     omega (arith, length-change_text id before after, image_most before fits.old, image_most after fits.new)
 length-payload_text-le (Compensation id after undo_next) fits = omega (arith, length-compensation_text id after undo_next, image_most after fits.image)
 length-payload_text-le Commit fits = omega arith
+length-payload_text-le (Prepare global granules) fits = omega (arith, length-prepare_text global granules, fits.short, fits.few)
 length-payload_text-le _ fits = omega arith
 
 -- ---- a head and the bytes of a payload

@@ -42,14 +42,14 @@ pub length-text : (r : LogRecord) → length (text r) ≡ 21 + length (payload_t
 unfolding text
 length-text r = omega (arith, length-append (head_text r) (payload_text r.payload), length-head_text r)
 
-length-granule_text : (g : Granule) → length (granule_text g) ≡ 11
+pub length-granule_text : (g : Granule) → length (granule_text g) ≡ 11
 length-granule_text Volume = refl
 length-granule_text (Store s) = omega (arith, length-append (little_bytes 4 s) (replicate 6 0), length-little_bytes 4 s)
 length-granule_text (Page p) =
     omega (arith, length-append (little_bytes 4 p.store) (little_bytes 4 p.page ++ replicate 2 0), length-append (little_bytes 4 p.page) (replicate 2 0), length-little_bytes 4 p.store, length-little_bytes 4 p.page)
 length-granule_text (Record r) = omega (arith, length-rid_text r)
 
-length-granules : (gs : List Granule) → length (flat_map granule_text gs) ≡ 11 * length gs
+pub length-granules : (gs : List Granule) → length (flat_map granule_text gs) ≡ 11 * length gs
 length-granules [] = refl
 length-granules (g ∷ gs) =
     let one = length-granule_text g in

@@ -1,12 +1,16 @@
 -- Readers: what is at the front of some bytes.
-use Rattle.std.specs.Prelude.{ℕ, zero, suc, ◌||◌, List, [], ◌∷◌, length, take, drop, Option, Some, None, is_some, nat_lt, ◌==◌, if◌then◌else◌}
+use Rattle.std.specs.Prelude.{ℕ, zero, suc, ◌||◌, List, [], ◌∷◌, length, take, drop, Option, Some, None, is_some, nat_lt, ◌==◌, ◌&&◌, Bool, true, if◌then◌else◌}
+use Rattle.std.specs.Ordering.{is_lt}
 use Rattle.byteorder.specs.Endian.{little_number}
 use Rattle.shore_types.specs.declared.ids.Rid.{Rid}
-use Rattle.shore_types.specs.declared.layout.TheConstants.{MAX_RECORD_BYTES}
+use Rattle.shore_types.specs.declared.layout.TheConstants.{MAX_GLOBAL_ID_BYTES, MAX_RECORD_BYTES, MOST_MAX_LOCKS}
+use Rattle.shore_types.specs.declared.locking.Granule.{Granule}
+use Rattle.shore_types.specs.declared.locking.Granule.TheVariants.{Volume, Store, Page, Record}
 use Rattle.shore_types.specs.Images.{Image}
+use Rattle.shore_types.specs.Locking.{granule_cmp}
 use Rattle.shore_model.specs.declared.log_records.LogRecord.{LogRecord}
 use Rattle.shore_model.specs.declared.log_records.Payload.{Payload}
-use Rattle.shore_model.specs.declared.log_records.Payload.TheVariants.{Change, Compensation, Commit, End}
+use Rattle.shore_model.specs.declared.log_records.Payload.TheVariants.{Change, Compensation, Commit, End, Prepare, RollbackDecided}
 use Rattle.shore_logrec.specs.declared.reading.Head.{Head}
 
 infixl 10 ◌>>=◌
@@ -87,6 +91,47 @@ compensation_of x = Some (Compensation x.0.0 x.0.1 x.1)
 unfoldable pub compensation_at : List ℕ → Option Payload
 compensation_at bytes = whole compensation_fields_at bytes >>= compensation_of
 
+-- a level and the ids of a granule, of which those below the level are 0
+abbrev pub granule_of : ℕ → Rid → Option Granule
+granule_of zero r = if (r.page.store == 0 && r.page.page == 0) && r.slot == 0 then Some Volume else None
+granule_of (suc zero) r = if r.page.page == 0 && r.slot == 0 then Some (Store r.page.store) else None
+granule_of (suc (suc zero)) r = if r.slot == 0 then Some (Page r.page) else None
+granule_of (suc (suc (suc zero))) r = Some (Record r)
+granule_of (suc (suc (suc (suc level)))) r = None
+
+unfoldable pub granule_at : Reader Granule
+granule_at bytes = do
+  x ← pair_at byte_at rid_at bytes
+  granule ← granule_of x.0.0 x.0.1
+  Some (granule, x.1)
+
+-- a length of one byte, from 1 to the most, and as many bytes
+unfoldable pub global_at : Reader (List ℕ)
+global_at bytes = do
+  len ← byte_at bytes
+  if (len.0 == 0 || nat_lt MAX_GLOBAL_ID_BYTES len.0) || nat_lt (length len.1) len.0 then None else Some (take len.0 len.1, drop len.0 len.1)
+
+-- whether a granule comes behind the last one, if there is one
+abbrev pub rises : Option Granule → Granule → Bool
+rises None g = true
+rises (Some last) g = is_lt (granule_cmp last g)
+
+-- so many granules, which rise behind the last one
+unfoldable pub granules_from : Option Granule → ℕ → Reader (List Granule)
+granules_from last zero bytes = Some ([], bytes)
+granules_from last (suc n) bytes = do
+  first ← granule_at bytes
+  behind ← if rises last first.0 then granules_from (Some first.0) n first.1 else None
+  Some (first.0 ∷ behind.0, behind.1)
+
+-- a global id, and the granules behind their count, which are all the rest
+unfoldable pub prepare_at : List ℕ → Option Payload
+prepare_at bytes = do
+  global ← global_at bytes
+  count ← number_at 4 global.1
+  granules ← if nat_lt MOST_MAX_LOCKS count.0 then None else whole (granules_from None count.0) count.1
+  Some (Prepare global.0 granules)
+
 -- a payload of no bytes
 abbrev pub empty_at : Payload → List ℕ → Option Payload
 empty_at payload bytes = if length bytes == 0 then Some payload else None
@@ -97,8 +142,10 @@ payload_at kind bytes =
     if kind == 1 then change_at bytes else (
     if kind == 2 then compensation_at bytes else (
     if kind == 3 then empty_at Commit bytes else (
-    if kind == 4 then empty_at End bytes else
-    None)))
+    if kind == 4 then empty_at End bytes else (
+    if kind == 5 then prepare_at bytes else (
+    if kind == 6 then empty_at RollbackDecided bytes else
+    None)))))
 
 abbrev pub head_of : (ℕ × ℕ) × ℕ → Head
 head_of n = record { kind = n.0.0; txn = n.0.1; previous = n.1 }

@@ -1,14 +1,16 @@
 -- The one text (encoding) of each log record.
 use Rattle.std.specs.Prelude.{ℕ, ◌+◌, ◌<◌, ◌≤◌, ◌^◌, ◌⊎◌, List, [], ◌∷◌, ◌++◌, length, replicate, Option, Some, None, IfSome, IsSome}
-use Rattle.std.specs.List.{flat_map}
+use Rattle.std.specs.List.{All, flat_map}
+use Rattle.std.specs.List.Sorted.{IsStrictlySortedBy}
 use Rattle.byteorder.specs.Endian.{little_bytes}
 use Rattle.shore_types.specs.declared.ids.Rid.{Rid}
 use Rattle.shore_types.specs.declared.locking.Granule.{Granule}
 use Rattle.shore_types.specs.declared.locking.Granule.TheVariants.{Volume, Store, Page, Record}
 use Rattle.shore_types.specs.declared.locking.Level.{Level}
 use Rattle.shore_types.specs.declared.locking.Level.TheVariants as level
-use Rattle.shore_types.specs.declared.layout.TheConstants.{ENDING_COST, MAX_RECORD_BYTES}
+use Rattle.shore_types.specs.declared.layout.TheConstants.{ENDING_COST, MAX_GLOBAL_ID_BYTES, MAX_RECORD_BYTES, MOST_MAX_LOCKS}
 use Rattle.shore_types.specs.Images.{Image}
+use Rattle.shore_types.specs.Locking.{granule_cmp, ids_of}
 use Rattle.shore_model.specs.declared.log_records.DirtyPage.{DirtyPage}
 use Rattle.shore_model.specs.declared.log_records.LogRecord.{LogRecord}
 use Rattle.shore_model.specs.declared.log_records.LogTxn.{LogTxn}
@@ -135,14 +137,25 @@ pub record CompensationFits (r : Rid) (after : Image) (undo_next : ℕ) : Type 0
   pub image : ImageFits after
   pub next : undo_next < 2 ^ 64
 
--- what is written and read: Change, Compensation, Commit and End as yet
+abbrev pub GranuleFits : Granule → Type 0
+GranuleFits g = RidFits (ids_of g)
+
+-- a global id of 1 to 64 bytes, and at most 4,096 granules, which rise
+pub record PrepareFits (global : List ℕ) (granules : List Granule) : Type 0 where
+  pub some : 1 ≤ length global
+  pub short : length global ≤ MAX_GLOBAL_ID_BYTES
+  pub few : length granules ≤ MOST_MAX_LOCKS
+  pub granules_fit : All GranuleFits granules
+  pub rising : IsStrictlySortedBy granule_cmp granules
+
+-- what is written and read: the kinds 1 to 6
 abbrev pub PayloadFits : Payload → Type 0
 PayloadFits (Change id before after) = ChangeFits id before after
 PayloadFits (Compensation id after undo_next) = CompensationFits id after undo_next
 PayloadFits Commit = Unit {0}
 PayloadFits End = Unit {0}
-PayloadFits (Prepare global granules) = ⊥
-PayloadFits RollbackDecided = ⊥
+PayloadFits (Prepare global granules) = PrepareFits global granules
+PayloadFits RollbackDecided = Unit {0}
 PayloadFits CheckpointBegin = ⊥
 PayloadFits (CheckpointEnd begin next txns dirty) = ⊥
 PayloadFits (Anchor checkpoint tail) = ⊥

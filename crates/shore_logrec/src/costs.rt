@@ -1,14 +1,15 @@
 //! What records take of the log's room, in bytes, by the lengths of their images.
-ghost use Rattle.std.specs.Prelude.{◌≡◌, ◌≤◌, ◌+◌, ℕ, length, option_map};
+ghost use Rattle.std.specs.Prelude.{◌≡◌, ◌≤◌, ◌+◌, ◌*◌, ℕ, List, length, option_map};
 ghost use Rattle.std.specs.Option.{ForSome};
 ghost use Rattle.shore_types.specs.declared.ids.Rid.{Rid};
-ghost use Rattle.shore_types.specs.declared.layout.TheConstants.{MAX_RECORD_BYTES};
+ghost use Rattle.shore_types.specs.declared.layout.TheConstants.{MAX_GLOBAL_ID_BYTES, MAX_RECORD_BYTES, MOST_MAX_LOCKS};
+ghost use Rattle.shore_types.specs.declared.locking.Granule.{Granule};
 ghost use Rattle.shore_types.specs.Images.{Image};
-ghost use Rattle.shore_model.specs.declared.log_records.Payload.TheVariants.{Change, Compensation};
+ghost use Rattle.shore_model.specs.declared.log_records.Payload.TheVariants.{Change, Compensation, Prepare};
 ghost use Rattle.shore_logrec.specs.Text as spec;
 ghost use Rattle.shore_logrec.specs.Text.{cost_of};
 
-use crate::lengths::{LSN_BYTES, RID_BYTES, image_text_len};
+use crate::lengths::{LSN_BYTES, RID_BYTES, image_text_len, prepare_text_len};
 use shore_types::layout::ENDING_COST;
 
 /// The cost of a Change whose images have these lengths, None for an absent one.
@@ -31,4 +32,16 @@ pub fn compensation_cost(image: Option<usize>) -> u64
     ensures cost { (id : Rid) (i : Image) (undo_next : ℕ) → option_map length i ≡ image → result ≡ cost_of (Compensation id i undo_next) }
 {
     ENDING_COST + (RID_BYTES + image_text_len(image) + LSN_BYTES) as u64
+}
+
+/// The cost of a Prepare with a global id of so many bytes and so many granules.
+#[tactic(auto, using(crate::proofs::TextLengths::lengths))]
+pub fn prepare_cost(global: usize, granules: usize) -> u64
+    requires global { global ≤ MAX_GLOBAL_ID_BYTES }
+    requires granules { granules ≤ MOST_MAX_LOCKS }
+    ensures sum { result ≡ 39 + global + 11 * granules }
+    ensures cost { (name : List ℕ) (gs : List Granule) → length name ≡ global → length gs ≡ granules
+        → result ≡ cost_of (Prepare name gs) }
+{
+    ENDING_COST + prepare_text_len(global, granules) as u64
 }

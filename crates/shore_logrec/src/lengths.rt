@@ -1,19 +1,21 @@
 //! How many bytes the texts of records and of their parts have.
-ghost use Rattle.std.specs.Prelude.{◌≡◌, ◌≤◌, ◌+◌, length};
+ghost use Rattle.std.specs.Prelude.{◌≡◌, ◌≤◌, ◌+◌, ◌*◌, length};
 ghost use Rattle.std.specs.Option.{ForSome};
-ghost use Rattle.shore_types.specs.declared.layout.TheConstants.{FRAME_SHARE, MAX_RECORD_BYTES};
+ghost use Rattle.shore_types.specs.declared.layout.TheConstants.{FRAME_SHARE, MAX_GLOBAL_ID_BYTES, MAX_RECORD_BYTES, MOST_MAX_LOCKS};
 ghost use Rattle.shore_logrec.specs.Text as spec;
 ghost use Rattle.shore_logrec.specs.Text.{Fits, PayloadFits, payload_text, text, cost_of};
 
 use shore_model::{LogRecord, Payload};
 use shore_types::images;
 
-/// The longest text of the kinds that are served, that of a Change whose images are both as long as may be.
-pub const MAX_TEXT_BYTES: usize = 8037;
+/// The longest text of the kinds that are served, that of a Prepare with a global id and a list of granules that are as long as may be.
+pub const MAX_TEXT_BYTES: usize = 45_146;
 /// The bytes of a head.
 pub(crate) const HEAD_BYTES: usize = 21;
 /// The bytes of a record id.
 pub(crate) const RID_BYTES: usize = 10;
+/// The bytes of a granule: its level and its ids.
+pub(crate) const GRANULE_BYTES: usize = 11;
 /// The bytes of the number of a record.
 pub(crate) const LSN_BYTES: usize = 8;
 
@@ -29,11 +31,21 @@ pub(crate) fn image_text_len(length: Option<usize>) -> usize
     }
 }
 
+// The bytes of a Prepare's payload, by the length of its global id and the number of its granules.
+pub(crate) fn prepare_text_len(global: usize, granules: usize) -> usize
+    requires global { global ≤ MAX_GLOBAL_ID_BYTES }
+    requires granules { granules ≤ MOST_MAX_LOCKS }
+    ensures len { result ≡ 5 + global + 11 * granules }
+    ensures most { result ≤ 45125 }
+{
+    1 + global + 4 + GRANULE_BYTES * granules
+}
+
 #[tactic(auto, using(crate::proofs::TextLengths::lengths))]
 pub(crate) fn payload_len(payload: &Payload) -> usize
     requires { PayloadFits payload.now }
     ensures len { result ≡ length (payload_text payload.now) }
-    ensures most { result ≤ 8016 }
+    ensures most { result ≤ 45125 }
 {
     match payload {
         Payload::Change { before, after, .. } => {
@@ -44,9 +56,11 @@ pub(crate) fn payload_len(payload: &Payload) -> usize
         Payload::Compensation { after, .. } => {
             RID_BYTES + image_text_len(images::len_of(after)) + LSN_BYTES
         }
+        Payload::Prepare { global, granules } => {
+            prepare_text_len(global.as_slice().len(), granules.as_slice().len())
+        }
         Payload::Commit
         | Payload::End
-        | Payload::Prepare { .. }
         | Payload::RollbackDecided
         | Payload::CheckpointBegin
         | Payload::CheckpointEnd { .. }

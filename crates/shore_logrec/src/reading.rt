@@ -1,13 +1,15 @@
 //! Records from their texts.
-ghost use Rattle.std.specs.Prelude.{◌≡◌, ◌≤◌, ◌++◌, List, ℕ, length, take, option_map, IfOk, IfSome, IsSomeAnd};
+ghost use Rattle.std.specs.Prelude.{◌≡◌, ◌≤◌, ◌*◌, ◌++◌, List, ℕ, length, take, option_map, IfOk, IfSome, IsSomeAnd};
 ghost use Rattle.shore_model.specs.declared.log_records.LogRecord.{LogRecord};
 ghost use Rattle.shore_logrec.specs.Text.{Fits, text};
 ghost use Rattle.shore_logrec.specs.Reading as spec;
 
+use crate::lengths::GRANULE_BYTES;
 use byteorder::{ByteOrder, LittleEndian};
 use shore_model::{LogRecord, Payload};
-use shore_types::layout::MAX_RECORD_BYTES;
-use shore_types::{Lsn, PageId, Rid, Sequence, StoreId, TxnId, images};
+use shore_types::images::copied;
+use shore_types::layout::{MAX_GLOBAL_ID_BYTES, MAX_RECORD_BYTES, MOST_MAX_LOCKS};
+use shore_types::{Granule, Lsn, PageId, Rid, Sequence, StoreId, TxnId, images};
 use std::alloc::{AllocError, Global};
 
 // Two bytes as a number, and the bytes behind them; None if there are fewer.
@@ -167,6 +169,106 @@ fn read_compensation(alloc: Global, bytes: &[u8]) -> Result<Option<Payload>, All
     }))
 }
 
+// The granule of a level with these ids, of which those below the level are 0.
+fn granule_of(level: u8, ids: Rid) -> Option<Granule>
+    ensures { result ≡ spec.granule_of level ids }
+{
+    let Rid { page, slot } = ids;
+    let PageId { store, page } = page;
+    match level {
+        0 if store.0 == 0 && page == 0 && slot == 0 => Some(Granule::Volume),
+        1 if page == 0 && slot == 0 => Some(Granule::Store(store)),
+        2 if slot == 0 => Some(Granule::Page(PageId { store, page })),
+        3 => {
+            let page = PageId { store, page };
+            Some(Granule::Record(Rid { page, slot }))
+        }
+        _ => None,
+    }
+}
+
+#[tactic(auto, unfolding(crate::specs::Reading::granule_at))]
+fn granule_at(bytes: &[u8]) -> Option<(Granule, &[u8])>
+    ensures { option_map (λ x. (x.0, x.1.now)) result ≡ spec.granule_at bytes.now }
+{
+    let (level, rest) = bytes.split_first()?;
+    let Some((ids, rest)) = rid_at(rest) else {
+        return None;
+    };
+    let granule = granule_of(*level, ids)?;
+    Some((granule, rest))
+}
+
+// A global id: its length, and as many bytes, neither too few nor too many.
+#[tactic(auto, unfolding(crate::specs::Reading::global_at))]
+fn global_at(bytes: &[u8]) -> Option<(&[u8], &[u8])>
+    ensures { option_map (λ x. (x.0.now, x.1.now)) result ≡ spec.global_at bytes.now }
+{
+    let (len, rest) = bytes.split_first()?;
+    let len = *len as usize;
+    if len == 0 || len > MAX_GLOBAL_ID_BYTES {
+        return None;
+    }
+    rest.split_at_checked(len)
+}
+
+// Whether a granule comes behind the last one, if there is one.
+fn rises(last: Option<Granule>, granule: &Granule) -> bool
+    ensures { result ≡ spec.rises last granule.now }
+{
+    match last {
+        Some(last) => last < *granule,
+        None => true,
+    }
+}
+
+// So many granules, rising, which are all of the bytes.
+fn read_granules(
+    alloc: Global,
+    bytes: &[u8],
+    count: usize,
+) -> Result<Option<Sequence<Granule>>, AllocError>
+    requires { length bytes.now ≡ 11 * count }
+    ensures { IfOk result (λ found. found ≡ spec.whole (spec.granules_from None count) bytes.now) }
+{
+    let mut granules = Sequence::new(alloc);
+    let mut rest = bytes;
+    let mut last = None;
+    for _ in 0..count {
+        let Some((granule, behind)) = granule_at(rest) else {
+            return Ok(None);
+        };
+        if !rises(last, &granule) {
+            return Ok(None);
+        }
+        granules.push(granule)?;
+        last = Some(granule);
+        rest = behind;
+    }
+    Ok(Some(granules))
+}
+
+#[tactic(auto, unfolding(crate::specs::Reading::prepare_at))]
+fn read_prepare(alloc: Global, bytes: &[u8]) -> Result<Option<Payload>, AllocError>
+    ensures { IfOk result (λ found. found ≡ spec.prepare_at bytes.now) }
+{
+    let Some((global, rest)) = global_at(bytes) else {
+        return Ok(None);
+    };
+    let Some((count, rest)) = u32_at(rest) else {
+        return Ok(None);
+    };
+    let count = count as usize;
+    if count > MOST_MAX_LOCKS as usize || rest.len() != GRANULE_BYTES * count {
+        return Ok(None);
+    }
+    let Some(granules) = read_granules(alloc, rest, count)? else {
+        return Ok(None);
+    };
+    let global = copied(alloc, global)?;
+    Ok(Some(Payload::Prepare { global, granules }))
+}
+
 #[tactic(auto, unfolding(crate::specs::Reading::payload_at))]
 fn read_payload(alloc: Global, kind: u8, bytes: &[u8]) -> Result<Option<Payload>, AllocError>
     ensures { IfOk result (λ found. found ≡ spec.payload_at kind bytes.now) }
@@ -176,6 +278,8 @@ fn read_payload(alloc: Global, kind: u8, bytes: &[u8]) -> Result<Option<Payload>
         2 => read_compensation(alloc, bytes),
         3 if bytes.is_empty() => Ok(Some(Payload::Commit)),
         4 if bytes.is_empty() => Ok(Some(Payload::End)),
+        5 => read_prepare(alloc, bytes),
+        6 if bytes.is_empty() => Ok(Some(Payload::RollbackDecided)),
         _ => Ok(None),
     }
 }
@@ -203,7 +307,7 @@ fn read_record(alloc: Global, bytes: &[u8]) -> Result<Option<(LogRecord, &[u8])>
 }
 
 /// The record that some front of the bytes is the text of, and how many bytes that front has; None where no front is a
-/// record's text. It takes memory for the record's images alone.
+/// record's text. It takes memory for what the record owns alone.
 pub fn decode(alloc: Global, bytes: &[u8]) -> Result<Option<(LogRecord, usize)>, AllocError>
     // What is found is the text of a front.
     ensures found { IfOk result (λ found. IfSome found (λ x.

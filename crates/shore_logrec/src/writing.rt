@@ -1,14 +1,14 @@
 //! Texts from their records.
-ghost use Rattle.std.specs.Prelude.{◌≡◌, ◌++◌, length, OnOk, OnErr};
+ghost use Rattle.std.specs.Prelude.{◌≡◌, ◌++◌, All, length, OnOk, OnErr};
 ghost use Rattle.byteorder.specs.Endian.{little_bytes};
-ghost use Rattle.shore_logrec.specs.Text.{Fits, ImageFits, ChangeFits, CompensationFits, PayloadFits, kind_of};
-ghost use Rattle.shore_logrec.specs.Text.{rid_text, image_text, change_text, compensation_text, payload_text, head_text, text};
+ghost use Rattle.shore_logrec.specs.Text.{Fits, GranuleFits, ImageFits, ChangeFits, CompensationFits, PrepareFits, PayloadFits, kind_of};
+ghost use Rattle.shore_logrec.specs.Text.{granule_text, prepare_text, rid_text, image_text, change_text, compensation_text, payload_text, head_text, text};
 ghost use Rattle.shore_logrec.specs.Room.{HasRoom, Puts};
 
 use crate::lengths::{encoded_len, payload_len};
 use byteorder::{ByteOrder, LittleEndian};
 use shore_model::{LogRecord, Payload};
-use shore_types::{Bytes, Lsn, Rid};
+use shore_types::{Bytes, GlobalId, Granule, Lsn, Rid};
 use std::alloc::AllocError;
 
 // Puts the bytes into room that is there.
@@ -95,6 +95,39 @@ fn put_compensation(out: &mut Vec<u8>, id: Rid, after: &Option<Bytes>, undo_next
     put_u64(out, undo_next.0);
 }
 
+// A level is its depth, and the ids below it are 0.
+#[tactic(auto, using(crate::proofs::TextLengths::lengths))]
+fn put_granule(out: &mut Vec<u8>, granule: &Granule)
+    requires { HasRoom out.old 11 }
+    ensures { Puts out.old out.new (granule_text granule.now) }
+{
+    put(out, &[granule.depth()]);
+    put_rid(out, granule.ids());
+}
+
+/// Granules have ids that fit their texts. Each of them shows it, and a list of them does not, so they are read one by one.
+pub fn granules_fit(granules: &[Granule])
+    ensures { All GranuleFits granules.now }
+{
+    for granule in granules {
+        let _ids = granule.ids();
+    }
+}
+
+#[tactic(auto, using(crate::proofs::TextLengths::lengths), unfolding(crate::specs::Text::string_text))]
+fn put_prepare(out: &mut Vec<u8>, global: &GlobalId, granules: &[Granule])
+    requires fits { PrepareFits global.now granules.now }
+    requires room { HasRoom out.old (length (prepare_text global.now granules.now)) }
+    ensures { Puts out.old out.new (prepare_text global.now granules.now) }
+{
+    put(out, &[global.as_slice().len() as u8]);
+    put(out, global.as_slice());
+    put_u32(out, granules.len() as u32);
+    for granule in granules {
+        put_granule(out, granule);
+    }
+}
+
 #[tactic(auto, using(crate::proofs::TextLengths::lengths))]
 fn put_payload(out: &mut Vec<u8>, payload: &Payload)
     requires fits { PayloadFits payload.now }
@@ -108,9 +141,9 @@ fn put_payload(out: &mut Vec<u8>, payload: &Payload)
             after,
             undo_next,
         } => put_compensation(out, *id, after, *undo_next),
+        Payload::Prepare { global, granules } => put_prepare(out, global, granules.as_slice()),
         Payload::Commit
         | Payload::End
-        | Payload::Prepare { .. }
         | Payload::RollbackDecided
         | Payload::CheckpointBegin
         | Payload::CheckpointEnd { .. }
