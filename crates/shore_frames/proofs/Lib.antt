@@ -1,4 +1,5 @@
 pub mod FrameLemmas
+pub mod TextTests
 pub mod LoggedLemmas
 pub mod ReadLemmas
 pub mod OffsetLemmas

@@ -1,121 +1,18 @@
 -- Lists of records that are logged.
-use Rattle.std.proofs.Common.{◌≡◌, ◌<◌, ◌≤◌, ◌+◌, ◌^◌, ◌⊎◌, inl, inr, ℕ, List, [], ◌∷◌, ◌++◌, Some, None, IsTrue, Bool, true, false, ◌&&◌, ◌||◌, length, refl, subst, sym, ◌∙◌, ap, take-add, get_or, append_assoc, length-append, Result, Ok, Err, arith, zero, suc, add-zero}
+use Rattle.std.proofs.Common.{◌≡◌, ◌<◌, ◌≤◌, ◌+◌, inl, inr, ℕ, List, [], ◌∷◌, ◌++◌, IsTrue, Bool, true, false, length, refl, subst, sym, ◌∙◌, ap, take-add, get_or, append_assoc, length-append, Result, Ok, Err, arith, zero, suc, add-zero}
 use Rattle.std.proofs.lemmas.List.{append-nil, take_more, length-take-le}
 use Rattle.std.proofs.lemmas.List.Elements.{All-nil, All-cons, All-head, All-take}
 use Rattle.shore_frames.specs.Frames.{AreNumbered, IsLongest, IsGroup}
-use Rattle.std.specs.Prelude.{IsSome, is_some, nat_lt, nat_le, All, take, drop, OnOk, OnErr, if◌then◌else◌}
+use Rattle.std.specs.Prelude.{All, take, drop, OnOk, OnErr, if◌then◌else◌}
 use Rattle.std.proofs.lemmas.Bool.{cases_lt}
-use Rattle.std.proofs.lemmas.Bool.Decides.{nat_tests}
 use Rattle.shore_types.specs.declared.layout.TheConstants.{MAX_FRAME_BYTES}
-use Rattle.shore_types.specs.declared.ids.Rid.{Rid}
-use Rattle.shore_types.specs.Images.{Image}
 use Rattle.shore_model.specs.declared.log_records.LogRecord.{LogRecord}
-use Rattle.shore_model.specs.declared.log_records.Payload.{Payload}
-use Rattle.shore_model.specs.declared.log_records.Payload.TheVariants.{Change, Compensation, Commit, End, Prepare, RollbackDecided, CheckpointBegin, CheckpointEnd, Anchor}
-use Rattle.shore_logrec.specs.Text.{text, texts, Fits, RidFits, ImageFits, PayloadFits}
+use Rattle.shore_logrec.specs.Text.{text, texts, Fits}
 use Rattle.shore_logrec.proofs.TextLengths.{length-text}
 use Rattle.shore_logrec.proofs.Records.{length-payload_text-le}
-use Rattle.shore_frames.specs.LoggedRecords.{are_numbered, has_text, payload_has_text, id_is_short, image_is_short}
-
-both : (a b : Bool) → IsTrue a → IsTrue b → IsTrue (a && b)
-both true true ha hb = refl
-both true false ha hb = hb
-both false b ha hb = ha
-
-lt_test : (a b : ℕ) → a < b → IsTrue (nat_lt a b)
-lt_test a b h = grind (arith, nat_tests)
-
-test_lt : (a b : ℕ) → IsTrue (nat_lt a b) → a < b
-test_lt a b h = grind (arith, nat_tests)
-
-le_test : (a b : ℕ) → a ≤ b → IsTrue (nat_le a b)
-le_test a b h = grind (arith, nat_tests)
-
-pub first : (a b : Bool) → IsTrue (a && b) → IsTrue a
-first true b h = refl
-first false b h = h
-
-pub second : (a b : Bool) → IsTrue (a && b) → IsTrue b
-second true b h = h
-second false b h = absurd cc
-
-one : (before after : Image) → IsSome before ⊎ IsSome after → IsTrue (is_some before || is_some after)
-one (Some b) after h = refl
-one None (Some a) h = refl
-one None None (inl h) = absurd cc
-one None None (inr h) = absurd cc
-
-either : (before after : Image) → IsTrue (is_some before || is_some after) → IsSome before ⊎ IsSome after
-either (Some b) after h = inl refl
-either None (Some a) h = inr refl
-either None None h = absurd cc
-
-image_short : (image : Image) → ImageFits image → IsTrue (image_is_short image)
-image_short None fits = refl
-image_short (Some bytes) fits = grind (arith, nat_tests)
-
-image_fits : (image : Image) → IsTrue (image_is_short image) → ImageFits image
-image_fits None short = tt
-image_fits (Some bytes) short = grind (arith, nat_tests)
-
-id_short : (id : Rid) → RidFits id → IsTrue (id_is_short id)
-id_short id fits = both _ _ (both _ _ (lt_test _ _ fits.store) (lt_test _ _ fits.page)) (lt_test _ _ fits.slot)
-
-id_fits : (id : Rid) → IsTrue (id_is_short id) → RidFits id
-id_fits id short =
-    let a = first _ _ short in
-    let store : IsTrue (nat_lt id.page.store (2 ^ 32)) = first _ _ a in
-    let page : IsTrue (nat_lt id.page.page (2 ^ 32)) = second _ _ a in
-    let slot : IsTrue (nat_lt id.slot (2 ^ 16)) = second _ _ short in
-    record { store = grind (arith, nat_tests, store); page = grind (arith, nat_tests, page); slot = grind (arith, nat_tests, slot) }
-
-payload_text : (p : Payload) → PayloadFits p → IsTrue (payload_has_text p)
-payload_text (Change id before after) fits =
-    both _ _ (both _ _ (both _ _ (id_short id fits.rid) (image_short before fits.old)) (image_short after fits.new)) (one before after fits.some)
-payload_text (Compensation id after undo_next) fits =
-    both _ _ (both _ _ (id_short id fits.rid) (image_short after fits.image)) (lt_test _ _ fits.next)
-payload_text Commit fits = refl
-payload_text End fits = refl
-payload_text (Prepare global granules) fits = absurd fits
-payload_text RollbackDecided fits = absurd fits
-payload_text CheckpointBegin fits = absurd fits
-payload_text (CheckpointEnd begin next txns dirty) fits = absurd fits
-payload_text (Anchor checkpoint tail) fits = absurd fits
-
-payload_fits : (p : Payload) → IsTrue (payload_has_text p) → PayloadFits p
-payload_fits (Change id before after) h =
-    let a = first _ _ h in
-    let b = first _ _ a in
-    record { rid = id_fits id (first _ _ b); old = image_fits before (second _ _ b); new = image_fits after (second _ _ a); some = either before after (second _ _ h) }
-payload_fits (Compensation id after undo_next) h =
-    let a = first _ _ h in
-    record { rid = id_fits id (first _ _ a); image = image_fits after (second _ _ a); next = test_lt _ _ (second _ _ h) }
-payload_fits Commit h = tt
-payload_fits End h = tt
-payload_fits (Prepare global granules) h = absurd cc
-payload_fits RollbackDecided h = absurd cc
-payload_fits CheckpointBegin h = absurd cc
-payload_fits (CheckpointEnd begin next txns dirty) h = absurd cc
-payload_fits (Anchor checkpoint tail) h = absurd cc
-
--- what fits has a text, as a test tells
-pub has_text-fits : (r : LogRecord) → Fits r → IsTrue (has_text r)
-has_text-fits r fits =
-    both _ _ (both _ _ (both _ _ (le_test _ _ fits.some) (lt_test _ _ fits.txn_fits)) (lt_test _ _ fits.previous_fits)) (payload_text r.payload fits.payload_fits)
-
-pub Fits-has_text : (r : LogRecord) → IsTrue (has_text r) → Fits r
-Fits-has_text r h =
-    let a = first _ _ h in
-    let b = first _ _ a in
-    let some : IsTrue (nat_le 1 r.txn) = first _ _ b in
-    let txn : IsTrue (nat_lt r.txn (2 ^ 64)) = second _ _ b in
-    let previous : IsTrue (nat_lt r.previous (2 ^ 64)) = second _ _ a in
-    record {
-      some = grind (arith, nat_tests, some);
-      txn_fits = grind (arith, nat_tests, txn);
-      previous_fits = grind (arith, nat_tests, previous);
-      payload_fits = payload_fits r.payload (second _ _ h);
-    }
+use Rattle.shore_logrec.specs.declared.lengths.TheConstants.{MAX_TEXT_BYTES}
+use Rattle.shore_frames.specs.LoggedRecords.{are_numbered}
+use Rattle.shore_frames.proofs.TextTests.{both, Fits-has_text, first, has_text-fits, lt_test, second, test_lt}
 
 -- the test says what the definition says
 pub AreNumbered-test : (n : ℕ) (rs : List LogRecord) → IsTrue (are_numbered n rs) → AreNumbered n rs
@@ -176,7 +73,7 @@ texts-more rs i r within is =
 pub length-texts-more : (rs : List LogRecord) (i : ℕ) (r : LogRecord) → i < length rs → r ≡ get_or rs i r → length (texts (take (i + 1) rs)) ≡ length (texts (take i rs)) + length (text r)
 length-texts-more rs i r within is = ap length (texts-more rs i r within is) ∙ length-append (texts (take i rs)) (text r)
 
-length-text-most : (r : LogRecord) → Fits r → length (text r) ≤ 8037
+length-text-most : (r : LogRecord) → Fits r → length (text r) ≤ MAX_TEXT_BYTES
 length-text-most r fits = omega (arith, length-text r, length-payload_text-le r.payload fits.payload_fits)
 
 -- where not one record fits a frame there is none
