@@ -2,6 +2,8 @@ mod Alone
 pub mod AtOnce
 pub mod Answered
 pub mod Buckets
+pub mod ExclusiveKeys
+pub mod Exclusives
 mod Firsts
 mod Lasts
 pub mod LawLemmas

@@ -1,6 +1,8 @@
 //! The lock table.
-ghost use Rattle.std.specs.Prelude.{◌≡◌, ◌≤◌, ◌+◌, [], filter, length, IfOk, IsFalse, false};
-ghost use Rattle.std.specs.List.Sorted.{IsPermutation, IsSorted};
+ghost use Rattle.std.specs.Prelude.{◌≡◌, ◌↔◌, ◌≤◌, ◌+◌, [], filter, length, Contains, IfOk, IsFalse, false};
+ghost use Rattle.std.specs.List.Sorted.{IsPermutation, IsSorted, IsStrictlySortedBy};
+ghost use Rattle.shore_types.specs.Locking.{granule_cmp};
+ghost use Rattle.shore_types.specs.declared.locking.Granule.{Granule};
 ghost use Rattle.shore_model.specs.declared.requests.Group.TheVariants.{Conversions};
 ghost use Rattle.shore_model.specs.Requests.{is_in_group, requests_at, requests_by};
 ghost use Rattle.shore_locks.specs.Grants.{after_request, after_try, answer_to, answer_to_try, cancelled, in_the_way, released};
@@ -11,11 +13,11 @@ ghost use Rattle.shore_nodes.specs.Orderly.{IsOrderly};
 use crate::answers::{Requested, Tried};
 use crate::counted::Counted;
 use crate::findings::{Finding, check_request};
-use crate::listings::put_in_order;
+use crate::listings::{append_exclusive, put_in_order};
 use crate::queues::{Holders, Waiters};
 use crate::{changes, findings, searches};
 use shore_model::Request;
-use shore_types::{Granule, Mode, TxnId};
+use shore_types::{Granule, Mode, Sequence, TxnId};
 use std::alloc::{AllocError, Global};
 use std::marker::Model;
 
@@ -205,6 +207,17 @@ impl LockTable {
         let mut requests = self.nodes.all(alloc)?;
         put_in_order(&mut requests);
         Ok(requests)
+    }
+
+    /// The granules that a transaction holds in EX, each once, rising.
+    pub fn exclusive(&self, alloc: Global, txn: TxnId) -> Result<Sequence<Granule>, AllocError>
+        ensures held { IfOk result (λ granules. (g : Granule) → Contains granules g ↔ (mode_held txn g self.now.requests ≡ Some Mode.EX)) }
+        ensures order { IfOk result (λ granules. IsStrictlySortedBy granule_cmp granules) }
+    {
+        let mut granules = Vec::new(alloc);
+        append_exclusive(&mut granules, self.nodes.nodes().list(txn), txn)?;
+        granules.sort_unstable();
+        Ok(Sequence::from_vec(granules))
     }
 
     /// A transaction waits no more: what it waited for is given up, and what it holds stays. Those behind it may be granted.
