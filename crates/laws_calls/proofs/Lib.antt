@@ -29,6 +29,7 @@ pub mod Midway
 pub mod OneBehind
 pub mod OneSessionStep
 pub mod Outside
+pub mod OwnCycles
 pub mod Passing
 pub mod PlainReads
 pub mod Prefixes

@@ -8,25 +8,34 @@ use Rattle.shore_model.specs.declared.calls.Call.{Call}
 use Rattle.shore_model.specs.declared.histories.Entry.{Entry}
 use Rattle.shore_model.specs.declared.histories.Opening.{Opening}
 use Rattle.shore_model.specs.declared.log_records.LogRecord.{LogRecord}
+use Rattle.shore_cycles.specs.Cycles.{IsSimpleCycleFrom, IsVictim}
 use Rattle.shore_cycles.specs.declared.victims.Victim.{Victim}
 use Rattle.laws_lives.specs.Sessions.{SessionTxn}
 use Rattle.laws_lives.specs.Views.{IsAmong}
 use Rattle.shore_model.specs.declared.step.Step.TheVariants.{Waits}
 use Rattle.shore_model.specs.declared.step.Wait.TheVariants.{Lock}
 use Rattle.laws_calls.proofs.Midway.{IsPaused, intervene_on, kept_midway, paused_at_first}
-use Rattle.laws_calls.proofs.Sessions.{one_txn}
 use Rattle.laws_calls.proofs.SettledStates.{resume_comes}
 use Rattle.laws_calls.proofs.SettledWaits.{IsSpared, call_waits_at}
 use Rattle.laws_calls.proofs.ToldCycles.{is_as_it_was, is_to_tell, was_waiting}
 use Rattle.laws_calls.specs.CallHistories.{txn_of}
 use Rattle.laws_calls.specs.Events.{IsStateAfter}
 use Rattle.laws_calls.specs.Midway.{Interlude, Intervene, Intervenes, IsItsCycle, IsMidway, Takes, WaitsAnew}
-use Rattle.laws_calls.specs.States.{IsOfSession, State, Waiting}
+use Rattle.laws_calls.specs.States.{HasSeat, IsOfSession, State, Waiting}
 use Rattle.laws_calls.specs.Victims.{TakesVictim}
 use Rattle.laws_calls.proofs.VictimSteps.{victim_seat}
 
 pub same_cycle : (x y : List ℕ) → Some x ≡ Some y → x ≡ y
 same_cycle x y e = cc
+
+-- a victim's cycle is its session's
+pub of_victim : (x : State) (b : SessionTxn) (v : Victim) → HasSeat x.sessions b → b.txn ≡ v.txn → {t : ℕ} → IsVictim x.locks.requests t v → (session : ℕ) → b.session ≡ session → IsItsCycle x session v.cycle
+of_victim x b v seat number h session of = record {
+  txn = b;
+  of = (seat, of);
+  stands = subst (λ t. IsSimpleCycleFrom x.locks.requests t v.cycle) (sym number) h.stands;
+  greatest = subst (λ t. All (λ u. u ≤ t) v.cycle) (sym number) h.greatest;
+}
 
 -- each cycle that the session is to be told is known
 abbrev pub AreKnown : ℕ → (List ℕ → Type 0) → State → Type 0
@@ -50,8 +59,7 @@ module _ (g : Geometry) (o : Opening) (found : List LogRecord) (es : List Entry)
   -- whose victim is of the session is told a cycle that passes its transaction
   its_cycle : (x new : State) → IsPaused g o found es session n c x → (a : SessionTxn) → IsOfSession x session a → (v : Victim) (h : TakesVictim x a.txn v new) → h.txn.session ≡ session → IsItsCycle x session v.cycle
   its_cycle x new p a of v h own =
-      let same : v.txn ≡ a.txn = sym h.number ∙ one_txn x.sessions h.txn a (victim_seat o found es x p.stays a.txn v new h).1 of.0.1 (own ∙ sym of.1) in
-      record { txn = a; of = (of.0.0, of.1); closed = h.victim.stands.closed; passes = h.victim.passes; greatest = subst (λ t. All (λ u. u ≤ t) v.cycle) same h.victim.greatest }
+      of_victim x h.txn v (victim_seat o found es x p.stays a.txn v new h) h.number h.victim session own
 
   known_next : (x new : State) (e : Interlude) → IsPaused g o found es session n c x → So x → Intervenes g session x e new → So new
   known_next x new (WaitsAnew at) p so h =

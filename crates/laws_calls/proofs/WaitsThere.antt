@@ -62,10 +62,10 @@ use Rattle.laws_calls.proofs.Outside.{outside_same}
 abbrev pub WasUnderWay : State → SessionTxn → Type 0
 WasUnderWay s b = (a : SessionTxn) × IsOfSession s b.session a × (a.txn ≡ b.txn)
 
-was_it : (s : State) (b : SessionTxn) → HasSeat s.sessions b → WasUnderWay s b
+pub was_it : (s : State) (b : SessionTxn) → HasSeat s.sessions b → WasUnderWay s b
 was_it s b m = (b, (m, refl), refl)
 
-was_with : (s : State) (t : ℕ) (undo : UndoList) (b : SessionTxn) → HasSeat (record s.sessions { active = with_undo t undo s.sessions.active }) b → WasUnderWay s b
+pub was_with : (s : State) (t : ℕ) (undo : UndoList) (b : SessionTxn) → HasSeat (record s.sessions { active = with_undo t undo s.sessions.active }) b → WasUnderWay s b
 was_with s t undo b m =
     let w = among_with t undo b s.sessions.active m.0 in
     (w.was, ((w.there, ap s.sessions.seats (sym w.session) ∙ m.1 ∙ ap in_txn w.txn, subst (λ t. 0 < t) w.txn m.2), sym w.session), sym w.txn)
@@ -78,10 +78,10 @@ was_beside : (s : State) (session : ℕ) (seat : SessionState) (b : SessionTxn) 
 was_beside s session seat b apart m = (m.0, sym (other_seat s.sessions.seats session b.session seat apart) ∙ m.1, m.2)
 
 -- as the new state has them
-was_in : (s new l : State) (b : SessionTxn) → new ≡ l → (HasSeat l.sessions b → WasUnderWay s b) → HasSeat new.sessions b → WasUnderWay s b
+pub was_in : (s new l : State) (b : SessionTxn) → new ≡ l → (HasSeat l.sessions b → WasUnderWay s b) → HasSeat new.sessions b → WasUnderWay s b
 was_in s new l b is by m = by (subst (λ (x : State). HasSeat x.sessions b) is m)
 
-abbrev AllWereUnderWay : State → State → Type 0
+abbrev pub AllWereUnderWay : State → State → Type 0
 AllWereUnderWay s new = (b : SessionTxn) → HasSeat new.sessions b → WasUnderWay s b
 
 refused_sessions : (f : Fault) (s : State) → (after_refusal f s).sessions ≡ s.sessions
@@ -169,7 +169,7 @@ module _ (g : Geometry) (s new : State) (session : ℕ) where
   inner_were a of c step (inr (inr (inl h))) b m other = back_were a h.0 step h.3 b m
   inner_were a of c step (inr (inr (inr h))) b m other = abort_were a of step h.1 b m other
 
-  call_were : (c : Call) (step : Step) → CallStep g s session c step new → OthersWereUnderWay
+  pub call_were : (c : Call) (step : Step) → CallStep g s session c step new → OthersWereUnderWay
   call_were c step (inl h) b m other = was_in s new s b h.1 (was_it s b) m
   call_were c step (inr (inl h)) b m other = was_in s new s b h.2 (was_it s b) m
   call_were c step (inr (inr (inl h))) b m other = was_in s new s b h.3 (was_it s b) m
@@ -414,6 +414,17 @@ module _ (g : Geometry) (o : Opening) (found : List LogRecord) (es : List Entry)
 still_waited : (s : State) (n : ℕ) (w : Waiting) → IsAmong w (without_waiting n s.waiting) → (v : Waiting) × IsAmong v s.waiting × (v.session ≡ w.session) × (v.wait ≡ w.wait) × (v.call ≡ w.call)
 still_waited s n w m = (w, (waits_on n w s.waiting m).0, refl, refl, refl)
 
+-- who is its session's once a commit is answered was so
+pub freed_were : (s : State) (a b : SessionTxn) → HasSeat (record s.sessions { seats = λ n. cond (a.session == n) free (s.sessions.seats n) }) b → WasUnderWay s b
+freed_were s a b m = was_it s b (was_beside s a.session free b other m)
+  where
+    other : a.session ≢ b.session
+    other same =
+        let above = m.2 in
+        let here : cond (a.session == b.session) free (s.sessions.seats b.session) ≡ free = ap (λ c. cond c free (s.sessions.seats b.session)) (eq-eqb a.session b.session same) in
+        let none : b.txn ≡ 0 = ap (λ (p : SessionState). p.txn) (sym m.1 ∙ here) in
+        omega arith
+
 module _ (g : Geometry) (o : Opening) (found : List LogRecord) (es : List Entry) (s : State) (k : IsStateAfter o found es s) (session : ℕ) (step : Step) (new : State) (resumes : ResumeStep g s session step new)
     (was : AllWaitThere s) where
   same_there : new ≡ s → AllWaitThere new
@@ -421,17 +432,6 @@ module _ (g : Geometry) (o : Opening) (found : List LogRecord) (es : List Entry)
 
   woken_there : (n : ℕ) → AllWaitThere (wait_refused s n)
   woken_there n = all_there s (wait_refused s n) k.sessions.locks.orderly (still_waited s n) (was_it s) (λ r there wants. there) was
-
-  -- who is its session's once a commit is answered was so
-  freed_were : (a b : SessionTxn) → HasSeat (record s.sessions { seats = λ n. cond (a.session == n) free (s.sessions.seats n) }) b → WasUnderWay s b
-  freed_were a b m = was_it s b (was_beside s a.session free b other m)
-    where
-      other : a.session ≢ b.session
-      other same =
-          let above = m.2 in
-          let here : cond (a.session == b.session) free (s.sessions.seats b.session) ≡ free = ap (λ c. cond c free (s.sessions.seats b.session)) (eq-eqb a.session b.session same) in
-          let none : b.txn ≡ 0 = ap (λ (p : SessionState). p.txn) (sym m.1 ∙ here) in
-          omega arith
 
   prepared_there : (w : Waiting) (t : ℕ) (global : List ℕ) → AllWaitThere (prepare_ended s w.session t global)
   prepared_there w t global =
@@ -441,7 +441,7 @@ module _ (g : Geometry) (o : Opening) (found : List LogRecord) (es : List Entry)
   wait_there : (w : Waiting) → w.session ≡ session → (wait : Wait) → ResumesWait g s w wait step new → AllWaitThere new
   wait_there w of (Durable n) (inl h) = same_there h.2
   wait_there w of (Durable n) (inr (inl h)) = subst AllWaitThere (sym h.2.3)
-      (all_there s (commit_ended s h.2.0) k.sessions.locks.orderly (still_waited s h.2.0.session) (freed_were h.2.0) (released_none h.2.0.txn s.locks.requests k.sessions.locks.orderly.one_each) was)
+      (all_there s (commit_ended s h.2.0) k.sessions.locks.orderly (still_waited s h.2.0.session) (freed_were s h.2.0) (released_none h.2.0.txn s.locks.requests k.sessions.locks.orderly.one_each) was)
   wait_there w of (Durable n) (inr (inr h)) = subst AllWaitThere (sym h.2.4) (prepared_there w h.2.0 h.2.1)
   wait_there w of (Lock at) h = ⊎_elim
       (λ still. same_there still.2)

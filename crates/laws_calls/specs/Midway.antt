@@ -4,8 +4,8 @@ use Rattle.shore_types.specs.declared.layout.Geometry.{Geometry}
 use Rattle.shore_types.specs.declared.locking.Granule.{Granule}
 use Rattle.shore_model.specs.declared.calls.Call.{Call}
 use Rattle.shore_model.specs.declared.requests.Request.{Request}
-use Rattle.shore_model.specs.Requests.{IsCycle}
 use Rattle.shore_locks.specs.Tables.{is_waiting, waiting_request}
+use Rattle.shore_cycles.specs.Cycles.{IsSimpleCycleFrom}
 use Rattle.shore_cycles.specs.declared.victims.Victim.{Victim}
 use Rattle.laws_lives.specs.Sessions.{SessionTxn, Sessions, doomed, locks_moved}
 use Rattle.shore_model.specs.declared.step.Step.{Step}
@@ -48,12 +48,11 @@ pub record HasItsWait (s : State) (session : ℕ) (at : Granule) : Type 0 where
   pub waits : waiting_request txn.txn s.locks.requests ≡ Some request
   pub there : request.granule ≡ at
 
--- a cycle of waits that passes the transaction under way of the session, which is the greatest of it
+-- a cycle of waits that begins with the transaction under way of the session, and comes by nobody twice; that transaction is the greatest of it
 pub record IsItsCycle (s : State) (session : ℕ) (cycle : List ℕ) : Type 0 where
   pub txn : SessionTxn
-  pub of : IsAmong txn s.sessions.active × (txn.session ≡ session)
-  pub closed : IsCycle s.locks.requests cycle
-  pub passes : Contains cycle txn.txn
+  pub of : IsOfSession s session txn
+  pub stands : IsSimpleCycleFrom s.locks.requests txn.txn cycle
   pub greatest : All (λ u. u ≤ txn.txn) cycle
 
 -- it waits on

@@ -1,5 +1,5 @@
 -- What the calls of sessions wait for, and what is forced, beside their history.
-use Rattle.std.specs.Prelude.{◌≡◌, ◌<◌, ◌≤◌, ◌⊎◌, ℕ, List, None, Some, Contains, false, length, take}
+use Rattle.std.specs.Prelude.{◌≡◌, ◌<◌, ◌≤◌, ◌⊎◌, ℕ, List, None, Some, Contains, false, length, slice_get, take}
 use Rattle.shore_types.specs.declared.locking.Granule.{Granule}
 use Rattle.shore_model.specs.declared.histories.Decision.{Decision}
 use Rattle.shore_model.specs.declared.histories.Decision.TheVariants as decision
@@ -72,3 +72,17 @@ WaitsThere s session = (w : Waiting) → IsAmong w s.waiting → w.session ≡ s
 -- so it is of each session
 abbrev pub AllWaitThere : State → Type 0
 AllWaitThere s = (session : ℕ) → WaitsThere s session
+
+-- ---- cycles that are to be told
+
+-- whichever transaction is under way of the session is the first of the cycle
+abbrev pub BeginsWithIts : State → ℕ → List ℕ → Type 0
+BeginsWithIts s session cycle = (a : SessionTxn) → IsOfSession s session a → slice_get cycle 0 ≡ Some a.txn
+
+-- so it is of each session that is to be told a cycle
+abbrev pub AllBeginWithTheirs : State → Type 0
+AllBeginWithTheirs s = (w : Waiting) → IsAmong w s.waiting → (cycle : List ℕ) → w.cycle ≡ Some cycle → BeginsWithIts s w.session cycle
+
+-- the session has a transaction under way, which is the first of the cycle
+abbrev pub HasTheFirst : State → ℕ → List ℕ → Type 0
+HasTheFirst s session cycle = (a : SessionTxn) × IsOfSession s session a × (slice_get cycle 0 ≡ Some a.txn)

@@ -18,6 +18,7 @@ ghost use Rattle.laws_calls.specs.Midway.{AsksAgainIn, AsksIn, Interlude, Interv
 ghost use Rattle.laws_calls.specs.Settling.{SettledCall, SettledResume};
 ghost use Rattle.laws_calls.specs.Shapes.{LockWaitsMayAsk, rollback_of};
 ghost use Rattle.laws_calls.specs.States.{State, Waiting};
+ghost use Rattle.laws_calls.specs.SessionWaits.{AllBeginWithTheirs, HasTheFirst};
 ghost use Rattle.laws_calls.specs.StoodCycles.{StoodAmong};
 ghost use Rattle.laws_calls.specs.Victims.{TellsVictim};
 
@@ -34,7 +35,7 @@ pub fn settled_refusals_are_earned()
         ⊎ ((last : State) × AsksAgainIn g s session last × CallStep g last session w.call (Refused f) new × EarnsRefusal g last session w.call f)) }
 {}
 
-/// A call that is refused as a victim's is told a cycle of waits that stood in the midst of that very call, which passed its transaction, the greatest of it. A
+/// A call that is refused as a victim's is told a cycle of waits that stood in the midst of that very call, from its transaction on, the greatest of it. A
 /// resume is told one that stood in its midst, or that its session was to be told already.
 pub fn told_cycles_stood()
     ensures call { (g : Geometry) (o : Opening) (found : List LogRecord) (es : List Entry) (s new : State) (session : ℕ) (c : Call) (cycle : List ℕ) → IsStateAfter o found es s →
@@ -53,6 +54,18 @@ pub fn told_cycles_stood()
 pub fn cycles_to_be_told_stood()
     ensures { (g : Geometry) (o : Opening) (found : List LogRecord) (first last : State) (events : List ManagerEvent) (w : Waiting) (cycle : List ℕ) → IsOpened o found first →
         EventsMove g first events last → IsAmong w last.waiting → w.cycle ≡ Some cycle → StoodAmong g first events last w.session cycle }
+{}
+
+/// A cycle that a session is to be told begins with the transaction under way of the session, which is the one that was taken as its victim: no call waits behind
+/// an open, and events keep that. So a `Deadlock` is told in the transaction that the cycle begins with.
+pub fn cycles_begin_with_who_is_told()
+    ensures open { (o : Opening) (found : List LogRecord) (s : State) → IsOpened o found s → AllBeginWithTheirs s }
+    ensures events { (g : Geometry) (o : Opening) (found : List LogRecord) (es : List Entry) (s last : State) (events : List ManagerEvent) → IsStateAfter o found es s →
+        AllBeginWithTheirs s → EventsMove g s events last → AllBeginWithTheirs last }
+    ensures call { (g : Geometry) (o : Opening) (found : List LogRecord) (es : List Entry) (s new : State) (session : ℕ) (c : Call) (cycle : List ℕ) → IsStateAfter o found es s →
+        AllBeginWithTheirs s → SettledCall g s session c (Refused (fault.Deadlock cycle)) new → HasTheFirst new session cycle }
+    ensures resume { (g : Geometry) (o : Opening) (found : List LogRecord) (es : List Entry) (s new : State) (session : ℕ) (cycle : List ℕ) → IsStateAfter o found es s → LockWaitsMayAsk g s →
+        AllBeginWithTheirs s → SettledResume g s session (Refused (fault.Deadlock cycle)) new → HasTheFirst new session cycle }
 {}
 
 /// A refused call, but for a rollback, and a refused resume leave the records in place, the log, the slots of the pages, what is durable and each undo list as they
