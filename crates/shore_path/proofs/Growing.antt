@@ -141,7 +141,7 @@ same_passed t g rs one quiet =
     ))
     (waiters_at g rs) rs one refl (quiet, (λ q by. (λ h. h, λ h. h)))).1
 
-put_there : (r : Request) (rs : List Request) → In r (put r rs)
+pub put_there : (r : Request) (rs : List Request) → In r (put r rs)
 put_there r rs =
     ⊎_elim
     (λ yes. subst (In r) (sym (put_in_place r rs yes))
@@ -150,7 +150,7 @@ put_there r rs =
     (λ none. subst (In r) (sym (put_last r rs none)) (In-right rs (r ∷ []) r (inl refl)))
     (either (list_any (λ q. are_alike q r) rs))
 
-same_put : (t : ℕ) (k : Granule) (r : Request) (rs : List Request) → (r.granule ≡ k → ⊥) → SameAt t k rs (put r rs)
+pub same_put : (t : ℕ) (k : Granule) (r : Request) (rs : List Request) → (r.granule ≡ k → ⊥) → SameAt t k rs (put r rs)
 same_put t k r rs other q by at = (
   λ h. ⊎_elim (λ a. absurd (other (sym ((alike-Decides q r).0 a.0).1 ∙ at))) (λ b. b) (onto_put r rs q h),
   λ h. ⊎_elim (λ e. absurd (other (sym (ap (λ (x : Request). x.granule) e) ∙ at))) (λ o. o.0) (In-put r rs q h),

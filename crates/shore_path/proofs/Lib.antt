@@ -15,6 +15,8 @@ pub mod ModeFacts
 pub mod Moving
 pub mod Passing
 pub mod Reached
+pub mod Restored
+pub mod RestoredPaths
 pub mod WalkLoops
 pub mod Walking
 pub mod Ways

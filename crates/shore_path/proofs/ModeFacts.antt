@@ -51,7 +51,7 @@ pub aim_enough : (held : Option Mode) (mode : Mode) → IsTrue (is_at_most mode 
 aim_enough None mode = at_most-refl mode
 aim_enough (Some h) mode = (sup_least h mode).right
 
-sup_same : (a b : Mode) → IsTrue (is_at_most b a) → sup a b ≡ a
+pub sup_same : (a b : Mode) → IsTrue (is_at_most b a) → sup a b ≡ a
 sup_same a b e = at_most-antisym (sup a b) a ((sup_least a b).least a (at_most-refl a) e) (sup_least a b).left
 
 -- what is asked twice is aimed at once

@@ -6,9 +6,11 @@ pub mod intending;
 pub mod judging;
 pub mod laws;
 pub mod paths;
+pub mod restoring;
 pub mod walk;
 
 pub use answers::{Acquired, OnConflict};
 pub use intending::{acquire_in_store, intends_to_write, may_lock_in_store};
 pub use judging::{may_lock, may_lock_in_page};
+pub use restoring::restore;
 pub use walk::acquire;
