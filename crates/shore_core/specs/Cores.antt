@@ -24,6 +24,7 @@ use Rattle.laws_heaps.specs.LoggedHeaps.{IsStoreOf, LeavesStore}
 use Rattle.shore_model.specs.Records.{AreRecords}
 use Rattle.shore_types.specs.declared.locking.Granule.{Granule}
 use Rattle.shore_model.specs.declared.histories.Entry.{Entry}
+use Rattle.shore_model.specs.declared.histories.Opening.{Opening}
 use Rattle.laws_lives.specs.Views.{IsAmong}
 use Rattle.shore_model.specs.declared.step.Wait.TheVariants.{Lock}
 use Rattle.laws_calls.specs.CallHistories.{IsRoomyState}
@@ -134,9 +135,10 @@ module _ {T V : Type 0} {G : tail.Ghosts T} {H : disk.Ghosts V} where
 -- What is kept of the state beside, by the laws over plain data: it is what a manager has come to, its calls that wait are such as may ask for locks, pages
 -- and log have room, also for whatever a crash leaves of the log, and the records lie in the geometry.
 pub record IsSafe (g : Geometry) (s : State) : Type 0 where
+  pub opening : Opening
   pub found : List LogRecord
   pub entries : List Entry
-  pub after : IsStateAfter found entries s
+  pub after : IsStateAfter opening found entries s
   pub asks : (w : Waiting) (at : Granule) → IsAmong w s.waiting → w.wait ≡ Lock at → MayAsk g w.call
   pub roomy : IsRoomyState s
   pub stream_bytes : ℕ

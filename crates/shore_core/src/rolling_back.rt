@@ -8,6 +8,7 @@ ghost use Rattle.shore_model.specs.declared.calls.Call.TheVariants as Call;
 ghost use Rattle.shore_model.specs.declared.log_records.LogRecord.{LogRecord};
 ghost use Rattle.shore_page.specs.Room.{Fits};
 ghost use Rattle.shore_heap.specs.Heaps.{frame_of};
+ghost use Rattle.laws_lives.specs.OwnSeats.{HasOwnSeats};
 ghost use Rattle.laws_lives.specs.Sessions.{SessionTxn};
 ghost use Rattle.laws_lives.specs.UndoLists.{MayRoll, least_kept};
 ghost use Rattle.shore_model.specs.declared.rollbacks.Rollback.TheVariants as Rollback;
@@ -56,7 +57,7 @@ impl<T: Tail, V: Disk> Core<T, V> {
         requires { IsSeatIn seat.now (txns_of self.now) }
         ensures some { IfOk result (λ t. IsAmong t.now (table.txns_in (txns_of self.now)) × (t.now.session ≡ seat.now.session)) }
         ensures there { IfOk result (λ t. IsAmong (as_session_txn t.now) (undos_in (txns_of self.now))) }
-        ensures of_session { IfOk result (λ t. (s : State) → HasControl (control_of self.now) s → IsOfSession s seat.now.session (as_session_txn t.now)) }
+        ensures of_session { IfOk result (λ t. (s : State) → HasControl (control_of self.now) s → HasOwnSeats s.sessions → IsOfSession s seat.now.session (as_session_txn t.now)) }
         ensures whole { IfOk result (λ t. (as_session_txn t.now).undo.rolling ≡ None) }
         ensures refused { IfErr result (IsNotOpen self.now seat.now.session) }
     {

@@ -1,5 +1,5 @@
 -- How a control stands for the part of a state that is of its sessions: the transactions under way, the locks, and the calls that wait.
-use Rattle.std.specs.Prelude.{◌≡◌, ◌<◌, List, Bool, false, if◌then◌else◌, map, reverse}
+use Rattle.std.specs.Prelude.{◌≡◌, ◌<◌, List, [], Bool, false, if◌then◌else◌, map, reverse}
 use Rattle.std.specs.List.{AllByRecursion}
 use Rattle.std.specs.FinMap.{get}
 use Rattle.shore_types.specs.Images.{Image}
@@ -12,7 +12,8 @@ use Rattle.shore_model.specs.Records.{put_image}
 use Rattle.laws_room.specs.Claims.{SlotCounts}
 use Rattle.laws_lives.specs.Logged.{and_record, next_to_undo}
 use Rattle.shore_model.specs.declared.rollbacks.Rollback.{Rollback}
-use Rattle.laws_lives.specs.Sessions.{SessionTxn, abort_answered, image_put_back, with_undo}
+use Rattle.laws_lives.specs.SessionSteps.{AnswerAbort, entries_by}
+use Rattle.laws_lives.specs.Sessions.{SessionTxn, Sessions, abort_answered, image_put_back, seated, with_undo}
 use Rattle.laws_lives.specs.UndoLists.{with_before_image}
 use Rattle.laws_lives.specs.Views.{IsAmong}
 use Rattle.shore_locks.specs.Grants.{released}
@@ -43,9 +44,15 @@ pub record IsLogged (log : List LogRecord) (t : Txn) : Type 0 where
   pub changes : unanswered (number_of t) log ≡ reverse (map as_change (entries_of t))
   pub claims : HaveClaims (entries_of t)
 
+-- No transaction is prepared, and a resolve has decided none. The table has no such transactions.
+pub record HasNonePrepared (s : Sessions) : Type 0 where
+  pub prepared : s.prepared ≡ []
+  pub resolving : s.resolving ≡ []
+
 -- The transactions are those of the state that are under way, and the sums of the room are those of its log.
 pub record HasTxns (txns : Transactions) (s : State) : Type 0 where
   pub active : s.sessions.active ≡ undos_in txns
+  pub unprepared : HasNonePrepared s.sessions
   pub next : s.sessions.next_txn ≡ next_in txns
   pub stream : s.stream_bytes ≡ (room_in txns).stream_bytes
   pub kept : cost_of_log s.log ≡ (room_in txns).kept
@@ -91,6 +98,6 @@ put_back s a kept e rollback = record s {
 -- The abort of a transaction has ended, whose images are all put back. Its End goes last if it is logged, and then its locks go.
 abbrev pub abort_ended : State → SessionTxn → Bool → State
 abort_ended s a logged = with_requests (record s {
-  sessions = abort_answered s.sessions a;
+  sessions = seated s.sessions (entries_by s.sessions (AnswerAbort a)) (abort_answered s.sessions a);
   log = if logged then and_record a.txn s.log End else s.log;
 }) (released a.txn s.locks.requests)

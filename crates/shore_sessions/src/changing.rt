@@ -9,8 +9,9 @@ ghost use Rattle.shore_logrec.specs.Text.{cost_of};
 ghost use Rattle.shore_page.specs.Room.{claim_at};
 ghost use Rattle.laws_room.specs.Claims.{Claimed, NoOthers, SlotCounts};
 ghost use Rattle.laws_room.specs.LogRooms.{compensation_cost};
-ghost use Rattle.laws_lives.specs.Sessions.{SessionTxn, txn_begun};
+ghost use Rattle.laws_lives.specs.Sessions.{SessionTxn};
 ghost use Rattle.laws_lives.specs.UndoLists.{nothing_to_undo};
+ghost use Rattle.laws_calls.specs.StateChanges.{begun};
 ghost use Rattle.laws_calls.specs.States.{IsOfSession, State, page_slots};
 ghost use Rattle.shore_txn.specs.ActiveTxns.{HasMore, IsBegun, OneBecomes};
 ghost use Rattle.shore_txn.specs.Transactions as table;
@@ -40,7 +41,7 @@ impl Control {
         ensures claims { (p : PageId) → kept_in (txns_in self.new) p ≡ kept_in (txns_in self.old) p }
         ensures locks { locks_in self.new ≡ locks_in self.old }
         ensures waits { waits_in self.new ≡ waits_in self.old }
-        ensures stands { OnOk result ((s : State) → HasControl self.old s → HasControl self.new (record s { sessions = txn_begun s.sessions session })) }
+        ensures stands { OnOk result ((s : State) → HasControl self.old s → HasControl self.new (begun s session)) }
         ensures unchanged { OnErr result ((s : State) → HasControl self.old s → HasControl self.new s) }
     {
         self.txns.begin(alloc, session)

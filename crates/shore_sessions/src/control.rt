@@ -2,6 +2,7 @@
 ghost use Rattle.std.specs.Prelude.{◌≡◌, ◌≢◌, ◌+◌, ◌≤◌, ◌↔◌, [], ℕ, IfNone, IfOk, IfSome, IsTrue, false, length, true};
 ghost use Rattle.std.specs.List.Sorted.{IsPermutation, IsSorted};
 ghost use Rattle.shore_types.specs.declared.layout.TheConstants.{GREATEST_CHECKPOINT, LONGEST_FRAME};
+ghost use Rattle.laws_lives.specs.OwnSeats.{HasOwnSeats};
 ghost use Rattle.laws_lives.specs.Sessions.{SessionTxn};
 ghost use Rattle.laws_lives.specs.Views.{IsAmong};
 ghost use Rattle.shore_locks.specs.Listing.{request_cmp};
@@ -73,7 +74,7 @@ impl Control {
         ensures among { IsAmong result.now (table.txns_in (txns_in self.now)) }
         ensures there { IsAmong (as_session_txn result.now) (undos_in (txns_in self.now)) }
         ensures session { result.now.session ≡ seat.now.session }
-        ensures of_session { (s : State) → HasControl self.now s → IsOfSession s seat.now.session (as_session_txn result.now) }
+        ensures of_session { (s : State) → HasControl self.now s → HasOwnSeats s.sessions → IsOfSession s seat.now.session (as_session_txn result.now) }
     {
         self.txns.txn(seat)
     }
@@ -108,7 +109,7 @@ impl Control {
         ensures none { IfNone result (HasNoWait session self.now) }
         ensures waits { IfSome result (λ w. (s : State) → HasControl self.now s → IsAmong (as_waiting w.now) s.waiting) }
         ensures does_not { IfNone result ((s : State) → HasControl self.now s → DoesNotWait s session) }
-        ensures asks { IfSome result (λ w. is_commit w.now ≡ false → (s : State) → HasControl self.now s → (a : SessionTxn) × IsOfSession s session a × (a.txn ≡ w.now.txn)) }
+        ensures asks { IfSome result (λ w. is_commit w.now ≡ false → (s : State) → HasControl self.now s → HasOwnSeats s.sessions → (a : SessionTxn) × IsOfSession s session a × (a.txn ≡ w.now.txn)) }
         ensures commits { IfSome result (λ w. is_commit w.now ≡ true → (s : State) → HasControl self.now s → s.failed ≡ false → (a : SessionTxn) × IsAmong a s.sessions.committing × (a.session ≡ session) × (a.txn ≡ w.now.txn)) }
     {
         self.waits.of(session)

@@ -4,6 +4,7 @@ ghost use Rattle.shore_types.specs.declared.ids.PageId.{PageId};
 ghost use Rattle.shore_types.specs.declared.locking.Granule.{Granule};
 ghost use Rattle.shore_model.specs.declared.calls.Call.{Call};
 ghost use Rattle.shore_model.specs.declared.histories.Entry.{Entry};
+ghost use Rattle.shore_model.specs.declared.histories.Opening.{Opening};
 ghost use Rattle.shore_model.specs.declared.log_records.LogRecord.{LogRecord};
 ghost use Rattle.shore_locks.specs.Tables.{is_waiting};
 ghost use Rattle.shore_path.specs.Acquires.{IsReached};
@@ -50,7 +51,7 @@ impl Control {
         requires quiet { is_waiting txn (locks_in self.old).requests ≡ false }
         requires free { HasNoWait seat.now.session self.old }
         requires seated { IsSeatIn seat.now (txns_in self.old) }
-        ensures locks { (s : State) (found : List LogRecord) (es : List Entry) (a : SessionTxn) (c : Call) → HasControl self.old s → IsStateAfter found es s
+        ensures locks { (s : State) (o : Opening) (found : List LogRecord) (es : List Entry) (a : SessionTxn) (c : Call) → HasControl self.old s → IsStateAfter o found es s
             → s.failed ≡ false → IsOfSession s seat.now.session a → a.txn ≡ txn → on_conflict_of c ≡ on_conflict
             → (new : State) × LocksTo s a c (record { granule = granule; mode = mode }) result new × HasControl self.new new }
         ensures reached { result ≡ Ok Acquired.Done → IsReached (locks_in self.new).requests txn granule mode }
@@ -83,7 +84,7 @@ impl Control {
         requires quiet { is_waiting txn (locks_in self.old).requests ≡ false }
         requires free { HasNoWait seat.now.session self.old }
         requires seated { IsSeatIn seat.now (txns_in self.old) }
-        ensures locks { (s : State) (found : List LogRecord) (es : List Entry) (a : SessionTxn) (c : Call) → HasControl self.old s → IsStateAfter found es s
+        ensures locks { (s : State) (o : Opening) (found : List LogRecord) (es : List Entry) (a : SessionTxn) (c : Call) → HasControl self.old s → IsStateAfter o found es s
             → s.failed ≡ false → IsOfSession s seat.now.session a → a.txn ≡ txn → on_conflict_of c ≡ conflict.Wait
             → (new : State) × LocksTo s a c (record { granule = granule; mode = mode }) result new × HasControl self.new new }
         ensures reached { result ≡ Ok Acquired.Done → IsReached (locks_in self.new).requests txn granule mode }

@@ -1,11 +1,9 @@
 //! Transactions that commit.
-ghost use Rattle.std.specs.Prelude.{◌≡◌, ◌==◌, ◌+◌, ◌++◌, ◌∷◌, [], ℕ, List, None, false, filter, length, not};
+ghost use Rattle.std.specs.Prelude.{◌≡◌, ◌==◌, ◌+◌, ◌++◌, ◌∷◌, [], ℕ, None, false, filter, length, not};
 ghost use Rattle.shore_types.specs.declared.ids.PageId.{PageId};
-ghost use Rattle.shore_model.specs.declared.histories.Entry.{Entry};
-ghost use Rattle.shore_model.specs.Records.{Records};
 ghost use Rattle.shore_locks.specs.Grants.{released};
+ghost use Rattle.laws_lives.specs.OwnSeats.{HasOwnSeats};
 ghost use Rattle.laws_lives.specs.Sessions.{SessionTxn};
-ghost use Rattle.laws_lives.specs.Soundness.{SessionsAgree};
 ghost use Rattle.laws_lives.specs.Views.{IsAmong};
 ghost use Rattle.laws_calls.specs.StateChanges.{committed};
 ghost use Rattle.laws_calls.specs.CallSteps.{commit_ended};
@@ -58,7 +56,7 @@ impl Control {
         ensures free { HasNoWait session self.new }
         ensures locks { (w : WaitingCall) → IsAmong w (waits_in self.old) → w.session ≡ session → locks_in self.new ≡ record { limit = (locks_in self.old).limit; requests = released w.txn (locks_in self.old).requests } }
         ensures unlocked { HasNoWait session self.old → locks_in self.new ≡ locks_in self.old }
-        ensures stands { (o : Records) (es : List Entry) (s : State) (a : SessionTxn) → SessionsAgree o es s.sessions → HasControl self.old s → s.failed ≡ false
+        ensures stands { (s : State) (a : SessionTxn) → HasOwnSeats s.sessions → HasControl self.old s → s.failed ≡ false
             → IsAmong a s.sessions.committing → a.session ≡ session → HasControl self.new (commit_ended s a) }
     {
         if let Some(call) = self.waits.take(session) {

@@ -4,6 +4,7 @@ ghost use Rattle.shore_types.specs.declared.ids.Rid.{Rid};
 ghost use Rattle.shore_types.specs.declared.locking.Granule.TheVariants.{Record};
 ghost use Rattle.shore_types.specs.declared.locking.Mode.TheVariants.{EX};
 ghost use Rattle.shore_model.specs.declared.histories.Entry.{Entry};
+ghost use Rattle.shore_model.specs.declared.histories.Opening.{Opening};
 ghost use Rattle.shore_model.specs.declared.log_records.LogRecord.{LogRecord};
 ghost use Rattle.shore_locks.specs.Tables.{is_waiting};
 ghost use Rattle.shore_path.specs.declared.answers.Acquired.TheVariants.{Done};
@@ -13,9 +14,8 @@ ghost use Rattle.laws_room.specs.Claims.{NoOthers};
 ghost use Rattle.laws_lives.specs.Logged.{next_to_undo};
 ghost use Rattle.laws_lives.specs.LogTells.{MatchesUndo};
 ghost use Rattle.laws_lives.specs.Sessions.{SessionTxn};
-ghost use Rattle.laws_lives.specs.Views.{IsAmong};
 ghost use Rattle.laws_calls.specs.LockedStates.{IsSessionsState};
-ghost use Rattle.laws_calls.specs.States.{State};
+ghost use Rattle.laws_calls.specs.States.{HasSeat, State};
 ghost use Rattle.shore_txn.specs.Txns.{entries_of, number_of};
 ghost use Rattle.shore_txn.specs.UndoEntries.{images_of, number_behind};
 ghost use Rattle.shore_txn.specs.declared.txn.Txn.{Txn};
@@ -23,8 +23,8 @@ ghost use Rattle.shore_sessions.specs.Standing.{IsLogged};
 
 /// A transaction that has locked a record for writing is the only one with an image of it to put back.
 pub fn writers_are_alone()
-    ensures { (found : List LogRecord) (es : List Entry) (s : State) (a : SessionTxn) (on_conflict : OnConflict) (id : Rid) →
-        IsSessionsState found es s → IsAmong a s.sessions.active → is_waiting a.txn s.locks.requests ≡ false
+    ensures { (o : Opening) (found : List LogRecord) (es : List Entry) (s : State) (a : SessionTxn) (on_conflict : OnConflict) (id : Rid) →
+        IsSessionsState o found es s → HasSeat s.sessions a → is_waiting a.txn s.locks.requests ≡ false
         → (acquired on_conflict s.locks a.txn (Record id) EX).answer ≡ Ok Done → NoOthers s.sessions.active a.txn id }
 {}
 
