@@ -4,6 +4,7 @@ pub mod ControlSteps
 pub mod Lists
 pub mod LogSteps
 pub mod Taking
+pub mod Seats
 pub mod TxnSteps
 pub mod RollbackSteps
 pub mod WaitSteps

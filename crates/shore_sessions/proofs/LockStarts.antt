@@ -1,15 +1,15 @@
 -- What a state after a history tells of who waits, as a lock is asked for.
-use Rattle.std.proofs.Common.{◌≡◌, inl, inr, ℕ, List, false, sym, ap, subst, ◌∙◌}
+use Rattle.std.proofs.Common.{◌≡◌, ℕ, List, false, sym, ap, subst, ◌∙◌}
 use Rattle.shore_model.specs.declared.calls.Call.{Call}
 use Rattle.shore_model.specs.declared.histories.Entry.{Entry}
+use Rattle.shore_model.specs.declared.histories.Opening.{Opening}
 use Rattle.shore_model.specs.declared.log_records.LogRecord.{LogRecord}
 use Rattle.shore_locks.specs.Tables.{is_waiting}
 use Rattle.shore_path.specs.declared.answers.OnConflict.TheVariants as conflict
 use Rattle.laws_locks.specs.CallLocks.{Asked}
-use Rattle.laws_lives.specs.Sessions.{SessionTxn}
+use Rattle.laws_lives.specs.Sessions.{SessionTxn, in_txn}
 use Rattle.laws_lives.specs.Views.{IsAmong}
-use Rattle.laws_lives.proofs.Members.{txn_of_one}
-use Rattle.laws_calls.proofs.Sessions.{one_txn}
+use Rattle.laws_calls.proofs.Sessions.{committed_seat, one_member, one_txn, parted}
 use Rattle.laws_calls.specs.CallSteps.{on_conflict_of}
 use Rattle.laws_calls.specs.Events.{IsStateAfter}
 use Rattle.laws_calls.specs.States.{DoesNotWait, State}
@@ -17,13 +17,17 @@ use Rattle.shore_txn.proofs.OneOfMany.{among_map, map_among}
 use Rattle.shore_sessions.specs.Calls.{name_of, names_of}
 use Rattle.shore_sessions.specs.Controls.{txns_in, waits_in}
 use Rattle.shore_sessions.specs.Noting.{HasSessionsOf}
-use Rattle.shore_sessions.specs.Standing.{HasTxns, HasWaits}
+use Rattle.shore_sessions.specs.Standing.{HasNonePrepared, HasTxns, HasWaits}
 use Rattle.shore_sessions.specs.declared.control.Control.{Control}
 use Rattle.shore_sessions.proofs.LockRounds.{IsStart}
+use Rattle.shore_sessions.proofs.Seats.{its_seat}
 
-module _ (found : List LogRecord) (es : List Entry) (s : State) (k : IsStateAfter found es s) (works : s.failed ≡ false) where
+module _ (o : Opening) (found : List LogRecord) (es : List Entry) (s : State) (k : IsStateAfter o found es s) (none : HasNonePrepared s.sessions) (works : s.failed ≡ false) where
   abbrev names : List (ℕ × ℕ)
   names = names_of s.sessions.active
+
+  seat : (b : SessionTxn) → IsAmong b s.sessions.active → s.sessions.seats b.session ≡ in_txn b.txn
+  seat b m = (its_seat s k.sessions.seats none b m).1
 
   -- whose name it is
   of_name : (n : ℕ × ℕ) → IsAmong n names → (b : SessionTxn) × IsAmong b s.sessions.active × (name_of b ≡ n)
@@ -33,13 +37,14 @@ module _ (found : List LogRecord) (es : List Entry) (s : State) (k : IsStateAfte
   by_number n m there here same =
       let b = of_name n there in
       let d = of_name m here in
-      ap (λ (x : ℕ × ℕ). x.0) (sym b.2) ∙ k.sessions.agree.one b.0 d.0 (inl b.1) (inl d.1) (ap (λ (x : ℕ × ℕ). x.1) b.2 ∙ same ∙ ap (λ (x : ℕ × ℕ). x.1) (sym d.2)) ∙ ap (λ (x : ℕ × ℕ). x.0) d.2
+      ap (λ (x : ℕ × ℕ). x.0) (sym b.2)
+      ∙ ap (λ (a : SessionTxn). a.session) (one_member k.sessions b.0 d.0 b.1 d.1 (ap (λ (x : ℕ × ℕ). x.1) b.2 ∙ same ∙ ap (λ (x : ℕ × ℕ). x.1) (sym d.2))) ∙ ap (λ (x : ℕ × ℕ). x.0) d.2
 
   by_session : (n m : ℕ × ℕ) → IsAmong n names → IsAmong m names → n.0 ≡ m.0 → n.1 ≡ m.1
   by_session n m there here same =
       let b = of_name n there in
       let d = of_name m here in
-      ap (λ (x : ℕ × ℕ). x.1) (sym b.2) ∙ one_txn k.sessions.agree b.0 d.0 (inl b.1) (inl d.1) (ap (λ (x : ℕ × ℕ). x.0) b.2 ∙ same ∙ ap (λ (x : ℕ × ℕ). x.0) (sym d.2)) ∙ ap (λ (x : ℕ × ℕ). x.1) d.2
+      ap (λ (x : ℕ × ℕ). x.1) (sym b.2) ∙ one_txn s.sessions b.0 d.0 (seat b.0 b.1) (seat d.0 d.1) (ap (λ (x : ℕ × ℕ). x.0) b.2 ∙ same ∙ ap (λ (x : ℕ × ℕ). x.0) (sym d.2)) ∙ ap (λ (x : ℕ × ℕ). x.1) d.2
 
   pub starts : (a : SessionTxn) (c : Call) (lock : Asked) (may_wait : on_conflict_of c ≡ conflict.Wait) → IsAmong a s.sessions.active → is_waiting a.txn s.locks.requests ≡ false → DoesNotWait s a.session
       → IsStart a c lock may_wait s
@@ -47,7 +52,7 @@ module _ (found : List LogRecord) (es : List Entry) (s : State) (k : IsStateAfte
     fair = record {
       orderly = k.sessions.locks.orderly;
       rooted = k.sessions.locks.rooted;
-      under = λ u waits. let b = txn_of_one u s.sessions.active (k.sessions.locks.waiters u waits) in (name_of b.0, among_map name_of b.0 s.sessions.active b.1, b.2);
+      under = λ u waits. let b = k.sessions.locks.waiters u waits in (name_of b.0, among_map name_of b.0 s.sessions.active b.1.0, b.2);
       quiet = λ n there none.
           let b = of_name n there in
           subst (λ (x : ℕ × ℕ). is_waiting x.1 s.locks.requests ≡ false) b.2
@@ -66,5 +71,5 @@ module _ (found : List LogRecord) (es : List Entry) (s : State) (k : IsStateAfte
     txns = subst (λ x. HasTxns x s) (sym same) txns;
     waits = subst (λ x. HasWaits x s) (sym calls) waits;
     works = works;
-    apart = λ a b committed active of. k.sessions.agree.apart b a active committed (one_txn k.sessions.agree b a (inl active) (inr committed) of);
+    apart = λ a b committed active of. parted k.sessions b a active committed (one_txn s.sessions b a (seat b active) (committed_seat k.sessions a committed) of);
   }

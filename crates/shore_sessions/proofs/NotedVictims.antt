@@ -28,8 +28,8 @@ use Rattle.shore_sessions.specs.declared.control.Control.{Control}
 use Rattle.shore_sessions.specs.declared.waits.WaitingCall.{WaitingCall}
 use Rattle.shore_sessions.proofs.NotedCalls.{none_noted, waits_noted}
 use Rattle.shore_sessions.proofs.Taking.{among_all}
-use Rattle.shore_sessions.proofs.TxnSteps.{StaysLogged, txns_still}
-use Rattle.shore_sessions.proofs.WaitSteps.{asks, commits, names-with_undo, waiting_call}
+use Rattle.shore_sessions.proofs.TxnSteps.{StaysLogged, none_still, txns_still}
+use Rattle.shore_sessions.proofs.WaitSteps.{asker_of, commits, names-with_undo, waiting_call}
 
 -- ---- what is kept
 
@@ -74,13 +74,14 @@ module _ (old new : Transactions) (session : ℕ) (one : OneBecomes session IsDo
   txns_doomed next room s b cycle was m own =
       txns_still old new s was (victim_noted s b cycle) session (becomes_so doomed_logged one)
       (ap (with_undo b.txn (undo_rolled b.undo b.undo.images Whole)) was.active ∙ sym (undos b (subst (IsAmong b) was.active m) own))
-      refl refl refl next room
+      (none_still refl refl was.unprepared) refl refl refl next room
 
 -- .. and so is it for each state with other locks
 pub stands_locked : (control : Control) (s : State) (rs : List Request) → HasSessionsOf control s → HasSessionsOf control (with_requests s rs)
 stands_locked control s rs stands = record {
   txns = record {
     active = stands.txns.active;
+    unprepared = none_still refl refl stands.txns.unprepared;
     next = stands.txns.next;
     stream = stands.txns.stream;
     kept = stands.txns.kept;
@@ -106,8 +107,8 @@ module _ (control : Control) (s : State) (stands : HasSessionsOf control s) (ses
   -- the call that waits for a lock for its number is that of its session
   pub asker_is_its : (w : WaitingCall) → IsAmong w (waits_in control) → w.txn ≡ v.txn → is_commit w ≡ false → b.session ≡ w.session
   asker_is_its w m number asking =
-      let its = asks (waits_in control) s stands.waits w m asking in
-      ap (λ (a : SessionTxn). a.session) (sym (one_by_number its.0 its.1.0 (its.2 ∙ number ∙ sym notable.number))) ∙ its.1.1
+      let its = asker_of (waits_in control) s stands.waits w m asking in
+      ap (λ (a : SessionTxn). a.session) (sym (one_by_number its.0 its.1 (its.3 ∙ number ∙ sym notable.number))) ∙ its.2
 
   -- there is one
   pub none_asks : b.txn ≢ t → ((w : WaitingCall) → IsAmong w (waits_in control) → w.txn ≡ v.txn → is_commit w ≡ true) → ⊥
@@ -119,8 +120,8 @@ module _ (control : Control) (s : State) (stands : HasSessionsOf control s) (ses
       let its = commits (waits_in control) s stands.waits call.0 call.1 commit stands.works in
       stands.apart its.0 b its.1 notable.active (sym own ∙ sym its.2))
       (λ (asking : is_commit call.0 ≡ false).
-      let its = asks (waits_in control) s stands.waits call.0 call.1 asking in
-      let number : call.0.txn ≡ v.txn = sym its.2 ∙ ap (λ (a : SessionTxn). a.txn) (one_by_session its.0 its.1.0 (its.1.1 ∙ own)) ∙ notable.number in
+      let its = asker_of (waits_in control) s stands.waits call.0 call.1 asking in
+      let number : call.0.txn ≡ v.txn = sym its.3 ∙ ap (λ (a : SessionTxn). a.txn) (one_by_session its.0 its.1 (its.2 ∙ own)) ∙ notable.number in
       opposite (sym (none call.0 call.1 number) ∙ asking))
       (cases_Bool (is_commit call.0)) in
       clash)

@@ -38,7 +38,7 @@ use Rattle.shore_txn.proofs.UndoLemmas.{last_same}
 use Rattle.shore_sessions.specs.Standing.{HasTxns, IsLogged, abort_ended, as_change, put_back}
 use Rattle.shore_sessions.proofs.Lists.{all_by_members, reverse-cons}
 use Rattle.shore_sessions.proofs.LogSteps.{cost_push, previous_own}
-use Rattle.shore_sessions.proofs.TxnSteps.{StaysLogged, above_pushed, apart_in, changes_push, each_was, leaver, logged_beside}
+use Rattle.shore_sessions.proofs.TxnSteps.{StaysLogged, above_pushed, apart_in, changes_push, each_was, leaver, logged_beside, none_still}
 
 -- ---- what a log has of each stays
 
@@ -116,6 +116,7 @@ module _ (old new : Transactions) (s : State) (was : HasTxns old s) where
       active =
           ap (with_undo a.txn (undo_rolled a.undo kept rollback)) was.active
           ∙ ap (λ l. with_undo a.txn (undo_rolled a.undo l rollback) (undos_in old)) (last_same kept undos.0 (image_of undone) (image_of undone) (sym newest ∙ undos.1)).0 ∙ sym undos.2;
+      unprepared = none_still refl refl was.unprepared;
       next = was.next ∙ sym next;
       stream = was.stream ∙ sym stream;
       kept =
@@ -155,6 +156,7 @@ module _ (old new : Transactions) (s : State) (was : HasTxns old s) where
     pub txns_aborted : (logged : Bool) → (room_in new).kept ≡ (room_in old).kept + cond logged ENDING_COST 0 → HasTxns new (abort_ended s a logged)
     txns_aborted true kept = record {
       active = ap (without_txn a.txn) was.active ∙ sym undos;
+      unprepared = none_still refl refl was.unprepared;
       next = was.next ∙ sym next;
       stream = was.stream ∙ sym stream;
       kept = cost_push s.log r ∙ ap (λ n. n + cost_of r.payload) was.kept ∙ sym kept;
@@ -167,6 +169,7 @@ module _ (old new : Transactions) (s : State) (was : HasTxns old s) where
         r = record { txn = a.txn; previous = previous_of a.txn s.log; payload = End }
     txns_aborted false kept = record {
       active = ap (without_txn a.txn) was.active ∙ sym undos;
+      unprepared = none_still refl refl was.unprepared;
       next = was.next ∙ sym next;
       stream = was.stream ∙ sym stream;
       kept = was.kept ∙ (let same : (room_in old).kept ≡ (room_in new).kept = omega (arith, kept) in same);

@@ -17,12 +17,12 @@ use Rattle.laws_room.specs.Claims.{Claimed, NoOthers, SlotCounts}
 use Rattle.laws_room.specs.Entries.{claims_before}
 use Rattle.laws_room.proofs.Entries as entries
 use Rattle.laws_lives.specs.Logged.{and_record}
-use Rattle.laws_lives.specs.Sessions.{SessionTxn, txn_begun, with_undo, without_txn}
+use Rattle.laws_lives.specs.Sessions.{SessionTxn, Sessions, with_undo, without_txn}
 use Rattle.laws_lives.specs.UndoLists.{nothing_to_undo, with_before_image}
 use Rattle.laws_lives.specs.Views.{IsAmong}
 use Rattle.laws_lives.proofs.Lists.{recursion-push}
 use Rattle.laws_lives.proofs.UnansweredChanges.{unanswered_other, unanswered_own}
-use Rattle.laws_calls.specs.StateChanges.{committed}
+use Rattle.laws_calls.specs.StateChanges.{begun, committed}
 use Rattle.laws_calls.specs.States.{State, cost_of_log, page_slots}
 use Rattle.shore_txn.specs.ActiveTxns.{IsBegun, OneBecomes, OneLeaves, session_txns, with_entry}
 use Rattle.shore_txn.specs.Transactions.{IsUnchanged, next_in, room_in, undos_in}
@@ -36,7 +36,7 @@ use Rattle.shore_txn.specs.declared.undo.UndoEntry.{UndoEntry}
 use Rattle.shore_txn.proofs.ActiveSteps.{becomes_so, one_of}
 use Rattle.shore_txn.proofs.ActiveOthers.{AreApart, each_becomes, each_left}
 use Rattle.shore_txn.proofs.OneOfMany.{all_among, among_map, among_middle, once_same}
-use Rattle.shore_sessions.specs.Standing.{HasTxns, IsLogged, as_change, changed}
+use Rattle.shore_sessions.specs.Standing.{HasNonePrepared, HasTxns, IsLogged, as_change, changed}
 use Rattle.shore_sessions.proofs.Lists.{all_by_members}
 use Rattle.shore_sessions.proofs.LogSteps.{all_higher, cost_push, previous_none, previous_other, previous_own, unanswered_none}
 
@@ -72,6 +72,10 @@ logged_still log t u same is = record {
 pub same_logged : (t u : Txn) → SameTxn t u → StaysLogged t u
 same_logged t u same = record { txn = same.txn; last = same.last; entries = same.entries }
 
+-- nobody is prepared who was not before
+pub none_still : {s t : Sessions} → t.prepared ≡ s.prepared → t.resolving ≡ s.resolving → HasNonePrepared s → HasNonePrepared t
+none_still prepared resolving was = record { prepared = prepared ∙ was.prepared; resolving = resolving ∙ was.resolving }
+
 -- ---- steps
 
 module _ (old new : Transactions) (s : State) (was : HasTxns old s) where
@@ -89,20 +93,21 @@ module _ (old new : Transactions) (s : State) (was : HasTxns old s) where
   pub txns_begun : (session : ℕ) (t : Txn) → table.txns_in new ≡ t ∷ table.txns_in old → IsBegun (next_in old) session t
       → undos_in new ≡ record { session = session; txn = next_in old; undo = nothing_to_undo } ∷ undos_in old → next_in new ≡ next_in old + 1
       → (room_in new).kept ≡ (room_in old).kept → (room_in new).stream_bytes ≡ (room_in old).stream_bytes
-      → HasTxns new (record s { sessions = txn_begun s.sessions session })
+      → HasTxns new (begun s session)
   txns_begun session t more is undos next kept stream = record {
     active =
         ap (λ n. record { session = session; txn = n; undo = nothing_to_undo } ∷ s.sessions.active) was.next
         ∙ ap (λ ts. record { session = session; txn = next_in old; undo = nothing_to_undo } ∷ ts) was.active ∙ sym undos;
+    unprepared = none_still refl refl was.unprepared;
     next = ap (λ n. n + 1) was.next ∙ sym next;
     stream = was.stream ∙ sym stream;
     kept = was.kept ∙ sym kept;
-    each = subst (AllByRecursion (IsLogged s.log)) (sym more) (begun, was.each);
+    each = subst (AllByRecursion (IsLogged s.log)) (sym more) (begun_logged, was.each);
     above = all_higher (next_in old) (next_in new) s.log (omega (arith, next)) was.above;
   }
     where
-      begun : IsLogged s.log t
-      begun =
+      begun_logged : IsLogged s.log t
+      begun_logged =
           let number = is.txn in
           let some = old.some in record {
             last = is.last ∙ sym (previous_none (number_of t) s.log (omega (arith, number, some)) (subst (λ n. AllByRecursion (λ (r : LogRecord). r.txn < n) s.log) (sym number) was.above));
@@ -113,10 +118,11 @@ module _ (old new : Transactions) (s : State) (was : HasTxns old s) where
           }
 
   -- what a log has of each stays
-  pub txns_still : (t : State) (session : ℕ) → OneBecomes session StaysLogged (table.txns_in old) (table.txns_in new) → t.sessions.active ≡ undos_in new → t.sessions.next_txn ≡ s.sessions.next_txn
+  pub txns_still : (t : State) (session : ℕ) → OneBecomes session StaysLogged (table.txns_in old) (table.txns_in new) → t.sessions.active ≡ undos_in new → HasNonePrepared t.sessions → t.sessions.next_txn ≡ s.sessions.next_txn
       → t.stream_bytes ≡ s.stream_bytes → t.log ≡ s.log → next_in new ≡ next_in old → room_in new ≡ room_in old → HasTxns new t
-  txns_still t session one undos number bytes log next room = record {
+  txns_still t session one undos unprepared number bytes log next room = record {
     active = undos;
+    unprepared = unprepared;
     next = number ∙ was.next ∙ sym next;
     stream = bytes ∙ was.stream ∙ ap (λ (r : LogRoom). r.stream_bytes) (sym room);
     kept = ap cost_of_log log ∙ was.kept ∙ ap (λ (r : LogRoom). r.kept) (sym room);
@@ -128,12 +134,13 @@ module _ (old new : Transactions) (s : State) (was : HasTxns old s) where
 
   -- nothing but memory has changed
   pub txns_same : (session : ℕ) → OneBecomes session SameTxn (table.txns_in old) (table.txns_in new) → undos_in new ≡ undos_in old → next_in new ≡ next_in old → room_in new ≡ room_in old → HasTxns new s
-  txns_same session one undos next room = txns_still s session (becomes_so same_logged one) (was.active ∙ sym undos) refl refl refl next room
+  txns_same session one undos next room = txns_still s session (becomes_so same_logged one) (was.active ∙ sym undos) was.unprepared refl refl refl next room
 
   -- nothing has changed
   pub txns_unchanged : IsUnchanged old new → HasTxns new s
   txns_unchanged same = record {
     active = was.active ∙ ap session_txns (sym same.txns);
+    unprepared = was.unprepared;
     next = was.next ∙ sym same.next;
     stream = was.stream ∙ ap (λ (r : LogRoom). r.stream_bytes) (sym same.room);
     kept = was.kept ∙ ap (λ (r : LogRoom). r.kept) (sym same.room);
@@ -152,6 +159,7 @@ module _ (old new : Transactions) (s : State) (was : HasTxns old s) where
     active =
         ap (with_undo a.txn (with_before_image s.sessions.records a.undo entry.id)) was.active
         ∙ ap (λ b. with_undo a.txn (record a.undo { images = a.undo.images ++ (entry.id, b) ∷ [] }) (undos_in old)) (sym found) ∙ sym undos;
+    unprepared = none_still refl refl was.unprepared;
     next = was.next ∙ sym next;
     stream = was.stream ∙ sym stream;
     kept = cost_push s.log r ∙ ap (λ n. n + cost_of r.payload) was.kept ∙ ap (λ b. (room_in old).kept + cost_of (Change entry.id b image)) (sym found) ∙ sym kept;
@@ -224,6 +232,7 @@ module _ (old new : Transactions) (s : State) (was : HasTxns old s) where
         → (room_in new).stream_bytes ≡ (room_in old).stream_bytes → HasTxns new (committed s a)
     txns_committed undos next kept stream = record {
       active = ap (without_txn a.txn) was.active ∙ sym undos;
+      unprepared = none_still refl refl was.unprepared;
       next = was.next ∙ sym next;
       stream = was.stream ∙ sym stream;
       kept = cost_push s.log r ∙ ap (λ n. n + cost_of r.payload) was.kept ∙ sym kept;

@@ -1,5 +1,5 @@
 -- What the calls that wait tell of a state, and what each step makes of them.
-use Rattle.std.proofs.Common.{◌≡◌, ◌≢◌, inl, inr, ⊎_elim, ◌++◌, ◌∷◌, [], ℕ, List, None, Bool, true, false, cond, refl, sym, ap, subst, ◌∙◌, length, map}
+use Rattle.std.proofs.Common.{◌≡◌, ◌≢◌, ◌<◌, inr, ⊎_elim, ◌++◌, ◌∷◌, [], ℕ, List, None, Bool, true, false, cond, refl, sym, ap, subst, ◌∙◌, length, map}
 use Rattle.std.specs.Prelude.{◌==◌, All, filter, not, reverse}
 use Rattle.std.proofs.lemmas.Bool.{eq-eqb, eqb-true, eqb-false, ne_eqb}
 use Rattle.std.proofs.lemmas.List.Elements.{filter-append}
@@ -7,24 +7,22 @@ use Rattle.std.proofs.lemmas.List.{length-map, length-reverse, map-append, rever
 use Rattle.shore_types.specs.declared.locking.Granule.{Granule}
 use Rattle.shore_model.specs.declared.calls.Call.{Call}
 use Rattle.shore_model.specs.declared.calls.Call.TheVariants as call
-use Rattle.shore_model.specs.declared.histories.Entry.{Entry}
 use Rattle.shore_model.specs.declared.sessions.SessionState.{SessionState}
-use Rattle.shore_model.specs.Histories.{free, session_state}
-use Rattle.shore_model.specs.Records.{Records}
-use Rattle.laws_lives.specs.Sessions.{EachOnce, SessionTxn, txns_of, with_undo, without_txn}
-use Rattle.laws_lives.specs.Soundness.{SessionsAgree}
+use Rattle.laws_lives.specs.OwnSeats.{HasOwnSeats}
+use Rattle.laws_lives.specs.Sessions.{EachOnce, SessionTxn, in_txn, txns_of, with_undo, without_txn}
 use Rattle.laws_lives.specs.UndoLists.{UndoList}
 use Rattle.laws_lives.specs.Views.{IsAmong}
 use Rattle.laws_lives.proofs.Members.{member_stays}
-use Rattle.laws_calls.specs.StateChanges.{commit_waiting, committed, wait_refused}
+use Rattle.laws_calls.specs.StateChanges.{committed, decision_waiting, wait_refused}
 use Rattle.laws_calls.specs.CallSteps.{commit_ended, lock_waiting}
 use Rattle.laws_calls.specs.States.{DoesNotWait, HasNoTxn, IsOfSession, State, Waiting, next_number, without_waiting}
 use Rattle.shore_model.specs.declared.step.Wait.TheVariants.{Durable, Lock}
 use Rattle.shore_txn.proofs.OneOfMany.{among_map, map_among, once_same}
 use Rattle.shore_sessions.specs.Calls.{as_waiting, as_waitings, caller_of, commits_of, committers_of, is_commit, name_of, names_of}
-use Rattle.shore_sessions.specs.Standing.{HasWaits}
+use Rattle.shore_sessions.specs.Standing.{HasNonePrepared, HasWaits}
 use Rattle.shore_sessions.specs.declared.waits.WaitingCall.{WaitingCall}
 use Rattle.shore_sessions.proofs.Lists.{among_either, among_filtered, among_passing, among_turned, filter-map, filter-reverse, filter_alike, filter_all, filter_both, turned_among}
+use Rattle.shore_sessions.proofs.Seats.{in_no_txn, its_seat}
 use Rattle.shore_sessions.proofs.Taking.{AreApart, among_all, is_other, one_of_session}
 
 -- ---- lists
@@ -75,10 +73,14 @@ module _ (calls : List WaitingCall) (s : State) (was : HasWaits calls s) where
       λ same. among_all (λ (w : WaitingCall). w.session ≢ session) calls free its.0 its.1 (ap (λ (x : Waiting). x.session) its.2 ∙ same)
 
   -- who waits for a lock is under way
-  pub asks : (w : WaitingCall) → IsAmong w calls → is_commit w ≡ false → (a : SessionTxn) × IsOfSession s w.session a × (a.txn ≡ w.txn)
-  asks w m is =
+  pub asker_of : (w : WaitingCall) → IsAmong w calls → is_commit w ≡ false → (a : SessionTxn) × IsAmong a s.sessions.active × (a.session ≡ w.session) × (a.txn ≡ w.txn)
+  asker_of w m is =
       let its = map_among name_of (caller_of w) s.sessions.active (was.asking w m is) in
-      (its.0, (its.1, ap (λ (n : ℕ × ℕ). n.0) its.2), ap (λ (n : ℕ × ℕ). n.1) its.2)
+      (its.0, its.1, ap (λ (n : ℕ × ℕ). n.0) its.2, ap (λ (n : ℕ × ℕ). n.1) its.2)
+
+  -- .. and its session is in it
+  pub asks : HasOwnSeats s.sessions → HasNonePrepared s.sessions → (w : WaitingCall) → IsAmong w calls → is_commit w ≡ false → (a : SessionTxn) × IsOfSession s w.session a × (a.txn ≡ w.txn)
+  asks seats none w m is = let its = asker_of w m is in (its.0, (its_seat s seats none its.0 its.1, its.2), its.3)
 
   -- whose commit waits is committed
   pub commits : (w : WaitingCall) → IsAmong w calls → is_commit w ≡ true → s.failed ≡ false
@@ -95,10 +97,10 @@ module _ (calls : List WaitingCall) (s : State) (was : HasWaits calls s) where
       let its = map_among caller_of (name_of a) (commits_of calls) (turned_among (name_of a) (map caller_of (commits_of calls)) named) in
       (its.0, (among_filtered is_commit its.0 calls its.1).0, ap (λ (n : ℕ × ℕ). n.0) its.2, ap (λ (n : ℕ × ℕ). n.1) its.2)
 
-  pub in_none : (session : ℕ) → s.failed ≡ false → DoesNotWait s session → ((a : SessionTxn) → IsAmong a s.sessions.active → a.session ≢ session) → HasNoTxn s session
-  in_none session works waits_not none a (inl m) = none a m
-  in_none session works waits_not none a (inr m) = λ same.
-      let its = commit_call works a m in waits_not (as_waiting its.0) (call_waits its.0 its.1) (its.2 ∙ same)
+  pub in_none : HasOwnSeats s.sessions → HasNonePrepared s.sessions → (session : ℕ) → s.failed ≡ false → DoesNotWait s session
+      → ((a : SessionTxn) → IsAmong a s.sessions.active → a.session ≢ session) → HasNoTxn s session
+  in_none seats unprepared session works waits_not none = in_no_txn s seats unprepared session none
+      (λ a m same. let its = commit_call works a m in waits_not (as_waiting its.0) (call_waits its.0 its.1) (its.2 ∙ same))
 
   pub committing_count : s.failed ≡ false → length s.sessions.committing ≡ length (commits_of calls)
   committing_count works =
@@ -140,7 +142,7 @@ module _ (calls : List WaitingCall) (s : State) (was : HasWaits calls s) where
   pub waits_committed : (a : SessionTxn) → IsAmong a s.sessions.active → EachOnce (txns_of s.sessions.active) → All (λ w. w.session ≢ a.session) calls
       → HasWaits (calls ++ record { session = a.session; txn = a.txn; call = call.Commit; wait = Durable (next_number s); cycle = None } ∷ []) (committed s a)
   waits_committed a m once free = let it : WaitingCall = record { session = a.session; txn = a.txn; call = call.Commit; wait = Durable (next_number s); cycle = None } in record {
-    waiting = ap (λ ws. commit_waiting a.session (next_number s) ∷ ws) was.waiting ∙ sym (waitings-push calls it);
+    waiting = ap (λ ws. decision_waiting a.session call.Commit (next_number s) ∷ ws) was.waiting ∙ sym (waitings-push calls it);
     committing = λ f. ap (λ ns. name_of a ∷ ns) (was.committing f) ∙ sym (committers-pushed calls it (it ∷ []) refl);
     asking = λ w n is. ⊎_elim (λ old. still_asks a m once free w old is)
         (λ new. ⊎_elim (λ same. absurd (clash (ap is_commit same ∙ is))) (λ none. absurd none) new)
@@ -174,9 +176,9 @@ module _ (calls : List WaitingCall) (s : State) (was : HasWaits calls s) where
       commits_stay f = sym (filter_all (is_other session) (commits_of calls) (is_other_commit f)) ∙ filter_both (is_other session) is_commit calls
 
   -- a commit is answered
-  pub waits_ended : (o : Records) (es : List Entry) (a : SessionTxn) → SessionsAgree o es s.sessions → s.failed ≡ false → IsAmong a s.sessions.committing
+  pub waits_ended : (a : SessionTxn) → HasOwnSeats s.sessions → s.failed ≡ false → IsAmong a s.sessions.committing
       → HasWaits (filter (is_other a.session) calls) (commit_ended s a)
-  waits_ended o es a agree works m = record {
+  waits_ended a seats works m = record {
     waiting = ap (without_waiting a.session) was.waiting ∙ waitings-taken a.session calls;
     committing = λ f.
         sym (filter-map name_of is_other_number s.sessions.committing)
@@ -189,13 +191,23 @@ module _ (calls : List WaitingCall) (s : State) (was : HasWaits calls s) where
       is_other_number : ℕ × ℕ → Bool
       is_other_number n = not (n.1 == a.txn)
 
+      seat : (b : SessionTxn) → IsAmong b s.sessions.committing → s.sessions.seats b.session ≡ in_txn b.txn
+      seat b n = seats.own b.session b.txn (inr (among_map name_of b s.sessions.committing n))
+
       same_number : (b : SessionTxn) → IsAmong b s.sessions.committing → b.session ≡ a.session → b.txn ≡ a.txn
-      same_number b n same =
-          ap (λ (x : SessionState). x.txn) (sym (agree.current b (inr n)) ∙ ap (λ t. session_state t free es) same ∙ agree.current a (inr m))
+      same_number b n same = ap (λ (x : SessionState). x.txn) (sym (seat b n) ∙ ap s.sessions.seats same ∙ seat a m)
+
+      number : (b : SessionTxn) → IsAmong b s.sessions.committing → (s.sessions.seats b.session).txn ≡ b.txn
+      number b n = ap (λ (x : SessionState). x.txn) (seat b n)
+
+      same_session : (b : SessionTxn) → IsAmong b s.sessions.committing → b.txn ≡ a.txn → b.session ≡ a.session
+      same_session b n same =
+          let above = seats.above b.session b.txn (inr (among_map name_of b s.sessions.committing n)) in
+          seats.one b.session a.session (subst (λ t. 0 < t) (sym (number b n)) above) (number b n ∙ same ∙ sym (number a m))
 
       decided : (b : SessionTxn) → IsAmong b s.sessions.committing → (x : Bool) → (b.session == a.session) ≡ x → not (b.txn == a.txn) ≡ not x
       decided b n true e = ap not (eq-eqb b.txn a.txn (same_number b n (eqb-true b.session a.session e)))
-      decided b n false e = ap not (ne_eqb b.txn a.txn (λ same. eqb-false b.session a.session e (agree.one b a (inr n) (inr m) same)))
+      decided b n false e = ap not (ne_eqb b.txn a.txn (λ same. eqb-false b.session a.session e (same_session b n same)))
 
       alike : (n : ℕ × ℕ) → IsAmong n (names_of s.sessions.committing) → is_other_number n ≡ is_other_name a.session n
       alike n k =

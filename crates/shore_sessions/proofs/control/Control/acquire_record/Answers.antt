@@ -10,6 +10,7 @@ pub returns-then-intends-clause-stands : goal.returns-then-intends-clause-stands
 returns-then-intends-clause-stands c s has = record {
   txns = record {
     active = has.txns.active;
+    unprepared = record { prepared = has.txns.unprepared.prepared; resolving = has.txns.unprepared.resolving };
     next = has.txns.next;
     stream = has.txns.stream;
     kept = has.txns.kept;

@@ -1,5 +1,5 @@
 use Rattle.std.proofs.Common.{inr, refl}
-use Rattle.laws_lives.specs.Sessions.{txn_begun}
+use Rattle.laws_calls.specs.StateChanges.{begun}
 use Rattle.shore_sessions.specs.Controls.{txns_in, waits_in}
 use Rattle.shore_sessions.proofs.Answered.{err_so, ok_so}
 use Rattle.shore_sessions.proofs.TxnSteps.{txns_begun, txns_unchanged}
@@ -8,9 +8,9 @@ use Rattle.shore_sessions.proofs.control.Control.begin.Goals as goal
 
 pub returns-clause-stands : goal.returns-clause-stands
 returns-clause-stands c = let done = c.begin.ensures in ok_so c.begin.result
-    (λ begun undos next s was. record {
-      txns = txns_begun (txns_in c.args.self.now) c.begin.new.self s was.txns c.args.session begun.0 begun.1 begun.2 undos next done.kept done.stream;
-      waits = waits_kept (waits_in c.args.self.now) s was.waits (record s { sessions = txn_begun s.sessions c.args.session }) refl refl (λ f. f) (λ n m. inr m);
+    (λ more undos next s was. record {
+      txns = txns_begun (txns_in c.args.self.now) c.begin.new.self s was.txns c.args.session more.0 more.1 more.2 undos next done.kept done.stream;
+      waits = waits_kept (waits_in c.args.self.now) s was.waits (begun s c.args.session) refl refl (λ f. f) (λ n m. inr m);
       locks = was.locks;
     }) done.begun done.undos done.next
 

@@ -21,15 +21,15 @@ pub returns-clause-stands : goal.returns-clause-stands
 unfolding left_by
 returns-clause-stands c s a was its =
     let done = c.note_end-txn.ensures in
-    let here = subst (IsAmong a) was.txns.active its.0 in
+    let here = subst (IsAmong a) was.txns.active its.0.0 in
     let once = subst (λ ts. EachOnce (txns_of ts)) (sym was.txns.active) c.args.self.now.txns.numbers in
     let free = subst (λ n. All (λ (w : WaitingCall). w.session ≢ n) (waits_in c.args.self.now)) (sym its.1) c.requires.free in
     record {
-      txns = txns_aborted (txns_in c.args.self.now) c.note_end-txn.new.self s was.txns c.args.seat.now.session [] a done.left its.0 its.1 (done.undos a here its.1) done.next done.stream c.args.logged done.kept;
+      txns = txns_aborted (txns_in c.args.self.now) c.note_end-txn.new.self s was.txns c.args.seat.now.session [] a done.left its.0.0 its.1 (done.undos a here its.1) done.next done.stream c.args.logged done.kept;
       waits = record {
         waiting = was.waits.waiting;
         committing = was.waits.committing;
-        asking = still_asks (waits_in c.args.self.now) s was.waits a its.0 once free;
+        asking = still_asks (waits_in c.args.self.now) s was.waits a its.0.0 once free;
       };
       locks = ap (left_by a.txn) was.locks ∙ sym (returns-clause-locks c a here its.1);
     }

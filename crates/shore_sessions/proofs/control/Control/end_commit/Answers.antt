@@ -8,13 +8,13 @@ use Rattle.shore_sessions.proofs.Taking.{among_all, one_of_session}
 use Rattle.shore_sessions.proofs.control.Control.end_commit.Goals as goal
 
 pub returns-in-Some-clause-stands : goal.returns-in-Some-clause-stands
-returns-in-Some-clause-stands c o es s a agree was works m own =
+returns-in-Some-clause-stands c s a seats was works m own =
     let found = c.in-Some.ensures.some in
-    control_ended c.args.self.now _ s was refl o es a agree works m c.args.session c.in-Some.call own c.args.self.now.waits.once found.0 found.1 c.release_all.ensures.table c.take.ensures.left
+    control_ended c.args.self.now _ s was refl a seats works m c.args.session c.in-Some.call own c.args.self.now.waits.once found.0 found.1 c.release_all.ensures.table c.take.ensures.left
 
 pub returns-in_default-clause-stands : goal.returns-in_default-clause-stands
-returns-in_default-clause-stands c o es s a agree was works m own =
-    absurd (none_to_end c.args.self.now c.args.self.now s was refl o es a agree works m c.args.session own c.in_default.ensures.none)
+returns-in_default-clause-stands c s a seats was works m own =
+    absurd (none_to_end c.args.self.now c.args.self.now s was refl a seats works m c.args.session own c.in_default.ensures.none)
 
 pub returns-in-Some-clause-locks : goal.returns-in-Some-clause-locks
 returns-in-Some-clause-locks c w m own =

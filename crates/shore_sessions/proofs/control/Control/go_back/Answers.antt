@@ -12,7 +12,7 @@ use Rattle.shore_txn.specs.ActiveTxns.{back_at}
 use Rattle.shore_txn.specs.Transactions.{undos_in}
 use Rattle.shore_sessions.specs.Controls.{txns_in, waits_in}
 use Rattle.shore_sessions.proofs.RollbackSteps.{all_left, back_logged}
-use Rattle.shore_sessions.proofs.TxnSteps.{txns_still}
+use Rattle.shore_sessions.proofs.TxnSteps.{none_still, txns_still}
 use Rattle.shore_sessions.proofs.WaitSteps.{names-with_undo, waits_kept}
 use Rattle.shore_sessions.proofs.control.Control.go_back.Goals as goal
 
@@ -26,8 +26,8 @@ returns-clause-stands c s a was its none =
       txns = txns_still (txns_in c.args.self.now) c.go_back.new.self s was.txns new c.args.seat.now.session (becomes_so (back_logged index) done.back)
           (ap (with_undo a.txn undo) was.txns.active
           ∙ ap (λ l. with_undo a.txn (back_at index (record a.undo { images = l })) (undos_in (txns_in c.args.self.now))) (all_left (mark_of a.undo index) a.undo.images none)
-          ∙ sym (done.undos a (subst (IsAmong a) was.txns.active its.0) its.1))
-          refl refl (ap (and_compensations a.txn s.log) none) done.next done.room;
+          ∙ sym (done.undos a (subst (IsAmong a) was.txns.active its.0.0) its.1))
+          (none_still refl refl was.txns.unprepared) refl refl (ap (and_compensations a.txn s.log) none) done.next done.room;
       waits = waits_kept (waits_in c.args.self.now) s was.waits new refl refl (λ f. f) (λ n m. subst (IsAmong n) (sym (names-with_undo a.txn undo s.sessions.active)) m);
       locks = was.locks;
     }

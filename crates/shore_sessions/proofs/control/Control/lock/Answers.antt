@@ -9,7 +9,7 @@ use Rattle.shore_sessions.proofs.TriedLocks.{tried_to}
 use Rattle.shore_sessions.proofs.control.Control.lock.Goals as goal
 
 pub returns-in-Refuse-clause-locks : goal.returns-in-Refuse-clause-locks
-returns-in-Refuse-clause-locks c s found es a call was state works its number refuses =
+returns-in-Refuse-clause-locks c s o found es a call was state works its number refuses =
     let lock : Asked = record { granule = c.args.granule; mode = c.args.mode } in
     let tries : on_conflict_of call ≡ conflict.Refuse = refuses ∙ c.in-Refuse.is in
     let of_state : acquired conflict.Refuse s.locks c.args.txn lock.granule lock.mode ≡ lock_outcome s a call lock =
@@ -22,5 +22,5 @@ returns-in-Refuse-clause-locks c s found es a call was state works its number re
     )
 
 pub returns-in-Wait-clause-locks : goal.returns-in-Wait-clause-locks
-returns-in-Wait-clause-locks c s found es a call was state works its number waits =
-    c.lock_or_wait.ensures.locks s found es a call was state works its number (waits ∙ c.in-Wait.is)
+returns-in-Wait-clause-locks c s o found es a call was state works its number waits =
+    c.lock_or_wait.ensures.locks s o found es a call was state works its number (waits ∙ c.in-Wait.is)

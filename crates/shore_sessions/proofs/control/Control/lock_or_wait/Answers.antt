@@ -25,7 +25,7 @@ use Rattle.shore_sessions.proofs.control.Control.lock_or_wait.Goals.{After-answe
 -- ---- at once
 
 pub returns-in_err-acquire-clause-locks : goal.returns-in_err-acquire-clause-locks
-returns-in_err-acquire-clause-locks c s found es a call was state works its number may_wait =
+returns-in_err-acquire-clause-locks c s o found es a call was state works its number may_wait =
     let f = c.in_err-acquire.field-0.0 in
     let asked : Asked = record { granule = c.args.granule; mode = c.args.mode } in
     let refused = err_from_is_err_and c.from_residual.result c.from_residual.ensures.1 in
@@ -35,7 +35,7 @@ returns-in_err-acquire-clause-locks c s found es a call was state works its numb
     (ends.0, subst (λ answer. LocksTo s a call asked answer ends.0) (sym is) ends.1, ends.2)
 
 pub returns-in-Done-clause-locks : goal.returns-in-Done-clause-locks
-returns-in-Done-clause-locks c s found es a call was state works its number may_wait =
+returns-in-Done-clause-locks c s o found es a call was state works its number may_wait =
     waits_for_none c.args.self.now c.acquire.new.self s a call (record { granule = c.args.granule; mode = c.args.mode }) c.args.txn (Ok acquire.Done) was number may_wait (λ at waits. cc)
     (ap Ok (sym c.in-Done.is) ∙ c.in_ok-acquire.ensures.answer) (c.acquire.ensures.stands s was)
 
@@ -78,13 +78,13 @@ returns-in-Waiting-clause-refused c =
     (refuses_so (locks_in c.args.self.now) c.settle-answer.new.table c.args.txn c.args.granule c.args.mode answer victims (settled c))
 
 pub returns-in-Waiting-clause-locks : goal.returns-in-Waiting-clause-locks
-returns-in-Waiting-clause-locks c s found es a call was state works its number may_wait =
+returns-in-Waiting-clause-locks c s o found es a call was state works its number may_wait =
     let control = c.args.self.now in
     let answer = c.settle-answer.result.answer in
     let victims = c.settle-answer.result.victims.items in
     let asked : Asked = record { granule = c.args.granule; mode = c.args.mode } in
     let idle = free_waits_not (waits_in control) s was.waits c.args.seat.now.session c.requires.free in
-    let start : IsStart a call asked may_wait s = starts found es s state works a call asked may_wait its.0
+    let start : IsStart a call asked may_wait s = starts o found es s state was.txns.unprepared works a call asked may_wait its.0.0
     (subst (λ (x : Table). is_waiting a.txn x.requests ≡ false) (sym was.locks) (subst (λ t. is_waiting t (locks_in control).requests ≡ false) (sym number) c.requires.quiet))
     (λ w m same. idle w m (same ∙ its.1)) in
     let settles : Settles s.locks c.settle-answer.new.table a.txn c.args.granule c.args.mode answer victims =
@@ -95,7 +95,7 @@ returns-in-Waiting-clause-locks c s found es a call was state works its number m
     ap (λ t. answer_of answer (told_cycle t None victims)) number ∙ ap (answer_of answer) (sym c.note_victims-told.ensures.told) ∙ sym c.answer_of.ensures in
     let noted : AreNoted c.args.seat.now.session c.args.txn s victims comes.new =
     subst (λ t. AreNoted c.args.seat.now.session t s victims comes.new) number (subst (λ n. AreNoted n a.txn s victims comes.new) its.1 comes.noted) in
-    let stands = c.note_victims-told.ensures.stands s comes.new (stands_for found es s state works control _ was.txns was.waits c.acquire.ensures.txns c.acquire.ensures.waits)
+    let stands = c.note_victims-told.ensures.stands s comes.new (stands_for o found es s state was.txns.unprepared works control _ was.txns was.waits c.acquire.ensures.txns c.acquire.ensures.waits)
     (subst (All (λ (w : WaitingCall). w.session ≢ c.args.seat.now.session)) (sym c.acquire.ensures.waits) c.requires.free) noted in (
       comes.new,
       subst (λ answered. LocksTo s a call asked answered comes.new) told comes.locks_to,

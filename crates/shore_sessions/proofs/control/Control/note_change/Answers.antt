@@ -14,8 +14,8 @@ returns-clause-stands c s a image counts was its number found logged claimed alo
     let entry = c.args.entry in
     record {
       txns = txns_changed (txns_in c.args.self.now) c.note_change.new.self s was.txns c.args.seat.now.session entry a image counts done.noted
-          (done.undos a (subst (IsAmong a) was.txns.active its.0) its.1) done.next (done.kept ∙ ap (λ n. (room_in (txns_in c.args.self.now)).kept + n) logged) done.stream
-          its.0 its.1 number found claimed alone claim;
+          (done.undos a (subst (IsAmong a) was.txns.active its.0.0) its.1) done.next (done.kept ∙ ap (λ n. (room_in (txns_in c.args.self.now)).kept + n) logged) done.stream
+          its.0.0 its.1 number found claimed alone claim;
       waits = waits_kept (waits_in c.args.self.now) s was.waits (changed s a entry.id image counts) refl refl (λ f. f)
           (λ n m. subst (IsAmong n) (sym (names-with_undo a.txn (with_before_image s.sessions.records a.undo entry.id) s.sessions.active)) m);
       locks = was.locks;

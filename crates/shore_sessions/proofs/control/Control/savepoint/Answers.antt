@@ -15,7 +15,7 @@ use Rattle.shore_txn.proofs.ActiveSteps.{becomes_so}
 use Rattle.shore_sessions.specs.Controls.{txns_in, waits_in}
 use Rattle.shore_sessions.specs.Standing.{HasControl}
 use Rattle.shore_sessions.proofs.RollbackSteps.{savepoint_logged}
-use Rattle.shore_sessions.proofs.TxnSteps.{txns_same, txns_still}
+use Rattle.shore_sessions.proofs.TxnSteps.{none_still, txns_same, txns_still}
 use Rattle.shore_sessions.proofs.WaitSteps.{names-with_undo, waits_kept}
 use Rattle.shore_sessions.proofs.control.Control.savepoint.Goals as goal
 
@@ -29,12 +29,12 @@ returns-clause-stands c = each c.savepoint.result c.savepoint.ensures.set c.save
         → (index ≡ length a.undo.marks) × HasControl (record c.args.self.now { txns = c.savepoint.new.self }) (answered s a call.Savepoint (Saved index) s.counts))
     each (Err e) none more undos = none
     each (Ok index) one its undos = λ s a was own.
-        let here = subst (IsAmong a) was.txns.active own.0 in
+        let here = subst (IsAmong a) was.txns.active own.0.0 in
         let new : State = answered s a call.Savepoint (Saved index) s.counts in (
           its a here own.1,
           record {
             txns = txns_still (txns_in c.args.self.now) c.savepoint.new.self s was.txns new c.args.seat.now.session (becomes_so savepoint_logged one)
-                (ap (with_undo a.txn (with_mark a.undo)) was.txns.active ∙ sym (undos a here own.1)) refl refl refl c.savepoint.ensures.next c.savepoint.ensures.room;
+                (ap (with_undo a.txn (with_mark a.undo)) was.txns.active ∙ sym (undos a here own.1)) (none_still refl refl was.txns.unprepared) refl refl refl c.savepoint.ensures.next c.savepoint.ensures.room;
             waits = waits_kept (waits_in c.args.self.now) s was.waits new refl refl (λ f. f)
                 (λ n m. subst (IsAmong n) (sym (names-with_undo a.txn (with_mark a.undo) s.sessions.active)) m);
             locks = was.locks;

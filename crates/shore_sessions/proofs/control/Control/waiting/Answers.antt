@@ -12,7 +12,7 @@ returns-clause-does_not c = none_so c.of.result (λ none s stands. free_waits_no
 
 pub returns-clause-asks : goal.returns-clause-asks
 returns-clause-asks c = some_so c.of.result
-    (λ w found is s stands. let its = asks (waits_in c.args.self.now) s stands.waits w.now found.0 is in (its.0, (its.1.0, its.1.1 ∙ found.1), its.2)) c.of.ensures.some
+    (λ w found is s stands seats. let its = asks (waits_in c.args.self.now) s stands.waits seats stands.txns.unprepared w.now found.0 is in (its.0, (its.1.0, its.1.1 ∙ found.1), its.2)) c.of.ensures.some
 
 pub returns-clause-commits : goal.returns-clause-commits
 returns-clause-commits c = some_so c.of.result
