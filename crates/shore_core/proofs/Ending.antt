@@ -19,7 +19,8 @@ use Rattle.laws_room.specs.Claims.{Claimed, slots_of}
 use Rattle.laws_room.specs.Settling.{let_go}
 use Rattle.laws_room.proofs.Leaving.{left_slots}
 use Rattle.laws_lives.specs.Logged.{and_record, and_rollback}
-use Rattle.laws_lives.specs.Sessions.{SessionTxn, abort_answered, without_txn}
+use Rattle.laws_lives.specs.SessionSteps.{AnswerAbort, entries_by}
+use Rattle.laws_lives.specs.Sessions.{SessionTxn, abort_answered, seated, without_txn}
 use Rattle.laws_lives.specs.UndoLists.{rolled_back}
 use Rattle.laws_lives.specs.Views.{IsAmong}
 use Rattle.laws_calls.specs.CallSteps.{aborted, with_requests}
@@ -76,13 +77,13 @@ module _ (s : State) (a : SessionTxn) (none : a.undo.images ≡ []) where
   -- it has logged nothing
   pub aborted_unlogged : previous_of a.txn s.log ≡ 0 → aborted s a ≡ abort_ended s a false
   aborted_unlogged nothing =
-      ap (λ (log : List LogRecord). with_requests (record s { sessions = abort_answered s.sessions a; log = log }) (released a.txn s.locks.requests))
+      ap (λ (log : List LogRecord). with_requests (record s { sessions = seated s.sessions (entries_by s.sessions (AnswerAbort a)) (abort_answered s.sessions a); log = log }) (released a.txn s.locks.requests))
       (when_none (previous_of a.txn s.log) s.log _ nothing)
 
   -- .. or its End goes last
   pub aborted_logged : (previous_of a.txn s.log ≡ 0 → ⊥) → aborted s a ≡ abort_ended s a true
   aborted_logged some =
-      ap (λ (log : List LogRecord). with_requests (record s { sessions = abort_answered s.sessions a; log = log }) (released a.txn s.locks.requests))
+      ap (λ (log : List LogRecord). with_requests (record s { sessions = seated s.sessions (entries_by s.sessions (AnswerAbort a)) (abort_answered s.sessions a); log = log }) (released a.txn s.locks.requests))
       (ap (and_rollback a.txn s.log) none ∙ when_some (previous_of a.txn s.log) s.log (and_record a.txn s.log End) some)
 
   -- each page has the slots that it had: nothing could have come back to them

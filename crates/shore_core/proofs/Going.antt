@@ -5,6 +5,7 @@ use Rattle.shore_types.specs.declared.faults.Fault.{Fault}
 use Rattle.shore_types.specs.declared.layout.Geometry.{Geometry}
 use Rattle.shore_types.specs.declared.locking.Granule.{Granule}
 use Rattle.shore_model.specs.declared.calls.Call.{Call}
+use Rattle.shore_model.specs.declared.calls.Call.TheVariants as call
 use Rattle.shore_model.specs.declared.log_records.LogRecord.{LogRecord}
 use Rattle.shore_disk.specs.declared.device.Disk as disk
 use Rattle.shore_log.specs.declared.tail.Tail as tail
@@ -15,18 +16,19 @@ use Rattle.laws_lives.specs.Views.{IsAmong}
 use Rattle.shore_sessions.proofs.Lists.{among_filtered}
 use Rattle.laws_calls.proofs.OneSessionStep.{none_early}
 use Rattle.laws_calls.proofs.SessionFailures.{IsHarmless, early_harmless}
-use Rattle.laws_calls.proofs.SessionResumes.{apart, woken}
-use Rattle.laws_calls.proofs.SessionsWaiting.{woken_waits}
+use Rattle.laws_calls.proofs.SessionResumes.{woken}
+use Rattle.laws_calls.proofs.SessionsWaiting.{no_record_awaited, woken_waits}
 use Rattle.laws_calls.specs.StateChanges.{after_refusal, wait_refused}
 use Rattle.laws_calls.specs.CallSteps.{CallGoesOn, MayAsk, RefusesEarly, ResumesWait}
 use Rattle.laws_calls.specs.Settling.{GoesSettled, SettledCall, SettledResume, Settles}
 use Rattle.shore_model.specs.declared.step.Step.{Step}
 use Rattle.shore_model.specs.declared.step.Step.TheVariants.{Refused}
-use Rattle.laws_calls.specs.SessionWaits.{IsCommitWait, IsLockWait, WaitsOfSessions}
+use Rattle.laws_calls.specs.SessionWaits.{IsDecisionWait, IsLockWait, WaitsOfSessions}
 use Rattle.laws_calls.specs.States.{DoesNotWait, IsOfSession, State, Waiting}
 use Rattle.shore_model.specs.declared.step.Wait.{Wait}
 use Rattle.shore_model.specs.declared.step.Wait.TheVariants.{Durable, Lock}
 use Rattle.shore_sessions.specs.Calls.{is_commit, is_durable}
+use Rattle.shore_sessions.specs.Standing.{HasNonePrepared}
 use Rattle.shore_sessions.specs.declared.waits.WaitingCall.{WaitingCall}
 use Rattle.shore_core.specs.declared.core_calls.Core.{Core}
 use Rattle.shore_core.specs.Cores.{IsSafe, geometry_of}
@@ -37,9 +39,17 @@ use Rattle.shore_core.proofs.Taking.{stays_after, true_false}
 durable_lock : (n : ℕ) (at : Granule) → ◌≡◌ {A = Wait} (Durable n) (Lock at) → ⊥
 durable_lock n at e = cc
 
--- who waits for a record is a commit, and who waits for a lock another call
-pub commit_waits : (base : ℕ) (s : State) (w : Waiting) (n : ℕ) → WaitsOfSessions base s → IsAmong w s.waiting → w.wait ≡ Durable n → IsCommitWait base s w
+-- who waits for a record waits for that of its decision, and who waits for a lock is another call
+pub commit_waits : (base : ℕ) (s : State) (w : Waiting) (n : ℕ) → WaitsOfSessions base s → IsAmong w s.waiting → w.wait ≡ Durable n → IsDecisionWait base s w
 commit_waits base s w n waits m is = elim (waits.each w m) [ inl commit ↦ commit | inr lock ↦ absurd (durable_lock n lock.at (sym is ∙ lock.is)) ]
+
+-- .. which is a commit's, while nobody is prepared
+pub commit_of : {base : ℕ} {w : Waiting} (s : State) → IsDecisionWait base s w → HasNonePrepared s.sessions
+    → (a : SessionTxn) × IsAmong a s.sessions.committing × (a.session ≡ w.session) × (w.call ≡ call.Commit)
+commit_of s wait none = elim wait.unanswered [
+  | inl commit ↦ (commit.0, commit.1, commit.2, commit.3)
+  | inr prepare ↦ absurd (let never = subst (IsAmong (record { txn = prepare.0; global = prepare.1; answered = false })) none.prepared prepare.2.0 in never)
+]
 
 -- .. so its transaction is no victim
 pub spared_commit : (base : ℕ) (s : State) (w : Waiting) (n : ℕ) → WaitsOfSessions base s → IsAmong w s.waiting → w.wait ≡ Durable n → w.cycle ≡ None
@@ -73,7 +83,7 @@ blocked_spared g s safe session a works its w m same blocked = by w.cycle refl
     by None is = is
     by (Some cycle) is =
         let quiet =
-        safe.after.sessions.locks.waits works a its.0
+        safe.after.sessions.locks.waits works a its.0.0
         (λ v there spared of. clash cycle (sym is ∙ ap (λ (x : Waiting). x.cycle) (safe.after.waits.once w v m there (same ∙ sym its.1 ∙ sym of)) ∙ spared)) in
         absurd (true_false (sym blocked ∙ quiet))
 
@@ -83,11 +93,13 @@ pub safe_woken : (g : Geometry) (s : State) (safe : IsSafe g s) (session : ℕ) 
 safe_woken g s safe session a its quiet =
     let k = safe.after in
     record {
+      opening = safe.opening;
       found = safe.found;
       entries = safe.entries;
       after = record {
-        sessions = woken g safe.found safe.entries s k.sessions a session its quiet;
-        waits = woken_waits safe.found safe.entries s k.sessions k.waits session (λ works b m of. apart g safe.found safe.entries s k.sessions b a m its.0 (its.1 ∙ sym of));
+        sessions = woken g safe.opening safe.found safe.entries s k.sessions a session its quiet;
+        waits = woken_waits safe.opening safe.found safe.entries s k.sessions k.waits session
+            (λ works v m of. no_record_awaited safe.opening safe.found safe.entries s k.sessions k.waits a its.0 v m (of ∙ sym its.1));
         forced = record { least = k.forced.least; most = k.forced.most; acknowledged_kept = k.forced.acknowledged_kept };
         few = k.few;
       };
@@ -115,12 +127,12 @@ module _ {T V : Type 0} {G : tail.Ghosts T} {H : disk.Ghosts V} (old new : Core 
       | inl early ↦
           subst (λ x. SettledCall (geometry_of old) s session c (as_step x) (once_noted x asked.later)) (sym early.2)
           (called_at_once (geometry_of old) s _ session c (Refused early.0) tt
-          (inr (inr (inr (inr (inr (works, idle, (a, its, inr (inl (whole, inl (early.0, early.1, refl, early_plain (geometry_of old) c early.0 asked.later early.1 ∙ early.3)))))))))))
+          (inr (inr (inr (inr (inr (inl (works, idle, (a, its, inr (inl (whole, inl (early.0, early.1, refl, early_plain (geometry_of old) c early.0 asked.later early.1 ∙ early.3))))))))))))
       | inr goes ↦ record {
         first = goes.1.first;
         mid = goes.1.mid;
         rounds = goes.1.rounds;
-        calls = inr (inr (inr (inr (inr (works, idle, (a, its, inr (inl (whole, inr (inl (goes.0, goes.1.goes))))))))));
+        calls = inr (inr (inr (inr (inr (inl (works, idle, (a, its, inr (inl (whole, inr (inl (goes.0, goes.1.goes)))))))))));
         settles = subst (λ n. Settles (geometry_of old) goes.1.mid n goes.1.first goes.1.rounds (as_step r) (once_noted r asked.later)) its.1 goes.1.settles;
       }
     ];

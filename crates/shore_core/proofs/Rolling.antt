@@ -140,15 +140,15 @@ module _ (g : Geometry) (s : State) (safe : IsSafe g s) (session : ℕ) (a : Ses
 
   -- one that was interrupted is a step of the manager
   pub interrupted : (r : Rollback) → MayRoll a.undo r → (f : Fault) (mid : State) → IsUnwound s a r mid → Interrupts mid f → CallStep g s session (call_of r) (Refused f) (after_refusal f mid)
-  interrupted Whole may f mid unwound why = inr (inr (inr (inr (inr (works, idle, (a, of, inr (inr (inr (refl, (mid, unwound, why, refl))))))))))
-  interrupted (To n) may f mid unwound why = inr (inr (inr (inr (inr (works, idle, (a, of, inr (inr (inl (n, refl, takes n may, inr (may.0, (mid, unwound, why, refl)))))))))))
+  interrupted Whole may f mid unwound why = inr (inr (inr (inr (inr (inl (works, idle, (a, of, inr (inr (inr (refl, (mid, unwound, why, refl)))))))))))
+  interrupted (To n) may f mid unwound why = inr (inr (inr (inr (inr (inl (works, idle, (a, of, inr (inr (inl (n, refl, takes n may, inr (may.0, (mid, unwound, why, refl))))))))))))
 
   -- and so is one that comes through
   pub aborts_done : CallStep g s session call.Abort (Done Aborted) (aborted s a)
-  aborts_done = inr (inr (inr (inr (inr (works, idle, (a, of, inr (inr (inr (refl, (refl, refl))))))))))
+  aborts_done = inr (inr (inr (inr (inr (inl (works, idle, (a, of, inr (inr (inr (refl, (refl, refl)))))))))))
 
   pub goes_back_done : (n : ℕ) → MayRoll a.undo (To n) → CallStep g s session (call.BackTo n) (Done WentBack) (answered s a (call.BackTo n) WentBack s.counts)
-  goes_back_done n may = inr (inr (inr (inr (inr (works, idle, (a, of, inr (inr (inl (n, refl, takes n may, (may.0, refl, refl))))))))))
+  goes_back_done n may = inr (inr (inr (inr (inr (inl (works, idle, (a, of, inr (inr (inl (n, refl, takes n may, (may.0, refl, refl)))))))))))
 
   module _ (r : Rollback) (may : MayRoll a.undo r) where
     -- so what it leaves is safe
@@ -156,17 +156,18 @@ module _ (g : Geometry) (s : State) (safe : IsSafe g s) (session : ℕ) (a : Ses
     safe_rolled kept undone some images least =
         let mid = put_back s a kept undone r in
         let step = interrupted r may fault.Memory mid (inr (kept, undone, some, images, least, refl)) (inl refl) in
-        let after = session_call_stays safe.found safe.entries s safe.after g session (call_of r) (Refused fault.Memory) mid step in
+        let after = session_call_stays safe.opening safe.found safe.entries s safe.after g session (call_of r) (Refused fault.Memory) mid step in
         let made = entries_of_call s session (call_of r) (Refused fault.Memory) in
-        let comes = session_call_comes g safe.found safe.entries s safe.after session (call_of r) (Refused fault.Memory) mid step in
+        let comes = session_call_comes g safe.opening safe.found safe.entries s safe.after session (call_of r) (Refused fault.Memory) mid step in
         let even = (call_further g s session (call_of r) (Refused fault.Memory) mid step).durable in
-        let leaves = later_leaving g safe.stream_bytes s.durable mid (omega (arith, even)) (comes_leaving g safe.stream_bytes safe.found s.durable safe.entries s mid made safe.after safe.roomy safe.leaves comes) in
+        let leaves = later_leaving g safe.stream_bytes s.durable mid (omega (arith, even)) (comes_leaving g safe.stream_bytes safe.opening safe.found s.durable safe.entries s mid made safe.after safe.roomy safe.leaves comes) in
         record {
+          opening = safe.opening;
           found = safe.found;
           entries = safe.entries ++ made;
           after = after;
           asks = safe.asks;
-          roomy = session_call_roomy safe.found safe.entries s safe.after safe.roomy g session (call_of r) (Refused fault.Memory) mid step;
+          roomy = session_call_roomy safe.opening safe.found safe.entries s safe.after safe.roomy g session (call_of r) (Refused fault.Memory) mid step;
           stream_bytes = safe.stream_bytes;
           leaves = leaves;
           inside = records_inside g mid.log mid.sessions.records (whole_placed g safe.stream_bytes mid.durable mid.log leaves.prefixes)
@@ -213,14 +214,14 @@ module _ (g : Geometry) (s : State) (safe : IsSafe g s) (session : ℕ) (a : Ses
         → GoesOnFrom count (put_back s a kept undone r)
     from_rolled kept undone count some images least left = record {
       its = rolled a kept r;
-      owned = (its_list a (undo_rolled a.undo kept r) s.sessions.active of.0, of.1);
+      owned = ((its_list a (undo_rolled a.undo kept r) s.sessions.active of.0.0, of.0.1, of.0.2), of.1);
       rests = idle;
       runs = works;
       stays_safe = safe_rolled kept undone some images (omega (arith, least, left));
       left = left;
       mark = λ n is. subst (λ (x : Rollback). mark_of (rolled a kept x).undo n ≡ mark_of a.undo n) (sym is) (same_mark a.undo kept n (may_at n is).0);
       aborts = λ is. subst (λ (x : Rollback). aborted (put_back s a kept undone x) (rolled a kept x) ≡ aborted s a) (sym is)
-          (abort_alike s a kept undone images (safe.after.sessions.agree.above a (inl of.0)) (safe.after.sessions.log.undo_logged a of.0) some);
+          (abort_alike s a kept undone images of.0.2 (safe.after.sessions.log.undo_logged a of.0.0) some);
       goes_back = λ n is. subst (λ (x : Rollback). answered (put_back s a kept undone x) (rolled a kept x) (call.BackTo n) WentBack s.counts ≡ answered s a (call.BackTo n) WentBack s.counts) (sym is)
           (back_alike s a kept undone images n (may_at n is).0 (let most = subst (λ (x : Rollback). least_kept a.undo x ≤ count) is least in omega (arith, most, left)));
       next = λ less e here. record {

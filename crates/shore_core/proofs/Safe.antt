@@ -1,5 +1,5 @@
 -- A state is safe behind a lock that was asked for, if it was before.
-use Rattle.std.proofs.Common.{◌≡◌, ◌≢◌, inl, inr, ℕ, ◌++◌, List, Result, Ok, Err, false, refl, sym, ap, subst, ◌∙◌}
+use Rattle.std.proofs.Common.{◌≡◌, ◌≢◌, ℕ, ◌++◌, List, [], append-nil, Result, Ok, Err, false, refl, sym, ap, subst, ◌∙◌}
 use Rattle.shore_disk.specs.declared.device.Disk as disk
 use Rattle.shore_disk.specs.Device.{size}
 use Rattle.shore_log.specs.declared.tail.Tail as tail
@@ -28,18 +28,18 @@ use Rattle.laws_room.specs.Claims.{NoOthers}
 use Rattle.laws_lives.proofs.GranuleLocks.{permitted}
 use Rattle.laws_lives.specs.GranuleLocks.{HasLock}
 use Rattle.laws_lives.specs.Sessions.{SessionTxn}
-use Rattle.laws_lives.specs.Views.{IsAmong}
 use Rattle.shore_heap.specs.Heaps as heaps
 use Rattle.shore_heap.specs.Heaps.{Shows}
 use Rattle.laws_lives.specs.Recovery.{RecoveryState}
 use Rattle.shore_txn.specs.Transactions.{kept_in}
 use Rattle.laws_runs.specs.RoomyStates.{LeavesRoomyLogs}
+use Rattle.laws_calls.proofs.SessionsWaiting.{waits_left}
 use Rattle.laws_calls.proofs.TakenLocks.{leaves, locked_state}
 use Rattle.laws_calls.specs.CallHistories.{IsForced, IsRoomyState}
 use Rattle.laws_calls.specs.CallSteps.{behind_lock, behind_place, lock_outcome, on_conflict_of, place_outcome, with_requests}
 use Rattle.laws_calls.specs.LockedStates.{IsSessionsState}
-use Rattle.laws_calls.specs.SessionWaits.{IsCommitWait, IsLockWait, WaitsOfSessions}
-use Rattle.laws_calls.specs.States.{State, Waiting, page_slots}
+use Rattle.laws_calls.specs.SessionWaits.{WaitsOfSessions}
+use Rattle.laws_calls.specs.States.{HasSeat, State, page_slots}
 use Rattle.shore_sessions.proofs.Alone.{writer_alone}
 use Rattle.shore_sessions.specs.Standing.{HasControl}
 use Rattle.shore_core.specs.declared.core_calls.Core.{Core}
@@ -60,18 +60,16 @@ never_waits answer (Err f) is at waits = clash (sym is ∙ waits)
 
 -- with other requests in the table all but its locks is the same
 module _ (s : State) (rs : List Request) where
-  commit_wait : (base : ℕ) (w : Waiting) → IsCommitWait base s w → IsCommitWait base (with_requests s rs) w
-  commit_wait base w h = record { number = h.number; txn = h.txn; is = h.is; committing = h.committing; some = h.some; there = h.there; decided = h.decided }
-
-  lock_wait : (w : Waiting) → IsLockWait s w → IsLockWait (with_requests s rs) w
-  lock_wait w h = record { txn = h.txn; active = h.active; of = h.of; whole = h.whole; at = h.at; is = h.is; lock = h.lock; asked = h.asked }
-
   waits_behind : (base : ℕ) → WaitsOfSessions base s → WaitsOfSessions base (with_requests s rs)
-  waits_behind base h = record {
-    each = λ w m. elim (h.each w m) [ inl commit ↦ inl (commit_wait base w commit) | inr lock ↦ inr (lock_wait w lock) ];
-    once = h.once;
-    all = h.all;
-  }
+  waits_behind base = waits_left base s (with_requests s rs) (record {
+    waiting = refl;
+    committing = refl;
+    prepared = refl;
+    seats = λ n t is. is;
+    active = λ a mine. (a, mine, refl, refl, λ waits whole. whole);
+    on = ([], sym (append-nil s.log));
+    running = λ works. works;
+  })
 
   forced_behind : (base : ℕ) (es : List Entry) → IsForced base es s → IsForced base es (with_requests s rs)
   forced_behind base es h = record { least = h.least; most = h.most; acknowledged_kept = h.acknowledged_kept }
@@ -84,12 +82,13 @@ module _ (s : State) (rs : List Request) where
     as_long = h.as_long;
     prefixes = h.prefixes;
     counts = h.counts;
-    whole = record { lawful = h.whole.lawful; no_prepare = h.whole.no_prepare; writers = h.whole.writers; unended = h.whole.unended; above = h.whole.above; undo_lists = h.whole.undo_lists; some = h.whole.some };
+    whole = record { lawful = h.whole.lawful; writers = h.whole.writers; unended = h.whole.unended; above = h.whole.above; undo_lists = h.whole.undo_lists; some = h.whole.some };
     txns = h.txns;
   }
 
-  pub safe_behind : (g : Geometry) (safe : IsSafe g s) → IsSessionsState safe.found safe.entries (with_requests s rs) → IsSafe g (with_requests s rs)
+  pub safe_behind : (g : Geometry) (safe : IsSafe g s) → IsSessionsState safe.opening safe.found safe.entries (with_requests s rs) → IsSafe g (with_requests s rs)
   safe_behind g safe sessions = record {
+    opening = safe.opening;
     found = safe.found;
     entries = safe.entries;
     after = record {
@@ -105,21 +104,21 @@ module _ (s : State) (rs : List Request) where
     inside = safe.inside;
   }
 
-module _ (g : Geometry) (s : State) (safe : IsSafe g s) (a : SessionTxn) (mem : IsAmong a s.sessions.active) (quiet : is_waiting a.txn s.locks.requests ≡ false) where
+module _ (g : Geometry) (s : State) (safe : IsSafe g s) (a : SessionTxn) (mem : HasSeat s.sessions a) (quiet : is_waiting a.txn s.locks.requests ≡ false) where
   -- behind a call's lock, unless the call waits for it
   pub safe_behind_lock : (c : Call) (lock : Asked) → ((at : Granule) → (lock_outcome s a c lock).answer ≢ Ok (acquire.Waiting at)) → IsSafe g (behind_lock s a c lock)
   safe_behind_lock c lock never =
       safe_behind s (lock_outcome s a c lock).requests g safe
-      (locked_state safe.found safe.entries s safe.after.sessions a mem quiet (on_conflict_of c) lock.granule lock.mode never)
+      (locked_state safe.opening safe.found safe.entries s safe.after.sessions a mem quiet (on_conflict_of c) lock.granule lock.mode never)
 
   -- .. and behind that of an insert's place
   pub safe_behind_place : (id : Rid) → ((at : Granule) → (place_outcome s a id).answer ≢ Ok (acquire.Waiting at)) → IsSafe g (behind_place s a id)
   safe_behind_place id never =
-      safe_behind s (place_outcome s a id).requests g safe (locked_state safe.found safe.entries s safe.after.sessions a mem quiet Refuse (Record id) EX never)
+      safe_behind s (place_outcome s a id).requests g safe (locked_state safe.opening safe.found safe.entries s safe.after.sessions a mem quiet Refuse (Record id) EX never)
 
   -- .. which is reached
   pub place_reached : (id : Rid) → (place_outcome s a id).answer ≡ Ok acquire.Done → IsReached (place_outcome s a id).requests a.txn (Record id) EX
-  place_reached id done = (leaves safe.found safe.entries s safe.after.sessions a mem quiet Refuse (Record id) EX).done done
+  place_reached id done = (leaves safe.opening safe.found safe.entries s safe.after.sessions a mem quiet Refuse (Record id) EX).done done
 
 -- a core has asked for a lock, and all but its locks is the same
 module _ {T V : Type 0} {G : tail.Ghosts T} {H : disk.Ghosts V} (mid new : Core T V G H) where
@@ -165,4 +164,4 @@ pub alone_in : (g : Geometry) (s : State) → IsSafe g s → (t : ℕ) (id : Rid
 alone_in g s safe t id reached =
     let may : MayWrite s.sessions.held t id = permitted s.sessions.held t (call.Delete id) Deleted
     (subst (λ (held : List Hold). HasLock held t (Record id) EX) (sym safe.after.sessions.locks.held) (locked_of s.locks.requests t (Record id) EX reached)) in
-    writer_alone _ safe.entries s.sessions safe.after.sessions.sound t id may
+    writer_alone safe.opening safe.entries s.sessions safe.after.sessions.sound t id may

@@ -27,7 +27,7 @@ use Rattle.laws_calls.specs.CallHistories.{IsRoomyState}
 use Rattle.laws_calls.specs.CallSteps.{MayAsk, lock_outcome}
 use Rattle.laws_calls.specs.LockRounds.{EndsLock, IsBroken, LetThrough, LocksTo, waits_at}
 use Rattle.laws_calls.specs.StateChanges.{wait_refused}
-use Rattle.laws_calls.specs.States.{DoesNotWait, State, Waiting, page_slots}
+use Rattle.laws_calls.specs.States.{DoesNotWait, HasSeat, State, Waiting, page_slots}
 use Rattle.laws_calls.specs.Victims.{TakesVictim, TakesVictims, with_cycle}
 use Rattle.shore_core.specs.Cores.{IsSafe}
 use Rattle.shore_core.proofs.Going.{safe_woken}
@@ -98,18 +98,19 @@ told_before session cycle w (x ∷ ws) there = by (x.session == session) there (
 module _ (g : Geometry) where
   safe_victim : (s : State) (safe : IsSafe g s) (t : ℕ) (v : Victim) (new : State) → TakesVictim s t v new → IsSafe g new
   safe_victim s safe t v new h =
-      let comes = victim_comes safe.found safe.entries s safe.after g t v new h in
+      let comes = victim_comes safe.opening safe.found safe.entries s safe.after g t v new h in
       let even = (victims_further s t (v ∷ []) new (new, h, refl)).durable in
       record {
+        opening = safe.opening;
         found = safe.found;
         entries = safe.entries;
-        after = victim_stays safe.found safe.entries s safe.after t v new h;
+        after = victim_stays safe.opening safe.found safe.entries s safe.after t v new h;
         asks = λ w at there is.
             let was = told_before h.txn.session v.cycle w s.waiting (subst (λ (x : State). IsAmong w x.waiting) h.is there) in
             subst (MayAsk g) was.2 (safe.asks was.0 at was.1 (was.3 ∙ is));
-        roomy = comes_roomy safe.found safe.entries s safe.after safe.roomy g new [] comes;
+        roomy = comes_roomy safe.opening safe.found safe.entries s safe.after safe.roomy g new [] comes;
         stream_bytes = safe.stream_bytes;
-        leaves = later_leaving g safe.stream_bytes s.durable new (omega (arith, even)) (comes_leaving g safe.stream_bytes safe.found s.durable safe.entries s new [] safe.after safe.roomy safe.leaves comes);
+        leaves = later_leaving g safe.stream_bytes s.durable new (omega (arith, even)) (comes_leaving g safe.stream_bytes safe.opening safe.found s.durable safe.entries s new [] safe.after safe.roomy safe.leaves comes);
         inside = subst (λ (x : State). AreRecords g x.sessions.records) (sym h.is) safe.inside;
       }
 
@@ -125,22 +126,23 @@ module _ (g : Geometry) where
       record { safe = rest.safe; same = pages_then s h.0 new (victim_pages s safe.roomy t v h.0 h.1) rest.same }
 
   module _ (a : SessionTxn) (c : Call) (lock : Asked) (asks : lock_asked_by c ≡ Some lock) (may : MayAsk g c) (whole : a.undo.rolling ≡ None) where
-    safe_waits : (s : State) (safe : IsSafe g s) → MayLock safe.found safe.entries a s → (at : Granule) → (lock_outcome s a c lock).answer ≡ Ok (acquire.Waiting at) → IsSafe g (waits_at s a c lock at)
+    safe_waits : (s : State) (safe : IsSafe g s) → MayLock safe.opening safe.found safe.entries a s → (at : Granule) → (lock_outcome s a c lock).answer ≡ Ok (acquire.Waiting at) → IsSafe g (waits_at s a c lock at)
     safe_waits s safe k at waits = record {
+      opening = safe.opening;
       found = safe.found;
       entries = safe.entries;
-      after = (round_stays g safe.found safe.entries a c lock asks may whole s k at [] (waits_at s a c lock at) (record { waits = waits; victims = refl }) refl).0;
+      after = (round_stays g safe.opening safe.found safe.entries a c lock asks may whole s k at [] (waits_at s a c lock at) (record { waits = waits; victims = refl }) refl).0;
       asks = λ w at there is. elim there [ inl same ↦ subst (λ (x : Waiting). MayAsk g x.call) same may | inr older ↦ safe.asks w at older is ];
       roomy = record { pages = safe.roomy.pages; log = safe.roomy.log };
       stream_bytes = safe.stream_bytes;
-      leaves = record { as_long = safe.leaves.as_long; prefixes = safe.leaves.prefixes; counts = safe.leaves.counts; whole = record { lawful = safe.leaves.whole.lawful; no_prepare = safe.leaves.whole.no_prepare; writers = safe.leaves.whole.writers; unended = safe.leaves.whole.unended; above = safe.leaves.whole.above; undo_lists = safe.leaves.whole.undo_lists; some = safe.leaves.whole.some }; txns = safe.leaves.txns };
+      leaves = record { as_long = safe.leaves.as_long; prefixes = safe.leaves.prefixes; counts = safe.leaves.counts; whole = record { lawful = safe.leaves.whole.lawful; writers = safe.leaves.whole.writers; unended = safe.leaves.whole.unended; above = safe.leaves.whole.above; undo_lists = safe.leaves.whole.undo_lists; some = safe.leaves.whole.some }; txns = safe.leaves.txns };
       inside = safe.inside;
     }
 
     -- what is known of a state in which the lock is asked for
     pub record MayLockSafely (s : State) : Type 0 where
       pub safe : IsSafe g s
-      pub active : IsAmong a s.sessions.active
+      pub active : HasSeat s.sessions a
       pub idle : DoesNotWait s a.session
       pub quiet : is_waiting a.txn s.locks.requests ≡ false
       pub running : s.failed ≡ false
@@ -148,9 +150,9 @@ module _ (g : Geometry) where
     round_safe : (s : State) → MayLockSafely s → (at : Granule) (vs : List Victim) (broken : State) → IsBroken s a c lock at vs broken → is_victim vs a.txn ≡ false
         → is_waiting a.txn broken.locks.requests ≡ false → MayLockSafely (wait_refused broken a.session) × HasSamePages s (wait_refused broken a.session)
     round_safe s k at vs broken h none quiet =
-        let may_lock : MayLock k.safe.found k.safe.entries a s = record { after = k.safe.after; active = k.active; idle = k.idle; running = k.running } in
-        let on = round_stays g k.safe.found k.safe.entries a c lock asks may whole s may_lock at vs broken h none in
-        let woken = woken_after g k.safe.found k.safe.entries a c lock asks may whole broken on.0 on.1.active quiet on.1.failed in
+        let may_lock : MayLock k.safe.opening k.safe.found k.safe.entries a s = record { after = k.safe.after; active = k.active; idle = k.idle; running = k.running } in
+        let on = round_stays g k.safe.opening k.safe.found k.safe.entries a c lock asks may whole s may_lock at vs broken h none in
+        let woken = woken_after g k.safe.opening k.safe.found k.safe.entries a c lock asks may whole broken on.0 on.1.active quiet on.1.failed in
         let waits = victims_safe vs (waits_at s a c lock at) (safe_waits s k.safe may_lock at h.waits) a.txn broken h.victims in (
           record { safe = safe_woken g broken waits.safe a.session a (on.1.active, refl) quiet; active = woken.active; idle = woken.idle; quiet = quiet; running = woken.running },
           record { log = waits.same.log; durable = waits.same.durable; failed = waits.same.failed; slots = waits.same.slots },
@@ -172,7 +174,7 @@ module _ (g : Geometry) where
           → HasSamePages s broken
       broken_pages rounds later go at vs broken h =
           let on = safe_through rounds s later k go in
-          let may_lock : MayLock on.0.safe.found on.0.safe.entries a later = record { after = on.0.safe.after; active = on.0.active; idle = on.0.idle; running = on.0.running } in
+          let may_lock : MayLock on.0.safe.opening on.0.safe.found on.0.safe.entries a later = record { after = on.0.safe.after; active = on.0.active; idle = on.0.idle; running = on.0.running } in
           let waits = victims_safe vs (waits_at later a c lock at) (safe_waits later on.0.safe may_lock at h.waits) a.txn broken h.victims in
           pages_then s later broken on.1 (record { log = waits.same.log; durable = waits.same.durable; failed = waits.same.failed; slots = waits.same.slots })
 
@@ -191,15 +193,15 @@ module _ (g : Geometry) where
           ends (inr (inr short)) = with_pages s h.later new (through_pages h.rounds h.later h.go) (ap pages_of short.3)
 
       -- behind it the state is safe, and the transaction is as it was
-      pub safe_locked : (new : State) → LocksTo s a c lock (Ok acquire.Done) new → IsSafe g new × IsAmong a new.sessions.active
+      pub safe_locked : (new : State) → LocksTo s a c lock (Ok acquire.Done) new → IsSafe g new × HasSeat new.sessions a
       safe_locked new h =
           let on = safe_through h.rounds s h.later k h.go in
-          subst (λ (x : State). IsSafe g x × IsAmong a x.sessions.active) (sym h.ends.1)
+          subst (λ (x : State). IsSafe g x × HasSeat x.sessions a) (sym h.ends.1)
           (safe_behind_lock g h.later on.0.safe a on.0.active on.0.quiet c lock (λ at waits. done_waits_not at (sym h.ends.0 ∙ waits)), on.0.active)
 
-      pub still_active : (at : Granule) (new : State) → LocksTo s a c lock (Ok (acquire.Waiting at)) new → IsAmong a new.sessions.active
+      pub still_active : (at : Granule) (new : State) → LocksTo s a c lock (Ok (acquire.Waiting at)) new → HasSeat new.sessions a
       still_active at new h =
           let on = (safe_through h.rounds s h.later k h.go).0 in
-          let may_lock : MayLock on.safe.found on.safe.entries a h.later = record { after = on.safe.after; active = on.active; idle = on.idle; running = on.running } in
-          let stays = round_stays g on.safe.found on.safe.entries a c lock asks may whole h.later may_lock at h.ends.0 h.ends.1 h.ends.2 h.ends.3 in
-          subst (λ (x : State). IsAmong a x.sessions.active) h.ends.6 stays.1.active
+          let may_lock : MayLock on.safe.opening on.safe.found on.safe.entries a h.later = record { after = on.safe.after; active = on.active; idle = on.idle; running = on.running } in
+          let stays = round_stays g on.safe.opening on.safe.found on.safe.entries a c lock asks may whole h.later may_lock at h.ends.0 h.ends.1 h.ends.2 h.ends.3 in
+          subst (λ (x : State). HasSeat x.sessions a) h.ends.6 stays.1.active

@@ -1,10 +1,11 @@
 -- What the parts of a core tell of the state that it is in.
-use Rattle.std.proofs.Common.{inl, inr, ◌≡◌, ◌+◌, ◌≤◌, ◌++◌, ◌∷◌, [], List, ℕ, Bool, true, false, Option, None, Some, IsSomeAnd, IfSome, is_some, refl, sym, ap, ◌∙◌, subst, arith, length, length-append}
+use Rattle.std.proofs.Common.{inl, inr, ◌≡◌, ◌+◌, ◌*◌, ◌≤◌, ◌++◌, ◌∷◌, [], List, ℕ, Bool, true, false, Option, None, Some, IsSomeAnd, IfSome, is_some, refl, sym, ap, ◌∙◌, subst, arith, length, length-append}
 use Rattle.std.specs.List.{AllByRecursion}
 use Rattle.std.specs.Option.{IfNone}
 use Rattle.std.proofs.lemmas.List.{append_assoc}
-use Rattle.shore_types.specs.declared.layout.TheConstants.{GREATEST_CHECKPOINT, LAST_LSN, LONGEST_FRAME}
+use Rattle.shore_types.specs.declared.layout.TheConstants.{ENDING_COST, GREATEST_CHECKPOINT, LAST_LSN, LONGEST_FRAME}
 use Rattle.shore_model.specs.declared.log_records.LogRecord.{LogRecord}
+use Rattle.laws_lives.specs.Sessions.{PreparedTxn}
 use Rattle.laws_lives.specs.Views.{IsAmong}
 use Rattle.laws_room.specs.LogRooms.{owed_by_all}
 use Rattle.shore_txn.specs.Transactions.{room_in}
@@ -63,8 +64,11 @@ module _ (control : Control) (waiting : List LogRecord) (durable : ℕ) (failed 
   pub next_is : 1 + length s.log ≡ first + length waiting
   next_is = omega (arith, number, log_length)
 
-  reserved_is : owed_by_all s.sessions.active ≡ (room_in (txns_in control)).reserved
-  reserved_is = ap owed_by_all was.stands.txns.active ∙ sym (txns_in control).sum
+  reserved_is : owed_by_all s.sessions.active + ENDING_COST * length s.sessions.prepared ≡ (room_in (txns_in control)).reserved
+  reserved_is =
+      let owed : owed_by_all s.sessions.active ≡ (room_in (txns_in control)).reserved = ap owed_by_all was.stands.txns.active ∙ sym (txns_in control).sum in
+      let none : ENDING_COST * length s.sessions.prepared ≡ 0 = ap (λ (ps : List PreparedTxn). ENDING_COST * length ps) was.stands.txns.unprepared.prepared in
+      omega (arith, owed, none)
 
   pub has_room : Admitted → HasRoomFor s need
   has_room h = (omega (arith, h.0, next_is), omega (arith, h.1, was.stands.txns.kept, was.stands.txns.stream, reserved_is))

@@ -45,6 +45,7 @@ use Rattle.shore_core.proofs.Coming.{StaysRefused, comes_failed}
 use Rattle.shore_core.specs.Parts.{HasParts}
 use Rattle.shore_sessions.specs.declared.control.Control.{Control}
 use Rattle.shore_sessions.specs.Standing.{HasControl}
+use Rattle.shore_sessions.proofs.TxnSteps.{none_still}
 
 pub true_false : true ≡ false → ⊥
 true_false clash = cc
@@ -56,7 +57,7 @@ map_err P Q (Err f) each holds = each f holds
 -- a device that failed is noted
 control_failed : (control : Control) (s : State) → HasControl control s → HasControl control (with_failure s)
 control_failed control s was = record {
-  txns = record { active = was.txns.active; next = was.txns.next; stream = was.txns.stream; kept = was.txns.kept; each = was.txns.each; above = was.txns.above };
+  txns = record { active = was.txns.active; unprepared = none_still refl refl was.txns.unprepared; next = was.txns.next; stream = was.txns.stream; kept = was.txns.kept; each = was.txns.each; above = was.txns.above };
   waits = record { waiting = was.waits.waiting; committing = λ works. absurd (true_false works); asking = was.waits.asking };
   locks = was.locks;
 }
@@ -70,7 +71,7 @@ pub parts_told : (control : Control) (waiting : List LogRecord) (durable n : ℕ
     → HasParts control waiting n failed before (with_durable n s)
 parts_told control waiting durable n failed before s was = record {
   stands = record {
-    txns = record { active = was.stands.txns.active; next = was.stands.txns.next; stream = was.stands.txns.stream; kept = was.stands.txns.kept; each = was.stands.txns.each; above = was.stands.txns.above };
+    txns = record { active = was.stands.txns.active; unprepared = none_still refl refl was.stands.txns.unprepared; next = was.stands.txns.next; stream = was.stands.txns.stream; kept = was.stands.txns.kept; each = was.stands.txns.each; above = was.stands.txns.above };
     waits = record { waiting = was.stands.waits.waiting; committing = was.stands.waits.committing; asking = was.stands.waits.asking };
     locks = was.stands.locks;
   };

@@ -133,7 +133,8 @@ impl<T: Tail, V: Disk> Core<T, V> {
 
     // A call of a session that has no transaction.
     fn without_txn(&mut self, alloc: Global, session: SessionId, call: &Call) -> Result<Step, Fault>
-        requires { HasNoTxnOf session (txns_of self.old) }
+        requires none { HasNoTxnOf session (txns_of self.old) }
+        requires served { IsServed call.now }
         ensures replied { has_failed self.old ≡ false → InEach (λ front disk before s store. DoesNotWait s session → Called session call.now result self.old self.new front before s store) self.old }
         ensures serves { ServesCall (Reads call.now) (forced_at call.now self.old self.new) result self.old self.new }
     {

@@ -13,7 +13,7 @@ use Rattle.shore_core.proofs.core_calls.Core.abort.Goals as goal
 pub returns-in_err-put_back-clause-replied : goal.returns-in_err-put_back-clause-replied
 returns-in_err-put_back-clause-replied g c running front disk before s store is safe over idle =
     let old = c.args.self.now in
-    let own = seat_in_txn (control_of old) c.args.seat.now c.requires.seated s is.beside.parts.stands in
+    let own = seat_in_txn (control_of old) c.args.seat.now c.requires.seated s is.beside.parts.stands safe.after.sessions.seats in
     interrupted_replied old c.put_back.new.self front before s store c.args.seat.now.session own.0 safe own.1 (is.beside.parts.failed_is ∙ running) idle Whole tt 0 refl c.from_residual.result _ c.from_residual.ensures.1
     (c.in_err-put_back.ensures.unwinds running front disk before s store is safe over own.0 idle own.1 tt refl (omega arith))
 
@@ -25,7 +25,7 @@ returns-in_err-end-clause-replied g c running front disk before s store is safe 
     let old = c.args.self.now in
     let mid = c.put_back.new.self in
     let works = is.beside.parts.failed_is ∙ running in
-    let own = seat_in_txn (control_of old) c.args.seat.now c.requires.seated s is.beside.parts.stands in
+    let own = seat_in_txn (control_of old) c.args.seat.now c.requires.seated s is.beside.parts.stands safe.after.sessions.seats in
     let h = c.in_ok-put_back.ensures.unwinds running front disk before s store is safe over own.0 idle own.1 tt refl (omega arith) in
     let comes = h.2 in
     let here = goes_on_from (geometry_of old) s safe c.args.seat.now.session own.0 own.1 works idle Whole tt 0 h.0 (omega arith) h.1 in
@@ -40,7 +40,7 @@ returns-clause-replied g c running front disk before s store is safe over idle =
     let mid = c.put_back.new.self in
     let new = c.end.new.self in
     let works = is.beside.parts.failed_is ∙ running in
-    let own = seat_in_txn (control_of old) c.args.seat.now c.requires.seated s is.beside.parts.stands in
+    let own = seat_in_txn (control_of old) c.args.seat.now c.requires.seated s is.beside.parts.stands safe.after.sessions.seats in
     let h = c.in_ok-put_back.ensures.unwinds running front disk before s store is safe over own.0 idle own.1 tt refl (omega arith) in
     let comes = h.2 in
     let here = goes_on_from (geometry_of old) s safe c.args.seat.now.session own.0 own.1 works idle Whole tt 0 h.0 (omega arith) h.1 in

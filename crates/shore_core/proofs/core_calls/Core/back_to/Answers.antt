@@ -23,24 +23,24 @@ pub returns-then-not-may_go_back-clause-replied : goal.returns-then-not-may_go_b
 returns-then-not-may_go_back-clause-replied g c running front disk before s store is safe over idle =
     let old = c.args.self.now in
     let a = as_session_txn c.txn-own.result.now in
-    let its = c.txn-own.ensures.of_session s is.beside.parts.stands in
+    let its = c.txn-own.ensures.of_session s is.beside.parts.stands safe.after.sessions.seats in
     let works = is.beside.parts.failed_is ∙ running in
     record {
       later = s;
-      replies = inr (inr (inr (inr (inr (
+      replies = inr (inr (inr (inr (inr (inl (
         works,
         idle,
         (
           a,
           its,
           inl (
-            (λ clash. cc),
+            tt,
             (λ takes. true_false (sym (c.may_go_back.ensures.1 (subst (λ (st : TxnState). (rolling_of st ≡ None) ⊎ (rolling_of st ≡ Some (To c.args.index))) (sym c.state.ensures) (may_take a.undo c.args.index takes))) ∙ c.if-not-may_go_back.true)),
             refl,
             refl,
           ),
         ),
-      )))));
+      ))))));
       comes = inr (comes_same old front disk before s store is over);
     }
 
@@ -48,12 +48,12 @@ pub returns-in_default-clause-replied : goal.returns-in_default-clause-replied
 returns-in_default-clause-replied g c running front disk before s store is safe over idle =
     let old = c.args.self.now in
     let a = as_session_txn c.txn-own.result.now in
-    let its = c.txn-own.ensures.of_session s is.beside.parts.stands in
+    let its = c.txn-own.ensures.of_session s is.beside.parts.stands safe.after.sessions.seats in
     let works = is.beside.parts.failed_is ∙ running in
     let past : length a.undo.marks ≤ c.args.index = mark_past a.undo.marks c.args.index (λ mark has. c.in_default.not-Some mark (c.mark.ensures ∙ has)) in
     record {
       later = s;
-      replies = inr (inr (inr (inr (inr (works, idle, (a, its, inr (inr (inl (c.args.index, refl, takes_back a.undo c.args.index (subst (λ (st : TxnState). (rolling_of st ≡ None) ⊎ (rolling_of st ≡ Some (To c.args.index))) c.state.ensures (c.if-not-may_go_back.ensures.0 refl)), inl (refl, past, refl))))))))));
+      replies = inr (inr (inr (inr (inr (inl (works, idle, (a, its, inr (inr (inl (c.args.index, refl, takes_back a.undo c.args.index (subst (λ (st : TxnState). (rolling_of st ≡ None) ⊎ (rolling_of st ≡ Some (To c.args.index))) c.state.ensures (c.if-not-may_go_back.ensures.0 refl)), inl (refl, past, refl)))))))))));
       comes = inr (comes_same old front disk before s store is over);
     }
 
@@ -61,12 +61,12 @@ pub returns-in_err-put_back-clause-replied : goal.returns-in_err-put_back-clause
 returns-in_err-put_back-clause-replied g c running front disk before s store is safe over idle =
     let old = c.args.self.now in
     let a = as_session_txn c.txn-own.result.now in
-    let its = c.txn-own.ensures.of_session s is.beside.parts.stands in
+    let its = c.txn-own.ensures.of_session s is.beside.parts.stands safe.after.sessions.seats in
     let works = is.beside.parts.failed_is ∙ running in
     let inside = mark_inside a.undo.marks c.args.index c.in-Some.least (sym c.mark.ensures ∙ c.in-Some.is) in
     let may : MayRoll a.undo (To c.args.index) = (inside, subst (λ (st : TxnState). (rolling_of st ≡ None) ⊎ (rolling_of st ≡ Some (To c.args.index))) c.state.ensures (c.if-not-may_go_back.ensures.0 refl)) in
     let at = mark_is a.undo c.args.index c.in-Some.least (sym c.mark.ensures ∙ c.in-Some.is) in
-    let within = mark_of_within (geometry_of old) safe.found safe.entries c.args.seat.now.session a its.1 s safe.after.sessions its.0 c.args.index inside in
+    let within = mark_of_within (geometry_of old) safe.opening safe.found safe.entries c.args.seat.now.session a its.1 s safe.after.sessions its.0 c.args.index inside in
     interrupted_replied old c.put_back.new.self front before s store c.args.seat.now.session a safe its works idle (To c.args.index) may c.in-Some.least at c.from_residual.result _ c.from_residual.ensures.1
     (c.in_err-put_back.ensures.unwinds running front disk before s store is safe over a idle its may at (omega (arith, at, within)))
 
@@ -91,12 +91,12 @@ returns-clause-replied g c running front disk before s store is safe over idle =
     let mid = c.put_back.new.self in
     let n = c.args.index in
     let a = as_session_txn c.txn-own.result.now in
-    let its = c.txn-own.ensures.of_session s is.beside.parts.stands in
+    let its = c.txn-own.ensures.of_session s is.beside.parts.stands safe.after.sessions.seats in
     let works = is.beside.parts.failed_is ∙ running in
     let inside = mark_inside a.undo.marks n c.in-Some.least (sym c.mark.ensures ∙ c.in-Some.is) in
     let may : MayRoll a.undo (To n) = (inside, subst (λ (st : TxnState). (rolling_of st ≡ None) ⊎ (rolling_of st ≡ Some (To c.args.index))) c.state.ensures (c.if-not-may_go_back.ensures.0 refl)) in
     let at = mark_is a.undo n c.in-Some.least (sym c.mark.ensures ∙ c.in-Some.is) in
-    let within = mark_of_within (geometry_of old) safe.found safe.entries c.args.seat.now.session a its.1 s safe.after.sessions its.0 n inside in
+    let within = mark_of_within (geometry_of old) safe.opening safe.found safe.entries c.args.seat.now.session a its.1 s safe.after.sessions its.0 n inside in
     let h = c.in_ok-put_back.ensures.unwinds running front disk before s store is safe over a idle its may at (omega (arith, at, within)) in
     let comes = h.2 in
     let here = goes_on_from (geometry_of old) s safe c.args.seat.now.session a its works idle (To n) may c.in-Some.least h.0 (omega (arith, at)) h.1 in
@@ -105,7 +105,7 @@ returns-clause-replied g c running front disk before s store is safe over idle =
     let later : State = answered h.0 here.its (call.BackTo n) WentBack h.0.counts in
     let two = comes_moved mid _ front comes.left before h.0 later comes.after refl refl refl refl refl c.go_back.ensures.claims
     (c.go_back.ensures.stands h.0 here.its comes.is_in.beside.parts.stands here.owned none) (back_log h.0 here.its n none level) refl refl
-    (back_slots h.0 here.its n none level (geometry_of old) here.stays_safe here.owned.0) comes.is_in comes.over in
+    (back_slots h.0 here.its n none level (geometry_of old) here.stays_safe here.owned.0.0) comes.is_in comes.over in
     record {
       later = answered s a (call.BackTo n) WentBack s.counts;
       replies = goes_back_done (geometry_of old) s safe c.args.seat.now.session a its works idle n may;

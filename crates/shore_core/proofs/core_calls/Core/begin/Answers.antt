@@ -4,8 +4,8 @@ use Rattle.shore_types.specs.declared.layout.TheConstants.{ENDING_COST}
 use Rattle.shore_model.specs.declared.calls.Answer.TheVariants.{Began}
 use Rattle.shore_model.specs.declared.calls.Call.TheVariants as call
 use Rattle.laws_room.proofs.Leaving.{begun_slots}
-use Rattle.laws_lives.specs.Sessions.{txn_begun}
 use Rattle.laws_lives.specs.UndoLists.{nothing_to_undo}
+use Rattle.laws_calls.specs.StateChanges.{begun}
 use Rattle.laws_calls.specs.States.{State, page_slots}
 use Rattle.shore_heap.proofs.Showing.{shows_same}
 use Rattle.laws_lives.specs.Views.{IsAmong}
@@ -25,7 +25,7 @@ pub returns-then-count-ge-MAX_TRANSACTIONS-clause-replied : goal.returns-then-co
 returns-then-count-ge-MAX_TRANSACTIONS-clause-replied g c running front disk before s store is safe over idle =
     let old = c.args.self.now in
     let works = is.beside.parts.failed_is ∙ running in
-    let none = in_none (waits_of old) s is.beside.parts.stands.waits c.args.session works idle (λ a m. c.requires a (subst (IsAmong a) is.beside.parts.stands.txns.active m)) in
+    let none = in_none (waits_of old) s is.beside.parts.stands.waits safe.after.sessions.seats is.beside.parts.stands.txns.unprepared c.args.session works idle (λ a m. c.requires a (subst (IsAmong a) is.beside.parts.stands.txns.active m)) in
     let count = c.count.ensures.count s is.beside.parts.stands works in
     record {
       later = s;
@@ -37,7 +37,7 @@ pub returns-then-not-admits-clause-replied : goal.returns-then-not-admits-clause
 returns-then-not-admits-clause-replied g c running front disk before s store is safe over idle =
     let old = c.args.self.now in
     let works = is.beside.parts.failed_is ∙ running in
-    let none = in_none (waits_of old) s is.beside.parts.stands.waits c.args.session works idle (λ a m. c.requires a (subst (IsAmong a) is.beside.parts.stands.txns.active m)) in
+    let none = in_none (waits_of old) s is.beside.parts.stands.waits safe.after.sessions.seats is.beside.parts.stands.txns.unprepared c.args.session works idle (λ a m. c.requires a (subst (IsAmong a) is.beside.parts.stands.txns.active m)) in
     let count = c.count.ensures.count s is.beside.parts.stands works in
     elim c.then-not-admits.branch [
       | then-not-admits-via-then-not-admits w ↦ record {
@@ -107,9 +107,9 @@ pub returns-clause-replied : goal.returns-clause-replied
 returns-clause-replied g c running front disk before s store is safe over idle =
     let old = c.args.self.now in
     let works = is.beside.parts.failed_is ∙ running in
-    let none = in_none (waits_of old) s is.beside.parts.stands.waits c.args.session works idle (λ a m. c.requires a (subst (IsAmong a) is.beside.parts.stands.txns.active m)) in
+    let none = in_none (waits_of old) s is.beside.parts.stands.waits safe.after.sessions.seats is.beside.parts.stands.txns.unprepared c.args.session works idle (λ a m. c.requires a (subst (IsAmong a) is.beside.parts.stands.txns.active m)) in
     let count = c.count.ensures.count s is.beside.parts.stands works in
-    let later : State = record s { sessions = txn_begun s.sessions c.args.session } in
+    let later : State = begun s c.args.session in
     let parts = parts_moved (control_of old) c.begin.new.self (waiting_of old) (durable_of old) (has_failed old) before s later is.beside.parts (c.in_ok-txn.ensures.stands s is.beside.parts.stands) refl refl refl in
     record {
       later = later;

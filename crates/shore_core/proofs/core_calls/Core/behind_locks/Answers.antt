@@ -31,12 +31,12 @@ returns-in-Delete-clause-served g c running front disk before s store is safe ov
 pub returns-in-Scan-clause-served : goal.returns-in-Scan-clause-served
 returns-in-Scan-clause-served g c running front disk before s store is safe over a its number =
     let old = c.args.self.now in
-    subst (λ (it : Call). Served a it c.scan.result old c.scan.new.self front before s store) (sym c.in-Scan.is) (c.scan.ensures.served running front disk before s store is safe over a its.0)
+    subst (λ (it : Call). Served a it c.scan.result old c.scan.new.self front before s store) (sym c.in-Scan.is) (c.scan.ensures.served running front disk before s store is safe over a its.0.0)
 
 pub returns-in-Get-clause-served : goal.returns-in-Get-clause-served
 returns-in-Get-clause-served g c running front disk before s store is safe over a its number =
     let old = c.args.self.now in
-    let r = c.get.ensures.served running front disk before s store is safe over a its.0 in
+    let r = c.get.ensures.served running front disk before s store is safe over a its.0.0 in
     elim c.in-Get.is [
       | inl get ↦ subst (λ (it : Call). Served a it c.get.result old c.get.new.self front before s store) (sym get) r.0
       | inr getu ↦ subst (λ (it : Call). Served a it c.get.result old c.get.new.self front before s store) (sym getu) r.1
@@ -47,7 +47,7 @@ returns-in-Lock-clause-served g c running front disk before s store is safe over
     let old = c.args.self.now in
     record {
       later = s;
-      serves = lock_answer (geometry_of old) s a safe.roomy.pages.once its.0 c.args.call c.in-Lock.is;
+      serves = lock_answer (geometry_of old) s a safe.roomy.pages.once its.0.0 c.args.call c.in-Lock.is;
       comes = comes_same old front disk before s store is over;
     }
 

@@ -161,7 +161,7 @@ returns-clause-changed g c running front disk before s store is safe over a of l
     let own = c.txn-own.result.now in
     let stands = is.beside.parts.stands in
     let own_is : as_session_txn own ≡ a =
-    once_same (λ (b : SessionTxn). b.session) _ (txns_of old).sessions (as_session_txn own) a c.txn-own.ensures.there (subst (IsAmong a) stands.txns.active of.0) (c.txn-own.ensures.session ∙ sym of.1) in
+    once_same (λ (b : SessionTxn). b.session) _ (txns_of old).sessions (as_session_txn own) a c.txn-own.ensures.there (subst (IsAmong a) stands.txns.active of.0.0) (c.txn-own.ensures.session ∙ sym of.1) in
     let txn_is : c.id-txn.result ≡ a.txn = c.id-txn.ensures.number ∙ ap (λ (b : SessionTxn). b.txn) own_is in
     let previous_is : c.last-previous.result ≡ previous_of a.txn s.log =
     c.last-previous.ensures ∙ (each_among (IsLogged s.log) _ stands.txns.each own c.txn-own.ensures.among).last ∙ ap (λ (b : SessionTxn). previous_of b.txn s.log) own_is in
@@ -180,7 +180,7 @@ returns-clause-changed g c running front disk before s store is safe over a of l
     let made = subst (λ (i : Image). Shows (kept_in (txns_of old)) c.change.new.self front disk (with_slots (page_slots s) id.page (λ l. with_image l id.slot i))) image_is (c.change.ensures.shows (kept_in (txns_of old)) front disk (page_slots s) shows) in
     let held = held_still _ c.change.new.self old.heap id.page c.change.ensures.device c.change.ensures.held c.requires.found in
     let told = claim_told c.change.new.self (txns_of old) (txns_in new) id.page front disk (page_slots later) held (λ p other. c.note_change.ensures.elsewhere p other ∙ c.reserve_entry.ensures.claims p)
-    (pages_changed c.change.new.self (kept_in (txns_of old)) front disk s a id image (grown s.counts id) safe.roomy.pages of.0 alone slots.1 (grows s.counts id) made) in
+    (pages_changed c.change.new.self (kept_in (txns_of old)) front disk s a id image (grown s.counts id) safe.roomy.pages of.0.0 alone slots.1 (grows s.counts id) made) in
     let number_is : c.in-Ok.lsn ≡ length store.log + 1 = omega (arith, number, ap length over.kept.stored.log) in
     let frames = subst (λ n. IsMade old.heap c.change.new.self n id image) number_is (subst (λ (i : Image). IsMade old.heap c.change.new.self c.in-Ok.lsn id i) image_is c.change.ensures.frames) in (
       grown s.counts id,

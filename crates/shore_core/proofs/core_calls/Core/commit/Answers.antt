@@ -41,7 +41,7 @@ use Rattle.shore_core.proofs.core_calls.Core.commit.Goals as goal
 
 pub returns-in_err-txn-clause-replied : goal.returns-in_err-txn-clause-replied
 returns-in_err-txn-clause-replied g c ready front disk before s store is safe over waits_not =
-    replied_not_open c.args.self.now front disk before s store c.args.seat.now.session call.Commit c.from_residual.result c.in_err-txn.field-0.0 is over inner_commit
+    replied_not_open c.args.self.now front disk before s store c.args.seat.now.session call.Commit c.from_residual.result c.in_err-txn.field-0.0 is over safe.after.sessions.seats inner_commit
     (is.beside.parts.failed_is ∙ ready) waits_not c.from_residual.ensures.1 c.in_err-txn.ensures.refused
 
 pub loop-change-init : goal.loop-change-init
@@ -145,7 +145,7 @@ returns-clause-replied g c ready front disk before s store is safe over waits_no
     let es = c.commit-changes.result.items in
     let was = is.beside.parts.stands in
     let mid = c.reserve_wait.ensures.stands s was in
-    let its = c.in_ok-txn.ensures.of_session s was in
+    let its = c.in_ok-txn.ensures.of_session s was safe.after.sessions.seats in
     let works = is.beside.parts.failed_is ∙ ready in
     let number = c.in-Ok.ensures.number ∙ sym (next_is (control_of old) (waiting_of old) (durable_of old) (has_failed old) before s is.beside.parts (first_of old) is.beside.first 0) in
     let later = committed s a in
@@ -164,14 +164,14 @@ returns-clause-replied g c ready front disk before s store is safe over waits_no
     let older = table.txns_in (txns_of old) in
     let those = table.txns_in (txns_in c.commit-changes.new.self) in
     let all : take c.loop-change.change-index c.deref-change-items.result.now ≡ es = take-whole c.deref-change-items.result.now c.loop-change.change-index c.loop-change-test.false ∙ c.deref-change-items.ensures.value in
-    let fit = stays_fit s a es older those undone safe.roomy.pages its.0 was.txns.active out more in
+    let fit = stays_fit s a es older those undone safe.roomy.pages its.0.0 was.txns.active out more in
     let left = subst (ShowsLeft (λ p. is_some (frame_of old.heap p)) (kept_in (txns_of old)) (kept_in (txns_in c.commit-changes.new.self)) (page_slots s) new.heap front disk) all
     (inv.7 (kept_in (txns_of old)) (kept_in (txns_in c.commit-changes.new.self)) front disk (page_slots s) fit (is.pages works)) in
-    let shows = all_released s a es older those undone safe.roomy.pages its.0 was.txns.active out more new.heap (λ p. is_some (frame_of old.heap p)) front disk left in
+    let shows = all_released s a es older those undone safe.roomy.pages its.0.0 was.txns.active out more new.heap (λ p. is_some (frame_of old.heap p)) front disk left in
     let pages = appended_without old.heap disk store r (over.pages works) over.kept.recoverable over.kept.redone refl in
     record {
       later = later;
-      replies = inr (inr (inr (inr (inr (works, waits_not, (a, its, inr (inl (c.in_ok-txn.ensures.whole, inr (inr (inl (refl, (ap Durable number, refl))))))))))));
+      replies = inr (inr (inr (inr (inr (inl (works, waits_not, (a, its, inr (inl (c.in_ok-txn.ensures.whole, inr (inr (inl (refl, (ap Durable number, refl)))))))))))));
       comes = comes_appended new front disk before s later store r over.kept refl refl
           (record {
             beside = record { first = ap g.T.Tail.first inv.0 ∙ c.push.ensures.first ∙ is.beside.first; parts = same_parts inv.0 inv.1 inv.2 inv.3 parts };

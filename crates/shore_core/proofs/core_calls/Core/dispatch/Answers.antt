@@ -2,6 +2,7 @@ use Rattle.std.proofs.Common.{inl, inr, Err, refl, sym, subst, ◌∙◌}
 use Rattle.shore_types.specs.declared.faults.Fault.TheVariants as fault
 use Rattle.shore_model.specs.declared.calls.Call.{Call}
 use Rattle.shore_model.specs.declared.calls.Call.TheVariants as call
+use Rattle.laws_calls.proofs.Sessions.{in_one}
 use Rattle.laws_calls.specs.States.{DoesNotWait}
 use Rattle.shore_sessions.specs.Controls.{HasNoWait}
 use Rattle.shore_sessions.proofs.ControlSteps.{seat_in_txn}
@@ -16,11 +17,11 @@ use Rattle.shore_core.proofs.core_calls.Core.dispatch.Goals as goal
 pub returns-in-Begin-clause-replied : goal.returns-in-Begin-clause-replied
 returns-in-Begin-clause-replied g c running front disk before s store is safe over idle =
     let old = c.args.self.now in
-    let own = seat_in_txn (control_of old) c.in-Some.seat c.in-Some.ensures.some.0 s is.beside.parts.stands in
+    let own = seat_in_txn (control_of old) c.in-Some.seat c.in-Some.ensures.some.0 s is.beside.parts.stands safe.after.sessions.seats in
     subst (λ (it : Call). Called c.args.session it (Err fault.AlreadyActive) old old front before s store) (sym c.in-Begin.is)
     (replied_calls old old front before s store c.args.session call.Begin (Err fault.AlreadyActive) refl (record {
       later = s;
-      replies = inr (inr (inr (inl (is.beside.parts.failed_is ∙ running, idle, refl, (inl (refl, (own.0, (own.1.0, own.1.1 ∙ c.in-Some.ensures.some.1))), refl)))));
+      replies = inr (inr (inr (inl (is.beside.parts.failed_is ∙ running, idle, refl, (inl (refl, in_one s c.args.session own.0 (own.1.0, own.1.1 ∙ c.in-Some.ensures.some.1)), refl)))));
       comes = inr (comes_same old front disk before s store is over);
     }))
 

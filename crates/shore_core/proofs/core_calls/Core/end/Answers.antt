@@ -21,7 +21,7 @@ pub returns-then-is_some-clause-ended : goal.returns-then-is_some-clause-ended
 returns-then-is_some-clause-ended g c running front disk before s store is safe over a of empty =
     let own = c.txn-own.result.now in
     let newest = some_told _ c.newest.result (sym c.is_some.ensures ∙ c.if-is_some.true) c.newest.ensures.some in
-    absurd (some_left (txns_of c.args.self.now) own c.txn-own.ensures.there a (subst (IsAmong a) is.beside.parts.stands.txns.active of.0) (of.1 ∙ sym c.txn-own.ensures.session)
+    absurd (some_left (txns_of c.args.self.now) own c.txn-own.ensures.there a (subst (IsAmong a) is.beside.parts.stands.txns.active of.0.0) (of.1 ∙ sym c.txn-own.ensures.session)
     newest.1.0 newest.0.now newest.1.1 empty)
 
 pub end_abort-requires-clause-empty : goal.end_abort-requires-clause-empty
@@ -44,11 +44,11 @@ returns-then-eq-clause-ended g c running front disk before s store is safe over 
     let old = c.args.self.now in
     let own = c.txn-own.result.now in
     let stands = is.beside.parts.stands in
-    let same : a ≡ as_session_txn own = own_is (txns_of old) own c.txn-own.ensures.there a (subst (IsAmong a) stands.txns.active of.0) (of.1 ∙ sym c.txn-own.ensures.session) in
+    let same : a ≡ as_session_txn own = own_is (txns_of old) own c.txn-own.ensures.there a (subst (IsAmong a) stands.txns.active of.0.0) (of.1 ∙ sym c.txn-own.ensures.session) in
     let logged = each_among (IsLogged s.log) (table.txns_in (txns_of old)) stands.txns.each own c.txn-own.ensures.among in
     let nothing : previous_of a.txn s.log ≡ 0 =
     ap (λ (b : SessionTxn). previous_of b.txn s.log) same ∙ sym logged.last ∙ sym c.last-previous.ensures ∙ eqb-true c.last-previous.result 0 (sym c.eq.ensures ∙ c.if-eq.true) in
-    ended_unlogged old _ front disk before s store is over safe.roomy.pages a of.0 empty refl refl refl refl c.end_abort.ensures.claims refl nothing (c.end_abort.ensures.stands s a stands of)
+    ended_unlogged old _ front disk before s store is over safe.roomy.pages a of.0.0 empty refl refl refl refl c.end_abort.ensures.claims refl nothing (c.end_abort.ensures.stands s a stands of)
 
 pub end_abort-requires-in-Ok-clause-empty : goal.end_abort-requires-in-Ok-clause-empty
 end_abort-requires-in-Ok-clause-empty g c a among is =
@@ -73,12 +73,12 @@ returns-in-Ok-clause-ended g c running front disk before s store is safe over a 
     let old = c.args.self.now in
     let own = c.txn-own.result.now in
     let stands = is.beside.parts.stands in
-    let same : a ≡ as_session_txn own = own_is (txns_of old) own c.txn-own.ensures.there a (subst (IsAmong a) stands.txns.active of.0) (of.1 ∙ sym c.txn-own.ensures.session) in
+    let same : a ≡ as_session_txn own = own_is (txns_of old) own c.txn-own.ensures.there a (subst (IsAmong a) stands.txns.active of.0.0) (of.1 ∙ sym c.txn-own.ensures.session) in
     let logged = each_among (IsLogged s.log) (table.txns_in (txns_of old)) stands.txns.each own c.txn-own.ensures.among in
     let last : c.last-previous.result ≡ previous_of a.txn s.log = c.last-previous.ensures ∙ logged.last ∙ ap (λ (b : SessionTxn). previous_of b.txn s.log) (sym same) in
     let number : c.id-txn.result ≡ a.txn = c.id-txn.ensures.number ∙ ap (λ (b : SessionTxn). b.txn) (sym same) in
     let r : LogRecord = record { txn = c.id-txn.result; previous = c.last-previous.result; payload = End } in
-    ended_logged old _ front disk before s store is over safe.roomy.pages a of.0 empty refl c.push.ensures.first refl refl c.end_abort-in-Ok.ensures.claims r
+    ended_logged old _ front disk before s store is over safe.roomy.pages a of.0.0 empty refl c.push.ensures.first refl refl c.end_abort-in-Ok.ensures.claims r
     (ap (λ n. record { txn = n; previous = c.last-previous.result; payload = End }) number ∙ ap (λ n. record { txn = a.txn; previous = n; payload = End }) last)
     c.in-Ok.ensures.added
     (λ none. zero_differs c.last-previous.result (last ∙ none) (sym c.eq.ensures ∙ c.if-eq.false))

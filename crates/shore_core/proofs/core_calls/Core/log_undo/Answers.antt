@@ -122,7 +122,7 @@ returns-clause-put_back g c running front disk before s store is safe over a kep
     let works = is.beside.parts.failed_is ∙ running in
     let stands = is.beside.parts.stands in
     let next = c.requires.next in
-    let among = subst (IsAmong a) stands.txns.active of.0 in
+    let among = subst (IsAmong a) stands.txns.active of.0.0 in
     let entry_is = next_image (txns_of old) c.args.seat.now.session c.args.undo.id c.args.undo.bytes c.args.undo.cost c.args.undo.logged next a kept e among of.1 images in
     let same : image_of undone ≡ e = sym (next_undone (txns_of old) c.args.seat.now.session c.args.undo.id c.args.undo.bytes c.args.undo.cost c.args.undo.logged next (txns_in new) _ _ _ c.note_compensation-undone.ensures.undone) ∙ entry_is in
     let id_is : c.args.undo.id ≡ e.0 = next.id_is ∙ ap (λ (x : Rid × Image). x.0) entry_is in
@@ -142,7 +142,7 @@ returns-clause-put_back g c running front disk before s store is safe over a kep
     let shown = subst (λ n. Shows K c.release_to.new.self front disk (with_slots (with_slots (page_slots s) undone.id.page (λ l. with_image l undone.id.slot undone.before)) undone.id.page (λ l. with_change (lowered n) l undone.id.slot))) claim_is
     (subst (λ (i : Image). Shows K c.release_to.new.self front disk (with_slots (with_slots (page_slots s) undone.id.page (λ l. with_image l undone.id.slot i)) undone.id.page (λ l. with_change (lowered c.from.result) l undone.id.slot))) image_is lowered_there) in
     let at_e = subst (λ (x : Rid × Image). Shows K c.release_to.new.self front disk (with_slots (with_slots (page_slots s) x.0.page (λ l. with_image l x.0.slot x.1)) x.0.page (λ l. with_change (lowered (claim_before kept x)) l x.0.slot))) same shown in
-    let pages = pages_undone c.release_to.new.self K front disk s a kept e c.args.rollback safe.roomy.pages of.0 images at_e in
+    let pages = pages_undone c.release_to.new.self K front disk s a kept e c.args.rollback safe.roomy.pages of.0.0 images at_e in
     let held = held_still _ c.release_to.new.self old.heap c.args.undo.id.page (c.release_to.ensures.device ∙ c.change.ensures.device) (λ k. c.release_to.ensures.held k ∙ c.change.ensures.held k) c.requires.fits in
     let told = claim_told c.release_to.new.self (txns_of old) (txns_in new) undone.id.page front disk (page_slots later)
     (subst (λ (x : Rid). IsTrue (is_some (frame_of c.release_to.new.self x.page))) (id_is ∙ sym (ap (λ (x : Rid × Image). x.0) same)) held) c.note_compensation-undone.ensures.elsewhere pages in

@@ -11,7 +11,7 @@ loop-init g c = rolling_first c.args.self.now c.args.seat.now c.args.rollback c.
 pub returns-in_err-put_back_newest-clause-unwinds : goal.returns-in_err-put_back_newest-clause-unwinds
 returns-in_err-put_back_newest-clause-unwinds g c =
     let old = c.args.self.now in
-    let counts : HasCount old c.args.seat.now.session (length c.undo-count.result.now) = λ s has a of. count_own (txns_of old) c.txn.result.now c.txn.ensures.there a (subst (IsAmong a) has.txns.active of.0) (of.1 ∙ sym c.txn.ensures.session) ∙ ap length (sym c.undo-count.ensures.entries) in
+    let counts : HasCount old c.args.seat.now.session (length c.undo-count.result.now) = λ s has a of. count_own (txns_of old) c.txn.result.now c.txn.ensures.there a (subst (IsAmong a) has.txns.active of.0.0) (of.1 ∙ sym c.txn.ensures.session) ∙ ap length (sym c.undo-count.ensures.entries) in
     rolls_refused old c.loop.self c.put_back_newest.new.self c.args.seat.now c.args.rollback c.args.least c.loop.counter (length c.undo-count.result.now) c.loop.invariant counts c.loop-test.true _ c.from_residual.result c.from_residual.ensures.1
     c.in_err-put_back_newest.ensures.put_back
 
@@ -21,7 +21,7 @@ returns-in_err-put_back_newest-clause-waits g c = c.put_back_newest.ensures.wait
 pub loop-preserved : goal.loop-preserved
 loop-preserved g c =
     let old = c.args.self.now in
-    let counts : HasCount old c.args.seat.now.session (length c.undo-count.result.now) = λ s has a of. count_own (txns_of old) c.txn.result.now c.txn.ensures.there a (subst (IsAmong a) has.txns.active of.0) (of.1 ∙ sym c.txn.ensures.session) ∙ ap length (sym c.undo-count.ensures.entries) in
+    let counts : HasCount old c.args.seat.now.session (length c.undo-count.result.now) = λ s has a of. count_own (txns_of old) c.txn.result.now c.txn.ensures.there a (subst (IsAmong a) has.txns.active of.0.0) (of.1 ∙ sym c.txn.ensures.session) ∙ ap length (sym c.undo-count.ensures.entries) in
     let done = c.in_ok-put_back_newest.ensures in
     rolls_on old c.loop.self c.put_back_newest.new.self c.args.seat.now c.args.rollback c.args.least c.loop.counter (length c.undo-count.result.now) c.loop.invariant counts c.loop-test.true done.put_back done.rewinds done.longer done.seated done.waits (keeps_of done.serves done.failed)
     done.serves.any_moment (none_failed _ _ _ done.serves.cause)
@@ -29,7 +29,7 @@ loop-preserved g c =
 pub returns-clause-unwinds : goal.returns-clause-unwinds
 returns-clause-unwinds g c =
     let old = c.args.self.now in
-    let counts : HasCount old c.args.seat.now.session (length c.undo-count.result.now) = λ s has a of. count_own (txns_of old) c.txn.result.now c.txn.ensures.there a (subst (IsAmong a) has.txns.active of.0) (of.1 ∙ sym c.txn.ensures.session) ∙ ap length (sym c.undo-count.ensures.entries) in
+    let counts : HasCount old c.args.seat.now.session (length c.undo-count.result.now) = λ s has a of. count_own (txns_of old) c.txn.result.now c.txn.ensures.there a (subst (IsAmong a) has.txns.active of.0.0) (of.1 ∙ sym c.txn.ensures.session) ∙ ap length (sym c.undo-count.ensures.entries) in
     rolls_done old c.loop.self c.args.seat.now c.args.rollback c.args.least c.loop.counter (length c.undo-count.result.now) c.loop.invariant counts (omega (arith, c.loop-test.false)) (λ within. omega (arith, within, c.loop-test.false, c.loop.auto.counter-end))
 
 pub returns-clause-waits : goal.returns-clause-waits

@@ -67,7 +67,7 @@ pub returns-in-Lock-clause-step : goal.returns-in-Lock-clause-step
 returns-in-Lock-clause-step g c front disk before s store is safe over =
     let w = c.in-Some.waiting.now in
     let was = is.beside.parts.stands in
-    let its = c.in-Some.ensures.asks (asks_lock w _ c.in-Lock.is) s was in
+    let its = c.in-Some.ensures.asks (asks_lock w _ c.in-Lock.is) s was safe.after.sessions.seats in
     c.resume_call.ensures.step c.if-self.false front disk before s store is safe over (as_waiting w) (c.in-Some.ensures.waits s was) c.in-Some.ensures.some.1 c.in-Lock.is its.0 its.1 its.2
 
 pub returns-in_default-clause-serves : goal.returns-in_default-clause-serves

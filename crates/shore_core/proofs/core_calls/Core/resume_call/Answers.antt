@@ -118,7 +118,7 @@ returns-in-Ok-clause-step g c running front disk before s store is safe over w m
     let waited : v.wait ≡ Lock c.args.granule = sym (ap (λ (x : Waiting). x.wait) one) ∙ waits in
     let lock = lock_waits _ s (as_waiting v) c.args.granule safe.after.waits there waited in
     let asks : IsSome (lock_asked_by v.call) = subst IsSome (sym lock.asked) refl in
-    let whole = waits_whole safe.found safe.entries s safe.after (as_waiting v) there spared c.args.granule a waited (its.0, its.1 ∙ sym c.in-Some-take_wait.ensures.some.1) in
+    let whole = waits_whole safe.opening safe.found safe.entries s safe.after (as_waiting v) there spared c.args.granule a waited (its.0, its.1 ∙ sym c.in-Some-take_wait.ensures.some.1) in
     let quiet : is_waiting a.txn s.locks.requests ≡ false =
     ap (λ t. is_waiting t s.locks.requests) number ∙ ap (λ (t : Table). is_waiting c.args.txn t.requests) was.locks ∙ sym c.if-is_waiting.ensures in
     let woken : State = wait_refused s c.args.session in
@@ -145,7 +145,7 @@ returns-in-Err-clause-step g c running front disk before s store is safe over w 
     let waited : v.wait ≡ Lock c.args.granule = sym (ap (λ (x : Waiting). x.wait) one) ∙ waits in
     let lock = lock_waits _ s (as_waiting v) c.args.granule safe.after.waits there waited in
     let asks : IsSome (lock_asked_by v.call) = subst IsSome (sym lock.asked) refl in
-    let whole = waits_whole safe.found safe.entries s safe.after (as_waiting v) there spared c.args.granule a waited (its.0, its.1 ∙ sym c.in-Some-take_wait.ensures.some.1) in
+    let whole = waits_whole safe.opening safe.found safe.entries s safe.after (as_waiting v) there spared c.args.granule a waited (its.0, its.1 ∙ sym c.in-Some-take_wait.ensures.some.1) in
     let quiet : is_waiting a.txn s.locks.requests ≡ false =
     ap (λ t. is_waiting t s.locks.requests) number ∙ ap (λ (t : Table). is_waiting c.args.txn t.requests) was.locks ∙ sym c.if-is_waiting.ensures in
     let woken : State = wait_refused s c.args.session in

@@ -1,8 +1,7 @@
 use Rattle.std.proofs.Common.{◌≡◌, ◌<◌, ◌≤◌, ◌+◌, length, inl, inr, refl, sym, ap, subst, ◌∙◌, arith}
 use Rattle.laws_lives.specs.Views.{IsAmong}
 use Rattle.laws_calls.specs.CallSteps.{ResumesWait, commit_ended}
-use Rattle.laws_calls.specs.SessionWaits.{IsCommitWait}
-use Rattle.laws_calls.specs.States.{State, Waiting}
+use Rattle.laws_calls.specs.States.{State}
 use Rattle.shore_model.specs.declared.step.Step.TheVariants.{Done, Waits}
 use Rattle.shore_model.specs.declared.step.Wait.{Wait}
 use Rattle.shore_model.specs.declared.step.Wait.TheVariants.{Durable}
@@ -15,7 +14,7 @@ use Rattle.shore_types.specs.declared.layout.TheConstants.{LAST_OPENED}
 use Rattle.shore_txn.specs.declared.transactions.Transactions.{Transactions}
 use Rattle.shore_core.specs.Cores.{first_of, geometry_of, waiting_of}
 use Rattle.shore_core.proofs.Coming.{comes_same}
-use Rattle.shore_core.proofs.Going.{commit_waits, spared_commit}
+use Rattle.shore_core.proofs.Going.{commit_of, commit_waits, spared_commit}
 use Rattle.shore_core.proofs.Settling.{resumed_at_once, resumed_to_nothing}
 use Rattle.shore_core.proofs.Moving.{comes_moved}
 use Rattle.shore_core.proofs.Serving.{nothing_called}
@@ -60,11 +59,11 @@ returns-clause-step g c running front disk before s store is safe over w m same 
     let old = c.args.self.now in
     let works = is.beside.parts.failed_is ∙ running in
     let n = c.args.number in
-    let own : IsCommitWait _ s w = commit_waits _ s w n safe.after.waits m waits in
-    let a = own.txn in
-    let of : a.session ≡ c.args.session = sym (ap (λ (x : Waiting). x.session) own.is) ∙ same in
+    let own = commit_of s (commit_waits _ s w n safe.after.waits m waits) is.beside.parts.stands.txns.unprepared in
+    let a = own.0 in
+    let of : a.session ≡ c.args.session = own.2 ∙ same in
     let later : State = commit_ended s a in
-    let stands = c.end_commit.ensures.stands _ _ s a safe.after.sessions.agree is.beside.parts.stands works own.committing of in
+    let stands = c.end_commit.ensures.stands s a safe.after.sessions.seats is.beside.parts.stands works own.1 of in
     let told : n ≤ s.durable = omega (arith, c.if-awaits_force.ensures.durable refl, is.beside.parts.durable_is) in
     record {
       later = later;
@@ -76,7 +75,7 @@ returns-clause-step g c running front disk before s store is safe over w m same 
             inr (
               works,
               subst (λ (x : Wait). ResumesWait (geometry_of old) s w x (Done Committed) later) (sym waits)
-                  (inr (told, refl, (a, own.committing, of ∙ sym same, refl))),
+                  (inr (inl (told, refl, (a, own.1, own.2, refl), own.3))),
               spared_commit _ s w n safe.after.waits m waits,
             ),
           ));

@@ -76,12 +76,12 @@ returns-in_err-acquired-clause-asked g c asks running front disk before s store 
     let quiet : is_waiting a.txn s.locks.requests ≡ false =
     ap (λ t. is_waiting t s.locks.requests) number ∙ ap (λ (t : Table). is_waiting c.args.txn t.requests) was.locks ∙ c.requires.quiet in
     let idle : DoesNotWait s a.session = idle_of (control_of old) s a c.args.seat.now.session was c.requires.free its.1 in
-    let locked = c.in_err-acquired.ensures.locks s safe.found safe.entries a call (c.reserve_wait.ensures.stands s was) safe.after works its number (sym c.on_conflict-on_conflict.ensures) in
-    let at_first : MayLock safe.found safe.entries a s = record { after = safe.after; active = its.0; idle = idle; running = works } in
+    let locked = c.in_err-acquired.ensures.locks s safe.opening safe.found safe.entries a call (c.reserve_wait.ensures.stands s was) safe.after works its number (sym c.on_conflict-on_conflict.ensures) in
+    let at_first : MayLock safe.opening safe.found safe.entries a s = record { after = safe.after; active = its.0; idle = idle; running = works } in
     let same = locked_pages (geometry_of old) a call lock (sym c.in-Some.ensures) may whole s
     (record { safe = safe; active = its.0; idle = idle; quiet = quiet; running = works }) (Err c.in_err-acquired.field-0.0) locked.0 locked.1 in
     asked_blocked old _ front before s store a call may c.from_residual-in_err-acquired.result c.in_err-acquired.field-0.0 c.from_residual-in_err-acquired.ensures.1 c.in_err-acquired.ensures.plain locked.0
-    (lock_refused (geometry_of old) safe.found safe.entries a call lock (sym c.in-Some.ensures) may whole s at_first c.in_err-acquired.field-0.0 locked.0 locked.1)
+    (lock_refused (geometry_of old) safe.opening safe.found safe.entries a call lock (sym c.in-Some.ensures) may whole s at_first c.in_err-acquired.field-0.0 locked.0 locked.1)
     (comes_moved old _ front disk before s locked.0 store refl refl refl refl refl (λ p. c.lock.ensures.claims p ∙ ap (λ (t : Transactions). kept_in t p) c.reserve_wait.ensures.txns) locked.2 same.log same.durable same.failed same.slots is over)
 
 pub invariant_of-self-in-Done : goal.invariant_of-self-in-Done
@@ -126,9 +126,9 @@ returns-in-Done-clause-asked g c asks running front disk before s store is safe 
     let quiet : is_waiting a.txn s.locks.requests ≡ false =
     ap (λ t. is_waiting t s.locks.requests) number ∙ ap (λ (t : Table). is_waiting c.args.txn t.requests) was.locks ∙ c.requires.quiet in
     let idle : DoesNotWait s a.session = idle_of (control_of old) s a c.args.seat.now.session was c.requires.free its.1 in
-    let locked = c.in_ok-acquired.ensures.locks s safe.found safe.entries a call (c.reserve_wait.ensures.stands s was) safe.after works its number (sym c.on_conflict-on_conflict.ensures) in
+    let locked = c.in_ok-acquired.ensures.locks s safe.opening safe.found safe.entries a call (c.reserve_wait.ensures.stands s was) safe.after works its number (sym c.on_conflict-on_conflict.ensures) in
     let done : LocksTo s a call lock (Ok acquire.Done) locked.0 = subst (λ (x : Acquired). LocksTo s a call lock (Ok x) locked.0) c.in-Done.is locked.1 in
-    let at_first : MayLock safe.found safe.entries a s = record { after = safe.after; active = its.0; idle = idle; running = works } in
+    let at_first : MayLock safe.opening safe.found safe.entries a s = record { after = safe.after; active = its.0; idle = idle; running = works } in
     let k : MayLockSafely (geometry_of old) a call lock (sym c.in-Some.ensures) may whole s = record { safe = safe; active = its.0; idle = idle; quiet = quiet; running = works } in
     let same = locked_pages (geometry_of old) a call lock (sym c.in-Some.ensures) may whole s k (Ok acquire.Done) locked.0 done in
     let behind = safe_locked (geometry_of old) a call lock (sym c.in-Some.ensures) may whole s k locked.0 done in
@@ -139,7 +139,7 @@ returns-in-Done-clause-asked g c asks running front disk before s store is safe 
       later = r.later;
       asks = inr (
         may,
-        lock_done (geometry_of old) safe.found safe.entries a call lock (sym c.in-Some.ensures) may whole s at_first locked.0 done (as_step c.behind_locks.result) (once_noted c.behind_locks.result r.later)
+        lock_done (geometry_of old) safe.opening safe.found safe.entries a call lock (sym c.in-Some.ensures) may whole s at_first locked.0 done (as_step c.behind_locks.result) (once_noted c.behind_locks.result r.later)
             (served_at_once (geometry_of old) locked.0 a call c.behind_locks.result (once_noted c.behind_locks.result r.later) r.serves)
             (λ later has. goes_served (geometry_of old) later a call locked.0 has c.behind_locks.result (once_noted c.behind_locks.result r.later) r.serves),
       );
@@ -158,15 +158,15 @@ returns-in-Waiting-clause-asked g c asks running front disk before s store is sa
     let quiet : is_waiting a.txn s.locks.requests ≡ false =
     ap (λ t. is_waiting t s.locks.requests) number ∙ ap (λ (t : Table). is_waiting c.args.txn t.requests) was.locks ∙ c.requires.quiet in
     let idle : DoesNotWait s a.session = idle_of (control_of old) s a c.args.seat.now.session was c.requires.free its.1 in
-    let locked = c.in_ok-acquired.ensures.locks s safe.found safe.entries a call (c.reserve_wait.ensures.stands s was) safe.after works its number (sym c.on_conflict-on_conflict.ensures) in
+    let locked = c.in_ok-acquired.ensures.locks s safe.opening safe.found safe.entries a call (c.reserve_wait.ensures.stands s was) safe.after works its number (sym c.on_conflict-on_conflict.ensures) in
     let waits : LocksTo s a call lock (Ok (acquire.Waiting at)) locked.0 = subst (λ (x : Acquired). LocksTo s a call lock (Ok x) locked.0) c.in-Waiting.is locked.1 in
-    let at_first : MayLock safe.found safe.entries a s = record { after = safe.after; active = its.0; idle = idle; running = works } in
+    let at_first : MayLock safe.opening safe.found safe.entries a s = record { after = safe.after; active = its.0; idle = idle; running = works } in
     let k : MayLockSafely (geometry_of old) a call lock (sym c.in-Some.ensures) may whole s = record { safe = safe; active = its.0; idle = idle; quiet = quiet; running = works } in
     let same = locked_pages (geometry_of old) a call lock (sym c.in-Some.ensures) may whole s k (Ok (acquire.Waiting at)) locked.0 waits in
     let active = still_active (geometry_of old) a call lock (sym c.in-Some.ensures) may whole s k at locked.0 waits in
     let later : State = record locked.0 { waiting = lock_waiting a call at ∷ locked.0.waiting } in
     asked_waits old _ front before s store a call may at later
-    (lock_waits (geometry_of old) safe.found safe.entries a call lock (sym c.in-Some.ensures) may whole s at_first at locked.0 waits)
+    (lock_waits (geometry_of old) safe.opening safe.found safe.entries a call lock (sym c.in-Some.ensures) may whole s at_first at locked.0 waits)
     (comes_moved old _ front disk before s later store refl refl refl refl refl (λ p. ap (λ (t : Transactions). kept_in t p) c.wait.ensures.txns ∙ c.lock.ensures.claims p ∙ ap (λ (t : Transactions). kept_in t p) c.reserve_wait.ensures.txns) (c.wait.ensures.stands locked.0 a locked.2 (active, its.1) number) same.log same.durable same.failed same.slots is over)
 
 pub returns-in_err-check-clause-serves : goal.returns-in_err-check-clause-serves
