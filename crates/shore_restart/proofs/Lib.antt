@@ -18,4 +18,5 @@ pub mod LogTurns
 pub mod BadNumbers
 pub mod Undoing
 pub mod Found
+pub mod NoDoubts
 pub mod Opens

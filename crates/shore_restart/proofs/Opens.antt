@@ -1,12 +1,24 @@
--- The state that a core over a restart opens in: what the log leaves is in place, and nobody is in a transaction.
-use Rattle.std.proofs.Common.{◌≡◌, ◌<◌, ℕ, List, [], ◌∷◌, ◌++◌, false, refl, sym, ap, subst, ◌∙◌, length}
+-- The state that a core over a restart opens in: what the log leaves is in place, and nobody is in a transaction. Nor is anybody in doubt, as the log has
+-- no Prepare.
+use Rattle.std.proofs.Common.{◌≡◌, ◌<◌, ℕ, List, [], ◌∷◌, ◌++◌, false, refl, sym, ap, subst, ◌∙◌, length, map, arith}
+use Rattle.std.specs.Prelude.{Contains}
 use Rattle.std.specs.FinMap.{get}
 use Rattle.std.specs.List.{AllByRecursion}
 use Rattle.std.proofs.lemmas.List.Elements.{recursion_from_All}
 use Rattle.shore_disk.specs.declared.device.Disk as disk
 use Rattle.shore_types.specs.declared.ids.PageId.{PageId}
+use Rattle.shore_types.specs.declared.layout.Geometry.{Geometry}
+use Rattle.shore_model.specs.declared.histories.InDoubt.{InDoubt}
+use Rattle.shore_model.specs.declared.histories.Opening.{Opening}
+use Rattle.shore_model.specs.declared.holds.Hold.{Hold}
 use Rattle.shore_model.specs.declared.log_records.LogRecord.{LogRecord}
+use Rattle.shore_model.specs.Histories.{free}
 use Rattle.shore_model.specs.Logs.{Lawful, image_of_record, records_told}
+use Rattle.laws_lives.specs.Doubts.{IsOpeningOf, doubts_in}
+use Rattle.laws_lives.specs.Soundness.{found_in_doubt}
+use Rattle.laws_lives.specs.Views.{IsAmong}
+use Rattle.laws_lives.proofs.Openings.{undone_opening}
+use Rattle.laws_calls.proofs.EmptyOpens.{none_granted}
 use Rattle.laws_lives.proofs.Lists.{recursion-at, recursion-push}
 use Rattle.shore_locks.specs.Tables.{Table}
 use Rattle.shore_page.specs.Slots.{settled}
@@ -20,6 +32,7 @@ use Rattle.laws_lives.proofs.Invariant.{redone_whole}
 use Rattle.laws_lives.proofs.UndoRecords.{undone_lawful}
 use Rattle.laws_lives.proofs.WritersTold.{leaves_told}
 use Rattle.laws_runs.specs.StoredRuns.{IsOpenedOver}
+use Rattle.shore_analysis.specs.Meant.{AreMeant}
 use Rattle.shore_analysis.specs.Tables.{IsNext}
 use Rattle.shore_analysis.proofs.Counted.{last_is_one}
 use Rattle.shore_analysis.proofs.InTurn.{in_order_undone}
@@ -44,6 +57,7 @@ use Rattle.shore_restart.specs.Opened.{OpensIn}
 use Rattle.shore_restart.specs.Room.{IsRoomBehind}
 use Rattle.shore_restart.specs.Standing.{Stands}
 use Rattle.shore_restart.specs.Turns.{IsUndoneSoFar}
+use Rattle.shore_restart.proofs.NoDoubts.{no_doubts, nobody_found, none_logged}
 
 -- ---- numbers of transactions
 
@@ -62,7 +76,16 @@ below_undone n log (t ∷ turns) last undone all =
 module _ (ready : RecoveryState) (control : Control) (stream_bytes : ℕ) where
   abbrev pub opened_state : State
   opened_state = record {
-    sessions = record { records = records_told ready.log; active = []; committing = []; held = []; next_txn = next_in (txns_in control) };
+    sessions = record {
+      records = records_told ready.log;
+      active = [];
+      committing = [];
+      held = [];
+      next_txn = next_in (txns_in control);
+      seats = λ n. free;
+      prepared = [];
+      resolving = [];
+    };
     locks = locks_in control;
     counts = slot_count ready.log;
     log = ready.log;
@@ -73,22 +96,38 @@ module _ (ready : RecoveryState) (control : Control) (stream_bytes : ℕ) where
   }
 
   module _ (kept : IsRecoverable ready) (redone : ready.redone ≡ length ready.log) (lawful : Lawful ready.log) (quiet : HasNoLosers ready.log) where
-    pub opened_over : (found : List LogRecord) (turns : List ℕ) → IsUndoneTo found turns ready.log → IsNext found (next_in (txns_in control)) → (limit : ℕ) → IsIdle limit control
-        → IsOpenedOver ready opened_state
-    opened_over found turns undone next limit idle = record {
-      sessions = record {
-        records = λ id. sym (redone_whole ready kept redone id.page id.slot ∙ leaves_told ready.log lawful quiet id);
-        active = refl;
-        committing = refl;
-        held = refl;
-        some = next.some;
-        below = below_undone (next_in (txns_in control)) found turns ready.log undone (recursion_from_All (λ (r : LogRecord). r.txn < next_in (txns_in control)) found next.above);
-      };
-      stored = record { log = refl; durable = refl };
-      locks = ap (λ (t : Table). t.requests) idle.locks;
-      waiting = refl;
-      running = refl;
-    }
+    -- The log that was found means what it has to, so it has no Prepare: whatever opening it says has nobody in doubt.
+    pub opened_over : (g : Geometry) (found : List LogRecord) (turns : List ℕ) → AreMeant g found → IsUndoneTo found turns ready.log → IsNext found (next_in (txns_in control)) → (limit : ℕ)
+        → IsIdle limit control → (o : Opening) → IsOpeningOf found o → IsOpenedOver o ready opened_state
+    opened_over g found turns meant undone next limit idle o opening =
+        let nobody : o.in_doubt ≡ [] = nobody_found found o opening (no_doubts g found meant) in
+        let none : doubts_in ready.log ≡ [] = none_logged ready.log o (undone_opening o found turns ready.log undone opening) nobody in
+        record {
+          sessions = record {
+            records = λ id. sym (redone_whole ready kept redone id.page id.slot ∙ leaves_told ready.log lawful quiet id);
+            seats = λ n. refl;
+            committing = refl;
+            resolving = refl;
+            prepared = sym (ap (map found_in_doubt) nobody);
+            active = sym (ap (map (λ (d : InDoubt). d.txn)) nobody);
+            undo_lists = λ a among. absurd among;
+            locks = record {
+              each = λ h among. absurd (none_held h among);
+              all = λ d g among. absurd (subst (IsAmong d) none among);
+              above = λ d g a among. absurd (subst (IsAmong d) none among);
+            };
+            some = next.some;
+            below = below_undone (next_in (txns_in control)) found turns ready.log undone (recursion_from_All (λ (r : LogRecord). r.txn < next_in (txns_in control)) found next.above);
+          };
+          stored = record { log = refl; durable = refl };
+          locks = none_granted opened_state refl (ap (λ (t : Table). t.requests) idle.locks);
+          waiting = refl;
+          running = refl;
+          few = omega arith;
+        }
+      where
+        none_held : (h : Hold) → Contains [] h → ⊥
+        none_held h in_none = absurd (omega (arith, in_none.1))
 
     -- the slots of its pages are those that the log leaves
     slots_told : (p : PageId) → page_slots opened_state p ≡ slots_left ready.log p
@@ -110,6 +149,7 @@ module _ (ready : RecoveryState) (control : Control) (stream_bytes : ℕ) where
         → HasTxns (txns_in control) opened_state
     opened_txns room below = record {
       active = sym (ap session_txns idle.txns);
+      unprepared = record { prepared = refl; resolving = refl };
       next = refl;
       stream = sym room.stream;
       kept = sym room.kept;
@@ -130,12 +170,12 @@ module _ (ready : RecoveryState) (control : Control) (stream_bytes : ℕ) where
 module _ {T V : Type 0} {G : tail.Ghosts T} {H : disk.Ghosts V} (core : Core T V G H) (heap : Heap V H) (control : Control) (front : List ℕ) (left : ℕ → List ℕ)
     (found log : List LogRecord) (stream_bytes : ℕ) (ready : RecoveryState) where
   -- what is made of a heap and a control that a restart has left opens over its store
-  pub opens_in : ready.log ≡ log → Lawful found → (undone : IsUndoneSoFar found log) → HasNoLosers log → ready.redone ≡ length ready.log
+  pub opens_in : (g : Geometry) → AreMeant g found → ready.log ≡ log → Lawful found → (undone : IsUndoneSoFar found log) → HasNoLosers log → ready.redone ≡ length ready.log
       → Stands front left heap ready → (limit : ℕ) → IsIdle limit control → IsNext found (next_in (txns_in control)) → IsRoomBehind log stream_bytes (room_in (txns_in control))
       → ((s : State) → s.log ≡ ready.log → s.durable ≡ ready.durable → s.failed ≡ false → HasControl control s → Shows unclaimed heap front left (page_slots s)
       → IsIn front left s.log core s)
       → ((s : State) (store : RecoveryState) → IsKept s store → IsStoreOf heap left store → IsOver left core s store) → OpensIn core front left found log stream_bytes ready
-  opens_in same lawful undone quiet redone stands limit idle next room in_state over_store =
+  opens_in g meant same lawful undone quiet redone stands limit idle next room in_state over_store =
       let s = opened_state ready control stream_bytes in
       let here : IsUndoneTo found undone.0 ready.log = subst (IsUndoneTo found undone.0) (sym same) (in_order_undone found undone.0 log undone.1) in
       let kept = stands.recoverable in
@@ -145,7 +185,7 @@ module _ {T V : Type 0} {G : tail.Ghosts T} {H : disk.Ghosts V} (core : Core T V
       let below = below_undone (next_in (txns_in control)) found undone.0 ready.log here (recursion_from_All (λ (r : LogRecord). r.txn < next_in (txns_in control)) found next.above) in
       record {
         first = s;
-        opened = opened_over ready control stream_bytes kept redone still_lawful quiet_here found undone.0 here next limit idle;
+        opened = opened_over ready control stream_bytes kept redone still_lawful quiet_here g found undone.0 meant here next limit idle;
         counts = λ p. refl;
         stream = refl;
         next = next;

@@ -11,6 +11,8 @@ use Rattle.shore_log.specs.Settled.{records_of_log}
 use Rattle.shore_heap.specs.declared.heap.Heap.{Heap}
 use Rattle.shore_heap.specs.Heaps as heaps
 use Rattle.shore_analysis.specs.Tables.{IsNext}
+use Rattle.shore_model.specs.declared.histories.Opening.{Opening}
+use Rattle.laws_lives.specs.Doubts.{IsOpeningOf}
 use Rattle.laws_lives.specs.Recovery.{RecoveryState}
 use Rattle.laws_lives.specs.Undo.{HasNoLosers}
 use Rattle.laws_calls.specs.States.{State}
@@ -42,11 +44,12 @@ module _ {T V : Type 0} {G : tail.Ghosts T} {H : Ghosts V} where
   abbrev pub log_fault_left : Result (Core T V G H × Report) (RestartError × Heap V H) → Result (Unit {0}) Fault
   log_fault_left result = log_answer (answer_of result)
 
-  -- The core is in the state of a manager that opens over such a store, behind a volume with these texts of its pages and a log stream of this
-  -- length. Pages have the slots that records of the log have used, and the next transaction has the number that follows those of the log found.
+  -- The core is in the state of a manager that opens over such a store as the log found says, with those in doubt whom it has. It is behind a volume with
+  -- these texts of its pages and a log stream of this length. Pages have the slots that records of the log have used, and the next transaction has the
+  -- number that follows those of the log found.
   pub record OpensIn (core : Core T V G H) (front : List ℕ) (disk : ℕ → List ℕ) (found log : List LogRecord) (stream_bytes : ℕ) (ready : RecoveryState) : Type 0 where
     pub first : State
-    pub opened : IsOpenedOver ready first
+    pub opened : (o : Opening) → IsOpeningOf found o → IsOpenedOver o ready first
     pub counts : (p : PageId) → first.counts p ≡ slot_count ready.log p
     pub stream : first.stream_bytes ≡ stream_bytes
     pub next : IsNext found first.sessions.next_txn

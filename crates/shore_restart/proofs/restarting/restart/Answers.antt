@@ -30,7 +30,7 @@ returns-in-Ok-clause-restarts g c log_front front disk s found =
             ready.at_rest,
             m.done.1,
             opens_in c.over.result c.run_passes.new.heap c.in-Ok.field-0.control front m.done.1 (records_of_log c.args.log.now) (records_of_log new) (stream_bytes_of new) m.later
-                same was c.in-Ok.ensures.undone quiet ready.redone ready.stands (geometry_of c.args.heap).max_locks c.in-Ok.ensures.idle c.in-Ok.ensures.next c.in-Ok.ensures.room
+                (geometry_of c.args.heap) c.in-Ok.ensures.taken same was c.in-Ok.ensures.undone quiet ready.redone ready.stands (geometry_of c.args.heap).max_locks c.in-Ok.ensures.idle c.in-Ok.ensures.next c.in-Ok.ensures.room
                 (λ st log durable running control shows. c.over.ensures.state front m.done.1 st
                 (ap length (log ∙ same ∙ sym c.records.ensures.log)) (durable ∙ ready.at_rest.durable ∙ sym c.durable.ensures ∙ sym c.number-durable.ensures) running control shows)
                 (c.over.ensures.over m.done.1),
