@@ -13,6 +13,7 @@ use Rattle.shore_model.specs.declared.calls.Call.{Call}
 use Rattle.shore_model.specs.declared.calls.Call.TheVariants as call
 use Rattle.shore_model.specs.declared.calls.Exchange.{Exchange}
 use Rattle.shore_model.specs.declared.histories.Entry.{Entry}
+use Rattle.shore_model.specs.declared.histories.Opening.{Opening}
 use Rattle.shore_model.specs.declared.log_records.LogRecord.{LogRecord}
 use Rattle.shore_model.specs.declared.step.Step.{Step}
 use Rattle.shore_model.specs.declared.step.Step.TheVariants.{Done, Waits, Refused, Nothing}
@@ -25,7 +26,7 @@ use Rattle.laws_calls.proofs.LockWaits.{MayWait, call_waits_have, resume_waits_h
 use Rattle.laws_calls.proofs.SettledEnds.{idle_in, settled_call_ends}
 use Rattle.laws_calls.specs.CallSteps.{CallStep, ResumeStep}
 use Rattle.laws_calls.specs.Events.{Called, Forced, HasFailed, IsStateAfter, ManagerEvent, Resumed, EventMoves, call_waiting, entries_of, entries_of_resume, entries_of_waiting}
-use Rattle.laws_calls.specs.LockedStates.{entries_of_call, entries_of_resumed, resumed_call}
+use Rattle.laws_calls.specs.LockedStates.{entries_decided, entries_of_call, entries_of_resumed}
 use Rattle.laws_calls.specs.Settling.{SettledCall, SettledResume, Settles}
 use Rattle.laws_calls.specs.States.{DoesNotWait, State, Waiting}
 use Rattle.laws_runs.proofs.UnderWay.{step_under_way}
@@ -153,7 +154,7 @@ module _ {L V : Type 0} {G : Ghosts L} {H : Ghosts V} where
 -- ---- the calls that wait are those that began to
 
 abbrev pub IsLastOf : Waited → ℕ → Call → Wait → Type 0
-IsLastOf ws session c wait = last_waited session ws ≡ Some (resumed_call c wait)
+IsLastOf ws session c wait = last_waited session ws ≡ Some c
 
 same_lock : (ws : Waited) (session : ℕ) (c : Call) (at later : Granule) → IsLastOf ws session c (Lock at) → IsLastOf ws session c (Lock later)
 same_lock ws session c at later is = is
@@ -174,7 +175,7 @@ end_last ws s session c idle k w there = sym (last_there ws session w.session c 
 may_begin : (g : Geometry) (ws : Waited) (session : ℕ) (c : Call) → MayWait g (IsLastOf ((session, c) ∷ ws)) session c
 may_begin g ws session c = record {
   locks = λ at may. last_here ws session c;
-  commits = λ n is. last_here ws session c ∙ ap (λ (x : Call). Some x) is;
+  commits = λ n is. last_here ws session c;
 }
 
 -- a call of a session that waits changes nothing
@@ -187,7 +188,9 @@ same_or_idle g s new session c step h = rounds h.first h.mid h.calls h.rounds h.
     first_leaves first mid (inr (inr (inl h))) = inl h.3
     first_leaves first mid (inr (inr (inr (inl h)))) = inr h.1
     first_leaves first mid (inr (inr (inr (inr (inl h))))) = inr h.1
-    first_leaves first mid (inr (inr (inr (inr (inr h))))) = inr h.1
+    first_leaves first mid (inr (inr (inr (inr (inr (inl h)))))) = inr h.1
+    first_leaves first mid (inr (inr (inr (inr (inr (inr (inl h))))))) = inr h.1
+    first_leaves first mid (inr (inr (inr (inr (inr (inr (inr h))))))) = inr h.1
 
     waited : (first : Step) (mid : State) (at : Granule) → first ≡ Waits (Lock at) → CallStep g s session c first mid → DoesNotWait s session
     waited first mid at is (inl h) = let clash : Waits (Lock at) ≡ Refused _ = sym is ∙ h.0 in absurd cc
@@ -195,7 +198,9 @@ same_or_idle g s new session c step h = rounds h.first h.mid h.calls h.rounds h.
     waited first mid at is (inr (inr (inl h))) = let clash : Waits (Lock at) ≡ Refused _ = sym is ∙ h.2 in absurd cc
     waited first mid at is (inr (inr (inr (inl h)))) = h.1
     waited first mid at is (inr (inr (inr (inr (inl h))))) = h.1
-    waited first mid at is (inr (inr (inr (inr (inr h))))) = h.1
+    waited first mid at is (inr (inr (inr (inr (inr (inl h)))))) = h.1
+    waited first mid at is (inr (inr (inr (inr (inr (inr (inl h))))))) = h.1
+    waited first mid at is (inr (inr (inr (inr (inr (inr (inr h))))))) = h.1
 
     rounds : (first : Step) (mid : State) → CallStep g s session c first mid → (vs : List (List Victim)) → Settles g mid session first vs step new → (new ≡ s) ⊎ DoesNotWait s session
     rounds first mid calls [] h = ⊎_elim (λ same. inl (h.2 ∙ same)) (λ idle. inr idle) (first_leaves first mid calls)
@@ -226,7 +231,13 @@ waits_so session (x ∷ ws) w some = test (x.session == session) refl some (wait
 
 -- ---- one event
 
-module _ (g : Geometry) (found : List LogRecord) (es : List Entry) (s : State) (k : IsStateAfter found es s) (ws : Waited) (last : AreLast ws s) where
+-- a decision is no answer
+decides_alone : (s : State) (session : ℕ) (c : Call) → exchanges_in (entries_decided s session c) ≡ []
+decides_alone s session call.Commit = refl
+decides_alone s session (call.Prepare global) = refl
+decides_alone s session _ = refl
+
+module _ (g : Geometry) (o : Opening) (found : List LogRecord) (es : List Entry) (s : State) (k : IsStateAfter o found es s) (ws : Waited) (last : AreLast ws s) where
   begun : (session : ℕ) (c : Call) (step : Step) (new : State) → DoesNotWait s session → SettledCall g s session c step new → AreLast ((session, c) ∷ ws) new
   begun session c step new idle h =
       call_waits_have g (IsLastOf ((session, c) ∷ ws)) (same_lock ((session, c) ∷ ws)) s new session c (may_begin g ws session c) step h (begin_last ws s session c idle last)
@@ -238,11 +249,11 @@ module _ (g : Geometry) (found : List LogRecord) (es : List Entry) (s : State) (
       (same_or_idle g s new session c step h)
 
   taken : (session : ℕ) (c : Call) (step : Step) (new : State) → ((f : Fault) → step ≢ Refused f) → SettledCall g s session c step new → DoesNotWait s session
-  taken session c step new not_refused h = idle_in g found es s k session c new step h.first h.mid not_refused h.calls h.rounds h.settles
+  taken session c step new not_refused h = idle_in g o found es s k session c new step h.first h.mid not_refused h.calls h.rounds h.settles
 
   call_last : (session : ℕ) (c : Call) (step : Step) (new : State) → SettledCall g s session c step new → AreLast (waits_behind ws session c step) new
-  call_last session c (Done answer) new h = ended session c (Done answer) new (λ idle. (settled_call_ends g found es s k session c new (Done answer) idle h).idle tt) h
-  call_last session c (Refused f) new h = ended session c (Refused f) new (λ idle. (settled_call_ends g found es s k session c new (Refused f) idle h).idle tt) h
+  call_last session c (Done answer) new h = ended session c (Done answer) new (λ idle. (settled_call_ends g o found es s k session c new (Done answer) idle h).idle tt) h
+  call_last session c (Refused f) new h = ended session c (Refused f) new (λ idle. (settled_call_ends g o found es s k session c new (Refused f) idle h).idle tt) h
   call_last session c (Waits wait) new h = begun session c (Waits wait) new (taken session c (Waits wait) new (λ f is. let clash = is in absurd cc) h) h
   call_last session c Nothing new h = begun session c Nothing new (taken session c Nothing new (λ f is. let clash = is in absurd cc) h) h
 
@@ -256,11 +267,11 @@ module _ (g : Geometry) (found : List LogRecord) (es : List Entry) (s : State) (
   call_told : (session : ℕ) (c : Call) (step : Step) → exchanges_in (entries_of_call s session c step) ≡ told_of session c step
   call_told session c (Done answer) = refl
   call_told session c (Refused f) = refl
-  call_told session c (Waits (Durable n)) = refl
+  call_told session c (Waits (Durable n)) = decides_alone s session c
   call_told session c (Waits (Lock at)) = refl
   call_told session c Nothing = refl
 
-  resumed_told : (w : Waiting) (step : Step) → exchanges_in (entries_of_resumed s w step) ≡ told_of w.session (resumed_call w.call w.wait) step
+  resumed_told : (w : Waiting) (step : Step) → exchanges_in (entries_of_resumed s w step) ≡ told_of w.session w.call step
   resumed_told w (Done answer) = refl
   resumed_told w (Refused f) = refl
   resumed_told w (Waits wait) = refl
@@ -292,8 +303,8 @@ module _ (g : Geometry) (found : List LogRecord) (es : List Entry) (s : State) (
           ∙ ap (told_of_waiting session (last_waited session ws)) (sym (nothing_waits session step new (λ w there. waits_not session s.waiting none w there) h))
       by (Some w) some =
           let is = waits_so session s.waiting w some in
-          let which : last_waited session ws ≡ Some (resumed_call w.call w.wait) = ap (λ n. last_waited n ws) (sym is.1) ∙ last w is.0 in
-          resumed_told w step ∙ ap (λ n. told_of n (resumed_call w.call w.wait) step) is.1 ∙ ap (λ (o : Option Call). told_of_waiting session o step) (sym which)
+          let which : last_waited session ws ≡ Some w.call = ap (λ n. last_waited n ws) (sym is.1) ∙ last w is.0 in
+          resumed_told w step ∙ ap (λ n. told_of n w.call step) is.1 ∙ ap (λ (o : Option Call). told_of_waiting session o step) (sym which)
 
   pub event_told : (e : ManagerEvent) (new : State) → EventMoves g s e new → exchanges_in (entries_of s e) ≡ told_by_move ws e
   event_told (Called session c step) new h = call_told session c step
@@ -317,21 +328,21 @@ pub record HasTold (ws : Waited) (moves : List ManagerEvent) (last : State) (mad
   pub told : exchanges_in made ≡ told_in ws moves
   pub waits : AreLast (waited_in ws moves) last
 
-module _ (g : Geometry) (stream_bytes : ℕ) (found : List LogRecord) where
-  pub have_told : (es : List Entry) (ws : Waited) (m : StoredState) → IsUnderWay g stream_bytes found es m → AreLast ws m.state → (events : List StoredEvent) (last : StoredState)
+module _ (g : Geometry) (stream_bytes : ℕ) (o : Opening) (found : List LogRecord) where
+  pub have_told : (es : List Entry) (ws : Waited) (m : StoredState) → IsUnderWay g stream_bytes o found es m → AreLast ws m.state → (events : List StoredEvent) (last : StoredState)
       (made : List Entry) → StoredMoves g m events last made → HasTold ws (managed events) last.state made
   have_told es ws m k are [] last made h = record { told = ap exchanges_in h.1; waits = subst (λ (x : StoredState). AreLast ws x.state) (sym h.0) are }
   have_told es ws m k are (Manage e works ∷ events) last made h =
       let new = h.0 in
-      let next = step_under_way g stream_bytes found es m (Manage e works) new k h.2 in
-      let rest = have_told (es ++ entries_of m.state e) (waited_behind_move ws e) new next (event_last g found es m.state k.state ws are e new.state h.2.0) events last h.1 h.3 in
+      let next = step_under_way g stream_bytes o found es m (Manage e works) new k h.2 in
+      let rest = have_told (es ++ entries_of m.state e) (waited_behind_move ws e) new next (event_last g o found es m.state k.state ws are e new.state h.2.0) events last h.1 h.3 in
       record {
         told = ap exchanges_in h.4 ∙ exchanges-append (entries_of m.state e) h.1
-            ∙ ap (λ (l : Told). l ++ exchanges_in h.1) (event_told g found es m.state k.state ws are e new.state h.2.0) ∙ ap (λ (l : Told). told_by_move ws e ++ l) rest.told;
+            ∙ ap (λ (l : Told). l ++ exchanges_in h.1) (event_told g o found es m.state k.state ws are e new.state h.2.0) ∙ ap (λ (l : Told). told_by_move ws e ++ l) rest.told;
         waits = rest.waits;
       }
   have_told es ws m k are (Tend works ∷ events) last made h =
       let new = h.0 in
-      let next = step_under_way g stream_bytes found es m (Tend works) new k h.2 in
+      let next = step_under_way g stream_bytes o found es m (Tend works) new k h.2 in
       let rest = have_told (es ++ []) ws new next (subst (AreLast ws) (sym h.2.0) are) events last h.1 h.3 in
       record { told = ap exchanges_in h.4 ∙ rest.told; waits = rest.waits }

@@ -2,7 +2,7 @@
 use Rattle.std.proofs.Common.{◌≡◌, ◌⊎◌, inl, inr, ⊎_elim, List, [], ◌∷◌, ◌++◌, ℕ, false, true, refl, sym, ap, subst, ◌∙◌}
 use Rattle.shore_types.specs.declared.layout.Geometry.{Geometry}
 use Rattle.shore_types.specs.declared.locking.Granule.{Granule}
-use Rattle.shore_model.specs.declared.calls.Answer.TheVariants.{Committed}
+use Rattle.shore_model.specs.declared.calls.Answer.TheVariants.{Committed, Prepared}
 use Rattle.shore_disk.specs.declared.device.Disk.{Ghosts}
 use Rattle.shore_model.specs.declared.calls.Answer.{Answer}
 use Rattle.shore_model.specs.declared.calls.Call.{Call}
@@ -43,7 +43,9 @@ call_runs g s session c step new (inr (inl failed)) runs = runs_before s new s f
 call_runs g s session c step new (inr (inr (inl busy))) runs = busy.0
 call_runs g s session c step new (inr (inr (inr (inl begins)))) runs = begins.0
 call_runs g s session c step new (inr (inr (inr (inr (inl none))))) runs = none.0
-call_runs g s session c step new (inr (inr (inr (inr (inr inner))))) runs = inner.0
+call_runs g s session c step new (inr (inr (inr (inr (inr (inl inner)))))) runs = inner.0
+call_runs g s session c step new (inr (inr (inr (inr (inr (inr (inl prepared))))))) runs = prepared.0
+call_runs g s session c step new (inr (inr (inr (inr (inr (inr (inr outside))))))) runs = outside.0
 
 resume_runs : (g : Geometry) (s : State) (session : ℕ) (step : Step) (new : State) → ResumeStep g s session step new → new.failed ≡ false → s.failed ≡ false
 resume_runs g s session step new (inl idle) runs = runs_before s new s idle.2 refl runs
@@ -119,7 +121,9 @@ once_stays g s session c step new (inr (inl before)) fails = before.2
 once_stays g s session c step new (inr (inr (inl busy))) fails = never_both s.failed fails busy.0
 once_stays g s session c step new (inr (inr (inr (inl begins)))) fails = never_both s.failed fails begins.0
 once_stays g s session c step new (inr (inr (inr (inr (inl none))))) fails = never_both s.failed fails none.0
-once_stays g s session c step new (inr (inr (inr (inr (inr inner))))) fails = never_both s.failed fails inner.0
+once_stays g s session c step new (inr (inr (inr (inr (inr (inl inner)))))) fails = never_both s.failed fails inner.0
+once_stays g s session c step new (inr (inr (inr (inr (inr (inr (inl prepared))))))) fails = never_both s.failed fails prepared.0
+once_stays g s session c step new (inr (inr (inr (inr (inr (inr (inr outside))))))) fails = never_both s.failed fails outside.0
 
 -- a call that begins to wait for a lock runs
 once_runs : (g : Geometry) (s : State) (session : ℕ) (c : Call) (at : Granule) (new : State) → CallStep g s session c (Waits (Lock at)) new → s.failed ≡ false
@@ -135,7 +139,8 @@ failed_call_stays g s session c step new h fails = by h.rounds h.settles
 
 wait_keeps : (g : Geometry) (s : State) (w : Waiting) (wait : Wait) (step : Step) (new : State) → s.failed ≡ false → ResumesWait g s w wait step new → new.failed ≡ true → HasSameLog s new
 wait_keeps g s w (Durable n) step new running (inl still) failed = same_log_of s new s still.2 (refl, refl)
-wait_keeps g s w (Durable n) step new running (inr answered) failed = runs_on s new _ running answered.2.3 refl failed
+wait_keeps g s w (Durable n) step new running (inr (inl answered)) failed = runs_on s new _ running answered.2.3 refl failed
+wait_keeps g s w (Durable n) step new running (inr (inr prepared)) failed = runs_on s new _ running prepared.2.4 refl failed
 wait_keeps g s w (Lock at) step new running moves failed =
     ⊎_elim (λ still. same_log_of s new s still.2 (refl, refl)) (λ goes. goes_keeps g (wait_refused s w.session) new running failed moves.0 w.call step goes.1) moves.2
 
@@ -159,9 +164,13 @@ wait_logs_nothing g s session at new (inr resumed) =
     durable_or_lock : (n : ℕ) (at : Granule) → ◌≡◌ {A = Step} (Waits (Lock at)) (Done Committed) → ⊥
     durable_or_lock n at e = cc
 
+    prepared_or_lock : (at : Granule) → ◌≡◌ {A = Step} (Waits (Lock at)) (Done Prepared) → ⊥
+    prepared_or_lock at e = cc
+
     waits_for : (w : Waiting) (wait : Wait) → ResumesWait g s w wait (Waits (Lock at)) new → HasSameLog s new
     waits_for w (Durable n) (inl still) = same_log_of s new s still.2 (refl, refl)
-    waits_for w (Durable n) (inr answered) = absurd (durable_or_lock n at answered.1)
+    waits_for w (Durable n) (inr (inl answered)) = absurd (durable_or_lock n at answered.1)
+    waits_for w (Durable n) (inr (inr prepared)) = absurd (prepared_or_lock at prepared.1)
     waits_for w (Lock on) h = ⊎_elim (λ still. same_log_of s new s still.2 (refl, refl)) (λ goes. same_log_of s new _ goes.1.5 (refl, refl)) h.2
 
 victims_log_nothing : (vs : List Victim) (s : State) (t : ℕ) (new : State) → TakesVictims s t vs new → HasSameLog s new

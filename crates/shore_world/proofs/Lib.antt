@@ -8,6 +8,7 @@ pub mod GrowLemmas
 pub mod CallLemmas
 pub mod DumpLemmas
 pub mod FuseLemmas
+pub mod LogOpenings
 pub mod StoredLemmas
 pub mod StayLemmas
 pub mod OpenLemmas

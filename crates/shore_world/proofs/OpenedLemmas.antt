@@ -20,6 +20,7 @@ use Rattle.shore_core.specs.Cores.{heap_of, locks_of}
 use Rattle.shore_world.specs.Opens.{IsOpenedAt}
 use Rattle.shore_world.specs.declared.world.World.{World}
 use Rattle.shore_world.specs.Worlds.{geometry_in, history_in, volume_history_in}
+use Rattle.shore_world.proofs.LogOpenings.{logged_opening, opening_logged}
 use Rattle.shore_world.proofs.WorldLemmas.{settled_kept}
 
 module _ {L V : Type 0} {G : Ghosts L} {H : Ghosts V} (w : World L V G H) (g : Geometry) (log_front front : List ℕ) where
@@ -29,34 +30,37 @@ module _ {L V : Type 0} {G : Ghosts L} {H : Ghosts V} (w : World L V G H) (g : G
 
   pub opened_at : (found : List LogRecord) (ready : RecoveryState) → geometry_in w ≡ g → ready.redone ≡ length ready.log → HasNoLosers ready.log → IsAtRest log_front w.log ready
       → (left : ℕ → List ℕ) → OpensIn w.core front left found (records_of_log w.log) (size (history_in w) - LOG_FRONT_BYTES) ready → IsRecoverable ready → IsRestartOf found ready
-      → locks_of w.core ≡ record { limit = g.max_locks; requests = [] } → IsOpenedAt w g log_front front (moment_in ready)
-  opened_at found ready geometry redone quiet rest left opens kept restart locks = record {
-    geometry = geometry;
-    histories = (refl, refl);
-    redone = redone;
-    no_losers = quiet;
-    first = opens.first;
-    disk = left;
-    at = record {
-      is_in = opens.is_in;
-      over = opens.over;
-      log = settled_kept w log_front rest.settled rest.none_staged;
-      volume = λ c may. (
-        ready.volume,
-        (λ p. inl refl),
-        left_settled (heap_of w.core) front left ready c (opens.over.pages opens.opened.running) (opens.is_in.pages opens.opened.running).holds may,
-      );
-    };
-    over = opens.opened;
-    from = opened_over (size (history_in w) - LOG_FRONT_BYTES) found ready opens.first kept redone restart opens.opened opens.stream opens.counts opens.next;
-    locks = opens.is_in.beside.parts.stands.locks ∙ locks;
-  }
+      → locks_of w.core ≡ record { limit = g.max_locks; requests = [] } → IsOpenedAt w g log_front front found (moment_in ready)
+  opened_at found ready geometry redone quiet rest left opens kept restart locks =
+      let o = logged_opening found in
+      let over = opens.opened o (opening_logged found) in
+      record {
+        geometry = geometry;
+        histories = (refl, refl);
+        redone = redone;
+        no_losers = quiet;
+        first = opens.first;
+        disk = left;
+        at = record {
+          is_in = opens.is_in;
+          over = opens.over;
+          log = settled_kept w log_front rest.settled rest.none_staged;
+          volume = λ c may. (
+            ready.volume,
+            (λ p. inl refl),
+            left_settled (heap_of w.core) front left ready c (opens.over.pages over.running) (opens.is_in.pages over.running).holds may,
+          );
+        };
+        over = opens.opened;
+        from = opened_over (size (history_in w) - LOG_FRONT_BYTES) o found ready opens.first kept redone restart (opening_logged found) over opens.stream opens.counts opens.next;
+        locks = opens.is_in.beside.parts.stands.locks ∙ locks;
+      }
 
   -- the way tells that the store is the found one, restarted
   pub opened_along : (first : Moment) (moments : List Moment) (ready : RecoveryState) → IsRecoverable first.store → length first.store.log ≤ first.store.durable
       → Path g log_front front first moments (moment_in ready) → geometry_in w ≡ g → ready.redone ≡ length ready.log → HasNoLosers ready.log → IsAtRest log_front w.log ready
       → (left : ℕ → List ℕ) → OpensIn w.core front left first.store.log (records_of_log w.log) (size (history_in w) - LOG_FRONT_BYTES) ready
-      → locks_of w.core ≡ record { limit = g.max_locks; requests = [] } → IsOpenedAt w g log_front front (moment_in ready)
+      → locks_of w.core ≡ record { limit = g.max_locks; requests = [] } → IsOpenedAt w g log_front front first.store.log (moment_in ready)
   opened_along first moments ready recoverable durable path geometry redone quiet rest left opens locks =
       let reached = path_restarts g log_front front first moments (moment_in ready) path in
       let come = events_restart first.store.log first.store reached.works ready recoverable (record { turns = []; undone = refl; durable = durable }) reached.restarts in

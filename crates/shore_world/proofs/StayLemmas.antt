@@ -1,6 +1,7 @@
 -- Stays of the power on two devices are stays over plain data.
-use Rattle.std.proofs.Common.{◌≡◌, ◌⊎◌, ⊎_elim, ℕ, ◌-◌, List, [], ◌∷◌, ◌++◌, refl, sym, ◌∙◌, ap, subst, take, append_assoc, append-nil}
+use Rattle.std.proofs.Common.{◌≡◌, ◌⊎◌, ⊎_elim, ℕ, ◌-◌, List, [], ◌∷◌, ◌++◌, refl, sym, ◌∙◌, ap, subst, map, take, append_assoc, append-nil}
 use Rattle.std.specs.Prelude.{All}
+use Rattle.std.specs.FinMap.{empty}
 use Rattle.std.specs.List.{AllByRecursion}
 use Rattle.std.proofs.lemmas.List.Elements.{recursion_from_All}
 use Rattle.shore_types.specs.declared.layout.Geometry.{Geometry}
@@ -9,21 +10,29 @@ use Rattle.shore_disk.specs.Device.{History, may_leave, seen, size}
 use Rattle.shore_disk.specs.declared.device.Disk.{Ghosts}
 use Rattle.shore_disk.proofs.Moments.{seen_left}
 use Rattle.shore_dwrite.specs.declared.places.TheConstants.{GATE_AT}
+use Rattle.shore_model.specs.declared.histories.InDoubt.{InDoubt}
+use Rattle.shore_model.specs.declared.histories.Opening.{Opening}
 use Rattle.shore_model.specs.declared.log_records.LogRecord.{LogRecord}
+use Rattle.shore_model.specs.Histories.{shown}
+use Rattle.shore_model.specs.Lives.{next_opening}
 use Rattle.shore_model.specs.Locks.{Harmony, WellRooted}
 use Rattle.shore_model.specs.Logs.{records_told}
 use Rattle.shore_model.specs.Records.{scan_of}
 use Rattle.shore_model.specs.Requests.{held_by_all}
+use Rattle.shore_locks.specs.Tables.{Table}
 use Rattle.laws_lives.specs.Pages.{LoggedPages, empty_page}
 use Rattle.laws_lives.specs.Recovery.{RecoveryEvent}
 use Rattle.laws_lives.specs.Views.{IsAmong}
 use Rattle.laws_lives.proofs.Openings.{open_shows_found}
-use Rattle.laws_lives.proofs.WholeLogs.{tells_the_committed}
-use Rattle.laws_lives.specs.LogTells.{records_committed}
-use Rattle.laws_runs.specs.StoredRuns.{StoredRun, StoredState}
+use Rattle.laws_lives.proofs.LifeSteps.{format_opens, found_is_shown}
+use Rattle.laws_lives.specs.Doubts.{AreRestored, IsOpeningOf}
+use Rattle.laws_lives.specs.Sessions.{pairs_of}
+use Rattle.laws_lives.specs.Soundness.{found_in_doubt, history_from, opening_with}
+use Rattle.laws_lives.specs.Stretches.{opening_after}
+use Rattle.laws_runs.specs.StoredRuns.{IsOpenedOver, StoredRun, StoredState, span_of_run, spans_of_runs}
 use Rattle.laws_runs.specs.RoomyStates.{IsOpenedFrom}
 use Rattle.laws_runs.proofs.SoundStores.{found_may_be_found}
-use Rattle.laws_runs.proofs.StaySteps.{are_a_life, come, keep_what_was_found, show_what_was_told}
+use Rattle.laws_runs.proofs.StaySteps.{are_a_life, come, keep_what_was_found, open_as_kept, show_what_was_told}
 use Rattle.laws_runs.proofs.UnderWay.{opens_under_way, under_way_sound}
 use Rattle.laws_runs.specs.SoundStores.{IsUnderWay, MayBeOpened, found_state, managed}
 use Rattle.laws_runs.specs.Stays.{AreStoredStays, IsStoredUp, StoredCut, StoredStay, runs_of, work_cut_off}
@@ -40,11 +49,12 @@ use Rattle.shore_world.specs.Events.{IsServedEvent}
 use Rattle.shore_world.specs.Exchanges.{AreLast}
 use Rattle.shore_world.specs.Lives.{DumpsShow, HaveLived}
 use Rattle.shore_world.specs.Managers.{AreFound, AreRunsOf, AreStays, IsManager, IsRunOf, Manager, NoForceIsFull, Stay, Tried, Up}
-use Rattle.shore_world.specs.Promises.{IsManagerOf}
-use Rattle.shore_world.specs.Worlds.{requests_in, stream_bytes_in}
+use Rattle.shore_world.specs.Promises.{HasInDoubt, IsManagerOf}
+use Rattle.shore_world.specs.Worlds.{list_in, requests_in, stream_bytes_in}
 use Rattle.shore_world.specs.Opens.{HasOpened, IsOpenedAt, LeftByOpen, OpenWay}
 use Rattle.shore_world.proofs.PromiseLemmas.{in_harmony}
 use Rattle.shore_world.proofs.ExchangeLemmas.{HasTold, have_told, runs_told, told_in}
+use Rattle.shore_world.proofs.LogOpenings.{logged_opening, opening_logged}
 use Rattle.shore_world.proofs.StoredLemmas.{HasRun, IsUpAt, left_of, run_never_full, run_run, up_safe}
 
 pub all_served : (events : List Event) → All IsServedEvent events → AllByRecursion IsServedEvent events
@@ -52,15 +62,39 @@ all_served events served = recursion_from_All IsServedEvent events served
 
 -- ---- lists of stays, from their end
 
-stays_on : (g : Geometry) (bytes : ℕ) (rs : List LogRecord) (pages : LoggedPages) (over more : List StoredStay) (mid last : List LogRecord) (mid_pages last_pages : LoggedPages)
-    → AreStoredStays g bytes rs pages over mid mid_pages → AreStoredStays g bytes mid mid_pages more last last_pages → AreStoredStays g bytes rs pages (over ++ more) last last_pages
-stays_on g bytes rs pages [] more mid last mid_pages last_pages are later =
-    subst (λ (l : List LogRecord). AreStoredStays g bytes l pages more last last_pages) are.0
-    (subst (λ (p : LoggedPages). AreStoredStays g bytes mid p more last last_pages) are.1 later)
-stays_on g bytes rs pages (stored.Cut c ∷ over) more mid last mid_pages last_pages are later =
-    (are.0, stays_on g bytes (take c.survive c.reached.log) c.pages over more mid last mid_pages last_pages are.1 later)
-stays_on g bytes rs pages (stored.Up r ∷ over) more mid last mid_pages last_pages are later =
-    (are.0, stays_on g bytes (take r.survive r.last.store.log) r.pages over more mid last mid_pages last_pages are.1 later)
+-- the opening that they leave to the next
+abbrev pub opening_behind : Opening → List LogRecord → LoggedPages → List StoredStay → Opening
+opening_behind o rs pages [] = o
+opening_behind o rs pages (stored.Cut c ∷ over) = opening_behind o (take c.survive c.reached.log) c.pages over
+opening_behind o rs pages (stored.Up r ∷ over) = opening_behind (next_opening o (span_of_run (found_state rs pages) r)) (take r.survive r.last.store.log) r.pages over
+
+stays_on : (g : Geometry) (bytes : ℕ) (o : Opening) (rs : List LogRecord) (pages : LoggedPages) (over more : List StoredStay) (mid last : List LogRecord) (mid_pages last_pages : LoggedPages)
+    → AreStoredStays g bytes o rs pages over mid mid_pages → AreStoredStays g bytes (opening_behind o rs pages over) mid mid_pages more last last_pages
+    → AreStoredStays g bytes o rs pages (over ++ more) last last_pages
+stays_on g bytes o rs pages [] more mid last mid_pages last_pages are later =
+    subst (λ (l : List LogRecord). AreStoredStays g bytes o l pages more last last_pages) are.0
+    (subst (λ (p : LoggedPages). AreStoredStays g bytes o mid p more last last_pages) are.1 later)
+stays_on g bytes o rs pages (stored.Cut c ∷ over) more mid last mid_pages last_pages are later =
+    (are.0, stays_on g bytes o (take c.survive c.reached.log) c.pages over more mid last mid_pages last_pages are.1 later)
+stays_on g bytes o rs pages (stored.Up r ∷ over) more mid last mid_pages last_pages are later = (
+  are.0,
+  stays_on g bytes (next_opening o (span_of_run (found_state rs pages) r)) (take r.survive r.last.store.log) r.pages over more mid last mid_pages last_pages are.1 later,
+)
+
+-- .. is what the log says that they leave
+opens_behind : (g : Geometry) (bytes : ℕ) (o : Opening) (rs : List LogRecord) (pages : LoggedPages) (over : List StoredStay) (last : List LogRecord) (last_pages : LoggedPages)
+    → MayBeOpened g bytes rs pages → IsOpeningOf rs o → AreStoredStays g bytes o rs pages over last last_pages → IsOpeningOf last (opening_behind o rs pages over)
+opens_behind g bytes o rs pages [] last last_pages may opening are = subst (λ (l : List LogRecord). IsOpeningOf l o) (sym are.0) opening
+opens_behind g bytes o rs pages (stored.Cut c ∷ over) last last_pages may opening are =
+    let left = take c.survive c.reached.log in
+    let one : AreStoredStays g bytes o rs pages (stored.Cut c ∷ []) left c.pages = (are.0, (refl, refl)) in
+    opens_behind g bytes o left c.pages over last last_pages (come g bytes o rs pages may opening (stored.Cut c ∷ []) left c.pages one).opened
+    (open_as_kept g bytes o rs pages may opening (stored.Cut c ∷ []) left c.pages one) are.1
+opens_behind g bytes o rs pages (stored.Up r ∷ over) last last_pages may opening are =
+    let left = take r.survive r.last.store.log in
+    let one : AreStoredStays g bytes o rs pages (stored.Up r ∷ []) left r.pages = (are.0, (refl, refl)) in
+    opens_behind g bytes (next_opening o (span_of_run (found_state rs pages) r)) left r.pages over last last_pages
+    (come g bytes o rs pages may opening (stored.Up r ∷ []) left r.pages one).opened (open_as_kept g bytes o rs pages may opening (stored.Up r ∷ []) left r.pages one) are.1
 
 -- an open that lost power adds no run
 runs_behind_cut : (before : List RecoveryEvent) (over : List StoredStay) (c : StoredCut) → runs_of before (over ++ stored.Cut c ∷ []) ≡ runs_of before over
@@ -133,7 +167,7 @@ module _ {L V : Type 0} {G : Ghosts L} {H : Ghosts V} (g : Geometry) (log_bytes 
     abbrev start : Moment
     start = begun_on opens.way.log_behind opens.way.volume_behind rs pages
 
-    abbrev opened : IsOpenedAt w g log_front front last
+    abbrev opened : IsOpenedAt w g log_front front rs last
     opened = opens.opened
 
     pub reached : HasReached g log_front front (found_state rs pages) last.store
@@ -151,31 +185,31 @@ module _ {L V : Type 0} {G : Ghosts L} {H : Ghosts V} (g : Geometry) (log_bytes 
     pub from : IsOpenedFrom (log_bytes - LOG_FRONT_BYTES) last.store.log opened.first
     from = subst (λ n. IsOpenedFrom n last.store.log opened.first) as_long opened.from
 
-    pub up_at : IsUpAt g (log_bytes - LOG_FRONT_BYTES) rs log_front front [] w first
-    up_at = record {
+    pub up_at : (o : Opening) → IsOpeningOf rs o → IsUpAt g (log_bytes - LOG_FRONT_BYTES) o rs log_front front [] w first
+    up_at o opening = record {
       disk = opened.disk;
       at = opened.at;
       geometry = opened.geometry;
       long = ap (λ (h : History). size h - LOG_FRONT_BYTES) opened.histories.0 ∙ as_long;
-      under_way = opens_under_way g (log_bytes - LOG_FRONT_BYTES) (found_state rs pages) (found_may_be_found g (log_bytes - LOG_FRONT_BYTES) rs pages stood.opened) stood.opened.roomy reached.works last.store
-          opened.first reached.restarts opened.redone opened.no_losers opened.over from;
+      under_way = opens_under_way g (log_bytes - LOG_FRONT_BYTES) o (found_state rs pages) (found_may_be_found g (log_bytes - LOG_FRONT_BYTES) rs pages stood.opened) opening stood.opened.roomy
+          reached.works last.store opened.first reached.restarts opened.redone opened.no_losers (opened.over o opening) from;
     }
 
   -- no call waits in a world that was opened
   pub none_waiting : {w : World L V G H} {log volume : History} {rs : List LogRecord} {pages : LoggedPages} (opens : HasOpened w g log volume rs pages) → AreLast [] opens.opened.first
-  none_waiting opens w there = absurd (subst (IsAmong w) opens.opened.over.waiting there)
+  none_waiting {rs = rs} opens w there = absurd (subst (IsAmong w) (opens.opened.over (logged_opening rs) (opening_logged rs)).waiting there)
 
   -- ---- one manager
 
   -- its run over plain data, and what it leaves
-  pub record HasStayed (rs : List LogRecord) (pages : LoggedPages) (m : Manager L V G H) (log_left volume_left : List ℕ) : Type 0 where
+  pub record HasStayed (o : Opening) (rs : List LogRecord) (pages : LoggedPages) (m : Manager L V G H) (log_left volume_left : List ℕ) : Type 0 where
     pub run : StoredRun
     pub of : IsRunOf m run
-    pub up : IsStoredUp g (log_bytes - LOG_FRONT_BYTES) (found_state rs pages) run
+    pub up : IsStoredUp g (log_bytes - LOG_FRONT_BYTES) o (found_state rs pages) run
     pub stands : StandsFor g log_bytes volume_bytes (take run.survive run.last.store.log) run.pages log_left volume_left
     pub never_full : NoForceIsFull m.events m.steps
 
-  module _ (rs : List LogRecord) (pages : LoggedPages) (m : Manager L V G H) (lengths : (size m.log ≡ log_bytes) × (size m.volume ≡ volume_bytes))
+  module _ (o : Opening) (rs : List LogRecord) (pages : LoggedPages) (m : Manager L V G H) (opening : IsOpeningOf rs o) (lengths : (size m.log ≡ log_bytes) × (size m.volume ≡ volume_bytes))
       (stood : StandsFor g log_bytes volume_bytes rs pages (seen m.log) (seen m.volume)) (is : IsManager m) (log_left volume_left : List ℕ)
       (crash : AreLeft m.ended log_left volume_left) where
     opens : HasOpened m.opened g m.log m.volume rs pages
@@ -190,22 +224,22 @@ module _ {L V : Type 0} {G : Ghosts L} {H : Ghosts V} (g : Geometry) (log_bytes 
     abbrev m_first : StoredState
     m_first = first rs pages m.log m.volume lengths stood m.opened opens
 
-    m_up : IsUpAt g (log_bytes - LOG_FRONT_BYTES) rs m_front m_volume_front [] m.opened m_first
-    m_up = up_at rs pages m.log m.volume lengths stood m.opened opens
+    m_up : IsUpAt g (log_bytes - LOG_FRONT_BYTES) o rs m_front m_volume_front [] m.opened m_first
+    m_up = up_at rs pages m.log m.volume lengths stood m.opened opens o opening
 
-    ran : HasRun g (log_bytes - LOG_FRONT_BYTES) rs m_front m_volume_front [] m_first m.moves m.ended
-    ran = run_run g (log_bytes - LOG_FRONT_BYTES) rs m_front m_volume_front [] m.opened m_first m_up m.events m.steps m.moves m.ended (all_served m.events is.served) is.runs
+    ran : HasRun g (log_bytes - LOG_FRONT_BYTES) o rs m_front m_volume_front [] m_first m.moves m.ended
+    ran = run_run g (log_bytes - LOG_FRONT_BYTES) o rs m_front m_volume_front [] m.opened m_first m_up m.events m.steps m.moves m.ended (all_served m.events is.served) is.runs
 
     ran_told : HasTold [] (managed ran.events) ran.last.state ran.made
-    ran_told = have_told g (log_bytes - LOG_FRONT_BYTES) rs [] [] m_first m_up.under_way (none_waiting opens) ran.events ran.last ran.made ran.stored
+    ran_told = have_told g (log_bytes - LOG_FRONT_BYTES) o rs [] [] m_first m_up.under_way (none_waiting opens) ran.events ran.last ran.made ran.stored
 
     lost : StandLost g log_bytes volume_bytes ran.last.store (seen m.log) (seen m.volume) log_left volume_left
     lost =
-        let left = left_of g (log_bytes - LOG_FRONT_BYTES) rs m_front m_volume_front ran.made m.ended ran.last ran.up log_left volume_left crash in
+        let left = left_of g (log_bytes - LOG_FRONT_BYTES) o rs m_front m_volume_front ran.made m.ended ran.last ran.up log_left volume_left crash in
         left_stand g log_bytes volume_bytes rs pages (seen m.log) (seen m.volume) stood ran.last.store
-        (under_way_sound g (log_bytes - LOG_FRONT_BYTES) rs ran.made ran.last ran.up.under_way) log_left volume_left left.log left.volume
+        (under_way_sound g (log_bytes - LOG_FRONT_BYTES) o rs ran.made ran.last ran.up.under_way) log_left volume_left left.log left.volume
 
-    pub has_stayed : HasStayed rs pages m log_left volume_left
+    pub has_stayed : HasStayed o rs pages m log_left volume_left
     has_stayed =
         let came = reached rs pages m.log m.volume lengths stood m.opened opens in
         record {
@@ -234,14 +268,14 @@ module _ {L V : Type 0} {G : Ghosts L} {H : Ghosts V} (g : Geometry) (log_bytes 
             restarts = came.restarts;
             redone = opens.opened.redone;
             no_losers = opens.opened.no_losers;
-            opens = opens.opened.over;
+            opens = opens.opened.over o opening;
             from = from rs pages m.log m.volume lengths stood m.opened opens;
             moves = ran.stored;
             lost = lost.lost;
             begin = refl;
           };
           stands = lost.stands;
-          never_full = run_never_full g (log_bytes - LOG_FRONT_BYTES) rs m_front m_volume_front [] m.opened m_first m_up m.events m.steps m.moves m.ended (all_served m.events is.served) is.runs;
+          never_full = run_never_full g (log_bytes - LOG_FRONT_BYTES) o rs m_front m_volume_front [] m.opened m_first m_up m.events m.steps m.moves m.ended (all_served m.events is.served) is.runs;
         }
 
   -- ---- any number of stays, from a format
@@ -252,7 +286,7 @@ module _ {L V : Type 0} {G : Ghosts L} {H : Ghosts V} (g : Geometry) (log_bytes 
     pub over : List StoredStay
     pub last : List LogRecord
     pub last_pages : LoggedPages
-    pub are : AreStoredStays g (log_bytes - LOG_FRONT_BYTES) [] (λ p. empty_page) over last last_pages
+    pub are : AreStoredStays g (log_bytes - LOG_FRONT_BYTES) (opening_with empty) [] (λ p. empty_page) over last last_pages
     pub of : AreRunsOf stays (runs_of [] over)
     pub stands : StandsFor g log_bytes volume_bytes last last_pages log_left volume_left
 
@@ -308,7 +342,7 @@ module _ {L V : Type 0} {G : Ghosts L} {H : Ghosts V} (g : Geometry) (log_bytes 
               over = so_far.over ++ stored.Cut one.cut ∷ [];
               last = after;
               last_pages = one.cut.pages;
-              are = stays_on g (log_bytes - LOG_FRONT_BYTES) [] (λ p. empty_page) so_far.over (stored.Cut one.cut ∷ []) so_far.last after so_far.last_pages one.cut.pages so_far.are (one.is_cut, (refl, refl));
+              are = stays_on g (log_bytes - LOG_FRONT_BYTES) (opening_with empty) [] (λ p. empty_page) so_far.over (stored.Cut one.cut ∷ []) so_far.last after so_far.last_pages one.cut.pages so_far.are (one.is_cut, (refl, refl));
               of = subst (AreRunsOf (before ++ Tried log volume ∷ [])) (sym (runs_behind_cut [] so_far.over one.cut))
                   (tried_adds_none before (runs_of [] so_far.over) log volume so_far.of);
               stands = one.stands;
@@ -318,7 +352,9 @@ module _ {L V : Type 0} {G : Ghosts L} {H : Ghosts V} (g : Geometry) (log_bytes 
       → AreFound log_bytes volume_bytes left m.log m.volume → IsManager m → EachHasStayed (before ++ Up m ∷ []) (AreLeft m.ended)
   manager_has before left has m found is c d crash =
       let so_far = as_read before left has m.log m.volume found in
-      let one = has_stayed so_far.last so_far.last_pages m found.lengths so_far.stands is c d crash in
+      let o = opening_behind (opening_with empty) [] (λ p. empty_page) so_far.over in
+      let opening = opens_behind g (log_bytes - LOG_FRONT_BYTES) (opening_with empty) [] (λ p. empty_page) so_far.over so_far.last so_far.last_pages so_far.opened format_opens so_far.are in
+      let one = has_stayed o so_far.last so_far.last_pages m opening found.lengths so_far.stands is c d crash in
       let after = take one.run.survive one.run.last.store.log in
       let restart = work_behind [] so_far.over ++ one.run.restart in
       record {
@@ -326,7 +362,7 @@ module _ {L V : Type 0} {G : Ghosts L} {H : Ghosts V} (g : Geometry) (log_bytes 
         over = so_far.over ++ stored.Up one.run ∷ [];
         last = after;
         last_pages = one.run.pages;
-        are = stays_on g (log_bytes - LOG_FRONT_BYTES) [] (λ p. empty_page) so_far.over (stored.Up one.run ∷ []) so_far.last after so_far.last_pages one.run.pages so_far.are (one.up, (refl, refl));
+        are = stays_on g (log_bytes - LOG_FRONT_BYTES) (opening_with empty) [] (λ p. empty_page) so_far.over (stored.Up one.run ∷ []) so_far.last after so_far.last_pages one.run.pages so_far.are (one.up, (refl, refl));
         of = subst (AreRunsOf (before ++ Up m ∷ [])) (sym (runs_behind_up [] so_far.over one.run))
             (manager_adds_its_run before (runs_of [] so_far.over) m (record one.run { restart = restart }) so_far.of (restarted_run m one.run restart one.of));
         stands = one.stands;
@@ -360,10 +396,18 @@ module _ {L V : Type 0} {G : Ghosts L} {H : Ghosts V} (g : Geometry) (log_bytes 
   nothing_opened : MayBeOpened g (log_bytes - LOG_FRONT_BYTES) [] (λ p. empty_page)
   nothing_opened = stayed.opened
 
-  pub have_lived : HaveLived g stays stayed.last stayed.last_pages
+  -- the opening that they have come to
+  abbrev pub last_opening : Opening
+  last_opening = opening_after (opening_with empty) (spans_of_runs (found_state [] (λ p. empty_page)) (runs_of [] stayed.over))
+
+  pub is_last_opening : IsOpeningOf stayed.last last_opening
+  is_last_opening =
+      open_as_kept g (log_bytes - LOG_FRONT_BYTES) (opening_with empty) [] (λ p. empty_page) nothing_opened format_opens stayed.over stayed.last stayed.last_pages stayed.are
+
+  pub have_lived : HaveLived g stays last_opening stayed.last stayed.last_pages
   have_lived =
       let b = log_bytes - LOG_FRONT_BYTES in
-      let all = come g b [] (λ p. empty_page) nothing_opened stayed.over stayed.last stayed.last_pages stayed.are in
+      let all = come g b (opening_with empty) [] (λ p. empty_page) nothing_opened format_opens stayed.over stayed.last stayed.last_pages stayed.are in
       record {
         runs = runs_of [] stayed.over;
         of = stayed.of;
@@ -371,45 +415,70 @@ module _ {L V : Type 0} {G : Ghosts L} {H : Ghosts V} (g : Geometry) (log_bytes 
         are = all.are;
         works = all.works;
         restarts = all.restarts;
-        life = are_a_life g b [] (λ p. empty_page) nothing_opened stayed.over stayed.last stayed.last_pages stayed.are;
-        shown = show_what_was_told g b [] (λ p. empty_page) nothing_opened stayed.over stayed.last stayed.last_pages stayed.are;
-        fixed = keep_what_was_found g b [] (λ p. empty_page) nothing_opened stayed.over stayed.last stayed.last_pages stayed.are;
+        life = are_a_life g b (opening_with empty) [] (λ p. empty_page) nothing_opened format_opens stayed.over stayed.last stayed.last_pages stayed.are;
+        opening = is_last_opening;
+        shown = show_what_was_told g b (opening_with empty) [] (λ p. empty_page) nothing_opened format_opens stayed.over stayed.last stayed.last_pages stayed.are;
+        fixed = keep_what_was_found g b (opening_with empty) [] (λ p. empty_page) nothing_opened format_opens stayed.over stayed.last stayed.last_pages stayed.are;
       }
 
 -- ---- what an open at the end shows
 
-module _ {L V : Type 0} {G : Ghosts L} {H : Ghosts V} (g : Geometry) (rs : List LogRecord) (pages : LoggedPages) (log volume : History)
+-- the global ids of those that are found in doubt
+pairs_found : (ds : List InDoubt) → pairs_of (map found_in_doubt ds) ≡ map (λ (d : InDoubt). (d.txn, d.global)) ds
+pairs_found [] = refl
+pairs_found (d ∷ ds) = ap (λ (ps : List (ℕ × List ℕ)). (d.txn, d.global) ∷ ps) (pairs_found ds)
+
+module _ {L V : Type 0} {G : Ghosts L} {H : Ghosts V} (g : Geometry) (o : Opening) (rs : List LogRecord) (pages : LoggedPages) (opening : IsOpeningOf rs o) (log volume : History)
     (stood : StandsFor g (size log) (size volume) rs pages (seen log) (seen volume)) (w : World L V G H) (opens : HasOpened w g log volume rs pages) where
-  up : IsUpAt g (size log - LOG_FRONT_BYTES) rs (take LOG_FRONT_BYTES (seen log)) (take GATE_AT (seen volume)) [] w (record { state = opens.opened.first; store = opens.way.last.store })
-  up = up_at g (size log) (size volume) rs pages log volume (refl, refl) stood w opens
+  abbrev now : StoredState
+  now = record { state = opens.opened.first; store = opens.way.last.store }
 
-  tells_all : records_told rs ≡ records_committed rs
-  tells_all = tells_the_committed rs stood.opened.no_prepare
+  abbrev over : IsOpenedOver o opens.way.last.store opens.opened.first
+  over = opens.opened.over o opening
 
-  pub opened_manager : IsManagerOf w (records_told rs) [] []
+  up : IsUpAt g (size log - LOG_FRONT_BYTES) o rs (take LOG_FRONT_BYTES (seen log)) (take GATE_AT (seen volume)) [] w now
+  up = up_at g (size log) (size volume) rs pages log volume (refl, refl) stood w opens o opening
+
+  pub opened_manager : IsManagerOf w o [] []
   opened_manager = record {
     found = rs;
-    opening = tells_all;
+    opening = opening;
     log_front = take LOG_FRONT_BYTES (seen log);
     front = take GATE_AT (seen volume);
     disk = opens.opened.disk;
-    now = record { state = opens.opened.first; store = opens.way.last.store };
+    now = now;
     at = opens.opened.at;
-    waited = λ w there. absurd (subst (IsAmong w) opens.opened.over.waiting there);
-    there = λ session w there. absurd (subst (IsAmong w) opens.opened.over.waiting there);
-    under_way = subst (λ (x : Geometry). IsUnderWay x (stream_bytes_in w) rs [] (record { state = opens.opened.first; store = opens.way.last.store })) (sym up.geometry)
-        (subst (λ n. IsUnderWay g n rs [] (record { state = opens.opened.first; store = opens.way.last.store })) (sym up.long) up.under_way);
+    waited = λ w there. absurd (subst (IsAmong w) over.waiting there);
+    there = λ session w there. absurd (subst (IsAmong w) over.waiting there);
+    under_way = subst (λ (x : Geometry). IsUnderWay x (stream_bytes_in w) o rs [] now) (sym up.geometry) (subst (λ n. IsUnderWay g n o rs [] now) (sym up.long) up.under_way);
   }
+
+  opened_in_doubt : HasInDoubt w o now.state
+  opened_in_doubt =
+      let same_log : opens.way.last.store.log ≡ list_in w = over.stored.log ∙ opens.opened.at.is_in.beside.parts.log in
+      let held : now.state.sessions.held ≡ held_by_all (requests_in w) = over.locks.held ∙ ap (λ (t : Table). held_by_all t.requests) opens.opened.at.is_in.beside.parts.stands.locks in
+      record {
+        prepared = ap pairs_of over.sessions.prepared ∙ pairs_found o.in_doubt;
+        active = over.sessions.active;
+        locks = subst (AreRestored (list_in w)) held (subst (λ (l : List LogRecord). AreRestored l now.state.sessions.held) same_log over.sessions.locks);
+      }
+
+  pub opened_so : (k : IsManagerOf w o [] []) × HasInDoubt w o k.now.state
+  unfolding opened_manager
+  opened_so = (opened_manager, opened_in_doubt)
+
+  -- what the log tells is what its opening shows
+  pub opening_shown : records_told rs ≡ shown (history_from o []) []
+  opening_shown = found_is_shown o (found_state rs pages) (found_may_be_found g (size log - LOG_FRONT_BYTES) rs pages stood.opened) opening
 
   pub opened_shows : DumpsShow w (records_told rs)
   opened_shows store pairs is =
       let came = reached g (size log) (size volume) rs pages log volume (refl, refl) stood w opens in
       is (take GATE_AT (seen volume)) opens.opened.disk opens.opened.first opens.way.last.store opens.opened.at.is_in
-      (up_safe g (size log - LOG_FRONT_BYTES) rs (take LOG_FRONT_BYTES (seen log)) (take GATE_AT (seen volume)) [] w (record { state = opens.opened.first; store = opens.way.last.store }) up)
-      opens.opened.at.over
+      (up_safe g (size log - LOG_FRONT_BYTES) o rs (take LOG_FRONT_BYTES (seen log)) (take GATE_AT (seen volume)) [] w now up) opens.opened.at.over
       ∙ ap (scan_of store)
-      (open_shows_found (found_state rs pages) came.works opens.way.last.store opens.opened.first.sessions
-      (found_may_be_found g (size log - LOG_FRONT_BYTES) rs pages stood.opened) came.restarts opens.opened.redone opens.opened.no_losers opens.opened.over.sessions)
+      (open_shows_found o (found_state rs pages) came.works opens.way.last.store opens.opened.first.sessions
+      (found_may_be_found g (size log - LOG_FRONT_BYTES) rs pages stood.opened) opening came.restarts opens.opened.redone opens.opened.no_losers over.sessions)
 
   pub opened_in_harmony : Harmony (held_by_all (requests_in w)) × WellRooted (held_by_all (requests_in w))
-  opened_in_harmony = in_harmony w (records_told rs) [] [] opened_manager
+  opened_in_harmony = in_harmony w o [] [] opened_manager

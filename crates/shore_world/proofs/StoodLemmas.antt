@@ -5,9 +5,9 @@ use Rattle.shore_types.specs.declared.faults.Fault.{Fault}
 use Rattle.shore_types.specs.declared.faults.Fault.TheVariants.{Deadlock}
 use Rattle.shore_types.specs.declared.layout.Geometry.{Geometry}
 use Rattle.shore_disk.specs.declared.device.Disk.{Ghosts}
-use Rattle.shore_model.specs.Records.{Records}
 use Rattle.shore_model.specs.declared.calls.Answer.TheVariants.{Forced, Staged}
 use Rattle.shore_model.specs.declared.histories.Entry.{Entry}
+use Rattle.shore_model.specs.declared.histories.Opening.{Opening}
 use Rattle.shore_model.specs.declared.step.Step.{Step}
 use Rattle.shore_model.specs.declared.step.Step.TheVariants.{Done, Nothing, Refused, Waits}
 use Rattle.laws_lives.specs.Views.{IsAmong}
@@ -99,7 +99,7 @@ module _ {L V : Type 0} {G : Ghosts L} {H : Ghosts V} where
   between_waits g old new (Resumed session step ∷ failures) between s last h = absurd between
   between_waits g old new (calls.Forced n ∷ failures) between s last h = absurd between
 
-  module _ (o : Records) where
+  module _ (o : Opening) where
     -- what a run from a manager has come to: whoever is to be told a cycle was to be told it at first, or it stood on the way
     record HasRunTelling (w : World L V G H) (es : List Entry) (ws : Waited) (k : IsManagerOf w o es ws) (events : List Event) (steps : List Step) (last : World L V G H) : Type 0 where
       made : List Entry
@@ -290,5 +290,5 @@ module _ {L V : Type 0} {G : Ghosts L} {H : Ghosts V} where
           within = (here.0, here.2, (here.4.0, here.4.1, here.4.2, inr (inl (inl here.4.3))));
           stood = here.3;
         })
-        (settled_resume_deadlock (geometry_in last) ran.manager.found ran.entries ran.manager.now.state (after last o ran.entries ws ran.manager) session ran.manager.under_way.asks cycle
+        (settled_resume_deadlock (geometry_in last) o ran.manager.found ran.entries ran.manager.now.state (after last o ran.entries ws ran.manager) session ran.manager.under_way.asks cycle
         went.on.manager.now.state went.moves)

@@ -8,6 +8,7 @@ use Rattle.shore_disk.specs.Device.{History, size}
 use Rattle.shore_disk.specs.declared.device.Disk.{Ghosts}
 use Rattle.shore_model.specs.declared.calls.Answer.TheVariants.{Staged, Forced}
 use Rattle.shore_model.specs.declared.histories.Entry.{Entry}
+use Rattle.shore_model.specs.declared.histories.Opening.{Opening}
 use Rattle.shore_model.specs.declared.log_records.LogRecord.{LogRecord}
 use Rattle.laws_lives.specs.Recovery.{RecoveryEvent, RecoveryState}
 use Rattle.laws_lives.specs.ManagerSteps.{WorksTo}
@@ -84,14 +85,14 @@ module _ (g : Geometry) (m : StoredState) (works : List RecoveryEvent) (store : 
 
 -- ---- a run
 
-module _ {L V : Type 0} {G : Ghosts L} {H : Ghosts V} (g : Geometry) (stream_bytes : ℕ) (found : List LogRecord) (log_front front : List ℕ) where
+module _ {L V : Type 0} {G : Ghosts L} {H : Ghosts V} (g : Geometry) (stream_bytes : ℕ) (o : Opening) (found : List LogRecord) (log_front front : List ℕ) where
   -- the world is at the state and the store of a manager under way
   pub record IsUpAt (es : List Entry) (w : World L V G H) (m : StoredState) : Type 0 where
     pub disk : ℕ → List ℕ
     pub at : IsAt w log_front front disk m.state m.store
     pub geometry : geometry_in w ≡ g
     pub long : stream_bytes_in w ≡ stream_bytes
-    pub under_way : IsUnderWay g stream_bytes found es m
+    pub under_way : IsUnderWay g stream_bytes o found es m
 
   -- what it has come to by these moves
   pub record HasRun (es : List Entry) (m : StoredState) (moves : List ManagerEvent) (new : World L V G H) : Type 0 where
@@ -106,6 +107,7 @@ module _ {L V : Type 0} {G : Ghosts L} {H : Ghosts V} (g : Geometry) (stream_byt
   up_safe es w m up =
       subst (λ (x : Geometry). IsSafe x m.state) (sym up.geometry)
       (record {
+        opening = o;
         found = found;
         entries = es;
         after = up.under_way.state;
@@ -113,7 +115,7 @@ module _ {L V : Type 0} {G : Ghosts L} {H : Ghosts V} (g : Geometry) (stream_byt
         roomy = up.under_way.roomy;
         stream_bytes = stream_bytes;
         leaves = up.under_way.leaves;
-        inside = under_way_inside g stream_bytes found es m up.under_way;
+        inside = under_way_inside g stream_bytes o found es m up.under_way;
       })
 
   still_long : (old new : World L V G H) → LeavesAtAnyMoment old new → SurvivesCrashes old log_front → stream_bytes_in new ≡ stream_bytes_in old
@@ -133,7 +135,7 @@ module _ {L V : Type 0} {G : Ghosts L} {H : Ghosts V} (g : Geometry) (stream_byt
         at = comes.at;
         geometry = geometry ∙ up.geometry;
         long = still_long old new moment up.at.log ∙ up.long;
-        under_way = step_under_way g stream_bytes found es m is.stored (record { state = later; store = comes.after }) up.under_way is.steps;
+        under_way = step_under_way g stream_bytes o found es m is.stored (record { state = later; store = comes.after }) up.under_way is.steps;
       };
     }
 

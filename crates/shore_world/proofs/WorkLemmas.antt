@@ -11,11 +11,11 @@ use Rattle.shore_types.specs.declared.layout.TheConstants.{LOG_FRONT_BYTES}
 use Rattle.shore_types.specs.declared.locking.Granule.{Granule}
 use Rattle.shore_disk.specs.Device.{size}
 use Rattle.shore_disk.specs.declared.device.Disk.{Ghosts}
-use Rattle.shore_model.specs.Records.{Records}
 use Rattle.shore_model.specs.declared.calls.Answer.{Answer}
 use Rattle.shore_model.specs.declared.calls.Answer.TheVariants.{Forced, Staged}
 use Rattle.shore_model.specs.declared.calls.Call.{Call}
 use Rattle.shore_model.specs.declared.histories.Entry.{Entry}
+use Rattle.shore_model.specs.declared.histories.Opening.{Opening}
 use Rattle.shore_model.specs.declared.log_records.LogRecord.{LogRecord}
 use Rattle.shore_model.specs.declared.step.Step.{Step}
 use Rattle.shore_model.specs.declared.step.Step.TheVariants.{Done, Nothing, Refused, Waits}
@@ -73,7 +73,8 @@ victims_leave_waiting session s t (v ∷ vs) new h w =
 waits_again : (g : Geometry) (s new : State) (session : ℕ) (at : Granule) (w : Waiting) → IsAmong w s.waiting → w.session ≡ session → (wait : Wait)
     → ResumesWait g s w wait (Waits (Lock at)) new → HasWaitingCall new session
 waits_again g s new session at w there of (Durable n) (inl h) = let clash = h.1 in absurd cc
-waits_again g s new session at w there of (Durable n) (inr h) = let clash = h.1 in absurd cc
+waits_again g s new session at w there of (Durable n) (inr (inl h)) = let clash = h.1 in absurd cc
+waits_again g s new session at w there of (Durable n) (inr (inr h)) = let clash = h.1 in absurd cc
 waits_again g s new session at w there of (Lock was) h = ⊎_elim
     (λ still. (w, subst (λ (x : State). IsAmong w x.waiting) (sym still.2) there, of))
     (λ goes. subst (λ (x : State). HasWaitingCall x session) (sym goes.1.5) (lock_waiting h.0 w.call goes.1.1, inl refl, h.1.1 ∙ of))
@@ -136,7 +137,7 @@ some_due old new durable count some h none = by h.pages h.count_is (recursion_fr
 
 -- ---- of a manager
 
-module _ {L V : Type 0} {G : Ghosts L} {H : Ghosts V} (w : World L V G H) (o : Records) (es : List Entry) (ws : List (ℕ × Call)) (k : IsManagerOf w o es ws) where
+module _ {L V : Type 0} {G : Ghosts L} {H : Ghosts V} (w : World L V G H) (o : Opening) (es : List Entry) (ws : List (ℕ × Call)) (k : IsManagerOf w o es ws) where
   abbrev s : State
   s = k.now.state
 
@@ -151,7 +152,7 @@ module _ {L V : Type 0} {G : Ghosts L} {H : Ghosts V} (w : World L V G H) (o : R
   room = record {
     log_front = k.log_front;
     kept = k.at.log;
-    room = has_room (geometry_in w) (stream_bytes_in w) k.found k.log_front k.front es w k.now (as_up w o es ws k);
+    room = has_room (geometry_in w) (stream_bytes_in w) o k.found k.log_front k.front es w k.now (as_up w o es ws k);
   }
 
   not_idle : (n : ℕ) → w.log.staged ≡ None → durable_in w < n → n ≤ length (list_in w) → IsIdle w → ⊥
@@ -223,7 +224,7 @@ module _ {L V : Type 0} {G : Ghosts L} {H : Ghosts V} (w : World L V G H) (o : R
       let went = stepped w o es ws k (event.Resume session) step new tt one in
       let later = went.on.manager.now.state in (
         (λ nothing. settled_to_nothing (geometry_in w) session s later (subst (λ (x : Step). SettledResume (geometry_in w) s session x later) nothing went.moves)),
-        (λ idle. nothing_waits (geometry_in w) k.found es s k.under_way.state ws k.waited session step later idle went.moves),
+        (λ idle. nothing_waits (geometry_in w) o k.found es s k.under_way.state ws k.waited session step later idle went.moves),
       )
 
   pub calls_to_nothing : (session : ℕ) (c : Call) (new : World L V G H) → IsServedEvent (event.Call session c) → Steps w (event.Call session c) Nothing new → ⊥
@@ -249,8 +250,8 @@ module _ {L V : Type 0} {G : Ghosts L} {H : Ghosts V} (w : World L V G H) (o : R
             disk = k.disk;
             now = k.now;
             at = same.at k.log_front k.front k.disk k.now.state k.now.store k.at;
-            under_way = subst (λ (g : Geometry). IsUnderWay g (stream_bytes_in new) k.found es k.now) (sym geometry)
-                (subst (λ n. IsUnderWay (geometry_in w) n k.found es k.now) (sym long) k.under_way);
+            under_way = subst (λ (g : Geometry). IsUnderWay g (stream_bytes_in new) o k.found es k.now) (sym geometry)
+                (subst (λ n. IsUnderWay (geometry_in w) n o k.found es k.now) (sym long) k.under_way);
             waited = k.waited;
             there = k.there;
           },

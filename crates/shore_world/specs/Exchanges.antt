@@ -8,7 +8,6 @@ use Rattle.shore_model.specs.declared.step.Step.{Step}
 use Rattle.shore_model.specs.declared.step.Step.TheVariants.{Done, Waits, Refused, Nothing}
 use Rattle.laws_lives.specs.SessionSteps.{exchange}
 use Rattle.laws_lives.specs.Views.{IsAmong}
-use Rattle.laws_calls.specs.LockedStates.{resumed_call}
 use Rattle.laws_calls.specs.States.{State, Waiting}
 use Rattle.shore_world.specs.declared.event.Event.{Event}
 use Rattle.shore_world.specs.declared.event.Event.TheVariants as event
@@ -81,4 +80,4 @@ exchanges_of ws (e ∷ es) [] = []
 
 -- each call that waits is the one with which its session last began to wait
 abbrev pub AreLast : List (ℕ × Call) → State → Type 0
-AreLast ws s = (w : Waiting) → IsAmong w s.waiting → last_waited w.session ws ≡ Some (resumed_call w.call w.wait)
+AreLast ws s = (w : Waiting) → IsAmong w s.waiting → last_waited w.session ws ≡ Some w.call

@@ -8,9 +8,11 @@ use Rattle.shore_disk.specs.Device.{History, may_leave, seen, size}
 use Rattle.shore_disk.specs.declared.device.Disk.{Ghosts}
 use Rattle.shore_fronts.specs.Barriers.{IsBeforeBarrier, IsBehindBarrier}
 use Rattle.shore_dwrite.specs.declared.places.TheConstants.{GATE_AT}
+use Rattle.shore_model.specs.declared.histories.Opening.{Opening}
 use Rattle.shore_model.specs.declared.log_records.LogRecord.{LogRecord}
 use Rattle.shore_analysis.specs.declared.analysis.Tables.{Tables}
 use Rattle.shore_analysis.specs.Tables.{AreTables}
+use Rattle.laws_lives.specs.Doubts.{IsOpeningOf}
 use Rattle.laws_lives.specs.Pages.{LoggedPages}
 use Rattle.laws_lives.specs.Undo.{HasNoLosers}
 use Rattle.laws_runs.specs.StoredRuns.{IsOpenedOver}
@@ -59,9 +61,9 @@ AreEndedInOpen log volume log_now volume_now =
 
 -- ---- its end
 
--- The world is what a restart has made of its last moment: all is redone, nobody is left to be undone, and it shows the records in place. Nobody asks for a
--- lock, and there may be as many requests as the geometry says.
-pub record IsOpenedAt {L V : Type 0} {G : Ghosts L} {H : Ghosts V} (w : World L V G H) (g : Geometry) (log_front front : List ℕ) (last : Moment) : Type 0 where
+-- The world is what a restart of this log has made of its last moment: all is redone, nobody is left to be undone, and it opens as the log that was found
+-- says, with those in doubt whom it has. Nobody asks for a lock, and there may be as many requests as the geometry says.
+pub record IsOpenedAt {L V : Type 0} {G : Ghosts L} {H : Ghosts V} (w : World L V G H) (g : Geometry) (log_front front : List ℕ) (found : List LogRecord) (last : Moment) : Type 0 where
   pub geometry : geometry_in w ≡ g
   pub histories : (history_in w ≡ last.log) × (volume_history_in w ≡ last.volume)
   pub redone : last.store.redone ≡ length last.store.log
@@ -69,14 +71,14 @@ pub record IsOpenedAt {L V : Type 0} {G : Ghosts L} {H : Ghosts V} (w : World L 
   pub first : State
   pub disk : ℕ → List ℕ
   pub at : IsAt w log_front front disk first last.store
-  pub over : IsOpenedOver last.store first
+  pub over : (o : Opening) → IsOpeningOf found o → IsOpenedOver o last.store first
   pub from : IsOpenedFrom (size last.log - LOG_FRONT_BYTES) last.store.log first
   pub locks : first.locks ≡ record { limit = g.max_locks; requests = [] }
 
 -- The world is there at the end of the way, on which the losers have taken their turns in their order.
 pub record HasOpened {L V : Type 0} {G : Ghosts L} {H : Ghosts V} (w : World L V G H) (g : Geometry) (log volume : History) (rs : List LogRecord) (pages : LoggedPages) : Type 0 where
   pub way : OpenWay g log volume rs pages
-  pub opened : IsOpenedAt w g (take LOG_FRONT_BYTES (seen log)) (take GATE_AT (seen volume)) way.last
+  pub opened : IsOpenedAt w g (take LOG_FRONT_BYTES (seen log)) (take GATE_AT (seen volume)) rs way.last
   pub undone : IsUndoneSoFar rs way.last.store.log
 
 -- What an open comes to: a world at the end of its way; or it is refused, and hands the devices back before both barriers have answered, or from where its

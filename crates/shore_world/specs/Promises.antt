@@ -1,22 +1,24 @@
 -- What stands behind a world that is a manager: the one hidden state that the promises speak of.
-use Rattle.std.specs.Prelude.{◌≡◌, ◌≢◌, ◌⊎◌, ◌<◌, ◌≤◌, ◌∷◌, ◌++◌, ℕ, List, [], IsTrue, None, false, length}
+use Rattle.std.specs.Prelude.{◌≡◌, ◌≢◌, ◌⊎◌, ◌<◌, ◌≤◌, ◌∷◌, ◌++◌, ℕ, List, [], IsTrue, None, false, length, map}
 use Rattle.std.specs.List.{AllByRecursion}
 use Rattle.shore_types.specs.declared.faults.Fault.TheVariants.{Device, Failed, Memory}
 use Rattle.shore_disk.specs.declared.device.Disk.{Ghosts}
 use Rattle.shore_model.specs.declared.calls.Answer.TheVariants.{Flushed, Forced, Staged}
 use Rattle.shore_model.specs.declared.calls.Call.{Call}
 use Rattle.shore_model.specs.declared.histories.Entry.{Entry}
+use Rattle.shore_model.specs.declared.histories.Opening.{Opening}
 use Rattle.shore_model.specs.declared.log_records.LogRecord.{LogRecord}
 use Rattle.shore_model.specs.declared.step.Step.{Step}
 use Rattle.shore_model.specs.declared.step.Step.TheVariants.{Done, Nothing, Refused}
 use Rattle.shore_flush.specs.Flushes.{Flushes, NoneDue}
 use Rattle.shore_heap.specs.Heaps.{pool_of}
 use Rattle.shore_core.specs.Cores.{heap_of}
-use Rattle.laws_lives.specs.LogTells.{records_committed}
-use Rattle.laws_lives.specs.Soundness.{decided_txn, in_txn}
+use Rattle.laws_lives.specs.Doubts.{AreRestored, IsOpeningOf}
+use Rattle.laws_lives.specs.Sessions.{in_txn, pairs_of, txns_of}
+use Rattle.laws_lives.specs.Soundness.{decided_txn}
 use Rattle.laws_lives.specs.Views.{IsAmong}
 use Rattle.shore_model.specs.Histories.{decisions, free, session_state}
-use Rattle.shore_model.specs.Records.{Records}
+use Rattle.shore_model.specs.Requests.{held_by_all}
 use Rattle.laws_runs.specs.SoundStores.{IsUnderWay}
 use Rattle.laws_runs.specs.StoredRuns.{StoredState}
 use Rattle.shore_world.specs.declared.event.Event.{Event}
@@ -31,19 +33,26 @@ use Rattle.laws_calls.specs.StoodCycles.{IsWithin}
 use Rattle.shore_world.specs.Lives.{DumpsShow}
 use Rattle.shore_world.specs.Worlds.{HasForced, HasStaged, IsAt, IsIdle, Runs, Steps, durable_in, failed_in, geometry_in, list_in, requests_in, stream_bytes_in}
 
--- The world is a manager that opened with these records in place, and since then has come to these entries of its history, and to these calls with which
--- sessions began to wait, the newest first. What else is here a reader of the promises need not know: an open makes such a world, and each run of one another.
-pub record IsManagerOf {L V : Type 0} {G : Ghosts L} {H : Ghosts V} (w : World L V G H) (o : Records) (es : List Entry) (ws : List (ℕ × Call)) : Type 0 where
+-- The world is a manager that opened so, with these records and those in doubt, and since then has come to these entries of its history, and to these calls
+-- with which sessions began to wait, the newest first. What else is here a reader of the promises need not know: an open makes such a world, and each run of one another.
+pub record IsManagerOf {L V : Type 0} {G : Ghosts L} {H : Ghosts V} (w : World L V G H) (o : Opening) (es : List Entry) (ws : List (ℕ × Call)) : Type 0 where
   pub found : List LogRecord
-  pub opening : o ≡ records_committed found
+  pub opening : IsOpeningOf found o
   pub log_front : List ℕ
   pub front : List ℕ
   pub disk : ℕ → List ℕ
   pub now : StoredState
   pub at : IsAt w log_front front disk now.state now.store
-  pub under_way : IsUnderWay (geometry_in w) (stream_bytes_in w) found es now
+  pub under_way : IsUnderWay (geometry_in w) (stream_bytes_in w) o found es now
   pub waited : AreLast ws now.state
   pub there : AllWaitThere now.state
+
+-- Those whom the opening has in doubt, and nobody else, are in doubt and under way in the state. Locks are held on the granules that their Prepares name, with
+-- the intentions above these, and no others.
+pub record HasInDoubt {L V : Type 0} {G : Ghosts L} {H : Ghosts V} (w : World L V G H) (o : Opening) (s : State) : Type 0 where
+  pub prepared : pairs_of s.sessions.prepared ≡ map (λ d. (d.txn, d.global)) o.in_doubt
+  pub active : txns_of s.sessions.active ≡ map (λ d. d.txn) o.in_doubt
+  pub locks : AreRestored (list_in w) (held_by_all (requests_in w))
 
 -- each of these transactions is not ended: a session is in it, and it is not decided
 abbrev pub AreUnended : List Entry → List ℕ → Type 0
@@ -58,7 +67,7 @@ pub record IsStateOf {L V : Type 0} {G : Ghosts L} {H : Ghosts V} (w : World L V
   pub dumps : DumpsShow w s.sessions.records
 
 -- Behind an event the world is a manager again, and goes on with the history that it had.
-pub record GoesOnAs {L V : Type 0} {G : Ghosts L} {H : Ghosts V} (new : World L V G H) (o : Records) (es : List Entry) (ws : List (ℕ × Call)) (e : Event) (step : Step) : Type 0 where
+pub record GoesOnAs {L V : Type 0} {G : Ghosts L} {H : Ghosts V} (new : World L V G H) (o : Opening) (es : List Entry) (ws : List (ℕ × Call)) (e : Event) (step : Step) : Type 0 where
   pub made : List Entry
   pub manager : IsManagerOf new o (es ++ made) (waited_behind ws e step)
 
@@ -77,7 +86,7 @@ pub record IsEventOf {L V : Type 0} {G : Ghosts L} {H : Ghosts V} (w : World L V
 
 -- In the midst of an event of a run this cycle of waits stood, of which the session's transaction was the greatest: in a state by which the event comes, from the
 -- one of the manager that the events before it left, with the calls and answers of these.
-pub record HasStood {L V : Type 0} {G : Ghosts L} {H : Ghosts V} (w : World L V G H) (o : Records) (es : List Entry) (ws : List (ℕ × Call)) (events : List Event) (steps : List Step)
+pub record HasStood {L V : Type 0} {G : Ghosts L} {H : Ghosts V} (w : World L V G H) (o : Opening) (es : List Entry) (ws : List (ℕ × Call)) (events : List Event) (steps : List Step)
     (last : World L V G H) (session : ℕ) (cycle : List ℕ) : Type 0 where
   pub before : List Event
   pub before_steps : List Step

@@ -5,12 +5,16 @@ ghost use Rattle.shore_types.specs.declared.layout.Geometry.{Geometry};
 ghost use Rattle.shore_types.specs.declared.layout.TheConstants.{LOG_FRONT_BYTES};
 ghost use Rattle.shore_disk.specs.Device.{History, Stands, may_leave, seen, size};
 ghost use Rattle.shore_model.specs.declared.histories.Entry.{Entry};
+ghost use Rattle.shore_model.specs.declared.histories.Opening.{Opening};
 ghost use Rattle.shore_model.specs.declared.log_records.LogRecord.{LogRecord};
 ghost use Rattle.shore_model.specs.declared.step.Step.{Step};
+ghost use Rattle.shore_model.specs.Histories.{shown};
 ghost use Rattle.shore_model.specs.Locks.{Harmony, WellRooted};
 ghost use Rattle.shore_model.specs.Logs.{records_told};
 ghost use Rattle.shore_model.specs.Requests.{held_by_all};
+ghost use Rattle.laws_lives.specs.Doubts.{IsOpeningOf};
 ghost use Rattle.laws_lives.specs.Pages.{LoggedPages};
+ghost use Rattle.laws_lives.specs.Soundness.{history_from};
 ghost use Rattle.laws_calls.specs.Events.{ManagerEvent};
 ghost use Rattle.laws_runs.specs.StoredRuns.{StoredEvent, StoredMoves, StoredRun, StoredState};
 ghost use Rattle.shore_format.specs.Pairs.{AreFormatted};
@@ -24,7 +28,7 @@ ghost use Rattle.shore_world.specs.Events.{IsServedEvent};
 ghost use Rattle.shore_world.specs.Lives.{DumpsShow, HaveLived};
 ghost use Rattle.shore_world.specs.Managers.{AreFound, AreStays, IsManager, IsRunOf, Manager, NoForceIsFull, Stay};
 ghost use Rattle.shore_world.specs.Opens.{AreEndedInOpen, HasOpened, LeftByOpen, OpensAlong};
-ghost use Rattle.shore_world.specs.Promises.{IsManagerOf};
+ghost use Rattle.shore_world.specs.Promises.{HasInDoubt, IsManagerOf};
 ghost use Rattle.shore_world.specs.Worlds.{IsAt, Runs, geometry_in, history_in, requests_in, stream_bytes_in, volume_history_in};
 
 use shore_disk::Disk;
@@ -34,29 +38,31 @@ use shore_disk::Disk;
 /// stands and for each undo, and its store may lose power at any moment.
 pub fn runs_are_stored_runs<L: Disk, V: Disk>()
     ensures { (old new : World L V L.Disk V.Disk) (events : List Event) (steps : List Step) (moves : List ManagerEvent) (log_front front : List ℕ) (disk : ℕ → List ℕ)
-        (found : List LogRecord) (es : List Entry) (m : StoredState) →
-        All IsServedEvent events → Runs old events steps moves new → IsAt old log_front front disk m.state m.store → IsUnderWay (geometry_in old) (stream_bytes_in old) found es m →
+        (o : Opening) (found : List LogRecord) (es : List Entry) (m : StoredState) →
+        All IsServedEvent events → Runs old events steps moves new → IsAt old log_front front disk m.state m.store → IsUnderWay (geometry_in old) (stream_bytes_in old) o found es m →
         (stored : List StoredEvent) × (last : StoredState) × (made : List Entry) × (left : ℕ → List ℕ) × StoredMoves (geometry_in old) m stored last made × (managed stored ≡ moves)
-        × IsAt new log_front front left last.state last.store × IsUnderWay (geometry_in old) (stream_bytes_in old) found (es ++ made) last }
+        × IsAt new log_front front left last.state last.store × IsUnderWay (geometry_in old) (stream_bytes_in old) o found (es ++ made) last }
 {}
 
 /// Format, and then any number of stays: managers, and opens that came to none. Each ends at any moment, in opens too: both devices lose power at once, or the
 /// process ends, or the devices are handed back; and then they are opened again. Whatever pair of images may be left in the end, it stands for a log, and for
 /// pages with whatever of undecided transactions was written back (`left`): so its open answers unless a device or an allocation fails. What that log
 /// tells is the empty store with the committed transactions of each manager applied in turn, those of a prefix of its decisions that holds every acknowledged
-/// one, each transaction alone, in the order of the commits. Each open on the way showed the records of its life so far, on which what came behind it goes
-/// on, and the log that it found is a prefix of every later one: nothing that an open has shown is taken back.
-/// If the pair is opened then (`shown`), the world is a manager that begins with what this log tells: dumps of it, store by store, are these records, and the
-/// locks that are held are in harmony and well rooted.
+/// one, each transaction alone, in the order of the commits; and in doubt are those that these decisions have prepared and not decided further. Each open on the
+/// way showed the records of its life so far, on which what came behind it goes on, and gave those in doubt back; and the log that it found is a prefix of
+/// every later one: nothing that an open has shown is taken back.
+/// If the pair is opened then (`shown`), the world is a manager that begins with what this log tells: dumps of it, store by store, are these records, with the
+/// changes of those in doubt in place. Those are in doubt, and nobody else; they hold the locks that their Prepares name, and the locks that are held are in
+/// harmony and well rooted.
 pub fn committed_work_survives_every_crash<L: Disk, V: Disk>()
     ensures left { (g : Geometry) (log_bytes volume_bytes : ℕ) (stays : List (Stay L V L.Disk V.Disk)) (log volume : History) (log_image volume_image : List ℕ) →
         AreStays log_bytes volume_bytes (AreFormatted g log_bytes volume_bytes) stays log volume → may_leave log log_image → may_leave volume volume_image →
-        (rs : List LogRecord) × (pages : LoggedPages) × StandsFor g log_bytes volume_bytes rs pages log_image volume_image × HaveLived g stays rs pages }
+        (rs : List LogRecord) × (pages : LoggedPages) × (o : Opening) × StandsFor g log_bytes volume_bytes rs pages log_image volume_image × HaveLived g stays o rs pages }
     ensures shown { (g : Geometry) (log_bytes volume_bytes : ℕ) (stays : List (Stay L V L.Disk V.Disk)) (log volume : History) (w : World L V L.Disk V.Disk) →
         AreStays log_bytes volume_bytes (AreFormatted g log_bytes volume_bytes) stays log volume →
         ((rs : List LogRecord) (pages : LoggedPages) → StandsFor g (size log) (size volume) rs pages (seen log) (seen volume) → HasOpened w g log volume rs pages) →
-        (rs : List LogRecord) × (pages : LoggedPages) × HaveLived g stays rs pages × IsManagerOf w (records_told rs) [] []
-        × DumpsShow w (records_told rs) × Harmony (held_by_all (requests_in w)) × WellRooted (held_by_all (requests_in w)) }
+        (rs : List LogRecord) × (pages : LoggedPages) × (o : Opening) × HaveLived g stays o rs pages × ((k : IsManagerOf w o [] []) × HasInDoubt w o k.now.state)
+        × DumpsShow w (records_told rs) × (records_told rs ≡ shown (history_from o []) []) × Harmony (held_by_all (requests_in w)) × WellRooted (held_by_all (requests_in w)) }
 {}
 
 /// Each way to come from one open to the next is among those of `AreStays`. Behind a loss of power the devices hold one pair of images that was left, all of
@@ -81,8 +87,8 @@ pub fn pairs_are_found_again<L: Disk, V: Disk>()
 
 /// A manager on a pair that stands for a log and pages is a stay of the power over plain data, and no force of it is refused by `LogFull`.
 pub fn runs_stay_in_bounds<L: Disk, V: Disk>()
-    ensures { (g : Geometry) (rs : List LogRecord) (pages : LoggedPages) (manager : Manager L V L.Disk V.Disk) →
-        StandsFor g (size manager.log) (size manager.volume) rs pages (seen manager.log) (seen manager.volume) → IsManager manager →
-        ((run : StoredRun) × IsRunOf manager run × IsStoredUp g (size manager.log - LOG_FRONT_BYTES) (found_state rs pages) run)
+    ensures { (g : Geometry) (o : Opening) (rs : List LogRecord) (pages : LoggedPages) (manager : Manager L V L.Disk V.Disk) →
+        StandsFor g (size manager.log) (size manager.volume) rs pages (seen manager.log) (seen manager.volume) → IsOpeningOf rs o → IsManager manager →
+        ((run : StoredRun) × IsRunOf manager run × IsStoredUp g (size manager.log - LOG_FRONT_BYTES) o (found_state rs pages) run)
         × NoForceIsFull manager.events manager.steps }
 {}

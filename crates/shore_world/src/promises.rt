@@ -10,19 +10,20 @@ ghost use Rattle.shore_model.specs.Calls.{IsServed};
 ghost use Rattle.shore_model.specs.Histories.{IsHistory, Sound, free, session_state};
 ghost use Rattle.shore_model.specs.Locks.{Harmony, WellRooted};
 ghost use Rattle.shore_model.specs.Logs.{logged_writes};
-ghost use Rattle.shore_model.specs.Records.{Records, overlays};
+ghost use Rattle.shore_model.specs.Records.{overlays};
 ghost use Rattle.shore_model.specs.Requests.{HasNoCycle, held_by_all};
 ghost use Rattle.shore_model.specs.declared.calls.Answer.TheVariants.{Aborted, Committed};
 ghost use Rattle.shore_model.specs.declared.calls.Call.TheVariants.{Abort, Commit};
 ghost use Rattle.shore_model.specs.declared.calls.Call.{Call};
 ghost use Rattle.shore_model.specs.declared.histories.Entry.{Entry};
+ghost use Rattle.shore_model.specs.declared.histories.Opening.{Opening};
 ghost use Rattle.shore_model.specs.declared.rollbacks.Rollback.{Rollback};
 ghost use Rattle.shore_model.specs.declared.step.Step.TheVariants.{Done, Nothing, Refused, Waits};
 ghost use Rattle.shore_model.specs.declared.step.Step.{Step};
 ghost use Rattle.shore_model.specs.declared.step.Wait.TheVariants.{Durable, Lock};
 ghost use Rattle.shore_locks.specs.Grants.{released};
-ghost use Rattle.laws_lives.specs.Sessions.{SessionTxn, txns_of};
-ghost use Rattle.laws_lives.specs.Soundness.{history_from, in_txn, serial_after};
+ghost use Rattle.laws_lives.specs.Sessions.{SessionTxn, in_txn, txns_of};
+ghost use Rattle.laws_lives.specs.Soundness.{history_from, serial_after};
 ghost use Rattle.laws_lives.specs.Views.{IsAmong};
 ghost use Rattle.laws_calls.specs.CallSteps.{CallStep};
 ghost use Rattle.laws_calls.specs.Causes.{EarnsRefusal};
@@ -45,7 +46,7 @@ use shore_disk::Disk;
 
 /// A run goes on with the history of its manager: what it adds are the calls of its events with the very answers and refusals of their steps, in their order.
 pub fn runs_are_histories<L: Disk, V: Disk>()
-    ensures { (w new : World L V L.Disk V.Disk) (o : Records) (es : List Entry) (ws : List (ℕ × Call)) (events : List Event) (steps : List Step) (moves : List ManagerEvent) →
+    ensures { (w new : World L V L.Disk V.Disk) (o : Opening) (es : List Entry) (ws : List (ℕ × Call)) (events : List Event) (steps : List Step) (moves : List ManagerEvent) →
         IsManagerOf w o es ws → All IsServedEvent events → Runs w events steps moves new →
         (made : List Entry) × IsManagerOf new o (es ++ made) (waited_after ws events steps) × (exchanges_in made ≡ exchanges_of ws events steps) }
 {}
@@ -53,33 +54,33 @@ pub fn runs_are_histories<L: Disk, V: Disk>()
 /// Locks in harmony: after each event no lock that is held conflicts with another along any path, each has its intentions on all that its granule lies in, and
 /// no cycle of waits stands.
 pub fn locks_are_in_harmony<L: Disk, V: Disk>()
-    ensures held { (w : World L V L.Disk V.Disk) (o : Records) (es : List Entry) (ws : List (ℕ × Call)) → IsManagerOf w o es ws →
+    ensures held { (w : World L V L.Disk V.Disk) (o : Opening) (es : List Entry) (ws : List (ℕ × Call)) → IsManagerOf w o es ws →
         Harmony (held_by_all (requests_in w)) × WellRooted (held_by_all (requests_in w)) }
-    ensures no_cycle { (w : World L V L.Disk V.Disk) (o : Records) (es : List Entry) (ws : List (ℕ × Call)) → IsManagerOf w o es ws → HasNoCycle (requests_in w) }
+    ensures no_cycle { (w : World L V L.Disk V.Disk) (o : Opening) (es : List Entry) (ws : List (ℕ × Call)) → IsManagerOf w o es ws → HasNoCycle (requests_in w) }
 {}
 
 /// Sound history: what was called and answered is a history, and each transaction that has committed was answered as it might have been alone, on the serial
 /// records before it.
 pub fn histories_are_sound<L: Disk, V: Disk>()
-    ensures { (w : World L V L.Disk V.Disk) (o : Records) (es : List Entry) (ws : List (ℕ × Call)) → IsManagerOf w o es ws →
+    ensures { (w : World L V L.Disk V.Disk) (o : Opening) (es : List Entry) (ws : List (ℕ × Call)) → IsManagerOf w o es ws →
         IsHistory (history_from o es) × Sound (history_from o es) }
 {}
 
 /// Records in place: a dump shows the serial records, overlaid with what each transaction under way has logged last at each id. That is what it has written,
 /// unless a rollback of it is under way. None of these is decided, and whoever is in a transaction by the history is in one of these, or its commit is.
 pub fn records_are_in_place<L: Disk, V: Disk>()
-    ensures shown { (w : World L V L.Disk V.Disk) (o : Records) (es : List Entry) (ws : List (ℕ × Call)) → (k : IsManagerOf w o es ws) →
+    ensures shown { (w : World L V L.Disk V.Disk) (o : Opening) (es : List Entry) (ws : List (ℕ × Call)) → (k : IsManagerOf w o es ws) →
         DumpsShow w (overlays (serial_after o es) (map (logged_writes (list_in w)) (txns_of k.now.state.sessions.active))) }
-    ensures unended { (w : World L V L.Disk V.Disk) (o : Records) (es : List Entry) (ws : List (ℕ × Call)) → (k : IsManagerOf w o es ws) →
+    ensures unended { (w : World L V L.Disk V.Disk) (o : Opening) (es : List Entry) (ws : List (ℕ × Call)) → (k : IsManagerOf w o es ws) →
         AreUnended es (txns_of k.now.state.sessions.active) }
-    ensures all { (w : World L V L.Disk V.Disk) (o : Records) (es : List Entry) (ws : List (ℕ × Call)) (session t : ℕ) → (k : IsManagerOf w o es ws) →
+    ensures all { (w : World L V L.Disk V.Disk) (o : Opening) (es : List Entry) (ws : List (ℕ × Call)) (session t : ℕ) → (k : IsManagerOf w o es ws) →
         session_state session free es ≡ in_txn t → 0 < t →
         IsAmong t (txns_of k.now.state.sessions.active) ⊎ IsAmong t (txns_of k.now.state.sessions.committing) }
 {}
 
 /// Undo is never refused: neither an abort nor a way back is refused by `StoreFull`, `LogFull`, `LockTableFull` or as a victim.
 pub fn undo_is_never_refused<L: Disk, V: Disk>()
-    ensures { (w new : World L V L.Disk V.Disk) (o : Records) (es : List Entry) (ws : List (ℕ × Call)) (session : ℕ) (c : Call) (r : Rollback) (f : Fault) →
+    ensures { (w new : World L V L.Disk V.Disk) (o : Opening) (es : List Entry) (ws : List (ℕ × Call)) (session : ℕ) (c : Call) (r : Rollback) (f : Fault) →
         IsManagerOf w o es ws → IsServed c → Steps w (event.Call session c) (Refused f) new → rollback_of c ≡ Some r → IsLackOfRoom f → ⊥ }
 {}
 
@@ -88,21 +89,21 @@ pub fn undo_is_never_refused<L: Disk, V: Disk>()
 /// left in the midst of it. A `Deadlock` is told with a cycle of waits that stood within this very event, or was to be told before. `Memory` has its
 /// cause outside; of `Device`, `Damaged` and `NeedForce` the clauses `cause`, `damaged` and `unforced` of `World::step` say more.
 pub fn refusals_are_earned<L: Disk, V: Disk>()
-    ensures call { (w new : World L V L.Disk V.Disk) (o : Records) (es : List Entry) (ws : List (ℕ × Call)) (session : ℕ) (c : Call) (f : Fault) →
+    ensures call { (w new : World L V L.Disk V.Disk) (o : Opening) (es : List Entry) (ws : List (ℕ × Call)) (session : ℕ) (c : Call) (f : Fault) →
         (k : IsManagerOf w o es ws) → IsServed c → Steps w (event.Call session c) (Refused f) new → ((cycle : List ℕ) → f ≢ fault.Deadlock cycle) → f ≢ fault.Memory →
         (on : GoesOnAs new o es ws (event.Call session c) (Refused f)) × ((last : State) × AsksIn (geometry_in w) k.now.state session c last
         × CallStep (geometry_in w) last session c (Refused f) on.manager.now.state × EarnsRefusal (geometry_in w) last session c f) }
-    ensures resume { (w new : World L V L.Disk V.Disk) (o : Records) (es : List Entry) (ws : List (ℕ × Call)) (session : ℕ) (f : Fault) →
+    ensures resume { (w new : World L V L.Disk V.Disk) (o : Opening) (es : List Entry) (ws : List (ℕ × Call)) (session : ℕ) (f : Fault) →
         (k : IsManagerOf w o es ws) → Steps w (event.Resume session) (Refused f) new → ((cycle : List ℕ) → f ≢ fault.Deadlock cycle) → f ≢ fault.Memory →
         (on : GoesOnAs new o es ws (event.Resume session) (Refused f)) × ((waited : Waiting) × IsAmong waited k.now.state.waiting × (waited.session ≡ session)
         × ((IsTrue k.now.state.failed × (f ≡ fault.Failed)) ⊎ ((last : State) × AsksAgainIn (geometry_in w) k.now.state session last
         × CallStep (geometry_in w) last session waited.call (Refused f) on.manager.now.state × EarnsRefusal (geometry_in w) last session waited.call f))) }
-    ensures victim { (w new : World L V L.Disk V.Disk) (o : Records) (es : List Entry) (ws : List (ℕ × Call)) (session : ℕ) (c : Call) (cycle : List ℕ) →
+    ensures victim { (w new : World L V L.Disk V.Disk) (o : Opening) (es : List Entry) (ws : List (ℕ × Call)) (session : ℕ) (c : Call) (cycle : List ℕ) →
         (k : IsManagerOf w o es ws) → IsServed c → Steps w (event.Call session c) (Refused (fault.Deadlock cycle)) new →
         (on : GoesOnAs new o es ws (event.Call session c) (Refused (fault.Deadlock cycle))) × ((between : List Interlude) × (mid : State)
         × IsMidway (geometry_in w) k.now.state session c between mid × IsItsCycle mid session cycle × ((later : List Interlude) × (from : State)
         × Intervene (geometry_in w) session mid later from × TellsVictim from session (Refused (fault.Deadlock cycle)) on.manager.now.state)) }
-    ensures told { (w new : World L V L.Disk V.Disk) (o : Records) (es : List Entry) (ws : List (ℕ × Call)) (session : ℕ) (cycle : List ℕ) →
+    ensures told { (w new : World L V L.Disk V.Disk) (o : Opening) (es : List Entry) (ws : List (ℕ × Call)) (session : ℕ) (cycle : List ℕ) →
         (k : IsManagerOf w o es ws) → Steps w (event.Resume session) (Refused (fault.Deadlock cycle)) new →
         (on : GoesOnAs new o es ws (event.Resume session) (Refused (fault.Deadlock cycle)))
         × (((waited : Waiting) × IsAmong waited k.now.state.waiting × (waited.session ≡ session) × (waited.cycle ≡ Some cycle))
@@ -113,7 +114,7 @@ pub fn refusals_are_earned<L: Disk, V: Disk>()
 /// A cycle that is told stood: of a run from a manager in which no call waits, as one is that was just opened, each resume that is refused with a cycle is told one
 /// that stood in the midst of an event of the run, perhaps of this very resume, and passed the session's transaction, the greatest of it.
 pub fn cycles_that_are_told_stood<L: Disk, V: Disk>()
-    ensures { (w last new : World L V L.Disk V.Disk) (o : Records) (es : List Entry) (events : List Event) (steps : List Step) (moves : List ManagerEvent) (session : ℕ) (cycle : List ℕ) →
+    ensures { (w last new : World L V L.Disk V.Disk) (o : Opening) (es : List Entry) (events : List Event) (steps : List Step) (moves : List ManagerEvent) (session : ℕ) (cycle : List ℕ) →
         IsManagerOf w o es [] → All IsServedEvent events → Runs w events steps moves last → Steps last (event.Resume session) (Refused (fault.Deadlock cycle)) new →
         HasStood w o es [] (events ++ event.Resume session ∷ []) (steps ++ Refused (fault.Deadlock cycle) ∷ []) new session cycle }
 {}
@@ -121,20 +122,20 @@ pub fn cycles_that_are_told_stood<L: Disk, V: Disk>()
 /// A refused call, but for a rollback, and a refused resume leave all as it was, but for locks, the calls that wait, and the transactions that were taken as
 /// victims on the way, which are doomed. Unless a device failed or a page was damaged the manager runs on if it ran, whatever the call was.
 pub fn refused_calls_change_locks_and_victims_alone<L: Disk, V: Disk>()
-    ensures call { (w new : World L V L.Disk V.Disk) (o : Records) (es : List Entry) (ws : List (ℕ × Call)) (session : ℕ) (c : Call) (f : Fault) →
+    ensures call { (w new : World L V L.Disk V.Disk) (o : Opening) (es : List Entry) (ws : List (ℕ × Call)) (session : ℕ) (c : Call) (f : Fault) →
         (k : IsManagerOf w o es ws) → IsServed c → Steps w (event.Call session c) (Refused f) new → rollback_of c ≡ None →
         (on : GoesOnAs new o es ws (event.Call session c) (Refused f)) × ((between : List Interlude)
         × ((between ≡ []) ⊎ ((mid : State) × IsMidway (geometry_in w) k.now.state session c between mid))
         × (on.manager.now.state ≡ but_doomed k.now.state (victims_among between) on.manager.now.state)) }
-    ensures resume { (w new : World L V L.Disk V.Disk) (o : Records) (es : List Entry) (ws : List (ℕ × Call)) (session : ℕ) (f : Fault) →
+    ensures resume { (w new : World L V L.Disk V.Disk) (o : Opening) (es : List Entry) (ws : List (ℕ × Call)) (session : ℕ) (f : Fault) →
         (k : IsManagerOf w o es ws) → Steps w (event.Resume session) (Refused f) new →
         (on : GoesOnAs new o es ws (event.Resume session) (Refused f)) × ((between : List Interlude)
         × ((mid : State) × Intervene (geometry_in w) session k.now.state between mid)
         × (on.manager.now.state ≡ but_doomed k.now.state (victims_among between) on.manager.now.state)) }
-    ensures call_runs { (w new : World L V L.Disk V.Disk) (o : Records) (es : List Entry) (ws : List (ℕ × Call)) (session : ℕ) (c : Call) (f : Fault) →
+    ensures call_runs { (w new : World L V L.Disk V.Disk) (o : Opening) (es : List Entry) (ws : List (ℕ × Call)) (session : ℕ) (c : Call) (f : Fault) →
         IsManagerOf w o es ws → IsServed c → Steps w (event.Call session c) (Refused f) new → f ≢ fault.Device → ((device : Device) (offset : ℕ) → f ≢ fault.Damaged device offset) →
         failed_in new ≡ failed_in w }
-    ensures resume_runs { (w new : World L V L.Disk V.Disk) (o : Records) (es : List Entry) (ws : List (ℕ × Call)) (session : ℕ) (f : Fault) →
+    ensures resume_runs { (w new : World L V L.Disk V.Disk) (o : Opening) (es : List Entry) (ws : List (ℕ × Call)) (session : ℕ) (f : Fault) →
         IsManagerOf w o es ws → Steps w (event.Resume session) (Refused f) new → f ≢ fault.Device → ((device : Device) (offset : ℕ) → f ≢ fault.Damaged device offset) →
         failed_in new ≡ failed_in w }
 {}
@@ -142,16 +143,16 @@ pub fn refused_calls_change_locks_and_victims_alone<L: Disk, V: Disk>()
 /// Waits are true: who waits for a lock has a request that waits at that very granule. Only a commit waits for a record: for its own, the last of the log,
 /// which is not durable then; and as it is resumed it waits on only as long as that is so.
 pub fn waits_are_true<L: Disk, V: Disk>()
-    ensures lock { (w new : World L V L.Disk V.Disk) (o : Records) (es : List Entry) (ws : List (ℕ × Call)) (session : ℕ) (c : Call) (at : Granule) →
+    ensures lock { (w new : World L V L.Disk V.Disk) (o : Opening) (es : List Entry) (ws : List (ℕ × Call)) (session : ℕ) (c : Call) (at : Granule) →
         IsManagerOf w o es ws → IsServed c → Steps w (event.Call session c) (Waits (Lock at)) new →
         (on : GoesOnAs new o es ws (event.Call session c) (Waits (Lock at))) × HasItsWait on.manager.now.state session at }
-    ensures resumed { (w new : World L V L.Disk V.Disk) (o : Records) (es : List Entry) (ws : List (ℕ × Call)) (session : ℕ) (at : Granule) →
+    ensures resumed { (w new : World L V L.Disk V.Disk) (o : Opening) (es : List Entry) (ws : List (ℕ × Call)) (session : ℕ) (at : Granule) →
         IsManagerOf w o es ws → Steps w (event.Resume session) (Waits (Lock at)) new →
         (on : GoesOnAs new o es ws (event.Resume session) (Waits (Lock at))) × HasItsWait on.manager.now.state session at }
-    ensures record_of { (w new : World L V L.Disk V.Disk) (o : Records) (es : List Entry) (ws : List (ℕ × Call)) (session n : ℕ) (c : Call) →
+    ensures record_of { (w new : World L V L.Disk V.Disk) (o : Opening) (es : List Entry) (ws : List (ℕ × Call)) (session n : ℕ) (c : Call) →
         IsManagerOf w o es ws → IsServed c → Steps w (event.Call session c) (Waits (Durable n)) new →
         (c ≡ Commit) × (n ≡ 1 + length (list_in w)) × (durable_in new < n) }
-    ensures record_on { (w new : World L V L.Disk V.Disk) (o : Records) (es : List Entry) (ws : List (ℕ × Call)) (session n : ℕ) →
+    ensures record_on { (w new : World L V L.Disk V.Disk) (o : Opening) (es : List Entry) (ws : List (ℕ × Call)) (session n : ℕ) →
         (k : IsManagerOf w o es ws) → Steps w (event.Resume session) (Waits (Durable n)) new →
         (waited : Waiting) × IsAmong waited k.now.state.waiting × (waited.session ≡ session) × (waited.wait ≡ Durable n) × (durable_in w < n) }
 {}
@@ -159,13 +160,13 @@ pub fn waits_are_true<L: Disk, V: Disk>()
 /// Locks only as asked: by a call the requests stay; or an abort is answered, and all of its transaction's go; or they change as the call asks, whatever victims
 /// were taken on the way (`ChangesLocks`). So it is by a resume, for the call that waited; or a commit is answered, and all of its transaction's go.
 pub fn locks_change_only_as_asked<L: Disk, V: Disk>()
-    ensures call { (w new : World L V L.Disk V.Disk) (o : Records) (es : List Entry) (ws : List (ℕ × Call)) (session : ℕ) (c : Call) (step : Step) →
+    ensures call { (w new : World L V L.Disk V.Disk) (o : Opening) (es : List Entry) (ws : List (ℕ × Call)) (session : ℕ) (c : Call) (step : Step) →
         (k : IsManagerOf w o es ws) → IsServed c → Steps w (event.Call session c) step new → (requests_in new ≡ requests_in w)
         ⊎ (((c ≡ Abort) × (step ≡ Done Aborted) × ((a : SessionTxn) × IsOfSession k.now.state session a × (requests_in new ≡ released a.txn (requests_in w))))
         ⊎ ((a : SessionTxn) × IsOfSession k.now.state session a × ((between : List Interlude)
         × ((between ≡ []) ⊎ ((mid : State) × IsMidway (geometry_in w) k.now.state session c between mid))
         × ChangesLocks (requests_in w) a.txn c (cycles_among between) (requests_in new)))) }
-    ensures resume { (w new : World L V L.Disk V.Disk) (o : Records) (es : List Entry) (ws : List (ℕ × Call)) (session : ℕ) (step : Step) →
+    ensures resume { (w new : World L V L.Disk V.Disk) (o : Opening) (es : List Entry) (ws : List (ℕ × Call)) (session : ℕ) (step : Step) →
         (k : IsManagerOf w o es ws) → Steps w (event.Resume session) step new → (requests_in new ≡ requests_in w)
         ⊎ (((step ≡ Done Committed) × ((a : SessionTxn) × IsAmong a k.now.state.sessions.committing × (a.session ≡ session) × (requests_in new ≡ released a.txn (requests_in w))))
         ⊎ ((waited : Waiting) × IsAmong waited k.now.state.waiting × (waited.session ≡ session) × ((a : SessionTxn) × IsOfSession k.now.state session a
@@ -179,22 +180,22 @@ pub fn locks_change_only_as_asked<L: Disk, V: Disk>()
 /// call of its session waits, and only then; a call always comes to something. Whatever comes to nothing has changed nothing: the world is a manager of the
 /// same state, no call of a device was made, and each page is in its frame.
 pub fn steps_do_their_work<L: Disk, V: Disk>()
-    ensures stage { (w new : World L V L.Disk V.Disk) (o : Records) (es : List Entry) (ws : List (ℕ × Call)) (step : Step) →
+    ensures stage { (w new : World L V L.Disk V.Disk) (o : Opening) (es : List Entry) (ws : List (ℕ × Call)) (step : Step) →
         IsManagerOf w o es ws → Steps w event.ForceStage step new → IsRefusedStep w step ⊎ StagesIfAny w step new }
-    ensures opens { (w new : World L V L.Disk V.Disk) (o : Records) (es : List Entry) (ws : List (ℕ × Call)) (step : Step) →
+    ensures opens { (w new : World L V L.Disk V.Disk) (o : Opening) (es : List Entry) (ws : List (ℕ × Call)) (step : Step) →
         IsManagerOf w o es ws → Steps w event.ForceOpen step new → HasFailedStep w step ⊎ OpensIfAny w step new }
-    ensures flush { (w new : World L V L.Disk V.Disk) (o : Records) (es : List Entry) (ws : List (ℕ × Call)) (step : Step) →
+    ensures flush { (w new : World L V L.Disk V.Disk) (o : Opening) (es : List Entry) (ws : List (ℕ × Call)) (step : Step) →
         IsManagerOf w o es ws → Steps w event.FlushStep step new → IsRefusedStep w step ⊎ FlushesIfAny w step new }
-    ensures resume { (w new : World L V L.Disk V.Disk) (o : Records) (es : List Entry) (ws : List (ℕ × Call)) (session : ℕ) (step : Step) →
+    ensures resume { (w new : World L V L.Disk V.Disk) (o : Opening) (es : List Entry) (ws : List (ℕ × Call)) (session : ℕ) (step : Step) →
         (k : IsManagerOf w o es ws) → Steps w (event.Resume session) step new → (step ≡ Nothing) ↔ DoesNotWait k.now.state session }
-    ensures call { (w new : World L V L.Disk V.Disk) (o : Records) (es : List Entry) (ws : List (ℕ × Call)) (session : ℕ) (c : Call) →
+    ensures call { (w new : World L V L.Disk V.Disk) (o : Opening) (es : List Entry) (ws : List (ℕ × Call)) (session : ℕ) (c : Call) →
         IsManagerOf w o es ws → IsServed c → Steps w (event.Call session c) Nothing new → ⊥ }
-    ensures unchanged { (w new : World L V L.Disk V.Disk) (o : Records) (es : List Entry) (ws : List (ℕ × Call)) (e : Event) →
+    ensures unchanged { (w new : World L V L.Disk V.Disk) (o : Opening) (es : List Entry) (ws : List (ℕ × Call)) (e : Event) →
         (k : IsManagerOf w o es ws) → IsServedEvent e → Steps w e Nothing new → IsUnchanged w new × ((on : IsManagerOf new o es ws) × (on.now ≡ k.now)) }
 {}
 
 /// What can be seen of the state of a manager, of which the promises speak: its lock requests, its log, what of it is durable, whether a device has failed, and
 /// what dumps show.
 pub fn states_are_seen<L: Disk, V: Disk>()
-    ensures { (w : World L V L.Disk V.Disk) (o : Records) (es : List Entry) (ws : List (ℕ × Call)) → (k : IsManagerOf w o es ws) → IsStateOf w k.now.state }
+    ensures { (w : World L V L.Disk V.Disk) (o : Opening) (es : List Entry) (ws : List (ℕ × Call)) → (k : IsManagerOf w o es ws) → IsStateOf w k.now.state }
 {}

@@ -5,7 +5,7 @@ use Rattle.shore_world.specs.Worlds.{geometry_in, stream_bytes_in}
 use Rattle.shore_world.proofs.laws.runs_are_stored_runs.Goals as goal
 
 pub returns : goal.returns
-returns g c old new events steps moves log_front front disk found es m served runs at under_way =
-    let up : IsUpAt (geometry_in old) (stream_bytes_in old) found log_front front es old m = record { disk = disk; at = at; geometry = refl; long = refl; under_way = under_way } in
-    let ran = run_run (geometry_in old) (stream_bytes_in old) found log_front front es old m up events steps moves new (all_served events served) runs in
+returns g c old new events steps moves log_front front disk o found es m served runs at under_way =
+    let up : IsUpAt (geometry_in old) (stream_bytes_in old) o found log_front front es old m = record { disk = disk; at = at; geometry = refl; long = refl; under_way = under_way } in
+    let ran = run_run (geometry_in old) (stream_bytes_in old) o found log_front front es old m up events steps moves new (all_served events served) runs in
     (ran.events, ran.last, ran.made, ran.up.disk, ran.stored, ran.same, ran.up.at, ran.up.under_way)

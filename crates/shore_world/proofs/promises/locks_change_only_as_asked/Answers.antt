@@ -40,7 +40,7 @@ returns-clause-call d f w new o es ws session call step k served one =
     let later = seen new o (es ++ went.on.made) (waited_behind ws (event.Call session call) step) went.on.manager in
     let P = ByCall (geometry_in w) k.now.state session call step in
     subst (λ (rs : List Request). P rs (requests_in new)) (seen w o es ws k).requests (subst (P k.now.state.locks.requests) later.requests
-    (settled_call_locks (geometry_in w) k.found es k.now.state (after w o es ws k) session call step went.on.manager.now.state went.moves))
+    (settled_call_locks (geometry_in w) o k.found es k.now.state (after w o es ws k) session call step went.on.manager.now.state went.moves))
 
 pub returns-clause-resume : goal.returns-clause-resume
 returns-clause-resume d f w new o es ws session step k one =
@@ -48,4 +48,4 @@ returns-clause-resume d f w new o es ws session step k one =
     let later = seen new o (es ++ went.on.made) (waited_behind ws (event.Resume session) step) went.on.manager in
     let P = ByResume (geometry_in w) k.now.state session step in
     subst (λ (rs : List Request). P rs (requests_in new)) (seen w o es ws k).requests (subst (P k.now.state.locks.requests) later.requests
-    (settled_resume_locks (geometry_in w) k.found es k.now.state (after w o es ws k) session (k.there session) step went.on.manager.now.state went.moves))
+    (settled_resume_locks (geometry_in w) o k.found es k.now.state (after w o es ws k) session (k.there session) step went.on.manager.now.state went.moves))

@@ -9,23 +9,23 @@ use Rattle.shore_world.proofs.promises.refusals_are_earned.Goals as goal
 pub returns-clause-call : goal.returns-clause-call
 returns-clause-call c d w new o es ws session call f k served one none ample =
     let went = stepped w o es ws k (event.Call session call) (Refused f) new served one in
-    let earned = settled_call_earned (geometry_in w) k.found es k.now.state (after w o es ws k) session call f went.on.manager.now.state none ample went.moves in
+    let earned = settled_call_earned (geometry_in w) o k.found es k.now.state (after w o es ws k) session call f went.on.manager.now.state none ample went.moves in
     (went.on, (earned.0, earned.1, earned.2, earned.3))
 
 pub returns-clause-resume : goal.returns-clause-resume
 returns-clause-resume c d w new o es ws session f k one none ample =
     let went = stepped w o es ws k (event.Resume session) (Refused f) new tt one in
-    let earned = settled_resume_earned (geometry_in w) k.found es k.now.state (after w o es ws k) session k.under_way.asks f went.on.manager.now.state none ample went.moves in
+    let earned = settled_resume_earned (geometry_in w) o k.found es k.now.state (after w o es ws k) session k.under_way.asks f went.on.manager.now.state none ample went.moves in
     (went.on, earned)
 
 pub returns-clause-victim : goal.returns-clause-victim
 returns-clause-victim c d w new o es ws session call cycle k served one =
     let went = stepped w o es ws k (event.Call session call) (Refused (Deadlock cycle)) new served one in
-    let told = settled_call_deadlock (geometry_in w) k.found es k.now.state (after w o es ws k) session call cycle went.on.manager.now.state went.moves in
+    let told = settled_call_deadlock (geometry_in w) o k.found es k.now.state (after w o es ws k) session call cycle went.on.manager.now.state went.moves in
     (went.on, told)
 
 pub returns-clause-told : goal.returns-clause-told
 returns-clause-told c d w new o es ws session cycle k one =
     let went = stepped w o es ws k (event.Resume session) (Refused (Deadlock cycle)) new tt one in
-    let told = settled_resume_deadlock (geometry_in w) k.found es k.now.state (after w o es ws k) session k.under_way.asks cycle went.on.manager.now.state went.moves in
+    let told = settled_resume_deadlock (geometry_in w) o k.found es k.now.state (after w o es ws k) session k.under_way.asks cycle went.on.manager.now.state went.moves in
     (went.on, told)

@@ -12,22 +12,22 @@ use Rattle.shore_world.proofs.promises.waits_are_true.Goals as goal
 pub returns-clause-lock : goal.returns-clause-lock
 returns-clause-lock c d w new o es ws session call at k served one =
     let went = stepped w o es ws k (event.Call session call) (Waits (Lock at)) new served one in
-    (went.on, settled_call_waits_at (geometry_in w) k.found es k.now.state (after w o es ws k) k.there session at went.on.manager.now.state call went.moves)
+    (went.on, settled_call_waits_at (geometry_in w) o k.found es k.now.state (after w o es ws k) k.there session at went.on.manager.now.state call went.moves)
 
 pub returns-clause-resumed : goal.returns-clause-resumed
 returns-clause-resumed c d w new o es ws session at k one =
     let went = stepped w o es ws k (event.Resume session) (Waits (Lock at)) new tt one in
-    (went.on, settled_resume_waits_at (geometry_in w) k.found es k.now.state (after w o es ws k) k.there session at went.on.manager.now.state went.moves)
+    (went.on, settled_resume_waits_at (geometry_in w) o k.found es k.now.state (after w o es ws k) k.there session at went.on.manager.now.state went.moves)
 
 pub returns-clause-record_of : goal.returns-clause-record_of
 returns-clause-record_of c d w new o es ws session n call k served one =
     let went = stepped w o es ws k (event.Call session call) (Waits (Durable n)) new served one in
     let later = seen new o (es ++ went.on.made) (waited_behind ws (event.Call session call) (Waits (Durable n))) went.on.manager in
-    let waits = settled_commit_waits (geometry_in w) k.found es k.now.state (after w o es ws k) session n went.on.manager.now.state call went.moves in
+    let waits = settled_commit_waits (geometry_in w) o k.found es k.now.state (after w o es ws k) session n went.on.manager.now.state call went.moves in
     (waits.0, waits.1 ∙ ap (λ (l : List LogRecord). 1 + length l) (seen w o es ws k).log, subst (λ (m : ℕ). m < n) later.durable waits.2)
 
 pub returns-clause-record_on : goal.returns-clause-record_on
 returns-clause-record_on c d w new o es ws session n k one =
     let went = stepped w o es ws k (event.Resume session) (Waits (Durable n)) new tt one in
-    let on = settled_resume_waits_on (geometry_in w) k.found es k.now.state (after w o es ws k) session n went.on.manager.now.state went.moves in
+    let on = settled_resume_waits_on (geometry_in w) o k.found es k.now.state (after w o es ws k) session n went.on.manager.now.state went.moves in
     (on.waited, on.there, on.of, on.lock, subst (λ (m : ℕ). m < n) (seen w o es ws k).durable on.above)
