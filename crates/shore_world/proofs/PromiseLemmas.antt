@@ -24,6 +24,7 @@ use Rattle.laws_lives.specs.Sessions.{IsFree, PreparedTxn, ResolvedTxn, SessionT
 use Rattle.laws_lives.specs.Soundness.{history_from, serial_after}
 use Rattle.laws_lives.specs.Views.{IsAmong}
 use Rattle.laws_lives.proofs.Lists.{among_map, mapped_one}
+use Rattle.laws_calls.proofs.OwnCycles.{events_begin}
 use Rattle.laws_calls.proofs.Rooted.{stay_rooted}
 use Rattle.laws_calls.proofs.SettledThere.{events_there}
 use Rattle.laws_calls.specs.Events.{EventsMove, IsStateAfter, ManagerEvent}
@@ -92,6 +93,8 @@ module _ {L V : Type 0} {G : Ghosts L} {H : Ghosts V} (w : World L V G H) (o : O
             (subst (λ n. IsUnderWay (geometry_in w) n o k.found (es ++ ran.made) ran.last) (sym ran.up.long) ran.up.under_way);
         waited = subst (λ (l : Waited). AreLast l ran.last.state) (ap (waited_in ws) ran.same ∙ is) told.waits;
         there = events_there (geometry_in w) o k.found es k.now.state (managed ran.events) ran.last.state k.under_way.state k.there
+            (plain_moves (geometry_in w) k.now ran.events ran.last ran.made ran.stored);
+        firsts = events_begin (geometry_in w) o k.found es k.now.state (managed ran.events) ran.last.state k.under_way.state k.firsts
             (plain_moves (geometry_in w) k.now ran.events ran.last ran.made ran.stored);
       }
 

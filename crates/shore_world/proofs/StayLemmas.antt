@@ -450,6 +450,7 @@ module _ {L V : Type 0} {G : Ghosts L} {H : Ghosts V} (g : Geometry) (o : Openin
     at = opens.opened.at;
     waited = λ w there. absurd (subst (IsAmong w) over.waiting there);
     there = λ session w there. absurd (subst (IsAmong w) over.waiting there);
+    firsts = λ w there. absurd (subst (IsAmong w) over.waiting there);
     under_way = subst (λ (x : Geometry). IsUnderWay x (stream_bytes_in w) o rs [] now) (sym up.geometry) (subst (λ n. IsUnderWay g n o rs [] now) (sym up.long) up.under_way);
   }
 

@@ -8,13 +8,15 @@ use Rattle.shore_disk.specs.declared.device.Disk.{Ghosts}
 use Rattle.shore_model.specs.declared.calls.Answer.TheVariants.{Forced, Staged}
 use Rattle.shore_model.specs.declared.histories.Entry.{Entry}
 use Rattle.shore_model.specs.declared.histories.Opening.{Opening}
+use Rattle.shore_model.specs.declared.log_records.LogRecord.{LogRecord}
 use Rattle.shore_model.specs.declared.step.Step.{Step}
 use Rattle.shore_model.specs.declared.step.Step.TheVariants.{Done, Nothing, Refused, Waits}
 use Rattle.laws_lives.specs.Views.{IsAmong}
+use Rattle.laws_calls.proofs.OwnCycles.{resume_told_first}
 use Rattle.laws_calls.proofs.SettledRefusals.{settled_resume_deadlock}
 use Rattle.laws_calls.proofs.ToldLater.{told_among}
 use Rattle.laws_calls.specs.Events as calls
-use Rattle.laws_calls.specs.Events.{Called, EventMoves, EventsMove, HasFailed, ManagerEvent, Resumed}
+use Rattle.laws_calls.specs.Events.{Called, EventMoves, EventsMove, HasFailed, IsStateAfter, ManagerEvent, Resumed}
 use Rattle.laws_calls.specs.Midway.{IsItsCycle}
 use Rattle.laws_calls.specs.States.{State, Waiting}
 use Rattle.laws_calls.specs.StoodCycles.{IsWithin, StoodAmong}
@@ -25,7 +27,7 @@ use Rattle.shore_world.specs.declared.world.World.{World}
 use Rattle.shore_world.specs.EventMoves.{moves_by}
 use Rattle.shore_world.specs.Events.{IsServedEvent}
 use Rattle.shore_world.specs.Exchanges.{exchanges_in, exchanges_of, told_by, waited_after, waited_behind}
-use Rattle.shore_world.specs.Promises.{HasStood, IsManagerOf}
+use Rattle.shore_world.specs.Promises.{HasStood, IsManagerOf, IsToldByItsFirst}
 use Rattle.shore_world.specs.Worlds.{Between, EventStep, ForceRefused, OpenRefused, Runs, Steps, geometry_in}
 use Rattle.shore_world.proofs.ExchangeLemmas.{Told, Waited, exchanges-append}
 use Rattle.shore_world.proofs.PromiseLemmas.{after, between_on, stepped}
@@ -33,7 +35,7 @@ use Rattle.shore_world.proofs.RunLemmas.{no_event, one_more}
 
 -- ---- one event
 
-module _ (g : Geometry) (s new : State) where
+module _ (g : Geometry) (o : Opening) (found : List LogRecord) (es : List Entry) (s new : State) (k : IsStateAfter o found es s) where
   -- the cycle stood in the midst of the event, as a move of the manager over plain data
   record StoodIn (moves : List ManagerEvent) (session : ℕ) (cycle : List ℕ) : Type 0 where
     move : ManagerEvent
@@ -47,7 +49,7 @@ module _ (g : Geometry) (s new : State) where
   ToldBefore moves = (x : Waiting) → IsAmong x new.waiting → (cycle : List ℕ) → x.cycle ≡ Some cycle → IsAmong x s.waiting ⊎ StoodIn moves x.session cycle
 
   by_move : (move : ManagerEvent) → EventMoves g s move new → ToldBefore (move ∷ [])
-  by_move move moves x there cycle is = ⊎_elim (λ before. inl before) (λ stood. inr (read stood)) (told_among g s (move ∷ []) new (new, moves, refl) x there cycle is)
+  by_move move moves x there cycle is = ⊎_elim (λ before. inl before) (λ stood. inr (read stood)) (told_among g o found es s k (move ∷ []) new (new, moves, refl) x there cycle is)
     where
       read : StoodAmong g s (move ∷ []) new x.session cycle → StoodIn (move ∷ []) x.session cycle
       read (later, made, same, (inl h)) =
@@ -202,7 +204,7 @@ module _ {L V : Type 0} {G : Ghosts L} {H : Ghosts V} where
                 within = here.within;
                 stood = here.stood;
               }))
-              (event_told (geometry_in start) on.manager.now.state went.on.manager.now.state e step served.0 went.moves x before cycle told))
+              (event_told (geometry_in start) o on.manager.found (es ++ on.made) on.manager.now.state went.on.manager.now.state on.manager.under_way.state e step served.0 went.moves x before cycle told))
               (λ stood. inr (stood_later w start mid failures between e step one es on.made went.on.made ws on.told went.told events steps last x.session cycle stood))
               (next.told x there cycle told);
         }
@@ -292,3 +294,17 @@ module _ {L V : Type 0} {G : Ghosts L} {H : Ghosts V} where
         })
         (settled_resume_deadlock (geometry_in last) o ran.manager.found ran.entries ran.manager.now.state (after last o ran.entries ws ran.manager) session ran.manager.under_way.asks cycle
         went.on.manager.now.state went.moves)
+
+    pub told_by_its_first : (w : World L V G H) (es : List Entry) (k : IsManagerOf w o es []) (events : List Event) (steps : List Step) (moves : List ManagerEvent) (last new : World L V G H)
+        (session : ℕ) (cycle : List ℕ) → AllByRecursion IsServedEvent events → Runs w events steps moves last → Steps last (event.Resume session) (Refused (Deadlock cycle)) new
+        → IsToldByItsFirst new o (waited_after [] events steps) session cycle
+    told_by_its_first w es k events steps moves last new session cycle served runs one =
+        let ran = run_tells w es [] k events steps moves last served runs in
+        let ws = waited_after [] events steps in
+        let went = stepped last o ran.entries ws ran.manager (event.Resume session) (Refused (Deadlock cycle)) new tt one in
+        record {
+          entries = ran.entries;
+          on = went.on;
+          first = resume_told_first (geometry_in last) o ran.manager.found ran.entries ran.manager.now.state (after last o ran.entries ws ran.manager) ran.manager.under_way.asks session cycle
+              went.on.manager.now.state ran.manager.firsts went.moves;
+        }

@@ -254,6 +254,7 @@ module _ {L V : Type 0} {G : Ghosts L} {H : Ghosts V} (w : World L V G H) (o : O
                 (subst (λ n. IsUnderWay (geometry_in w) n o k.found es k.now) (sym long) k.under_way);
             waited = k.waited;
             there = k.there;
+            firsts = k.firsts;
           },
           refl,
         ),

@@ -1,7 +1,7 @@
 -- What stands behind a world that is a manager: the one hidden state that the promises speak of.
 use Rattle.std.specs.Prelude.{◌≡◌, ◌≢◌, ◌⊎◌, ◌<◌, ◌≤◌, ◌∷◌, ◌++◌, ℕ, List, [], IsTrue, None, false, length, map}
 use Rattle.std.specs.List.{AllByRecursion}
-use Rattle.shore_types.specs.declared.faults.Fault.TheVariants.{Device, Failed, Memory}
+use Rattle.shore_types.specs.declared.faults.Fault.TheVariants.{Deadlock, Device, Failed, Memory}
 use Rattle.shore_disk.specs.declared.device.Disk.{Ghosts}
 use Rattle.shore_model.specs.declared.calls.Answer.TheVariants.{Flushed, Forced, Staged}
 use Rattle.shore_model.specs.declared.calls.Call.{Call}
@@ -22,12 +22,13 @@ use Rattle.shore_model.specs.Requests.{held_by_all}
 use Rattle.laws_runs.specs.SoundStores.{IsUnderWay}
 use Rattle.laws_runs.specs.StoredRuns.{StoredState}
 use Rattle.shore_world.specs.declared.event.Event.{Event}
+use Rattle.shore_world.specs.declared.event.Event.TheVariants as event
 use Rattle.shore_world.specs.declared.world.World.{World}
 use Rattle.shore_world.specs.EventMoves.{moves_by}
 use Rattle.shore_world.specs.Exchanges.{AreLast, exchanges_in, exchanges_of, waited_after, waited_behind}
 use Rattle.laws_calls.specs.Events.{ManagerEvent}
 use Rattle.laws_calls.specs.Midway.{IsItsCycle}
-use Rattle.laws_calls.specs.SessionWaits.{AllWaitThere}
+use Rattle.laws_calls.specs.SessionWaits.{AllBeginWithTheirs, AllWaitThere, HasTheFirst}
 use Rattle.laws_calls.specs.States.{State}
 use Rattle.laws_calls.specs.StoodCycles.{IsWithin}
 use Rattle.shore_world.specs.Lives.{DumpsShow}
@@ -46,6 +47,7 @@ pub record IsManagerOf {L V : Type 0} {G : Ghosts L} {H : Ghosts V} (w : World L
   pub under_way : IsUnderWay (geometry_in w) (stream_bytes_in w) o found es now
   pub waited : AreLast ws now.state
   pub there : AllWaitThere now.state
+  pub firsts : AllBeginWithTheirs now.state
 
 -- Those whom the opening has in doubt, and nobody else, are in doubt and under way in the state. Locks are held on the granules that their Prepares name, with
 -- the intentions above these, and no others.
@@ -84,7 +86,7 @@ pub record IsEventOf {L V : Type 0} {G : Ghosts L} {H : Ghosts V} (w : World L V
   pub events_are : events ≡ before ++ e ∷ after
   pub steps_are : steps ≡ before_steps ++ step ∷ after_steps
 
--- In the midst of an event of a run this cycle of waits stood, of which the session's transaction was the greatest: in a state by which the event comes, from the
+-- In the midst of an event of a run this cycle of waits stood, from the session's transaction on, which was the greatest of it: in a state by which the event comes, from the
 -- one of the manager that the events before it left, with the calls and answers of these.
 pub record HasStood {L V : Type 0} {G : Ghosts L} {H : Ghosts V} (w : World L V G H) (o : Opening) (es : List Entry) (ws : List (ℕ × Call)) (events : List Event) (steps : List Step)
     (last : World L V G H) (session : ℕ) (cycle : List ℕ) : Type 0 where
@@ -107,6 +109,12 @@ pub record HasStood {L V : Type 0} {G : Ghosts L} {H : Ghosts V} (w : World L V 
   pub mid : State
   pub within : IsWithin (geometry_in start) manager.now.state move on.manager.now.state mid
   pub stood : IsItsCycle mid session cycle
+
+-- The session of a refused resume is told this cycle, in the transaction with which the cycle begins: the one that was taken as its victim.
+pub record IsToldByItsFirst {L V : Type 0} {G : Ghosts L} {H : Ghosts V} (new : World L V G H) (o : Opening) (ws : List (ℕ × Call)) (session : ℕ) (cycle : List ℕ) : Type 0 where
+  pub entries : List Entry
+  pub on : GoesOnAs new o entries ws (event.Resume session) (Refused (Deadlock cycle))
+  pub first : HasTheFirst on.manager.now.state session cycle
 
 -- ---- steps
 

@@ -39,7 +39,8 @@ ghost use Rattle.shore_world.specs.declared.world.World.{World};
 ghost use Rattle.shore_world.specs.Events.{IsServedEvent};
 ghost use Rattle.shore_world.specs.Exchanges.{exchanges_in, exchanges_of, waited_after};
 ghost use Rattle.shore_world.specs.Lives.{DumpsShow};
-ghost use Rattle.shore_world.specs.Promises.{AreUnended, FlushesIfAny, GoesOnAs, HasFailedStep, HasStood, IsManagerOf, IsRefusedStep, IsStateOf, OpensIfAny, StagesIfAny};
+ghost use Rattle.shore_world.specs.Promises.{AreUnended, FlushesIfAny, GoesOnAs, HasFailedStep, HasStood, IsManagerOf, IsRefusedStep, IsStateOf, IsToldByItsFirst, OpensIfAny, StagesIfAny};
+ghost use Rattle.laws_calls.specs.SessionWaits.{HasTheFirst};
 ghost use Rattle.shore_world.specs.Worlds.{IsUnchanged, Runs, Steps, durable_in, failed_in, geometry_in, list_in, requests_in};
 
 use shore_disk::Disk;
@@ -100,23 +101,27 @@ pub fn refusals_are_earned<L: Disk, V: Disk>()
         × CallStep (geometry_in w) last session waited.call (Refused f) on.manager.now.state × EarnsRefusal (geometry_in w) last session waited.call f))) }
     ensures victim { (w new : World L V L.Disk V.Disk) (o : Opening) (es : List Entry) (ws : List (ℕ × Call)) (session : ℕ) (c : Call) (cycle : List ℕ) →
         (k : IsManagerOf w o es ws) → IsServed c → Steps w (event.Call session c) (Refused (fault.Deadlock cycle)) new →
-        (on : GoesOnAs new o es ws (event.Call session c) (Refused (fault.Deadlock cycle))) × ((between : List Interlude) × (mid : State)
+        (on : GoesOnAs new o es ws (event.Call session c) (Refused (fault.Deadlock cycle))) × HasTheFirst on.manager.now.state session cycle × ((between : List Interlude) × (mid : State)
         × IsMidway (geometry_in w) k.now.state session c between mid × IsItsCycle mid session cycle × ((later : List Interlude) × (from : State)
         × Intervene (geometry_in w) session mid later from × TellsVictim from session (Refused (fault.Deadlock cycle)) on.manager.now.state)) }
     ensures told { (w new : World L V L.Disk V.Disk) (o : Opening) (es : List Entry) (ws : List (ℕ × Call)) (session : ℕ) (cycle : List ℕ) →
         (k : IsManagerOf w o es ws) → Steps w (event.Resume session) (Refused (fault.Deadlock cycle)) new →
-        (on : GoesOnAs new o es ws (event.Resume session) (Refused (fault.Deadlock cycle)))
+        (on : GoesOnAs new o es ws (event.Resume session) (Refused (fault.Deadlock cycle))) × HasTheFirst on.manager.now.state session cycle
         × (((waited : Waiting) × IsAmong waited k.now.state.waiting × (waited.session ≡ session) × (waited.cycle ≡ Some cycle))
         ⊎ ((between : List Interlude) × (mid : State) × Intervene (geometry_in w) session k.now.state between mid × IsItsCycle mid session cycle × ((later : List Interlude)
         × (from : State) × Intervene (geometry_in w) session mid later from × TellsVictim from session (Refused (fault.Deadlock cycle)) on.manager.now.state))) }
 {}
 
 /// A cycle that is told stood: of a run from a manager in which no call waits, as one is that was just opened, each resume that is refused with a cycle is told one
-/// that stood in the midst of an event of the run, perhaps of this very resume, and passed the session's transaction, the greatest of it.
+/// that stood in the midst of an event of the run, perhaps of this very resume, from the session's transaction on, the greatest of it. It is told in that very
+/// transaction: the one with which the cycle begins.
 pub fn cycles_that_are_told_stood<L: Disk, V: Disk>()
-    ensures { (w last new : World L V L.Disk V.Disk) (o : Opening) (es : List Entry) (events : List Event) (steps : List Step) (moves : List ManagerEvent) (session : ℕ) (cycle : List ℕ) →
+    ensures stood { (w last new : World L V L.Disk V.Disk) (o : Opening) (es : List Entry) (events : List Event) (steps : List Step) (moves : List ManagerEvent) (session : ℕ) (cycle : List ℕ) →
         IsManagerOf w o es [] → All IsServedEvent events → Runs w events steps moves last → Steps last (event.Resume session) (Refused (fault.Deadlock cycle)) new →
         HasStood w o es [] (events ++ event.Resume session ∷ []) (steps ++ Refused (fault.Deadlock cycle) ∷ []) new session cycle }
+    ensures first { (w last new : World L V L.Disk V.Disk) (o : Opening) (es : List Entry) (events : List Event) (steps : List Step) (moves : List ManagerEvent) (session : ℕ) (cycle : List ℕ) →
+        IsManagerOf w o es [] → All IsServedEvent events → Runs w events steps moves last → Steps last (event.Resume session) (Refused (fault.Deadlock cycle)) new →
+        IsToldByItsFirst new o (waited_after [] events steps) session cycle }
 {}
 
 /// A refused call, but for a rollback, and a refused resume leave all as it was, but for locks, the calls that wait, and the transactions that were taken as

@@ -1,5 +1,6 @@
 use Rattle.shore_types.specs.declared.faults.Fault.TheVariants.{Deadlock}
 use Rattle.shore_model.specs.declared.step.Step.TheVariants.{Refused}
+use Rattle.laws_calls.proofs.OwnCycles.{call_told_first, resume_told_first}
 use Rattle.laws_calls.proofs.SettledRefusals.{settled_call_deadlock, settled_call_earned, settled_resume_deadlock, settled_resume_earned}
 use Rattle.shore_world.specs.declared.event.Event.TheVariants as event
 use Rattle.shore_world.specs.Worlds.{geometry_in}
@@ -22,10 +23,10 @@ pub returns-clause-victim : goal.returns-clause-victim
 returns-clause-victim c d w new o es ws session call cycle k served one =
     let went = stepped w o es ws k (event.Call session call) (Refused (Deadlock cycle)) new served one in
     let told = settled_call_deadlock (geometry_in w) o k.found es k.now.state (after w o es ws k) session call cycle went.on.manager.now.state went.moves in
-    (went.on, told)
+    (went.on, call_told_first (geometry_in w) o k.found es k.now.state (after w o es ws k) session call cycle went.on.manager.now.state k.firsts went.moves, told)
 
 pub returns-clause-told : goal.returns-clause-told
 returns-clause-told c d w new o es ws session cycle k one =
     let went = stepped w o es ws k (event.Resume session) (Refused (Deadlock cycle)) new tt one in
     let told = settled_resume_deadlock (geometry_in w) o k.found es k.now.state (after w o es ws k) session k.under_way.asks cycle went.on.manager.now.state went.moves in
-    (went.on, told)
+    (went.on, resume_told_first (geometry_in w) o k.found es k.now.state (after w o es ws k) k.under_way.asks session cycle went.on.manager.now.state k.firsts went.moves, told)
