@@ -1,5 +1,5 @@
 -- What the refusals of sessions leave: the locks that were taken, and nothing else.
-use Rattle.std.proofs.Common.{◌≡◌, ◌≢◌, ◌⊎◌, inl, inr, ⊎_elim, ◌≤◌, ◌<◌, ℕ, List, None, Some, refl, sym, ap, subst, ◌∙◌, arith, Err}
+use Rattle.std.proofs.Common.{◌≡◌, ◌⊎◌, inl, inr, ⊎_elim, ◌≤◌, ◌<◌, ℕ, List, None, Some, refl, sym, ap, subst, ◌∙◌, arith, Err}
 use Rattle.std.specs.Prelude.{Option, IsTrue}
 use Rattle.shore_types.specs.declared.faults.Device.{Device}
 use Rattle.shore_types.specs.declared.faults.Fault.{Fault}
@@ -28,13 +28,15 @@ use Rattle.laws_calls.proofs.AcquireAnswers.{IsLockFault, acquire_fault}
 use Rattle.laws_calls.proofs.LocksKept.{SameLocks, after_same, its_number, lock_leaves, may_ask_behind, may_ask_in, place_leaves, same_locks}
 use Rattle.laws_calls.proofs.RefusalCauses.{behind_lock_of, comes_behind, insert_log_full}
 use Rattle.laws_calls.proofs.SessionCalls.{names_no_slot}
-use Rattle.laws_calls.proofs.SessionInversions.{IsOwn, asks_no_begin, interrupted_in, refused_in, same_lock}
-use Rattle.laws_calls.proofs.WrongRefusals.{IsEarly, begin_fault, begin_refused}
+use Rattle.laws_calls.proofs.SessionInversions.{IsOwn, interrupted_in, refused_in, same_lock}
+use Rattle.laws_calls.proofs.WrongRefusals.{IsEarly, begin_fault, begin_refused, IsOfPrepare}
 use Rattle.laws_calls.specs.StateChanges.{CanLog, after_refusal, with_failure}
-use Rattle.laws_calls.specs.CallSteps.{CallGoesOn, InnerStep, LacksMemory, RefusesBehind, RefusesEarly, CallStep, behind_lock, behind_place, lock_outcome, on_conflict_of, place_outcome, with_requests}
+use Rattle.laws_calls.specs.CallSteps.{CallGoesOn, InnerStep, LacksMemory, RefusesBehind, RefusesEarly, CallStep, behind_lock, behind_place, lock_outcome, on_conflict_of, place_outcome, with_requests, NeedsTxn}
 use Rattle.laws_calls.specs.LockedStates.{IsSessionsState}
 use Rattle.laws_calls.specs.Shapes.{rollback_of, store_lock, store_locked, with_locks_of}
 use Rattle.laws_calls.specs.States.{IsOfSession, State}
+use Rattle.laws_calls.proofs.Outside.{outside_refused, resolve_stopped, listing_no_page, asks_needs, IsOfPage}
+use Rattle.shore_model.specs.declared.calls.Outcome.{Outcome}
 
 -- ---- only locks change
 
@@ -94,7 +96,8 @@ module _ (g : Geometry) (s new : State) where
     inner_leaves a plain (inr (inl (whole, inl h))) = itself s new s h.3 refl
     inner_leaves a plain (inr (inl (whole, inr (inl h)))) = goes_leaves a c f h.1
     inner_leaves a plain (inr (inl (whole, inr (inr (inl h))))) = absurd h.1
-    inner_leaves a plain (inr (inl (whole, inr (inr (inr h))))) = itself s new s h.1.2 refl
+    inner_leaves a plain (inr (inl (whole, inr (inr (inr (inl h)))))) = itself s new s h.1.2 refl
+    inner_leaves a plain (inr (inl (whole, inr (inr (inr (inr h)))))) = itself s new s h.2.1 refl
     inner_leaves a plain (inr (inr (inl h))) = let clash : None ≡ Some (To h.0) = sym plain ∙ ap rollback_of h.1 in absurd cc
     inner_leaves a plain (inr (inr (inr h))) = let clash : None ≡ Some Whole = sym plain ∙ ap rollback_of h.0 in absurd cc
 
@@ -105,7 +108,10 @@ module _ (g : Geometry) (s new : State) where
     refusal_leaves plain (inr (inr (inr (inl h)))) = itself s new s h.3.1 refl
     refusal_leaves plain (inr (inr (inr (inr (inl h))))) = itself s new s h.5 refl
     refusal_leaves plain (inr (inr (inr (inr (inr (inr (inl h))))))) = itself s new s h.5 refl
-    refusal_leaves plain (inr (inr (inr (inr (inr (inr (inr h))))))) = absurd h.2.1
+    refusal_leaves plain (inr (inr (inr (inr (inr (inr (inr h))))))) = ⊎_elim
+        (λ early. itself s new s early.same refl)
+        (λ stopped. let clash : None ≡ Some Whole = sym plain ∙ ap rollback_of stopped.is in absurd cc)
+        (outside_refused s session c f new h.2)
     refusal_leaves plain (inr (inr (inr (inr (inr (inl h)))))) =
         inner_leaves h.2.0 plain h.2.2
 
@@ -135,29 +141,37 @@ module _ (g : Geometry) (s new : State) (session : ℕ) where
   behind_fails l a (call.Scan store) f fails h = fails_after l f h.1 fails
   behind_fails l a _ f fails h = absurd h
 
-  faults_fail : (c : Call) (f : Fault) → IsOwn f → (IsLockFault f → ⊥) → (IsEarly f → ⊥) → c ≢ call.Begin → Fails f → CallStep g s session c (Refused f) new → IsTrue new.failed
+  faults_fail : (c : Call) (f : Fault) → IsOwn f → (IsLockFault f → ⊥) → (IsEarly f → ⊥) → NeedsTxn c → Fails f → CallStep g s session c (Refused f) new → IsTrue new.failed
   faults_fail c f own table early other fails h = by (rollback_of c) refl
     where
       no_rollback : (o : Option Rollback) (r : Rollback) → o ≡ None → o ≡ Some r → ⊥
       no_rollback o r d e = cc
 
       by : (o : Option Rollback) → rollback_of c ≡ o → IsTrue new.failed
-      by (Some r) is = let t = interrupted_in g s new session c r f is own h in fails_after t.how.0 f t.how.3 fails
-      by None plain = let t = comes_behind g s new session c f own table early other (λ r is. absurd (no_rollback (rollback_of c) r plain is)) h in behind_fails (behind_lock s t.txn c t.lock) t.txn c f fails t.refuses
+      by (Some r) is = let t = interrupted_in g s new session c r f other is own h in fails_after t.how.0 f t.how.3 fails
+      by None plain = let t = comes_behind g s new session c f own table early other (λ global e x. ⊎_elim (λ d. subst IsOfPrepare d x) (λ d. subst IsOfPrepare d.2 x) fails) (λ r is. absurd (no_rollback (rollback_of c) r plain is)) h in behind_fails (behind_lock s t.txn c t.lock) t.txn c f fails t.refuses
 
   no_begin_fails : (f : Fault) → IsOwn f → Fails f → CallStep g s session call.Begin (Refused f) new → ⊥
   no_begin_fails f own fails h =
       begin_fault g s new session (λ f. Fails f → ⊥) (⊎_elim (λ e. cc) (λ x. let clash = x.2 in cc)) (⊎_elim (λ e. cc) (λ x. let clash = x.2 in cc))
       (⊎_elim (λ e. cc) (λ x. let clash = x.2 in cc)) f (begin_refused g s new session f own h) fails
 
+  -- a resolve whose rollback it interrupts
+  resolve_fails : (global : List ℕ) (asked : Outcome) (f : Fault) → IsOfPage f → Fails f → CallStep g s session (call.Resolve global asked) (Refused f) new → IsTrue new.failed
+  resolve_fails global asked f page fails h = let t = resolve_stopped g s new session global asked f page h in fails_after t.how.0 f t.how.3 fails
+
   pub device_fails : (c : Call) → CallStep g s session c (Refused fault.Device) new → IsTrue new.failed
   device_fails call.Begin h = absurd (no_begin_fails fault.Device tt (inl refl) h)
-  device_fails c h = faults_fail c fault.Device tt (⊎_elim (λ e. cc) (⊎_elim (λ e. cc) (λ x. let clash = x.1 in cc))) (λ x. x) (λ e. cc) (inl refl) h
+  device_fails call.InDoubt h = absurd (listing_no_page g s new session fault.Device tt h)
+  device_fails (call.Resolve global asked) h = resolve_fails global asked fault.Device tt (inl refl) h
+  device_fails c h = faults_fail c fault.Device tt (⊎_elim (λ e. cc) (⊎_elim (λ e. cc) (λ x. let clash = x.1 in cc))) (λ x. x) tt (inl refl) h
 
   pub damage_fails : (c : Call) (device : Device) (offset : ℕ) → CallStep g s session c (Refused (fault.Damaged device offset)) new → IsTrue new.failed
   damage_fails call.Begin device offset h = absurd (no_begin_fails (fault.Damaged device offset) tt (inr (device, offset, refl)) h)
+  damage_fails call.InDoubt device offset h = absurd (listing_no_page g s new session (fault.Damaged device offset) tt h)
+  damage_fails (call.Resolve global asked) device offset h = resolve_fails global asked (fault.Damaged device offset) tt (inr (device, offset, refl)) h
   damage_fails c device offset h =
-      faults_fail c (fault.Damaged device offset) tt (⊎_elim (λ e. cc) (⊎_elim (λ e. cc) (λ x. let clash = x.1 in cc))) (λ x. x) (λ e. cc) (inr (device, offset, refl)) h
+      faults_fail c (fault.Damaged device offset) tt (⊎_elim (λ e. cc) (⊎_elim (λ e. cc) (λ x. let clash = x.1 in cc))) (λ x. x) tt (inr (device, offset, refl)) h
 
 -- ---- in words of locks
 
@@ -174,7 +188,7 @@ module _ (g : Geometry) (o : Opening) (found : List LogRecord) (es : List Entry)
   log_full_locked store bytes a of h =
       let t = insert_log_full g s new session store bytes h in
       let c : Call = call.Insert store bytes in
-      let start = refused_in g s new session c fault.LogFull tt (λ e. cc) (λ r is. absurd (no_lock_rollback c (store_lock store) refl r is)) h in
+      let start = refused_in g s new session c fault.LogFull tt tt (λ r is. absurd (no_lock_rollback c (store_lock store) refl r is)) h in
       let ready = may_ask_in g o found es s new k session t.txn t.of start.running start.idle in
       let l = store_locked s t.txn store bytes in
       let left = place_leaves l t.txn (may_ask_behind s t.txn ready c (store_lock store) t.done) t.id in
@@ -217,8 +231,8 @@ module _ (g : Geometry) (o : Opening) (found : List LogRecord) (es : List Entry)
   pub absence_locked : (c : Call) (id : Rid) (lock : Asked) (a : SessionTxn) → record_named_by c ≡ Some id → id.slot < MAX_SLOTS → lock_asked_by c ≡ Some lock → IsOfSession s session a
       → CallStep g s session c (Refused fault.NoRecord) new → HasLock new.sessions.held a.txn lock.granule lock.mode
   absence_locked c id lock a named within asks of h =
-      let other = asks_no_begin c lock asks in
-      let t = behind_lock_of g s new session c fault.NoRecord tt (λ b l is. no_table_absence b c l is) (no_slot c id named within) other (λ r is. absurd (no_lock_rollback c lock asks r is)) h in
+      let other = asks_needs c lock asks in
+      let t = behind_lock_of g s new session c fault.NoRecord tt (λ b l is. no_table_absence b c l is) (no_slot c id named within) other (λ global e x. x) (λ r is. absurd (no_lock_rollback c lock asks r is)) h in
       let start = refused_in g s new session c fault.NoRecord tt other (λ r is. absurd (no_lock_rollback c lock asks r is)) h in
       let ready = may_ask_in g o found es s new k session t.txn t.of start.running start.idle in
       let out = lock_outcome s t.txn c t.lock in

@@ -22,6 +22,7 @@ use Rattle.laws_calls.specs.CallSteps.{aborted, with_requests}
 use Rattle.laws_calls.specs.Rollbacks.{put_back, rolled}
 use Rattle.laws_calls.specs.StateChanges.{answered}
 use Rattle.laws_calls.specs.States.{State}
+use Rattle.laws_calls.specs.Resolves.{rollback_done}
 
 compensations-append : (t : ℕ) (log : List LogRecord) (xs ys : List (Rid × Image)) → and_compensations t log (xs ++ ys) ≡ and_compensations t (and_compensations t log ys) xs
 compensations-append t log [] ys = refl
@@ -75,6 +76,20 @@ module _ (s : State) (a : SessionTxn) (kept undone : List (Rid × Image)) (is : 
         ap (λ (x : Records). ended_by x (without_txn t (with_undo t undo s.sessions.active)) (and_rollback t (and_compensations t s.log undone) kept)) records
         ∙ ap (λ (x : List SessionTxn). ended_by (rolled_back R a.undo.images) x (and_rollback t (and_compensations t s.log undone) kept)) (list_gone t undo s.sessions.active)
         ∙ ap (λ (x : List LogRecord). ended_by (rolled_back R a.undo.images) (without_txn t s.sessions.active) x) (same_log some)
+
+  -- ---- a rollback that a resolve has decided
+
+  abbrev done_by : Records → List SessionTxn → List LogRecord → State
+  done_by records xs log = with_requests (record s { sessions = record s.sessions { records = records; active = xs }; log = and_record t log End }) (released a.txn s.locks.requests)
+
+  pub resolve_alike : rollback_done (put_back s a kept undone Whole) (rolled a kept Whole) ≡ rollback_done s a
+  resolve_alike =
+      let undo = undo_rolled a.undo kept Whole in
+      let records : rolled_back (rolled_back R undone) kept ≡ rolled_back R a.undo.images = sym (laid_over-append R kept undone) ∙ ap (rolled_back R) (sym is) in
+      let log : and_compensations t (and_compensations t s.log undone) kept ≡ and_compensations t s.log a.undo.images = sym (compensations-append t s.log kept undone) ∙ ap (and_compensations t s.log) (sym is) in
+      ap (λ (x : Records). done_by x (without_txn t (with_undo t undo s.sessions.active)) (and_compensations t (and_compensations t s.log undone) kept)) records
+      ∙ ap (λ (x : List SessionTxn). done_by (rolled_back R a.undo.images) x (and_compensations t (and_compensations t s.log undone) kept)) (list_gone t undo s.sessions.active)
+      ∙ ap (λ (x : List LogRecord). done_by (rolled_back R a.undo.images) (without_txn t s.sessions.active) x) log
 
   -- ---- a way back
 

@@ -1,8 +1,8 @@
 -- Answers of sessions that leave out what they say, or stand on what is not in the volume; and how commits end.
-use Rattle.std.proofs.Common.{◌≡◌, ◌≢◌, inl, ⊎_elim, ◌+◌, ◌≤◌, ℕ, List, [], ◌∷◌, ◌++◌, false, Some, None, refl, sym, ap, subst, ◌∙◌, length, max, arith, cond}
+use Rattle.std.proofs.Common.{◌≡◌, ◌≢◌, inl, ◌+◌, ◌≤◌, ℕ, List, [], ◌∷◌, ◌++◌, false, Some, None, refl, sym, ap, subst, ◌∙◌, length, max, arith, cond, inr}
 use Rattle.std.specs.FinMap.{get}
 use Rattle.shore_types.specs.Images.{Image}
-use Rattle.shore_types.specs.Layout.{HasSlot, HasStore}
+use Rattle.shore_types.specs.Layout.{HasGranule, HasSlot, HasStore}
 use Rattle.shore_types.specs.Locking.{level_of}
 use Rattle.shore_types.specs.declared.ids.Rid.{Rid}
 use Rattle.shore_types.specs.declared.layout.Geometry.{Geometry}
@@ -29,17 +29,19 @@ use Rattle.laws_lives.specs.Views.{IsAmong}
 use Rattle.shore_model.specs.declared.step.Step.TheVariants.{Done, Waits}
 use Rattle.shore_model.specs.declared.step.Wait.{Wait}
 use Rattle.laws_calls.proofs.Decided.{both_ways}
-use Rattle.laws_calls.proofs.SessionInversions.{AnsweredIn, IsLockless, WaitsIn, answered_in, begun_in, waits_in}
+use Rattle.laws_calls.proofs.SessionInversions.{AnsweredIn, IsLockless, answered_in, begun_in, waits_of, no_waits_refused}
 use Rattle.laws_calls.proofs.Sessions.{one_txn}
 use Rattle.laws_calls.proofs.WrongAnswers.{Took, took}
 use Rattle.laws_calls.proofs.WrongResumes.{ends}
 use Rattle.laws_calls.specs.StateChanges.{answered, committed}
-use Rattle.laws_calls.specs.CallSteps.{HasGranule, CallStep, ResumeStep, behind_lock, NeedsTxn}
+use Rattle.laws_calls.specs.CallSteps.{CallStep, ResumeStep, behind_lock, NeedsTxn, InnerStep}
 use Rattle.laws_calls.specs.LockedStates.{IsSessionsState}
 use Rattle.laws_calls.specs.States.{HasNoTxn, IsOfSession, State}
 use Rattle.std.specs.Prelude.{◌==◌}
 use Rattle.std.proofs.lemmas.Bool.{eq-eqb}
 use Rattle.shore_model.specs.Histories.{free}
+use Rattle.shore_types.specs.declared.faults.Fault.TheVariants as fault
+use Rattle.laws_calls.specs.Events.{IsStateAfter}
 
 module _ (g : Geometry) (s new : State) (session : ℕ) where
   abbrev Answered : Call → Answer → Type 0
@@ -172,18 +174,25 @@ module _ (g : Geometry) (s new : State) (session : ℕ) where
 module _ (g : Geometry) (o : Opening) (found : List LogRecord) (es : List Entry) (s new : State) (k : IsSessionsState o found es s) (session : ℕ) where
   -- whose commit waits is under way no more
   pub waits_under_way : (wait : Wait) → CallStep g s session call.Commit (Waits wait) new → (a : SessionTxn) → IsOfSession new session a → ⊥
-  waits_under_way wait h a mem = by (waits_in g s new session call.Commit wait h)
+  waits_under_way wait h a mem = let t = waits_of g s new session call.Commit wait tt h in gone t.0 t.1 (subst (λ (n : State). IsOfSession n session a) (by t.0 t.2) mem)
     where
       gone : (b : SessionTxn) → IsOfSession s session b → IsOfSession (committed s b) session a → ⊥
       gone b of now =
           let was = among_without b.txn a s.sessions.active now.0.0 in
           was.1 (one_txn s.sessions a b now.0.1 of.0.1 (now.1 ∙ sym of.1))
 
-      by : WaitsIn g s new session call.Commit wait → ⊥
-      by t = ⊎_elim (λ asks. absurd asks.0) (λ commits. gone t.txn t.of (subst (λ (n : State). IsOfSession n session a) commits.1.1 mem)) t.how
+      by : (b : SessionTxn) → InnerStep g s b call.Commit (Waits wait) new → new ≡ committed s b
+      by b (inl x) = absurd (no_waits_refused wait fault.MustAbort x.2)
+      by b (inr (inl (whole, inl x))) = absurd x.1
+      by b (inr (inl (whole, inr (inl x)))) = absurd x.0
+      by b (inr (inl (whole, inr (inr (inl x))))) = x.1.1
+      by b (inr (inl (whole, inr (inr (inr (inl x)))))) = absurd x.1
+      by b (inr (inl (whole, inr (inr (inr (inr x)))))) = let clash = x.1 in absurd cc
+      by b (inr (inr (inl x))) = absurd x.3
+      by b (inr (inr (inr x))) = absurd x.1
 
-  -- once it is answered its session is in no transaction
-  pub answered_in_none : (a : SessionTxn) → IsAmong a s.sessions.committing → a.session ≡ session → (answer : Answer) → ResumeStep g s session (Done answer) new → HasNoTxn new session
-  answered_in_none a mem of answer h =
-      ap (λ (n : State). n.sessions.seats session) (ends g o found es s new k session a mem of answer h)
-      ∙ ap (λ b. cond b free (s.sessions.seats session)) (eq-eqb a.session session of)
+-- once it is answered its session is in no transaction
+pub answered_in_none : (g : Geometry) (o : Opening) (found : List LogRecord) (es : List Entry) (s new : State) → IsStateAfter o found es s → (session : ℕ) → (a : SessionTxn) → IsAmong a s.sessions.committing → a.session ≡ session → (answer : Answer) → ResumeStep g s session (Done answer) new → HasNoTxn new session
+answered_in_none g o found es s new k session a mem of answer h =
+    ap (λ (n : State). n.sessions.seats session) (ends g o found es s new k session a mem of answer h)
+    ∙ ap (λ b. cond b free (s.sessions.seats session)) (eq-eqb a.session session of)

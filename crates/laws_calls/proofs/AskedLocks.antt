@@ -40,11 +40,14 @@ use Rattle.laws_calls.proofs.TakenLocks.{leaves, locked_state}
 use Rattle.laws_calls.specs.CallHistories.{txn_of}
 use Rattle.laws_calls.specs.StateChanges.{after_refusal, wait_refused}
 use Rattle.laws_calls.specs.LockChanges.{TakesAsAsked, TakesLock}
-use Rattle.laws_calls.specs.CallSteps.{AbortStep, AnswersBehind, BeginStep, CommitStep, CallGoesOn, HasLocked, InnerStep, RefusesBehind, ResumesCall, ResumesWait, CallStep, behind_lock, behind_place, lock_outcome, on_conflict_of}
+use Rattle.laws_calls.specs.CallSteps.{AbortStep, AnswersBehind, BeginStep, CommitStep, CallGoesOn, HasLocked, InnerStep, RefusesBehind, ResumesCall, ResumesWait, CallStep, behind_lock, behind_place, lock_outcome, on_conflict_of, OutsideStep}
 use Rattle.laws_calls.specs.LockedStates.{IsSessionsState}
 use Rattle.laws_calls.specs.Events.{IsStateAfter}
 use Rattle.laws_calls.specs.States.{HasSeat, IsOfSession, State, Waiting}
-use Rattle.laws_calls.proofs.Outside.{outside_same}
+use Rattle.laws_calls.proofs.PrepareSteps.{prepare_locks}
+use Rattle.laws_calls.specs.Shapes.{ResolvesTxn, IsNoRefusal}
+use Rattle.laws_calls.proofs.ResolveLeaves.{resolve_locks}
+use Rattle.laws_calls.proofs.Outside.{outside_or}
 
 -- ---- which requests a call of a transaction leaves
 
@@ -195,7 +198,8 @@ ChangesAsAsked s session c new =
 abbrev pub ChangesByCall : State → ℕ → Call → Step → State → Type 0
 ChangesByCall s session c step new =
     ChangesAsAsked s session c new
-    ⊎ ((c ≡ call.Abort) × (step ≡ Done Aborted) × ((a : SessionTxn) × IsOfSession s session a × (new.locks.requests ≡ released a.txn s.locks.requests)))
+    ⊎ (((c ≡ call.Abort) × (step ≡ Done Aborted) × ((a : SessionTxn) × IsOfSession s session a × (new.locks.requests ≡ released a.txn s.locks.requests)))
+    ⊎ ((a : SessionTxn) × ResolvesTxn s c a × IsNoRefusal step × (new.locks.requests ≡ released a.txn s.locks.requests)))
 
 no_change : (s : State) (session : ℕ) (c : Call) (new : State) → new.locks ≡ s.locks → ChangesAsAsked s session c new
 no_change s session c new same = inl (ap (λ (x : Table). x.requests) same)
@@ -208,15 +212,25 @@ module _ (g : Geometry) (o : Opening) (found : List LogRecord) (es : List Entry)
   inner_changes session a mem quiet c step new (inr (inl (whole, inr (inl h)))) =
       inl (⊎_elim (λ same. inl same) (λ taken. inr (a, mem, taken)) (on_changes g o found es session a mem.1 s k.sessions mem.0 quiet c step new h.1))
   inner_changes session a mem quiet c step new (inr (inl (whole, inr (inr (inl h))))) = inl (no_change s session c new (commit_keeps_locks s a step new h.1))
-  inner_changes session a mem quiet c step new (inr (inl (whole, inr (inr (inr h))))) = inl (no_change s session c new (savepoint_table s a step new h.1).locks)
+  inner_changes session a mem quiet c step new (inr (inl (whole, inr (inr (inr (inl h)))))) = inl (no_change s session c new (savepoint_table s a step new h.1).locks)
+  inner_changes session a mem quiet c step new (inr (inl (whole, inr (inr (inr (inr h)))))) = inl (no_change s session c new (prepare_locks s a h.0 step new h.2))
   inner_changes session a mem quiet c step new (inr (inr (inl h))) = inl (no_change s session c new (back_table s a h.0 step new h.3).locks)
   inner_changes session a mem quiet c step new (inr (inr (inr h))) = abort_changes step h.1
     where
       abort_changes : (step : Step) → AbortStep s a step new → ChangesByCall s session c step new
-      abort_changes (Done answer) x = inr (h.0, ap Done x.0, (a, mem, ap (λ (y : State). y.locks.requests) x.1))
+      abort_changes (Done answer) x = inr (inl (h.0, ap Done x.0, (a, mem, ap (λ (y : State). y.locks.requests) x.1)))
       abort_changes (Refused f) x = inl (no_change s session c new (interrupted_table s a Whole f new x).locks)
       abort_changes (Waits wait) x = absurd x
       abort_changes Nothing x = absurd x
+
+  outside_changes : (session : ℕ) (c : Call) (step : Step) (new : State) → OutsideStep s session c step new → ChangesByCall s session c step new
+  outside_changes session c step new h = ⊎_elim
+      (λ same. inl (no_change s session c new (ap (λ (x : State). x.locks) same)))
+      (λ r. ⊎_elim
+      (λ same. inl (no_change s session c new same))
+      (λ gone. inr (inr (gone.txn, (r.global, r.asked, r.is, gone.its), gone.ends, gone.requests)))
+      (resolve_locks s session r.global r.asked step new r.to))
+      (outside_or s session c step new h)
 
   pub call_changes : (session : ℕ) (c : Call) (step : Step) (new : State) → CallStep g s session c step new → ChangesByCall s session c step new
   call_changes session c step new (inl h) = inl (no_change s session c new (ap (λ (x : State). x.locks) h.1))
@@ -225,7 +239,7 @@ module _ (g : Geometry) (o : Opening) (found : List LogRecord) (es : List Entry)
   call_changes session c step new (inr (inr (inr (inl h)))) = inl (no_change s session c new (begin_keeps_locks s session step new h.3))
   call_changes session c step new (inr (inr (inr (inr (inl h))))) = inl (no_change s session c new (ap (λ (x : State). x.locks) h.5))
   call_changes session c step new (inr (inr (inr (inr (inr (inr (inl h))))))) = inl (no_change s session c new (ap (λ (x : State). x.locks) h.5))
-  call_changes session c step new (inr (inr (inr (inr (inr (inr (inr h))))))) = inl (no_change s session c new (ap (λ (x : State). x.locks) (outside_same s c step new h.2)))
+  call_changes session c step new (inr (inr (inr (inr (inr (inr (inr h))))))) = outside_changes session c step new h.2
   call_changes session c step new (inr (inr (inr (inr (inr (inl h)))))) =
       let mem = h.2.1 in
       inner_changes session h.2.0 mem (k.sessions.locks.waits h.0 h.2.0 mem.0.0 (λ w m spared same. h.1 w m (same ∙ mem.1))) c step new h.2.2
@@ -233,7 +247,7 @@ module _ (g : Geometry) (o : Opening) (found : List LogRecord) (es : List Entry)
   -- a Commit that goes last takes and gives no lock
   pub commit_keeps : (session : ℕ) (step : Step) (new : State) → CallStep g s session call.Commit step new → new.locks.requests ≡ s.locks.requests
   commit_keeps session step new h =
-      ⊎_elim (⊎_elim (λ same. same) (λ taken. let clash = taken.2.1 in absurd cc)) (λ abort. let clash = abort.0 in absurd cc) (call_changes session call.Commit step new h)
+      ⊎_elim (⊎_elim (λ same. same) (λ taken. let clash = taken.2.1 in absurd cc)) (⊎_elim (λ abort. let clash = abort.0 in absurd cc) (λ resolve. let clash = resolve.1.2 in absurd cc)) (call_changes session call.Commit step new h)
 
   -- once an abort is answered, its transaction has no lock
   pub abort_gone : (session : ℕ) (answer : Answer) (new : State) → CallStep g s session call.Abort (Done answer) new
@@ -256,7 +270,8 @@ module _ (g : Geometry) (o : Opening) (found : List LogRecord) (es : List Entry)
   wait_changes : (w : Waiting) (wait : Wait) (step : Step) (new : State) → ResumesWait g s w wait step new → ChangesOn w step new
   wait_changes w (Durable n) step new (inl h) = inl (no_change s w.session w.call new (ap (λ (x : State). x.locks) h.2))
   wait_changes w (Durable n) step new (inr (inl h)) = inr (h.1, (h.2.0, h.2.1, h.2.2, ap (λ (x : State). x.locks.requests) h.2.3))
-  wait_changes w (Durable n) step new (inr (inr h)) = inl (no_change s w.session w.call new (ap (λ (x : State). x.locks) h.2.4))
+  wait_changes w (Durable n) step new (inr (inr (inl h))) = inl (no_change s w.session w.call new (ap (λ (x : State). x.locks) h.2.4))
+  wait_changes w (Durable n) step new (inr (inr (inr h))) = inl (no_change s w.session w.call new (ap (λ (x : State). x.locks) h.2.3))
   wait_changes w (Lock at) step new h = ⊎_elim
       (λ still. inl (no_change s w.session w.call new (ap (λ (x : State). x.locks) still.2)))
       (λ free.
@@ -278,7 +293,8 @@ module _ (g : Geometry) (o : Opening) (found : List LogRecord) (es : List Entry)
       subst (λ t. (new.locks.requests ≡ released t s.locks.requests) × All (λ h. h.txn ≢ t) new.sessions.held) its
       (subst (λ (x : State). (x.locks.requests ≡ released a.txn s.locks.requests) × All (λ h. h.txn ≢ a.txn) x.sessions.held) (sym h.2.3)
       (refl, gone_of s.locks.requests a.txn k.sessions.locks.orderly))
-  told_in w (Durable m) n new is (inr (inr h)) = let clash = h.1 in absurd cc
+  told_in w (Durable m) n new is (inr (inr (inl h))) = let clash = h.1 in absurd cc
+  told_in w (Durable m) n new is (inr (inr (inr h))) = let clash = h.1 in absurd cc
   told_in w (Lock at) n new is h = absurd cc
 
   pub told_gone : (w : Waiting) (n : ℕ) (new : State) → w.wait ≡ Durable n → ResumesCall g s w (Done Committed) new
@@ -290,7 +306,8 @@ prepare_told_in : (g : Geometry) (s : State) (w : Waiting) (wait : Wait) (n : �
     → (new.locks.requests ≡ s.locks.requests) × (new.sessions.held ≡ s.sessions.held)
 prepare_told_in g s w (Durable m) n new is (inl h) = let clash = h.1 in absurd cc
 prepare_told_in g s w (Durable m) n new is (inr (inl h)) = let clash = h.1 in absurd cc
-prepare_told_in g s w (Durable m) n new is (inr (inr h)) = (ap (λ (x : State). x.locks.requests) h.2.4, ap (λ (x : State). x.sessions.held) h.2.4)
+prepare_told_in g s w (Durable m) n new is (inr (inr (inl h))) = (ap (λ (x : State). x.locks.requests) h.2.4, ap (λ (x : State). x.sessions.held) h.2.4)
+prepare_told_in g s w (Durable m) n new is (inr (inr (inr h))) = (ap (λ (x : State). x.locks.requests) h.2.3, ap (λ (x : State). x.sessions.held) h.2.3)
 prepare_told_in g s w (Lock at) n new is h = absurd cc
 
 pub prepare_leaves_locks : (g : Geometry) (s : State) (w : Waiting) (n : ℕ) (new : State) → w.wait ≡ Durable n → ResumesCall g s w (Done Prepared) new

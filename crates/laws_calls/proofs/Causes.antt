@@ -30,13 +30,16 @@ use Rattle.laws_lives.specs.Sessions.{SessionTxn}
 use Rattle.laws_calls.proofs.SessionInversions.{insert_asks, same_fault}
 use Rattle.laws_calls.proofs.TakenLocks.{leaves}
 use Rattle.laws_calls.proofs.GoingOn.{never_waiting}
-use Rattle.laws_calls.specs.CallSteps.{BeginStep, CallGoesOn, CallStep, InnerStep, IsTooLong, RefusesBehind, RefusesEarly, RefusesGranule, RefusesId, RefusesLock, RefusesRead, behind_lock, behind_place, on_conflict_of, place_outcome}
+use Rattle.laws_calls.specs.CallSteps.{BeginStep, CallGoesOn, CallStep, InnerStep, IsTooLong, RefusesBehind, RefusesEarly, RefusesGranule, RefusesId, RefusesLock, RefusesRead, behind_lock, behind_place, on_conflict_of, place_outcome, OutsideStep}
 use Rattle.laws_calls.specs.Causes.{EarnsRefusal, bytes_put_by, granule_named_by}
 use Rattle.laws_calls.specs.LockedStates.{IsSessionsState}
 use Rattle.laws_calls.specs.Rollbacks.{IsInterrupted, IsUnwound}
 use Rattle.laws_calls.specs.Shapes.{store_lock, store_locked}
 use Rattle.laws_calls.specs.StateChanges.{IsPageFault}
 use Rattle.laws_calls.specs.States.{IsOfSession, State}
+use Rattle.laws_calls.specs.Prepares.{PrepareStep}
+use Rattle.laws_calls.specs.Resolves.{DecidesRollback}
+use Rattle.laws_calls.proofs.Outside.{outside_refused}
 
 -- a record is not there, or a page was not read
 read_split : (s : State) (id : Rid) (f : Fault) → RefusesRead s id f → ((f ≡ fault.NoRecord) × (get s.sessions.records id ≡ None)) ⊎ IsPageFault s f
@@ -130,6 +133,14 @@ module _ (g : Geometry) (s : State) (session : ℕ) (c : Call) where
   as_durable a r mid (inl same) = ap (λ (x : State). x.durable) same
   as_durable a r mid (inr h) = ap (λ (x : State). x.durable) h.5
 
+  -- .. behind the decision of a resolve, too
+  pub rollback_earns : (d : State) → d.durable ≡ s.durable → (a : SessionTxn) (f : Fault) (new : State) → IsInterrupted d a Whole f new → Earns f
+  rollback_earns d same a f new h = ⊎_elim (λ memory. as_told f fault.Memory memory tt) (page_earns h.0 f (unwound h.1 ∙ same)) h.2
+    where
+      unwound : IsUnwound d a Whole h.0 → h.0.durable ≡ d.durable
+      unwound (inl x) = ap (λ (y : State). y.durable) x
+      unwound (inr x) = ap (λ (y : State). y.durable) x.5
+
   interrupted_earns : (a : SessionTxn) (r : Rollback) (f : Fault) (new : State) → IsInterrupted s a r f new → Earns f
   interrupted_earns a r f new h = ⊎_elim (λ memory. as_told f fault.Memory memory tt) (page_earns h.0 f (as_durable a r h.0 h.1)) h.2
 
@@ -206,24 +217,49 @@ module _ (g : Geometry) (o : Opening) (found : List LogRecord) (es : List Entry)
 
   begin_earns : c ≡ call.Begin → (f : Fault) (new : State) → BeginStep s session (Refused f) new → EarnsRefusal g s session c f
   begin_earns is f new h = ⊎_elim
-      (λ active. as_told g s session c f fault.AlreadyActive active.0 (is, active.1))
+      (λ active. as_told g s session c f fault.AlreadyActive active.0 (inl (is, active.1)))
       (λ full. ⊎_elim
       (λ many. as_told g s session c f fault.TooManyTransactions many.0 (is, many.2))
       (λ log. as_told g s session c f fault.LogFull log.0 (subst (λ (x : Call). EarnsRefusal g s session x fault.LogFull) (sym is) log.3))
       full)
       h.0
 
+  prepare_earns : (a : SessionTxn) → IsOfSession s session a → (global : List ℕ) → c ≡ call.Prepare global → (f : Fault) (new : State) → PrepareStep s a global (Refused f) new
+      → EarnsRefusal g s session c f
+  prepare_earns a of global is f new h = ⊎_elim
+      (λ bad. as_told g s session c f fault.BadGlobalId bad.0 (global, is, bad.1))
+      (⊎_elim
+      (λ used. as_told g s session c f fault.GlobalIdInUse used.0 (global, is, used.2))
+      (λ log. as_told g s session c f fault.LogFull log.0 (subst (λ (x : Call). EarnsRefusal g s session x fault.LogFull) (sym is) (a, of, log.3))))
+      h.0
+
   inner_earns : (a : SessionTxn) → IsOfSession s session a → is_waiting a.txn s.locks.requests ≡ false → (f : Fault) (new : State) → InnerStep g s a c (Refused f) new → EarnsRefusal g s session c f
-  inner_earns a of quiet f new (inl h) = as_told g s session c f fault.MustAbort (same_fault f fault.MustAbort h.2) (h.0, (a, of, h.1))
+  inner_earns a of quiet f new (inl h) = as_told g s session c f fault.MustAbort (same_fault f fault.MustAbort h.2) (inl (h.0, (a, of, h.1)))
   inner_earns a of quiet f new (inr (inl (whole, inl h))) = as_told g s session c f h.0 (same_fault f h.0 h.2) (early_earns g s session c c refl h.0 h.1)
   inner_earns a of quiet f new (inr (inl (whole, inr (inl h)))) = goes_earns a of quiet f new h.1
   inner_earns a of quiet f new (inr (inl (whole, inr (inr (inl h))))) = absurd h.1
-  inner_earns a of quiet f new (inr (inl (whole, inr (inr (inr h))))) = as_told g s session c f fault.TooManySavepoints h.1.0 (h.0, (a, of, h.1.1))
+  inner_earns a of quiet f new (inr (inl (whole, inr (inr (inr (inl h)))))) = as_told g s session c f fault.TooManySavepoints h.1.0 (h.0, (a, of, h.1.1))
+  inner_earns a of quiet f new (inr (inl (whole, inr (inr (inr (inr h)))))) = prepare_earns a of h.0 h.1 f new h.2
   inner_earns a of quiet f new (inr (inr (inl h))) = ⊎_elim
       (λ none. as_told g s session c f fault.NoSavepoint none.0 (h.0, h.1, (a, of, none.1)))
       (λ stopped. interrupted_earns g s session c a (To h.0) f new stopped.1)
       h.3
   inner_earns a of quiet f new (inr (inr (inr h))) = interrupted_earns g s session c a Whole f new h.1
+
+  outside_earns : (f : Fault) (new : State) → OutsideStep s session c (Refused f) new → EarnsRefusal g s session c f
+  outside_earns f new h = ⊎_elim
+      (λ early. ⊎_elim
+      (λ active. as_told g s session c f fault.AlreadyActive active.0 (inr (early.global, early.asked, early.is, active.1)))
+      (⊎_elim
+      (λ none. as_told g s session c f fault.NoGlobalId none.0 (early.global, early.asked, early.is, none.2))
+      (λ must. as_told g s session c f fault.MustAbort must.0 (inr (early.global, early.asked, early.is, (must.2, must.3)))))
+      early.refuses)
+      (λ stopped. rollback_earns g s session c stopped.decided (decided_durable stopped.by) stopped.txn f new stopped.how)
+      (outside_refused s session c f new h)
+    where
+      decided_durable : {global : List ℕ} {b : SessionTxn} {d : State} → DecidesRollback s global b d → d.durable ≡ s.durable
+      decided_durable (inl x) = ap (λ (y : State). y.durable) x.3
+      decided_durable (inr x) = ap (λ (y : State). y.durable) x.1
 
   pub call_earns : (f : Fault) (new : State) → CallStep g s session c (Refused f) new → EarnsRefusal g s session c f
   call_earns f new (inl h) = as_told g s session c f fault.Memory (same_fault f fault.Memory h.0) tt
@@ -232,7 +268,7 @@ module _ (g : Geometry) (o : Opening) (found : List LogRecord) (es : List Entry)
   call_earns f new (inr (inr (inr (inl h)))) = begin_earns h.2 f new h.3
   call_earns f new (inr (inr (inr (inr (inl h))))) = as_told g s session c f fault.NoTransaction (same_fault f fault.NoTransaction h.4) (h.2, h.3)
   call_earns f new (inr (inr (inr (inr (inr (inr (inl h))))))) = as_told g s session c f fault.IsPrepared (same_fault f fault.IsPrepared h.4) (h.2, h.3)
-  call_earns f new (inr (inr (inr (inr (inr (inr (inr h))))))) = absurd h.2.1
+  call_earns f new (inr (inr (inr (inr (inr (inr (inr h))))))) = outside_earns f new h.2
   call_earns f new (inr (inr (inr (inr (inr (inl h)))))) =
       let a = h.2.0 in
       inner_earns a h.2.1 (k.locks.waits h.0 a h.2.1.0.0 (λ w m spared of. h.1 w m (of ∙ h.2.1.1))) f new h.2.2

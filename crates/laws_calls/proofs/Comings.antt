@@ -8,7 +8,7 @@ use Rattle.std.proofs.lemmas.List.Elements.{Contains-append_cases, filter_map-ap
 use Rattle.shore_types.specs.declared.layout.Geometry.{Geometry}
 use Rattle.shore_model.specs.declared.calls.Call.{Call}
 use Rattle.shore_model.specs.declared.calls.Call.TheVariants as call
-use Rattle.shore_model.specs.declared.calls.Answer.TheVariants.{Aborted, Committed, Prepared}
+use Rattle.shore_model.specs.declared.calls.Answer.TheVariants.{Aborted, Committed, Prepared, Resolved}
 use Rattle.shore_model.specs.declared.histories.Decision.{Decision}
 use Rattle.shore_model.specs.declared.histories.Decision.TheVariants as decision
 use Rattle.shore_model.specs.declared.histories.Entry.{Entry}
@@ -20,11 +20,11 @@ use Rattle.shore_model.specs.Requests.{held_by_all}
 use Rattle.shore_locks.specs.Grants.{released}
 use Rattle.laws_locks.proofs.Held.{released_moves}
 use Rattle.laws_lives.proofs.Members.{txn_of_one}
-use Rattle.laws_lives.specs.LogPrefixes.{decisions_in, IsDecidedIn, decision_in}
+use Rattle.laws_lives.specs.LogPrefixes.{decisions_in, IsDecidedIn, decision_in, decision_asked}
 use Rattle.shore_model.specs.declared.rollbacks.Rollback.TheVariants.{Whole}
 use Rattle.laws_lives.specs.LogTells.{AreLogged}
 use Rattle.laws_lives.specs.Logged.{and_compensations, and_rollback}
-use Rattle.laws_lives.specs.SessionSteps.{AnswerAbort, AnswerCommit, AppendCommit, MoveLocks, SessionEvent, StepsTo, entries_by, exchange, AnswerPrepare}
+use Rattle.laws_lives.specs.SessionSteps.{AnswerAbort, AnswerCommit, AppendCommit, MoveLocks, SessionEvent, StepsTo, entries_by, exchange, AnswerPrepare, AppendPrepare, AnswerResolve}
 use Rattle.laws_lives.specs.Sessions.{SessionTxn, Sessions, txns_of, with_undo, without_txn, seated}
 use Rattle.laws_lives.specs.UndoLists.{rolled_back, undo_rolled}
 use Rattle.laws_lives.specs.Views.{IsAmong}
@@ -37,15 +37,26 @@ use Rattle.laws_calls.proofs.RollingPassages.{Aborts}
 use Rattle.laws_calls.proofs.Unwinding.{its_list, list_gone, rollback_ends, with_list}
 use Rattle.laws_calls.proofs.SessionStates.{answer_is_durable, its_wait, no_wait, waits_whole, prepare_is_durable}
 use Rattle.laws_calls.proofs.Sessions.{AreSessionsAfter, event_keeps, its_txn, above_none, commit_seats, committed_seat, own_of, parted}
-use Rattle.laws_calls.proofs.StepPassages.{CallPasses, Commits, IsAnswered, ResumePasses, call_passes, resume_passes, IsPrepareTold}
+use Rattle.laws_calls.proofs.StepPassages.{CallPasses, Commits, IsAnswered, ResumePasses, resume_passes, IsPrepareTold, Prepares}
 use Rattle.laws_calls.specs.CallHistories.{txn_of}
 use Rattle.laws_calls.specs.Events.{IsStateAfter, entries_of_resume, entries_of_waiting}
 use Rattle.laws_calls.specs.StateChanges.{wait_refused}
-use Rattle.laws_calls.specs.CallSteps.{ResumesCall, CallStep, ResumeStep, aborted, commit_ended, with_requests}
+use Rattle.laws_calls.specs.CallSteps.{ResumesCall, ResumeStep, aborted, commit_ended, with_requests}
 use Rattle.laws_calls.specs.Rollbacks.{put_back}
-use Rattle.laws_calls.specs.LockedStates.{entries_of_resumed, entries_of_call}
+use Rattle.laws_calls.specs.LockedStates.{entries_of_resumed}
 use Rattle.laws_calls.specs.States.{HasSeat, State, Waiting}
 use Rattle.shore_model.specs.declared.sessions.SessionState.{SessionState}
+use Rattle.laws_calls.specs.Prepares.{granules_in_ex}
+use Rattle.laws_calls.proofs.PrepareSteps.{with_prepare, prepare_goes}
+use Rattle.laws_calls.proofs.Told.{entries_told}
+use Rattle.laws_calls.proofs.SessionResumes.{IsResolveTold}
+use Rattle.laws_calls.specs.Resolves.{resolve_told}
+use Rattle.laws_calls.proofs.UnderGlobal.{under_one, used_resolved}
+use Rattle.laws_calls.proofs.ResolveEnds.{its_decision}
+use Rattle.laws_calls.proofs.ResolveLinks.{told_goes}
+use Rattle.laws_lives.specs.ManagerSteps.{decision_resolved}
+use Rattle.shore_model.specs.declared.calls.Outcome.{Outcome}
+use Rattle.shore_model.specs.declared.calls.Outcome.TheVariants as outcome
 
 -- ---- decisions of a log
 
@@ -71,6 +82,11 @@ is_decided base d log h =
     subst (λ rs. IsDecidedIn rs d) (take-append-drop base log)
     (subst (IsAmong d) (sym both) (among_behind d (filter_map decision_in (take base log)) (filter_map decision_in (drop base log)) behind))
 
+-- what a resolve has decided is what it asks for
+resolved_is_asked : (t : ℕ) (global : List ℕ) (x : Outcome) → decision_resolved (record { txn = t; global = global; outcome = x }) ≡ decision_asked t x
+resolved_is_asked t global outcome.Commit = refl
+resolved_is_asked t global outcome.Abort = refl
+
 -- ---- any event
 
 pub like_itself : (s : State) → IsLike s s
@@ -93,6 +109,20 @@ module _ (g : Geometry) (o : Opening) (found : List LogRecord) (es : List Entry)
         mid = with_commit g s a;
         goes = (with_commit g s a, [], commit_goes g s a (own_of k.sessions a h.of.0) h.whole (commit_seats k.sessions.agree k.sessions.seats a (own_of k.sessions a h.of.0).2.0), (refl, refl), refl);
         after = subst (IsLike (with_commit g s a)) (sym h.is) (record { sessions = refl; log = refl; counts = refl; stream = refl });
+      })
+
+  prepare_call_comes : (session : ℕ) (new : State) (made : List Entry) → Prepares s session new made → ComesBy g s new made
+  prepare_call_comes session new made h =
+      let a = h.txn in
+      let mid = with_prepare g o found es s k.sessions a h.of.0 h.whole h.global h.unused in
+      subst (ComesBy g s new) (sym h.entries) (record {
+        start = s;
+        before = like_itself s;
+        events = AppendPrepare a h.global (granules_in_ex s a) ∷ [];
+        durable = (tt, tt);
+        mid = mid;
+        goes = (mid, [], prepare_goes g o found es s k.sessions a h.of.0 h.whole h.global h.unused h.may, (refl, refl), refl);
+        after = subst (IsLike mid) (sym h.is) (record { sessions = refl; log = refl; counts = refl; stream = refl });
       })
 
   -- ---- an abort is answered: its images are put back, the newest first, and then its locks go
@@ -170,13 +200,12 @@ module _ (g : Geometry) (o : Opening) (found : List LogRecord) (es : List Entry)
       subst (λ (x : State). ComesBy g s x made) (sym h.is)
       (subst (ComesBy g s (aborted s a)) (ap (λ (e : Entry). e ∷ []) entry ∙ sym h.entries) (abort_leads session a h.of.1 h.of.0 a.undo.images refl))
 
-  pub session_call_comes : (session : ℕ) (c : Call) (step : Step) (new : State) → CallStep g s session c step new → ComesBy g s new (entries_of_call s session c step)
-  session_call_comes session c step new h = by (call_passes g o found es s k.sessions session c step new h)
-    where
-      by : CallPasses g s session new (entries_of_call s session c step) → ComesBy g s new (entries_of_call s session c step)
-      by (inl quiet) = quietly_comes g session s s new (entries_of_call s session c step) (like_itself s) quiet
-      by (inr (inl commit)) = commit_comes session new (entries_of_call s session c step) commit
-      by (inr (inr abort)) = abort_comes session new (entries_of_call s session c step) abort
+  -- a call that is no resolve, or one that is refused before it decides
+  pub passed_comes : (session : ℕ) (c : Call) (step : Step) (new : State) → CallPasses g s session new (entries_told s session c step) → ComesBy g s new (entries_told s session c step)
+  passed_comes session c step new (inl quiet) = quietly_comes g session s s new (entries_told s session c step) (like_itself s) quiet
+  passed_comes session c step new (inr (inl commit)) = commit_comes session new (entries_told s session c step) commit
+  passed_comes session c step new (inr (inr (inl abort))) = abort_comes session new (entries_told s session c step) abort
+  passed_comes session c step new (inr (inr (inr prep))) = prepare_call_comes session new (entries_told s session c step) prep
 
   module _ (w : Waiting) (there : IsAmong w s.waiting) (new : State) (made : List Entry) (h : IsAnswered s w.session w.wait new made) where
     abbrev a : SessionTxn
@@ -237,6 +266,27 @@ module _ (g : Geometry) (o : Opening) (found : List LogRecord) (es : List Entry)
         after = subst (IsLike told) (sym h.is) (record { sessions = refl; log = refl; counts = refl; stream = refl });
       })
 
+  resolve_told_comes : (w : Waiting) → IsAmong w s.waiting → (new : State) (made : List Entry) → IsResolveTold s w.session w.wait w.call new made → ComesBy g s new made
+  resolve_told_comes w m new made h =
+      let r = h.resolved in
+      let told = resolve_told s w.session r in
+      subst (ComesBy g s new)
+      (ap (λ t. Exchanged w.session t (exchange (call.Resolve r.global r.outcome) (Ok Resolved)) ∷ []) (sym (under_one o es s.sessions k.sessions.agree r.txn r.global (used_resolved s.sessions r h.ended.0)))
+      ∙ sym h.entries)
+      (record {
+        start = s;
+        before = like_itself s;
+        events = AnswerResolve w.session r ∷ [];
+        durable = (
+          is_decided (length found) (decision_resolved r) (take s.durable s.log)
+              (its_decision o found es s k w m h.number h.waits h.durable r h.ended h.asks (decision_resolved r) (resolved_is_asked r.txn r.global r.outcome)),
+          tt,
+        );
+        mid = told;
+        goes = (told, [], told_goes g s w.session r h.ended, (refl, refl), refl);
+        after = subst (IsLike told) (sym h.is) (record { sessions = refl; log = refl; counts = refl; stream = refl });
+      })
+
   session_resumed_comes : (w : Waiting) → IsAmong w s.waiting → (step : Step) (new : State) → ResumesCall g s w step new → ComesBy g s new (entries_of_resumed s w step)
   session_resumed_comes w m step new h = by (resume_passes g o found es s k.sessions w (waits_whole o found es s k w m) step new h)
     where
@@ -245,7 +295,8 @@ module _ (g : Geometry) (o : Opening) (found : List LogRecord) (es : List Entry)
       by (inr (inl on)) =
           quietly_comes g w.session s (wait_refused s w.session) new (entries_of_resumed s w step) (record { sessions = refl; log = refl; counts = refl; stream = refl }) on.on
       by (inr (inr (inl told))) = answer_comes w m new (entries_of_resumed s w step) told
-      by (inr (inr (inr told))) = prepare_comes w m new (entries_of_resumed s w step) told
+      by (inr (inr (inr (inl told)))) = prepare_comes w m new (entries_of_resumed s w step) told
+      by (inr (inr (inr (inr told)))) = resolve_told_comes w m new (entries_of_resumed s w step) told
 
   pub session_resume_comes : (session : ℕ) (step : Step) (new : State) → ResumeStep g s session step new → ComesBy g s new (entries_of_resume s session step)
   session_resume_comes session step new (inl h) =

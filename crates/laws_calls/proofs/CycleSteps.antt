@@ -35,12 +35,14 @@ use Rattle.laws_calls.proofs.SessionResumes.{woken}
 use Rattle.laws_calls.proofs.Sessions.{its_txn}
 use Rattle.laws_calls.proofs.TakenLocks.{leaves, locked_state}
 use Rattle.laws_calls.specs.CallHistories.{txn_of}
-use Rattle.laws_calls.specs.CallSteps.{AbortStep, AnswersBehind, CallStep, CallGoesOn, HasLocked, InnerStep, RefusesBehind, ResumeStep, ResumesCall, ResumesWait, behind_place, lock_outcome, on_conflict_of, place_outcome}
+use Rattle.laws_calls.specs.CallSteps.{AbortStep, AnswersBehind, CallStep, CallGoesOn, HasLocked, InnerStep, RefusesBehind, ResumeStep, ResumesCall, ResumesWait, behind_place, lock_outcome, on_conflict_of, place_outcome, OutsideStep}
 use Rattle.laws_calls.specs.LockedStates.{IsSessionsState}
 use Rattle.laws_calls.specs.Settling.{WaitsForNoLock}
 use Rattle.laws_calls.specs.StateChanges.{wait_refused}
 use Rattle.laws_calls.specs.States.{HasSeat, IsOfSession, State, Waiting}
-use Rattle.laws_calls.proofs.Outside.{outside_same}
+use Rattle.laws_calls.proofs.PrepareSteps.{prepare_locks}
+use Rattle.laws_calls.proofs.ResolveLeaves.{resolve_locks}
+use Rattle.laws_calls.proofs.Outside.{outside_or}
 
 -- no cycle is left unless the step waits for a lock, and each passes the transaction
 pub record ClosesAtMost (t : ℕ) (step : Step) (new : State) : Type 0 where
@@ -152,13 +154,23 @@ module _ (g : Geometry) (o : Opening) (found : List LogRecord) (es : List Entry)
   inner_closes a mem quiet c step new (inr (inl (whole, inr (inl h)))) =
       goes_closes o found es a g s (record { state = k; active = mem; quiet = quiet; none = none }) c step new h.1
   inner_closes a mem quiet c step new (inr (inl (whole, inr (inr (inl h))))) = no_cycle_at_all a.txn step new (none_as_before s new (commit_keeps_locks s a step new h.1) none)
-  inner_closes a mem quiet c step new (inr (inl (whole, inr (inr (inr h))))) = no_cycle_at_all a.txn step new (none_as_before s new (savepoint_table s a step new h.1).locks none)
+  inner_closes a mem quiet c step new (inr (inl (whole, inr (inr (inr (inl h)))))) = no_cycle_at_all a.txn step new (none_as_before s new (savepoint_table s a step new h.1).locks none)
+  inner_closes a mem quiet c step new (inr (inl (whole, inr (inr (inr (inr h)))))) = no_cycle_at_all a.txn step new (none_as_before s new (prepare_locks s a h.0 step new h.2) none)
   inner_closes a mem quiet c step new (inr (inr (inl h))) = no_cycle_at_all a.txn step new (none_as_before s new (back_table s a h.0 step new h.3).locks none)
   inner_closes a mem quiet c step new (inr (inr (inr h))) = no_cycle_at_all a.txn step new (abort_free a step new h.1)
 
   -- the number that the session's calls go under
   as_its : (session : ℕ) (a : SessionTxn) → IsOfSession s session a → (step : Step) (new : State) → ClosesAtMost a.txn step new → ClosesAtMost (txn_of s.sessions session) step new
   as_its session a of step new h = subst (λ t. ClosesAtMost t step new) (sym (its_txn s.sessions a session of.0.1 of.1)) h
+
+  outside_free : (session : ℕ) (c : Call) (step : Step) (new : State) → OutsideStep s session c step new → HasNoCycle new.locks.requests
+  outside_free session c step new h = ⊎_elim
+      (λ same. none_as_before s new (ap (λ (x : State). x.locks) same) none)
+      (λ r. ⊎_elim
+      (λ same. none_as_before s new same none)
+      (λ gone. subst HasNoCycle (sym gone.requests) (release_keeps_free s.locks.requests gone.txn.txn k.locks.orderly none))
+      (resolve_locks s session r.global r.asked step new r.to))
+      (outside_or s session c step new h)
 
   pub call_closes : (session : ℕ) (c : Call) (step : Step) (new : State) → CallStep g s session c step new → ClosesAtMost (txn_of s.sessions session) step new
   call_closes session c step new (inl h) = no_cycle_at_all _ step new (none_as_before s new (ap (λ (x : State). x.locks) h.1) none)
@@ -167,7 +179,7 @@ module _ (g : Geometry) (o : Opening) (found : List LogRecord) (es : List Entry)
   call_closes session c step new (inr (inr (inr (inl h)))) = no_cycle_at_all _ step new (none_as_before s new (begin_keeps_locks s session step new h.3) none)
   call_closes session c step new (inr (inr (inr (inr (inl h))))) = no_cycle_at_all _ step new (none_as_before s new (ap (λ (x : State). x.locks) h.5) none)
   call_closes session c step new (inr (inr (inr (inr (inr (inr (inl h))))))) = no_cycle_at_all _ step new (none_as_before s new (ap (λ (x : State). x.locks) h.5) none)
-  call_closes session c step new (inr (inr (inr (inr (inr (inr (inr h))))))) = no_cycle_at_all _ step new (none_as_before s new (ap (λ (x : State). x.locks) (outside_same s c step new h.2)) none)
+  call_closes session c step new (inr (inr (inr (inr (inr (inr (inr h))))))) = no_cycle_at_all _ step new (outside_free session c step new h.2)
   call_closes session c step new (inr (inr (inr (inr (inr (inl h)))))) =
       let a = h.2.0 in
       let of = h.2.1 in
@@ -179,7 +191,8 @@ module _ (g : Geometry) (o : Opening) (found : List LogRecord) (es : List Entry)
   wait_closes w (Durable n) step new (inl h) = no_cycle_at_all _ step new (none_as_before s new (ap (λ (x : State). x.locks) h.2) none)
   wait_closes w (Durable n) step new (inr (inl h)) =
       no_cycle_at_all _ step new (subst (λ (x : State). HasNoCycle x.locks.requests) (sym h.2.3) (release_keeps_free s.locks.requests h.2.0.txn k.locks.orderly none))
-  wait_closes w (Durable n) step new (inr (inr h)) = no_cycle_at_all _ step new (none_as_before s new (ap (λ (x : State). x.locks) h.2.4) none)
+  wait_closes w (Durable n) step new (inr (inr (inl h))) = no_cycle_at_all _ step new (none_as_before s new (ap (λ (x : State). x.locks) h.2.4) none)
+  wait_closes w (Durable n) step new (inr (inr (inr h))) = no_cycle_at_all _ step new (none_as_before s new (ap (λ (x : State). x.locks) h.2.3) none)
   wait_closes w (Lock at) step new h = ⊎_elim
       (λ still. no_cycle_at_all _ step new (none_as_before s new (ap (λ (x : State). x.locks) still.2) none))
       (λ free.

@@ -1,5 +1,5 @@
 -- A session whose call was answered or refused behind its wait waits no more, and a refusal without a device's or a page's fault fails nothing.
-use Rattle.std.proofs.Common.{◌≡◌, ◌≢◌, inl, inr, ⊎_elim, ℕ, refl, ap, subst, ◌∙◌}
+use Rattle.std.proofs.Common.{◌≡◌, ◌≢◌, inl, inr, ⊎_elim, ℕ, refl, ap, subst, ◌∙◌, List}
 use Rattle.shore_types.specs.declared.faults.Device.{Device}
 use Rattle.shore_types.specs.declared.faults.Fault.{Fault}
 use Rattle.shore_types.specs.declared.faults.Fault.TheVariants as fault
@@ -22,6 +22,8 @@ use Rattle.laws_calls.proofs.WrongResumes.{of_another}
 use Rattle.laws_calls.specs.StateChanges.{after_refusal, wait_refused}
 use Rattle.laws_calls.specs.CallSteps.{AnswersBehind, CallGoesOn, InnerStep, LacksMemory, RefusesBehind, ResumesWait, CallStep, ResumeStep, behind_lock}
 use Rattle.laws_calls.specs.States.{DoesNotWait, State, Waiting, without_waiting}
+use Rattle.laws_calls.specs.Resolves.{DecidesRollback}
+use Rattle.laws_calls.proofs.Outside.{outside_refused}
 
 -- ---- who waits
 
@@ -45,7 +47,8 @@ module _ (g : Geometry) (s new : State) (session : ℕ) where
   answered_on : (w : Waiting) → w.session ≡ session → (wait : Wait) (answer : Answer) → ResumesWait g s w wait (Done answer) new → DoesNotWait new session
   answered_on w of (Durable n) answer (inl h) = let clash = h.1 in absurd cc
   answered_on w of (Durable n) answer (inr (inl h)) = no_more h.2.0.session (h.2.2 ∙ of) (ap (λ (s : State). s.waiting) h.2.3)
-  answered_on w of (Durable n) answer (inr (inr h)) = no_more w.session of (ap (λ (s : State). s.waiting) h.2.4)
+  answered_on w of (Durable n) answer (inr (inr (inl h))) = no_more w.session of (ap (λ (s : State). s.waiting) h.2.4)
+  answered_on w of (Durable n) answer (inr (inr (inr h))) = no_more w.session of (ap (λ (s : State). s.waiting) h.2.3)
   answered_on w of (Lock at) answer h =
       ⊎_elim
       (λ still. let clash = still.1 in absurd cc)
@@ -61,7 +64,8 @@ module _ (g : Geometry) (s new : State) (session : ℕ) where
   refused_on : (w : Waiting) → w.session ≡ session → (wait : Wait) (f : Fault) → ResumesWait g s w wait (Refused f) new → DoesNotWait new session
   refused_on w of (Durable n) f (inl h) = let clash = h.1 in absurd cc
   refused_on w of (Durable n) f (inr (inl h)) = let clash = h.1 in absurd cc
-  refused_on w of (Durable n) f (inr (inr h)) = let clash = h.1 in absurd cc
+  refused_on w of (Durable n) f (inr (inr (inl h))) = let clash = h.1 in absurd cc
+  refused_on w of (Durable n) f (inr (inr (inr h))) = let clash = h.1 in absurd cc
   refused_on w of (Lock at) f h =
       ⊎_elim
       (λ still. let clash = still.1 in absurd cc)
@@ -116,7 +120,8 @@ module _ (g : Geometry) (s new : State) (session : ℕ) where
   inner_runs a c f runs (inr (inl (whole, inl h))) = ap (λ (s : State). s.failed) h.3
   inner_runs a c f runs (inr (inl (whole, inr (inl h)))) = goes_runs a c f runs h.1
   inner_runs a c f runs (inr (inl (whole, inr (inr (inl h))))) = absurd h.1
-  inner_runs a c f runs (inr (inl (whole, inr (inr (inr h))))) = ap (λ (s : State). s.failed) h.1.2
+  inner_runs a c f runs (inr (inl (whole, inr (inr (inr (inl h)))))) = ap (λ (s : State). s.failed) h.1.2
+  inner_runs a c f runs (inr (inl (whole, inr (inr (inr (inr h)))))) = ap (λ (s : State). s.failed) h.2.1
   inner_runs a c f runs (inr (inr (inl h))) = ⊎_elim (λ late. ap (λ (s : State). s.failed) late.2) (λ rolls. interrupted_runs a (To h.0) f runs rolls.1) h.3
   inner_runs a c f runs (inr (inr (inr h))) = interrupted_runs a Whole f runs h.1
 
@@ -128,6 +133,13 @@ module _ (g : Geometry) (s new : State) (session : ℕ) where
   refusal_runs c f device damaged (inr (inr (inr (inl h)))) = ap (λ (s : State). s.failed) h.3.1
   refusal_runs c f device damaged (inr (inr (inr (inr (inl h))))) = ap (λ (s : State). s.failed) h.5
   refusal_runs c f device damaged (inr (inr (inr (inr (inr (inr (inl h))))))) = ap (λ (s : State). s.failed) h.5
-  refusal_runs c f device damaged (inr (inr (inr (inr (inr (inr (inr h))))))) = absurd h.2.1
+  refusal_runs c f device damaged (inr (inr (inr (inr (inr (inr (inr h))))))) = ⊎_elim
+      (λ early. ap (λ (s : State). s.failed) early.same)
+      (λ stopped. left stopped.how.0 f (device, damaged) stopped.how.3 ∙ unwound_runs stopped.decided stopped.txn Whole stopped.how.0 stopped.how.1 ∙ decided_runs stopped.global stopped.txn stopped.decided stopped.by)
+      (outside_refused s session c f new h.2)
+    where
+      decided_runs : (global : List ℕ) (b : SessionTxn) (d : State) → DecidesRollback s global b d → d.failed ≡ s.failed
+      decided_runs global b d (inl x) = ap (λ (y : State). y.failed) x.3
+      decided_runs global b d (inr x) = ap (λ (y : State). y.failed) x.1
   refusal_runs c f device damaged (inr (inr (inr (inr (inr (inl h)))))) =
       inner_runs h.2.0 c f (device, damaged) h.2.2

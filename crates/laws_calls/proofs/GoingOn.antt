@@ -43,8 +43,9 @@ use Rattle.laws_calls.proofs.TakenLocks.{leaves, locked_state, waiting_state}
 use Rattle.laws_calls.specs.CallHistories.{answered_under, txn_of}
 use Rattle.laws_calls.specs.StateChanges.{IsPageFault, after_refusal, answered}
 use Rattle.laws_calls.specs.CallSteps.{AnswersBehind, CallGoesOn, LacksMemory, RefusesBehind, RefusesRead, behind_lock, behind_place, lock_outcome, lock_waiting, on_conflict_of, place_outcome}
-use Rattle.laws_calls.specs.LockedStates.{IsSessionsState, entries_of_call}
+use Rattle.laws_calls.specs.LockedStates.{IsSessionsState}
 use Rattle.laws_calls.specs.States.{HasSeat, State}
+use Rattle.laws_calls.proofs.Told.{entries_told}
 
 -- calls that ask for a lock are made within a transaction
 pub asking_is_inner : (c : Call) (lock : Asked) → lock_asked_by c ≡ Some lock → IsInnerCall c
@@ -242,10 +243,10 @@ module _ (g : Geometry) (o : Opening) (found : List LogRecord) (es : List Entry)
         (refusal_told o found es (behind_place (behind_lock s a c lock) a id) (at_place (behind_lock s a c lock) kl mem (still_quiet c lock done) id (never_waiting at)) session c fault.Memory tt))
         h.2
 
-    pub goes_on_kept : (c : Call) (step : Step) (new : State) → CallGoesOn g s a c step new → IsSessionsState o found (es ++ entries_of_call s session c step) new
+    pub goes_on_kept : (c : Call) (step : Step) (new : State) → CallGoesOn g s a c step new → IsSessionsState o found (es ++ entries_told s session c step) new
     goes_on_kept c (Done answer) new h = answers_kept c h.1.0 h.1.1 h.1.2 answer new (subst (λ (l : State). AnswersBehind g l a c answer new) h.1.3 h.2)
     goes_on_kept c (Waits wait) new h =
-        subst (λ w. IsSessionsState o found (es ++ entries_of_call s session c (Waits w)) new) (sym h.4)
+        subst (λ w. IsSessionsState o found (es ++ entries_told s session c (Waits w)) new) (sym h.4)
         (subst (IsSessionsState o found (es ++ [])) (sym h.5)
         (subst (λ (made : List Entry). IsSessionsState o found made (record (behind_lock s a c h.0) { waiting = lock_waiting a c h.1 ∷ s.waiting })) (sym (append-nil es))
         (waiting_state o found es s k a mem quiet (on_conflict_of c) h.0.granule h.0.mode c h.1)))

@@ -3,9 +3,11 @@ use Rattle.std.proofs.Common.{◌≡◌, ◌≢◌, ◌⊎◌, inl, inr, ◌++�
 use Rattle.std.specs.Prelude.{◌==◌, ◌||◌, IsSome, not}
 use Rattle.std.specs.FinMap.{get}
 use Rattle.std.specs.List.{AllByRecursion, list_any}
+use Rattle.std.specs.List.Sorted.{IsStrictlySortedBy}
 use Rattle.std.proofs.lemmas.Bool.{eqb-false, eqb-true, ne_eqb}
 use Rattle.shore_types.specs.Images.{Image}
 use Rattle.shore_types.specs.Layout.{HasPage}
+use Rattle.shore_types.specs.Locking.{granule_cmp}
 use Rattle.shore_types.specs.declared.faults.Fault.{Fault}
 use Rattle.shore_types.specs.declared.faults.Fault.TheVariants as fault
 use Rattle.shore_types.specs.declared.ids.Rid.{Rid}
@@ -14,6 +16,7 @@ use Rattle.shore_types.specs.declared.layout.TheConstants.{LAST_TXN, MAX_TRANSAC
 use Rattle.shore_types.specs.declared.locking.Granule.{Granule}
 use Rattle.shore_model.specs.declared.calls.Call.{Call}
 use Rattle.shore_model.specs.declared.histories.Entry.{Entry}
+use Rattle.shore_model.specs.declared.log_records.Payload.{Payload}
 use Rattle.shore_model.specs.declared.log_records.Payload.TheVariants as payload
 use Rattle.shore_model.specs.declared.requests.Request.{Request}
 use Rattle.shore_model.specs.Logs.{logged_writes}
@@ -138,9 +141,18 @@ pub record Compensates (s new : State) : Type 0 where
   pub logged : IsSome (get (logged_writes s.log txn) id)
   pub counts : new.counts ≡ s.counts
 
+-- .. or by a Prepare, whose granules rise, or a Rollback decided
+pub record Decides (s new : State) : Type 0 where
+  pub txn : ℕ
+  pub says : Payload
+  pub decides : ((global : List ℕ) × (granules : List Granule) × (says ≡ payload.Prepare global granules) × IsStrictlySortedBy granule_cmp granules)
+      ⊎ (says ≡ payload.RollbackDecided)
+  pub log : new.log ≡ and_record txn s.log says
+  pub counts : new.counts ≡ s.counts
+
 -- one record at most, or log and slots stay
 abbrev pub Writes : Geometry → State → State → Type 0
-Writes g s new = ((new.log ≡ s.log) × (new.counts ≡ s.counts)) ⊎ (Commits s new ⊎ (Changes g s new ⊎ (Ends s new ⊎ Compensates s new)))
+Writes g s new = ((new.log ≡ s.log) × (new.counts ≡ s.counts)) ⊎ (Commits s new ⊎ (Changes g s new ⊎ (Ends s new ⊎ (Compensates s new ⊎ Decides s new))))
 
 -- the room of the log behind the event is this one
 pub record HasRoomAfter (s : State) (e : SessionEvent) (new : State) : Type 0 where
@@ -376,10 +388,10 @@ pub record ComesBy (g : Geometry) (s new : State) (made : List Entry) : Type 0 w
 -- no transaction is decided, ended or doomed, and no image of one is put back of whose session a call waits
 abbrev pub IsQuiet : State → SessionEvent → Type 0
 IsQuiet s (MoveLocks held) = Unit {0}
-IsQuiet s (BeginTxn session) = Unit {0}
+IsQuiet s (BeginTxn session) = DoesNotWait s session
 IsQuiet s (GiveReply a c reply) = Unit {0}
 IsQuiet s (RefuseCall session t c f) = Unit {0}
-IsQuiet s (PutBack a kept e r) = (b : SessionTxn) (w : Waiting) → IsAmong b s.sessions.active → IsAmong w s.waiting → b.session ≡ w.session → b.txn ≢ a.txn
+IsQuiet s (PutBack a kept e r) = (b : SessionTxn) (w : Waiting) → HasSeat s.sessions b → IsAmong w s.waiting → b.session ≡ w.session → b.txn ≢ a.txn
 IsQuiet s (Doom a) = ⊥
 IsQuiet s (AppendCommit a) = ⊥
 IsQuiet s (AnswerAbort a) = ⊥
@@ -438,7 +450,7 @@ left_like session mid new (inr (inl failed)) = subst (IsLike mid) (sym failed) (
 left_like session mid new (inr (inr waits)) = subst (IsLike mid) (sym waits.is) (record { sessions = refl; log = refl; counts = refl; stream = refl })
 
 -- no commit is answered
-none_to_answer : (s start : State) (events : List SessionEvent) → AllByRecursion (IsQuiet start) events → AllByRecursion (IsDurable s) events
+pub none_to_answer : (s start : State) (events : List SessionEvent) → AllByRecursion (IsQuiet start) events → AllByRecursion (IsDurable s) events
 none_to_answer s start [] quiet = tt
 none_to_answer s start (e ∷ events) quiet = (none e quiet.0, none_to_answer s start events quiet.1)
   where

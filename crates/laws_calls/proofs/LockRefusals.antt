@@ -21,12 +21,13 @@ use Rattle.laws_locks.specs.CallLocks.{Asked, lock_asked_by}
 use Rattle.laws_lives.specs.Sessions.{SessionTxn}
 use Rattle.laws_calls.proofs.AcquireAnswers.{allowed_mode, wait_never_blocks}
 use Rattle.laws_calls.proofs.RefusalCauses.{table_full}
-use Rattle.laws_calls.proofs.SessionInversions.{IsOwn, RefusedIn, asks_no_begin, insert_asks, refused_in, same_lock}
-use Rattle.laws_calls.proofs.WrongRefusals.{IsBehind, RefusedWith, begin_fault, begin_refused, page_behind, refused_behind, refused_early}
-use Rattle.laws_calls.specs.CallSteps.{Finds, IsPlaceOf, IsTooLong, RefusesBehind, RefusesEarly, RefusesGranule, RefusesLock, RefusesRead, behind_lock, lock_outcome, on_conflict_of, place_outcome}
+use Rattle.laws_calls.proofs.SessionInversions.{IsOwn, RefusedIn, insert_asks, refused_in, same_lock}
+use Rattle.laws_calls.proofs.WrongRefusals.{IsBehind, RefusedWith, begin_fault, begin_refused, page_behind, refused_behind, refused_early, IsOfPrepare, prepare_refuses}
+use Rattle.laws_calls.specs.CallSteps.{Finds, IsPlaceOf, IsTooLong, RefusesBehind, RefusesEarly, RefusesGranule, RefusesLock, RefusesRead, behind_lock, lock_outcome, on_conflict_of, place_outcome, NeedsTxn}
 use Rattle.laws_calls.specs.StateChanges.{CanLog, FitsAt}
 use Rattle.laws_calls.specs.Shapes.{ForItsTxn, store_lock, store_locked}
 use Rattle.laws_calls.specs.States.{IsOfSession, State}
+use Rattle.laws_calls.proofs.Outside.{resolve_fault, listing_fault, asks_needs}
 
 module _ (g : Geometry) (s new : State) (session : ℕ) where
   abbrev Refuses : Call → Fault → Type 0
@@ -35,17 +36,19 @@ module _ (g : Geometry) (s new : State) (session : ℕ) where
   -- ---- by the lock table
 
   -- a refusal that is none before the locks and none behind them is the table's
-  by_table : (c : Call) (f : Fault) → IsOwn f → (RefusesEarly g c f → ⊥) → (IsBehind f → ⊥) → c ≢ call.Begin → Refuses c f
+  by_table : (c : Call) (f : Fault) → IsOwn f → (RefusesEarly g c f → ⊥) → (IsBehind f → ⊥) → (IsOfPrepare f → ⊥) → NeedsTxn c → Refuses c f
       → (a : SessionTxn) × IsOfSession s session a × ((lock : Asked) × (lock_asked_by c ≡ Some lock) × ((lock_outcome s a c lock).answer ≡ Err f))
-  by_table c f own early behind other h = by (refused_in g s new session c f own other (λ r is x p. behind (page_behind x f p)) h)
+  by_table c f own early behind prepares other h = by (refused_in g s new session c f own other (λ r is x p. behind (page_behind x f p)) h)
     where
       by : RefusedIn g s new session c f → (a : SessionTxn) × IsOfSession s session a × ((lock : Asked) × (lock_asked_by c ≡ Some lock) × ((lock_outcome s a c lock).answer ≡ Err f))
       by t = ⊎_elim
           (λ before. absurd (early before.0))
+          (⊎_elim
           (λ x. ⊎_elim
           (λ full. (t.txn, t.of, (x.0, x.1, full.0)))
           (λ b. absurd (behind (refused_behind g (behind_lock s t.txn c x.0) t.txn new c f b.1)))
           x.3)
+          (λ prepare. absurd (prepares (prepare_refuses s t.txn prepare.0 f prepare.2))))
           t.from
 
   no_begin_blocks : (holder : ℕ) → Refuses call.Begin (fault.WouldBlock holder) → ⊥
@@ -53,11 +56,11 @@ module _ (g : Geometry) (s new : State) (session : ℕ) where
       begin_fault g s new session (λ f. f ≢ fault.WouldBlock holder) (λ e. cc) (λ e. cc) (λ e. cc) (fault.WouldBlock holder)
       (begin_refused g s new session (fault.WouldBlock holder) tt h) refl
 
-  blocked : (c : Call) (holder : ℕ) → c ≢ call.Begin → Refuses c (fault.WouldBlock holder)
+  blocked : (c : Call) (holder : ℕ) → NeedsTxn c → Refuses c (fault.WouldBlock holder)
       → (a : SessionTxn) × IsOfSession s session a × ((lock : Asked) × (lock_asked_by c ≡ Some lock) × ((lock_outcome s a c lock).answer ≡ Err (fault.WouldBlock holder)))
-  blocked c holder other h = by_table c (fault.WouldBlock holder) tt (refused_early g c (fault.WouldBlock holder)) (λ x. x) other h
+  blocked c holder other h = by_table c (fault.WouldBlock holder) tt (refused_early g c (fault.WouldBlock holder)) (λ x. x) (λ x. x) other h
 
-  may_wait : (c : Call) (holder : ℕ) → c ≢ call.Begin → on_conflict_of c ≡ conflict.Wait → Refuses c (fault.WouldBlock holder) → ⊥
+  may_wait : (c : Call) (holder : ℕ) → NeedsTxn c → on_conflict_of c ≡ conflict.Wait → Refuses c (fault.WouldBlock holder) → ⊥
   may_wait c holder other waits h =
       let t = blocked c holder other h in
       wait_never_blocks s.locks t.0.txn t.2.0.granule t.2.0.mode holder
@@ -67,12 +70,14 @@ module _ (g : Geometry) (s new : State) (session : ℕ) where
   pub blocked_though_may_wait : (c : Call) (holder : ℕ) → ((at : Granule) (mode : Mode) → c ≢ call.TryLock at mode) → Refuses c (fault.WouldBlock holder) → ⊥
   blocked_though_may_wait call.Begin holder no_try h = no_begin_blocks holder h
   blocked_though_may_wait (call.TryLock at mode) holder no_try h = no_try at mode refl
-  blocked_though_may_wait c holder no_try h = may_wait c holder (λ e. cc) refl h
+  blocked_though_may_wait (call.Resolve global asked) holder no_try h = resolve_fault g s new session global asked (fault.WouldBlock holder) h
+  blocked_though_may_wait call.InDoubt holder no_try h = listing_fault g s new session (fault.WouldBlock holder) h
+  blocked_though_may_wait c holder no_try h = may_wait c holder tt refl h
 
   pub blocked_though_free : (at : Granule) (mode : Mode) (holder : ℕ)
       → ForItsTxn s session (λ a. (acquired conflict.Refuse s.locks a.txn at mode).answer ≢ Err (fault.WouldBlock holder)) → Refuses (call.TryLock at mode) (fault.WouldBlock holder) → ⊥
   blocked_though_free at mode holder free h =
-      let t = blocked (call.TryLock at mode) holder (λ e. cc) h in
+      let t = blocked (call.TryLock at mode) holder tt h in
       free t.0 t.1
       (subst (λ (l : Asked). (acquired conflict.Refuse s.locks t.0.txn l.granule l.mode).answer ≡ Err (fault.WouldBlock holder)) (asks t.2.0 t.2.1) t.2.2)
     where
@@ -81,7 +86,7 @@ module _ (g : Geometry) (s new : State) (session : ℕ) where
 
   pub bad_mode_though_allowed : (c : Call) (lock : Asked) → lock_asked_by c ≡ Some lock → is_allowed (level_of lock.granule) lock.mode ≡ true → Refuses c fault.BadMode → ⊥
   bad_mode_though_allowed c lock asks allowed h =
-      let t = by_table c fault.BadMode tt (λ x. never c lock asks allowed x) (λ x. x) (asks_no_begin c lock asks) h in
+      let t = by_table c fault.BadMode tt (λ x. never c lock asks allowed x) (λ x. x) (λ x. x) (asks_needs c lock asks) h in
       allowed_mode s.locks t.0.txn t.2.0.granule t.2.0.mode (on_conflict_of c)
       (subst (λ (l : Asked). is_allowed (level_of l.granule) l.mode ≡ true) (same_lock (lock_asked_by c) lock t.2.0 asks t.2.1) allowed) t.2.2
     where
@@ -123,7 +128,7 @@ module _ (g : Geometry) (s new : State) (session : ℕ) where
   not_early : (c : Call) → RefusesEarly g c fault.LockTableFull → ⊥
   not_early c h = refused_early g c fault.LockTableFull h
 
-  full_how : (c : Call) → c ≢ call.Begin → Refuses c fault.LockTableFull → (a : SessionTxn) × IsOfSession s session a × ((lock : Asked) × (lock_asked_by c ≡ Some lock)
+  full_how : (c : Call) → NeedsTxn c → Refuses c fault.LockTableFull → (a : SessionTxn) × IsOfSession s session a × ((lock : Asked) × (lock_asked_by c ≡ Some lock)
       × (((lock_outcome s a c lock).answer ≡ Err fault.LockTableFull) ⊎ RefusesBehind g (behind_lock s a c lock) a c fault.LockTableFull new))
   full_how c other h = by (refused_in g s new session c fault.LockTableFull tt other (λ r is x p. table_full x p) h)
     where
@@ -131,7 +136,9 @@ module _ (g : Geometry) (s new : State) (session : ℕ) where
           × (((lock_outcome s a c lock).answer ≡ Err fault.LockTableFull) ⊎ RefusesBehind g (behind_lock s a c lock) a c fault.LockTableFull new))
       by t = ⊎_elim
           (λ before. absurd (not_early c before.0))
+          (⊎_elim
           (λ x. (t.txn, t.of, (x.0, x.1, ⊎_elim (λ full. inl full.0) (λ b. inr b.1) x.3)))
+          (λ prepare. absurd (prepare_refuses s t.txn prepare.0 fault.LockTableFull prepare.2)))
           t.from
 
   -- behind its lock only an insert comes to a full table
@@ -157,7 +164,7 @@ module _ (g : Geometry) (s new : State) (session : ℕ) where
   pub table_full_though_locked : (c : Call) (lock : Asked) → lock_asked_by c ≡ Some lock → ((store : ℕ) (bytes : List ℕ) → c ≢ call.Insert store bytes)
       → ForItsTxn s session (λ a. (lock_outcome s a c lock).answer ≡ Ok acquire.Done) → Refuses c fault.LockTableFull → ⊥
   table_full_though_locked c lock asks other locked h =
-      let t = full_how c (asks_no_begin c lock asks) h in
+      let t = full_how c (asks_needs c lock asks) h in
       ⊎_elim
       (λ full. clash (lock_outcome s t.0 c lock).answer (locked t.0 t.1)
       (subst (λ (l : Asked). (lock_outcome s t.0 c l).answer ≡ Err fault.LockTableFull) (same_lock (lock_asked_by c) t.2.0 lock t.2.1 asks) full))
@@ -172,7 +179,7 @@ module _ (g : Geometry) (s new : State) (session : ℕ) where
       → ForItsTxn s session (λ a. (id : Rid) → IsPlaceOf g (store_locked s a store bytes) a.txn store bytes id → (place_outcome (store_locked s a store bytes) a id).answer ≡ Ok acquire.Done)
       → Refuses (call.Insert store bytes) fault.LockTableFull → ⊥
   table_full_though_placed store bytes locked placed h =
-      let t = full_how (call.Insert store bytes) (λ e. cc) h in
+      let t = full_how (call.Insert store bytes) tt h in
       let asks = insert_asks store bytes t.2.0 t.2.1 in
       ⊎_elim
       (λ full. clash (lock_outcome s t.0 (call.Insert store bytes) (store_lock store)).answer (locked t.0 t.1)

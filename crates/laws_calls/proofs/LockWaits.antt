@@ -23,12 +23,14 @@ use Rattle.laws_calls.proofs.SessionInversions.{answered_from, durable_no_lock}
 use Rattle.laws_calls.specs.CallHistories.{IsOpened}
 use Rattle.laws_calls.specs.Events.{Called, Forced, HasFailed, ManagerEvent, Resumed, EventMoves, EventsMove}
 use Rattle.laws_calls.specs.StateChanges.{decision_waiting, wait_refused}
-use Rattle.laws_calls.specs.CallSteps.{AbortStep, BeginStep, CommitStep, CallGoesOn, InnerStep, MayAsk, ResumesWait, CallStep, ResumeStep, behind_lock, lock_waiting}
+use Rattle.laws_calls.specs.CallSteps.{AbortStep, BeginStep, CommitStep, CallGoesOn, InnerStep, MayAsk, ResumesWait, CallStep, ResumeStep, behind_lock, lock_waiting, OutsideStep}
 use Rattle.laws_calls.specs.Settling.{SettledCall, SettledResume, Settles}
 use Rattle.laws_calls.specs.Shapes.{LockWaitsMayAsk}
 use Rattle.laws_calls.specs.States.{State, Waiting, next_number, without_waiting}
 use Rattle.laws_calls.specs.Victims.{TakesVictim, TakesVictims, TellsVictim, with_cycle}
-use Rattle.laws_calls.proofs.Outside.{outside_same}
+use Rattle.laws_calls.specs.Prepares.{PrepareStep}
+use Rattle.laws_calls.proofs.ResolveLeaves.{resolve_waiting}
+use Rattle.laws_calls.proofs.Outside.{outside_or}
 
 -- who waits once a session's calls are taken out waited before
 was_waiting : (n : ℕ) (ws : List Waiting) (w : Waiting) → IsAmong w (without_waiting n ws) → IsAmong w ws
@@ -66,7 +68,7 @@ WaitsHave P s = (w : Waiting) → IsAmong w s.waiting → P w.session w.call w.w
 -- .. and of this call of a session, if it begins to wait
 pub record MayWait (g : Geometry) (P : ℕ → Call → Wait → Type 0) (session : ℕ) (c : Call) : Type 0 where
   pub locks : (at : Granule) → MayAsk g c → P session c (Lock at)
-  pub commits : (n : ℕ) → c ≡ call.Commit → P session c (Durable n)
+  pub records : (n : ℕ) → P session c (Durable n)
 
 module _ (g : Geometry) (P : ℕ → Call → Wait → Type 0) (moves : (session : ℕ) (c : Call) (at later : Granule) → P session c (Lock at) → P session c (Lock later)) where
   -- the same calls wait
@@ -104,6 +106,13 @@ module _ (g : Geometry) (P : ℕ → Call → Wait → Type 0) (moves : (session
   commits s new a may (Refused f) h = absurd h
   commits s new a may Nothing h = absurd h
 
+  prepares : (s new : State) (a : SessionTxn) (global : List ℕ) → ((n : ℕ) → P a.session (call.Prepare global) (Durable n)) → (step : Step) → PrepareStep s a global step new → WaitsHave P s
+      → WaitsHave P new
+  prepares s new a global may (Waits wait) h = and_one s new (decision_waiting a.session (call.Prepare global) (next_number s)) (ap (λ (s : State). s.waiting) h.4) (may (next_number s))
+  prepares s new a global may (Refused f) h = as_before s new (ap (λ (s : State). s.waiting) h.1)
+  prepares s new a global may (Done answer) h = absurd h
+  prepares s new a global may Nothing h = absurd h
+
   aborts : (s new : State) (a : SessionTxn) (step : Step) → AbortStep s a step new → WaitsHave P s → WaitsHave P new
   aborts s new a (Done answer) h = as_before s new (ap (λ (s : State). s.waiting) h.1)
   aborts s new a (Refused f) h = as_before s new (interrupted_table s a Whole f new h).waiting
@@ -114,19 +123,29 @@ module _ (g : Geometry) (P : ℕ → Call → Wait → Type 0) (moves : (session
   inner s new a c may step (inl h) = as_before s new (ap (λ (s : State). s.waiting) h.3)
   inner s new a c may step (inr (inl (whole, inl h))) = as_before s new (ap (λ (s : State). s.waiting) h.3)
   inner s new a c may step (inr (inl (whole, inr (inl h)))) = goes_on s new a c (λ at. may.locks at h.0) step h.1
-  inner s new a c may step (inr (inl (whole, inr (inr (inl h))))) = commits s new a (λ n. subst (λ (x : Call). P a.session x (Durable n)) h.0 (may.commits n h.0)) step h.1
-  inner s new a c may step (inr (inl (whole, inr (inr (inr h))))) = as_before s new (savepoint_table s a step new h.1).waiting
+  inner s new a c may step (inr (inl (whole, inr (inr (inl h))))) = commits s new a (λ n. subst (λ (x : Call). P a.session x (Durable n)) h.0 (may.records n)) step h.1
+  inner s new a c may step (inr (inl (whole, inr (inr (inr (inl h)))))) = as_before s new (savepoint_table s a step new h.1).waiting
+  inner s new a c may step (inr (inl (whole, inr (inr (inr (inr h)))))) = prepares s new a h.0 (λ n. subst (λ (x : Call). P a.session x (Durable n)) h.1 (may.records n)) step h.2
   inner s new a c may step (inr (inr (inl h))) = as_before s new (back_table s a h.0 step new h.3).waiting
   inner s new a c may step (inr (inr (inr h))) = aborts s new a step h.1
 
-  called : (s new : State) (session : ℕ) (c : Call) → MayWait g P session c → (step : Step) → CallStep g s session c step new → WaitsHave P s → WaitsHave P new
+  outsides : (s new : State) (session : ℕ) (c : Call) → MayWait g P session c → (step : Step) → OutsideStep s session c step new → WaitsHave P s → WaitsHave P new
+  outsides s new session c may step h = ⊎_elim
+      (λ same. as_before s new (ap (λ (s : State). s.waiting) same))
+      (λ r. ⊎_elim
+      (λ same. as_before s new same)
+      (λ more. and_one s new (decision_waiting session (call.Resolve r.global r.asked) more.0) more.2 (subst (λ (x : Call). P session x (Durable more.0)) r.is (may.records more.0)))
+      (resolve_waiting s session r.global r.asked step new r.to))
+      (outside_or s session c step new h)
+
+  pub called : (s new : State) (session : ℕ) (c : Call) → MayWait g P session c → (step : Step) → CallStep g s session c step new → WaitsHave P s → WaitsHave P new
   called s new session c may step (inl h) = as_before s new (ap (λ (s : State). s.waiting) h.1)
   called s new session c may step (inr (inl h)) = as_before s new (ap (λ (s : State). s.waiting) h.2)
   called s new session c may step (inr (inr (inl h))) = as_before s new (ap (λ (s : State). s.waiting) h.3)
   called s new session c may step (inr (inr (inr (inl h)))) = begins s new session step h.3
   called s new session c may step (inr (inr (inr (inr (inl h))))) = as_before s new (ap (λ (s : State). s.waiting) h.5)
   called s new session c may step (inr (inr (inr (inr (inr (inr (inl h))))))) = as_before s new (ap (λ (s : State). s.waiting) h.5)
-  called s new session c may step (inr (inr (inr (inr (inr (inr (inr h))))))) = as_before s new (ap (λ (s : State). s.waiting) (outside_same s c step new h.2))
+  called s new session c may step (inr (inr (inr (inr (inr (inr (inr h))))))) = outsides s new session c may step h.2
   called s new session c may step (inr (inr (inr (inr (inr (inl h)))))) =
       inner s new h.2.0 c (subst (λ n. MayWait g P n c) (sym h.2.1.1) may) step h.2.2
 
@@ -134,7 +153,8 @@ module _ (g : Geometry) (P : ℕ → Call → Wait → Type 0) (moves : (session
       → WaitsHave P s → WaitsHave P new
   resumed s new w there (Durable n) is step (inl h) k = as_before s new (ap (λ (s : State). s.waiting) h.2) k
   resumed s new w there (Durable n) is step (inr (inl h)) k = but_one s new h.2.0.session (ap (λ (s : State). s.waiting) h.2.3) k
-  resumed s new w there (Durable n) is step (inr (inr h)) k = but_one s new w.session (ap (λ (s : State). s.waiting) h.2.4) k
+  resumed s new w there (Durable n) is step (inr (inr (inl h))) k = but_one s new w.session (ap (λ (s : State). s.waiting) h.2.4) k
+  resumed s new w there (Durable n) is step (inr (inr (inr h))) k = but_one s new w.session (ap (λ (s : State). s.waiting) h.2.3) k
   resumed s new w there (Lock at) is step h k =
       ⊎_elim
       (λ still. as_before s new (ap (λ (s : State). s.waiting) still.2) k)
@@ -143,7 +163,7 @@ module _ (g : Geometry) (P : ℕ → Call → Wait → Type 0) (moves : (session
       (but_one s (wait_refused s w.session) w.session refl k))
       h.2
 
-  resumes : (s new : State) (session : ℕ) (step : Step) → ResumeStep g s session step new → WaitsHave P s → WaitsHave P new
+  pub resumes : (s new : State) (session : ℕ) (step : Step) → ResumeStep g s session step new → WaitsHave P s → WaitsHave P new
   resumes s new session step (inl h) k = as_before s new (ap (λ (s : State). s.waiting) h.2) k
   resumes s new session step (inr h) k =
       ⊎_elim
@@ -157,7 +177,7 @@ module _ (g : Geometry) (P : ℕ → Call → Wait → Type 0) (moves : (session
       let was = waited_so h.txn.session v.cycle s.waiting w (subst (IsAmong w) (ap (λ (x : State). x.waiting) h.is) there) in
       subst (λ n. P n w.call w.wait) was.session (subst (λ (c : Call). P was.was.session c w.wait) was.its (subst (P was.was.session was.was.call) was.wait (k was.was was.there)))
 
-  victims : (s new : State) (t : ℕ) (vs : List Victim) → TakesVictims s t vs new → WaitsHave P s → WaitsHave P new
+  pub victims : (s new : State) (t : ℕ) (vs : List Victim) → TakesVictims s t vs new → WaitsHave P s → WaitsHave P new
   victims s new t [] h k = subst (WaitsHave P) (sym h) k
   victims s new t (v ∷ vs) h k = victims h.0 new t vs h.2 (victim s h.0 t v h.1 k)
 
@@ -201,14 +221,14 @@ module _ (g : Geometry) (P : ℕ → Call → Wait → Type 0) (moves : (session
 -- ---- a call that waits for a lock was not to be refused before it asked
 
 module _ (g : Geometry) where
-  abbrev asked_for : ℕ → Call → Wait → Type 0
+  abbrev pub asked_for : ℕ → Call → Wait → Type 0
   asked_for session c wait = (at : Granule) → wait ≡ Lock at → MayAsk g c
 
-  same_call : (session : ℕ) (c : Call) (at later : Granule) → asked_for session c (Lock at) → asked_for session c (Lock later)
+  pub same_call : (session : ℕ) (c : Call) (at later : Granule) → asked_for session c (Lock at) → asked_for session c (Lock later)
   same_call session c at later asked other is = asked at refl
 
-  may : (session : ℕ) (c : Call) → MayWait g asked_for session c
-  may session c = record { locks = λ at may other is. may; commits = λ n is at e. absurd (durable_no_lock n at e) }
+  pub may : (session : ℕ) (c : Call) → MayWait g asked_for session c
+  may session c = record { locks = λ at may other is. may; records = λ n at e. absurd (durable_no_lock n at e) }
 
   may_in : (e : ManagerEvent) → MayWaitIn g asked_for same_call e
   may_in (Called session c step) = may session c

@@ -31,6 +31,7 @@ use Rattle.laws_calls.specs.States.{HasSeat, State}
 -- a call within a transaction goes under its number
 pub inner_under : (s : State) (session : ℕ) (c : Call) → IsInnerCall c → answered_under s.sessions session c ≡ txn_of s.sessions session
 inner_under s session call.Begin inner = absurd inner
+inner_under s session (call.Resolve global asked) inner = absurd inner
 inner_under s session _ inner = refl
 
 module _ (o : Opening) (found : List LogRecord) (es : List Entry) (s : State) (k : IsSessionsState o found es s) where
@@ -80,11 +81,11 @@ module _ (o : Opening) (found : List LogRecord) (es : List Entry) (s : State) (k
 
   -- what a refusal leaves
   pub after_refused : (f : Fault) → IsSessionsState o found es (after_refusal f s)
-  after_refused fault.Device = record { sound = k.sound; agree = k.agree; seats = k.seats; log = k.log; whole = k.whole; doubts = k.doubts; decides = k.decides; locks = failed_locks }
+  after_refused fault.Device = record { sound = k.sound; agree = k.agree; seats = k.seats; log = k.log; whole = k.whole; doubts = k.doubts; decides = k.decides; single = k.single; locks = failed_locks }
     where
       failed_locks : HasTrueLocks (after_refusal fault.Device s)
       failed_locks = record { held = k.locks.held; orderly = k.locks.orderly; rooted = k.locks.rooted; below = k.locks.below; waiters = k.locks.waiters; waits = λ running. absurd cc }
-  after_refused (fault.Damaged device place) = record { sound = k.sound; agree = k.agree; seats = k.seats; log = k.log; whole = k.whole; doubts = k.doubts; decides = k.decides; locks = failed_locks }
+  after_refused (fault.Damaged device place) = record { sound = k.sound; agree = k.agree; seats = k.seats; log = k.log; whole = k.whole; doubts = k.doubts; decides = k.decides; single = k.single; locks = failed_locks }
     where
       failed_locks : HasTrueLocks (after_refusal (fault.Damaged device place) s)
       failed_locks = record { held = k.locks.held; orderly = k.locks.orderly; rooted = k.locks.rooted; below = k.locks.below; waiters = k.locks.waiters; waits = λ running. absurd cc }

@@ -1,5 +1,5 @@
 -- What becomes of locks by a call: nobody's becomes weaker, and an answer has those that it needs.
-use Rattle.std.proofs.Common.{◌≡◌, ◌≢◌, ◌⊎◌, inl, inr, ⊎_elim, ℕ, List, false, sym, ap, subst, ◌∙◌, Ok}
+use Rattle.std.proofs.Common.{◌≡◌, ◌≢◌, ◌⊎◌, inl, inr, ⊎_elim, ℕ, List, false, sym, ap, subst, ◌∙◌, Ok, ◌++◌}
 use Rattle.std.specs.Prelude.{Result}
 use Rattle.shore_types.specs.declared.faults.Fault.{Fault}
 use Rattle.shore_types.specs.declared.faults.Fault.TheVariants as fault
@@ -43,12 +43,16 @@ use Rattle.shore_model.specs.declared.step.Step.TheVariants.{Done, Nothing, Refu
 use Rattle.laws_calls.proofs.SessionCalls.{session_call_kept}
 use Rattle.laws_calls.proofs.SessionInversions.{AnsweredFrom, IsLockless, answered_from, answered_in}
 use Rattle.laws_calls.proofs.RollingLeaves.{LeavesTable, back_table, interrupted_table, savepoint_table}
-use Rattle.laws_calls.proofs.Sessions.{one_txn}
+use Rattle.laws_calls.proofs.Sessions.{one_txn, in_one, seat_apart}
 use Rattle.laws_calls.specs.StateChanges.{after_refusal, answered, committed, with_failure}
 use Rattle.laws_calls.specs.CallSteps.{AbortStep, AnswersBehind, BeginStep, CommitStep, CallGoesOn, InnerStep, LacksMemory, RefusesBehind, CallStep, aborted, behind_lock, behind_place, lock_outcome, on_conflict_of, place_outcome, NeedsTxn}
 use Rattle.laws_calls.specs.LockedStates.{IsSessionsState}
 use Rattle.laws_calls.specs.States.{DoesNotWait, IsOfSession, State}
-use Rattle.laws_calls.proofs.Outside.{outside_same}
+use Rattle.laws_calls.proofs.Outside.{Resolving, outside_or}
+use Rattle.laws_calls.specs.Prepares.{PrepareStep, granules_in_ex, prepared}
+use Rattle.laws_calls.specs.Shapes.{ResolvesNone}
+use Rattle.laws_calls.specs.Resolves.{MayResolve}
+use Rattle.laws_calls.proofs.Told.{entries_told}
 
 -- ---- the same locks
 
@@ -172,6 +176,12 @@ module _ (g : Geometry) (o : Opening) (found : List LogRecord) (es : List Entry)
   commit_kept a (Refused f) h = absurd h
   commit_kept a Nothing h = absurd h
 
+  prepare_kept : (a : SessionTxn) (global : List ℕ) (step : Step) → PrepareStep s a global step new → NoLockWeaker s new
+  prepare_kept a global (Waits wait) h = still s new s (same_locks new (prepared s a global (granules_in_ex s a)) h.4) (λ u at m enough. enough)
+  prepare_kept a global (Refused f) h = as_before h.1
+  prepare_kept a global (Done answer) h = absurd h
+  prepare_kept a global Nothing h = absurd h
+
   table_kept : LeavesTable s new → NoLockWeaker s new
   table_kept h = still s new s (h.locks, h.held) (λ u at m enough. enough)
 
@@ -193,19 +203,20 @@ module _ (g : Geometry) (o : Opening) (found : List LogRecord) (es : List Entry)
   inner_kept a of running idle c step (inr (inl (whole, inl h))) = inl (as_before h.3)
   inner_kept a of running idle c step (inr (inl (whole, inr (inl h)))) = inl (going_on_kept g s a (may_ask_in a of running idle) new c step h.1)
   inner_kept a of running idle c step (inr (inl (whole, inr (inr (inl h))))) = inl (commit_kept a step h.1)
-  inner_kept a of running idle c step (inr (inl (whole, inr (inr (inr h))))) = inl (table_kept (savepoint_table s a step new h.1))
+  inner_kept a of running idle c step (inr (inl (whole, inr (inr (inr (inl h)))))) = inl (table_kept (savepoint_table s a step new h.1))
+  inner_kept a of running idle c step (inr (inl (whole, inr (inr (inr (inr h)))))) = inl (prepare_kept a h.0 step h.2)
   inner_kept a of running idle c step (inr (inr (inl h))) = inl (table_kept (back_table s a h.0 step new h.3))
   inner_kept a of running idle c step (inr (inr (inr h))) = abort_kept a of step h.1
 
-  call_kept : (c : Call) (step : Step) → CallStep g s session c step new → NoLockWeaker s new ⊎ GoesAll step
-  call_kept c step (inl h) = inl (as_before h.1)
-  call_kept c step (inr (inl h)) = inl (as_before h.2)
-  call_kept c step (inr (inr (inl h))) = inl (as_before h.3)
-  call_kept c step (inr (inr (inr (inl h)))) = inl (begin_kept step h.3)
-  call_kept c step (inr (inr (inr (inr (inl h))))) = inl (as_before h.5)
-  call_kept c step (inr (inr (inr (inr (inr (inr (inl h))))))) = inl (as_before h.5)
-  call_kept c step (inr (inr (inr (inr (inr (inr (inr h))))))) = inl (as_before (outside_same s c step new h.2))
-  call_kept c step (inr (inr (inr (inr (inr (inl h)))))) = inner_kept h.2.0 h.2.1 h.0 h.1 c step h.2.2
+  call_kept : (c : Call) (step : Step) → (Resolving s session c step new → ⊥) → CallStep g s session c step new → NoLockWeaker s new ⊎ GoesAll step
+  call_kept c step none (inl h) = inl (as_before h.1)
+  call_kept c step none (inr (inl h)) = inl (as_before h.2)
+  call_kept c step none (inr (inr (inl h))) = inl (as_before h.3)
+  call_kept c step none (inr (inr (inr (inl h)))) = inl (begin_kept step h.3)
+  call_kept c step none (inr (inr (inr (inr (inl h))))) = inl (as_before h.5)
+  call_kept c step none (inr (inr (inr (inr (inr (inr (inl h))))))) = inl (as_before h.5)
+  call_kept c step none (inr (inr (inr (inr (inr (inr (inr h))))))) = ⊎_elim (λ same. inl (as_before same)) (λ r. absurd (none r)) (outside_or s session c step new h.2)
+  call_kept c step none (inr (inr (inr (inr (inr (inl h)))))) = inner_kept h.2.0 h.2.1 h.0 h.1 c step h.2.2
 
   -- ---- in words of locks
 
@@ -215,9 +226,12 @@ module _ (g : Geometry) (o : Opening) (found : List LogRecord) (es : List Entry)
       let now = holder_of u at m new.locks.requests (kept u at m (enough_of u at m s.locks.requests k.locks.orderly.one_each was)) in
       subst (λ (l : List Hold). HoldsAtLeast l u m at) (sym after.locks.held) (lock_from_holder u at m new.locks.requests now)
 
-  pub call_keeps_locks : (c : Call) (step : Step) → step ≢ Done Aborted → CallStep g s session c step new → (u : ℕ) → KeepsLocks s.sessions.held new.sessions.held u
-  call_keeps_locks c step other h =
-      ⊎_elim (λ kept. locks_kept (session_call_kept g o found es s k session c step new h) kept) (λ all. absurd (other all.answered)) (call_kept c step h)
+  kept_or : (c : Call) (step : Step) → (Resolving s session c step new → ⊥) → CallStep g s session c step new → IsSessionsState o found (es ++ entries_told s session c step) new
+  kept_or c step none h = ⊎_elim (λ kept. kept) (λ r. absurd (none r.0)) (session_call_kept g o found es s k session c step new h)
+
+  pub call_keeps_locks : (c : Call) (step : Step) → step ≢ Done Aborted → ResolvesNone c → CallStep g s session c step new → (u : ℕ) → KeepsLocks s.sessions.held new.sessions.held u
+  call_keeps_locks c step other none h =
+      ⊎_elim (λ kept. locks_kept (kept_or c step (λ r. none r.global r.asked r.is) h) kept) (λ all. absurd (other all.answered)) (call_kept c step (λ r. none r.global r.asked r.is) h)
 
   -- what an abort that is answered leaves of the locks of others
   others_of_aborted : (a : SessionTxn) → new ≡ aborted s a → (u : ℕ) → u ≢ a.txn → KeepsLocks s.sessions.held new.sessions.held u
@@ -227,13 +241,18 @@ module _ (g : Geometry) (o : Opening) (found : List LogRecord) (es : List Entry)
       subst (λ (s : State). HoldsAtLeast s.sessions.held u m at) (sym is)
       (lock_from_holder u at m (released a.txn s.locks.requests) (holder_of u at m (released a.txn s.locks.requests) enough))
 
+  -- a session that is in a transaction resolves none
+  not_both : (a : SessionTxn) → IsOfSession s session a → (global : List ℕ) → MayResolve s session global → ⊥
+  not_both a of global (inl none) = in_one s session a of none
+  not_both a of global (inr doubt) = seat_apart of.0.1 (ap s.sessions.seats of.1 ∙ doubt.1)
+
   -- whatever a call comes to, others keep theirs
   pub others_keep_locks : (c : Call) (step : Step) (a : SessionTxn) → IsOfSession s session a → CallStep g s session c step new → (u : ℕ) → u ≢ a.txn → KeepsLocks s.sessions.held new.sessions.held u
   others_keep_locks c step a of h u other =
       ⊎_elim
-      (λ kept. locks_kept (session_call_kept g o found es s k session c step new h) kept u)
+      (λ kept. locks_kept (kept_or c step (λ r. not_both a of r.global r.may) h) kept u)
       (λ all. others_of_aborted all.txn all.is u (λ same. other (same ∙ one_txn s.sessions all.txn a all.of.0.1 of.0.1 (all.of.1 ∙ sym of.1))))
-      (call_kept c step h)
+      (call_kept c step (λ r. not_both a of r.global r.may) h)
 
   -- ---- an answer has the locks that it needs
 
@@ -290,6 +309,7 @@ module _ (g : Geometry) (o : Opening) (found : List LogRecord) (es : List Entry)
   lockless_or_not call.Savepoint = inl (λ held t answer. tt)
   lockless_or_not (call.BackTo n) = inl (λ held t answer. tt)
   lockless_or_not call.Abort = inl (λ held t answer. tt)
+  lockless_or_not (call.Prepare global) = inl (λ held t answer. tt)
   lockless_or_not _ = inr (λ none. none)
 
   pub answer_has_locks : (c : Call) (answer : Answer) (a : SessionTxn) → IsOfSession s session a → CallStep g s session c (Done answer) new
@@ -313,7 +333,7 @@ module _ (g : Geometry) (o : Opening) (found : List LogRecord) (es : List Entry)
     permit = permitted new.sessions.held a.txn c answer (answer_has_locks c answer a of h)
 
     apart : (r : Rid) (t u : ℕ) → t ≢ u → MayWrite new.sessions.held t r → MayRead new.sessions.held u r → ⊥
-    apart = (session_call_kept g o found es s k session c (Done answer) new h).sound.stand.harmony.none_interferes
+    apart = (kept_or c (Done answer) (λ r. not_both a of r.global r.may) h).sound.stand.harmony.none_interferes
 
     pub reads_of_writer : MayWrite s.sessions.held u id → (Permit new.sessions.held a.txn c answer → MayRead new.sessions.held a.txn id) → ⊥
     reads_of_writer writes reads =

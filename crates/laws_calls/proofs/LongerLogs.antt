@@ -23,11 +23,16 @@ use Rattle.laws_calls.specs.CallHistories.{IsPrefix}
 use Rattle.laws_calls.specs.Events.{Called, Forced, HasFailed, ManagerEvent, Resumed, EventMoves}
 use Rattle.laws_calls.specs.StateChanges.{after_refusal, answered, wait_refused}
 use Rattle.laws_calls.specs.Rollbacks.{BackToStep, IsInterrupted, IsUnwound, SavepointStep}
-use Rattle.laws_calls.specs.CallSteps.{AbortStep, AnswersBehind, BeginStep, CommitStep, CallGoesOn, InnerStep, OpenStep, RefusesBehind, ResumesCall, ResumesWait, CallStep, ResumeStep, behind_place}
+use Rattle.laws_calls.specs.CallSteps.{AbortStep, AnswersBehind, BeginStep, CommitStep, CallGoesOn, InnerStep, OpenStep, RefusesBehind, ResumesCall, ResumesWait, CallStep, ResumeStep, behind_place, OutsideStep}
 use Rattle.laws_calls.specs.Settling.{SettledCall, SettledResume, Settles}
 use Rattle.laws_calls.specs.States.{State, Waiting}
 use Rattle.laws_calls.specs.Victims.{TakesVictim, TakesVictims, TellsVictim, Withdraws}
-use Rattle.laws_calls.proofs.Outside.{outside_same}
+use Rattle.laws_calls.specs.Prepares.{PrepareStep}
+use Rattle.laws_calls.specs.Resolves.{DecidesRollback, rollback_done, ResolvesTo}
+use Rattle.shore_model.specs.declared.calls.Outcome.{Outcome}
+use Rattle.laws_lives.specs.Logged.{and_compensations}
+use Rattle.laws_calls.proofs.Outside.{outside_or}
+use Rattle.shore_model.specs.declared.calls.Outcome.TheVariants as outcome
 
 -- as much is durable, and the log goes on
 pub record GoesFurther (s new : State) : Type 0 where
@@ -116,6 +121,12 @@ commit_further s a (Waits wait) new h = subst (GoesFurther s) (sym h.1) (record 
 commit_further s a (Refused f) new h = absurd h
 commit_further s a Nothing new h = absurd h
 
+prepare_further : (s : State) (a : SessionTxn) (global : List ℕ) (step : Step) (new : State) → PrepareStep s a global step new → GoesFurther s new
+prepare_further s a global (Waits wait) new h = subst (GoesFurther s) (sym h.4) (record { durable = refl; on = (_ ∷ [], refl) })
+prepare_further s a global (Refused f) new h = same_further s new h.1
+prepare_further s a global (Done answer) new h = absurd h
+prepare_further s a global Nothing new h = absurd h
+
 -- ---- rollbacks
 
 unwound_further : (s : State) (a : SessionTxn) (r : Rollback) (mid : State) → IsUnwound s a r mid → GoesFurther s mid
@@ -151,13 +162,40 @@ open_further : (g : Geometry) (s : State) (a : SessionTxn) (c : Call) (step : St
 open_further g s a c step new (inl h) = same_further s new h.3
 open_further g s a c step new (inr (inl h)) = goes_further g a s c step new h.1
 open_further g s a c step new (inr (inr (inl h))) = commit_further s a step new h.1
-open_further g s a c step new (inr (inr (inr h))) = savepoint_further s a step new h.1
+open_further g s a c step new (inr (inr (inr (inl h)))) = savepoint_further s a step new h.1
+open_further g s a c step new (inr (inr (inr (inr h)))) = prepare_further s a h.0 step new h.2
 
 inner_further : (g : Geometry) (s : State) (a : SessionTxn) (c : Call) (step : Step) (new : State) → InnerStep g s a c step new → GoesFurther s new
 inner_further g s a c step new (inl h) = same_further s new h.3
 inner_further g s a c step new (inr (inl h)) = open_further g s a c step new h.1
 inner_further g s a c step new (inr (inr (inl h))) = back_further s a h.0 step new h.3
 inner_further g s a c step new (inr (inr (inr h))) = abort_further s a step new h.1
+
+-- ---- resolves
+
+pub decided_further : (s : State) (global : List ℕ) (b : SessionTxn) (d : State) → DecidesRollback s global b d → GoesFurther s d
+decided_further s global b d (inl h) = subst (GoesFurther s) (sym h.3) (record { durable = refl; on = (_ ∷ [], refl) })
+decided_further s global b d (inr h) = same_further s d h.1
+
+pub done_further : (d : State) (b : SessionTxn) → GoesFurther d (rollback_done d b)
+done_further d b = record { durable = refl; on = prefix_on d.log (and_compensations b.txn d.log b.undo.images) (rollback_done d b).log (compensations_on b.txn d.log b.undo.images) (_ ∷ [], refl) }
+
+pub resolve_further : (s : State) (session : ℕ) (global : List ℕ) (asked : Outcome) (step : Step) (new : State) → ResolvesTo s session global asked step new → GoesFurther s new
+resolve_further s session global outcome.Commit (Waits wait) new h = subst (GoesFurther s) (sym h.3) (record { durable = refl; on = (_ ∷ [], refl) })
+resolve_further s session global outcome.Commit (Done answer) new h = absurd h
+resolve_further s session global outcome.Commit (Refused f) new h = absurd h
+resolve_further s session global outcome.Commit Nothing new h = absurd h
+resolve_further s session global outcome.Abort (Refused f) new h = further_then s h.1 new (decided_further s global h.0 h.1 h.2) (interrupted_further h.1 h.0 Whole f new h.3)
+resolve_further s session global outcome.Abort (Done answer) new h =
+    further_then s h.1 new (decided_further s global h.0 h.1 h.2)
+    (subst (GoesFurther h.1) (sym h.3.2) (let done = done_further h.1 h.0 in record { durable = done.durable; on = done.on }))
+resolve_further s session global outcome.Abort (Waits wait) new h =
+    further_then s h.1 new (decided_further s global h.0 h.1 h.2)
+    (subst (GoesFurther h.1) (sym h.3.2) (let done = done_further h.1 h.0 in record { durable = done.durable; on = done.on }))
+resolve_further s session global outcome.Abort Nothing new h = absurd h.3
+
+outside_further : (s : State) (session : ℕ) (c : Call) (step : Step) (new : State) → OutsideStep s session c step new → GoesFurther s new
+outside_further s session c step new h = ⊎_elim (λ same. same_further s new same) (λ r. resolve_further s session r.global r.asked step new r.to) (outside_or s session c step new h)
 
 pub call_further : (g : Geometry) (s : State) (session : ℕ) (c : Call) (step : Step) (new : State) → CallStep g s session c step new → GoesFurther s new
 call_further g s session c step new (inl h) = same_further s new h.1
@@ -166,7 +204,7 @@ call_further g s session c step new (inr (inr (inl h))) = same_further s new h.3
 call_further g s session c step new (inr (inr (inr (inl h)))) = begin_further s session step new h.3
 call_further g s session c step new (inr (inr (inr (inr (inl h))))) = same_further s new h.5
 call_further g s session c step new (inr (inr (inr (inr (inr (inr (inl h))))))) = same_further s new h.5
-call_further g s session c step new (inr (inr (inr (inr (inr (inr (inr h))))))) = same_further s new (outside_same s c step new h.2)
+call_further g s session c step new (inr (inr (inr (inr (inr (inr (inr h))))))) = outside_further s session c step new h.2
 call_further g s session c step new (inr (inr (inr (inr (inr (inl h)))))) = inner_further g s h.2.0 c step new h.2.2
 
 -- ---- going on
@@ -177,7 +215,8 @@ from_wait s session new h = record { durable = h.durable; on = h.on }
 wait_further : (g : Geometry) (s : State) (w : Waiting) (wait : Wait) (step : Step) (new : State) → ResumesWait g s w wait step new → GoesFurther s new
 wait_further g s w (Durable n) step new (inl h) = same_further s new h.2
 wait_further g s w (Durable n) step new (inr (inl h)) = subst (GoesFurther s) (sym h.2.3) (record { durable = refl; on = ([], sym (append-nil _)) })
-wait_further g s w (Durable n) step new (inr (inr h)) = subst (GoesFurther s) (sym h.2.4) (record { durable = refl; on = ([], sym (append-nil _)) })
+wait_further g s w (Durable n) step new (inr (inr (inr h))) = subst (GoesFurther s) (sym h.2.3) (record { durable = refl; on = ([], sym (append-nil _)) })
+wait_further g s w (Durable n) step new (inr (inr (inl h))) = subst (GoesFurther s) (sym h.2.4) (record { durable = refl; on = ([], sym (append-nil _)) })
 wait_further g s w (Lock at) step new h = ⊎_elim
     (λ still. same_further s new still.2)
     (λ free. from_wait s w.session new (goes_further g h.0 (wait_refused s w.session) w.call step new free.1))

@@ -1,17 +1,10 @@
 -- The state alone decides what a call and a resume of a session come to, and what that leaves.
-use Rattle.std.proofs.Common.{◌≡◌, ◌≢◌, ◌⊎◌, inl, inr, ⊎_elim, ◌≤◌, ◌<◌, ℕ, List, [], ◌∷◌, true, false, None, Some, refl, sym, ap, subst, ◌∙◌, length, arith, Ok, Err}
+use Rattle.std.proofs.Common.{◌≡◌, ◌≢◌, ◌⊎◌, inl, inr, ◌≤◌, ℕ, List, ◌∷◌, true, false, Some, refl, sym, ap, subst, ◌∙◌, arith, Ok, Err}
 use Rattle.std.specs.Prelude.{IsTrue, Result}
-use Rattle.shore_types.specs.Layout.{HasPage, HasSlot, HasStore}
-use Rattle.shore_types.specs.Locking.{level_of}
 use Rattle.shore_types.specs.declared.faults.Fault.{Fault}
 use Rattle.shore_types.specs.declared.faults.Fault.TheVariants as fault
-use Rattle.shore_types.specs.declared.ids.Rid.{Rid}
 use Rattle.shore_types.specs.declared.layout.Geometry.{Geometry}
-use Rattle.shore_types.specs.declared.layout.TheConstants.{MAX_RECORD_BYTES, MAX_SLOTS, MAX_TRANSACTIONS}
 use Rattle.shore_types.specs.declared.locking.Granule.{Granule}
-use Rattle.shore_types.specs.declared.locking.Granule.TheVariants as granule
-use Rattle.shore_types.specs.declared.locking.Mode.{Mode}
-use Rattle.shore_model.specs.Modes.{is_allowed}
 use Rattle.shore_model.specs.declared.calls.Answer.{Answer}
 use Rattle.shore_model.specs.declared.calls.Call.{Call}
 use Rattle.shore_model.specs.declared.calls.Call.TheVariants as call
@@ -24,24 +17,34 @@ use Rattle.shore_path.specs.declared.answers.Acquired.TheVariants as acquire
 use Rattle.laws_locks.specs.CallLocks.{Asked, lock_asked_by}
 use Rattle.shore_model.specs.declared.rollbacks.Rollback.{Rollback}
 use Rattle.shore_model.specs.declared.rollbacks.Rollback.TheVariants.{To, Whole}
-use Rattle.laws_lives.specs.Sessions.{SessionTxn, in_prepared}
+use Rattle.laws_lives.specs.Sessions.{SessionTxn, in_prepared, IsUnused, ResolvedTxn, in_use}
 use Rattle.laws_lives.specs.Views.{IsAmong}
 use Rattle.shore_model.specs.declared.step.Step.{Step}
 use Rattle.shore_model.specs.declared.step.Step.TheVariants.{Done, Nothing, Refused, Waits}
 use Rattle.shore_model.specs.declared.step.Wait.{Wait}
 use Rattle.shore_model.specs.declared.step.Wait.TheVariants.{Durable, Lock}
 use Rattle.laws_calls.proofs.Decided.{both_ways}
-use Rattle.laws_calls.proofs.OneBehind.{AreOne, Comparable, StepsBehind, left_no_memory, not_page_fault, one_behind, right_no_memory}
-use Rattle.laws_calls.proofs.Rows.{AllPass, FirstFails, Test, none_fails, one_fails, page_has_store, test}
+use Rattle.laws_calls.proofs.OneBehind.{AreOne, Comparable, StepsBehind, left_no_memory, one_behind, right_no_memory}
+use Rattle.laws_calls.proofs.Rows.{none_fails, one_fails}
 use Rattle.laws_calls.proofs.SessionInversions.{same_lock}
 use Rattle.laws_calls.proofs.Sessions.{one_txn, committed_seat, not_prepared, one_member, in_one}
-use Rattle.laws_calls.specs.Rollbacks.{BackToStep, IsInterrupted, SavepointStep}
+use Rattle.laws_calls.specs.Rollbacks.{BackToStep, SavepointStep}
 use Rattle.laws_calls.specs.Shapes.{rollback_of}
-use Rattle.laws_calls.specs.StateChanges.{ComesOfState, IsShort, answered, wait_refused}
-use Rattle.laws_calls.specs.CallSteps.{AbortStep, AnswersBehind, BeginStep, CommitStep, CallGoesOn, HasGranule, InnerStep, MayAsk, OpenStep, RefusesBehind, RefusesEarly, RefusesGranule, RefusesId, RefusesLock, ResumesCall, ResumesWait, CallStep, ResumeStep, behind_lock, commit_ended, lock_outcome, lock_waiting, txn_count, InDoubtStep, NeedsTxn, OutsideStep, prepare_ended}
+use Rattle.laws_calls.specs.StateChanges.{answered, wait_refused}
+use Rattle.laws_calls.specs.CallSteps.{AbortStep, AnswersBehind, BeginStep, CommitStep, CallGoesOn, InnerStep, MayAsk, OpenStep, RefusesBehind, RefusesEarly, ResumesCall, ResumesWait, CallStep, ResumeStep, behind_lock, commit_ended, lock_outcome, lock_waiting, InDoubtStep, NeedsTxn, OutsideStep, prepare_ended, HasEnded, IsPreparing}
 use Rattle.laws_calls.specs.Events.{IsStateAfter}
-use Rattle.laws_calls.specs.States.{DoesNotWait, HasNoTxn, IsInTxn, IsOfSession, MayBegin, State, Waiting, HasPrepared}
+use Rattle.laws_calls.specs.States.{DoesNotWait, HasNoTxn, IsOfSession, State, Waiting, HasPrepared}
 use Rattle.shore_model.specs.declared.sessions.SessionState.{SessionState}
+use Rattle.laws_calls.specs.Prepares.{PrepareStep, RefusesPrepare, IsGlobalId, MayPrepare}
+use Rattle.laws_calls.proofs.OneInterrupted.{Compares, one_interrupted}
+use Rattle.laws_calls.proofs.OneResolve.{one_resolve}
+use Rattle.laws_calls.proofs.Outside.{not_outside, no_txn_resolves}
+use Rattle.shore_model.specs.declared.calls.Outcome.{Outcome}
+use Rattle.laws_calls.specs.Resolves.{ResolveStep, resolve_ended}
+use Rattle.laws_calls.proofs.ResolveLists.{one_resolved}
+use Rattle.laws_calls.proofs.UnderGlobal.{one_global, used_resolved}
+use Rattle.shore_model.specs.declared.calls.Answer.TheVariants.{Committed, Prepared, Resolved}
+use Rattle.laws_calls.proofs.EarlyTests.{early_tests, early_fails, may_pass, one_begin}
 
 -- ---- behind what the lock table makes of a call's lock
 
@@ -76,128 +79,7 @@ module _ (g : Geometry) (s : State) (a : SessionTxn) (c : Call) where
       one_by p.0 (lock_outcome s a c p.0).answer x y new later both p.2
       (subst (λ (lock : Asked). Goes lock y later) (same_lock (lock_asked_by c) q.0 p.0 q.1 p.1) q.2)
 
--- ---- before the locks
-
-module _ (g : Geometry) where
-  abbrev id_tests : Rid → List Test
-  id_tests id = test (HasStore g id.page.store) fault.NoStore ∷ test (HasPage g id.page) fault.NoPage ∷ test (id.slot < MAX_SLOTS) fault.NoRecord ∷ []
-
-  abbrev granule_tests : Granule → List Test
-  granule_tests granule.Volume = []
-  granule_tests (granule.Store store) = test (HasStore g store) fault.NoStore ∷ []
-  granule_tests (granule.Page page) = test (HasStore g page.store) fault.NoStore ∷ test (HasPage g page) fault.NoPage ∷ []
-  granule_tests (granule.Record id) = id_tests id
-
-  abbrev lock_tests : Granule → Mode → List Test
-  lock_tests at mode = test (IsTrue (is_allowed (level_of at) mode)) fault.BadMode ∷ granule_tests at
-
-  abbrev early_tests : Call → List Test
-  early_tests (call.Get id) = id_tests id
-  early_tests (call.GetForUpdate id) = id_tests id
-  early_tests (call.Insert store bytes) = test (IsShort bytes) fault.TooLong ∷ test (HasStore g store) fault.NoStore ∷ []
-  early_tests (call.Update id bytes) = test (IsShort bytes) fault.TooLong ∷ id_tests id
-  early_tests (call.Delete id) = id_tests id
-  early_tests (call.Scan store) = test (HasStore g store) fault.NoStore ∷ []
-  early_tests (call.Lock at mode) = lock_tests at mode
-  early_tests (call.TryLock at mode) = lock_tests at mode
-  early_tests _ = []
-
-  id_fails : (id : Rid) (f : Fault) → RefusesId g id f → FirstFails (id_tests id) f
-  id_fails id fault.NoStore h = inl (h, refl)
-  id_fails id fault.NoPage h = inr (h.0, inl (h.1, refl))
-  id_fails id fault.NoRecord h = inr (page_has_store g id.page h.0, inr (h.0, inl (λ less. let le = h.1 in omega arith, refl)))
-  id_fails id _ h = absurd h
-
-  granule_fails : (at : Granule) (f : Fault) → RefusesGranule g at f → FirstFails (granule_tests at) f
-  granule_fails granule.Volume f h = absurd h
-  granule_fails (granule.Store store) f h = inl (h.1, h.0)
-  granule_fails (granule.Page page) f (inl h) = inl (h.1, h.0)
-  granule_fails (granule.Page page) f (inr h) = inr (h.1, inl (h.2, h.0))
-  granule_fails (granule.Record id) f h = id_fails id f h
-
-  lock_fails : (at : Granule) (mode : Mode) (f : Fault) → RefusesLock g at mode f → FirstFails (lock_tests at mode) f
-  lock_fails at mode f (inl h) = inl (λ yes. both_ways (is_allowed (level_of at) mode) yes h.1, h.0)
-  lock_fails at mode f (inr h) = inr (h.0, granule_fails at f h.1)
-
-  not_short : (bytes : List ℕ) → MAX_RECORD_BYTES < length bytes → IsShort bytes → ⊥
-  not_short bytes long short = omega arith
-
-  early_fails : (c : Call) (f : Fault) → RefusesEarly g c f → FirstFails (early_tests c) f
-  early_fails (call.Get id) f h = id_fails id f h
-  early_fails (call.GetForUpdate id) f h = id_fails id f h
-  early_fails (call.Insert store bytes) f (inl h) = inl (not_short bytes h.1, h.0)
-  early_fails (call.Insert store bytes) f (inr h) = inr (h.0, inl (h.2, h.1))
-  early_fails (call.Update id bytes) f (inl h) = inl (not_short bytes h.1, h.0)
-  early_fails (call.Update id bytes) f (inr h) = inr (h.0, id_fails id f h.1)
-  early_fails (call.Delete id) f h = id_fails id f h
-  early_fails (call.Scan store) f h = inl (h.1, h.0)
-  early_fails (call.Lock at mode) f h = lock_fails at mode f h
-  early_fails (call.TryLock at mode) f h = lock_fails at mode f h
-  early_fails _ f h = absurd h
-
-  id_passes : (id : Rid) → HasSlot g id → AllPass (id_tests id)
-  id_passes id h = (page_has_store g id.page h.0, (h.0, (h.1, tt)))
-
-  granule_passes : (at : Granule) → HasGranule g at → AllPass (granule_tests at)
-  granule_passes granule.Volume h = tt
-  granule_passes (granule.Store store) h = (h, tt)
-  granule_passes (granule.Page page) h = (page_has_store g page h, (h, tt))
-  granule_passes (granule.Record id) h = id_passes id h
-
-  may_pass : (c : Call) → MayAsk g c → AllPass (early_tests c)
-  may_pass (call.Get id) h = id_passes id h
-  may_pass (call.GetForUpdate id) h = id_passes id h
-  may_pass (call.Insert store bytes) h = (h.0, (h.1, tt))
-  may_pass (call.Update id bytes) h = (h.0, id_passes id h.1)
-  may_pass (call.Delete id) h = id_passes id h
-  may_pass (call.Scan store) h = (h, tt)
-  may_pass (call.Lock at mode) h = (h.0, granule_passes at h.1)
-  may_pass (call.TryLock at mode) h = (h.0, granule_passes at h.1)
-  may_pass _ h = absurd h
-
-  -- a call that may ask is not refused before it does
-  pub none_early : (c : Call) (f : Fault) → MayAsk g c → RefusesEarly g c f → ⊥
-  none_early c f may refuses = none_fails (early_tests c) f (early_fails c f refuses) (may_pass c may)
-
--- ---- begins
-
-module _ (s : State) (session : ℕ) where
-  abbrev begin_tests : List Test
-  begin_tests =
-      test (IsInTxn s session → ⊥) fault.AlreadyActive ∷ test (txn_count s < MAX_TRANSACTIONS) fault.TooManyTransactions ∷ test (MayBegin s) fault.LogFull ∷ []
-
-  out_of_txn : HasNoTxn s session → IsInTxn s session → ⊥
-  out_of_txn none h = h none
-
-  begin_fails : (f : Fault) (new : State) → BeginStep s session (Refused f) new → FirstFails begin_tests f
-  begin_fails f new h = by h.0
-    where
-      by : ((f ≡ fault.AlreadyActive) × IsInTxn s session) ⊎ ((f ≡ fault.TooManyTransactions) × HasNoTxn s session × (MAX_TRANSACTIONS ≤ txn_count s))
-          ⊎ ((f ≡ fault.LogFull) × HasNoTxn s session × (txn_count s < MAX_TRANSACTIONS) × (MayBegin s → ⊥)) → FirstFails begin_tests f
-      by (inl x) = inl (λ none. none x.1, x.0)
-      by (inr (inl x)) = inr (out_of_txn x.1, inl (λ less. let full = x.2 in omega arith, x.0))
-      by (inr (inr x)) = inr (out_of_txn x.1, inr (x.2, inl (x.3, x.0)))
-
-  begin_passes : (answer : Answer) (new : State) → BeginStep s session (Done answer) new → AllPass begin_tests
-  begin_passes answer new h = (out_of_txn h.0, (h.1, (h.2, tt)))
-
-  one_begin : (x y : Step) (new later : State) → BeginStep s session x new → BeginStep s session y later → AreOne x y new later
-  one_begin (Done x) (Done y) new later h k = (ap Done (h.3 ∙ sym k.3), h.4 ∙ sym k.4)
-  one_begin (Done x) (Refused f) new later h k = absurd (none_fails begin_tests f (begin_fails f later k) (begin_passes x new h))
-  one_begin (Refused f) (Done y) new later h k = absurd (none_fails begin_tests f (begin_fails f new h) (begin_passes y later k))
-  one_begin (Refused e) (Refused f) new later h k = (ap Refused (one_fails begin_tests e f (begin_fails e new h) (begin_fails f later k)), h.1 ∙ sym k.1)
-  one_begin (Waits wait) y new later h k = absurd h
-  one_begin Nothing y new later h k = absurd h
-  one_begin (Done x) (Waits wait) new later h k = absurd k
-  one_begin (Done x) Nothing new later h k = absurd k
-  one_begin (Refused e) (Waits wait) new later h k = absurd k
-  one_begin (Refused e) Nothing new later h k = absurd k
-
 -- ---- calls
-
--- two steps of a call that are compared, of which none is a rollback that was interrupted
-abbrev pub Compares : Call → Step → Step → Type 0
-Compares c x y = Comparable x y × (ComesOfState x ⊎ (rollback_of c ≡ None))
 
 module _ (g : Geometry) (s : State) where
   one_commit : (a : SessionTxn) (x y : Step) (new later : State) → CommitStep s a x new → CommitStep s a y later → AreOne x y new later
@@ -235,51 +117,80 @@ module _ (g : Geometry) (s : State) where
   no_asking : (x c : Call) → (MayAsk g x → ⊥) → c ≡ x → MayAsk g c → ⊥
   no_asking x c none e h = none (subst (MayAsk g) e h)
 
+  -- a prepare
+  one_refused : (a : SessionTxn) (global : List ℕ) (e f : Fault) → RefusesPrepare s a global e → RefusesPrepare s a global f → e ≡ f
+  one_refused a global e f (inl h) (inl k) = h.0 ∙ sym k.0
+  one_refused a global e f (inl h) (inr (inl k)) = absurd (h.1 k.1)
+  one_refused a global e f (inl h) (inr (inr k)) = absurd (h.1 k.1)
+  one_refused a global e f (inr (inl h)) (inl k) = absurd (k.1 h.1)
+  one_refused a global e f (inr (inl h)) (inr (inl k)) = h.0 ∙ sym k.0
+  one_refused a global e f (inr (inl h)) (inr (inr k)) = absurd (h.2 k.2)
+  one_refused a global e f (inr (inr h)) (inl k) = absurd (k.1 h.1)
+  one_refused a global e f (inr (inr h)) (inr (inl k)) = absurd (k.2 h.2)
+  one_refused a global e f (inr (inr h)) (inr (inr k)) = h.0 ∙ sym k.0
+
+  not_refused : (a : SessionTxn) (global : List ℕ) (f : Fault) → IsGlobalId global → IsUnused s.sessions global → MayPrepare s a global → RefusesPrepare s a global f → ⊥
+  not_refused a global f good unused may (inl h) = h.1 good
+  not_refused a global f good unused may (inr (inl h)) = h.2 unused
+  not_refused a global f good unused may (inr (inr h)) = h.3 may
+
+  one_prepare : (a : SessionTxn) (global : List ℕ) (x y : Step) (new later : State) → PrepareStep s a global x new → PrepareStep s a global y later → AreOne x y new later
+  one_prepare a global (Waits v) (Waits w) new later h k = (ap Waits (h.3 ∙ sym k.3), h.4 ∙ sym k.4)
+  one_prepare a global (Waits v) (Refused f) new later h k = absurd (not_refused a global f h.0 h.1 h.2 k.0)
+  one_prepare a global (Refused f) (Waits w) new later h k = absurd (not_refused a global f k.0 k.1 k.2 h.0)
+  one_prepare a global (Refused e) (Refused f) new later h k = (ap Refused (one_refused a global e f h.0 k.0), h.1 ∙ sym k.1)
+  one_prepare a global (Done x) y new later h k = absurd h
+  one_prepare a global Nothing y new later h k = absurd h
+  one_prepare a global (Waits v) (Done y) new later h k = absurd k
+  one_prepare a global (Waits v) Nothing new later h k = absurd k
+  one_prepare a global (Refused f) (Done y) new later h k = absurd k
+  one_prepare a global (Refused f) Nothing new later h k = absurd k
+
   one_open : (a : SessionTxn) (c : Call) (x y : Step) (new later : State) → Comparable x y → OpenStep g s a c x new → OpenStep g s a c y later → AreOne x y new later
   one_open a c x y new later both (inl h) (inl k) =
       (h.2 ∙ ap Refused (one_fails (early_tests g c) h.0 k.0 (early_fails g c h.0 h.1) (early_fails g c k.0 k.1)) ∙ sym k.2, h.3 ∙ sym k.3)
   one_open a c x y new later both (inl h) (inr (inl k)) = absurd (none_fails (early_tests g c) h.0 (early_fails g c h.0 h.1) (may_pass g c k.0))
   one_open a c x y new later both (inl h) (inr (inr (inl k))) = absurd (no_commit_early c h.0 k.0 h.1)
-  one_open a c x y new later both (inl h) (inr (inr (inr k))) = absurd (no_early call.Savepoint c (λ f x. x) k.0 h.0 h.1)
+  one_open a c x y new later both (inl h) (inr (inr (inr (inl k)))) = absurd (no_early call.Savepoint c (λ f x. x) k.0 h.0 h.1)
   one_open a c x y new later both (inr (inl h)) (inl k) = absurd (none_fails (early_tests g c) k.0 (early_fails g c k.0 k.1) (may_pass g c h.0))
   one_open a c x y new later both (inr (inl h)) (inr (inl k)) = one_going g s a c x y new later both h.1 k.1
   one_open a c x y new later both (inr (inl h)) (inr (inr (inl k))) = absurd (no_commit_asks c k.0 h.0)
-  one_open a c x y new later both (inr (inl h)) (inr (inr (inr k))) = absurd (no_asking call.Savepoint c (λ x. x) k.0 h.0)
+  one_open a c x y new later both (inr (inl h)) (inr (inr (inr (inl k)))) = absurd (no_asking call.Savepoint c (λ x. x) k.0 h.0)
   one_open a c x y new later both (inr (inr (inl h))) (inl k) = absurd (no_commit_early c k.0 h.0 k.1)
   one_open a c x y new later both (inr (inr (inl h))) (inr (inl k)) = absurd (no_commit_asks c h.0 k.0)
   one_open a c x y new later both (inr (inr (inl h))) (inr (inr (inl k))) = one_commit a x y new later h.1 k.1
-  one_open a c x y new later both (inr (inr (inl h))) (inr (inr (inr k))) = let clash : call.Commit ≡ call.Savepoint = sym h.0 ∙ k.0 in absurd cc
-  one_open a c x y new later both (inr (inr (inr h))) (inl k) = absurd (no_early call.Savepoint c (λ f x. x) h.0 k.0 k.1)
-  one_open a c x y new later both (inr (inr (inr h))) (inr (inl k)) = absurd (no_asking call.Savepoint c (λ x. x) h.0 k.0)
-  one_open a c x y new later both (inr (inr (inr h))) (inr (inr (inl k))) = let clash : call.Savepoint ≡ call.Commit = sym h.0 ∙ k.0 in absurd cc
-  one_open a c x y new later both (inr (inr (inr h))) (inr (inr (inr k))) = one_savepoint a x y new later h.1 k.1
+  one_open a c x y new later both (inr (inr (inl h))) (inr (inr (inr (inl k)))) = let clash : call.Commit ≡ call.Savepoint = sym h.0 ∙ k.0 in absurd cc
+  one_open a c x y new later both (inr (inr (inr (inl h)))) (inl k) = absurd (no_early call.Savepoint c (λ f x. x) h.0 k.0 k.1)
+  one_open a c x y new later both (inr (inr (inr (inl h)))) (inr (inl k)) = absurd (no_asking call.Savepoint c (λ x. x) h.0 k.0)
+  one_open a c x y new later both (inr (inr (inr (inl h)))) (inr (inr (inl k))) = let clash : call.Savepoint ≡ call.Commit = sym h.0 ∙ k.0 in absurd cc
+  one_open a c x y new later both (inr (inr (inr (inl h)))) (inr (inr (inr (inl k)))) = one_savepoint a x y new later h.1 k.1
+  one_open a c x y new later both (inl h) (inr (inr (inr (inr k)))) = absurd (no_early (call.Prepare k.0) c (λ f x. x) k.1 h.0 h.1)
+  one_open a c x y new later both (inr (inl h)) (inr (inr (inr (inr k)))) = absurd (no_asking (call.Prepare k.0) c (λ x. x) k.1 h.0)
+  one_open a c x y new later both (inr (inr (inl h))) (inr (inr (inr (inr k)))) = let clash : call.Commit ≡ call.Prepare k.0 = sym h.0 ∙ k.1 in absurd cc
+  one_open a c x y new later both (inr (inr (inr (inl h)))) (inr (inr (inr (inr k)))) = let clash : call.Savepoint ≡ call.Prepare k.0 = sym h.0 ∙ k.1 in absurd cc
+  one_open a c x y new later both (inr (inr (inr (inr h)))) (inl k) = absurd (no_early (call.Prepare h.0) c (λ f x. x) h.1 k.0 k.1)
+  one_open a c x y new later both (inr (inr (inr (inr h)))) (inr (inl k)) = absurd (no_asking (call.Prepare h.0) c (λ x. x) h.1 k.0)
+  one_open a c x y new later both (inr (inr (inr (inr h)))) (inr (inr (inl k))) = let clash : call.Prepare h.0 ≡ call.Commit = sym h.1 ∙ k.0 in absurd cc
+  one_open a c x y new later both (inr (inr (inr (inr h)))) (inr (inr (inr (inl k)))) = let clash : call.Prepare h.0 ≡ call.Savepoint = sym h.1 ∙ k.0 in absurd cc
+  one_open a c x y new later both (inr (inr (inr (inr h)))) (inr (inr (inr (inr k)))) =
+      one_prepare a h.0 x y new later h.2 (subst (λ n. PrepareStep s a n y later) (same_global k.0 h.0 (sym k.1 ∙ h.1)) k.2)
+    where
+      same_global : (m n : List ℕ) → call.Prepare m ≡ call.Prepare n → m ≡ n
+      same_global m n e = cc
 
   -- ---- rollbacks
-
-  -- what interrupts a rollback does not come of the state alone
-  not_interrupted : (a : SessionTxn) (r : Rollback) (f : Fault) (new : State) → ComesOfState (Refused f) → IsInterrupted s a r f new → ⊥
-  not_interrupted a r f new comes h = ⊎_elim (λ memory. comes.0 memory) (not_page_fault h.0 f comes) h.2
-
-  -- a rollback that is interrupted is compared with none
-  one_interrupted : (P : Type 0) (c : Call) (x y : Step) (f : Fault) (a : SessionTxn) (r : Rollback) (new : State) → Compares c x y → rollback_of c ≡ Some r → IsInterrupted s a r f new
-      → (x ≡ Refused f) ⊎ (y ≡ Refused f) → P
-  one_interrupted P c x y f a r new (inl both, plain) is h (inl e) = absurd (not_interrupted a r f new (subst ComesOfState e both.0) h)
-  one_interrupted P c x y f a r new (inl both, plain) is h (inr e) = absurd (not_interrupted a r f new (subst ComesOfState e both.1) h)
-  one_interrupted P c x y f a r new (inr same, inl comes) is h (inl e) = absurd (not_interrupted a r f new (subst ComesOfState e comes) h)
-  one_interrupted P c x y f a r new (inr same, inl comes) is h (inr e) = absurd (not_interrupted a r f new (subst ComesOfState (same.0 ∙ e) comes) h)
-  one_interrupted P c x y f a r new (inr same, inr plain) is h at = let clash : None ≡ Some r = sym plain ∙ is in absurd cc
 
   one_back : (a : SessionTxn) (c : Call) (n : ℕ) (x y : Step) (new later : State) → c ≡ call.BackTo n → Compares c x y → BackToStep s a n x new → BackToStep s a n y later → AreOne x y new later
   one_back a c n (Done x) (Done y) new later e both h k =
       let same : x ≡ y = h.1 ∙ sym k.1 in (ap Done same, h.2 ∙ ap (λ (v : Answer). answered s a (call.BackTo n) v s.counts) same ∙ sym k.2)
   one_back a c n (Done x) (Refused f) new later e both h (inl k) = let less = h.0 in let late = k.1 in absurd (omega arith)
-  one_back a c n (Done x) (Refused f) new later e both h (inr k) = one_interrupted (AreOne (Done x) (Refused f) new later) c (Done x) (Refused f) f a (To n) later both (ap rollback_of e) k.1 (inr refl)
+  one_back a c n (Done x) (Refused f) new later e both h (inr k) = one_interrupted g s (AreOne (Done x) (Refused f) new later) c (Done x) (Refused f) f a (To n) later both (ap rollback_of e) k.1 (inr refl)
   one_back a c n (Refused f) (Done y) new later e both (inl h) k = let less = k.0 in let late = h.1 in absurd (omega arith)
-  one_back a c n (Refused f) (Done y) new later e both (inr h) k = one_interrupted (AreOne (Refused f) (Done y) new later) c (Refused f) (Done y) f a (To n) new both (ap rollback_of e) h.1 (inl refl)
+  one_back a c n (Refused f) (Done y) new later e both (inr h) k = one_interrupted g s (AreOne (Refused f) (Done y) new later) c (Refused f) (Done y) f a (To n) new both (ap rollback_of e) h.1 (inl refl)
   one_back a c n (Refused f) (Refused d) new later e both (inl h) (inl k) = (ap Refused (h.0 ∙ sym k.0), h.2 ∙ sym k.2)
   one_back a c n (Refused f) (Refused d) new later e both (inl h) (inr k) = let late = h.1 in let less = k.0 in absurd (omega arith)
   one_back a c n (Refused f) (Refused d) new later e both (inr h) k =
-      one_interrupted (AreOne (Refused f) (Refused d) new later) c (Refused f) (Refused d) f a (To n) new both (ap rollback_of e) h.1 (inl refl)
+      one_interrupted g s (AreOne (Refused f) (Refused d) new later) c (Refused f) (Refused d) f a (To n) new both (ap rollback_of e) h.1 (inl refl)
   one_back a c n (Waits v) y new later e both h k = absurd h
   one_back a c n Nothing y new later e both h k = absurd h
   one_back a c n (Done x) (Waits w) new later e both h k = absurd k
@@ -289,23 +200,33 @@ module _ (g : Geometry) (s : State) where
 
   one_abort : (a : SessionTxn) (c : Call) (x y : Step) (new later : State) → c ≡ call.Abort → Compares c x y → AbortStep s a x new → AbortStep s a y later → AreOne x y new later
   one_abort a c (Done x) (Done y) new later e both h k = (ap Done (h.0 ∙ sym k.0), h.1 ∙ sym k.1)
-  one_abort a c (Done x) (Refused f) new later e both h k = one_interrupted (AreOne (Done x) (Refused f) new later) c (Done x) (Refused f) f a Whole later both (ap rollback_of e) k (inr refl)
-  one_abort a c (Refused f) y new later e both h k = one_interrupted (AreOne (Refused f) y new later) c (Refused f) y f a Whole new both (ap rollback_of e) h (inl refl)
+  one_abort a c (Done x) (Refused f) new later e both h k = one_interrupted g s (AreOne (Done x) (Refused f) new later) c (Done x) (Refused f) f a Whole later both (ap rollback_of e) k (inr refl)
+  one_abort a c (Refused f) y new later e both h k = one_interrupted g s (AreOne (Refused f) y new later) c (Refused f) y f a Whole new both (ap rollback_of e) h (inl refl)
   one_abort a c (Waits v) y new later e both h k = absurd h
   one_abort a c Nothing y new later e both h k = absurd h
   one_abort a c (Done x) (Waits w) new later e both h k = absurd k
   one_abort a c (Done x) Nothing new later e both h k = absurd k
+
+  no_open_resolve : (a : SessionTxn) (c : Call) (global : List ℕ) (asked : Outcome) (step : Step) (new : State) → c ≡ call.Resolve global asked → OpenStep g s a c step new → ⊥
+  no_open_resolve a c global asked step new e (inl h) = no_early (call.Resolve global asked) c (λ f x. x) e h.0 h.1
+  no_open_resolve a c global asked step new e (inr (inl h)) = no_asking (call.Resolve global asked) c (λ x. x) e h.0
+  no_open_resolve a c global asked step new e (inr (inr (inl h))) = let clash : call.Resolve global asked ≡ call.Commit = sym e ∙ h.0 in cc
+  no_open_resolve a c global asked step new e (inr (inr (inr (inl h)))) = let clash : call.Resolve global asked ≡ call.Savepoint = sym e ∙ h.0 in cc
+  no_open_resolve a c global asked step new e (inr (inr (inr (inr h)))) = let clash : call.Resolve global asked ≡ call.Prepare h.0 = sym e ∙ h.1 in cc
 
   -- no call that asks for a rollback goes as others do
   no_open_rollback : (a : SessionTxn) (c d : Call) (r : Rollback) (step : Step) (new : State) → rollback_of d ≡ Some r → c ≡ d → OpenStep g s a c step new → ⊥
   no_open_rollback a c (call.BackTo n) r step new is e (inl h) = no_early (call.BackTo n) c (λ f x. x) e h.0 h.1
   no_open_rollback a c (call.BackTo n) r step new is e (inr (inl h)) = no_asking (call.BackTo n) c (λ x. x) e h.0
   no_open_rollback a c (call.BackTo n) r step new is e (inr (inr (inl h))) = let clash : call.BackTo n ≡ call.Commit = sym e ∙ h.0 in cc
-  no_open_rollback a c (call.BackTo n) r step new is e (inr (inr (inr h))) = let clash : call.BackTo n ≡ call.Savepoint = sym e ∙ h.0 in cc
+  no_open_rollback a c (call.BackTo n) r step new is e (inr (inr (inr (inl h)))) = let clash : call.BackTo n ≡ call.Savepoint = sym e ∙ h.0 in cc
+  no_open_rollback a c (call.BackTo n) r step new is e (inr (inr (inr (inr h)))) = let clash : call.BackTo n ≡ call.Prepare h.0 = sym e ∙ h.1 in cc
   no_open_rollback a c call.Abort r step new is e (inl h) = no_early call.Abort c (λ f x. x) e h.0 h.1
   no_open_rollback a c call.Abort r step new is e (inr (inl h)) = no_asking call.Abort c (λ x. x) e h.0
   no_open_rollback a c call.Abort r step new is e (inr (inr (inl h))) = let clash : call.Abort ≡ call.Commit = sym e ∙ h.0 in cc
-  no_open_rollback a c call.Abort r step new is e (inr (inr (inr h))) = let clash : call.Abort ≡ call.Savepoint = sym e ∙ h.0 in cc
+  no_open_rollback a c call.Abort r step new is e (inr (inr (inr (inl h)))) = let clash : call.Abort ≡ call.Savepoint = sym e ∙ h.0 in cc
+  no_open_rollback a c call.Abort r step new is e (inr (inr (inr (inr h)))) = let clash : call.Abort ≡ call.Prepare h.0 = sym e ∙ h.1 in cc
+  no_open_rollback a c (call.Resolve global asked) r step new is e h = no_open_resolve a c global asked step new e h
   no_open_rollback a c _ r step new is e h = absurd cc
 
   same_index : (n m : ℕ) → call.BackTo n ≡ call.BackTo m → m ≡ n
@@ -357,7 +278,7 @@ module _ (g : Geometry) (o : Opening) (found : List LogRecord) (es : List Entry)
   abbrev Own : Call → Step → State → Type 0
   Own c step new =
       ((c ≡ call.Begin) × BeginStep s session step new) ⊎ (NeedsTxn c × ((f : Fault) × RefusesSeat f × (step ≡ Refused f)) × (new ≡ s))
-      ⊎ ((a : SessionTxn) × IsOfSession s session a × InnerStep g s a c step new) ⊎ OutsideStep s c step new
+      ⊎ ((a : SessionTxn) × IsOfSession s session a × InnerStep g s a c step new) ⊎ OutsideStep s session c step new
 
   abbrev Levels : Call → Step → State → Type 0
   Levels c step new =
@@ -380,7 +301,8 @@ module _ (g : Geometry) (o : Opening) (found : List LogRecord) (es : List Entry)
   no_begin_inside c a step new e (inr (inl (whole, inl h))) = absurd (subst (λ (c : Call). RefusesEarly g c h.0) e h.1)
   no_begin_inside c a step new e (inr (inl (whole, inr (inl h)))) = absurd (subst (MayAsk g) e h.0)
   no_begin_inside c a step new e (inr (inl (whole, inr (inr (inl h))))) = let clash : call.Begin ≡ call.Commit = sym e ∙ h.0 in cc
-  no_begin_inside c a step new e (inr (inl (whole, inr (inr (inr h))))) = let clash : call.Begin ≡ call.Savepoint = sym e ∙ h.0 in cc
+  no_begin_inside c a step new e (inr (inl (whole, inr (inr (inr (inl h)))))) = let clash : call.Begin ≡ call.Savepoint = sym e ∙ h.0 in cc
+  no_begin_inside c a step new e (inr (inl (whole, inr (inr (inr (inr h)))))) = let clash : call.Begin ≡ call.Prepare h.0 = sym e ∙ h.1 in cc
   no_begin_inside c a step new e (inr (inr (inl h))) = let clash : call.Begin ≡ call.BackTo h.0 = sym e ∙ h.1 in cc
   no_begin_inside c a step new e (inr (inr (inr h))) = let clash : call.Begin ≡ call.Abort = sym e ∙ h.0 in cc
 
@@ -389,7 +311,8 @@ module _ (g : Geometry) (o : Opening) (found : List LogRecord) (es : List Entry)
   no_listing_inside c a step new e (inr (inl (whole, inl h))) = absurd (subst (λ (c : Call). RefusesEarly g c h.0) e h.1)
   no_listing_inside c a step new e (inr (inl (whole, inr (inl h)))) = absurd (subst (MayAsk g) e h.0)
   no_listing_inside c a step new e (inr (inl (whole, inr (inr (inl h))))) = let clash : call.InDoubt ≡ call.Commit = sym e ∙ h.0 in cc
-  no_listing_inside c a step new e (inr (inl (whole, inr (inr (inr h))))) = let clash : call.InDoubt ≡ call.Savepoint = sym e ∙ h.0 in cc
+  no_listing_inside c a step new e (inr (inl (whole, inr (inr (inr (inl h)))))) = let clash : call.InDoubt ≡ call.Savepoint = sym e ∙ h.0 in cc
+  no_listing_inside c a step new e (inr (inl (whole, inr (inr (inr (inr h)))))) = let clash : call.InDoubt ≡ call.Prepare h.0 = sym e ∙ h.1 in cc
   no_listing_inside c a step new e (inr (inr (inl h))) = let clash : call.InDoubt ≡ call.BackTo h.0 = sym e ∙ h.1 in cc
   no_listing_inside c a step new e (inr (inr (inr h))) = let clash : call.InDoubt ≡ call.Abort = sym e ∙ h.0 in cc
 
@@ -402,22 +325,44 @@ module _ (g : Geometry) (o : Opening) (found : List LogRecord) (es : List Entry)
   one_listing (Refused f) y new later h j = absurd h
   one_listing Nothing y new later h j = absurd h
 
+  no_begin_outside : (c : Call) (step : Step) (new : State) → c ≡ call.Begin → OutsideStep s session c step new → ⊥
+  no_begin_outside c step new e (inl h) = let clash : call.Begin ≡ call.InDoubt = sym e ∙ h.0 in cc
+  no_begin_outside c step new e (inr h) = let clash : call.Begin ≡ call.Resolve h.0 h.1 = sym e ∙ h.2 in cc
+
+  no_outside_inside : (c : Call) (a : SessionTxn) (x y : Step) (new later : State) → InnerStep g s a c x new → OutsideStep s session c y later → ⊥
+  no_outside_inside c a x y new later inside (inl h) = no_listing_inside c a x new h.0 inside
+  no_outside_inside c a x y new later inside (inr h) = no_txn_resolves g s new session h.0 h.1 a x (subst (λ (d : Call). InnerStep g s a d x new) h.2 inside)
+
+  one_outside : (c : Call) (x y : Step) (new later : State) → Compares c x y → OutsideStep s session c x new → OutsideStep s session c y later → AreOne x y new later
+  one_outside c x y new later both (inl h) (inl j) = one_listing x y new later h.1 j.1
+  one_outside c x y new later both (inl h) (inr j) = let clash : call.InDoubt ≡ call.Resolve j.0 j.1 = sym h.0 ∙ j.2 in absurd cc
+  one_outside c x y new later both (inr h) (inl j) = let clash : call.InDoubt ≡ call.Resolve h.0 h.1 = sym j.0 ∙ h.2 in absurd cc
+  one_outside c x y new later both (inr h) (inr j) =
+      one_resolve g o found es s k session h.0 h.1 x y new later (subst (λ (d : Call). Compares d x y) h.2 both) h.3
+      (subst (λ (name : List ℕ). ResolveStep s session name h.1 y later) (same_name (sym j.2 ∙ h.2)) (subst (λ (asked : Outcome). ResolveStep s session j.0 asked y later) (same_asked (sym j.2 ∙ h.2)) j.3))
+    where
+      same_name : call.Resolve j.0 j.1 ≡ call.Resolve h.0 h.1 → j.0 ≡ h.0
+      same_name e = cc
+
+      same_asked : call.Resolve j.0 j.1 ≡ call.Resolve h.0 h.1 → j.1 ≡ h.1
+      same_asked e = cc
+
   one_own : (c : Call) (x y : Step) (new later : State) → Compares c x y → Own c x new → Own c y later → AreOne x y new later
   one_own c x y new later both (inl h) (inl j) = one_begin s session x y new later h.1 j.1
   one_own c x y new later both (inl h) (inr (inl j)) = absurd (subst NeedsTxn h.0 j.0)
   one_own c x y new later both (inl h) (inr (inr (inl j))) = absurd (no_begin_inside c j.0 y later h.0 j.2)
-  one_own c x y new later both (inl h) (inr (inr (inr j))) = let clash : call.Begin ≡ call.InDoubt = sym h.0 ∙ j.0 in absurd cc
+  one_own c x y new later both (inl h) (inr (inr (inr j))) = absurd (no_begin_outside c y later h.0 j)
   one_own c x y new later both (inr (inl h)) (inl j) = absurd (subst NeedsTxn j.0 h.0)
   one_own c x y new later both (inr (inl h)) (inr (inl j)) = (h.1.2 ∙ ap Refused (one_seat h.1.0 j.1.0 h.1.1 j.1.1) ∙ sym j.1.2, h.2 ∙ sym j.2)
   one_own c x y new later both (inr (inl h)) (inr (inr (inl j))) = absurd (not_seated h.1.0 j.0 h.1.1 j.1)
-  one_own c x y new later both (inr (inl h)) (inr (inr (inr j))) = absurd (subst NeedsTxn j.0 h.0)
+  one_own c x y new later both (inr (inl h)) (inr (inr (inr j))) = absurd (not_outside s session c y later h.0 j)
   one_own c x y new later both (inr (inr (inl h))) (inl j) = absurd (no_begin_inside c h.0 x new j.0 h.2)
   one_own c x y new later both (inr (inr (inl h))) (inr (inl j)) = absurd (not_seated j.1.0 h.0 j.1.1 h.1)
-  one_own c x y new later both (inr (inr (inl h))) (inr (inr (inr j))) = absurd (no_listing_inside c h.0 x new j.0 h.2)
-  one_own c x y new later both (inr (inr (inr h))) (inl j) = let clash : call.Begin ≡ call.InDoubt = sym j.0 ∙ h.0 in absurd cc
-  one_own c x y new later both (inr (inr (inr h))) (inr (inl j)) = absurd (subst NeedsTxn h.0 j.0)
-  one_own c x y new later both (inr (inr (inr h))) (inr (inr (inl j))) = absurd (no_listing_inside c j.0 y later h.0 j.2)
-  one_own c x y new later both (inr (inr (inr h))) (inr (inr (inr j))) = one_listing x y new later h.1 j.1
+  one_own c x y new later both (inr (inr (inl h))) (inr (inr (inr j))) = absurd (no_outside_inside c h.0 x y new later h.2 j)
+  one_own c x y new later both (inr (inr (inr h))) (inl j) = absurd (no_begin_outside c x new j.0 h)
+  one_own c x y new later both (inr (inr (inr h))) (inr (inl j)) = absurd (not_outside s session c x new j.0 h)
+  one_own c x y new later both (inr (inr (inr h))) (inr (inr (inl j))) = absurd (no_outside_inside c j.0 y x later new j.2 h)
+  one_own c x y new later both (inr (inr (inr h))) (inr (inr (inr j))) = one_outside c x y new later both h j
   one_own c x y new later both (inr (inr (inl h))) (inr (inr (inl j))) =
       one_inner g s h.0 c x y new later both h.2 (subst (λ (a : SessionTxn). InnerStep g s a c y later) (same_txn session j.0 h.0 j.1 h.1) j.2)
 
@@ -457,15 +402,39 @@ module _ (g : Geometry) (o : Opening) (found : List LogRecord) (es : List Entry)
     one_lock a at x y new later both (inr h) (inl j) = absurd (both_ways (is_waiting a.txn s.locks.requests) j.0 h.0)
     one_lock a at x y new later both (inr h) (inr j) = one_going g (wait_refused s w.session) a w.call x y new later both h.1 j.1
 
+    -- what is answered is durable
+    abbrev Answered : ℕ → Step → State → Type 0
+    Answered n step new =
+        ((n ≤ s.durable) × (step ≡ Done Committed) × ((a : SessionTxn) × IsAmong a s.sessions.committing × (a.session ≡ w.session) × (new ≡ commit_ended s a)) × (w.call ≡ call.Commit))
+        ⊎ ((n ≤ s.durable) × (step ≡ Done Prepared)
+        × ((t : ℕ) × (global : List ℕ) × IsPreparing s.sessions w.session t global × (w.call ≡ call.Prepare global) × (new ≡ prepare_ended s w.session t global)))
+        ⊎ ((n ≤ s.durable) × (step ≡ Done Resolved)
+        × ((r : ResolvedTxn) × HasEnded s.sessions r × (w.call ≡ call.Resolve r.global r.outcome) × (new ≡ resolve_ended s w.session r)))
+
+    answered_durable : (n : ℕ) (step : Step) (new : State) → Answered n step new → n ≤ s.durable
+    answered_durable n step new (inl h) = h.0
+    answered_durable n step new (inr (inl h)) = h.0
+    answered_durable n step new (inr (inr h)) = h.0
+
+    same_resolved : (r q : ResolvedTxn) → IsAmong r s.sessions.resolving → IsAmong q s.sessions.resolving → call.Resolve r.global r.outcome ≡ call.Resolve q.global q.outcome → r ≡ q
+    same_resolved r q m n e =
+        one_resolved r q s.sessions.resolving k.sessions.single m n
+        (one_global o es s.sessions k.sessions.agree r.txn q.txn q.global (subst (λ (name : List ℕ). IsAmong (r.txn, name) (in_use s.sessions)) (named e) (used_resolved s.sessions r m)) (used_resolved s.sessions q n))
+      where
+        named : call.Resolve r.global r.outcome ≡ call.Resolve q.global q.outcome → r.global ≡ q.global
+        named e = cc
+
     one_wait : (wait : Wait) (x y : Step) (new later : State) → Comparable x y → ResumesWait g s w wait x new → ResumesWait g s w wait y later → AreOne x y new later
     one_wait (Durable n) x y new later both (inl h) (inl j) = (h.1 ∙ sym j.1, h.2 ∙ sym j.2)
-    one_wait (Durable n) x y new later both (inl h) (inr (inl j)) = let less = h.0 in let le = j.0 in absurd (omega arith)
-    one_wait (Durable n) x y new later both (inl h) (inr (inr j)) = let less = h.0 in let le = j.0 in absurd (omega arith)
-    one_wait (Durable n) x y new later both (inr (inl h)) (inl j) = let less = j.0 in let le = h.0 in absurd (omega arith)
-    one_wait (Durable n) x y new later both (inr (inr h)) (inl j) = let less = j.0 in let le = h.0 in absurd (omega arith)
-    one_wait (Durable n) x y new later both (inr (inl h)) (inr (inr j)) = let clash : call.Commit ≡ call.Prepare j.2.1 = sym h.3 ∙ j.2.3 in absurd cc
-    one_wait (Durable n) x y new later both (inr (inr h)) (inr (inl j)) = let clash : call.Commit ≡ call.Prepare h.2.1 = sym j.3 ∙ h.2.3 in absurd cc
-    one_wait (Durable n) x y new later both (inr (inr h)) (inr (inr j)) =
+    one_wait (Durable n) x y new later both (inl h) (inr j) = let less = h.0 in let le = answered_durable n y later j in absurd (omega (arith, less, le))
+    one_wait (Durable n) x y new later both (inr h) (inl j) = let less = j.0 in let le = answered_durable n x new h in absurd (omega (arith, less, le))
+    one_wait (Durable n) x y new later both (inr (inl h)) (inr (inr (inl j))) = let clash : call.Commit ≡ call.Prepare j.2.1 = sym h.3 ∙ j.2.3 in absurd cc
+    one_wait (Durable n) x y new later both (inr (inr (inl h))) (inr (inl j)) = let clash : call.Commit ≡ call.Prepare h.2.1 = sym j.3 ∙ h.2.3 in absurd cc
+    one_wait (Durable n) x y new later both (inr (inl h)) (inr (inr (inr j))) = let clash : call.Commit ≡ call.Resolve j.2.0.global j.2.0.outcome = sym h.3 ∙ j.2.2 in absurd cc
+    one_wait (Durable n) x y new later both (inr (inr (inr h))) (inr (inl j)) = let clash : call.Commit ≡ call.Resolve h.2.0.global h.2.0.outcome = sym j.3 ∙ h.2.2 in absurd cc
+    one_wait (Durable n) x y new later both (inr (inr (inl h))) (inr (inr (inr j))) = let clash : call.Prepare h.2.1 ≡ call.Resolve j.2.0.global j.2.0.outcome = sym h.2.3 ∙ j.2.2 in absurd cc
+    one_wait (Durable n) x y new later both (inr (inr (inr h))) (inr (inr (inl j))) = let clash : call.Prepare j.2.1 ≡ call.Resolve h.2.0.global h.2.0.outcome = sym j.2.3 ∙ h.2.2 in absurd cc
+    one_wait (Durable n) x y new later both (inr (inr (inl h))) (inr (inr (inl j))) =
         (h.1 ∙ sym j.1, h.2.4 ∙ ap (λ (t : ℕ). prepare_ended s w.session t h.2.1) (same_doubt (sym h.2.2.1 ∙ j.2.2.1)) ∙ ap (prepare_ended s w.session j.2.0) (same_name (sym h.2.3 ∙ j.2.3)) ∙ sym j.2.4)
       where
         same_doubt : in_prepared h.2.0 ≡ in_prepared j.2.0 → h.2.0 ≡ j.2.0
@@ -473,6 +442,8 @@ module _ (g : Geometry) (o : Opening) (found : List LogRecord) (es : List Entry)
 
         same_name : call.Prepare h.2.1 ≡ call.Prepare j.2.1 → h.2.1 ≡ j.2.1
         same_name e = cc
+    one_wait (Durable n) x y new later both (inr (inr (inr h))) (inr (inr (inr j))) =
+        (h.1 ∙ sym j.1, h.2.3 ∙ ap (resolve_ended s w.session) (same_resolved h.2.0 j.2.0 h.2.1.0 j.2.1.0 (sym h.2.2 ∙ j.2.2)) ∙ sym j.2.3)
     one_wait (Durable n) x y new later both (inr (inl h)) (inr (inl j)) =
         (h.1 ∙ sym j.1, h.2.3 ∙ one_ended h.2.0 j.2.0 h.2.1 j.2.1 h.2.2 j.2.2 ∙ sym j.2.3)
     one_wait (Lock at) x y new later both h j =

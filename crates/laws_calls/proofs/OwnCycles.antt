@@ -25,11 +25,13 @@ use Rattle.laws_calls.proofs.SettledStates.{session_event_stays}
 use Rattle.laws_calls.proofs.ToldCycles.{WasWaiting, is_as_it_was, is_to_tell, was_waiting}
 use Rattle.laws_calls.proofs.ToldLater.{WereToBeTold, call_told, goes_told, without_told}
 use Rattle.laws_calls.proofs.VictimSteps.{victim_seat}
-use Rattle.laws_calls.proofs.WaitsThere.{AllWereUnderWay, call_were, freed_were, goes_were, was_in, was_it, was_with}
+use Rattle.laws_calls.proofs.WaitsThere.{call_were, freed_were, goes_were}
+use Rattle.laws_calls.proofs.WereUnderWay.{AllWereUnderWay, told_seat, was_in, was_it, was_with}
 use Rattle.laws_calls.specs.CallHistories.{IsOpened, txn_of}
 use Rattle.laws_calls.specs.CallSteps.{CallStep, ResumeStep, ResumesWait, commit_ended, prepare_ended, with_requests}
 use Rattle.laws_calls.specs.Events.{Called, EventMoves, EventsMove, Forced, HasFailed, IsStateAfter, ManagerEvent, Resumed, entries_of}
 use Rattle.laws_calls.specs.Midway.{EndsFrom, Interlude, Intervene, Intervenes, Takes, WaitsAnew}
+use Rattle.laws_calls.specs.Resolves.{resolve_ended}
 use Rattle.laws_calls.specs.SessionWaits.{AllBeginWithTheirs, BeginsWithIts, HasTheFirst}
 use Rattle.laws_calls.specs.Settling.{SettledCall, SettledResume}
 use Rattle.laws_calls.specs.Shapes.{LockWaitsMayAsk}
@@ -96,7 +98,10 @@ module _ (g : Geometry) (o : Opening) (found : List LogRecord) (es : List Entry)
   wait_begins w (Durable n) (inl h) = same_begins h.2
   wait_begins w (Durable n) (inr (inl h)) = subst AllBeginWithTheirs (sym h.2.3)
       (all_begin s (commit_ended s h.2.0) (without_told s (commit_ended s h.2.0) h.2.0.session refl) (freed_were s h.2.0) was)
-  wait_begins w (Durable n) (inr (inr h)) = subst AllBeginWithTheirs (sym h.2.4) (prepared_begins w.session h.2.0 h.2.1)
+  wait_begins w (Durable n) (inr (inr (inl h))) = subst AllBeginWithTheirs (sym h.2.4) (prepared_begins w.session h.2.0 h.2.1)
+  wait_begins w (Durable n) (inr (inr (inr h))) = subst AllBeginWithTheirs (sym h.2.3)
+      (all_begin s (resolve_ended s w.session h.2.0) (without_told s (resolve_ended s w.session h.2.0) w.session refl)
+      (λ b m. was_it s b (m.0, sym (told_seat s.sessions.seats w.session b.session) ∙ m.1, m.2)) was)
   wait_begins w (Lock at) h = ⊎_elim
       (λ still. same_begins still.2)
       (λ free.
@@ -245,7 +250,7 @@ pub events_begin : (g : Geometry) (o : Opening) (found : List LogRecord) (es : L
     → EventsMove g s events last → AllBeginWithTheirs last
 events_begin g o found es s [] last k was h = subst AllBeginWithTheirs (sym h) was
 events_begin g o found es s (e ∷ events) last k was h =
-    events_begin g o found (es ++ entries_of s e) h.0 events last (session_event_stays g o found es s h.0 e k h.1) (event_begins g o found es s k h.0 e was h.1) h.2
+    events_begin g o found (es ++ entries_of s e h.0) h.0 events last (session_event_stays g o found es s h.0 e k h.1) (event_begins g o found es s k h.0 e was h.1) h.2
 
 pub opened_begins : (o : Opening) (found : List LogRecord) (s : State) → IsOpened o found s → AllBeginWithTheirs s
 opened_begins o found s h w m = absurd (subst (IsAmong w) h.waiting m)

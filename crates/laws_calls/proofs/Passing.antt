@@ -41,8 +41,9 @@ use Rattle.laws_calls.proofs.TakenLocks.{moved}
 use Rattle.laws_calls.specs.CallHistories.{answered_under, txn_of}
 use Rattle.laws_calls.specs.StateChanges.{after_refusal, answered}
 use Rattle.laws_calls.specs.CallSteps.{AnswersBehind, CallGoesOn, LacksMemory, RefusesBehind, RefusesRead, behind_lock, behind_place, lock_outcome, on_conflict_of, place_outcome}
-use Rattle.laws_calls.specs.LockedStates.{IsSessionsState, entries_of_call}
+use Rattle.laws_calls.specs.LockedStates.{IsSessionsState}
 use Rattle.laws_calls.specs.States.{DoesNotWait, HasSeat, State}
+use Rattle.laws_calls.proofs.Told.{entries_told}
 
 pub refused_left : (session : ℕ) (s : State) (f : Fault) → IsLeft session s (after_refusal f s)
 refused_left session s fault.Device = inr (inl refl)
@@ -247,12 +248,12 @@ module _ (g : Geometry) (o : Opening) (found : List LogRecord) (es : List Entry)
           (placed_refusal l (has c lock asked done) mem (free c lock asked done) id c fault.Memory fault.Memory refl tt)))
           h.2
 
-      pub goes_on_passes : DoesNotWait s session → (c : Call) (step : Step) (new : State) → CallGoesOn g s a c step new → Passes s new (entries_of_call s session c step)
+      pub goes_on_passes : DoesNotWait s session → (c : Call) (step : Step) (new : State) → CallGoesOn g s a c step new → Passes s new (entries_told s session c step)
       goes_on_passes idle c (Done answer) new h =
           lock_first c h.1.0 new (answer_entry s c answer ∷ [])
           (answers_pass c h.1.0 h.1.1 h.1.2 answer new (subst (λ (l : State). AnswersBehind g l a c answer new) h.1.3 h.2))
       goes_on_passes idle c (Waits wait) new h =
-          subst (λ w. Passes s new (entries_of_call s session c (Waits w))) (sym h.4)
+          subst (λ w. Passes s new (entries_told s session c (Waits w))) (sym h.4)
           (lock_first c h.0 new []
           (quietly_none g session (behind_lock s a c h.0) new
           (inr (inr (record { txn = a; active = mem; of = of; whole = whole; idle = idle; call = c; lock = h.0; asked = h.2; at = h.1; is = h.5 })))))

@@ -12,6 +12,8 @@ use Rattle.shore_model.specs.Locks.{MayRead}
 use Rattle.laws_lives.specs.RepliesInPlace.{IsKnownAbsent}
 use Rattle.laws_lives.specs.SessionSteps.{TellsNothing}
 use Rattle.laws_calls.specs.States.{State}
+use Rattle.laws_lives.specs.Sessions.{SessionTxn}
+use Rattle.laws_calls.specs.Prepares.{RefusesPrepare}
 
 -- ---- which refusals tell of a record
 
@@ -27,3 +29,9 @@ known_absent o id held s t named may none = subst (λ o. IsSomeAnd o (IsKnownAbs
 
 pub same_entry : (m n t u : ℕ) (x : Exchange) → m ≡ n → t ≡ u → Exchanged m t x ≡ Exchanged n u x
 same_entry m n t u x e f = ap (λ m. Exchanged m t x) e ∙ ap (λ t. Exchanged n t x) f
+
+-- what refuses a prepare is no word on records
+pub prepare_tells : (s : State) (a : SessionTxn) (global : List ℕ) (f : Fault) → RefusesPrepare s a global f → TellsNothing f
+prepare_tells s a global f (inl bad) = subst TellsNothing (sym bad.0) tt
+prepare_tells s a global f (inr (inl used)) = subst TellsNothing (sym used.0) tt
+prepare_tells s a global f (inr (inr full)) = subst TellsNothing (sym full.0) tt

@@ -57,7 +57,7 @@ module _ (g : Geometry) (s : State) (a : SessionTxn) where
       stream = refl;
       last = sym (length-push s.log _);
     };
-    writes = inr (inr (inr (inr (record { txn = a.txn; id = e.0; image = e.1; next = next_to_undo a.txn s.log; log = refl; logged = logged; counts = refl }))));
+    writes = inr (inr (inr (inr (inl (record { txn = a.txn; id = e.0; image = e.1; next = next_to_undo a.txn s.log; log = refl; logged = logged; counts = refl })))));
     few = λ few.
         let undo = undo_rolled a.undo kept r in
         let same = as_many a.txn undo s.sessions.active in

@@ -64,7 +64,7 @@ module _ (g : Geometry) (stream_bytes : ℕ) (bytes : List ℕ) (store : HasStor
   abbrev opened : State
   opened = opened_empty stream_bytes
 
-  abbrev begun_one : State
+  abbrev pub begun_one : State
   begun_one = begun opened 1
 
   abbrev one : SessionTxn
@@ -76,22 +76,22 @@ module _ (g : Geometry) (stream_bytes : ℕ) (bytes : List ℕ) (store : HasStor
   abbrev inserting : State
   inserting = store_locked begun_one one 0 bytes
 
-  abbrev inserted : State
+  abbrev pub inserted : State
   inserted = answered (behind_place inserting one first_id) one insert (Inserted first_id) one_slot
 
-  abbrev one_changed : SessionTxn
+  abbrev pub one_changed : SessionTxn
   one_changed = with_list one (with_before_image empty nothing_to_undo first_id)
 
-  is_opened : IsOpened (opening_with empty) [] opened
+  pub is_opened : IsOpened (opening_with empty) [] opened
   is_opened = empty_is_opened stream_bytes
 
-  begins : EventMoves g opened (Called 1 call.Begin (Done (Began 1))) begun_one
+  pub begins : EventMoves g opened (Called 1 call.Begin (Done (Began 1))) begun_one
   begins = (tt, at_once g opened 1 call.Begin (Done (Began 1)) begun_one (inr (inr (inr (inl (refl, λ w m. absurd m, refl, (refl, omega arith, ((omega arith, omega arith), omega arith), refl, refl)))))) tt)
 
   fits : FitsAt inserting first_id (Some bytes)
   fits = record { there = omega arith; most = short; room = omega arith }
 
-  nothing_there : get inserting.sessions.records first_id ≡ None
+  pub nothing_there : get inserting.sessions.records first_id ≡ None
   nothing_there = get-empty rid_cmp first_id
 
   place : IsPlaceOf g inserting 1 0 bytes first_id
@@ -113,7 +113,7 @@ module _ (g : Geometry) (stream_bytes : ℕ) (bytes : List ℕ) (store : HasStor
   may : MayChange (behind_place inserting one first_id) first_id (Some bytes) one_slot
   may = let before = ap image_cost nothing_there in record { fits = fits; logs = (omega arith, omega arith); grows = grows }
 
-  inserts : EventMoves g begun_one (Called 1 insert (Done (Inserted first_id))) inserted
+  pub inserts : EventMoves g begun_one (Called 1 insert (Done (Inserted first_id))) inserted
   inserts = (
     tt,
     at_once g begun_one 1 insert (Done (Inserted first_id)) inserted (inr (inr (inr (inr (inr (inl (
@@ -133,14 +133,14 @@ module _ (g : Geometry) (stream_bytes : ℕ) (bytes : List ℕ) (store : HasStor
     ))))))) tt,
   )
 
-  inserted_there : get inserted.sessions.records first_id ≡ Some bytes
+  pub inserted_there : get inserted.sessions.records first_id ≡ Some bytes
   inserted_there = put_here empty first_id (Some bytes)
 
   -- the images before the insert
-  abbrev first_image : Image
+  abbrev pub first_image : Image
   first_image = get inserting.sessions.records first_id
 
-  abbrev images : List (Rid × Image)
+  abbrev pub images : List (Rid × Image)
   images = (first_id, first_image) ∷ []
 
   -- ---- an abort that is interrupted
@@ -235,7 +235,7 @@ module _ (g : Geometry) (stream_bytes : ℕ) (bytes : List ℕ) (store : HasStor
     ended = commit_ended forced one_back
 
     saves : EventMoves g inserted (Called 1 call.Savepoint (Done (Saved 0))) saved
-    saves = (tt, at_once g inserted 1 call.Savepoint (Done (Saved 0)) saved (inr (inr (inr (inr (inr (inl (refl, λ w m. absurd m, (one_changed, ((inl refl, refl, omega arith), refl), inr (inl (refl, inr (inr (inr (refl, (omega arith, refl, refl)))))))))))))) tt)
+    saves = (tt, at_once g inserted 1 call.Savepoint (Done (Saved 0)) saved (inr (inr (inr (inr (inr (inl (refl, λ w m. absurd m, (one_changed, ((inl refl, refl, omega arith), refl), inr (inl (refl, inr (inr (inr (inl (refl, (omega arith, refl, refl))))))))))))))) tt)
 
     -- the one slot of the page has room for either record
     one_fits : (befores : ℕ) → befores ≤ MAX_RECORD_BYTES → Fits (record { image = get inserted.sessions.records first_id; claim = max (image_len (get inserted.sessions.records first_id)) befores } ∷ []) 0 (length more)

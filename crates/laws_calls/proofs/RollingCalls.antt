@@ -40,10 +40,11 @@ use Rattle.laws_calls.proofs.TakenLocks.{sessions_of, state_of}
 use Rattle.laws_calls.specs.CallHistories.{txn_of}
 use Rattle.laws_calls.specs.CallSteps.{AbortStep, aborted}
 use Rattle.laws_calls.proofs.Waiters.{released_under_way, with_other_undo, freed_quiet}
-use Rattle.laws_calls.specs.LockedStates.{IsSessionsState, entries_of_call}
+use Rattle.laws_calls.specs.LockedStates.{IsSessionsState}
 use Rattle.laws_calls.specs.Rollbacks.{BackToStep, Interrupts, IsInterrupted, IsUnwound, SavepointStep, TakesCall, put_back}
 use Rattle.laws_calls.specs.StateChanges.{answered}
 use Rattle.laws_calls.specs.States.{HasSeat, State}
+use Rattle.laws_calls.proofs.Told.{entries_told}
 
 -- ---- which calls are taken
 
@@ -72,7 +73,7 @@ interrupts_tell_nothing s f (inl memory) = subst TellsNothing (sym memory) tt
 interrupts_tell_nothing s f (inr page) = page_fault_tells_nothing s f page
 
 -- events keep what holds of the sessions and the log
-by_keeps : (base : ℕ) (o : Opening) (es : List Entry) (g : Geometry) (s : State) (events : List SessionEvent) (new : State) (made : List Entry) → AreSessionsAfter base o es s.sessions s.log
+pub by_keeps : (base : ℕ) (o : Opening) (es : List Entry) (g : Geometry) (s : State) (events : List SessionEvent) (new : State) (made : List Entry) → AreSessionsAfter base o es s.sessions s.log
     → GoesBy g s events new made → AreSessionsAfter base o (es ++ made) new.sessions new.log
 by_keeps base o es g s [] new made k h =
     subst (λ (x : State). AreSessionsAfter base o (es ++ made) x.sessions x.log) (sym h.0)
@@ -162,19 +163,19 @@ module _ (g : Geometry) (o : Opening) (found : List LogRecord) (es : List Entry)
   refused_exactly c f exact new is nothing same =
       subst (IsSessionsState o found (es ++ refused_entry c f ∷ [])) (sym same) (refusal_told o found es s k session c f (subst TellsNothing (sym is) nothing))
 
-  pub savepoint_kept : a.undo.rolling ≡ None → (step : Step) (new : State) → SavepointStep s a step new → IsSessionsState o found (es ++ entries_of_call s session call.Savepoint step) new
+  pub savepoint_kept : a.undo.rolling ≡ None → (step : Step) (new : State) → SavepointStep s a step new → IsSessionsState o found (es ++ entries_told s session call.Savepoint step) new
   savepoint_kept whole (Done answer) new h =
-      subst (IsSessionsState o found (es ++ entries_of_call s session call.Savepoint (Done answer))) (sym h.2)
+      subst (IsSessionsState o found (es ++ entries_told s session call.Savepoint (Done answer))) (sym h.2)
       (answer_given o found es s k session a mem of call.Savepoint tt answer s.counts tt h.1 (inl whole))
   savepoint_kept whole (Refused f) new h = refused_exactly call.Savepoint f fault.TooManySavepoints new h.0 tt h.2
   savepoint_kept whole (Waits wait) new h = absurd h
   savepoint_kept whole Nothing new h = absurd h
 
   pub back_kept : (n : ℕ) → TakesCall a.undo (call.BackTo n) → (step : Step) (new : State) → BackToStep s a n step new
-      → IsSessionsState o found (es ++ entries_of_call s session (call.BackTo n) step) new
+      → IsSessionsState o found (es ++ entries_told s session (call.BackTo n) step) new
   back_kept n takes (Done answer) new h =
-      subst (IsSessionsState o found (es ++ entries_of_call s session (call.BackTo n) (Done answer))) (sym h.2)
-      (subst (λ (x : Answer). IsSessionsState o found (es ++ entries_of_call s session (call.BackTo n) (Done x)) (answered s a (call.BackTo n) x s.counts)) (sym h.1)
+      subst (IsSessionsState o found (es ++ entries_told s session (call.BackTo n) (Done answer))) (sym h.2)
+      (subst (λ (x : Answer). IsSessionsState o found (es ++ entries_told s session (call.BackTo n) (Done x)) (answered s a (call.BackTo n) x s.counts)) (sym h.1)
       (answer_given o found es s k session a mem of (call.BackTo n) tt WentBack s.counts tt (h.0, refl) (may_go_back a n takes)))
   back_kept n takes (Refused f) new (inl h) = refused_exactly (call.BackTo n) f fault.NoSavepoint new h.0 tt h.2
   back_kept n takes (Refused f) new (inr h) = interrupted_kept (To n) (rolls_back a n takes h.0) (call.BackTo n) f new h.1
@@ -209,10 +210,10 @@ module _ (g : Geometry) (o : Opening) (found : List LogRecord) (es : List Entry)
             released_stay_quiet s.locks.requests a.txn b.txn k.locks.orderly (k.locks.waits running b (among_without a.txn b s.sessions.active there).0 idle);
       })
 
-  pub abort_kept : is_waiting a.txn s.locks.requests ≡ false → (step : Step) (new : State) → AbortStep s a step new → IsSessionsState o found (es ++ entries_of_call s session call.Abort step) new
+  pub abort_kept : is_waiting a.txn s.locks.requests ≡ false → (step : Step) (new : State) → AbortStep s a step new → IsSessionsState o found (es ++ entries_told s session call.Abort step) new
   abort_kept quiet (Done answer) new h =
-      subst (IsSessionsState o found (es ++ entries_of_call s session call.Abort (Done answer))) (sym h.1)
-      (subst (λ (x : Answer). IsSessionsState o found (es ++ entries_of_call s session call.Abort (Done x)) (aborted s a)) (sym h.0) (aborted_kept quiet))
+      subst (IsSessionsState o found (es ++ entries_told s session call.Abort (Done answer))) (sym h.1)
+      (subst (λ (x : Answer). IsSessionsState o found (es ++ entries_told s session call.Abort (Done x)) (aborted s a)) (sym h.0) (aborted_kept quiet))
   abort_kept quiet (Refused f) new h = interrupted_kept Whole tt call.Abort f new h
   abort_kept quiet (Waits wait) new h = absurd h
   abort_kept quiet Nothing new h = absurd h

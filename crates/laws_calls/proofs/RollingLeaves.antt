@@ -25,7 +25,7 @@ refused_table fault.Device s = record { locks = refl; held = refl; waiting = ref
 refused_table (fault.Damaged device place) s = record { locks = refl; held = refl; waiting = refl }
 refused_table _ s = record { locks = refl; held = refl; waiting = refl }
 
-table_then : (s mid new : State) → LeavesTable s mid → LeavesTable mid new → LeavesTable s new
+pub table_then : (s mid new : State) → LeavesTable s mid → LeavesTable mid new → LeavesTable s new
 table_then s mid new h k = record { locks = k.locks ∙ h.locks; held = k.held ∙ h.held; waiting = k.waiting ∙ h.waiting }
 
 unwound_table : (s : State) (a : SessionTxn) (r : Rollback) (mid : State) → IsUnwound s a r mid → LeavesTable s mid

@@ -33,10 +33,11 @@ use Rattle.laws_calls.proofs.Sessions.{its_txn, one_member, own_of, refused_seat
 use Rattle.laws_calls.proofs.Unwinding.{front, front_least, front_whole, its_list, list_twice, may_roll_on, none_since, with_list}
 use Rattle.laws_calls.specs.CallHistories.{txn_of}
 use Rattle.laws_calls.specs.CallSteps.{aborted}
-use Rattle.laws_calls.specs.LockedStates.{IsSessionsState, entries_of_call}
+use Rattle.laws_calls.specs.LockedStates.{IsSessionsState}
 use Rattle.laws_calls.specs.Rollbacks.{BackToStep, IsInterrupted, SavepointStep, TakesCall, put_back}
 use Rattle.laws_calls.specs.StateChanges.{after_refusal, answered}
 use Rattle.laws_calls.specs.States.{DoesNotWait, HasSeat, IsOfSession, State}
+use Rattle.laws_calls.proofs.Told.{entries_told}
 
 -- the transaction of a session that does not wait is aborted, and its locks go
 pub record Aborts (s : State) (session : ℕ) (new : State) (made : List Entry) : Type 0 where
@@ -53,7 +54,7 @@ module _ (g : Geometry) (o : Opening) (found : List LogRecord) (es : List Entry)
 
   -- its session has no call that waits
   back_is_quiet : (undo : UndoList) (kept : List (Rid × Image)) (e : Rid × Image) (r : Rollback) → IsQuiet s (PutBack (with_list a undo) kept e r)
-  back_is_quiet undo kept e r b w m n same its = idle w n (sym same ∙ ap (λ (x : SessionTxn). x.session) (one_member k b a m mem.0 its) ∙ of)
+  back_is_quiet undo kept e r b w m n same its = idle w n (sym same ∙ ap (λ (x : SessionTxn). x.session) (one_member k b a m.0 mem.0 its) ∙ of)
 
   -- it is its session's with another undo list
   own_rolled : (undo : UndoList) → IsOwn (record s.sessions { active = with_undo a.txn undo s.sessions.active }) (with_list a undo)
@@ -101,9 +102,9 @@ module _ (g : Geometry) (o : Opening) (found : List LogRecord) (es : List Entry)
 
   -- ---- a savepoint
 
-  pub savepoint_passes : a.undo.rolling ≡ None → (step : Step) (new : State) → SavepointStep s a step new → Passes new (entries_of_call s session call.Savepoint step)
+  pub savepoint_passes : a.undo.rolling ≡ None → (step : Step) (new : State) → SavepointStep s a step new → Passes new (entries_told s session call.Savepoint step)
   savepoint_passes whole (Done answer) new h =
-      subst (λ (n : State). Passes n (entries_of_call s session call.Savepoint (Done answer))) (sym h.2)
+      subst (λ (n : State). Passes n (entries_told s session call.Savepoint (Done answer))) (sym h.2)
       (reply_passes g o found es session a of whole s k mem call.Savepoint tt answer s.counts tt h.1 (savepoint_takes g s a answer))
   savepoint_passes whole (Refused f) new h = exactly_passes call.Savepoint f fault.TooManySavepoints new h.0 tt h.2
   savepoint_passes whole (Waits wait) new h = absurd h
@@ -202,10 +203,10 @@ module _ (g : Geometry) (o : Opening) (found : List LogRecord) (es : List Entry)
         by [] none = back_at_once none
         by (e ∷ others) since = back_in_steps e others since
 
-  pub back_passes : (n : ℕ) → TakesCall a.undo (call.BackTo n) → (step : Step) (new : State) → BackToStep s a n step new → Passes new (entries_of_call s session (call.BackTo n) step)
+  pub back_passes : (n : ℕ) → TakesCall a.undo (call.BackTo n) → (step : Step) (new : State) → BackToStep s a n step new → Passes new (entries_told s session (call.BackTo n) step)
   back_passes n takes (Done answer) new h =
-      subst (λ (x : State). Passes x (entries_of_call s session (call.BackTo n) (Done answer))) (sym h.2)
-      (subst (λ (x : Answer). Passes (answered s a (call.BackTo n) x s.counts) (entries_of_call s session (call.BackTo n) (Done x))) (sym h.1)
+      subst (λ (x : State). Passes x (entries_told s session (call.BackTo n) (Done answer))) (sym h.2)
+      (subst (λ (x : Answer). Passes (answered s a (call.BackTo n) x s.counts) (entries_told s session (call.BackTo n) (Done x))) (sym h.1)
       (subst (λ (e : Entry). Passes (answered s a (call.BackTo n) WentBack s.counts) (e ∷ []))
       (same_entry a.session session a.txn (txn_of s.sessions session) (exchange (call.BackTo n) (Ok WentBack)) of (sym (its_txn s.sessions a session mem.1 of))) (back_answered n h.0 takes)))
   back_passes n takes (Refused f) new (inl h) = exactly_passes (call.BackTo n) f fault.NoSavepoint new h.0 tt h.2
@@ -215,5 +216,5 @@ module _ (g : Geometry) (o : Opening) (found : List LogRecord) (es : List Entry)
 
   -- ---- an abort
 
-  pub abort_refused_passes : (f : Fault) (new : State) → IsInterrupted s a Whole f new → Passes new (entries_of_call s session call.Abort (Refused f))
+  pub abort_refused_passes : (f : Fault) (new : State) → IsInterrupted s a Whole f new → Passes new (entries_told s session call.Abort (Refused f))
   abort_refused_passes f new h = interrupted_passes Whole tt call.Abort f new h

@@ -1,5 +1,5 @@
 -- A call of a session, whatever it comes to: what the sessions are after its entry.
-use Rattle.std.proofs.Common.{◌≡◌, ◌≢◌, inl, inr, ⊎_elim, ◌+◌, ◌<◌, ◌++◌, ◌∷◌, ℕ, List, [], false, None, Some, Ok, Err, refl, sym, ap, subst, ◌∙◌, length, arith}
+use Rattle.std.proofs.Common.{◌≡◌, ◌≢◌, inl, inr, ⊎_elim, ◌+◌, ◌<◌, ◌++◌, ◌∷◌, ℕ, List, [], false, None, Some, Ok, Err, refl, sym, ap, subst, ◌∙◌, length, arith, ◌⊎◌}
 use Rattle.std.specs.Prelude.{◌≤◌, IsSomeAnd, Option}
 use Rattle.std.proofs.lemmas.List.Elements.{All-weaker}
 use Rattle.shore_types.specs.declared.faults.Fault.{Fault}
@@ -29,7 +29,7 @@ use Rattle.shore_model.specs.declared.step.Step.{Step}
 use Rattle.shore_model.specs.declared.step.Step.TheVariants.{Done, Nothing, Refused, Waits}
 use Rattle.laws_calls.proofs.GoingOn.{goes_on_kept}
 use Rattle.laws_calls.proofs.LockedAnswers.{absence_told, refusal_told}
-use Rattle.laws_calls.proofs.RefusalTells.{tells_or_none}
+use Rattle.laws_calls.proofs.RefusalTells.{tells_or_none, prepare_tells}
 use Rattle.laws_calls.proofs.RollingCalls.{abort_kept, back_kept, savepoint_kept}
 use Rattle.laws_calls.proofs.Sessions.{AreSessionsAfter, event_keeps, its_txn, commit_seats, own_of}
 use Rattle.laws_calls.proofs.TakenLocks.{sessions_of, state_of}
@@ -38,10 +38,14 @@ use Rattle.laws_calls.specs.StateChanges.{committed, begun}
 use Rattle.laws_calls.specs.CallSteps.{BeginStep, CommitStep, InnerStep, IsTooLong, OpenStep, RefusesEarly, RefusesGranule, CallStep, InDoubtStep, OutsideStep, listed_in_doubt}
 use Rattle.laws_calls.specs.Rollbacks.{TakesCall}
 use Rattle.laws_calls.proofs.Waiters.{without_quiet, seat_moved}
-use Rattle.laws_calls.specs.LockedStates.{IsSessionsState, entries_of_call}
+use Rattle.laws_calls.specs.LockedStates.{IsSessionsState}
 use Rattle.laws_calls.specs.States.{DoesNotWait, HasNoTxn, IsOfSession, State, HasSeat}
 use Rattle.shore_model.specs.declared.sessions.SessionState.{SessionState}
 use Rattle.laws_calls.proofs.Listings.{listing_steps}
+use Rattle.laws_calls.specs.Prepares.{PrepareStep, granules_in_ex, prepared}
+use Rattle.laws_calls.proofs.PrepareSteps.{prepare_state}
+use Rattle.laws_calls.proofs.Told.{entries_told}
+use Rattle.laws_calls.proofs.Outside.{Resolving, early_tells}
 
 module _ (g : Geometry) (o : Opening) (found : List LogRecord) (es : List Entry) (s : State) (k : IsSessionsState o found es s) (session : ℕ) where
   -- ---- a begin
@@ -70,25 +74,25 @@ module _ (g : Geometry) (o : Opening) (found : List LogRecord) (es : List Entry)
           let above = mine.2 in
           let none : a.txn ≡ 0 = ap (λ (p : SessionState). p.txn) (sym mine.1 ∙ ap s.sessions.seats same ∙ idle) in omega arith
 
-  begin_kept : (step : Step) (new : State) → BeginStep s session step new → IsSessionsState o found (es ++ entries_of_call s session call.Begin step) new
+  begin_kept : (step : Step) (new : State) → BeginStep s session step new → IsSessionsState o found (es ++ entries_told s session call.Begin step) new
   begin_kept (Done answer) new h =
-      subst (IsSessionsState o found (es ++ entries_of_call s session call.Begin (Done answer))) (sym h.4)
-      (subst (λ (x : Answer). IsSessionsState o found (es ++ entries_of_call s session call.Begin (Done x)) (begun s session)) (sym h.3) (begun_state h.0))
+      subst (IsSessionsState o found (es ++ entries_told s session call.Begin (Done answer))) (sym h.4)
+      (subst (λ (x : Answer). IsSessionsState o found (es ++ entries_told s session call.Begin (Done x)) (begun s session)) (sym h.3) (begun_state h.0))
   begin_kept (Waits wait) new h = absurd h
   begin_kept (Refused f) new h =
-      subst (IsSessionsState o found (es ++ entries_of_call s session call.Begin (Refused f))) (sym h.1)
+      subst (IsSessionsState o found (es ++ entries_told s session call.Begin (Refused f))) (sym h.1)
       (refusal_told o found es s k session call.Begin f (⊎_elim (λ one. subst TellsNothing (sym one.0) tt) (λ more. ⊎_elim (λ two. subst TellsNothing (sym two.0) tt) (λ three. subst TellsNothing (sym three.0) tt) more) h.0))
   begin_kept Nothing new h = absurd h
 
   -- ---- a commit
 
-  commit_kept : (a : SessionTxn) → a.undo.rolling ≡ None → IsOfSession s session a → is_waiting a.txn s.locks.requests ≡ false → (step : Step) (new : State) → CommitStep s a step new → IsSessionsState o found (es ++ entries_of_call s session call.Commit step) new
+  commit_kept : (a : SessionTxn) → a.undo.rolling ≡ None → IsOfSession s session a → is_waiting a.txn s.locks.requests ≡ false → (step : Step) (new : State) → CommitStep s a step new → IsSessionsState o found (es ++ entries_told s session call.Commit step) new
   commit_kept a whole mem quiet (Done answer) new h = absurd h
   commit_kept a whole mem quiet (Refused f) new h = absurd h
   commit_kept a whole mem quiet Nothing new h = absurd h
   commit_kept a whole mem quiet (Waits wait) new h =
-      subst (IsSessionsState o found (es ++ entries_of_call s session call.Commit (Waits wait))) (sym h.1)
-      (subst (λ w. IsSessionsState o found (es ++ entries_of_call s session call.Commit (Waits w)) (committed s a)) (sym h.0)
+      subst (IsSessionsState o found (es ++ entries_told s session call.Commit (Waits wait))) (sym h.1)
+      (subst (λ w. IsSessionsState o found (es ++ entries_told s session call.Commit (Waits w)) (committed s a)) (sym h.0)
       (state_of o found es s k (es ++ Decided (decision.Commit (txn_of s.sessions session)) ∷ []) (committed s a)
       (subst (λ t. AreSessionsAfter (length found) o (es ++ Decided (decision.Commit t) ∷ []) (committed s a).sessions (committed s a).log)
       (sym (its_txn s.sessions a session mem.0.1 mem.1))
@@ -101,6 +105,21 @@ module _ (g : Geometry) (o : Opening) (found : List LogRecord) (es : List Entry)
         waiters = without_quiet s.locks.requests s.sessions a.txn quiet k.locks.waiters;
         waits = λ running b there idle. k.locks.waits running b (among_without a.txn b s.sessions.active there).0 (λ w m. idle w (inr m));
       })))
+
+  -- ---- a prepare
+
+  prepare_kept : (a : SessionTxn) → a.undo.rolling ≡ None → IsOfSession s session a → is_waiting a.txn s.locks.requests ≡ false → (global : List ℕ) (step : Step) (new : State)
+      → PrepareStep s a global step new → IsSessionsState o found (es ++ entries_told s session (call.Prepare global) step) new
+  prepare_kept a whole mem quiet global (Waits wait) new h =
+      subst (IsSessionsState o found (es ++ entries_told s session (call.Prepare global) (Waits wait))) (sym h.4)
+      (subst (λ w. IsSessionsState o found (es ++ entries_told s session (call.Prepare global) (Waits w)) (prepared s a global (granules_in_ex s a))) (sym h.3)
+      (subst (λ t. IsSessionsState o found (es ++ Decided (decision.Prepare t global) ∷ []) (prepared s a global (granules_in_ex s a))) (sym (its_txn s.sessions a session mem.0.1 mem.1))
+      (prepare_state g o found es s k a mem.0 whole global h.1 quiet)))
+  prepare_kept a whole mem quiet global (Refused f) new h =
+      subst (IsSessionsState o found (es ++ entries_told s session (call.Prepare global) (Refused f))) (sym h.1)
+      (refusal_told o found es s k session (call.Prepare global) f (prepare_tells s a global f h.0))
+  prepare_kept a whole mem quiet global (Done answer) new h = absurd h
+  prepare_kept a whole mem quiet global Nothing new h = absurd h
 
   -- ---- before the locks
 
@@ -155,53 +174,60 @@ module _ (g : Geometry) (o : Opening) (found : List LogRecord) (es : List Entry)
   quiet_of running a mem idle = k.locks.waits running a mem.0.0 (λ w m spared same. idle w m (same ∙ mem.1))
 
   open_kept : s.failed ≡ false → (a : SessionTxn) → a.undo.rolling ≡ None → IsOfSession s session a → DoesNotWait s session → (c : Call) (step : Step) (new : State) → OpenStep g s a c step new
-      → IsSessionsState o found (es ++ entries_of_call s session c step) new
+      → IsSessionsState o found (es ++ entries_told s session c step) new
   open_kept running a whole mem idle c step new (inl h) =
-      subst (IsSessionsState o found (es ++ entries_of_call s session c step)) (sym h.3)
-      (subst (λ (x : Step). IsSessionsState o found (es ++ entries_of_call s session c x) s) (sym h.2) (early_kept a whole mem c h.0 h.1))
+      subst (IsSessionsState o found (es ++ entries_told s session c step)) (sym h.3)
+      (subst (λ (x : Step). IsSessionsState o found (es ++ entries_told s session c x) s) (sym h.2) (early_kept a whole mem c h.0 h.1))
   open_kept running a whole mem idle c step new (inr (inl h)) =
       goes_on_kept g o found es session a mem.1 whole s k mem.0 (quiet_of running a mem idle) c step new h.1
   open_kept running a whole mem idle c step new (inr (inr (inl h))) =
-      subst (λ (x : Call). IsSessionsState o found (es ++ entries_of_call s session x step) new) (sym h.0) (commit_kept a whole mem (quiet_of running a mem idle) step new h.1)
-  open_kept running a whole mem idle c step new (inr (inr (inr h))) =
-      subst (λ (x : Call). IsSessionsState o found (es ++ entries_of_call s session x step) new) (sym h.0) (savepoint_kept g o found es session a mem.1 s k mem.0 whole step new h.1)
+      subst (λ (x : Call). IsSessionsState o found (es ++ entries_told s session x step) new) (sym h.0) (commit_kept a whole mem (quiet_of running a mem idle) step new h.1)
+  open_kept running a whole mem idle c step new (inr (inr (inr (inr h)))) =
+      subst (λ (x : Call). IsSessionsState o found (es ++ entries_told s session x step) new) (sym h.1) (prepare_kept a whole mem (quiet_of running a mem idle) h.0 step new h.2)
+  open_kept running a whole mem idle c step new (inr (inr (inr (inl h)))) =
+      subst (λ (x : Call). IsSessionsState o found (es ++ entries_told s session x step) new) (sym h.0) (savepoint_kept g o found es session a mem.1 s k mem.0 whole step new h.1)
 
-  refused_call : (c : Call) (step : Step) (new : State) (f : Fault) → TellsNothing f → step ≡ Refused f → new ≡ s → IsSessionsState o found (es ++ entries_of_call s session c step) new
+  refused_call : (c : Call) (step : Step) (new : State) (f : Fault) → TellsNothing f → step ≡ Refused f → new ≡ s → IsSessionsState o found (es ++ entries_told s session c step) new
   refused_call c step new f nothing is same =
-      subst (IsSessionsState o found (es ++ entries_of_call s session c step)) (sym same)
-      (subst (λ (x : Step). IsSessionsState o found (es ++ entries_of_call s session c x) s) (sym is) (refusal_told o found es s k session c f nothing))
+      subst (IsSessionsState o found (es ++ entries_told s session c step)) (sym same)
+      (subst (λ (x : Step). IsSessionsState o found (es ++ entries_told s session c x) s) (sym is) (refusal_told o found es s k session c f nothing))
 
   inner_kept : s.failed ≡ false → (a : SessionTxn) → IsOfSession s session a → DoesNotWait s session → (c : Call) (step : Step) (new : State) → InnerStep g s a c step new
-      → IsSessionsState o found (es ++ entries_of_call s session c step) new
+      → IsSessionsState o found (es ++ entries_told s session c step) new
   inner_kept running a mem idle c step new (inl h) = refused_call c step new fault.MustAbort tt h.2 h.3
   inner_kept running a mem idle c step new (inr (inl h)) = open_kept running a h.0 mem idle c step new h.1
   inner_kept running a mem idle c step new (inr (inr (inl h))) =
-      subst (λ (x : Call). IsSessionsState o found (es ++ entries_of_call s session x step) new) (sym h.1)
+      subst (λ (x : Call). IsSessionsState o found (es ++ entries_told s session x step) new) (sym h.1)
       (back_kept g o found es session a mem.1 s k mem.0 h.0 (subst (TakesCall a.undo) h.1 h.2) step new h.3)
   inner_kept running a mem idle c step new (inr (inr (inr h))) =
-      subst (λ (x : Call). IsSessionsState o found (es ++ entries_of_call s session x step) new) (sym h.0) (abort_kept g o found es session a mem.1 s k mem.0 (quiet_of running a mem idle) step new h.1)
+      subst (λ (x : Call). IsSessionsState o found (es ++ entries_told s session x step) new) (sym h.0) (abort_kept g o found es session a mem.1 s k mem.0 (quiet_of running a mem idle) step new h.1)
 
-  outside_kept : (c : Call) (step : Step) (new : State) → OutsideStep s c step new → IsSessionsState o found (es ++ entries_of_call s session c step) new
-  outside_kept c step new h = subst (λ (x : Call). IsSessionsState o found (es ++ entries_of_call s session x step) new) (sym h.0) (by step new h.1)
-    where
-      by : (step : Step) (new : State) → InDoubtStep s step new → IsSessionsState o found (es ++ entries_of_call s session call.InDoubt step) new
-      by (Done answer) new h =
-          subst (IsSessionsState o found (es ++ entries_of_call s session call.InDoubt (Done answer))) (sym h.1)
-          (subst (λ (x : Answer). IsSessionsState o found (es ++ entries_of_call s session call.InDoubt (Done x)) s) (sym h.0)
-          (state_of o found es s k (es ++ entries_of_call s session call.InDoubt (Done (AreInDoubt (listed_in_doubt s.sessions)))) s
-          (event_keeps (length found) o es s.sessions s.sessions (AnswerInDoubt session (txn_of s.sessions session) (listed_in_doubt s.sessions)) s.log (sessions_of o found es s k)
-          (listing_steps k session)) k.locks))
-      by (Waits wait) new h = absurd h
-      by (Refused f) new h = absurd h
-      by Nothing new h = absurd h
+  listing_kept : (step : Step) (new : State) → InDoubtStep s step new → IsSessionsState o found (es ++ entries_told s session call.InDoubt step) new
+  listing_kept (Done answer) new h =
+      subst (IsSessionsState o found (es ++ entries_told s session call.InDoubt (Done answer))) (sym h.1)
+      (subst (λ (x : Answer). IsSessionsState o found (es ++ entries_told s session call.InDoubt (Done x)) s) (sym h.0)
+      (state_of o found es s k (es ++ entries_told s session call.InDoubt (Done (AreInDoubt (listed_in_doubt s.sessions)))) s
+      (event_keeps (length found) o es s.sessions s.sessions (AnswerInDoubt session (txn_of s.sessions session) (listed_in_doubt s.sessions)) s.log (sessions_of o found es s k)
+      (listing_steps k session)) k.locks))
+  listing_kept (Waits wait) new h = absurd h
+  listing_kept (Refused f) new h = absurd h
+  listing_kept Nothing new h = absurd h
 
-  pub session_call_kept : (c : Call) (step : Step) (new : State) → CallStep g s session c step new → IsSessionsState o found (es ++ entries_of_call s session c step) new
-  session_call_kept c step new (inl h) = refused_call c step new fault.Memory tt h.0 h.1
-  session_call_kept c step new (inr (inl h)) = refused_call c step new fault.Failed tt h.1 h.2
-  session_call_kept c step new (inr (inr (inl h))) = refused_call c step new fault.Busy tt h.2 h.3
+  -- a resolve that begins goes on by its own stages
+  outside_kept : (c : Call) (step : Step) (new : State) → OutsideStep s session c step new → IsSessionsState o found (es ++ entries_told s session c step) new ⊎ Resolving s session c step new
+  outside_kept c step new (inl h) = inl (subst (λ (x : Call). IsSessionsState o found (es ++ entries_told s session x step) new) (sym h.0) (listing_kept step new h.1))
+  outside_kept c step new (inr h) = ⊎_elim
+      (λ early. inl (refused_call c step new early.0 (early_tells s session h.0 h.1 early.0 early.1) early.2 early.3))
+      (λ goes. inr (record { global = h.0; asked = h.1; is = h.2; may = goes.0; to = goes.1 })) h.3
+
+  pub session_call_kept : (c : Call) (step : Step) (new : State) → CallStep g s session c step new
+      → IsSessionsState o found (es ++ entries_told s session c step) new ⊎ (Resolving s session c step new × DoesNotWait s session)
+  session_call_kept c step new (inl h) = inl (refused_call c step new fault.Memory tt h.0 h.1)
+  session_call_kept c step new (inr (inl h)) = inl (refused_call c step new fault.Failed tt h.1 h.2)
+  session_call_kept c step new (inr (inr (inl h))) = inl (refused_call c step new fault.Busy tt h.2 h.3)
   session_call_kept c step new (inr (inr (inr (inl h)))) =
-      subst (λ (x : Call). IsSessionsState o found (es ++ entries_of_call s session x step) new) (sym h.2) (begin_kept step new h.3)
-  session_call_kept c step new (inr (inr (inr (inr (inl h))))) = refused_call c step new fault.NoTransaction tt h.4 h.5
-  session_call_kept c step new (inr (inr (inr (inr (inr (inr (inl h))))))) = refused_call c step new fault.IsPrepared tt h.4 h.5
-  session_call_kept c step new (inr (inr (inr (inr (inr (inr (inr h))))))) = outside_kept c step new h.2
-  session_call_kept c step new (inr (inr (inr (inr (inr (inl h)))))) = inner_kept h.0 h.2.0 h.2.1 h.1 c step new h.2.2
+      inl (subst (λ (x : Call). IsSessionsState o found (es ++ entries_told s session x step) new) (sym h.2) (begin_kept step new h.3))
+  session_call_kept c step new (inr (inr (inr (inr (inl h))))) = inl (refused_call c step new fault.NoTransaction tt h.4 h.5)
+  session_call_kept c step new (inr (inr (inr (inr (inr (inr (inl h))))))) = inl (refused_call c step new fault.IsPrepared tt h.4 h.5)
+  session_call_kept c step new (inr (inr (inr (inr (inr (inr (inr h))))))) = ⊎_elim inl (λ r. inr (r, h.1)) (outside_kept c step new h.2)
+  session_call_kept c step new (inr (inr (inr (inr (inr (inl h)))))) = inl (inner_kept h.0 h.2.0 h.2.1 h.1 c step new h.2.2)

@@ -1,196 +1,60 @@
 -- Each call and each resume of a session under locks comes to something.
-use Rattle.std.proofs.Common.{◌≡◌, ◌≢◌, ◌⊎◌, inl, inr, ⊎_elim, ◌+◌, ◌≤◌, ◌<◌, ℕ, List, ◌∷◌, Bool, true, false, Some, None, Option, refl, sym, ap, subst, ◌∙◌, length, Ok, Err, map}
-use Rattle.std.specs.FinMap.{get}
-use Rattle.std.specs.Prelude.{Option, IsSome, IsSomeAnd, IsTrue, Result, slice_get}
+use Rattle.std.proofs.Common.{◌≡◌, ◌≢◌, ◌⊎◌, inl, inr, ⊎_elim, ◌+◌, ◌≤◌, ◌<◌, ℕ, List, ◌∷◌, Bool, true, false, Some, None, Option, refl, sym, ap, subst, ◌∙◌, length, Ok, Err, map, nat_eq, []}
+use Rattle.std.specs.Prelude.{Option, IsTrue, Result}
 use Rattle.std.proofs.lemmas.Bool.{cases_Bool}
-use Rattle.shore_types.specs.Images.{Image}
-use Rattle.shore_types.specs.Layout.{HasSlot}
+use Rattle.shore_types.specs.Layout.{HasGranule, HasSlot}
 use Rattle.shore_types.specs.Locking.{level_of}
 use Rattle.shore_types.specs.declared.faults.Fault.{Fault}
 use Rattle.shore_types.specs.declared.faults.Fault.TheVariants as fault
 use Rattle.shore_types.specs.declared.ids.Rid.{Rid}
 use Rattle.shore_types.specs.declared.layout.Geometry.{Geometry}
-use Rattle.shore_types.specs.declared.layout.TheConstants.{ENDING_COST, LAST_TXN, MAX_RECORD_BYTES, MAX_SAVEPOINTS, MAX_SLOTS, MAX_TRANSACTIONS}
+use Rattle.shore_types.specs.declared.layout.TheConstants.{ENDING_COST, LAST_TXN, MAX_RECORD_BYTES, MAX_SAVEPOINTS, MAX_SLOTS, MAX_TRANSACTIONS, MAX_GLOBAL_ID_BYTES}
 use Rattle.shore_types.specs.declared.locking.Granule.{Granule}
 use Rattle.shore_types.specs.declared.locking.Granule.TheVariants as granule
 use Rattle.shore_types.specs.declared.locking.Mode.{Mode}
-use Rattle.shore_types.specs.declared.locking.Mode.TheVariants.{EX}
 use Rattle.shore_model.specs.Modes.{is_allowed}
-use Rattle.shore_model.specs.Records.{scan_of}
-use Rattle.shore_model.specs.declared.calls.Answer.{Answer}
-use Rattle.shore_model.specs.declared.calls.Answer.TheVariants.{Aborted, Began, Committed, Deleted, Got, Inserted, Locked, Saved, Scanned, Updated, WentBack, AreInDoubt, Prepared}
+use Rattle.shore_model.specs.declared.calls.Answer.TheVariants.{Aborted, Began, Committed, Saved, WentBack, AreInDoubt, Prepared, Resolved}
 use Rattle.shore_model.specs.declared.calls.Call.{Call}
 use Rattle.shore_model.specs.declared.calls.Call.TheVariants as call
 use Rattle.shore_model.specs.declared.histories.Entry.{Entry}
 use Rattle.shore_model.specs.declared.histories.Opening.{Opening}
 use Rattle.shore_model.specs.declared.log_records.LogRecord.{LogRecord}
-use Rattle.shore_model.specs.declared.requests.Request.{Request}
 use Rattle.shore_locks.specs.Tables.{is_waiting}
-use Rattle.shore_path.specs.Walks.{acquired}
 use Rattle.shore_path.specs.declared.answers.Acquired.{Acquired}
 use Rattle.shore_path.specs.declared.answers.Acquired.TheVariants as acquire
-use Rattle.shore_path.specs.declared.answers.OnConflict.TheVariants as conflict
-use Rattle.laws_locks.proofs.Places.{EndsWell, acquired_ends}
-use Rattle.laws_locks.specs.CallLocks.{Asked, CanLockNow, lock_asked_by}
-use Rattle.laws_room.proofs.Fitting.{delete_fits}
-use Rattle.laws_room.specs.Claims.{SlotCounts}
+use Rattle.laws_locks.specs.CallLocks.{Asked, lock_asked_by}
 use Rattle.laws_lives.proofs.Lists.{within_or_beyond, mapped_one}
 use Rattle.shore_model.specs.declared.rollbacks.Rollback.{Rollback}
 use Rattle.shore_model.specs.declared.rollbacks.Rollback.TheVariants.{To, Whole}
-use Rattle.laws_lives.specs.Sessions.{SessionTxn, in_doubt_of, resolved_of}
+use Rattle.laws_lives.specs.Sessions.{SessionTxn, in_doubt_of, resolved_of, in_use}
 use Rattle.laws_lives.specs.Views.{IsAmong}
 use Rattle.shore_model.specs.declared.step.Step.{Step}
 use Rattle.shore_model.specs.declared.step.Step.TheVariants.{Done, Nothing, Refused, Waits}
 use Rattle.shore_model.specs.declared.step.Wait.{Wait}
 use Rattle.shore_model.specs.declared.step.Wait.TheVariants.{Durable, Lock}
 use Rattle.laws_calls.proofs.AcquireAnswers.{acquire_fault, lock_fault_ordinary}
-use Rattle.laws_calls.proofs.Decided.{IsOrdinary, OrNot, at_most, both, fits_or_not, grown, grows, image_or_none, less_than, none_or_not, ordinary, page_or_not, room_or_not, same_number, store_or_not, waits_or_not}
-use Rattle.laws_calls.proofs.LowestPlaces.{lowest_or_none}
+use Rattle.laws_calls.proofs.Decided.{IsOrdinary, OrNot, at_most, both, less_than, ordinary, page_or_not, room_or_not, same_number, store_or_not, waits_or_not}
 use Rattle.laws_calls.proofs.SessionInversions.{IsLockless}
 use Rattle.laws_calls.proofs.Sessions.{in_one}
 use Rattle.laws_calls.specs.CallHistories.{IsRoomyState}
-use Rattle.laws_calls.specs.StateChanges.{CanLog, ComesOfState, FitsAt, MayChange, answered, decision_waiting, committed, wait_refused, begun}
-use Rattle.laws_calls.specs.CallSteps.{AnswersBehind, BeginStep, CallGoesOn, HasGranule, HasLocked, HasPlace, InnerStep, IsPlaceOf, MayAsk, RefusesBehind, RefusesEarly, RefusesGranule, RefusesId, RefusesLock, ResumesWait, ServesTxn, CallStep, ResumeStep, aborted, behind_lock, behind_place, commit_ended, lock_outcome, lock_waiting, on_conflict_of, place_outcome, txn_count, NeedsTxn, listed_in_doubt, prepare_ended}
+use Rattle.laws_calls.specs.StateChanges.{ComesOfState, answered, decision_waiting, committed, wait_refused, begun}
+use Rattle.laws_calls.specs.CallSteps.{BeginStep, InnerStep, MayAsk, RefusesEarly, RefusesGranule, RefusesId, RefusesLock, ResumesWait, CallStep, ResumeStep, aborted, behind_lock, commit_ended, lock_outcome, lock_waiting, on_conflict_of, txn_count, NeedsTxn, listed_in_doubt, prepare_ended}
 use Rattle.laws_calls.specs.Events.{IsStateAfter}
-use Rattle.shore_model.specs.Calls.{IsServed}
 use Rattle.laws_calls.specs.Rollbacks.{TakesCall}
 use Rattle.laws_calls.specs.SessionWaits.{IsDecisionWait, IsLockWait}
 use Rattle.laws_calls.specs.Victims.{TellsVictim}
-use Rattle.laws_calls.specs.States.{DoesNotWait, HasNoTxn, IsOfSession, State, Waiting, next_number, page_slots, HasPrepared}
+use Rattle.laws_calls.specs.States.{DoesNotWait, HasNoTxn, IsOfSession, State, Waiting, next_number, HasPrepared}
 use Rattle.shore_model.specs.declared.sessions.SessionState.{SessionState}
 use Rattle.laws_lives.specs.OwnSeats.{IsIn, seat_of}
 use Rattle.laws_lives.specs.Sessions
-
-abbrev pub GoesSomewhere : Geometry → State → SessionTxn → Call → Type 0
-GoesSomewhere g s a c = (step : Step) × (new : State) × CallGoesOn g s a c step new × ComesOfState step
-
-pub can_lock_or_not : (rs : List Request) (t : ℕ) (at : Granule) (mode : Mode) → OrNot (CanLockNow rs t at mode)
-can_lock_or_not rs t at mode = by (acquired conflict.Refuse (record { limit = length rs + 4; requests = rs }) t at mode).answer
-  where
-    by : (r : Result Acquired Fault) → OrNot (r ≡ Ok acquire.Done)
-    by (Ok acquire.Done) = inl refl
-    by (Ok (acquire.Waiting h)) = inr (λ e. absurd cc)
-    by (Err f) = inr (λ e. absurd cc)
-
--- ---- the place of an insert
-
-module _ (g : Geometry) (s : State) (t store : ℕ) (bytes : List ℕ) where
-  serves_or_not : (id : Rid) → OrNot (ServesTxn g s t store bytes id)
-  serves_or_not id =
-      ⊎_elim
-      (λ h. inl (record { of_store = h.0; inside = h.1.0; empty = h.1.1.0; reached = h.1.1.1.0; fits = h.1.1.1.1.0; free = h.1.1.1.1.1 }))
-      (λ none. inr (λ h. none (h.of_store, (h.inside, (h.empty, (h.reached, (h.fits, h.free)))))))
-      (both (same_number id.page.store store) (both (page_or_not g id.page) (both (none_or_not (get s.sessions.records id))
-      (both (at_most id.slot (s.counts id.page)) (both (fits_or_not (page_slots s id.page) id.slot (length bytes)) (can_lock_or_not s.locks.requests t (granule.Record id) EX))))))
-
-  abbrev PlaceOrNone : Type 0
-  PlaceOrNone = ((id : Rid) × IsPlaceOf g s t store bytes id) ⊎ ((id : Rid) → ServesTxn g s t store bytes id → ⊥)
-
-  page_inside : (n : ℕ) (o : Option ℕ) → o ≡ Some n → (page : ℕ) → IsSomeAnd o (λ pages. page < pages) → page < n
-  page_inside n o is page h = subst (λ o. IsSomeAnd o (λ pages. page < pages)) is h
-
-  no_page : (o : Option ℕ) → o ≡ None → (page : ℕ) → IsSomeAnd o (λ pages. page < pages) → ⊥
-  no_page o is page h = subst (λ o. IsSomeAnd o (λ pages. page < pages)) is h
-
-  pub place_or_none : PlaceOrNone
-  place_or_none = by (slice_get g.stores store) refl
-    where
-      by : (o : Option ℕ) → slice_get g.stores store ≡ o → PlaceOrNone
-      by None none = inr (λ id h. no_page (slice_get g.stores id.page.store) (ap (slice_get g.stores) h.of_store ∙ none) id.page.page h.inside)
-      by (Some pages) has =
-          lowest_or_none (ServesTxn g s t store bytes) serves_or_not store pages MAX_SLOTS
-          (λ id h. (h.of_store, page_inside pages (slice_get g.stores id.page.store) (ap (slice_get g.stores) h.of_store ∙ has) id.page.page h.inside, h.fits.there))
-
--- ---- behind the locks
-
-module _ (g : Geometry) (s : State) (a : SessionTxn) (c : Call) (locked : State) (has : HasLocked s a c locked) (roomy : IsRoomyState locked) where
-  answers : (answer : Answer) (new : State) → AnswersBehind g locked a c answer new → GoesSomewhere g s a c
-  answers answer new h = (Done answer, new, (locked, has, h), tt)
-
-  refuses : (f : Fault) (new : State) → RefusesBehind g locked a c f new → IsOrdinary f → GoesSomewhere g s a c
-  refuses f new h is = (Refused f, new, inr (inr (locked, has, h)), ordinary f is)
-
-  -- a change of an id that fits
-  change : (id : Rid) (image : Image) (said : Answer) → FitsAt locked id image
-      → ((counts : SlotCounts) → MayChange locked id image counts → AnswersBehind g locked a c said (answered locked a c said counts))
-      → ((CanLog locked id image → ⊥) → RefusesBehind g locked a c fault.LogFull locked) → GoesSomewhere g s a c
-  change id image said fits may full =
-      ⊎_elim
-      (λ logs. answers said (answered locked a c said (grown locked.counts id)) (may (grown locked.counts id) (record { fits = fits; logs = logs; grows = grows locked.counts id })))
-      (λ none. refuses fault.LogFull locked (full none) tt)
-      (room_or_not locked _)
-
-is_some : (o : Image) (x : List ℕ) → o ≡ Some x → IsSome o
-is_some o x e = cc
-
-module _ (g : Geometry) (s : State) (a : SessionTxn) (locked : State) (roomy : IsRoomyState locked) where
-  module _ (store : ℕ) (bytes : List ℕ) (has : HasLocked s a (call.Insert store bytes) locked) where
-    abbrev Inserting : Type 0
-    Inserting = GoesSomewhere g s a (call.Insert store bytes)
-
-    not_inserted : (f : Fault) (new : State) → RefusesBehind g locked a (call.Insert store bytes) f new → IsOrdinary f → Inserting
-    not_inserted f new h is = refuses g s a (call.Insert store bytes) locked has roomy f new h is
-
-    inserts_there : (id : Rid) → HasPlace g locked a store bytes id → CanLog locked id (Some bytes) → Inserting
-    inserts_there id place logs =
-        answers g s a (call.Insert store bytes) locked has roomy (Inserted id)
-        (answered (behind_place locked a id) a (call.Insert store bytes) (Inserted id) (grown locked.counts id))
-        (id, place, refl, (grown locked.counts id, record { fits = place.0.serves.fits; logs = logs; grows = grows locked.counts id }, refl))
-
-    inserts_at : (id : Rid) → IsPlaceOf g locked a.txn store bytes id → EndsWell (place_outcome locked a id) → Inserting
-    inserts_at id place (inl done) =
-        ⊎_elim
-        (λ logs. inserts_there id (place, done) logs)
-        (λ none. not_inserted fault.LogFull (behind_place locked a id) (inr (inr (inl (refl, (id, (place, done), none, refl))))) tt)
-        (room_or_not locked _)
-    inserts_at id place (inr full) = not_inserted fault.LockTableFull (behind_place locked a id) (inr (inl (refl, (id, place, full, refl)))) tt
-
-    inserts : Inserting
-    inserts =
-        ⊎_elim
-        (λ place. inserts_at place.0 place.1
-        (acquired_ends locked.locks.requests locked.locks.limit (length locked.locks.requests + 4) a.txn (granule.Record place.0) EX place.1.serves.free))
-        (λ none. not_inserted fault.StoreFull locked (inl (refl, none, refl)) tt)
-        (place_or_none g locked a.txn store bytes)
-
-  behind : (c : Call) (lock : Asked) → lock_asked_by c ≡ Some lock → HasLocked s a c locked → GoesSomewhere g s a c
-  behind (call.Get id) lock asks has =
-      ⊎_elim
-      (λ there. answers g s a (call.Get id) locked has roomy (Got there.0) (answered locked a (call.Get id) (Got there.0) locked.counts) ((there.0, there.1, refl), refl))
-      (λ none. refuses g s a (call.Get id) locked has roomy fault.NoRecord locked (none, refl) tt)
-      (image_or_none (get locked.sessions.records id))
-  behind (call.GetForUpdate id) lock asks has =
-      ⊎_elim
-      (λ there. answers g s a (call.GetForUpdate id) locked has roomy (Got there.0) (answered locked a (call.GetForUpdate id) (Got there.0) locked.counts) ((there.0, there.1, refl), refl))
-      (λ none. refuses g s a (call.GetForUpdate id) locked has roomy fault.NoRecord locked (none, refl) tt)
-      (image_or_none (get locked.sessions.records id))
-  behind (call.Insert store bytes) lock asks has = inserts store bytes has
-  behind (call.Update id bytes) lock asks has =
-      ⊎_elim
-      (λ there.
-      let found = is_some (get locked.sessions.records id) there.0 there.1 in
-      ⊎_elim
-      (λ fits. change g s a (call.Update id bytes) locked has roomy id (Some bytes) Updated fits (λ counts may. (found, refl, (counts, may, refl)))
-      (λ none. (inr (inr (refl, found, fits, none)), refl)))
-      (λ none. refuses g s a (call.Update id bytes) locked has roomy fault.StoreFull locked (inr (inl (refl, found, none)), refl) tt)
-      (fits_or_not (page_slots locked id.page) id.slot (length bytes)))
-      (λ none. refuses g s a (call.Update id bytes) locked has roomy fault.NoRecord locked (inl none, refl) tt)
-      (image_or_none (get locked.sessions.records id))
-  behind (call.Delete id) lock asks has =
-      ⊎_elim
-      (λ there.
-      let found = is_some (get locked.sessions.records id) there.0 there.1 in
-      change g s a (call.Delete id) locked has roomy id None Deleted (delete_fits locked.sessions.records locked.sessions.active locked.counts roomy.pages id there.0 there.1).0
-      (λ counts may. (found, refl, (counts, may, refl))) (λ none. (inr (refl, found, none), refl)))
-      (λ none. refuses g s a (call.Delete id) locked has roomy fault.NoRecord locked (inl none, refl) tt)
-      (image_or_none (get locked.sessions.records id))
-  behind (call.Scan store) lock asks has =
-      answers g s a (call.Scan store) locked has roomy (Scanned (scan_of store locked.sessions.records))
-      (answered locked a (call.Scan store) (Scanned (scan_of store locked.sessions.records)) locked.counts) (refl, refl)
-  behind (call.Lock at mode) lock asks has = answers g s a (call.Lock at mode) locked has roomy Locked (answered locked a (call.Lock at mode) Locked locked.counts) (refl, refl)
-  behind (call.TryLock at mode) lock asks has =
-      answers g s a (call.TryLock at mode) locked has roomy Locked (answered locked a (call.TryLock at mode) Locked locked.counts) (refl, refl)
-  behind _ lock asks has = absurd cc
+use Rattle.laws_calls.specs.Prepares.{RefusesPrepare, granules_in_ex, prepared}
+use Rattle.std.specs.List.{AllByRecursion}
+use Rattle.std.specs.Cmp.Lexicographic.{pointwise}
+use Rattle.laws_room.specs.LogRooms.{prepare_cost}
+use Rattle.laws_calls.proofs.ResolveDeciding.{resolve_decides}
+use Rattle.shore_model.specs.declared.calls.Outcome.{Outcome}
+use Rattle.laws_calls.specs.Resolves.{resolve_ended}
+use Rattle.laws_calls.proofs.DecidingLocked.{GoesSomewhere, behind}
 
 -- ---- a call that asks for a lock
 
@@ -211,6 +75,20 @@ module _ (g : Geometry) (s : State) (roomy : IsRoomyState s) (a : SessionTxn) wh
       )
 
 -- ---- calls
+
+-- the call is no resolve
+abbrev pub IsNoResolve : Call → Type 0
+IsNoResolve (call.Resolve global outcome) = ⊥
+IsNoResolve _ = Unit {0}
+
+-- a global id is in use, or not
+unused_or_not : (global : List ℕ) (ps : List (ℕ × List ℕ)) → OrNot (AllByRecursion (λ p. pointwise nat_eq global p.1 ≡ false) ps)
+unused_or_not global [] = inl tt
+unused_or_not global (p ∷ ps) = by (pointwise nat_eq global p.1) refl (unused_or_not global ps)
+  where
+    by : (b : Bool) → pointwise nat_eq global p.1 ≡ b → OrNot (AllByRecursion (λ p. pointwise nat_eq global p.1 ≡ false) ps) → OrNot (AllByRecursion (λ p. pointwise nat_eq global p.1 ≡ false) (p ∷ ps))
+    by true same others = inr (λ h. let clash : true ≡ false = sym same ∙ h.0 in cc)
+    by false other others = ⊎_elim (λ rest. inl (other, rest)) (λ used. inr (λ h. used h.1)) others
 
 abbrev pub SessionComesTo : Geometry → State → ℕ → Call → Type 0
 SessionComesTo g s session c = (step : Step) × (new : State) × CallStep g s session c step new × ComesOfState step
@@ -251,7 +129,7 @@ module _ (g : Geometry) where
       (λ not. inr (fault.BadMode, inl (refl, not), tt))
       (cases_Bool (is_allowed (level_of at) mode))
 
-  asks_or_not : (c : Call) → IsServed c → c ≢ call.Begin → c ≢ call.Commit → (IsLockless c → ⊥) → AsksOrNot c
+  asks_or_not : (c : Call) → NeedsTxn c → c ≢ call.Begin → c ≢ call.Commit → (IsLockless c → ⊥) → AsksOrNot c
   asks_or_not call.Begin served other last locks = absurd (other refl)
   asks_or_not call.Commit served other last locks = absurd (last refl)
   asks_or_not (call.Get id) served other last locks = ⊎_elim (λ has. inl (has, (_, refl))) (λ h. inr h) (id_or_not id)
@@ -279,6 +157,7 @@ module _ (g : Geometry) where
   asks_or_not call.Savepoint served other last locks = absurd (locks tt)
   asks_or_not (call.BackTo n) served other last locks = absurd (locks tt)
   asks_or_not call.Abort served other last locks = absurd (locks tt)
+  asks_or_not (call.Prepare global) served other last locks = absurd (locks tt)
   asks_or_not _ served other last locks = absurd served
 
 module _ (g : Geometry) (s : State) (session : ℕ) where
@@ -302,20 +181,23 @@ module _ (g : Geometry) (s : State) (session : ℕ) where
         room_or_full : (n : ℕ) → (n < MAX_TRANSACTIONS) ⊎ (MAX_TRANSACTIONS ≤ n)
         room_or_full n = ⊎_elim (λ full. inr full) (λ room. inl room) (within_or_beyond MAX_TRANSACTIONS n)
 
-    out_of_txn : (c : Call) → IsServed c → HasNoTxn s session → SessionComesTo g s session c
+    lists : SessionComesTo g s session call.InDoubt
+    lists = (Done (AreInDoubt (listed_in_doubt s.sessions)), s, inr (inr (inr (inr (inr (inr (inr (running, idle, inl (refl, (refl, refl))))))))), tt)
+
+    out_of_txn : (c : Call) → IsNoResolve c → HasNoTxn s session → SessionComesTo g s session c
     out_of_txn call.Begin served none = begin_comes none
     out_of_txn (call.Resolve global outcome) served none = absurd served
-    out_of_txn call.InDoubt served none = absurd served
+    out_of_txn call.InDoubt served none = lists
     out_of_txn c served none = comes_refused c fault.NoTransaction (inr (inr (inr (inr (inl (running, idle, tt, none, refl, refl)))))) tt
 
     -- its transaction is prepared
-    prepared_comes : HasPrepared s session → (c : Call) → IsServed c → SessionComesTo g s session c
+    prepared_comes : HasPrepared s session → (c : Call) → IsNoResolve c → SessionComesTo g s session c
     prepared_comes prepared call.Begin served = begins (Refused fault.AlreadyActive) s (inl (refl, not_none), refl) (ordinary fault.AlreadyActive tt)
       where
         not_none : HasNoTxn s session → ⊥
         not_none none = let clash : false ≡ true = sym (ap (λ (p : SessionState). p.prepared) none) ∙ prepared in cc
     prepared_comes prepared (call.Resolve global outcome) served = absurd served
-    prepared_comes prepared call.InDoubt served = absurd served
+    prepared_comes prepared call.InDoubt served = lists
     prepared_comes prepared c served = comes_refused c fault.IsPrepared (inr (inr (inr (inr (inr (inr (inl (running, idle, tt, prepared, refl, refl)))))))) tt
 
     module _ (roomy : IsRoomyState s) (a : SessionTxn) (mine : IsOfSession s session a) where
@@ -324,7 +206,7 @@ module _ (g : Geometry) (s : State) (session : ℕ) where
 
       -- no rollback is under way
       module _ (whole : a.undo.rolling ≡ None) where
-        asks : (c : Call) → IsServed c → c ≢ call.Begin → c ≢ call.Commit → (IsLockless c → ⊥) → SessionComesTo g s session c
+        asks : (c : Call) → NeedsTxn c → c ≢ call.Begin → c ≢ call.Commit → (IsLockless c → ⊥) → SessionComesTo g s session c
         asks c served other last locks =
             ⊎_elim
             (λ h. let goes = goes_somewhere g s roomy a c h.1.0 h.1.1 in inner c goes.0 goes.1 (inr (inl (whole, inr (inl (h.0, goes.2))))) goes.3)
@@ -334,10 +216,27 @@ module _ (g : Geometry) (s : State) (session : ℕ) where
         saves : SessionComesTo g s session call.Savepoint
         saves =
             ⊎_elim
-            (λ full. inner call.Savepoint (Refused fault.TooManySavepoints) s (inr (inl (whole, inr (inr (inr (refl, (refl, full, refl))))))) (ordinary fault.TooManySavepoints tt))
+            (λ full. inner call.Savepoint (Refused fault.TooManySavepoints) s (inr (inl (whole, inr (inr (inr (inl (refl, (refl, full, refl)))))))) (ordinary fault.TooManySavepoints tt))
             (λ less. inner call.Savepoint (Done (Saved (length a.undo.marks))) (answered s a call.Savepoint (Saved (length a.undo.marks)) s.counts)
-            (inr (inl (whole, inr (inr (inr (refl, (less, refl, refl))))))) tt)
+            (inr (inl (whole, inr (inr (inr (inl (refl, (less, refl, refl)))))))) tt)
             (within_or_beyond MAX_SAVEPOINTS (length a.undo.marks))
+
+        prepares : (global : List ℕ) → SessionComesTo g s session (call.Prepare global)
+        prepares global =
+            ⊎_elim
+            (λ good. ⊎_elim
+            (λ unused. ⊎_elim
+            (λ may. inner (call.Prepare global) (Waits (Durable (next_number s))) (prepared s a global (granules_in_ex s a))
+            (inr (inl (whole, inr (inr (inr (inr (global, refl, (good, unused, may, refl, refl)))))))) tt)
+            (λ full. refuses fault.LogFull (inr (inr (refl, good, unused, full))) tt)
+            (room_or_not s (prepare_cost global (granules_in_ex s a) + ENDING_COST)))
+            (λ used. refuses fault.GlobalIdInUse (inr (inl (refl, good, used))) tt)
+            (unused_or_not global (in_use s.sessions)))
+            (λ bad. refuses fault.BadGlobalId (inl (refl, bad)) tt)
+            (both (less_than 0 (length global)) (at_most (length global) MAX_GLOBAL_ID_BYTES))
+          where
+            refuses : (f : Fault) → RefusesPrepare s a global f → IsOrdinary f → SessionComesTo g s session (call.Prepare global)
+            refuses f h is = inner (call.Prepare global) (Refused f) s (inr (inl (whole, inr (inr (inr (inr (global, refl, (h, refl)))))))) (ordinary f is)
 
       -- a way back that is taken
       goes_back : (n : ℕ) → TakesCall a.undo (call.BackTo n) → SessionComesTo g s session (call.BackTo n)
@@ -378,7 +277,7 @@ module _ (g : Geometry) (s : State) (session : ℕ) where
       not_taken c r rolls abort back takes =
           ⊎_elim (λ none. let clash : Some r ≡ None = sym rolls ∙ none in cc) (⊎_elim abort (λ on. back on.0 on.2)) takes
 
-      in_txn : (c : Call) → IsServed c → SessionComesTo g s session c
+      in_txn : (c : Call) → IsNoResolve c → SessionComesTo g s session c
       in_txn call.Begin served = begins (Refused fault.AlreadyActive) s (inl (refl, in_one s session a mine), refl) (ordinary fault.AlreadyActive tt)
       in_txn call.Abort served = inner call.Abort (Done Aborted) (aborted s a) (inr (inr (inr (refl, (refl, refl))))) tt
       in_txn (call.BackTo n) served = ⊎_elim (goes_back n) (must_abort (call.BackTo n) tt) (taken_back n)
@@ -392,17 +291,34 @@ module _ (g : Geometry) (s : State) (session : ℕ) where
           by : (o : Option Rollback) → a.undo.rolling ≡ o → SessionComesTo g s session call.Savepoint
           by None whole = saves whole
           by (Some r) rolls = must_abort call.Savepoint tt (not_taken call.Savepoint r rolls (λ e. cc) (λ n e. cc))
+      in_txn (call.Prepare global) served = by a.undo.rolling refl
+        where
+          by : (o : Option Rollback) → a.undo.rolling ≡ o → SessionComesTo g s session (call.Prepare global)
+          by None whole = prepares whole global
+          by (Some r) rolls = must_abort (call.Prepare global) tt (not_taken (call.Prepare global) r rolls (λ e. cc) (λ n e. cc))
       in_txn (call.Resolve global outcome) served = absurd served
-      in_txn call.InDoubt served = absurd served
+      in_txn call.InDoubt served = lists
       in_txn c served = by a.undo.rolling refl
         where
           by : (o : Option Rollback) → a.undo.rolling ≡ o → SessionComesTo g s session c
-          by None whole = asks whole c served (λ e. cc) (λ e. cc) (λ none. none)
+          by None whole = asks whole c tt (λ e. cc) (λ e. cc) (λ none. none)
           by (Some r) rolls = must_abort c tt (not_taken c r rolls (λ e. cc) (λ n e. cc))
 
   module _ (o : Opening) (found : List LogRecord) (es : List Entry) (k : IsStateAfter o found es s) (roomy : IsRoomyState s) where
-    pub call_comes_to_something : (c : Call) → IsServed c → SessionComesTo g s session c
-    call_comes_to_something c served = by s.failed refl
+    resolve_comes_to : (global : List ℕ) (asked : Outcome) → SessionComesTo g s session (call.Resolve global asked)
+    resolve_comes_to global asked = by s.failed refl
+      where
+        by : (b : Bool) → s.failed ≡ b → SessionComesTo g s session (call.Resolve global asked)
+        by true failed = comes_refused (call.Resolve global asked) fault.Failed (inr (inl (failed, refl, refl))) tt
+        by false running = ⊎_elim
+            (λ w. comes_refused (call.Resolve global asked) fault.Busy (inr (inr (inl (running, λ idle. idle w.0 w.1 w.2, refl, refl)))) tt)
+            (λ idle.
+            let to = resolve_decides o found es s k session global asked in
+            (to.0, to.1, inr (inr (inr (inr (inr (inr (inr (running, idle, inr (global, asked, refl, to.2)))))))), to.3))
+            (waits_or_not session s.waiting)
+
+    other_comes : (c : Call) → IsNoResolve c → SessionComesTo g s session c
+    other_comes c served = by s.failed refl
       where
         no_commit_waits : s.failed ≡ false → DoesNotWait s session → (a : SessionTxn) → IsAmong a s.sessions.committing → a.session ≡ session → ⊥
         no_commit_waits running idle a committing of = let w = k.waits.all running a committing in idle (decision_waiting a.session call.Commit w.0) w.1 of
@@ -431,17 +347,9 @@ module _ (g : Geometry) (s : State) (session : ℕ) where
             (k.sessions.seats.there session))
             (waits_or_not session s.waiting)
 
-    -- who is in doubt is told to any session
-    pub in_doubt_comes_to_something : SessionComesTo g s session call.InDoubt
-    in_doubt_comes_to_something = by s.failed refl
-      where
-        by : (b : Bool) → s.failed ≡ b → SessionComesTo g s session call.InDoubt
-        by true failed = comes_refused call.InDoubt fault.Failed (inr (inl (failed, refl, refl))) tt
-        by false running =
-            ⊎_elim
-            (λ w. comes_refused call.InDoubt fault.Busy (inr (inr (inl (running, λ idle. idle w.0 w.1 w.2, refl, refl)))) tt)
-            (λ idle. (Done (AreInDoubt (listed_in_doubt s.sessions)), s, inr (inr (inr (inr (inr (inr (inr (running, idle, (refl, (refl, refl))))))))), tt))
-            (waits_or_not session s.waiting)
+    pub call_comes_to_something : (c : Call) → SessionComesTo g s session c
+    call_comes_to_something (call.Resolve global asked) = resolve_comes_to global asked
+    call_comes_to_something c = other_comes c tt
 
     -- ---- resumes
 
@@ -458,7 +366,9 @@ module _ (g : Geometry) (s : State) (session : ℕ) where
           ⊎_elim
           (λ durable. ⊎_elim
           (λ c. resumes spared (Durable h.number) wait_is (Done Committed) (commit_ended s c.0) (inr (inl (durable, refl, (c.0, c.1, c.2, refl), c.3))) tt)
-          (λ p. resumes spared (Durable h.number) wait_is (Done Prepared) (prepare_ended s w.session p.0 p.1) (inr (inr (durable, refl, (p.0, p.1, p.2, p.3, refl)))) tt)
+          (⊎_elim
+          (λ p. resumes spared (Durable h.number) wait_is (Done Prepared) (prepare_ended s w.session p.0 p.1) (inr (inr (inl (durable, refl, (p.0, p.1, p.2, p.3, refl))))) tt)
+          (λ r. resumes spared (Durable h.number) wait_is (Done Resolved) (resolve_ended s w.session r.0) (inr (inr (inr (durable, refl, (r.0, r.1, r.2, refl))))) tt))
           h.unanswered)
           (λ not_yet. resumes spared (Durable h.number) wait_is (Waits (Durable h.number)) s (inl (not_yet, refl, refl)) tt)
           (within_or_beyond h.number s.durable)

@@ -32,6 +32,7 @@ use Rattle.laws_calls.specs.StateChanges.{after_refusal, wait_refused}
 use Rattle.laws_calls.specs.CallSteps.{BeginStep, CallGoesOn, InnerStep, OpenStep, RefusesBehind, RefusesEarly, RefusesGranule, RefusesId, RefusesLock, ResumesWait, CallStep, ResumeStep, lock_outcome, on_conflict_of}
 use Rattle.laws_calls.specs.Events.{IsStateAfter}
 use Rattle.laws_calls.specs.States.{State, Waiting}
+use Rattle.laws_calls.proofs.Outside.{outside_refused}
 
 -- it is no failure
 abbrev pub IsHarmless : Fault → Type 0
@@ -125,11 +126,17 @@ module _ (g : Geometry) (o : Opening) (found : List LogRecord) (es : List Entry)
   interrupted_fails : (a : SessionTxn) (r : Rollback) (f : Fault) (new : State) → IsInterrupted s a r f new → Fails f new
   interrupted_fails a r f new h = subst (Fails f) (sym h.3) (after_fails f h.0)
 
+  interrupted_fails_at : (d : State) (a : SessionTxn) (f : Fault) (new : State) → IsInterrupted d a Whole f new → Fails f new
+  interrupted_fails_at d a f new h = subst (Fails f) (sym h.3) (after_fails f h.0)
+
   open_fails : (a : SessionTxn) → is_waiting a.txn s.locks.requests ≡ false → (c : Call) (f : Fault) (new : State) → OpenStep g s a c (Refused f) new → Fails f new
   open_fails a quiet c f new (inl h) = refused_exactly f h.0 new h.2 (early_harmless g c h.0 h.1)
   open_fails a quiet c f new (inr (inl h)) = on_fails g s a k.sessions.locks.orderly quiet c f new h.1
   open_fails a quiet c f new (inr (inr (inl h))) = absurd h.1
-  open_fails a quiet c f new (inr (inr (inr h))) = exactly f fault.TooManySavepoints new h.1.0 tt
+  open_fails a quiet c f new (inr (inr (inr (inl h)))) = exactly f fault.TooManySavepoints new h.1.0 tt
+  open_fails a quiet c f new (inr (inr (inr (inr h)))) = ⊎_elim
+      (λ bad. exactly f fault.BadGlobalId new bad.0 tt)
+      (⊎_elim (λ used. exactly f fault.GlobalIdInUse new used.0 tt) (λ full. exactly f fault.LogFull new full.0 tt)) h.2.0
 
   inner_fails : (a : SessionTxn) → is_waiting a.txn s.locks.requests ≡ false → (c : Call) (f : Fault) (new : State) → InnerStep g s a c (Refused f) new → Fails f new
   inner_fails a quiet c f new (inl h) = refused_exactly f fault.MustAbort new h.2 tt
@@ -144,7 +151,12 @@ module _ (g : Geometry) (o : Opening) (found : List LogRecord) (es : List Entry)
   call_fails session c f new (inr (inr (inr (inl h)))) = begin_fails s session f new h.3
   call_fails session c f new (inr (inr (inr (inr (inl h))))) = refused_exactly f fault.NoTransaction new h.4 tt
   call_fails session c f new (inr (inr (inr (inr (inr (inr (inl h))))))) = refused_exactly f fault.IsPrepared new h.4 tt
-  call_fails session c f new (inr (inr (inr (inr (inr (inr (inr h))))))) = absurd h.2.1
+  call_fails session c f new (inr (inr (inr (inr (inr (inr (inr h))))))) = ⊎_elim
+      (λ early. ⊎_elim
+      (λ active. exactly f fault.AlreadyActive new active.0 tt)
+      (⊎_elim (λ none. exactly f fault.NoGlobalId new none.0 tt) (λ must. exactly f fault.MustAbort new must.0 tt)) early.refuses)
+      (λ stopped. interrupted_fails_at stopped.decided stopped.txn f new stopped.how)
+      (outside_refused s session c f new h.2)
   call_fails session c f new (inr (inr (inr (inr (inr (inl h)))))) =
       let mem = h.2.1 in
       inner_fails h.2.0 (k.sessions.locks.waits h.0 h.2.0 mem.0.0 (λ w m spared same. h.1 w m (same ∙ mem.1))) c f new h.2.2
@@ -152,7 +164,8 @@ module _ (g : Geometry) (o : Opening) (found : List LogRecord) (es : List Entry)
   wait_fails : (w : Waiting) (wait : Wait) (f : Fault) (new : State) → ResumesWait g s w wait (Refused f) new → Fails f new
   wait_fails w (Durable n) f new (inl h) = let clash = h.1 in absurd cc
   wait_fails w (Durable n) f new (inr (inl h)) = let clash = h.1 in absurd cc
-  wait_fails w (Durable n) f new (inr (inr h)) = let clash = h.1 in absurd cc
+  wait_fails w (Durable n) f new (inr (inr (inl h))) = let clash = h.1 in absurd cc
+  wait_fails w (Durable n) f new (inr (inr (inr h))) = let clash = h.1 in absurd cc
   wait_fails w (Lock at) f new h = ⊎_elim
       (λ still. let clash = still.1 in absurd cc)
       (λ free. on_fails g (wait_refused s w.session) h.0 k.sessions.locks.orderly free.0 w.call f new free.1)

@@ -16,7 +16,7 @@ use Rattle.laws_lives.specs.Sessions.{SessionTxn, in_prepared}
 use Rattle.laws_calls.proofs.Acknowledged.{acknowledges_one, inner_asks_none}
 use Rattle.laws_calls.proofs.Growing.{forced_grown, still_there}
 use Rattle.laws_calls.proofs.Links.{Goes, GoesBy, GoesQuietly, IsLeft, IsQuiet}
-use Rattle.laws_calls.proofs.SessionsWaiting.{goes_on_log}
+use Rattle.laws_calls.proofs.LeftWaits.{goes_on_log}
 use Rattle.laws_calls.specs.CallHistories.{IsForced, IsPrefix, txn_of}
 use Rattle.laws_calls.specs.StateChanges.{committed}
 use Rattle.laws_calls.specs.CallSteps.{aborted, commit_ended, prepare_ended}

@@ -132,8 +132,8 @@ module _ (g : Geometry) (stream_bytes : ℕ) (bytes : List ℕ) (store : HasStor
 
   abbrev made : List Entry
   made =
-      entries_of s0 (Called 1 call.Begin (Done (Began 1))) ++ entries_of s1 (Called 1 (call.Insert 0 bytes) (Done (Inserted first_id)))
-      ++ entries_of s2 (Called 1 call.Commit (Waits (Durable 2))) ++ entries_of s3 (Forced 2) ++ entries_of s4 (Resumed 1 (Done Committed)) ++ []
+      entries_of s0 (Called 1 call.Begin (Done (Began 1))) s1 ++ entries_of s1 (Called 1 (call.Insert 0 bytes) (Done (Inserted first_id))) s2
+      ++ entries_of s2 (Called 1 call.Commit (Waits (Durable 2))) s3 ++ entries_of s3 (Forced 2) s4 ++ entries_of s4 (Resumed 1 (Done Committed)) s5 ++ []
 
   pub session_comes_through : (last : State) × (made : List Entry) × IsOpened (opening_with empty) [] (opened_empty stream_bytes)
       × MovesMaking g (opened_empty stream_bytes) (one_insert bytes) last made

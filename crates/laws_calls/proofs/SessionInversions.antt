@@ -17,18 +17,20 @@ use Rattle.shore_model.specs.declared.step.Step.{Step}
 use Rattle.shore_model.specs.declared.step.Step.TheVariants.{Done, Refused, Waits}
 use Rattle.shore_model.specs.declared.step.Wait.{Wait}
 use Rattle.shore_model.specs.declared.step.Wait.TheVariants.{Durable, Lock}
-use Rattle.laws_calls.specs.CallSteps.{AbortStep, AnswersBehind, BeginStep, CommitStep, CallGoesOn, InnerStep, MayAsk, RefusesBehind, RefusesEarly, CallStep, behind_lock, lock_outcome, NeedsTxn}
+use Rattle.laws_calls.specs.CallSteps.{AbortStep, AnswersBehind, BeginStep, CommitStep, CallGoesOn, InnerStep, MayAsk, RefusesBehind, RefusesEarly, CallStep, behind_lock, lock_outcome, NeedsTxn, OutsideStep}
 use Rattle.laws_calls.specs.Rollbacks.{BackToStep, IsInterrupted, SavepointStep, TakesCall}
 use Rattle.laws_calls.specs.Shapes.{rollback_of, store_lock}
 use Rattle.laws_calls.specs.StateChanges.{IsPageFault}
-use Rattle.laws_calls.specs.States.{DoesNotWait, IsOfSession, State}
+use Rattle.laws_calls.specs.States.{DoesNotWait, IsOfSession, State, next_number}
+use Rattle.laws_calls.specs.Prepares.{PrepareStep, RefusesPrepare}
+use Rattle.laws_calls.proofs.Outside.{not_outside, outside_no_lock, outside_waits, CommitWaits, RollbackWaits}
 
 -- ---- clashes of steps
 
 no_done_refused : (answer : Answer) (f : Fault) → Done answer ≡ Refused f → ⊥
 no_done_refused answer f e = cc
 
-no_waits_refused : (wait : Wait) (f : Fault) → Waits wait ≡ Refused f → ⊥
+pub no_waits_refused : (wait : Wait) (f : Fault) → Waits wait ≡ Refused f → ⊥
 no_waits_refused wait f e = cc
 
 pub durable_no_lock : (n : ℕ) (at : Granule) → Durable n ≡ Lock at → ⊥
@@ -70,7 +72,7 @@ IsLockless (call.Scan store) = ⊥
 IsLockless (call.Lock at mode) = ⊥
 IsLockless (call.TryLock at mode) = ⊥
 IsLockless call.Commit = ⊥
-IsLockless (call.Prepare global) = ⊥
+IsLockless (call.Prepare global) = Unit {0}
 IsLockless (call.Resolve global outcome) = ⊥
 IsLockless call.InDoubt = ⊥
 
@@ -78,6 +80,7 @@ pub asks_no_lockless : (c : Call) (lock : Asked) → lock_asked_by c ≡ Some lo
 asks_no_lockless call.Savepoint lock asks h = absurd cc
 asks_no_lockless (call.BackTo n) lock asks h = absurd cc
 asks_no_lockless call.Abort lock asks h = absurd cc
+asks_no_lockless (call.Prepare global) lock asks h = absurd cc
 asks_no_lockless _ lock asks h = h
 
 -- ---- calls that are answered
@@ -116,7 +119,7 @@ module _ (g : Geometry) (s new : State) (session : ℕ) where
   answered_in c answer needs locks (inr (inr (inr (inl h)))) = absurd (subst NeedsTxn h.2 needs)
   answered_in c answer needs locks (inr (inr (inr (inr (inl h))))) = absurd (no_done_refused answer fault.NoTransaction h.4)
   answered_in c answer needs locks (inr (inr (inr (inr (inr (inr (inl h))))))) = absurd (no_done_refused answer fault.IsPrepared h.4)
-  answered_in c answer needs locks (inr (inr (inr (inr (inr (inr (inr h))))))) = absurd (subst NeedsTxn h.2.0 needs)
+  answered_in c answer needs locks (inr (inr (inr (inr (inr (inr (inr h))))))) = absurd (not_outside s session c (Done answer) new needs h.2)
   answered_in c answer needs locks (inr (inr (inr (inr (inr (inl h)))))) = inner h.2.2
     where
       inner : InnerStep g s h.2.0 c (Done answer) new → AnsweredIn g s session c answer new
@@ -124,7 +127,8 @@ module _ (g : Geometry) (s new : State) (session : ℕ) where
       inner (inr (inl (whole, inl x))) = absurd (no_done_refused answer x.0 x.2)
       inner (inr (inl (whole, inr (inl x)))) = record { running = h.0; idle = h.1; txn = h.2.0; of = h.2.1; whole = whole; may = x.0; from = answered_from g s h.2.0 c new answer x.1 }
       inner (inr (inl (whole, inr (inr (inl x))))) = absurd x.1
-      inner (inr (inl (whole, inr (inr (inr x))))) = absurd (locks (subst IsLockless (sym x.0) tt))
+      inner (inr (inl (whole, inr (inr (inr (inl x)))))) = absurd (locks (subst IsLockless (sym x.0) tt))
+      inner (inr (inl (whole, inr (inr (inr (inr x)))))) = absurd x.2
       inner (inr (inr (inl x))) = absurd (locks (subst IsLockless (sym x.1) tt))
       inner (inr (inr (inr x))) = absurd (locks (subst IsLockless (sym x.0) tt))
 
@@ -136,7 +140,7 @@ module _ (g : Geometry) (s new : State) (session : ℕ) where
   answered_of c answer needs (inr (inr (inr (inl h)))) = absurd (subst NeedsTxn h.2 needs)
   answered_of c answer needs (inr (inr (inr (inr (inl h))))) = absurd (no_done_refused answer fault.NoTransaction h.4)
   answered_of c answer needs (inr (inr (inr (inr (inr (inr (inl h))))))) = absurd (no_done_refused answer fault.IsPrepared h.4)
-  answered_of c answer needs (inr (inr (inr (inr (inr (inr (inr h))))))) = absurd (subst NeedsTxn h.2.0 needs)
+  answered_of c answer needs (inr (inr (inr (inr (inr (inr (inr h))))))) = absurd (not_outside s session c (Done answer) new needs h.2)
   answered_of c answer needs (inr (inr (inr (inr (inr (inl h)))))) = (h.2.0, h.2.1, h.2.2)
 
   pub saved_in : (answer : Answer) → CallStep g s session call.Savepoint (Done answer) new
@@ -148,7 +152,8 @@ module _ (g : Geometry) (s new : State) (session : ℕ) where
       by a (inr (inl (whole, inl x))) = absurd x.1
       by a (inr (inl (whole, inr (inl x)))) = absurd x.0
       by a (inr (inl (whole, inr (inr (inl x))))) = absurd x.1
-      by a (inr (inl (whole, inr (inr (inr x))))) = (whole, x.1)
+      by a (inr (inl (whole, inr (inr (inr (inl x)))))) = (whole, x.1)
+      by a (inr (inl (whole, inr (inr (inr (inr x)))))) = absurd x.2
       by a (inr (inr (inl x))) = let clash = x.1 in absurd cc
       by a (inr (inr (inr x))) = let clash = x.0 in absurd cc
 
@@ -164,7 +169,8 @@ module _ (g : Geometry) (s new : State) (session : ℕ) where
       by a (inr (inl (whole, inl x))) = absurd x.1
       by a (inr (inl (whole, inr (inl x)))) = absurd x.0
       by a (inr (inl (whole, inr (inr (inl x))))) = absurd x.1
-      by a (inr (inl (whole, inr (inr (inr x))))) = let clash = x.0 in absurd cc
+      by a (inr (inl (whole, inr (inr (inr (inl x)))))) = let clash = x.0 in absurd cc
+      by a (inr (inl (whole, inr (inr (inr (inr x)))))) = absurd x.2
       by a (inr (inr (inl x))) = (x.2, subst (λ m. BackToStep s a m (Done answer) new) (same_savepoint n x.0 x.1) x.3)
       by a (inr (inr (inr x))) = let clash = x.0 in absurd cc
 
@@ -176,9 +182,14 @@ module _ (g : Geometry) (s new : State) (session : ℕ) where
       by a (inr (inl (whole, inl x))) = absurd x.1
       by a (inr (inl (whole, inr (inl x)))) = absurd x.0
       by a (inr (inl (whole, inr (inr (inl x))))) = absurd x.1
-      by a (inr (inl (whole, inr (inr (inr x))))) = let clash = x.0 in absurd cc
+      by a (inr (inl (whole, inr (inr (inr (inl x)))))) = let clash = x.0 in absurd cc
+      by a (inr (inl (whole, inr (inr (inr (inr x)))))) = absurd x.2
       by a (inr (inr (inl x))) = let clash = x.1 in absurd cc
       by a (inr (inr (inr x))) = x.1
+
+  not_begun : {step : Step} → OutsideStep s session call.Begin step new → ⊥
+  not_begun (inl h) = let clash = h.0 in cc
+  not_begun (inr h) = let clash = h.2 in cc
 
   -- a begin
   pub begun_in : (answer : Answer) → CallStep g s session call.Begin (Done answer) new → (s.failed ≡ false) × DoesNotWait s session × BeginStep s session (Done answer) new
@@ -188,7 +199,7 @@ module _ (g : Geometry) (s new : State) (session : ℕ) where
   begun_in answer (inr (inr (inr (inl h)))) = (h.0, h.1, h.3)
   begun_in answer (inr (inr (inr (inr (inl h))))) = absurd h.2
   begun_in answer (inr (inr (inr (inr (inr (inr (inl h))))))) = absurd h.2
-  begun_in answer (inr (inr (inr (inr (inr (inr (inr h))))))) = let clash : call.Begin ≡ call.InDoubt = h.2.0 in absurd cc
+  begun_in answer (inr (inr (inr (inr (inr (inr (inr h))))))) = absurd (not_begun h.2)
   begun_in answer (inr (inr (inr (inr (inr (inl h)))))) = absurd (no_begin_inside h.2.0 (Done answer) h.2.2)
     where
       no_begin_inside : (a : SessionTxn) (step : Step) → InnerStep g s a call.Begin step new → ⊥
@@ -196,7 +207,8 @@ module _ (g : Geometry) (s new : State) (session : ℕ) where
       no_begin_inside a step (inr (inl (whole, inl x))) = x.1
       no_begin_inside a step (inr (inl (whole, inr (inl x)))) = x.0
       no_begin_inside a step (inr (inl (whole, inr (inr (inl x))))) = let clash = x.0 in cc
-      no_begin_inside a step (inr (inl (whole, inr (inr (inr x))))) = let clash = x.0 in cc
+      no_begin_inside a step (inr (inl (whole, inr (inr (inr (inl x)))))) = let clash = x.0 in cc
+      no_begin_inside a step (inr (inl (whole, inr (inr (inr (inr x)))))) = let clash = x.1 in cc
       no_begin_inside a step (inr (inr (inl x))) = let clash = x.1 in cc
       no_begin_inside a step (inr (inr (inr x))) = let clash = x.0 in cc
 
@@ -213,32 +225,90 @@ module _ (g : Geometry) (s new : State) (session : ℕ) where
 
   -- ---- calls that wait
 
-  -- a commit waits for its record, any other call for a lock
-  pub record WaitsIn (c : Call) (wait : Wait) : Type 0 where
+  -- whatever waits, its session runs and did not wait
+  pub waits_running : (c : Call) (wait : Wait) → CallStep g s session c (Waits wait) new → (s.failed ≡ false) × DoesNotWait s session
+  waits_running c wait (inl h) = absurd (no_waits_refused wait fault.Memory h.0)
+  waits_running c wait (inr (inl h)) = absurd (no_waits_refused wait fault.Failed h.1)
+  waits_running c wait (inr (inr (inl h))) = absurd (no_waits_refused wait fault.Busy h.2)
+  waits_running c wait (inr (inr (inr (inl h)))) = (h.0, h.1)
+  waits_running c wait (inr (inr (inr (inr (inl h))))) = (h.0, h.1)
+  waits_running c wait (inr (inr (inr (inr (inr (inr (inl h))))))) = (h.0, h.1)
+  waits_running c wait (inr (inr (inr (inr (inr (inr (inr h))))))) = (h.0, h.1)
+  waits_running c wait (inr (inr (inr (inr (inr (inl h)))))) = (h.0, h.1)
+
+  -- a call of a transaction under way
+  pub waits_of : (c : Call) (wait : Wait) → NeedsTxn c → CallStep g s session c (Waits wait) new → (a : SessionTxn) × IsOfSession s session a × InnerStep g s a c (Waits wait) new
+  waits_of c wait needs (inl h) = absurd (no_waits_refused wait fault.Memory h.0)
+  waits_of c wait needs (inr (inl h)) = absurd (no_waits_refused wait fault.Failed h.1)
+  waits_of c wait needs (inr (inr (inl h))) = absurd (no_waits_refused wait fault.Busy h.2)
+  waits_of c wait needs (inr (inr (inr (inl h)))) = absurd h.3
+  waits_of c wait needs (inr (inr (inr (inr (inl h))))) = absurd (no_waits_refused wait fault.NoTransaction h.4)
+  waits_of c wait needs (inr (inr (inr (inr (inr (inr (inl h))))))) = absurd (no_waits_refused wait fault.IsPrepared h.4)
+  waits_of c wait needs (inr (inr (inr (inr (inr (inr (inr h))))))) = absurd (not_outside s session c (Waits wait) new needs h.2)
+  waits_of c wait needs (inr (inr (inr (inr (inr (inl h)))))) = h.2
+
+  -- no rollback of it is under way
+  pub waits_whole : (c : Call) (wait : Wait) (a : SessionTxn) → InnerStep g s a c (Waits wait) new → a.undo.rolling ≡ None
+  waits_whole c wait a (inl x) = absurd (no_waits_refused wait fault.MustAbort x.2)
+  waits_whole c wait a (inr (inl x)) = x.0
+  waits_whole c wait a (inr (inr (inl x))) = absurd x.3
+  waits_whole c wait a (inr (inr (inr x))) = absurd x.1
+
+  -- a call that waits for a lock goes on from its locks
+  pub record WaitsOnLock (c : Call) (at : Granule) : Type 0 where
     pub running : s.failed ≡ false
     pub idle : DoesNotWait s session
     pub txn : SessionTxn
     pub of : IsOfSession s session txn
     pub whole : txn.undo.rolling ≡ None
-    pub how : (MayAsk g c × CallGoesOn g s txn c (Waits wait) new) ⊎ ((c ≡ call.Commit) × CommitStep s txn (Waits wait) new)
+    pub may : MayAsk g c
+    pub goes : CallGoesOn g s txn c (Waits (Lock at)) new
 
-  pub waits_in : (c : Call) (wait : Wait) → CallStep g s session c (Waits wait) new → WaitsIn c wait
-  waits_in c wait (inl h) = absurd (no_waits_refused wait fault.Memory h.0)
-  waits_in c wait (inr (inl h)) = absurd (no_waits_refused wait fault.Failed h.1)
-  waits_in c wait (inr (inr (inl h))) = absurd (no_waits_refused wait fault.Busy h.2)
-  waits_in c wait (inr (inr (inr (inl h)))) = absurd h.3
-  waits_in c wait (inr (inr (inr (inr (inl h))))) = absurd (no_waits_refused wait fault.NoTransaction h.4)
-  waits_in c wait (inr (inr (inr (inr (inr (inr (inl h))))))) = absurd (no_waits_refused wait fault.IsPrepared h.4)
-  waits_in c wait (inr (inr (inr (inr (inr (inr (inr h))))))) = absurd h.2.1
-  waits_in c wait (inr (inr (inr (inr (inr (inl h)))))) = let k = how h.2.2 in record { running = h.0; idle = h.1; txn = h.2.0; of = h.2.1; whole = k.0; how = k.1 }
+  pub waits_on_lock : (c : Call) (at : Granule) → CallStep g s session c (Waits (Lock at)) new → WaitsOnLock c at
+  waits_on_lock c at (inl h) = absurd (no_waits_refused (Lock at) fault.Memory h.0)
+  waits_on_lock c at (inr (inl h)) = absurd (no_waits_refused (Lock at) fault.Failed h.1)
+  waits_on_lock c at (inr (inr (inl h))) = absurd (no_waits_refused (Lock at) fault.Busy h.2)
+  waits_on_lock c at (inr (inr (inr (inl h)))) = absurd h.3
+  waits_on_lock c at (inr (inr (inr (inr (inl h))))) = absurd (no_waits_refused (Lock at) fault.NoTransaction h.4)
+  waits_on_lock c at (inr (inr (inr (inr (inr (inr (inl h))))))) = absurd (no_waits_refused (Lock at) fault.IsPrepared h.4)
+  waits_on_lock c at (inr (inr (inr (inr (inr (inr (inr h))))))) = absurd (outside_no_lock s session c at new h.2)
+  waits_on_lock c at (inr (inr (inr (inr (inr (inl h)))))) =
+      let k = how h.2.2 in record { running = h.0; idle = h.1; txn = h.2.0; of = h.2.1; whole = waits_whole c (Lock at) h.2.0 h.2.2; may = k.0; goes = k.1 }
     where
-      how : InnerStep g s h.2.0 c (Waits wait) new
-          → (h.2.0.undo.rolling ≡ None) × ((MayAsk g c × CallGoesOn g s h.2.0 c (Waits wait) new) ⊎ ((c ≡ call.Commit) × CommitStep s h.2.0 (Waits wait) new))
-      how (inl x) = absurd (no_waits_refused wait fault.MustAbort x.2)
-      how (inr (inl (whole, inl x))) = absurd (no_waits_refused wait x.0 x.2)
-      how (inr (inl (whole, inr (inl x)))) = (whole, inl x)
-      how (inr (inl (whole, inr (inr (inl x))))) = (whole, inr x)
-      how (inr (inl (whole, inr (inr (inr x))))) = absurd x.1
+      how : InnerStep g s h.2.0 c (Waits (Lock at)) new → MayAsk g c × CallGoesOn g s h.2.0 c (Waits (Lock at)) new
+      how (inl x) = absurd (no_waits_refused (Lock at) fault.MustAbort x.2)
+      how (inr (inl (whole, inl x))) = absurd (no_waits_refused (Lock at) x.0 x.2)
+      how (inr (inl (whole, inr (inl x)))) = x
+      how (inr (inl (whole, inr (inr (inl x))))) = absurd (durable_no_lock (next_number s) at (sym x.1.0))
+      how (inr (inl (whole, inr (inr (inr (inl x)))))) = absurd x.1
+      how (inr (inl (whole, inr (inr (inr (inr x)))))) = absurd (durable_no_lock (next_number s) at (sym x.2.3))
+      how (inr (inr (inl x))) = absurd x.3
+      how (inr (inr (inr x))) = absurd x.1
+
+  -- one that waits for a record has appended it
+  abbrev pub AppendsIn : Call → ℕ → Type 0
+  AppendsIn c n = (a : SessionTxn) × IsOfSession s session a × (a.undo.rolling ≡ None)
+      × (((c ≡ call.Commit) × CommitStep s a (Waits (Durable n)) new) ⊎ ((global : List ℕ) × (c ≡ call.Prepare global) × PrepareStep s a global (Waits (Durable n)) new))
+
+  pub waits_on_record : (c : Call) (n : ℕ) → CallStep g s session c (Waits (Durable n)) new
+      → AppendsIn c n ⊎ (CommitWaits s session c (Durable n) new ⊎ RollbackWaits s session c (Durable n) new)
+  waits_on_record c n (inl h) = absurd (no_waits_refused (Durable n) fault.Memory h.0)
+  waits_on_record c n (inr (inl h)) = absurd (no_waits_refused (Durable n) fault.Failed h.1)
+  waits_on_record c n (inr (inr (inl h))) = absurd (no_waits_refused (Durable n) fault.Busy h.2)
+  waits_on_record c n (inr (inr (inr (inl h)))) = absurd h.3
+  waits_on_record c n (inr (inr (inr (inr (inl h))))) = absurd (no_waits_refused (Durable n) fault.NoTransaction h.4)
+  waits_on_record c n (inr (inr (inr (inr (inr (inr (inl h))))))) = absurd (no_waits_refused (Durable n) fault.IsPrepared h.4)
+  waits_on_record c n (inr (inr (inr (inr (inr (inr (inr h))))))) = inr (outside_waits s session c (Durable n) new h.2)
+  waits_on_record c n (inr (inr (inr (inr (inr (inl h)))))) = inl (h.2.0, h.2.1, waits_whole c (Durable n) h.2.0 h.2.2, how h.2.2)
+    where
+      how : InnerStep g s h.2.0 c (Waits (Durable n)) new
+          → ((c ≡ call.Commit) × CommitStep s h.2.0 (Waits (Durable n)) new) ⊎ ((global : List ℕ) × (c ≡ call.Prepare global) × PrepareStep s h.2.0 global (Waits (Durable n)) new)
+      how (inl x) = absurd (no_waits_refused (Durable n) fault.MustAbort x.2)
+      how (inr (inl (whole, inl x))) = absurd (no_waits_refused (Durable n) x.0 x.2)
+      how (inr (inl (whole, inr (inl x)))) = absurd (durable_no_lock n x.1.1 x.1.4)
+      how (inr (inl (whole, inr (inr (inl x))))) = inl x
+      how (inr (inl (whole, inr (inr (inr (inl x)))))) = absurd x.1
+      how (inr (inl (whole, inr (inr (inr (inr x)))))) = inr x
       how (inr (inr (inl x))) = absurd x.3
       how (inr (inr (inr x))) = absurd x.1
 
@@ -259,13 +329,14 @@ IsOwn _ = Unit {0}
 not_own : (f h : Fault) → IsOwn f → (IsOwn h → ⊥) → f ≡ h → ⊥
 not_own f h own none e = none (subst IsOwn e own)
 
--- before the locks, by the lock table, or behind the lock
+-- a call that asks for a lock is refused before it, by the lock table, or behind it; a prepare as it says itself
 abbrev pub RefusedFrom : Geometry → State → SessionTxn → Call → Fault → State → Type 0
 RefusedFrom g s a c f new =
     (RefusesEarly g c f × (new ≡ s))
-    ⊎ ((lock : Asked) × (lock_asked_by c ≡ Some lock) × MayAsk g c
+    ⊎ (((lock : Asked) × (lock_asked_by c ≡ Some lock) × MayAsk g c
     × ((((lock_outcome s a c lock).answer ≡ Err f) × (new ≡ behind_lock s a c lock))
     ⊎ (((lock_outcome s a c lock).answer ≡ Ok acquire.Done) × RefusesBehind g (behind_lock s a c lock) a c f new)))
+    ⊎ ((global : List ℕ) × (c ≡ call.Prepare global) × RefusesPrepare s a global f × (new ≡ s)))
 
 module _ (g : Geometry) (s new : State) (session : ℕ) where
   pub record RefusedIn (c : Call) (f : Fault) : Type 0 where
@@ -279,20 +350,20 @@ module _ (g : Geometry) (s new : State) (session : ℕ) where
   abbrev pub NoRollback : Call → Fault → Type 0
   NoRollback c f = (r : Rollback) → rollback_of c ≡ Some r → (x : State) → IsPageFault x f → ⊥
 
-  pub refused_in : (c : Call) (f : Fault) → IsOwn f → c ≢ call.Begin → NoRollback c f → CallStep g s session c (Refused f) new → RefusedIn c f
-  refused_in c f own other none (inl h) = absurd (not_own f fault.Memory own (λ x. x) (same_fault f fault.Memory h.0))
-  refused_in c f own other none (inr (inl h)) = absurd (not_own f fault.Failed own (λ x. x) (same_fault f fault.Failed h.1))
-  refused_in c f own other none (inr (inr (inl h))) = absurd (not_own f fault.Busy own (λ x. x) (same_fault f fault.Busy h.2))
-  refused_in c f own other none (inr (inr (inr (inl h)))) = absurd (other h.2)
-  refused_in c f own other none (inr (inr (inr (inr (inl h))))) = absurd (not_own f fault.NoTransaction own (λ x. x) (same_fault f fault.NoTransaction h.4))
-  refused_in c f own other none (inr (inr (inr (inr (inr (inr (inl h))))))) = absurd (not_own f fault.IsPrepared own (λ x. x) (same_fault f fault.IsPrepared h.4))
-  refused_in c f own other none (inr (inr (inr (inr (inr (inr (inr h))))))) = absurd h.2.1
-  refused_in c f own other none (inr (inr (inr (inr (inr (inl h)))))) = record { running = h.0; idle = h.1; txn = h.2.0; of = h.2.1; from = from h.2.2 }
+  pub refused_in : (c : Call) (f : Fault) → IsOwn f → NeedsTxn c → NoRollback c f → CallStep g s session c (Refused f) new → RefusedIn c f
+  refused_in c f own needs none (inl h) = absurd (not_own f fault.Memory own (λ x. x) (same_fault f fault.Memory h.0))
+  refused_in c f own needs none (inr (inl h)) = absurd (not_own f fault.Failed own (λ x. x) (same_fault f fault.Failed h.1))
+  refused_in c f own needs none (inr (inr (inl h))) = absurd (not_own f fault.Busy own (λ x. x) (same_fault f fault.Busy h.2))
+  refused_in c f own needs none (inr (inr (inr (inl h)))) = absurd (subst NeedsTxn h.2 needs)
+  refused_in c f own needs none (inr (inr (inr (inr (inl h))))) = absurd (not_own f fault.NoTransaction own (λ x. x) (same_fault f fault.NoTransaction h.4))
+  refused_in c f own needs none (inr (inr (inr (inr (inr (inr (inl h))))))) = absurd (not_own f fault.IsPrepared own (λ x. x) (same_fault f fault.IsPrepared h.4))
+  refused_in c f own needs none (inr (inr (inr (inr (inr (inr (inr h))))))) = absurd (not_outside s session c (Refused f) new needs h.2)
+  refused_in c f own needs none (inr (inr (inr (inr (inr (inl h)))))) = record { running = h.0; idle = h.1; txn = h.2.0; of = h.2.1; from = from h.2.2 }
     where
       goes : MayAsk g c → CallGoesOn g s h.2.0 c (Refused f) new → RefusedFrom g s h.2.0 c f new
       goes may (inl x) = absurd (not_own f fault.Memory own (λ x. x) x.0)
-      goes may (inr (inl x)) = inr (x.0, x.1, may, inl (x.2, x.3))
-      goes may (inr (inr x)) = inr (x.1.0, x.1.1, may, inr (x.1.2, subst (λ (l : State). RefusesBehind g l h.2.0 c f new) x.1.3 x.2))
+      goes may (inr (inl x)) = inr (inl (x.0, x.1, may, inl (x.2, x.3)))
+      goes may (inr (inr x)) = inr (inl (x.1.0, x.1.1, may, inr (x.1.2, subst (λ (l : State). RefusesBehind g l h.2.0 c f new) x.1.3 x.2)))
 
       interrupts : (r : Rollback) → rollback_of c ≡ Some r → IsInterrupted s h.2.0 r f new → ⊥
       interrupts r is x = ⊎_elim (λ memory. not_own f fault.Memory own (λ x. x) memory) (none r is x.0) x.2
@@ -302,7 +373,8 @@ module _ (g : Geometry) (s new : State) (session : ℕ) where
       from (inr (inl (whole, inl x))) = inl (subst (RefusesEarly g c) (sym (same_fault f x.0 x.2)) x.1, x.3)
       from (inr (inl (whole, inr (inl x)))) = goes x.0 x.1
       from (inr (inl (whole, inr (inr (inl x))))) = absurd x.1
-      from (inr (inl (whole, inr (inr (inr x))))) = absurd (not_own f fault.TooManySavepoints own (λ x. x) x.1.0)
+      from (inr (inl (whole, inr (inr (inr (inl x)))))) = absurd (not_own f fault.TooManySavepoints own (λ x. x) x.1.0)
+      from (inr (inl (whole, inr (inr (inr (inr x)))))) = inr (inr (x.0, x.1, x.2.0, x.2.1))
       from (inr (inr (inl x))) =
           ⊎_elim
           (λ late. absurd (not_own f fault.NoSavepoint own (λ x. x) late.0))
@@ -325,33 +397,36 @@ module _ (g : Geometry) (s new : State) (session : ℕ) where
   not_early : (c : Call) (f : Fault) (r : Rollback) → rollback_of c ≡ Some r → RefusesEarly g c f → ⊥
   not_early (call.BackTo n) f r is h = h
   not_early call.Abort f r is h = h
+  not_early (call.Resolve global asked) f r is h = h
   not_early _ f r is h = absurd cc
 
   asks_none : (c : Call) (r : Rollback) → rollback_of c ≡ Some r → MayAsk g c → ⊥
   asks_none (call.BackTo n) r is h = h
   asks_none call.Abort r is h = h
+  asks_none (call.Resolve global asked) r is h = h
   asks_none _ r is h = absurd cc
 
   no_begin_rolls : (c : Call) (r : Rollback) → rollback_of c ≡ Some r → c ≡ call.Begin → ⊥
   no_begin_rolls c r is e = let clash : rollback_of call.Begin ≡ Some r = subst (λ (x : Call). rollback_of x ≡ Some r) e is in cc
 
   -- .. by what is no lack of memory
-  pub interrupted_in : (c : Call) (r : Rollback) (f : Fault) → rollback_of c ≡ Some r → IsOwn f → CallStep g s session c (Refused f) new → InterruptedIn r f
-  interrupted_in c r f is own (inl h) = absurd (not_own f fault.Memory own (λ x. x) (same_fault f fault.Memory h.0))
-  interrupted_in c r f is own (inr (inl h)) = absurd (not_own f fault.Failed own (λ x. x) (same_fault f fault.Failed h.1))
-  interrupted_in c r f is own (inr (inr (inl h))) = absurd (not_own f fault.Busy own (λ x. x) (same_fault f fault.Busy h.2))
-  interrupted_in c r f is own (inr (inr (inr (inl h)))) = absurd (no_begin_rolls c r is h.2)
-  interrupted_in c r f is own (inr (inr (inr (inr (inl h))))) = absurd (not_own f fault.NoTransaction own (λ x. x) (same_fault f fault.NoTransaction h.4))
-  interrupted_in c r f is own (inr (inr (inr (inr (inr (inr (inl h))))))) = absurd (not_own f fault.IsPrepared own (λ x. x) (same_fault f fault.IsPrepared h.4))
-  interrupted_in c r f is own (inr (inr (inr (inr (inr (inr (inr h))))))) = absurd h.2.1
-  interrupted_in c r f is own (inr (inr (inr (inr (inr (inl h)))))) = record { running = h.0; idle = h.1; txn = h.2.0; of = h.2.1; how = how h.2.2 }
+  pub interrupted_in : (c : Call) (r : Rollback) (f : Fault) → NeedsTxn c → rollback_of c ≡ Some r → IsOwn f → CallStep g s session c (Refused f) new → InterruptedIn r f
+  interrupted_in c r f needs is own (inl h) = absurd (not_own f fault.Memory own (λ x. x) (same_fault f fault.Memory h.0))
+  interrupted_in c r f needs is own (inr (inl h)) = absurd (not_own f fault.Failed own (λ x. x) (same_fault f fault.Failed h.1))
+  interrupted_in c r f needs is own (inr (inr (inl h))) = absurd (not_own f fault.Busy own (λ x. x) (same_fault f fault.Busy h.2))
+  interrupted_in c r f needs is own (inr (inr (inr (inl h)))) = absurd (no_begin_rolls c r is h.2)
+  interrupted_in c r f needs is own (inr (inr (inr (inr (inl h))))) = absurd (not_own f fault.NoTransaction own (λ x. x) (same_fault f fault.NoTransaction h.4))
+  interrupted_in c r f needs is own (inr (inr (inr (inr (inr (inr (inl h))))))) = absurd (not_own f fault.IsPrepared own (λ x. x) (same_fault f fault.IsPrepared h.4))
+  interrupted_in c r f needs is own (inr (inr (inr (inr (inr (inr (inr h))))))) = absurd (not_outside s session c (Refused f) new needs h.2)
+  interrupted_in c r f needs is own (inr (inr (inr (inr (inr (inl h)))))) = record { running = h.0; idle = h.1; txn = h.2.0; of = h.2.1; how = how h.2.2 }
     where
       how : InnerStep g s h.2.0 c (Refused f) new → IsInterrupted s h.2.0 r f new
       how (inl x) = absurd (not_own f fault.MustAbort own (λ x. x) (same_fault f fault.MustAbort x.2))
       how (inr (inl (whole, inl x))) = absurd (not_early c x.0 r is x.1)
       how (inr (inl (whole, inr (inl x)))) = absurd (asks_none c r is x.0)
       how (inr (inl (whole, inr (inr (inl x))))) = absurd x.1
-      how (inr (inl (whole, inr (inr (inr x))))) = absurd (not_own f fault.TooManySavepoints own (λ x. x) x.1.0)
+      how (inr (inl (whole, inr (inr (inr (inl x)))))) = absurd (not_own f fault.TooManySavepoints own (λ x. x) x.1.0)
+      how (inr (inl (whole, inr (inr (inr (inr x)))))) = let clash : rollback_of (call.Prepare x.0) ≡ Some r = subst (λ (y : Call). rollback_of y ≡ Some r) x.1 is in absurd cc
       how (inr (inr (inl x))) =
           ⊎_elim
           (λ late. absurd (not_own f fault.NoSavepoint own (λ x. x) late.0))

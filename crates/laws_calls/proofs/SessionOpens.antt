@@ -22,7 +22,7 @@ use Rattle.laws_lives.specs.Doubts.{TracksDoubts}
 use Rattle.laws_lives.specs.WholeLogs.{IsWholeLog}
 use Rattle.laws_calls.specs.CallSteps.{ended_among}
 use Rattle.std.proofs.lemmas.Bool.{true≢false}
-use Rattle.laws_lives.specs.Sessions.{PreparedTxn}
+use Rattle.laws_lives.specs.Sessions.{PreparedTxn, EachOnce, ResolvedTxn}
 use Rattle.laws_lives.specs.Soundness.{found_in_doubt}
 use Rattle.shore_model.specs.declared.histories.InDoubt.{InDoubt}
 
@@ -49,6 +49,7 @@ sessions_begin o found s h =
       whole = subst (λ rs. IsWholeLog rs s.sessions) (sym log) (open_is_whole_log o found s.sessions h.on);
       doubts = subst (λ rs. TracksDoubts rs s.sessions) (sym log) (open_tracks_doubts o found s.sessions h.on);
       decides = subst (LogDecides (length found) o []) (sym log) (open_decides o found h.on.opening h.on.doubts);
+      single = subst (λ rs. EachOnce (map (λ (r : ResolvedTxn). r.txn) rs)) (sym h.on.resolving) tt;
       locks = locks_of_open s h.locks;
     }
 
@@ -71,6 +72,8 @@ sessions_after_open o found s h =
         once = λ v w m n same. absurd (subst (IsAmong v) h.waiting m);
         all = λ running a m. absurd (subst (IsAmong a) h.on.committing m);
         prepares = λ running p m e. absurd (true≢false (sym (found_answered p o.in_doubt (subst (IsAmong p) h.on.prepared m)) ∙ e));
+        resolves = λ running r ended. absurd (subst (IsAmong r) h.on.resolving ended.0);
+        resolve_once = λ v w global x y m n first second. absurd (subst (IsAmong v) h.waiting m);
       };
       forced = record {
         least = subst (λ n. length found ≤ n) (sym durable) (omega arith);

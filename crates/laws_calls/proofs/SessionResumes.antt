@@ -1,11 +1,11 @@
 -- A call that waited goes on: what the sessions are after its entry.
-use Rattle.std.proofs.Common.{◌≡◌, ◌≢◌, inl, inr, ⊎_elim, ◌++◌, ◌∷◌, ℕ, List, [], Bool, true, false, cond, None, Ok, refl, sym, ap, subst, ◌∙◌, length, append-nil, ◌≤◌}
+use Rattle.std.proofs.Common.{◌≡◌, ◌≢◌, inl, inr, ⊎_elim, ◌++◌, ◌∷◌, ℕ, List, [], Bool, true, false, cond, None, Ok, refl, sym, ap, subst, ◌∙◌, length, append-nil, ◌≤◌, ◌⊎◌}
 use Rattle.std.specs.Prelude.{◌==◌, IsTrue, not}
 use Rattle.std.proofs.lemmas.Bool.{cases_Bool, eqb-false, eqb-true}
 use Rattle.shore_types.specs.declared.faults.Fault.TheVariants as fault
 use Rattle.shore_types.specs.declared.layout.Geometry.{Geometry}
 use Rattle.shore_types.specs.declared.locking.Granule.{Granule}
-use Rattle.shore_model.specs.declared.calls.Answer.TheVariants.{Committed, Prepared}
+use Rattle.shore_model.specs.declared.calls.Answer.TheVariants.{Committed, Prepared, Resolved}
 use Rattle.shore_model.specs.declared.calls.Call.{Call}
 use Rattle.shore_model.specs.declared.calls.Call.TheVariants as call
 use Rattle.shore_model.specs.declared.histories.Entry.{Entry}
@@ -20,25 +20,27 @@ use Rattle.laws_locks.proofs.Held.{released_below, released_moves, released_orde
 use Rattle.laws_locks.proofs.Waiting.{released_stay_quiet}
 use Rattle.laws_lives.proofs.Members.{txn_of_one}
 use Rattle.laws_lives.specs.SessionSteps.{AnswerCommit, MoveLocks, exchange, entries_by, AnswerPrepare}
-use Rattle.laws_lives.specs.Sessions.{SessionTxn, commit_answered, txns_of, Sessions, seated}
+use Rattle.laws_lives.specs.Sessions.{SessionTxn, commit_answered, txns_of, Sessions, seated, ResolvedTxn}
 use Rattle.laws_lives.specs.Views.{IsAmong}
 use Rattle.shore_model.specs.declared.step.Step.{Step}
 use Rattle.shore_model.specs.declared.step.Step.TheVariants.{Done, Nothing, Refused, Waits}
 use Rattle.shore_model.specs.declared.step.Wait.{Wait}
 use Rattle.shore_model.specs.declared.step.Wait.TheVariants.{Durable, Lock}
-use Rattle.laws_calls.proofs.GoingOn.{asking_is_inner, goes_on_kept}
-use Rattle.laws_calls.proofs.LockedAnswers.{inner_under, refusal_told}
+use Rattle.laws_calls.proofs.GoingOn.{goes_on_kept}
+use Rattle.laws_calls.proofs.LockedAnswers.{refusal_told}
 use Rattle.laws_calls.proofs.RefusalTells.{same_entry}
 use Rattle.laws_calls.proofs.Sessions.{AreSessionsAfter, event_keeps, its_txn, one_txn, then_quiet, committed_seat, one_member, parted, prepare_seats, seat_apart}
 use Rattle.laws_calls.proofs.TakenLocks.{sessions_of, state_of}
-use Rattle.laws_calls.specs.CallHistories.{txn_of}
+use Rattle.laws_calls.specs.CallHistories.{txn_of, answered_under, txn_under}
 use Rattle.laws_calls.specs.StateChanges.{wait_refused}
-use Rattle.laws_calls.specs.CallSteps.{CallGoesOn, ResumesCall, ResumesWait, commit_ended, IsPreparing, prepare_ended}
+use Rattle.laws_calls.specs.CallSteps.{CallGoesOn, ResumesCall, ResumesWait, commit_ended, IsPreparing, prepare_ended, HasEnded}
 use Rattle.laws_calls.proofs.Waiters.{released_under_way, seat_moved}
-use Rattle.laws_calls.specs.LockedStates.{IsSessionsState, entries_of_resumed, entries_of_call, entries_of_wait, HasTrueLocks}
+use Rattle.laws_calls.specs.LockedStates.{IsSessionsState, entries_of_resumed, HasTrueLocks}
 use Rattle.laws_calls.specs.States.{IsOfSession, State, Waiting, without_waiting, AsksForNothing, HasSeat}
 use Rattle.shore_model.specs.Histories.{free}
 use Rattle.shore_model.specs.declared.sessions.SessionState.{SessionState}
+use Rattle.laws_calls.proofs.Told.{entries_told, entries_waited}
+use Rattle.laws_calls.specs.Resolves.{resolve_ended}
 
 -- the calls of other sessions wait on
 pub waits_stay : (session : ℕ) (w : Waiting) (ws : List Waiting) → IsAmong w ws → w.session ≢ session → IsAmong w (without_waiting session ws)
@@ -56,11 +58,38 @@ waits_stay session w (x ∷ ws) there other = by (x.session == session) refl the
 abbrev pub WaitsWhole : State → ℕ → Wait → Type 0
 WaitsWhole s session wait = (at : Granule) (a : SessionTxn) → wait ≡ Lock at → IsOfSession s session a → a.undo.rolling ≡ None
 
+-- a resolve is answered that waited
+pub record IsResolveTold (s : State) (session : ℕ) (wait : Wait) (c : Call) (new : State) (made : List Entry) : Type 0 where
+  pub number : ℕ
+  pub waits : wait ≡ Durable number
+  pub durable : number ≤ s.durable
+  pub resolved : ResolvedTxn
+  pub ended : HasEnded s.sessions resolved
+  pub asks : c ≡ call.Resolve resolved.global resolved.outcome
+  pub is : new ≡ resolve_ended s session resolved
+  pub entries : made ≡ Exchanged session (txn_under s.sessions resolved.global) (exchange (call.Resolve resolved.global resolved.outcome) (Ok Resolved)) ∷ []
+
+pub is_resolve_told : (s : State) (w : Waiting) (n : ℕ) (step : Step) (new : State)
+    → (n ≤ s.durable) × (step ≡ Done Resolved) × ((r : ResolvedTxn) × HasEnded s.sessions r × (w.call ≡ call.Resolve r.global r.outcome) × (new ≡ resolve_ended s w.session r))
+    → IsResolveTold s w.session (Durable n) w.call new (entries_of_resumed s (record { session = w.session; call = w.call; wait = Durable n; cycle = w.cycle }) step)
+is_resolve_told s w n step new h = record {
+  number = n;
+  waits = refl;
+  durable = h.0;
+  resolved = h.2.0;
+  ended = h.2.1;
+  asks = h.2.2;
+  is = h.2.3;
+  entries =
+      ap (entries_of_resumed s (record { session = w.session; call = w.call; wait = Durable n; cycle = w.cycle })) h.1
+      ∙ ap (λ (c : Call). Exchanged w.session (answered_under s.sessions w.session c) (exchange c (Ok Resolved)) ∷ []) h.2.2;
+}
+
 -- a call that goes on behind its lock adds what it would add if it were made now
 pub same_entries : (g : Geometry) (s : State) (a : SessionTxn) (session : ℕ) (c : Call) (at : Granule) (step : Step) (new : State) → CallGoesOn g s a c step new
-    → entries_of_call s session c step ≡ entries_of_resumed s (record { session = session; call = c; wait = Lock at; cycle = None }) step
-same_entries g s a session c at (Done answer) new h = ap (λ t. Exchanged session t (exchange c (Ok answer)) ∷ []) (inner_under s session c (asking_is_inner c h.1.0 h.1.1))
-same_entries g s a session c at (Waits wait) new h = ap (entries_of_wait s session c) h.4
+    → entries_told s session c step ≡ entries_of_resumed s (record { session = session; call = c; wait = Lock at; cycle = None }) step
+same_entries g s a session c at (Done answer) new h = refl
+same_entries g s a session c at (Waits wait) new h = ap (entries_waited s session c) h.4
 same_entries g s a session c at (Refused f) new h = refl
 same_entries g s a session c at Nothing new h = absurd h
 
@@ -175,7 +204,7 @@ module _ (g : Geometry) (o : Opening) (found : List LogRecord) (es : List Entry)
       let told = prepare_ended s w.session t global in
       subst (IsSessionsState o found (es ++ entries_of_resumed s (record { session = w.session; call = w.call; wait = Durable n; cycle = w.cycle }) step)) (sym h.2.4)
       (subst (λ (x : Step). IsSessionsState o found (es ++ entries_of_resumed s (record { session = w.session; call = w.call; wait = Durable n; cycle = w.cycle }) x) told) (sym h.1)
-      (subst (λ (c : Call). IsSessionsState o found (es ++ Exchanged w.session (txn_of s.sessions w.session) (exchange c (Ok Prepared)) ∷ []) told) (sym h.2.3)
+      (subst (λ (c : Call). IsSessionsState o found (es ++ Exchanged w.session (answered_under s.sessions w.session c) (exchange c (Ok Prepared)) ∷ []) told) (sym h.2.3)
       (subst (λ u. IsSessionsState o found (es ++ Exchanged w.session u (exchange (call.Prepare global) (Ok Prepared)) ∷ []) told) (sym number)
       (state_of o found es s k (es ++ Exchanged w.session t (exchange (call.Prepare global) (Ok Prepared)) ∷ []) told
       (event_keeps (length found) o es s.sessions told.sessions (AnswerPrepare w.session t global) s.log (sessions_of o found es s k) (h.2.2.0, h.2.2.1, refl))
@@ -183,27 +212,30 @@ module _ (g : Geometry) (o : Opening) (found : List LogRecord) (es : List Entry)
 
   wait_kept : (w : Waiting) (wait : Wait) → WaitsWhole s w.session wait → (step : Step) (new : State) → ResumesWait g s w wait step new
       → IsSessionsState o found (es ++ entries_of_resumed s (record { session = w.session; call = w.call; wait = wait; cycle = w.cycle }) step) new
+      ⊎ IsResolveTold s w.session wait w.call new (entries_of_resumed s (record { session = w.session; call = w.call; wait = wait; cycle = w.cycle }) step)
   wait_kept w (Durable n) whole step new (inl h) =
-      subst (IsSessionsState o found (es ++ entries_of_resumed s (record { session = w.session; call = w.call; wait = Durable n; cycle = w.cycle }) step)) (sym h.2)
-      (subst (λ (x : Step). IsSessionsState o found (es ++ entries_of_resumed s (record { session = w.session; call = w.call; wait = Durable n; cycle = w.cycle }) x) s) (sym h.1) as_it_was)
+      inl (subst (IsSessionsState o found (es ++ entries_of_resumed s (record { session = w.session; call = w.call; wait = Durable n; cycle = w.cycle }) step)) (sym h.2)
+      (subst (λ (x : Step). IsSessionsState o found (es ++ entries_of_resumed s (record { session = w.session; call = w.call; wait = Durable n; cycle = w.cycle }) x) s) (sym h.1) as_it_was))
   wait_kept w (Durable n) whole step new (inr (inl h)) =
-      subst (IsSessionsState o found (es ++ entries_of_resumed s (record { session = w.session; call = w.call; wait = Durable n; cycle = w.cycle }) step)) (sym h.2.3)
+      inl (subst (IsSessionsState o found (es ++ entries_of_resumed s (record { session = w.session; call = w.call; wait = Durable n; cycle = w.cycle }) step)) (sym h.2.3)
       (subst (λ (x : Step). IsSessionsState o found (es ++ entries_of_resumed s (record { session = w.session; call = w.call; wait = Durable n; cycle = w.cycle }) x) (commit_ended s h.2.0)) (sym h.1)
-      (subst (λ (c : Call). IsSessionsState o found (es ++ Exchanged w.session (txn_of s.sessions w.session) (exchange c (Ok Committed)) ∷ []) (commit_ended s h.2.0)) (sym h.3)
-      (ended h.2.0 h.2.1 w.session h.2.2)))
-  wait_kept w (Durable n) whole step new (inr (inr h)) = prepare_kept w n step new h
-  wait_kept w (Lock at) whole step new h = ⊎_elim
+      (subst (λ (c : Call). IsSessionsState o found (es ++ Exchanged w.session (answered_under s.sessions w.session c) (exchange c (Ok Committed)) ∷ []) (commit_ended s h.2.0)) (sym h.3)
+      (ended h.2.0 h.2.1 w.session h.2.2))))
+  wait_kept w (Durable n) whole step new (inr (inr (inl h))) = inl (prepare_kept w n step new h)
+  wait_kept w (Durable n) whole step new (inr (inr (inr h))) = inr (is_resolve_told s w n step new h)
+  wait_kept w (Lock at) whole step new h = inl (⊎_elim
       (λ still.
       subst (IsSessionsState o found (es ++ entries_of_resumed s (record { session = w.session; call = w.call; wait = Lock at; cycle = w.cycle }) step)) (sym still.2)
       (subst (λ (x : Step). IsSessionsState o found (es ++ entries_of_resumed s (record { session = w.session; call = w.call; wait = Lock at; cycle = w.cycle }) x) s) (sym still.1) as_it_was))
       (λ free.
       subst (λ made. IsSessionsState o found (es ++ made) new) (same_entries g (wait_refused s w.session) h.0 w.session w.call at step new free.1)
       (goes_on_kept g o found es w.session h.0 h.1.1 (whole at h.0 refl h.1) (wait_refused s w.session) (woken h.0 w.session h.1 free.0) h.1.0 free.0 w.call step new free.1))
-      h.2
+      h.2)
 
   pub resumed_call_kept : (w : Waiting) → (w.cycle ≡ None → WaitsWhole s w.session w.wait) → (step : Step) (new : State) → ResumesCall g s w step new → IsSessionsState o found (es ++ entries_of_resumed s w step) new
+      ⊎ IsResolveTold s w.session w.wait w.call new (entries_of_resumed s w step)
   resumed_call_kept w whole step new (inl h) =
-      subst (IsSessionsState o found (es ++ entries_of_resumed s w step)) (sym h.2)
+      inl (subst (IsSessionsState o found (es ++ entries_of_resumed s w step)) (sym h.2)
       (subst (λ (x : Step). IsSessionsState o found (es ++ entries_of_resumed s w x) (wait_refused s w.session)) (sym h.1)
-      (refusal_told o found es (wait_refused s w.session) (let_go w.session h.0) w.session w.call fault.Failed tt))
+      (refusal_told o found es (wait_refused s w.session) (let_go w.session h.0) w.session w.call fault.Failed tt)))
   resumed_call_kept w whole step new (inr h) = wait_kept w w.wait (whole h.2) step new h.1

@@ -1,5 +1,5 @@
 -- Each step of a session keeps the room of pages and log.
-use Rattle.std.proofs.Common.{◌++◌, ◌∷◌, ℕ, List, [], sym, ap, subst, length, ◌≡◌, ◌∙◌, refl, map}
+use Rattle.std.proofs.Common.{◌++◌, ◌∷◌, ℕ, List, [], sym, ap, subst, length}
 use Rattle.shore_types.specs.declared.layout.Geometry.{Geometry}
 use Rattle.shore_types.specs.declared.layout.TheConstants.{LONGEST_FRAME}
 use Rattle.shore_model.specs.declared.calls.Call.{Call}
@@ -11,9 +11,9 @@ use Rattle.laws_room.proofs.Undone.{event_claims}
 use Rattle.laws_room.specs.Claims.{Claimed}
 use Rattle.laws_room.specs.LogRooms.{HasLogRoom}
 use Rattle.laws_lives.specs.SessionSteps.{SessionEvent, entries_by}
-use Rattle.laws_lives.specs.Sessions.{Sessions, EachOnce, PreparedTxn, in_doubt_of, pairs_of}
+use Rattle.laws_lives.specs.Sessions.{Sessions}
 use Rattle.shore_model.specs.declared.step.Step.{Step}
-use Rattle.laws_calls.proofs.Comings.{goes_keeps, like_keeps, session_call_comes, session_resume_comes}
+use Rattle.laws_calls.proofs.Comings.{goes_keeps, like_keeps, session_resume_comes}
 use Rattle.laws_calls.proofs.Links.{ComesBy, Goes, GoesBy, IsLike}
 use Rattle.laws_calls.proofs.Rooms.{as_log_room, within}
 use Rattle.laws_calls.proofs.Sessions.{AreSessionsAfter}
@@ -22,26 +22,11 @@ use Rattle.laws_calls.proofs.TakenLocks.{sessions_of}
 use Rattle.laws_calls.specs.CallHistories.{IsRoomyState}
 use Rattle.laws_calls.specs.Events.{IsStateAfter, ManagerEvent, EventMoves, entries_of, entries_of_resume}
 use Rattle.laws_calls.specs.CallSteps.{CallStep, ResumeStep}
-use Rattle.laws_calls.specs.LockedStates.{entries_of_call}
 use Rattle.laws_calls.specs.Settling.{SettledCall, SettledResume}
 use Rattle.laws_calls.specs.States.{State, cost_of_log, log_room}
-use Rattle.laws_lives.proofs.DoubtsShown.{doubts_once}
-use Rattle.laws_lives.specs.Doubts.{LoggedDoubt, doubts_in, pair_logged}
-
--- none is in doubt twice
-doubts_apart : {base : ℕ} {o : Opening} {es : List Entry} {s : Sessions} {log : List LogRecord} → AreSessionsAfter base o es s log → EachOnce (in_doubt_of s)
-doubts_apart {base} {o} {es} {s} {log} k = subst EachOnce same (doubts_once log k.whole.lawful)
-  where
-    txns_of_pairs : (ds : List LoggedDoubt) → map (λ (p : ℕ × List ℕ). p.0) (map pair_logged ds) ≡ map (λ (d : LoggedDoubt). d.txn) ds
-    txns_of_pairs [] = refl
-    txns_of_pairs (d ∷ ds) = ap (λ ts. d.txn ∷ ts) (txns_of_pairs ds)
-
-    txns_of_prepared : (ps : List PreparedTxn) → map (λ (p : ℕ × List ℕ). p.0) (pairs_of ps) ≡ map (λ (p : PreparedTxn). p.txn) ps
-    txns_of_prepared [] = refl
-    txns_of_prepared (p ∷ ps) = ap (λ ts. p.txn ∷ ts) (txns_of_prepared ps)
-
-    same : map (λ (d : LoggedDoubt). d.txn) (doubts_in log) ≡ in_doubt_of s
-    same = sym (txns_of_pairs (doubts_in log)) ∙ ap (map (λ (p : ℕ × List ℕ). p.0)) k.doubts.in_doubt ∙ txns_of_prepared s.prepared
+use Rattle.laws_calls.proofs.DoubtsApart.{doubts_apart}
+use Rattle.laws_calls.proofs.CallComings.{session_call_comes}
+use Rattle.laws_calls.specs.LockedStates.{entries_of_call}
 
 pub goes_roomy : (base : ℕ) (o : Opening) (es : List Entry) (g : Geometry) (s new : State) (e : SessionEvent) → AreSessionsAfter base o es s.sessions s.log → IsRoomyState s → Goes g s e new
     → IsRoomyState new
@@ -76,16 +61,16 @@ module _ (o : Opening) (found : List LogRecord) (es : List Entry) (s : State) (k
       (like_keeps (length found) o es s h.start h.before (sessions_of o found es s k.sessions)) (like_roomy s h.start h.before roomy) h.goes)
 
   pub session_call_roomy : (g : Geometry) (session : ℕ) (c : Call) (step : Step) (new : State) → CallStep g s session c step new → IsRoomyState new
-  session_call_roomy g session c step new h = comes_roomy g new (entries_of_call s session c step) (session_call_comes g o found es s k session c step new h)
+  session_call_roomy g session c step new h = comes_roomy g new (entries_of_call s session c step new) (session_call_comes g o found es s k session c step new h)
 
   pub session_resume_roomy : (g : Geometry) (session : ℕ) (step : Step) (new : State) → ResumeStep g s session step new → IsRoomyState new
   session_resume_roomy g session step new h = comes_roomy g new (entries_of_resume s session step) (session_resume_comes g o found es s k session step new h)
 
   pub settled_call_roomy : (g : Geometry) (session : ℕ) (c : Call) (step : Step) (new : State) → SettledCall g s session c step new → IsRoomyState new
-  settled_call_roomy g session c step new h = comes_roomy g new (entries_of_call s session c step) (settled_call_comes g o found es s k session c step new h)
+  settled_call_roomy g session c step new h = comes_roomy g new (entries_of_call s session c step new) (settled_call_comes g o found es s k session c step new h)
 
   pub settled_resume_roomy : (g : Geometry) (session : ℕ) (step : Step) (new : State) → SettledResume g s session step new → IsRoomyState new
   settled_resume_roomy g session step new h = comes_roomy g new (entries_of_resume s session step) (settled_resume_comes g o found es s k session step new h)
 
   pub session_event_roomy : (g : Geometry) (new : State) (e : ManagerEvent) → EventMoves g s e new → IsRoomyState new
-  session_event_roomy g new e h = comes_roomy g new (entries_of s e) (session_event_comes g o found es s k new e h)
+  session_event_roomy g new e h = comes_roomy g new (entries_of s e new) (session_event_comes g o found es s k new e h)

@@ -1,5 +1,5 @@
 -- Each step of a session, each force that is told and each failure leaves a state after its entries; so do any events.
-use Rattle.std.proofs.Common.{◌≡◌, ◌≢◌, ◌⊎◌, inl, inr, ⊎_elim, ◌++◌, ◌∷◌, ◌+◌, ◌≤◌, ℕ, List, [], Bool, true, false, cond, None, Some, refl, sym, ap, subst, ◌∙◌, append-nil, arith, length, take}
+use Rattle.std.proofs.Common.{◌≡◌, ◌≢◌, ◌⊎◌, inl, inr, ⊎_elim, ◌++◌, ◌∷◌, ◌≤◌, ℕ, List, [], Bool, true, false, cond, None, Some, refl, sym, ap, subst, ◌∙◌, append-nil, arith, length, take, Ok}
 use Rattle.std.specs.Prelude.{◌==◌, Contains, IsTrue, Option}
 use Rattle.std.proofs.lemmas.Bool.{eqb-false, eqb-true}
 use Rattle.std.proofs.lemmas.List.Elements.{All-weaker}
@@ -13,41 +13,43 @@ use Rattle.shore_model.specs.declared.histories.Opening.{Opening}
 use Rattle.shore_model.specs.declared.log_records.LogRecord.{LogRecord}
 use Rattle.shore_model.specs.Histories.{acknowledged}
 use Rattle.laws_lives.specs.LogPrefixes.{decisions_in}
-use Rattle.laws_lives.specs.SessionSteps.{SessionEvent}
-use Rattle.laws_lives.specs.Sessions.{SessionTxn, Sessions}
+use Rattle.laws_lives.specs.SessionSteps.{exchange}
+use Rattle.laws_lives.specs.Sessions.{SessionTxn}
 use Rattle.laws_lives.specs.Views.{IsAmong}
 use Rattle.shore_model.specs.declared.step.Step.{Step}
 use Rattle.shore_model.specs.declared.step.Wait.{Wait}
 use Rattle.shore_model.specs.declared.step.Wait.TheVariants.{Durable, Lock}
 use Rattle.laws_calls.proofs.Elements.{in_longer}
-use Rattle.laws_calls.proofs.Links.{GoesBy, GoesQuietly, answer_goes, commit_goes, left_like, shorter_without, ended_without}
+use Rattle.laws_calls.proofs.Links.{answer_goes, commit_goes, shorter_without, ended_without}
 use Rattle.laws_calls.proofs.SessionCalls.{session_call_kept}
 use Rattle.laws_calls.proofs.SessionForces.{abort_forced, answer_forced, commit_forced, quietly_forced, prepare_forced}
-use Rattle.laws_calls.proofs.SessionResumes.{WaitsWhole, resumed_call_kept}
-use Rattle.laws_calls.proofs.Sessions.{its_txn, one_txn, commit_seats, committed_seat, one_member, own_of, seat_apart}
+use Rattle.laws_calls.proofs.SessionResumes.{WaitsWhole, resumed_call_kept, IsResolveTold}
+use Rattle.laws_calls.proofs.Sessions.{its_txn, one_txn, commit_seats, committed_seat, one_member, own_of, seat_apart, older_resolved, committed_above}
 use Rattle.laws_calls.proofs.Unwinding.{rollback_on}
 use Rattle.laws_calls.proofs.SessionsWaiting.{aborted_waits, commit_waits_on, ended_waits, failed_waits, quietly_waits, woken_waits, prepared_waits}
 use Rattle.laws_calls.proofs.StepPassages.{CallPasses, ResumePasses, call_passes, resume_passes}
 use Rattle.laws_calls.specs.CallHistories.{IsForced, txn_of}
 use Rattle.laws_calls.specs.Events.{IsStateAfter, call_waiting, entries_of_resume, entries_of_waiting}
 use Rattle.laws_calls.specs.StateChanges.{wait_refused, with_durable, with_failure}
-use Rattle.laws_calls.specs.CallSteps.{ResumesCall, CallStep, ResumeStep, txn_count, ended_among, IsPreparing}
+use Rattle.laws_calls.specs.CallSteps.{ResumesCall, CallStep, ResumeStep, txn_count, IsPreparing}
 use Rattle.laws_calls.specs.LockedStates.{IsSessionsState, entries_of_resumed, entries_of_call}
 use Rattle.laws_calls.specs.SessionWaits.{IsDecisionWait, IsLockWait, WaitsOfSessions}
-use Rattle.laws_calls.specs.States.{IsOfSession, State, Waiting}
+use Rattle.laws_calls.specs.States.{IsOfSession, State, Waiting, DoesNotWait}
 use Rattle.shore_model.specs.declared.sessions.SessionState.{SessionState}
-
--- ---- how many transactions there are
-
-by_few : (g : Geometry) (s : State) (events : List SessionEvent) (new : State) (made : List Entry) → GoesBy g s events new made → txn_count s ≤ MAX_TRANSACTIONS → txn_count new ≤ MAX_TRANSACTIONS
-by_few g s [] new made h few = subst (λ (x : State). txn_count x ≤ MAX_TRANSACTIONS) (sym h.0) few
-by_few g s (e ∷ events) new made h few = by_few g h.0 events new h.1 h.3 (h.2.few few)
-
-quietly_few : (g : Geometry) (session : ℕ) (s new : State) (made : List Entry) → GoesQuietly g session s new made → txn_count s ≤ MAX_TRANSACTIONS → txn_count new ≤ MAX_TRANSACTIONS
-quietly_few g session s new made h few =
-    let like = left_like session h.mid new h.left in
-    let mid = by_few g s h.events h.mid made h.goes few in
-    subst (λ (n : Sessions). length n.active + length n.committing + length (ended_among n.active n.resolving) ≤ MAX_TRANSACTIONS) (sym like.sessions) mid
+use Rattle.laws_calls.proofs.PrepareSteps.{prepare_waits_on}
+use Rattle.laws_calls.specs.Prepares.{granules_in_ex, prepared}
+use Rattle.laws_calls.proofs.Growing.{forced_grown}
+use Rattle.shore_model.specs.declared.histories.Entry.TheVariants.{Decided, Exchanged}
+use Rattle.laws_calls.proofs.Told.{entries_told}
+use Rattle.laws_calls.proofs.Outside.{Resolving}
+use Rattle.laws_calls.proofs.ToldEntries.{told_of_call}
+use Rattle.laws_calls.proofs.LongerLogs.{call_further}
+use Rattle.laws_calls.proofs.ResolveStays.{resolve_stays}
+use Rattle.laws_calls.proofs.ResolveEnds.{resumed_stays}
+use Rattle.laws_calls.proofs.UnderGlobal.{under_one, used_resolved}
+use Rattle.laws_calls.specs.Resolves.{resolve_ended}
+use Rattle.shore_model.specs.declared.calls.Answer.TheVariants.{Resolved}
+use Rattle.laws_calls.proofs.FewTxns.{quietly_few}
 
 -- ---- the call that a session waits with
 
@@ -73,19 +75,17 @@ no_wait session (x ∷ ws) idle = by (x.session == session) refl (no_wait sessio
 module _ (o : Opening) (found : List LogRecord) (es : List Entry) (s : State) (k : IsStateAfter o found es s) where
   -- ---- calls
 
-  pub session_call_stays : (g : Geometry) (session : ℕ) (c : Call) (step : Step) (new : State) → CallStep g s session c step new
-      → IsStateAfter o found (es ++ entries_of_call s session c step) new
-  session_call_stays g session c step new h = by (call_passes g o found es s k.sessions session c step new h)
+  -- a call that is no resolve, or one that is refused before it decides
+  passed_stays : (g : Geometry) (session : ℕ) (c : Call) (step : Step) (new : State) → CallPasses g s session new (entries_told s session c step)
+      → IsSessionsState o found (es ++ entries_told s session c step) new → IsStateAfter o found (es ++ entries_told s session c step) new
+  passed_stays g session c step new passes kept = by passes
     where
-      kept : IsSessionsState o found (es ++ entries_of_call s session c step) new
-      kept = session_call_kept g o found es s k.sessions session c step new h
-
-      by : CallPasses g s session new (entries_of_call s session c step) → IsStateAfter o found (es ++ entries_of_call s session c step) new
+      by : CallPasses g s session new (entries_told s session c step) → IsStateAfter o found (es ++ entries_told s session c step) new
       by (inl quiet) = record {
         sessions = kept;
-        waits = quietly_waits (length found) g session s new (entries_of_call s session c step) k.waits quiet;
-        forced = quietly_forced g session (length found) es s new (entries_of_call s session c step) quiet k.forced;
-        few = quietly_few g session s new (entries_of_call s session c step) quiet k.few;
+        waits = quietly_waits (length found) g session s new (entries_told s session c step) (older_resolved o found es s k.sessions) k.waits quiet;
+        forced = quietly_forced g session (length found) es s new (entries_told s session c step) quiet k.forced;
+        few = quietly_few g session s new (entries_told s session c step) quiet k.few;
       }
       by (inr (inl commit)) =
           let a = commit.txn in
@@ -97,7 +97,20 @@ module _ (o : Opening) (found : List LogRecord) (es : List Entry) (s : State) (k
                 (subst (IsForced (length found) _) (sym commit.is) (commit_forced (length found) es s k.forced a (txn_of s.sessions session)));
             few = subst (λ (x : State). txn_count x ≤ MAX_TRANSACTIONS) (sym commit.is) ((commit_goes g s a (own_of k.sessions a commit.of.0) commit.whole (commit_seats k.sessions.agree k.sessions.seats a (own_of k.sessions a commit.of.0).2.0)).few k.few);
           }
-      by (inr (inr abort)) =
+      by (inr (inr (inr prep))) =
+          let a = prep.txn in
+          record {
+            sessions = kept;
+            waits =
+                subst (WaitsOfSessions (length found)) (sym prep.is)
+                (prepare_waits_on g o found es s k.sessions a prep.of.0 prep.whole prep.global prep.unused k.waits (λ w m same. prep.idle w m (same ∙ prep.of.1)));
+            forced =
+                subst (λ made. IsForced (length found) (es ++ made) new) (sym prep.entries)
+                (subst (IsForced (length found) _) (sym prep.is)
+                (forced_grown (length found) es (Decided (decision.Prepare a.txn prep.global)) s (prepared s a prep.global (granules_in_ex s a)) refl (_ ∷ [], refl) refl k.forced));
+            few = subst (λ (x : State). txn_count x ≤ MAX_TRANSACTIONS) (sym prep.is) k.few;
+          }
+      by (inr (inr (inl abort))) =
           let a = abort.txn in
           let on = rollback_on a.txn s.log a.undo.images in
           let fewer = shorter_without a s.sessions.active abort.of.0.0 in
@@ -110,6 +123,24 @@ module _ (o : Opening) (found : List LogRecord) (es : List Entry) (s : State) (k
                 (subst (IsForced (length found) _) (sym abort.is) (abort_forced (length found) es s k.forced a session (txn_of s.sessions session) on));
             few = subst (λ (x : State). txn_count x ≤ MAX_TRANSACTIONS) (sym abort.is) (let few = k.few in omega (arith, few, fewer, ended));
           }
+
+  -- the entries are told by the step, or by the stages of a resolve
+  pub session_call_told : (g : Geometry) (session : ℕ) (c : Call) (step : Step) (new : State) → CallStep g s session c step new
+      → (CallPasses g s session new (entries_told s session c step) × IsStateAfter o found (es ++ entries_told s session c step) new)
+      ⊎ (Resolving s session c step new × DoesNotWait s session)
+  session_call_told g session c step new h = ⊎_elim
+      (λ passes. ⊎_elim (λ kept. inl (passes, passed_stays g session c step new passes kept)) (λ r. inr r) (session_call_kept g o found es s k.sessions session c step new h))
+      (λ r. inr r)
+      (call_passes g o found es s k.sessions session c step new h)
+
+  pub session_call_stays : (g : Geometry) (session : ℕ) (c : Call) (step : Step) (new : State) → CallStep g s session c step new
+      → IsStateAfter o found (es ++ entries_of_call s session c step new) new
+  session_call_stays g session c step new h = ⊎_elim
+      (λ told. subst (λ (made : List Entry). IsStateAfter o found (es ++ made) new)
+      (told_of_call o found es s new session c step k.sessions told.1.sessions (call_further g s session c step new h).on) told.1)
+      (λ r. subst (λ (x : Call). IsStateAfter o found (es ++ entries_of_call s session x step new) new) (sym r.0.is)
+      (resolve_stays g o found es s k session r.0.global r.0.may r.1 r.0.asked step new r.0.to))
+      (session_call_told g session c step new h)
 
   -- ---- resumes
 
@@ -133,7 +164,9 @@ module _ (o : Opening) (found : List LogRecord) (es : List Entry) (s : State) (k
           (λ h.
           subst (λ t. Contains (decisions_in (length found) (take s.durable s.log)) (decision.Commit t)) (sym (its_txn s.sessions h.0 w.session (committed_seat k.sessions h.0 h.1) h.2))
           (subst (Contains (decisions_in (length found) (take s.durable s.log))) h.4 there))
+          (⊎_elim
           (λ h. absurd (seat_apart (committed_seat k.sessions a mem) (ap s.sessions.seats of ∙ h.2.1)))
+          (λ h. absurd (h.4 a.txn (committed_above k.sessions a mem) (ap s.sessions.seats (sym of) ∙ committed_seat k.sessions a mem))))
           c.unanswered
       by (inr l) = let clash : Durable n ≡ Lock l.at = sym waits ∙ l.is in absurd cc
 
@@ -155,12 +188,14 @@ module _ (o : Opening) (found : List LogRecord) (es : List Entry) (s : State) (k
           let there = in_longer (length found) c.number s.durable s.log c.decision (subst (λ x. x ≤ s.durable) same durable) c.decided in
           ⊎_elim
           (λ h. absurd (seat_apart (committed_seat k.sessions h.0 h.1) (ap s.sessions.seats h.2 ∙ mine.1)))
+          (⊎_elim
           (λ h.
           let number : h.0 ≡ t = ap (λ (p : SessionState). p.txn) (sym h.2.1 ∙ mine.1) in
           let name : h.1 ≡ global = same_name h.1 global (sym h.3 ∙ asks) in
           subst (λ u. Contains (decisions_in (length found) (take s.durable s.log)) (decision.Prepare u global)) number
           (subst (λ x. Contains (decisions_in (length found) (take s.durable s.log)) (decision.Prepare h.0 x)) name
           (subst (Contains (decisions_in (length found) (take s.durable s.log))) h.4 there)))
+          (λ h. let clash : call.Prepare global ≡ call.Resolve h.0.global h.0.outcome = sym asks ∙ h.2 in absurd cc))
           c.unanswered
       by (inr l) = let clash : Durable n ≡ Lock l.at = sym waits ∙ l.is in absurd cc
 
@@ -177,11 +212,11 @@ module _ (o : Opening) (found : List LogRecord) (es : List Entry) (s : State) (k
 
   pub session_resumed_stays : (g : Geometry) (w : Waiting) → IsAmong w s.waiting → (step : Step) (new : State) → ResumesCall g s w step new
       → IsStateAfter o found (es ++ entries_of_resumed s w step) new
-  session_resumed_stays g w m step new h = by (resume_passes g o found es s k.sessions w (waits_whole w m) step new h)
+  session_resumed_stays g w m step new h = ⊎_elim
+      (λ kept. by kept (resume_passes g o found es s k.sessions w (waits_whole w m) step new h))
+      resolved
+      (resumed_call_kept g o found es s k.sessions w (waits_whole w m) step new h)
     where
-      kept : IsSessionsState o found (es ++ entries_of_resumed s w step) new
-      kept = resumed_call_kept g o found es s k.sessions w (waits_whole w m) step new h
-
       -- the session waits for no record
       none_decided : (IsTrue s.failed ⊎ ((at : _) × (w.wait ≡ Lock at) × ((a : SessionTxn) × IsOfSession s w.session a)))
           → s.failed ≡ false → (v : Waiting) → IsAmong v s.waiting → v.session ≡ w.session → (n : ℕ) → v.wait ≢ Durable n
@@ -189,19 +224,29 @@ module _ (o : Opening) (found : List LogRecord) (es : List Entry) (s : State) (k
       none_decided (inr lock) running v mem of n is =
           let clash : Durable n ≡ Lock lock.0 = sym is ∙ ap (λ (x : Waiting). x.wait) (k.waits.once v w mem m of) ∙ lock.1 in cc
 
-      by : ResumePasses g s w.session w.wait w.call new (entries_of_resumed s w step) → IsStateAfter o found (es ++ entries_of_resumed s w step) new
-      by (inl same) = subst (IsStateAfter o found (es ++ entries_of_resumed s w step)) (sym same.0) (subst (λ made. IsStateAfter o found (es ++ made) s) (sym same.1) as_it_was)
-      by (inr (inl on)) =
+      resolved : IsResolveTold s w.session w.wait w.call new (entries_of_resumed s w step) → IsStateAfter o found (es ++ entries_of_resumed s w step) new
+      resolved told =
+          let r = told.resolved in
+          subst (λ made. IsStateAfter o found (es ++ made) new) (sym told.entries)
+          (subst (IsStateAfter o found _) (sym told.is)
+          (subst (λ t. IsStateAfter o found (es ++ Exchanged w.session t (exchange (call.Resolve r.global r.outcome) (Ok Resolved)) ∷ []) (resolve_ended s w.session r))
+          (sym (under_one o es s.sessions k.sessions.agree r.txn r.global (used_resolved s.sessions r told.ended.0)))
+          (resumed_stays o found es s k w m told.number told.waits told.durable r told.ended told.asks)))
+
+      by : IsSessionsState o found (es ++ entries_of_resumed s w step) new → ResumePasses g s w.session w.wait w.call new (entries_of_resumed s w step) → IsStateAfter o found (es ++ entries_of_resumed s w step) new
+      by kept (inl same) = subst (IsStateAfter o found (es ++ entries_of_resumed s w step)) (sym same.0) (subst (λ made. IsStateAfter o found (es ++ made) s) (sym same.1) as_it_was)
+      by kept (inr (inl on)) =
           let woken = wait_refused s w.session in
           record {
             sessions = kept;
-            waits = quietly_waits (length found) g w.session woken new (entries_of_resumed s w step) (woken_waits o found es s k.sessions k.waits w.session (none_decided on.why)) on.on;
+            waits = quietly_waits (length found) g w.session woken new (entries_of_resumed s w step) (older_resolved o found es s k.sessions) (woken_waits o found es s k.sessions k.waits w.session (none_decided on.why)) on.on;
             forced =
                 quietly_forced g w.session (length found) es woken new (entries_of_resumed s w step) on.on
                 (record { least = k.forced.least; most = k.forced.most; acknowledged_kept = k.forced.acknowledged_kept });
             few = quietly_few g w.session woken new (entries_of_resumed s w step) on.on k.few;
           }
-      by (inr (inr (inr told))) = record {
+      by kept (inr (inr (inr (inr told)))) = resolved told
+      by kept (inr (inr (inr (inl told)))) = record {
         sessions = kept;
         waits = subst (WaitsOfSessions (length found)) (sym told.is) (prepared_waits o found es s k.sessions k.waits w.session told.txn told.global told.preparing);
         forced =
@@ -210,7 +255,7 @@ module _ (o : Opening) (found : List LogRecord) (es : List Entry) (s : State) (k
             (prepare_forced (length found) es s k.forced w.session told.txn told.global told.preparing.1 (prepare_is_durable w m told.number told.waits told.durable told.txn told.global told.preparing told.asks)));
         few = subst (λ (x : State). txn_count x ≤ MAX_TRANSACTIONS) (sym told.is) k.few;
       }
-      by (inr (inr (inl told))) =
+      by kept (inr (inr (inl told))) =
           let a = told.txn in
           record {
             sessions = kept;
@@ -243,6 +288,7 @@ module _ (o : Opening) (found : List LogRecord) (es : List Entry) (s : State) (k
       doubts = k.sessions.doubts;
       log = k.sessions.log;
       decides = k.sessions.decides;
+      single = k.sessions.single;
       locks = record { held = k.sessions.locks.held; orderly = k.sessions.locks.orderly; rooted = k.sessions.locks.rooted; below = k.sessions.locks.below; waiters = k.sessions.locks.waiters; waits = k.sessions.locks.waits };
     };
     waits = record {
@@ -253,6 +299,8 @@ module _ (o : Opening) (found : List LogRecord) (es : List Entry) (s : State) (k
       once = k.waits.once;
       all = k.waits.all;
       prepares = k.waits.prepares;
+      resolves = k.waits.resolves;
+      resolve_once = k.waits.resolve_once;
     };
     forced = record {
       least = let least = k.forced.least in omega arith;
@@ -274,6 +322,7 @@ module _ (o : Opening) (found : List LogRecord) (es : List Entry) (s : State) (k
       doubts = k.sessions.doubts;
       log = k.sessions.log;
       decides = k.sessions.decides;
+      single = k.sessions.single;
       locks = record { held = k.sessions.locks.held; orderly = k.sessions.locks.orderly; rooted = k.sessions.locks.rooted; below = k.sessions.locks.below; waiters = k.sessions.locks.waiters; waits = λ running. absurd cc };
     };
     waits = failed_waits (length found) s k.waits;

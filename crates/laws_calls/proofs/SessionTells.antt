@@ -1,47 +1,43 @@
 -- What the log of a state of sessions tells, and that transactions under way run alone.
-use Rattle.std.proofs.Common.{◌≡◌, ◌≢◌, ◌++◌, ◌∷◌, inl, inr, ℕ, List, [], None, refl, sym, ap, ◌∙◌, arith, length, map, take, subst, Option}
+use Rattle.std.proofs.Common.{◌≡◌, ◌≢◌, ◌++◌, ◌∷◌, inl, inr, ℕ, List, [], None, refl, sym, ap, ◌∙◌, arith, length, map, take, subst, Option, Some, ◌⊎◌, ⊎_elim}
 use Rattle.std.specs.Prelude.{Contains, IsSome, unwrap_or}
 use Rattle.std.proofs.lemmas.List.Elements.{All-weaker}
 use Rattle.std.specs.FinMap.{get}
-use Rattle.std.specs.List.{AllByRecursion}
 use Rattle.shore_types.specs.declared.ids.Rid.{Rid}
 use Rattle.shore_types.specs.declared.layout.Geometry.{Geometry}
 use Rattle.shore_model.specs.declared.histories.Decision.TheVariants as decision
 use Rattle.shore_model.specs.declared.histories.Entry.{Entry}
 use Rattle.shore_model.specs.declared.histories.Opening.{Opening}
-use Rattle.shore_model.specs.declared.histories.Entry.TheVariants.{Decided, Exchanged}
+use Rattle.shore_model.specs.declared.histories.Entry.TheVariants.{Decided}
 use Rattle.shore_model.specs.declared.log_records.LogRecord.{LogRecord}
-use Rattle.shore_model.specs.Histories.{Kept, RunsAloneAfter, acknowledged, decisions, serial, calls_of, shown}
+use Rattle.shore_model.specs.Histories.{Kept, RunsAloneAfter, acknowledged, decisions, serial, calls_of, shown, decision_asked_by}
 use Rattle.shore_model.specs.Records.{overlay, overlays, WriteSet}
 use Rattle.laws_lives.proofs.EndSteps.{commit_now, commit_sees}
 use Rattle.laws_lives.proofs.InPlace.{is_overlaid}
 use Rattle.laws_lives.proofs.LogDecisions.{event_midst, prefix_decides}
 use Rattle.laws_lives.proofs.Members.{txn_among}
 use Rattle.laws_lives.proofs.Views.{read_of_write}
-use Rattle.laws_lives.specs.LogPrefixes.{DecidesNothing, decisions_in, LogDecides, TellsItsDecisions}
+use Rattle.laws_lives.specs.LogPrefixes.{decisions_in, TellsItsDecisions}
 use Rattle.laws_lives.specs.LogTells.{records_committed}
-use Rattle.laws_lives.specs.SessionSteps.{AnswerAbort, AnswerCommit, AppendCommit, BeginTxn, Doom, GiveReply, MoveLocks, PutBack, RefuseCall, SessionEvent, entries_by, AnswerInDoubt, AnswerPrepare, AnswerResolve, AppendPrepare, AppendResolve, AppendRollback, EndRollback}
+use Rattle.laws_lives.specs.SessionSteps.{AnswerAbort, entries_by}
 use Rattle.laws_lives.specs.Sessions.{SessionTxn, abort_answered, txns_of, seated}
 use Rattle.laws_lives.specs.Soundness.{history_from, serial_after, written_by}
 use Rattle.laws_lives.specs.Views.{IsAmong}
-use Rattle.laws_calls.proofs.Comings.{goes_keeps}
-use Rattle.laws_calls.proofs.Links.{Goes, GoesBy, GoesQuietly, IsQuiet, left_like}
-use Rattle.laws_calls.proofs.Sessions.{AreSessionsAfter, its_txn, own_of}
+use Rattle.laws_calls.proofs.Sessions.{its_txn, own_of}
 use Rattle.laws_calls.proofs.Elements.{in_longer}
-use Rattle.laws_calls.proofs.SessionEndings.{its_commit}
-use Rattle.laws_calls.proofs.SessionStates.{session_call_stays, waits_whole}
-use Rattle.laws_calls.proofs.StepPassages.{CallPasses, Commits, ResumePasses, call_passes, resume_passes}
+use Rattle.laws_calls.proofs.SessionStates.{waits_whole, session_call_told}
+use Rattle.laws_calls.proofs.StepPassages.{CallPasses, Commits, ResumePasses, resume_passes, Prepares}
 use Rattle.laws_calls.proofs.TakenLocks.{sessions_of}
 use Rattle.shore_model.specs.declared.step.Step.{Step}
 use Rattle.shore_model.specs.declared.step.Step.TheVariants.{Done, Nothing, Refused, Waits}
 use Rattle.shore_model.specs.declared.step.Wait.TheVariants.{Durable, Lock}
 use Rattle.shore_model.specs.declared.calls.Call.{Call}
-use Rattle.laws_calls.specs.CallHistories.{KeepsDurable, txn_of}
+use Rattle.laws_calls.specs.CallHistories.{KeepsDurable, txn_of, txn_under}
 use Rattle.laws_calls.specs.StateChanges.{wait_refused}
 use Rattle.laws_calls.specs.CallSteps.{CallStep, ResumeStep, aborted}
-use Rattle.laws_calls.specs.LockedStates.{entries_of_resumed, entries_of_call}
+use Rattle.laws_calls.specs.LockedStates.{entries_of_resumed}
 use Rattle.laws_calls.specs.Events.{IsStateAfter}
-use Rattle.laws_calls.specs.States.{State, HasSeat}
+use Rattle.laws_calls.specs.States.{State, HasSeat, DoesNotWait, next_number}
 use Rattle.std.proofs.Math.Seq.{take-length}
 use Rattle.shore_model.specs.Alone.{writes_of}
 use Rattle.shore_model.specs.Lives.{next_opening}
@@ -50,53 +46,16 @@ use Rattle.laws_lives.specs.Doubts.{DoubtsStand, IsOpeningOf}
 use Rattle.laws_lives.proofs.LogPrefixes.{tells_opening}
 use Rattle.laws_lives.proofs.DoubtsShown.{told_is_shown}
 use Rattle.laws_lives.proofs.UndoRecords.{lawful_front}
-
--- a log that has just the decisions of the entries tells their serial records
-pub whole_told : (base : ℕ) (o : Opening) (es : List Entry) (log : List LogRecord) → LogDecides base o es log → records_committed log ≡ serial_after o es
-whole_told base o es log d =
-    (subst (TellsItsDecisions base o (written_by o es)) (take-length log) (d.prefixes (length log) d.long (omega arith))).committed ∙ ap (serial (written_by o es) o.records)
-    (sym d.all)
-
-abbrev IsDecided : Entry → Type 0
-IsDecided (Decided d) = Unit {0}
-IsDecided (Exchanged n t x) = ⊥
-
-quiet_decides_nothing : (start : State) (e : SessionEvent) → IsQuiet start e → DecidesNothing e
-quiet_decides_nothing start (MoveLocks held) quiet = tt
-quiet_decides_nothing start (BeginTxn session) quiet = tt
-quiet_decides_nothing start (GiveReply a c reply) quiet = tt
-quiet_decides_nothing start (RefuseCall session t c f) quiet = tt
-quiet_decides_nothing start (PutBack a kept e r) quiet = tt
-quiet_decides_nothing start (Doom a) quiet = absurd quiet
-quiet_decides_nothing start (AppendCommit a) quiet = absurd quiet
-quiet_decides_nothing start (AnswerAbort a) quiet = absurd quiet
-quiet_decides_nothing start (AnswerCommit a) quiet = absurd quiet
-quiet_decides_nothing start (AppendPrepare a global granules) quiet = absurd quiet
-quiet_decides_nothing start (AnswerPrepare session t global) quiet = absurd quiet
-quiet_decides_nothing start (AppendResolve a global) quiet = absurd quiet
-quiet_decides_nothing start (AppendRollback a global) quiet = absurd quiet
-quiet_decides_nothing start (EndRollback a) quiet = absurd quiet
-quiet_decides_nothing start (AnswerResolve session r) quiet = absurd quiet
-quiet_decides_nothing start (AnswerInDoubt session t pairs) quiet = tt
-
--- an event that decides nothing tells nothing
-goes_telling_none : (base : ℕ) (o : Opening) (es : List Entry) (g : Geometry) (s new : State) (e : SessionEvent) → AreSessionsAfter base o es s.sessions s.log → DecidesNothing e → Goes g s e new
-    → records_committed new.log ≡ records_committed s.log
-goes_telling_none base o es g s new e k quiet h =
-    ap records_committed h.log
-    ∙ whole_told base o es _ (event_midst base o es s.sessions new.sessions e s.log k.sound k.agree k.logged k.doubts k.decides h.moves quiet)
-    ∙ sym (whole_told base o es s.log k.decides)
-
-by_telling_none : (base : ℕ) (o : Opening) (es : List Entry) (g : Geometry) (start s : State) (events : List SessionEvent) (new : State) (made : List Entry) → AreSessionsAfter base o es s.sessions s.log
-    → AllByRecursion (IsQuiet start) events → GoesBy g s events new made → records_committed new.log ≡ records_committed s.log
-by_telling_none base o es g start s [] new made k quiet h = ap (λ (x : State). records_committed x.log) h.0
-by_telling_none base o es g start s (e ∷ events) new made k quiet h =
-    by_telling_none base o (es ++ entries_by s.sessions e) g start h.0 events new h.1 (goes_keeps base o es g s h.0 e k h.2) quiet.1 h.3 ∙ goes_telling_none base o es g s h.0 e k (quiet_decides_nothing start e quiet.0) h.2
-
-pub quietly_telling_none : (base : ℕ) (o : Opening) (es : List Entry) (g : Geometry) (session : ℕ) (s new : State) (made : List Entry) → AreSessionsAfter base o es s.sessions s.log
-    → GoesQuietly g session s new made → records_committed new.log ≡ records_committed s.log
-quietly_telling_none base o es g session s new made k h =
-    ap records_committed (left_like session h.mid new h.left).log ∙ by_telling_none base o es g s s h.events h.mid made k h.quiet h.goes
+use Rattle.laws_lives.proofs.Turns.{decision_after}
+use Rattle.laws_calls.proofs.SessionInversions.{waits_on_record, waits_running}
+use Rattle.shore_model.specs.declared.calls.Call.TheVariants as call
+use Rattle.laws_calls.proofs.Told.{entries_told}
+use Rattle.laws_calls.proofs.ResolveTells.{resolve_abort_tells, resolve_commit_tells}
+use Rattle.laws_calls.proofs.Outside.{Resolving, resolve_in}
+use Rattle.shore_model.specs.declared.calls.Outcome.{Outcome}
+use Rattle.shore_model.specs.declared.calls.Outcome.TheVariants as outcome
+use Rattle.laws_calls.specs.Resolves.{ResolvesTo}
+use Rattle.laws_calls.proofs.QuietTells.{quietly_telling_none, whole_told}
 
 module _ (o : Opening) (found : List LogRecord) (es : List Entry) (s : State) (k : IsStateAfter o found es s) where
   pub sessions_told : records_committed s.log ≡ serial_after o es
@@ -144,29 +103,69 @@ module _ (o : Opening) (found : List LogRecord) (es : List Entry) (s : State) (k
 
   -- ---- steps
 
-  -- what is no commit tells nothing
-  pub session_call_tells_none : (g : Geometry) (session : ℕ) (c : Call) (step : Step) (new : State) → CallStep g s session c step new → ((n : ℕ) → step ≢ Waits (Durable n))
-      → records_committed new.log ≡ records_committed s.log
-  session_call_tells_none g session c step new h other = by (call_passes g o found es s k.sessions session c step new h)
-    where
-      none_decided : (step : Step) (d : Entry) → ((n : ℕ) → step ≢ Waits (Durable n)) → IsDecided d → entries_of_call s session c step ≡ d ∷ [] → ⊥
-      none_decided (Done answer) (Decided d) other is e = cc
-      none_decided (Refused f) (Decided d) other is e = cc
-      none_decided (Waits (Durable n)) d other is e = other n refl
-      none_decided (Waits (Lock at)) d other is e = cc
-      none_decided Nothing d other is e = cc
-      none_decided step (Exchanged n t x) other is e = absurd is
+  -- nor does a Prepare
+  prepare_tells_none : (session : ℕ) (new : State) (made : List Entry) → IsStateAfter o found (es ++ made) new → Prepares s session new made → records_committed new.log ≡ records_committed s.log
+  prepare_tells_none session new made after h =
+      whole_told (length found) o (es ++ made) new.log after.sessions.decides
+      ∙ ap (λ made. serial_after o (es ++ made)) h.entries
+      ∙ decision_after o es (decision.Prepare h.txn.txn h.global) (λ R. refl)
+      ∙ sym sessions_told
 
-      by : CallPasses g s session new (entries_of_call s session c step) → records_committed new.log ≡ records_committed s.log
-      by (inl quiet) = quietly_telling_none (length found) o es g session s new (entries_of_call s session c step) (sessions_of o found es s k.sessions) quiet
-      by (inr (inl commit)) = absurd (none_decided step (Decided (decision.Commit (txn_of s.sessions session))) other tt commit.entries)
-      by (inr (inr abort)) =
+  -- what is no commit tells nothing
+  call_tells_none : (g : Geometry) (session : ℕ) (c : Call) (step : Step) (new : State) → CallStep g s session c step new → (Commits s session new (entries_told s session c step) → ⊥)
+      → (Resolving s session c step new → DoesNotWait s session → records_committed new.log ≡ records_committed s.log) → records_committed new.log ≡ records_committed s.log
+  call_tells_none g session c step new h none resolves = ⊎_elim (λ told. by told.1 told.0) (λ r. resolves r.0 r.1) (session_call_told o found es s k g session c step new h)
+    where
+      by : IsStateAfter o found (es ++ entries_told s session c step) new → CallPasses g s session new (entries_told s session c step) → records_committed new.log ≡ records_committed s.log
+      by stays (inl quiet) = quietly_telling_none (length found) o es g session s new (entries_told s session c step) (sessions_of o found es s k.sessions) quiet
+      by stays (inr (inl commit)) = absurd (none commit)
+      by stays (inr (inr (inr prep))) = prepare_tells_none session new (entries_told s session c step) stays prep
+      by stays (inr (inr (inl abort))) =
           let a = abort.txn in
           ap (λ (x : State). records_committed x.log) abort.is
           ∙ whole_told (length found) o es (aborted s a).log
           (event_midst (length found) o es s.sessions (seated s.sessions (entries_by s.sessions (AnswerAbort a)) (abort_answered s.sessions a)) (AnswerAbort a) s.log k.sessions.sound k.sessions.agree
           k.sessions.log k.sessions.doubts k.sessions.decides (own_of k.sessions a abort.of.0, refl) tt)
           ∙ sym sessions_told
+
+  -- it asks for no commit
+  abbrev AsksNoCommit : Call → Type 0
+  AsksNoCommit c = (t : ℕ) → decision_asked_by t c ≢ Some (decision.Commit t)
+
+  -- a step that waits for no record, or a call that asks for no commit
+  abbrev TellsNone : Call → Step → Type 0
+  TellsNone c step = ((n : ℕ) → step ≢ Waits (Durable n)) ⊎ AsksNoCommit c
+
+  resolve_tells_none : (g : Geometry) (session : ℕ) (c : Call) (step : Step) (new : State) → TellsNone c step → Resolving s session c step new → DoesNotWait s session
+      → records_committed new.log ≡ records_committed s.log
+  resolve_tells_none g session c step new none r idle = by r.asked r.is step none r.to
+    where
+      by : (asked : Outcome) → c ≡ call.Resolve r.global asked → (step : Step) → TellsNone c step → ResolvesTo s session r.global asked step new → records_committed new.log ≡ records_committed s.log
+      by outcome.Abort is step none to = resolve_abort_tells g o found es s k session r.global r.may idle step new to
+      by outcome.Commit is (Waits wait) (inl other) to = absurd (other (next_number s) (ap Waits to.2))
+      by outcome.Commit is (Waits wait) (inr asks) to = absurd (asks 0 (ap (decision_asked_by 0) is))
+      by outcome.Commit is (Done answer) none to = absurd to
+      by outcome.Commit is (Refused f) none to = absurd to
+      by outcome.Commit is Nothing none to = absurd to
+
+  -- who commits asks for it
+  commits_asks : (session : ℕ) (c : Call) (step : Step) (new : State) → TellsNone c step → Commits s session new (entries_told s session c step) → ⊥
+  commits_asks session c step new none commit = by c step none commit.entries
+    where
+      by : (c : Call) (step : Step) → TellsNone c step → entries_told s session c step ≡ Decided (decision.Commit (txn_of s.sessions session)) ∷ [] → ⊥
+      by c (Done answer) none e = cc
+      by c (Refused f) none e = cc
+      by c (Waits (Lock at)) none e = cc
+      by c Nothing none e = cc
+      by c (Waits (Durable n)) (inl other) e = other n refl
+      by call.Commit (Waits (Durable n)) (inr asks) e = asks 0 refl
+      by (call.Prepare global) (Waits (Durable n)) (inr asks) e = cc
+      by _ (Waits (Durable n)) (inr asks) e = cc
+
+  pub session_call_tells_none : (g : Geometry) (session : ℕ) (c : Call) (step : Step) (new : State) → CallStep g s session c step new → ((n : ℕ) → step ≢ Waits (Durable n)) ⊎ AsksNoCommit c
+      → records_committed new.log ≡ records_committed s.log
+  session_call_tells_none g session c step new h none =
+      call_tells_none g session c step new h (commits_asks session c step new none) (resolve_tells_none g session c step new none)
 
   pub resume_tells_none : (g : Geometry) (session : ℕ) (step : Step) (new : State) → ResumeStep g s session step new → records_committed new.log ≡ records_committed s.log
   resume_tells_none g session step new (inl h) = ap (λ (x : State). records_committed x.log) h.2
@@ -177,14 +176,33 @@ module _ (o : Opening) (found : List LogRecord) (es : List Entry) (s : State) (k
       by (inr (inl on)) =
           quietly_telling_none (length found) o es g h.0.session (wait_refused s h.0.session) new (entries_of_resumed s h.0 step) (sessions_of o found es s k.sessions) on.on
       by (inr (inr (inl told))) = ap (λ (x : State). records_committed x.log) told.is
-      by (inr (inr (inr told))) = ap (λ (x : State). records_committed x.log) told.is
+      by (inr (inr (inr (inl told)))) = ap (λ (x : State). records_committed x.log) told.is
+      by (inr (inr (inr (inr told)))) = ap (λ (x : State). records_committed x.log) told.is
 
-  pub call_tells : (g : Geometry) (session n : ℕ) (c : Call) (new : State) → CallStep g s session c (Waits (Durable n)) new
+  pub call_tells : (g : Geometry) (session n : ℕ) (new : State) → CallStep g s session call.Commit (Waits (Durable n)) new
       → records_committed new.log ≡ overlay (records_committed s.log) (written_by o es (txn_of s.sessions session))
-  call_tells g session n c new h =
-      let commit = its_commit g s session c n new h in
-      commit_tells session new (Decided (decision.Commit (txn_of s.sessions session)) ∷ []) (subst (λ (x : Call). IsStateAfter o found (es ++ entries_of_call s session x (Waits (Durable n))) new) commit.commit (session_call_stays o found es s k g session c (Waits (Durable n)) new h))
-      (record { txn = commit.txn; of = commit.of; whole = commit.whole; idle = commit.idle; is = commit.is; entries = refl })
+  call_tells g session n new h =
+      ⊎_elim
+      (λ told. ⊎_elim
+      (λ t. ⊎_elim
+      (λ commit. commit_tells session new (Decided (decision.Commit (txn_of s.sessions session)) ∷ []) told.1
+      (record { txn = t.0; of = t.1; whole = t.2; idle = (waits_running g s new session call.Commit (Durable n) h).1; is = commit.1.1; entries = refl }))
+      (λ prepare. let clash = prepare.1 in absurd cc)
+      t.3)
+      (⊎_elim (λ x. let clash = x.is in absurd cc) (λ x. let clash = x.is in absurd cc))
+      (waits_on_record g s new session call.Commit n h))
+      (λ r. let clash = r.0.is in absurd cc)
+      (session_call_told o found es s k g session call.Commit (Waits (Durable n)) new h)
+
+  -- so does a resolve to commit
+  pub resolve_tells : (g : Geometry) (session n : ℕ) (global : List ℕ) (new : State) → CallStep g s session (call.Resolve global outcome.Commit) (Waits (Durable n)) new
+      → records_committed new.log ≡ overlay (records_committed s.log) (written_by o es (txn_under s.sessions global))
+  resolve_tells g session n global new h = ⊎_elim
+      (λ general. let clash = general.2 in absurd cc)
+      (λ goes. ⊎_elim
+      (λ early. let clash = early.2 in absurd cc)
+      (λ to. resolve_commit_tells g o found es s k session global to.0 goes.1 (Durable n) new to.1) goes.2)
+      (resolve_in g s new session global outcome.Commit (Waits (Durable n)) h)
 
   -- ---- a crash
 

@@ -11,7 +11,7 @@ use Rattle.shore_model.specs.Histories.{after_own_reply, free, session_state}
 use Rattle.laws_lives.proofs.DoubtSteps.{event_tracks_doubts}
 use Rattle.laws_lives.proofs.LogDecisions.{event_decides}
 use Rattle.laws_lives.proofs.LogSteps.{event_keeps_log}
-use Rattle.laws_lives.proofs.Lists.{among_map}
+use Rattle.laws_lives.proofs.Lists.{among_map, among_right}
 use Rattle.laws_lives.proofs.Members.{same_member, txn_among}
 use Rattle.laws_lives.proofs.OwnSeats.{event_seats, seat_stays, unprepared}
 use Rattle.laws_lives.proofs.SessionsAgree.{event_agrees, reply_leaves}
@@ -24,13 +24,14 @@ use Rattle.laws_lives.specs.Logged.{log_after}
 use Rattle.laws_lives.specs.OwnSeats.{HasOwnSeats, seat_of}
 use Rattle.laws_lives.specs.RepliesInPlace.{MayReplyInPlace}
 use Rattle.laws_lives.specs.SessionSteps.{AppendCommit, GiveReply, IsInnerCall, IsOwn, RefuseCall, SessionEvent, StepsTo, entries_by, AnswerInDoubt, AnswerPrepare}
-use Rattle.laws_lives.specs.Sessions.{SessionTxn, Sessions, commit_appended, in_doubt_of, in_prepared, in_txn, resolved_of, seated, prepare_answered}
+use Rattle.laws_lives.specs.Sessions.{SessionTxn, Sessions, commit_appended, in_doubt_of, in_prepared, in_txn, resolved_of, seated, prepare_answered, EachOnce, ResolvedTxn, pairs_of, pair_resolved}
 use Rattle.laws_lives.specs.Soundness.{IsSoundAfter, SessionsAgree}
 use Rattle.laws_lives.specs.Views.{IsAmong}
 use Rattle.laws_lives.specs.WholeLogs.{IsWholeLog}
 use Rattle.laws_calls.specs.CallHistories.{txn_of}
 use Rattle.laws_calls.specs.LockedStates.{IsSessionsState}
 use Rattle.laws_calls.specs.States.{HasSeat, State, HasPrepared, IsOfSession, IsInTxn}
+use Rattle.laws_calls.proofs.ResolvedOnce.{event_once}
 
 -- ---- the transaction of a session
 
@@ -64,6 +65,9 @@ module _ {o : Opening} {found : List LogRecord} {es : List Entry} {s : State} (k
   -- one that is committed is its session's, and under way no more
   pub committed_seat : (a : SessionTxn) → IsAmong a s.sessions.committing → s.sessions.seats a.session ≡ in_txn a.txn
   committed_seat a mem = k.seats.own a.session a.txn (inr (among_map seat_of a s.sessions.committing mem))
+
+  pub committed_above : (a : SessionTxn) → IsAmong a s.sessions.committing → 0 < a.txn
+  committed_above a mem = k.seats.above a.session a.txn (inr (among_map seat_of a s.sessions.committing mem))
 
   pub parted : (a b : SessionTxn) → IsAmong a s.sessions.active → IsAmong b s.sessions.committing → a.txn ≢ b.txn
   parted a b x y same =
@@ -124,6 +128,7 @@ pub record AreSessionsAfter (base : ℕ) (o : Opening) (es : List Entry) (s : Se
   pub whole : IsWholeLog log s
   pub doubts : TracksDoubts log s
   pub decides : LogDecides base o es log
+  pub single : EachOnce (resolved_of s)
 
 pub event_keeps : (base : ℕ) (o : Opening) (es : List Entry) (old new : Sessions) (e : SessionEvent) (log : List LogRecord)
     → AreSessionsAfter base o es old log → StepsTo old e new → AreSessionsAfter base o (es ++ entries_by old e) new (log_after log old e)
@@ -135,6 +140,7 @@ event_keeps base o es old new e log k moves = record {
   whole = event_stays_whole o es old new e log k.sound k.logged k.doubts k.whole moves;
   doubts = event_tracks_doubts o es old new e log k.sound k.agree k.logged k.doubts moves;
   decides = event_decides base o es old new e log k.sound k.agree k.logged k.doubts k.decides moves;
+  single = event_once old new (λ t active doubt resolved. (k.doubts.rolled t active resolved).1 doubt) k.single e moves;
 }
 
 -- two of them, of which the second makes no entry
@@ -167,6 +173,13 @@ listing_seats s session t pairs = seats_stay s s (entries_by s (AnswerInDoubt se
 -- and the answer of a prepare
 pub prepare_seats : (s : Sessions) (session t : ℕ) (global : List ℕ) → prepare_answered s t ≡ seated s (entries_by s (AnswerPrepare session t global)) (prepare_answered s t)
 prepare_seats s session t global = seats_stay s (prepare_answered s t) (entries_by s (AnswerPrepare session t global)) refl (seat_stays s session (λ p. p) (λ p. refl))
+
+-- a resolved transaction is older than the next
+pub older_resolved : (o : Opening) (found : List LogRecord) (es : List Entry) (s : State) → IsSessionsState o found es s → (r : ResolvedTxn) → IsAmong r s.sessions.resolving
+    → r.txn < s.sessions.next_txn
+older_resolved o found es s k r m =
+    k.agree.used_below (r.txn, r.global)
+    (among_right (r.txn, r.global) (pairs_of s.sessions.prepared) (map pair_resolved s.sessions.resolving) (among_map (λ (x : ResolvedTxn). pair_resolved x) r s.sessions.resolving m))
 
 -- a session is in a transaction that is prepared, or in one that is not
 pub seat_apart : {p : SessionState} {t u : ℕ} → p ≡ in_txn t → p ≡ in_prepared u → ⊥

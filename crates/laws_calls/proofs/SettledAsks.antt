@@ -18,7 +18,7 @@ use Rattle.laws_lives.specs.Sessions.{SessionTxn}
 use Rattle.laws_lives.specs.Views.{IsAmong}
 use Rattle.laws_calls.proofs.Decided.{both_ways}
 use Rattle.laws_calls.proofs.Midway.{CallCameTo, CameTo, IsPaused, kept_midway, midway_paused, settled_call_to, settled_resume_to}
-use Rattle.laws_calls.proofs.SessionInversions.{durable_no_lock, same_fault, waits_in}
+use Rattle.laws_calls.proofs.SessionInversions.{same_fault, waits_on_lock}
 use Rattle.laws_calls.proofs.SessionResumes.{woken}
 use Rattle.laws_calls.proofs.Sessions.{its_txn}
 use Rattle.laws_calls.proofs.SettledWaits.{HasWaited, resumes_its}
@@ -67,7 +67,7 @@ module _ (g : Geometry) (o : Opening) (found : List LogRecord) (es : List Entry)
 
 -- who waits for a lock was not to be refused before it asked
 pub waits_may : (g : Geometry) (s new : State) (session : ℕ) (c : Call) (at : Granule) → CallStep g s session c (Waits (Lock at)) new → MayAsk g c
-waits_may g s new session c at h = ⊎_elim (λ asks. asks.0) (λ commits. absurd (durable_no_lock _ at (sym commits.1.0))) (waits_in g s new session c (Lock at) h).how
+waits_may g s new session c at h = (waits_on_lock g s new session c at h).may
 
 -- ---- a call
 
@@ -138,7 +138,8 @@ module _ (g : Geometry) (o : Opening) (found : List LogRecord) (es : List Entry)
     waits_for_lock : (w : Waiting) (wait : Wait) → ResumesWait g s w wait (Refused f) new → (at : Granule) × (wait ≡ Lock at)
     waits_for_lock w (Durable n) (inl h) = let clash = h.1 in absurd cc
     waits_for_lock w (Durable n) (inr (inl h)) = let clash = h.1 in absurd cc
-    waits_for_lock w (Durable n) (inr (inr h)) = let clash = h.1 in absurd cc
+    waits_for_lock w (Durable n) (inr (inr (inl h))) = let clash = h.1 in absurd cc
+    waits_for_lock w (Durable n) (inr (inr (inr h))) = let clash = h.1 in absurd cc
     waits_for_lock w (Lock at) h = (at, refl)
 
     at_once : (w : Waiting) → IsAmong w s.waiting → w.session ≡ session → ResumeStep g s session (Refused f) new → ResumesCall g s w (Refused f) new → RefusedResume f new

@@ -16,19 +16,21 @@ use Rattle.shore_cycles.specs.declared.victims.Victim.{Victim}
 use Rattle.laws_lives.specs.SessionSteps.{AnswerAbort, AnswerCommit, AnswerInDoubt, AnswerPrepare, AnswerResolve, AppendCommit, AppendPrepare, AppendResolve, AppendRollback, BeginTxn, Doom, EndRollback, GiveReply, MoveLocks, PutBack, RefuseCall, SessionEvent, entries_by}
 use Rattle.laws_lives.specs.Sessions.{Sessions}
 use Rattle.shore_model.specs.declared.step.Step.{Step}
-use Rattle.laws_calls.proofs.Comings.{like_itself, nothing_comes, session_call_comes, session_resume_comes}
+use Rattle.laws_calls.proofs.Comings.{like_itself, nothing_comes, session_resume_comes}
 use Rattle.laws_calls.proofs.Links.{ComesBy, Goes, GoesBy, IsDurable, IsLike, Writes}
-use Rattle.laws_calls.proofs.LongerLogs.{GoesFurther, call_further, further_then, resume_further, victims_further}
-use Rattle.laws_calls.proofs.SettledStates.{HasComeTo, call_entries, is_broken, its_withdraws, resume_comes, resume_entries, ended_entries, settles_stays, waiting_call_comes}
+use Rattle.laws_calls.proofs.LongerLogs.{GoesFurther, call_further, further_then, resume_further, victims_further, settles_further}
+use Rattle.laws_calls.proofs.SettledStates.{HasComeTo, call_entries, is_broken, its_withdraws, resume_comes, resume_entries, ended_entries, settles_stays, waiting_call_comes, adds_nothing}
 use Rattle.laws_calls.proofs.SettledWaits.{call_has_asked, resume_has_waited}
 use Rattle.laws_calls.proofs.VictimSteps.{told_comes, victim_comes, victim_stays, withdrawn_comes}
 use Rattle.laws_calls.specs.CallHistories.{txn_of}
 use Rattle.laws_calls.specs.CallSteps.{CallStep, ResumeStep}
 use Rattle.laws_calls.specs.Events.{Called, Forced, HasFailed, IsStateAfter, ManagerEvent, Resumed, EventMoves, entries_of, entries_of_resume}
-use Rattle.laws_calls.specs.LockedStates.{entries_of_call}
 use Rattle.laws_calls.specs.Settling.{SettledCall, SettledResume, Settles}
 use Rattle.laws_calls.specs.States.{State}
 use Rattle.laws_calls.specs.Victims.{TakesVictims}
+use Rattle.laws_calls.proofs.CallComings.{session_call_comes}
+use Rattle.laws_calls.specs.LockedStates.{entries_of_call}
+use Rattle.laws_calls.proofs.ToldEntries.{told_of_call}
 
 -- ---- the same events from a state that is like the one where they began
 
@@ -50,8 +52,9 @@ module _ (g : Geometry) (t : State) where
   writes_beside s new (inr (inr (inl h))) =
       inr (inr (inl (record { txn = h.txn; id = h.id; image = h.image; log = h.log; inside = h.inside; fits = h.fits; grows = h.grows })))
   writes_beside s new (inr (inr (inr (inl h)))) = inr (inr (inr (inl (record { txn = h.txn; log = h.log; counts = h.counts }))))
-  writes_beside s new (inr (inr (inr (inr h)))) =
-      inr (inr (inr (inr (record { txn = h.txn; id = h.id; image = h.image; next = h.next; log = h.log; logged = h.logged; counts = h.counts }))))
+  writes_beside s new (inr (inr (inr (inr (inl h))))) =
+      inr (inr (inr (inr (inl (record { txn = h.txn; id = h.id; image = h.image; next = h.next; log = h.log; logged = h.logged; counts = h.counts })))))
+  writes_beside s new (inr (inr (inr (inr (inr h))))) = inr (inr (inr (inr (inr (record { txn = h.txn; says = h.says; decides = h.decides; log = h.log; counts = h.counts })))))
 
   goes_beside : (s : State) (e : SessionEvent) (new : State) → Goes g s e new → Goes g (beside t s) e (beside t new)
   goes_beside s e new h = record {
@@ -189,25 +192,29 @@ module _ (g : Geometry) (o : Opening) (found : List LogRecord) (session n : ℕ)
 
 module _ (g : Geometry) (o : Opening) (found : List LogRecord) (es : List Entry) (s : State) (k : IsStateAfter o found es s) where
   settled_by : (session : ℕ) (c : Call) (step : Step) (new : State) (first : Step) (mid : State) → CallStep g s session c first mid → (rounds : List (List Victim))
-      → Settles g mid session first rounds step new → ComesBy g s new (entries_of_call s session c step)
+      → Settles g mid session first rounds step new → ComesBy g s new (entries_of_call s session c step new)
   settled_by session c step new first mid calls [] h =
-      subst (λ (x : State). ComesBy g s x (entries_of_call s session c step)) (sym h.2)
-      (subst (λ (x : Step). ComesBy g s mid (entries_of_call s session c x)) (sym h.1) (session_call_comes g o found es s k session c first mid calls))
+      subst (λ (x : State). ComesBy g s x (entries_of_call s session c step x)) (sym h.2)
+      (subst (λ (x : Step). ComesBy g s mid (entries_of_call s session c x mid)) (sym h.1) (session_call_comes g o found es s k session c first mid calls))
   settled_by session c step new first mid calls (vs ∷ rounds) h =
       let n = txn_of s.sessions session in
       let asked = call_has_asked g s session c h.1 first mid h.4 calls in
       let to = waiting_call_comes o found es s k g session c first mid h.1 h.4 calls in
       let come = settles_stays o found session n c g es mid first (vs ∷ rounds) step new to h in
-      subst (ComesBy g s new) (call_entries s session c asked.lock asked.asked step come.undecided)
+      let told = subst (λ made. IsStateAfter o found (es ++ made) new) (call_entries s session c asked.lock asked.asked step come.undecided) come.stays in
+      subst (ComesBy g s new)
+      (call_entries s session c asked.lock asked.asked step come.undecided
+      ∙ told_of_call o found es s new session c step k.sessions told.sessions
+      (further_then s mid new (call_further g s session c first mid calls) (settles_further g mid session first (vs ∷ rounds) step new h)).on)
       (settles_comes g o found session n c es s k.forced.most mid first (vs ∷ rounds) step new
       (record {
         to = to;
-        by = subst (ComesBy g s mid) (sym (call_entries s session c asked.lock asked.asked first to.undecided)) (session_call_comes g o found es s k session c first mid calls);
+        by = subst (ComesBy g s mid) (adds_nothing s mid session c first h.1 h.4) (session_call_comes g o found es s k session c first mid calls);
         on = call_further g s session c first mid calls;
       })
       h)
 
-  pub settled_call_comes : (session : ℕ) (c : Call) (step : Step) (new : State) → SettledCall g s session c step new → ComesBy g s new (entries_of_call s session c step)
+  pub settled_call_comes : (session : ℕ) (c : Call) (step : Step) (new : State) → SettledCall g s session c step new → ComesBy g s new (entries_of_call s session c step new)
   settled_call_comes session c step new h = settled_by session c step new h.first h.mid h.calls h.rounds h.settles
 
   went_by : (session : ℕ) (step : Step) (new : State) (first : Step) (mid : State) → ResumeStep g s session first mid → (rounds : List (List Victim))
@@ -233,7 +240,7 @@ module _ (g : Geometry) (o : Opening) (found : List LogRecord) (es : List Entry)
   settled_resume_comes session step new (inr (inl still)) = session_resume_comes g o found es s k session step new still.0
   settled_resume_comes session step new (inr (inr on)) = went_by session step new on.first on.mid on.resumes on.rounds on.settles
 
-  pub session_event_comes : (new : State) (e : ManagerEvent) → EventMoves g s e new → ComesBy g s new (entries_of s e)
+  pub session_event_comes : (new : State) (e : ManagerEvent) → EventMoves g s e new → ComesBy g s new (entries_of s e new)
   session_event_comes new (Called session c step) h = settled_call_comes session c step new h.1
   session_event_comes new (Resumed session step) h = settled_resume_comes session step new h
   session_event_comes new (Forced n) h = nothing_comes g s new (subst (IsLike s) (sym h.2) (record { sessions = refl; log = refl; counts = refl; stream = refl }))

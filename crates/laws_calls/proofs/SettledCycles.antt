@@ -146,7 +146,7 @@ pub events_free : (g : Geometry) (o : Opening) (found : List LogRecord) (es : Li
     → EventsMove g s events last → HasNoCycle last.locks.requests
 events_free g o found es s [] last k none h = subst (λ (x : State). HasNoCycle x.locks.requests) (sym h) none
 events_free g o found es s (e ∷ events) last k none h =
-    events_free g o found (es ++ entries_of s e) h.0 events last (session_event_stays g o found es s h.0 e k h.1) (event_free g o found es s k none h.0 e h.1) h.2
+    events_free g o found (es ++ entries_of s e h.0) h.0 events last (session_event_stays g o found es s h.0 e k h.1) (event_free g o found es s k none h.0 e h.1) h.2
 
 pub opened_free : (g : Geometry) (o : Opening) (found : List LogRecord) (first : State) (events : List ManagerEvent) (last : State) → IsOpened o found first
     → EventsMove g first events last → HasNoCycle last.locks.requests

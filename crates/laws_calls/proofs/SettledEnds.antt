@@ -18,17 +18,19 @@ use Rattle.shore_model.specs.declared.step.Step.TheVariants.{Done, Nothing, Refu
 use Rattle.shore_model.specs.declared.step.Wait.{Wait}
 use Rattle.shore_model.specs.declared.step.Wait.TheVariants.{Durable, Lock}
 use Rattle.laws_calls.proofs.RollingLeaves.{back_table, interrupted_table, savepoint_table}
-use Rattle.laws_calls.proofs.SessionEndings.{call_waits, done_leaves, its_own_number, others_wait, refused_resume_waits_no_more, refusing_leaves, resumed_waits_no_more}
+use Rattle.laws_calls.proofs.SessionEndings.{call_waits, done_leaves, its_own_number, others_wait, refused_resume_waits_no_more, refusing_leaves, resumed_waits_no_more, WaitsForIts}
 use Rattle.laws_calls.proofs.SessionFailures.{Fails, call_fails, resume_fails}
 use Rattle.laws_calls.proofs.SettledStates.{HasComeTo, is_broken, resume_comes, settles_stays, waiting_call_comes}
 use Rattle.laws_calls.proofs.SettledWaits.{IsSpared, entry_there, resume_has_waited, resume_waits}
 use Rattle.laws_calls.specs.CallHistories.{txn_of}
-use Rattle.laws_calls.specs.CallSteps.{AbortStep, BeginStep, CallStep, CommitStep, CallGoesOn, InnerStep, ResumeStep, ResumesCall, ResumesWait}
+use Rattle.laws_calls.specs.CallSteps.{AbortStep, BeginStep, CallStep, CommitStep, CallGoesOn, InnerStep, ResumeStep, ResumesCall, ResumesWait, OutsideStep}
 use Rattle.laws_calls.specs.Events.{IsStateAfter}
 use Rattle.laws_calls.specs.Settling.{SettledCall, SettledResume, Settles}
-use Rattle.laws_calls.specs.States.{DoesNotWait, State, Waiting, next_number}
+use Rattle.laws_calls.specs.States.{DoesNotWait, State, Waiting}
 use Rattle.laws_calls.specs.Victims.{TellsVictim, Withdraws}
-use Rattle.laws_calls.proofs.Outside.{outside_same}
+use Rattle.laws_calls.specs.Prepares.{PrepareStep}
+use Rattle.laws_calls.proofs.ResolveLeaves.{none_added, resolve_waiting}
+use Rattle.laws_calls.proofs.Outside.{outside_or}
 
 -- an answer or a refusal
 abbrev pub IsEnd : Step → Type 0
@@ -63,6 +65,12 @@ module _ (g : Geometry) (s new : State) where
   commit_leaves a (Refused f) h end = absurd h
   commit_leaves a Nothing h end = absurd h
 
+  prepare_leaves : (a : SessionTxn) (global : List ℕ) (step : Step) → PrepareStep s a global step new → IsEnd step → new.waiting ≡ s.waiting
+  prepare_leaves a global (Waits wait) h end = absurd end
+  prepare_leaves a global (Refused f) h end = ap (λ (x : State). x.waiting) h.1
+  prepare_leaves a global (Done answer) h end = absurd h
+  prepare_leaves a global Nothing h end = absurd h
+
   abort_leaves : (a : SessionTxn) (step : Step) → AbortStep s a step new → new.waiting ≡ s.waiting
   abort_leaves a (Done answer) h = ap (λ (x : State). x.waiting) h.1
   abort_leaves a (Refused f) h = (interrupted_table s a Whole f new h).waiting
@@ -74,9 +82,16 @@ module _ (g : Geometry) (s new : State) where
   inner_leaves a c step (inr (inl (whole, inl h))) end = ap (λ (x : State). x.waiting) h.3
   inner_leaves a c step (inr (inl (whole, inr (inl h)))) end = goes_leave a c step h.1 end
   inner_leaves a c step (inr (inl (whole, inr (inr (inl h))))) end = commit_leaves a step h.1 end
-  inner_leaves a c step (inr (inl (whole, inr (inr (inr h))))) end = (savepoint_table s a step new h.1).waiting
+  inner_leaves a c step (inr (inl (whole, inr (inr (inr (inl h)))))) end = (savepoint_table s a step new h.1).waiting
+  inner_leaves a c step (inr (inl (whole, inr (inr (inr (inr h)))))) end = prepare_leaves a h.0 step h.2 end
   inner_leaves a c step (inr (inr (inl h))) end = (back_table s a h.0 step new h.3).waiting
   inner_leaves a c step (inr (inr (inr h))) end = abort_leaves a step h.1
+
+  outside_leaves : (session : ℕ) (c : Call) (step : Step) → OutsideStep s session c step new → IsEnd step → new.waiting ≡ s.waiting
+  outside_leaves session c step h end = ⊎_elim
+      (λ same. ap (λ (x : State). x.waiting) same)
+      (λ r. none_added s new session r.global r.asked step (λ n is. subst IsEnd is end) (resolve_waiting s session r.global r.asked step new r.to))
+      (outside_or s session c step new h)
 
   pub call_leaves : (session : ℕ) (c : Call) (step : Step) → CallStep g s session c step new → IsEnd step → new.waiting ≡ s.waiting
   call_leaves session c step (inl h) end = ap (λ (x : State). x.waiting) h.1
@@ -85,7 +100,7 @@ module _ (g : Geometry) (s new : State) where
   call_leaves session c step (inr (inr (inr (inl h)))) end = begin_leaves session step h.3 end
   call_leaves session c step (inr (inr (inr (inr (inl h))))) end = ap (λ (x : State). x.waiting) h.5
   call_leaves session c step (inr (inr (inr (inr (inr (inr (inl h))))))) end = ap (λ (x : State). x.waiting) h.5
-  call_leaves session c step (inr (inr (inr (inr (inr (inr (inr h))))))) end = ap (λ (x : State). x.waiting) (outside_same s c step new h.2)
+  call_leaves session c step (inr (inr (inr (inr (inr (inr (inr h))))))) end = outside_leaves session c step h.2 end
   call_leaves session c step (inr (inr (inr (inr (inr (inl h)))))) end = inner_leaves h.2.0 c step h.2.2 end
 
   -- a call that is not refused is made by a session that does not wait
@@ -182,7 +197,8 @@ durable_in g s new w (Durable m) n (inl h) = (ap wait_of (sym h.1), h.2)
     wait_of (Refused f) = Durable m
     wait_of Nothing = Durable m
 durable_in g s new w (Durable m) n (inr (inl h)) = let clash = h.1 in absurd cc
-durable_in g s new w (Durable m) n (inr (inr h)) = let clash = h.1 in absurd cc
+durable_in g s new w (Durable m) n (inr (inr (inl h))) = let clash = h.1 in absurd cc
+durable_in g s new w (Durable m) n (inr (inr (inr h))) = let clash = h.1 in absurd cc
 durable_in g s new w (Lock at) n h = ⊎_elim
     (λ still. let clash = still.1 in absurd cc)
     (λ free. let clash = free.1.4 in absurd cc)
@@ -221,11 +237,11 @@ module _ (g : Geometry) (o : Opening) (found : List LogRecord) (es : List Entry)
     pub settled_call_waits : (wait : Wait) → SettledCall g s session c (Waits wait) new → CallWaits session c wait new
     settled_call_waits wait h = begins_in wait h.first h.mid h.calls h.rounds h.settles
 
-    number_in : (n : ℕ) (first : Step) (mid : State) → CallStep g s session c first mid → (rounds : List (List Victim)) → Settles g mid session first rounds (Waits (Durable n)) new → n ≡ next_number s
+    number_in : (n : ℕ) (first : Step) (mid : State) → CallStep g s session c first mid → (rounds : List (List Victim)) → Settles g mid session first rounds (Waits (Durable n)) new → WaitsForIts s c n
     number_in n first mid calls [] h = its_own_number g s mid session n c (subst (λ (x : Step). CallStep g s session c x mid) (sym h.1) calls)
     number_in n first mid calls (vs ∷ rounds) h = absurd ((settled_on (Waits (Durable n)) first mid calls vs rounds h).undecided n refl)
 
-    pub settled_number : (n : ℕ) → SettledCall g s session c (Waits (Durable n)) new → n ≡ next_number s
+    pub settled_number : (n : ℕ) → SettledCall g s session c (Waits (Durable n)) new → WaitsForIts s c n
     settled_number n h = number_in n h.first h.mid h.calls h.rounds h.settles
 
     ends_in : (step first : Step) (mid : State) → DoesNotWait s session → CallStep g s session c first mid → (rounds : List (List Victim)) → Settles g mid session first rounds step new

@@ -1,5 +1,5 @@
 -- A refusal as a whole without a device's or a page's fault fails nothing, whatever victims were taken on the way.
-use Rattle.std.proofs.Common.{◌≡◌, ◌≢◌, inl, inr, ⊎_elim, ℕ, List, [], ◌∷◌, sym, ap, ◌∙◌}
+use Rattle.std.proofs.Common.{◌≡◌, ◌≢◌, inl, inr, ⊎_elim, ℕ, List, [], ◌∷◌, ap, ◌∙◌}
 use Rattle.shore_types.specs.declared.faults.Device.{Device}
 use Rattle.shore_types.specs.declared.faults.Fault.{Fault}
 use Rattle.shore_types.specs.declared.faults.Fault.TheVariants as fault
@@ -11,7 +11,7 @@ use Rattle.shore_model.specs.declared.step.Wait.{Wait}
 use Rattle.shore_model.specs.declared.step.Wait.TheVariants.{Durable, Lock}
 use Rattle.laws_calls.proofs.EndedWaits.{goes_runs, refusal_runs}
 use Rattle.laws_calls.proofs.Midway.{settled_call_to, settled_resume_to}
-use Rattle.laws_calls.proofs.SessionInversions.{durable_no_lock, waits_in}
+use Rattle.laws_calls.proofs.SessionInversions.{waits_on_lock}
 use Rattle.laws_calls.specs.CallSteps.{ResumeStep, ResumesWait}
 use Rattle.laws_calls.specs.Midway.{EndsFrom, Interlude, Intervene, IsCutShort, Takes, WaitsAnew}
 use Rattle.laws_calls.specs.Settling.{SettledCall, SettledResume}
@@ -27,7 +27,8 @@ module _ (g : Geometry) (session : ℕ) where
   waits_run : (x new : State) (w : Waiting) (its : Wait) (at : Granule) → ResumesWait g x w its (Waits (Lock at)) new → new.failed ≡ x.failed
   waits_run x new w (Durable n) at (inl h) = let clash = h.1 in absurd cc
   waits_run x new w (Durable n) at (inr (inl h)) = let clash = h.1 in absurd cc
-  waits_run x new w (Durable n) at (inr (inr h)) = let clash = h.1 in absurd cc
+  waits_run x new w (Durable n) at (inr (inr (inl h))) = let clash = h.1 in absurd cc
+  waits_run x new w (Durable n) at (inr (inr (inr h))) = let clash = h.1 in absurd cc
   waits_run x new w (Lock there) at h = ⊎_elim (λ still. same new x still.2) (λ goes. ap (λ (s : State). s.failed) goes.1.5) h.2
 
   anew_runs : (x new : State) (at : Granule) → ResumeStep g x session (Waits (Lock at)) new → new.failed ≡ x.failed
@@ -45,7 +46,8 @@ module _ (g : Geometry) (new : State) (session : ℕ) (f : Fault) (device : f �
   on_runs : (x : State) (w : Waiting) (its : Wait) → ResumesWait g x w its (Refused f) new → new.failed ≡ x.failed
   on_runs x w (Durable n) (inl h) = let clash = h.1 in absurd cc
   on_runs x w (Durable n) (inr (inl h)) = let clash = h.1 in absurd cc
-  on_runs x w (Durable n) (inr (inr h)) = let clash = h.1 in absurd cc
+  on_runs x w (Durable n) (inr (inr (inl h))) = let clash = h.1 in absurd cc
+  on_runs x w (Durable n) (inr (inr (inr h))) = let clash = h.1 in absurd cc
   on_runs x w (Lock at) h = ⊎_elim
       (λ still. let clash = still.1 in absurd cc)
       (λ goes. goes_runs g (wait_refused x w.session) new w.session h.0 w.call f (device, damaged) goes.1)
@@ -71,10 +73,7 @@ module _ (g : Geometry) (new : State) (session : ℕ) (f : Fault) (device : f �
       let m = came.midway in
       ends_run came.from came.ends
       ∙ midway_runs g session m.waits came.between came.from m.intervene
-      ∙ ⊎_elim
-      (λ asks. ap (λ (x : State). x.failed) asks.1.5)
-      (λ commits. absurd (durable_no_lock _ m.at (sym commits.1.0)))
-      (waits_in g s m.waits session c (Lock m.at) m.calls).how)
+      ∙ ap (λ (x : State). x.failed) (waits_on_lock g s m.waits session c m.at m.calls).goes.5)
       (settled_call_to g s session c (Refused f) new h)
 
   pub settled_resume_runs : (s : State) → SettledResume g s session (Refused f) new → new.failed ≡ s.failed

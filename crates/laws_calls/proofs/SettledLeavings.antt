@@ -12,7 +12,7 @@ use Rattle.shore_model.specs.declared.step.Wait.TheVariants.{Durable, Lock}
 use Rattle.laws_lives.specs.Sessions.{SessionTxn, Sessions, doomed, locks_moved}
 use Rattle.laws_calls.proofs.AfterRefusals.{goes_leaves, refusal_leaves}
 use Rattle.laws_calls.proofs.Midway.{CameTo, settled_call_to, settled_resume_to}
-use Rattle.laws_calls.proofs.SessionInversions.{durable_no_lock, waits_in}
+use Rattle.laws_calls.proofs.SessionInversions.{waits_on_lock}
 use Rattle.laws_calls.specs.CallSteps.{CallStep, ResumeStep, ResumesWait}
 use Rattle.laws_calls.specs.Midway.{EndsFrom, Interlude, Intervene, IsCutShort, IsMidway, Takes, WaitsAnew, all_doomed, but_doomed, victims_among}
 use Rattle.laws_calls.specs.Settling.{SettledCall, SettledResume}
@@ -44,7 +44,8 @@ left_later s x y bs cs first last =
 waits_left : (g : Geometry) (x new : State) (w : Waiting) (its : Wait) (at : Granule) → ResumesWait g x w its (Waits (Lock at)) new → new ≡ but_doomed x [] new
 waits_left g x new w (Durable n) at (inl h) = let clash = h.1 in absurd cc
 waits_left g x new w (Durable n) at (inr (inl h)) = let clash = h.1 in absurd cc
-waits_left g x new w (Durable n) at (inr (inr h)) = let clash = h.1 in absurd cc
+waits_left g x new w (Durable n) at (inr (inr (inl h))) = let clash = h.1 in absurd cc
+waits_left g x new w (Durable n) at (inr (inr (inr h))) = let clash = h.1 in absurd cc
 waits_left g x new w (Lock there) at h = ⊎_elim
     (λ still. subst (λ (y : State). y ≡ but_doomed x [] y) (sym still.2) refl)
     (λ goes. subst (λ (y : State). y ≡ but_doomed x [] y) (sym goes.1.5) refl)
@@ -81,7 +82,8 @@ module _ (g : Geometry) (session : ℕ) where
 on_left : (g : Geometry) (x new : State) (session : ℕ) (w : Waiting) (its : Wait) (f : Fault) → ResumesWait g x w its (Refused f) new → new ≡ but_doomed x [] new
 on_left g x new session w (Durable n) f (inl h) = let clash = h.1 in absurd cc
 on_left g x new session w (Durable n) f (inr (inl h)) = let clash = h.1 in absurd cc
-on_left g x new session w (Durable n) f (inr (inr h)) = let clash = h.1 in absurd cc
+on_left g x new session w (Durable n) f (inr (inr (inl h))) = let clash = h.1 in absurd cc
+on_left g x new session w (Durable n) f (inr (inr (inr h))) = let clash = h.1 in absurd cc
 on_left g x new session w (Lock at) f h = ⊎_elim
     (λ still. let clash = still.1 in absurd cc)
     (λ goes. left_later x (wait_refused x w.session) new [] [] refl (locks_only (wait_refused x w.session) new (goes_leaves g (wait_refused x w.session) new h.0 w.call f goes.1)))
@@ -130,10 +132,7 @@ module _ (g : Geometry) (s new : State) (session : ℕ) (f : Fault) where
       (settled_call_to g s session c (Refused f) new h)
     where
       waits_first : {between : List Interlude} {x : State} (m : IsMidway g s session c between x) → m.waits ≡ but_doomed s [] m.waits
-      waits_first m = ⊎_elim
-          (λ asks. subst (λ (y : State). y ≡ but_doomed s [] y) (sym asks.1.5) refl)
-          (λ commits. absurd (durable_no_lock _ m.at (sym commits.1.0)))
-          (waits_in g s m.waits session c (Lock m.at) m.calls).how
+      waits_first m = subst (λ (y : State). y ≡ but_doomed s [] y) (sym (waits_on_lock g s m.waits session c m.at m.calls).goes.5) refl
 
   pub settled_resume_leaves : SettledResume g s session (Refused f) new
       → (between : List Interlude) × ((x : State) × Intervene g session s between x) × (new ≡ but_doomed s (victims_among between) new)

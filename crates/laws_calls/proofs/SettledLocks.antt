@@ -41,13 +41,13 @@ use Rattle.laws_calls.proofs.Decided.{both_ways}
 use Rattle.laws_calls.proofs.GoingOn.{never_waiting}
 use Rattle.laws_calls.proofs.GrownLocks.{Grown, grown_acquired, grown_cancelled, grown_from, grown_waiting}
 use Rattle.laws_calls.proofs.Midway.{CallCameTo, CameTo, IsPaused, paused_at_first, paused_next, settled_call_to, settled_resume_to}
-use Rattle.laws_calls.proofs.SessionInversions.{durable_no_lock, same_lock, waits_in}
+use Rattle.laws_calls.proofs.SessionInversions.{same_lock, waits_on_lock}
 use Rattle.laws_calls.proofs.SessionResumes.{woken}
 use Rattle.laws_calls.proofs.Sessions.{its_txn}
 use Rattle.laws_calls.proofs.SettledWaits.{HasWaited, resumes_its}
 use Rattle.laws_calls.proofs.RollingLeaves.{back_table, interrupted_table, savepoint_table}
 use Rattle.laws_calls.proofs.TakenLocks.{leaves, locked_state}
-use Rattle.laws_calls.specs.CallSteps.{AbortStep, CallGoesOn, CallStep, InnerStep, ResumeStep, ResumesWait, behind_lock, lock_outcome, on_conflict_of, place_outcome}
+use Rattle.laws_calls.specs.CallSteps.{AbortStep, CallGoesOn, CallStep, InnerStep, ResumeStep, ResumesWait, behind_lock, lock_outcome, on_conflict_of, place_outcome, OutsideStep}
 use Rattle.laws_calls.specs.Events.{IsStateAfter}
 use Rattle.laws_calls.specs.LockChanges.{ChangesLocks}
 use Rattle.laws_calls.specs.LockedStates.{IsSessionsState}
@@ -56,7 +56,10 @@ use Rattle.laws_calls.specs.SessionWaits.{WaitsThere}
 use Rattle.laws_calls.specs.Settling.{SettledCall, SettledResume, WaitsForNoLock}
 use Rattle.laws_calls.specs.StateChanges.{wait_refused}
 use Rattle.laws_calls.specs.States.{IsOfSession, State, Waiting, HasSeat}
-use Rattle.laws_calls.proofs.Outside.{outside_same}
+use Rattle.laws_calls.proofs.PrepareSteps.{prepare_locks}
+use Rattle.laws_calls.specs.Shapes.{ResolvesTxn, IsNoRefusal}
+use Rattle.laws_calls.proofs.ResolveLeaves.{resolve_locks}
+use Rattle.laws_calls.proofs.Outside.{outside_or}
 
 -- ---- words
 
@@ -225,7 +228,8 @@ module _ (g : Geometry) (o : Opening) (found : List LogRecord) (es : List Entry)
   abbrev StepsSo : Step → State → Type 0
   StepsSo step new =
       (new.locks ≡ s.locks)
-      ⊎ (((c ≡ call.Abort) × (step ≡ Done Aborted) × ((a : SessionTxn) × IsOfSession s session a × (new.locks.requests ≡ released a.txn s.locks.requests)))
+      ⊎ ((((c ≡ call.Abort) × (step ≡ Done Aborted) × ((a : SessionTxn) × IsOfSession s session a × (new.locks.requests ≡ released a.txn s.locks.requests)))
+      ⊎ ((a : SessionTxn) × ResolvesTxn s c a × IsNoRefusal step × (new.locks.requests ≡ released a.txn s.locks.requests)))
       ⊎ ((a : SessionTxn) × IsOfSession s session a × (is_waiting a.txn s.locks.requests ≡ false) × CallGoesOn g s a c step new))
 
   inner_so : (a : SessionTxn) → IsOfSession s session a → is_waiting a.txn s.locks.requests ≡ false → (step : Step) (new : State) → InnerStep g s a c step new → StepsSo step new
@@ -233,15 +237,25 @@ module _ (g : Geometry) (o : Opening) (found : List LogRecord) (es : List Entry)
   inner_so a of quiet step new (inr (inl (whole, inl h))) = inl (ap (λ (x : State). x.locks) h.3)
   inner_so a of quiet step new (inr (inl (whole, inr (inl h)))) = inr (inr (a, of, quiet, h.1))
   inner_so a of quiet step new (inr (inl (whole, inr (inr (inl h))))) = inl (commit_keeps_locks s a step new h.1)
-  inner_so a of quiet step new (inr (inl (whole, inr (inr (inr h))))) = inl (savepoint_table s a step new h.1).locks
+  inner_so a of quiet step new (inr (inl (whole, inr (inr (inr (inl h)))))) = inl (savepoint_table s a step new h.1).locks
+  inner_so a of quiet step new (inr (inl (whole, inr (inr (inr (inr h)))))) = inl (prepare_locks s a h.0 step new h.2)
   inner_so a of quiet step new (inr (inr (inl h))) = inl (back_table s a h.0 step new h.3).locks
   inner_so a of quiet step new (inr (inr (inr h))) = aborts step h.1
     where
       aborts : (step : Step) → AbortStep s a step new → StepsSo step new
-      aborts (Done answer) x = inr (inl (h.0, ap Done x.0, (a, of, ap (λ (y : State). y.locks.requests) x.1)))
+      aborts (Done answer) x = inr (inl (inl (h.0, ap Done x.0, (a, of, ap (λ (y : State). y.locks.requests) x.1))))
       aborts (Refused f) x = inl (interrupted_table s a Whole f new x).locks
       aborts (Waits wait) x = absurd x
       aborts Nothing x = absurd x
+
+  outside_so : (step : Step) (new : State) → OutsideStep s session c step new → StepsSo step new
+  outside_so step new h = ⊎_elim
+      (λ same. inl (ap (λ (x : State). x.locks) same))
+      (λ r. ⊎_elim
+      (λ same. inl same)
+      (λ gone. inr (inl (inr (gone.txn, (r.global, r.asked, r.is, gone.its), gone.ends, gone.requests))))
+      (resolve_locks s session r.global r.asked step new r.to))
+      (outside_or s session c step new h)
 
   call_so : (step : Step) (new : State) → CallStep g s session c step new → StepsSo step new
   call_so step new (inl h) = inl (ap (λ (x : State). x.locks) h.1)
@@ -250,7 +264,7 @@ module _ (g : Geometry) (o : Opening) (found : List LogRecord) (es : List Entry)
   call_so step new (inr (inr (inr (inl h)))) = inl (begin_keeps_locks s session step new h.3)
   call_so step new (inr (inr (inr (inr (inl h))))) = inl (ap (λ (x : State). x.locks) h.5)
   call_so step new (inr (inr (inr (inr (inr (inr (inl h))))))) = inl (ap (λ (x : State). x.locks) h.5)
-  call_so step new (inr (inr (inr (inr (inr (inr (inr h))))))) = inl (ap (λ (x : State). x.locks) (outside_same s c step new h.2))
+  call_so step new (inr (inr (inr (inr (inr (inr (inr h))))))) = outside_so step new h.2
   call_so step new (inr (inr (inr (inr (inr (inl h)))))) =
       inner_so h.2.0 h.2.1 (k.sessions.locks.waits h.0 h.2.0 h.2.1.0.0 (λ w m spared same. h.1 w m (same ∙ h.2.1.1))) step new h.2.2
 
@@ -262,7 +276,8 @@ module _ (g : Geometry) (o : Opening) (found : List LogRecord) (es : List Entry)
   abbrev pub LocksSettle : Step → State → Type 0
   LocksSettle step new =
       (new.locks.requests ≡ s.locks.requests)
-      ⊎ (((c ≡ call.Abort) × (step ≡ Done Aborted) × ((a : SessionTxn) × IsOfSession s session a × (new.locks.requests ≡ released a.txn s.locks.requests)))
+      ⊎ ((((c ≡ call.Abort) × (step ≡ Done Aborted) × ((a : SessionTxn) × IsOfSession s session a × (new.locks.requests ≡ released a.txn s.locks.requests)))
+      ⊎ ((a : SessionTxn) × ResolvesTxn s c a × IsNoRefusal step × (new.locks.requests ≡ released a.txn s.locks.requests)))
       ⊎ ((a : SessionTxn) × IsOfSession s session a
       × ((between : List Interlude) × ((between ≡ []) ⊎ ((x : State) × IsMidway g s session c between x)) × ChangesLocks s.locks.requests a.txn c (cycles_among between) new.locks.requests)))
 
@@ -270,7 +285,7 @@ module _ (g : Geometry) (o : Opening) (found : List LogRecord) (es : List Entry)
   at_once step new h = ⊎_elim
       (λ same. inl (ap (λ (x : Table). x.requests) same))
       (⊎_elim
-      (λ abort. inr (inl abort))
+      (λ gone. inr (inl gone))
       (λ goes. ⊎_elim
       (λ asks.
       inr (inr (
@@ -290,10 +305,8 @@ module _ (g : Geometry) (o : Opening) (found : List LogRecord) (es : List Entry)
   behind_waits : (step : Step) (new : State) → CallCameTo g s session c step new → LocksSettle step new
   behind_waits step new came =
       let m = came.midway in
-      let t = waits_in g s m.waits session c (Lock m.at) m.calls in
-      ⊎_elim
-      (λ asks.
-      let goes = asks.1 in
+      let t = waits_on_lock g s m.waits session c m.at m.calls in
+      let goes = t.goes in
       let a = t.txn in
       let vs = cycles_among came.between in
       let quiet = k.sessions.locks.waits t.running a t.of.0.0 (λ w there spared same. t.idle w there (same ∙ t.of.1)) in
@@ -301,9 +314,7 @@ module _ (g : Geometry) (o : Opening) (found : List LogRecord) (es : List Entry)
       let p = subst (λ n. IsPaused g o found es session n c m.waits) number (paused_at_first g o found es s k session c m.at m.waits m.calls) in
       let first = waits_grown g o found es session a.txn c goes.0 goes.2 s.locks.requests vs s k.sessions a t.of.0 refl quiet (Lock m.at) m.waits goes (grown_from s.locks.requests a.txn goes.0.granule goes.0.mode vs quiet) in
       let last = grown_midway g o found es session a.txn c goes.0 goes.2 s.locks.requests vs m.waits came.between came.from (all_in came.between) p first m.intervene in
-      inr (inr (a, t.of, (came.between, inr (came.from, m), ends_changes g o found es session a.txn c goes.0 goes.2 s.locks.requests vs came.from new step last.0 last.1 came.ends))))
-      (λ commits. absurd (durable_no_lock _ m.at (sym commits.1.0)))
-      t.how
+      inr (inr (a, t.of, (came.between, inr (came.from, m), ends_changes g o found es session a.txn c goes.0 goes.2 s.locks.requests vs came.from new step last.0 last.1 came.ends)))
 
   pub settled_call_locks : (step : Step) (new : State) → SettledCall g s session c step new → LocksSettle step new
   settled_call_locks step new h = ⊎_elim (λ once. at_once step new once.1) (behind_waits step new) (settled_call_to g s session c step new h)
@@ -322,7 +333,8 @@ module _ (g : Geometry) (o : Opening) (found : List LogRecord) (es : List Entry)
   wait_settles : (w : Waiting) → IsAmong w s.waiting → w.session ≡ session → (wait : Wait) → w.wait ≡ wait → (step : Step) (new : State) → ResumesWait g s w wait step new → LocksSettleAgain step new
   wait_settles w m of (Durable n) is step new (inl h) = inl (ap (λ (x : State). x.locks.requests) h.2)
   wait_settles w m of (Durable n) is step new (inr (inl h)) = inr (inl (h.1, (h.2.0, h.2.1, h.2.2 ∙ of, ap (λ (x : State). x.locks.requests) h.2.3)))
-  wait_settles w m of (Durable n) is step new (inr (inr h)) = inl (ap (λ (x : State). x.locks.requests) h.2.4)
+  wait_settles w m of (Durable n) is step new (inr (inr (inl h))) = inl (ap (λ (x : State). x.locks.requests) h.2.4)
+  wait_settles w m of (Durable n) is step new (inr (inr (inr h))) = inl (ap (λ (x : State). x.locks.requests) h.2.3)
   wait_settles w m of (Lock at) is step new h = ⊎_elim
       (λ still. inl (ap (λ (x : State). x.locks.requests) still.2))
       (λ free. ⊎_elim

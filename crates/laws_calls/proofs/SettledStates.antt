@@ -25,14 +25,17 @@ use Rattle.laws_calls.proofs.SessionStates.{as_it_was, its_wait, session_call_st
 use Rattle.laws_calls.proofs.Sessions.{its_txn}
 use Rattle.laws_calls.proofs.SettledWaits.{IsSpared, WaitsAt, call_has_asked, call_waits_at, resume_has_waited, resume_undecided, resume_waits, still_spared, victims_keep_txn, victims_wait}
 use Rattle.laws_calls.proofs.VictimSteps.{told_stays, victim_stays, withdrawn_stays}
-use Rattle.laws_calls.specs.CallHistories.{txn_of}
+use Rattle.laws_calls.specs.CallHistories.{txn_of, answered_under}
 use Rattle.laws_calls.specs.CallSteps.{CallStep, ResumeStep, with_requests}
 use Rattle.laws_calls.specs.Events.{Called, Forced, HasFailed, IsStateAfter, ManagerEvent, Resumed, EventMoves, EventsMove, MovesMaking, entries_of, entries_of_resume, entries_of_waiting}
-use Rattle.laws_calls.specs.LockedStates.{entries_of_call, entries_of_resumed}
+use Rattle.laws_calls.specs.LockedStates.{entries_of_resumed, entries_of_call}
 use Rattle.laws_calls.specs.Settling.{SettledCall, SettledResume, Settles}
 use Rattle.laws_calls.specs.StateChanges.{wait_refused, with_durable, with_failure}
 use Rattle.laws_calls.specs.States.{IsOfSession, State, Waiting}
 use Rattle.laws_calls.specs.Victims.{TakesVictims, TellsVictim, Withdraws}
+use Rattle.laws_calls.proofs.Told.{entries_told}
+use Rattle.laws_calls.proofs.ToldEntries.{told_of_call}
+use Rattle.laws_calls.proofs.LongerLogs.{call_further, further_then, settles_further}
 
 -- what is added once the call of a session that waited for a lock has ended
 abbrev pub ended_entries : ℕ → ℕ → Call → Step → List Entry
@@ -53,22 +56,30 @@ module _ (o : Opening) (found : List LogRecord) (session n : ℕ) (c : Call) whe
     pub undecided : (m : ℕ) → step ≢ Waits (Durable m)
 
   -- a resume of the session adds what is added by its end
-  end_entries : (s : State) (at : Granule) (w : WaitsAt session n c at s) (step : Step) → entries_of_resumed s w.waited step ≡ ended_entries session n c step
-  end_entries s at w (Done answer) =
-      ap (λ m. Exchanged m (txn_of s.sessions m) (exchange w.waited.call (Ok answer)) ∷ []) w.of
+  -- a call that waits for a lock goes under its transaction's number
+  under : (es : List Entry) (s : State) → IsStateAfter o found es s → (at : Granule) (w : WaitsAt session n c at s) → answered_under s.sessions w.waited.session w.waited.call ≡ txn_of s.sessions w.waited.session
+  under es s k at w = ⊎_elim
+      (λ x. let clash : Lock at ≡ Durable x.number = sym w.lock ∙ ap (λ (v : Waiting). v.wait) x.is in absurd cc)
+      (λ x. inner_under s w.waited.session w.waited.call (asking_is_inner w.waited.call x.lock x.asked))
+      (k.waits.each w.waited w.there)
+
+  end_entries : (es : List Entry) (s : State) → IsStateAfter o found es s → (at : Granule) (w : WaitsAt session n c at s) (step : Step) → entries_of_resumed s w.waited step ≡ ended_entries session n c step
+  end_entries es s k at w (Done answer) =
+      ap (λ t. Exchanged w.waited.session t (exchange w.waited.call (Ok answer)) ∷ []) (under es s k at w)
+      ∙ ap (λ m. Exchanged m (txn_of s.sessions m) (exchange w.waited.call (Ok answer)) ∷ []) w.of
       ∙ ap (λ t. Exchanged session t (exchange w.waited.call (Ok answer)) ∷ []) w.number
       ∙ ap (λ (x : Call). Exchanged session n (exchange x (Ok answer)) ∷ []) w.its
-  end_entries s at w (Refused fault) =
+  end_entries es s k at w (Refused fault) =
       ap (λ m. Exchanged m (txn_of s.sessions m) (exchange w.waited.call (Err fault)) ∷ []) w.of
       ∙ ap (λ t. Exchanged session t (exchange w.waited.call (Err fault)) ∷ []) w.number
       ∙ ap (λ (x : Call). Exchanged session n (exchange x (Err fault)) ∷ []) w.its
-  end_entries s at w (Waits wait) = refl
-  end_entries s at w Nothing = refl
+  end_entries es s k at w (Waits wait) = refl
+  end_entries es s k at w Nothing = refl
 
   module _ (es : List Entry) (s : State) (k : IsStateAfter o found es s) (at : Granule) (w : WaitsAt session n c at s) where
     pub resume_entries : (step : Step) → entries_of_resume s session step ≡ ended_entries session n c step
     resume_entries step =
-        ap (λ (x : Option Waiting). entries_of_waiting s x step) (its_wait session s.waiting w.waited k.waits.once w.there w.of) ∙ end_entries s at w step
+        ap (λ (x : Option Waiting). entries_of_waiting s x step) (its_wait session s.waiting w.waited k.waits.once w.there w.of) ∙ end_entries es s k at w step
 
     as_ended : (step : Step) (new : State) → IsStateAfter o found (es ++ entries_of_resume s session step) new → IsStateAfter o found (es ++ ended_entries session n c step) new
     as_ended step new h = subst (λ made. IsStateAfter o found (es ++ made) new) (resume_entries step) h
@@ -176,9 +187,13 @@ module _ (o : Opening) (found : List LogRecord) (session n : ℕ) (c : Call) whe
 
 -- ---- calls and resumes
 
+-- a call that waits for a lock adds nothing
+pub adds_nothing : (s mid : State) (session : ℕ) (c : Call) (x : Step) (at : Granule) → x ≡ Waits (Lock at) → entries_of_call s session c x mid ≡ ended_entries session (txn_of s.sessions session) c x
+adds_nothing s mid session c x at same = ap (λ (y : Step). entries_of_call s session c y mid) same ∙ ap (ended_entries session (txn_of s.sessions session) c) (sym same)
+
 -- the call of a transaction that was under way has the number of it
 pub call_entries : (s : State) (session : ℕ) (c : Call) (lock : Asked) → lock_asked_by c ≡ Some lock → (step : Step) → ((m : ℕ) → step ≢ Waits (Durable m))
-    → ended_entries session (txn_of s.sessions session) c step ≡ entries_of_call s session c step
+    → ended_entries session (txn_of s.sessions session) c step ≡ entries_told s session c step
 call_entries s session c lock asked (Done answer) undecided = ap (λ t. Exchanged session t (exchange c (Ok answer)) ∷ []) (sym (inner_under s session c (asking_is_inner c lock asked)))
 call_entries s session c lock asked (Refused fault) undecided = refl
 call_entries s session c lock asked (Waits (Lock at)) undecided = refl
@@ -190,27 +205,26 @@ module _ (o : Opening) (found : List LogRecord) (es : List Entry) (s : State) (k
   pub waiting_call_comes : (g : Geometry) (session : ℕ) (c : Call) (first : Step) (mid : State) (at : Granule) → first ≡ Waits (Lock at) → CallStep g s session c first mid
       → HasComeTo o found session (txn_of s.sessions session) c es first mid
   waiting_call_comes g session c first mid at is h = record {
-    stays = subst (λ made. IsStateAfter o found (es ++ made) mid) (adds_nothing first is) (session_call_stays o found es s k g session c first mid h);
+    stays = subst (λ made. IsStateAfter o found (es ++ made) mid) (adds_nothing s mid session c first at is) (session_call_stays o found es s k g session c first mid h);
     waits = call_waits_at g s session c first mid h;
     undecided = λ m other. let clash : Waits (Lock at) ≡ Waits (Durable m) = sym is ∙ other in absurd cc;
   }
-    where
-      adds_nothing : (x : Step) → x ≡ Waits (Lock at) → entries_of_call s session c x ≡ ended_entries session (txn_of s.sessions session) c x
-      adds_nothing x same =
-          ap (entries_of_call s session c) same ∙ ap (ended_entries session (txn_of s.sessions session) c) (sym same)
 
   settled_in : (g : Geometry) (session : ℕ) (c : Call) (step : Step) (new : State) (first : Step) (mid : State) → CallStep g s session c first mid → (rounds : List (List Victim))
-      → Settles g mid session first rounds step new → IsStateAfter o found (es ++ entries_of_call s session c step) new
+      → Settles g mid session first rounds step new → IsStateAfter o found (es ++ entries_of_call s session c step new) new
   settled_in g session c step new first mid calls [] h =
-      subst (IsStateAfter o found (es ++ entries_of_call s session c step)) (sym h.2)
-      (subst (λ (x : Step). IsStateAfter o found (es ++ entries_of_call s session c x) mid) (sym h.1) (session_call_stays o found es s k g session c first mid calls))
+      subst (λ (x : State). IsStateAfter o found (es ++ entries_of_call s session c step x) x) (sym h.2)
+      (subst (λ (x : Step). IsStateAfter o found (es ++ entries_of_call s session c x mid) mid) (sym h.1) (session_call_stays o found es s k g session c first mid calls))
   settled_in g session c step new first mid calls (vs ∷ rounds) h =
       let asked = call_has_asked g s session c h.1 first mid h.4 calls in
       let come = settles_stays o found session (txn_of s.sessions session) c g es mid first (vs ∷ rounds) step new (waiting_call_comes g session c first mid h.1 h.4 calls) h in
-      subst (λ made. IsStateAfter o found (es ++ made) new) (call_entries s session c asked.lock asked.asked step come.undecided) come.stays
+      let told = subst (λ made. IsStateAfter o found (es ++ made) new) (call_entries s session c asked.lock asked.asked step come.undecided) come.stays in
+      subst (λ made. IsStateAfter o found (es ++ made) new)
+      (told_of_call o found es s new session c step k.sessions told.sessions
+      (further_then s mid new (call_further g s session c first mid calls) (settles_further g mid session first (vs ∷ rounds) step new h)).on) told
 
   pub settled_call_stays : (g : Geometry) (session : ℕ) (c : Call) (step : Step) (new : State) → SettledCall g s session c step new
-      → IsStateAfter o found (es ++ entries_of_call s session c step) new
+      → IsStateAfter o found (es ++ entries_of_call s session c step new) new
   settled_call_stays g session c step new h = settled_in g session c step new h.first h.mid h.calls h.rounds h.settles
 
   went_on_in : (g : Geometry) (session : ℕ) (step : Step) (new : State) (first : Step) (mid : State) → ResumeStep g s session first mid → (rounds : List (List Victim))
@@ -233,7 +247,7 @@ module _ (o : Opening) (found : List LogRecord) (es : List Entry) (s : State) (k
 -- ---- any event, and events one after another
 
 pub session_event_stays : (g : Geometry) (o : Opening) (found : List LogRecord) (es : List Entry) (s new : State) (e : ManagerEvent) → IsStateAfter o found es s
-    → EventMoves g s e new → IsStateAfter o found (es ++ entries_of s e) new
+    → EventMoves g s e new → IsStateAfter o found (es ++ entries_of s e new) new
 session_event_stays g o found es s new (Called session c step) k h = settled_call_stays o found es s k g session c step new h.1
 session_event_stays g o found es s new (Resumed session step) k h = settled_resume_stays o found es s k g session step new h
 session_event_stays g o found es s new (Forced n) k h =
@@ -245,8 +259,8 @@ pub session_events_stay : (g : Geometry) (o : Opening) (found : List LogRecord) 
 session_events_stay g o found es s [] last made k h =
     subst (IsStateAfter o found (es ++ made)) (sym h.0) (subst (λ made. IsStateAfter o found (es ++ made) s) (sym h.1) (as_it_was o found es s k))
 session_events_stay g o found es s (e ∷ events) last made k h =
-    subst (λ made. IsStateAfter o found made last) (append_assoc es (entries_of s e) h.1 ∙ ap (λ more. es ++ more) (sym h.4))
-    (session_events_stay g o found (es ++ entries_of s e) h.0 events last h.1 (session_event_stays g o found es s h.0 e k h.2) h.3)
+    subst (λ made. IsStateAfter o found made last) (append_assoc es (entries_of s e h.0) h.1 ∙ ap (λ more. es ++ more) (sym h.4))
+    (session_events_stay g o found (es ++ entries_of s e h.0) h.0 events last h.1 (session_event_stays g o found es s h.0 e k h.2) h.3)
 
 -- ---- events make entries
 
@@ -255,7 +269,7 @@ pub session_events_make : (g : Geometry) (s : State) (events : List ManagerEvent
 session_events_make g s [] last h = ([], (h, refl))
 session_events_make g s (e ∷ events) last h =
     let later = session_events_make g h.0 events last h.2 in
-    (entries_of s e ++ later.0, (h.0, later.0, h.1, later.1, refl))
+    (entries_of s e h.0 ++ later.0, (h.0, later.0, h.1, later.1, refl))
 
 pub session_entries_come : (g : Geometry) (s : State) (events : List ManagerEvent) (last : State) (made : List Entry) → MovesMaking g s events last made
     → EventsMove g s events last

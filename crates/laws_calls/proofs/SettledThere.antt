@@ -1,10 +1,9 @@
 -- A call and a resume as a whole that wait for a lock do so at the granule that they tell, and those that wait for a record do so for their commit's.
-use Rattle.std.proofs.Common.{◌≡◌, ◌⊎◌, inl, inr, ⊎_elim, ◌++◌, ◌<◌, ℕ, List, [], ◌∷◌, true, Option, Some, None, refl, sym, ap, subst, ◌∙◌, length, arith}
+use Rattle.std.proofs.Common.{◌≡◌, ◌⊎◌, inl, inr, ⊎_elim, ◌++◌, ◌<◌, ℕ, List, [], ◌∷◌, true, Option, Some, None, refl, sym, ap, subst, ◌∙◌, length, arith, ◌≤◌, length-append}
 use Rattle.std.specs.Prelude.{is_some}
 use Rattle.shore_types.specs.declared.layout.Geometry.{Geometry}
 use Rattle.shore_types.specs.declared.locking.Granule.{Granule}
 use Rattle.shore_model.specs.declared.calls.Call.{Call}
-use Rattle.shore_model.specs.declared.calls.Call.TheVariants as call
 use Rattle.shore_model.specs.declared.histories.Entry.{Entry}
 use Rattle.shore_model.specs.declared.histories.Opening.{Opening}
 use Rattle.shore_model.specs.declared.log_records.LogRecord.{LogRecord}
@@ -17,20 +16,29 @@ use Rattle.shore_locks.specs.Tables.{is_waiting, waiting_request}
 use Rattle.laws_lives.specs.Sessions.{SessionTxn}
 use Rattle.laws_lives.specs.Views.{IsAmong}
 use Rattle.laws_calls.proofs.Midway.{CallCameTo, CameTo, IsPaused, kept_midway, midway_paused, paused_at_first, settled_call_to, settled_resume_to}
-use Rattle.laws_calls.proofs.SessionInversions.{durable_no_lock, waits_in}
+use Rattle.laws_calls.proofs.SessionInversions.{durable_no_lock, waits_on_record, AppendsIn}
 use Rattle.laws_calls.proofs.SessionResumes.{woken}
 use Rattle.laws_calls.proofs.SettledEnds.{settled_call_waits, settled_still_waits}
 use Rattle.laws_calls.proofs.SettledStates.{session_event_stays}
 use Rattle.laws_calls.proofs.SettledWaits.{HasWaited, resume_undecided}
 use Rattle.laws_calls.proofs.WaitsThere.{call_there, fresh, fresh_active, resume_there, told_there, victim_there, withdrawn_there}
 use Rattle.laws_calls.specs.CallHistories.{IsOpened, txn_of}
-use Rattle.laws_calls.specs.CallSteps.{ResumeStep, ResumesWait}
+use Rattle.laws_calls.specs.CallSteps.{ResumeStep, ResumesWait, CallStep}
 use Rattle.laws_calls.specs.Events.{Called, EventMoves, EventsMove, Forced, HasFailed, IsStateAfter, ManagerEvent, Resumed, entries_of}
 use Rattle.laws_calls.specs.Midway.{EndsFrom, HasItsWait, Interlude, Intervenes, Takes, WaitsAnew}
 use Rattle.laws_calls.specs.SessionWaits.{AllWaitThere, IsDecisionWait, IsLockWait}
 use Rattle.laws_calls.specs.Settling.{SettledCall, SettledResume}
-use Rattle.laws_calls.specs.StateChanges.{committed, wait_refused}
+use Rattle.laws_calls.specs.StateChanges.{wait_refused}
 use Rattle.laws_calls.specs.States.{IsOfSession, State, Waiting, next_number}
+use Rattle.laws_calls.specs.Prepares.{granules_in_ex}
+use Rattle.laws_calls.specs.Shapes.{WaitsForItsRecord}
+use Rattle.laws_lives.proofs.Lists.{length-push}
+use Rattle.shore_model.specs.Logs.{previous_of}
+use Rattle.shore_model.specs.declared.log_records.Payload.TheVariants as payload
+use Rattle.laws_calls.proofs.Outside.{CommitWaits, RollbackWaits}
+use Rattle.laws_calls.specs.Resolves.{DecidesRollback, RollsBack, rollback_number}
+use Rattle.laws_calls.proofs.ResolveStays.{its_record, has_decided, made_by}
+use Rattle.laws_calls.proofs.LongerLogs.{done_further}
 
 -- ---- it is kept
 
@@ -82,7 +90,7 @@ pub events_there : (g : Geometry) (o : Opening) (found : List LogRecord) (es : L
     → EventsMove g s events last → AllWaitThere last
 events_there g o found es s [] last k was h = subst AllWaitThere (sym h) was
 events_there g o found es s (e ∷ events) last k was h =
-    events_there g o found (es ++ entries_of s e) h.0 events last (session_event_stays g o found es s h.0 e k h.1) (event_there g o found es s k h.0 e was h.1) h.2
+    events_there g o found (es ++ entries_of s e h.0) h.0 events last (session_event_stays g o found es s h.0 e k h.1) (event_there g o found es s k h.0 e was h.1) h.2
 
 pub opened_there : (o : Opening) (found : List LogRecord) (s : State) → IsOpened o found s → AllWaitThere s
 opened_there o found s h session w m = absurd (subst (IsAmong w) h.waiting m)
@@ -129,7 +137,8 @@ module _ (g : Geometry) (o : Opening) (found : List LogRecord) (es : List Entry)
       by : (wait : Wait) → ResumesWait g s h.0 wait (Waits (Lock at)) new → (a : SessionTxn) × IsOfSession new session a × (is_waiting a.txn new.locks.requests ≡ true)
       by (Durable n) (inl x) = let clash = x.1 in absurd cc
       by (Durable n) (inr (inl x)) = let clash = x.1 in absurd cc
-      by (Durable n) (inr (inr x)) = let clash = x.1 in absurd cc
+      by (Durable n) (inr (inr (inl x))) = let clash = x.1 in absurd cc
+      by (Durable n) (inr (inr (inr x))) = let clash = x.1 in absurd cc
       by (Lock there) x = ⊎_elim
           (λ still. (
             x.0,
@@ -165,22 +174,56 @@ module _ (g : Geometry) (o : Opening) (found : List LogRecord) (es : List Entry)
   same_number : (m : ℕ) → Durable n ≡ Durable m → n ≡ m
   same_number m e = cc
 
-  -- it is a commit, which has its record, and that is not durable
-  abbrev pub IsItsCommit : Call → Type 0
-  IsItsCommit c = (c ≡ call.Commit) × (n ≡ next_number s) × (new.durable < n) × ((a : SessionTxn) × IsOfSession s session a × (new ≡ committed s a))
+  -- it has its record, and that is not durable
+  abbrev pub WaitsTruly : Call → Type 0
+  WaitsTruly c = WaitsForItsRecord s session c n new × (new.durable < n) × (n ≤ length new.log)
 
-  pub settled_commit_waits : (c : Call) → SettledCall g s session c (Waits (Durable n)) new → IsItsCommit c
-  settled_commit_waits c h = ⊎_elim
-      (λ once.
-      let t = waits_in g s new session c (Durable n) once.1 in
+  rollback_truly : (global : List ℕ) (b : SessionTxn) (d : State) → DecidesRollback s global b d → RollsBack d session global b (Waits (Durable n)) new → (new.durable < n) × (n ≤ length new.log)
+  rollback_truly global b d by to =
+      let number = same_number (rollback_number b.txn d.log) to.1 in
+      let its = its_record g o found es s k session global b d (made_by s global b d by) (has_decided g o found es s k session global b d by) in
+      let within = its.within in
+      let forced = ap (λ (x : State). x.durable) to.2 in
+      let less = to.0 in
+      let on = (done_further d b).on in
+      let longer = ap length on.1 ∙ length-append d.log on.0 in
+      let log = ap (λ (x : State). length x.log) to.2 in
+      (omega (arith, number, forced, less), omega (arith, number, within, log, longer))
+
+  resolves : (c : Call) → CommitWaits s session c (Durable n) new ⊎ RollbackWaits s session c (Durable n) new → WaitsTruly c
+  resolves c (inl t) =
+      let number = same_number (next_number s) t.waits in
+      let forced = ap (λ (x : State). x.durable) t.left in
+      let log = ap (λ (x : State). length x.log) t.left in
+      let longer = length-push s.log (record { txn = t.txn.txn; previous = previous_of t.txn.txn s.log; payload = payload.Commit }) in
+      let most = k.forced.most in
+      (inr (inr (inl (t.global, t.is, number, (t.txn, t.resolvable, t.left)))), omega (arith, number, forced, most), omega (arith, number, log, longer))
+  resolves c (inr t) = let truly = rollback_truly t.global t.txn t.decided t.by t.to in (inr (inr (inr (t.global, t.is, (t.txn, t.decided, t.by, t.to)))), truly.0, truly.1)
+
+  appends : (c : Call) → AppendsIn g s new session c n → WaitsTruly c
+  appends c t =
+      let most = k.forced.most in
       ⊎_elim
-      (λ asks. let clash = asks.1.4 in absurd cc)
       (λ commits.
       let number = same_number (next_number s) commits.1.0 in
       let forced = ap (λ (x : State). x.durable) commits.1.1 in
-      let most = k.forced.most in
-      (commits.0, number, omega (arith, number, forced, most), (t.txn, t.of, commits.1.1)))
-      t.how)
+      let log = ap (λ (x : State). length x.log) commits.1.1 in
+      let longer = length-push s.log (record { txn = t.0.txn; previous = previous_of t.0.txn s.log; payload = payload.Commit }) in
+      (inl (commits.0, number, (t.0, t.1, commits.1.1)), omega (arith, number, forced, most), omega (arith, number, log, longer)))
+      (λ prepares.
+      let number = same_number (next_number s) prepares.2.3 in
+      let forced = ap (λ (x : State). x.durable) prepares.2.4 in
+      let log = ap (λ (x : State). length x.log) prepares.2.4 in
+      let longer = length-push s.log (record { txn = t.0.txn; previous = previous_of t.0.txn s.log; payload = payload.Prepare prepares.0 (granules_in_ex s t.0) }) in
+      (inr (inl (prepares.0, prepares.1, number, (t.0, t.1, prepares.2.4))), omega (arith, number, forced, most), omega (arith, number, log, longer)))
+      t.3
+
+  at_once : (c : Call) → CallStep g s session c (Waits (Durable n)) new → WaitsTruly c
+  at_once c h = ⊎_elim (appends c) (resolves c) (waits_on_record g s new session c n h)
+
+  pub settled_record_waits : (c : Call) → SettledCall g s session c (Waits (Durable n)) new → WaitsTruly c
+  settled_record_waits c h = ⊎_elim
+      (λ once. at_once c once.1)
       (λ came. ⊎_elim
       (λ still. let clash = still.step_is in absurd cc)
       (⊎_elim
@@ -213,7 +256,8 @@ module _ (g : Geometry) (o : Opening) (found : List LogRecord) (es : List Entry)
       commit_in w there m is (inl c) = c
       commit_in w there m is (inr l) = absurd (durable_no_lock m l.at (sym is ∙ l.is))
   waits_on w m of (Durable n') is (inr (inl h)) = let clash = h.1 in absurd cc
-  waits_on w m of (Durable n') is (inr (inr h)) = let clash = h.1 in absurd cc
+  waits_on w m of (Durable n') is (inr (inr (inl h))) = let clash = h.1 in absurd cc
+  waits_on w m of (Durable n') is (inr (inr (inr h))) = let clash = h.1 in absurd cc
   waits_on w m of (Lock at) is h = ⊎_elim
       (λ still. let clash = still.1 in absurd cc)
       (λ free. let clash = free.1.4 in absurd cc)

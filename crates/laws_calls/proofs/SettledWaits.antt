@@ -26,6 +26,7 @@ use Rattle.laws_calls.specs.States.{IsOfSession, State, Waiting, HasSeat}
 use Rattle.laws_calls.specs.Victims.{TakesVictim, TakesVictims, with_cycle}
 use Rattle.laws_calls.proofs.Unwinding.{its_list, other_list, with_list}
 use Rattle.shore_model.specs.declared.rollbacks.Rollback.TheVariants.{Whole}
+use Rattle.laws_calls.proofs.Outside.{outside_no_lock}
 
 -- the call of a session, whose transaction has this number, waits for a lock
 pub record WaitsAt (session n : ℕ) (c : Call) (at : Granule) (s : State) : Type 0 where
@@ -192,7 +193,8 @@ inner_asked g s session c at new a running (inr (inl (whole, inl h))) = let clas
 inner_asked g s session c at new a running (inr (inl (whole, inr (inl h)))) =
     subst (HasAsked s session c) (sym h.1.5) (record { lock = h.1.0; asked = h.1.2; number = refl; running = running })
 inner_asked g s session c at new a running (inr (inl (whole, inr (inr (inl h))))) = let clash = h.1.0 in absurd cc
-inner_asked g s session c at new a running (inr (inl (whole, inr (inr (inr h))))) = absurd h.1
+inner_asked g s session c at new a running (inr (inl (whole, inr (inr (inr (inl h)))))) = absurd h.1
+inner_asked g s session c at new a running (inr (inl (whole, inr (inr (inr (inr h)))))) = let clash = h.2.3 in absurd cc
 inner_asked g s session c at new a running (inr (inr (inl h))) = absurd h.3
 inner_asked g s session c at new a running (inr (inr (inr h))) = absurd h.1
 
@@ -203,7 +205,7 @@ call_asked g s session c at new (inr (inr (inl h))) = let clash = h.2 in absurd 
 call_asked g s session c at new (inr (inr (inr (inl h)))) = absurd h.3
 call_asked g s session c at new (inr (inr (inr (inr (inl h))))) = let clash = h.4 in absurd cc
 call_asked g s session c at new (inr (inr (inr (inr (inr (inr (inl h))))))) = let clash = h.4 in absurd cc
-call_asked g s session c at new (inr (inr (inr (inr (inr (inr (inr h))))))) = absurd h.2.1
+call_asked g s session c at new (inr (inr (inr (inr (inr (inr (inr h))))))) = absurd (outside_no_lock s session c at new h.2)
 call_asked g s session c at new (inr (inr (inr (inr (inr (inl h)))))) = inner_asked g s session c at new h.2.0 h.0 h.2.2
 
 pub call_has_asked : (g : Geometry) (s : State) (session : ℕ) (c : Call) (at : Granule) (step : Step) (new : State) → step ≡ Waits (Lock at) → CallStep g s session c step new → HasAsked s session c new
@@ -230,7 +232,8 @@ call_waits_at g s session c step new h at is =
 lock_waited : (g : Geometry) (s : State) (w : Waiting) (its : Wait) (at : Granule) (new : State) → ResumesWait g s w its (Waits (Lock at)) new → (there : Granule) × (its ≡ Lock there)
 lock_waited g s w (Durable n) at new (inl h) = let clash = h.1 in absurd cc
 lock_waited g s w (Durable n) at new (inr (inl h)) = let clash = h.1 in absurd cc
-lock_waited g s w (Durable n) at new (inr (inr h)) = let clash = h.1 in absurd cc
+lock_waited g s w (Durable n) at new (inr (inr (inl h))) = let clash = h.1 in absurd cc
+lock_waited g s w (Durable n) at new (inr (inr (inr h))) = let clash = h.1 in absurd cc
 lock_waited g s w (Lock there) at new h = (there, refl)
 
 resumed_waited : (g : Geometry) (s : State) (w : Waiting) (at : Granule) (new : State) → ResumesCall g s w (Waits (Lock at)) new → (there : Granule) × (w.wait ≡ Lock there) × (s.failed ≡ false)

@@ -29,7 +29,7 @@ use Rattle.laws_calls.proofs.Waiters.{one_begins}
 
 module _ (o : Opening) (found : List LogRecord) (es : List Entry) (s : State) (k : IsSessionsState o found es s) where
   pub sessions_of : AreSessionsAfter (length found) o es s.sessions s.log
-  sessions_of = record { sound = k.sound; agree = k.agree; seats = k.seats; logged = k.log; whole = k.whole; doubts = k.doubts; decides = k.decides }
+  sessions_of = record { sound = k.sound; agree = k.agree; seats = k.seats; logged = k.log; whole = k.whole; doubts = k.doubts; decides = k.decides; single = k.single }
 
   pub state_of : (made : List Entry) (new : State) → AreSessionsAfter (length found) o made new.sessions new.log → HasTrueLocks new → IsSessionsState o found made new
   state_of made new h locks = record {
@@ -40,6 +40,7 @@ module _ (o : Opening) (found : List LogRecord) (es : List Entry) (s : State) (k
     whole = h.whole;
     doubts = h.doubts;
     decides = h.decides;
+    single = h.single;
     locks = locks;
   }
 

@@ -14,7 +14,7 @@ use Rattle.shore_locks.specs.Tables.{is_waiting}
 use Rattle.shore_locks.proofs.Outcomes.{quiet_after_cancel}
 use Rattle.shore_locks.proofs.Tables.{orderly_cancelled}
 use Rattle.shore_cycles.proofs.Steps.{cancelled_keeps_quiet}
-use Rattle.laws_lives.proofs.Members.{among_with, txn_among}
+use Rattle.laws_lives.proofs.Members.{among_with, txn_among, txns_with}
 use Rattle.shore_model.specs.declared.rollbacks.Rollback.TheVariants.{Whole}
 use Rattle.laws_lives.specs.SessionSteps.{Doom, MoveLocks, StepsTo, IsOwn}
 use Rattle.laws_lives.specs.Sessions.{SessionTxn, doomed, locks_moved}
@@ -25,15 +25,16 @@ use Rattle.laws_calls.proofs.Links.{Goes, same_room, ended_with}
 use Rattle.laws_calls.proofs.ReplyLinks.{as_many}
 use Rattle.laws_calls.proofs.Sessions.{AreSessionsAfter, event_keeps, one_txn, committed_seat, one_member, own_of, parted, seat_apart}
 use Rattle.laws_calls.proofs.TakenLocks.{sessions_of, state_of}
-use Rattle.laws_calls.proofs.ToldCycles.{is_as_it_was, is_to_tell, other_waits, still_once, to_tell, was_waiting}
+use Rattle.laws_calls.proofs.ToldCycles.{is_as_it_was, is_to_tell, other_waits, still_once, to_tell, was_waiting, still_resolve_once}
 use Rattle.laws_calls.proofs.Unwinding.{its_list, other_list, with_list}
 use Rattle.laws_calls.proofs.Waiters.{nobody_begins, with_other_undo}
 use Rattle.laws_calls.specs.CallSteps.{with_requests}
 use Rattle.laws_calls.specs.LockedStates.{IsSessionsState}
-use Rattle.laws_calls.specs.SessionWaits.{IsDecisionWait, IsLockWait, WaitsOfSessions}
+use Rattle.laws_calls.specs.SessionWaits.{IsDecisionWait, IsLockWait, WaitsOfSessions, IsUnanswered}
 use Rattle.laws_calls.specs.StateChanges.{decision_waiting}
 use Rattle.laws_calls.specs.States.{AsksForNothing, HasSeat, State, Waiting}
 use Rattle.laws_calls.specs.Victims.{victim_taken, with_cycle}
+use Rattle.laws_calls.proofs.SessionsWaiting.{not_resolver}
 
 -- ---- a transaction is doomed
 
@@ -149,12 +150,17 @@ module _ (o : Opening) (found : List LogRecord) (es : List Entry) (s : State) (k
     committed_apart a committed same = parted k b a mem.0 committed (one_txn s.sessions b a mem.1 (committed_seat k a committed) (sym same))
 
     own_wait : (v : Waiting) → v.session ≡ b.session → IsDecisionWait (length found) s v ⊎ IsLockWait s v → IsLockWait new (to_tell cycle v)
-    own_wait v own (inl c) = absurd (⊎_elim (λ h. committed_apart h.0 h.1 (h.2 ∙ own)) (λ h. seat_apart mem.1 (ap s.sessions.seats (sym own) ∙ h.2.1)) c.unanswered)
+    own_wait v own (inl c) = absurd (⊎_elim (λ h. committed_apart h.0 h.1 (h.2 ∙ own)) (⊎_elim (λ h. seat_apart mem.1 (ap s.sessions.seats (sym own) ∙ h.2.1)) (λ h. h.4 b.txn mem.2 (ap s.sessions.seats own ∙ mem.1))) c.unanswered)
     own_wait v own (inr l) =
         record { txn = with_list b (doomed_list b); active = (its_list b (doomed_list b) s.sessions.active mem.0, mem.1, mem.2); of = sym own; whole = λ spared. absurd cc; at = l.at; is = l.is; lock = l.lock; asked = l.asked }
 
     other_wait : (v : Waiting) → v.session ≢ b.session → IsDecisionWait (length found) s v ⊎ IsLockWait s v → IsDecisionWait (length found) new v ⊎ IsLockWait new v
-    other_wait v other (inl c) = inl (record { number = c.number; decision = c.decision; is = c.is; unanswered = c.unanswered; some = c.some; there = c.there; decided = c.decided })
+    other_wait v other (inl c) = inl (record { number = c.number; decision = c.decision; is = c.is; unanswered = unanswered v c.unanswered; some = c.some; there = c.there; decided = c.decided })
+      where
+        unanswered : (v : Waiting) → IsUnanswered s.sessions v.session v.call c.decision → IsUnanswered new.sessions v.session v.call c.decision
+        unanswered v (inl x) = inl x
+        unanswered v (inr (inl x)) = inr (inl x)
+        unanswered v (inr (inr x)) = inr (inr (x.0, (x.1.0, λ m. x.1.1 (subst (IsAmong x.0.txn) (txns_with b.txn (doomed_list b) s.sessions.active) m)), x.2, x.3, x.4))
     other_wait v other (inr l) =
         let apart : l.txn.txn ≢ b.txn = λ same. other (sym l.of ∙ ap (λ (x : SessionTxn). x.session) (one_member k l.txn b l.active.0 mem.0 same)) in
         inr (record { txn = l.txn; active = (other_list b.txn (doomed_list b) l.txn s.sessions.active l.active.0 apart, l.active.1, l.active.2); of = l.of; whole = l.whole; at = l.at; is = l.is; lock = l.lock; asked = l.asked })
@@ -176,6 +182,11 @@ module _ (o : Opening) (found : List LogRecord) (es : List Entry) (s : State) (k
       each = each_wait;
       once = still_once b.session cycle s.waiting h.once;
       all = λ running a m. let was = h.all running a m in (was.0, other_waits b.session cycle (decision_waiting a.session call.Commit was.0) s.waiting was.1 (committed_apart a m));
+      resolves = λ running r ended.
+          let was = h.resolves running r (ended.0, λ m. ended.1 (subst (IsAmong r.txn) (sym (txns_with b.txn (doomed_list b) s.sessions.active)) m)) in
+          let its = decision_waiting was.0 (call.Resolve r.global r.outcome) was.1 in
+          (was.0, was.1, other_waits b.session cycle its s.waiting was.2 (not_resolver o found es s k h its was.2 r.global r.outcome refl b mem.1 mem.2));
+      resolve_once = still_resolve_once b.session cycle s.waiting h.resolve_once;
       prepares = λ running p m e.
           let was = h.prepares running p m e in
           (was.0, was.1, other_waits b.session cycle (decision_waiting was.0 (call.Prepare p.global) was.1) s.waiting was.2 (λ same. seat_apart mem.1 (ap s.sessions.seats (sym same) ∙ was.3)), was.3);

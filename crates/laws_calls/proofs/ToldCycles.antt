@@ -5,6 +5,7 @@ use Rattle.std.proofs.lemmas.Bool.{cases_Bool, eq-eqb, eqb-false, eqb-true, ne_e
 use Rattle.laws_lives.specs.Views.{IsAmong}
 use Rattle.laws_calls.specs.States.{Waiting}
 use Rattle.laws_calls.specs.Victims.{with_cycle}
+use Rattle.laws_calls.proofs.SessionsWaiting.{ResolveOnce}
 
 -- ---- lists
 
@@ -37,6 +38,12 @@ module _ (session : ℕ) (cycle : List ℕ) where
   same_session w = ⊎_elim
       (λ own. ap (λ (v : Waiting). v.session) (told_own w (eqb-true w.session session own)))
       (λ other. ap (λ (v : Waiting). v.session) (told_other w (eqb-false w.session session other)))
+      (cases_Bool (w.session == session))
+
+  same_call : (w : Waiting) → (told w).call ≡ w.call
+  same_call w = ⊎_elim
+      (λ own. ap (λ (v : Waiting). v.call) (told_own w (eqb-true w.session session own)))
+      (λ other. ap (λ (v : Waiting). v.call) (told_other w (eqb-false w.session session other)))
       (cases_Bool (w.session == session))
 
   -- the call of another session stays
@@ -72,3 +79,12 @@ module _ (session : ℕ) (cycle : List ℕ) where
       let x = was_waiting v ws m in
       let y = was_waiting w ws n in
       sym x.is ∙ ap told (once x.was y.was x.there y.there (x.session_is ∙ same ∙ sym y.session_is)) ∙ y.is
+
+  -- .. and a transaction is resolved by one
+  pub still_resolve_once : (ws : List Waiting) → ResolveOnce ws → ResolveOnce (with_cycle session cycle ws)
+  still_resolve_once ws once v w global x y m n first second =
+      let a = was_waiting v ws m in
+      let b = was_waiting w ws n in
+      sym a.is
+      ∙ ap told (once a.was b.was global x y a.there b.there (sym (same_call a.was) ∙ ap (λ (z : Waiting). z.call) a.is ∙ first) (sym (same_call b.was) ∙ ap (λ (z : Waiting). z.call) b.is ∙ second))
+      ∙ b.is

@@ -16,8 +16,7 @@ use Rattle.laws_lives.specs.Sessions.{SessionTxn}
 use Rattle.laws_lives.specs.Views.{IsAmong}
 use Rattle.laws_calls.proofs.Elements.{waits_on}
 use Rattle.laws_calls.proofs.Midway.{IsPaused, paused_at_first, paused_next, settled_call_to, settled_resume_to}
-use Rattle.laws_calls.proofs.SessionEndings.{done_leaves, refusing_leaves}
-use Rattle.laws_calls.proofs.SessionInversions.{waits_in}
+use Rattle.laws_calls.proofs.SessionEndings.{done_leaves, refusing_leaves, call_adds}
 use Rattle.laws_calls.proofs.SessionOpens.{sessions_after_open}
 use Rattle.laws_calls.proofs.SettledEnds.{call_leaves}
 use Rattle.laws_calls.proofs.SettledDeadlocks.{of_victim, same_cycle}
@@ -64,17 +63,14 @@ goes_told g s new a c Nothing h = absurd h
 pub call_told : (g : Geometry) (s new : State) (session : ℕ) (c : Call) (step : Step) → CallStep g s session c step new → WereToBeTold s new
 call_told g s new session c (Done answer) h = same_told s new (call_leaves g s new session c (Done answer) h tt)
 call_told g s new session c (Refused f) h = same_told s new (call_leaves g s new session c (Refused f) h tt)
-call_told g s new session c (Waits wait) h =
-    ⊎_elim
-    (λ asks. one_told s new _ refl (ap (λ (x : State). x.waiting) asks.1.5))
-    (λ commits. one_told s new _ refl (ap (λ (x : State). x.waiting) commits.1.1))
-    (waits_in g s new session c wait h).how
+call_told g s new session c (Waits wait) h = one_told s new _ refl (call_adds g s new session c wait h)
 call_told g s new session c Nothing h = absurd (call_nothing g s new session c h)
 
 wait_told : (g : Geometry) (s new : State) (w : Waiting) (wait : Wait) (step : Step) → ResumesWait g s w wait step new → WereToBeTold s new
 wait_told g s new w (Durable n) step (inl h) = same_told s new (ap (λ (x : State). x.waiting) h.2)
 wait_told g s new w (Durable n) step (inr (inl h)) = without_told s new h.2.0.session (ap (λ (x : State). x.waiting) h.2.3)
-wait_told g s new w (Durable n) step (inr (inr h)) = without_told s new w.session (ap (λ (x : State). x.waiting) h.2.4)
+wait_told g s new w (Durable n) step (inr (inr (inl h))) = without_told s new w.session (ap (λ (x : State). x.waiting) h.2.4)
+wait_told g s new w (Durable n) step (inr (inr (inr h))) = without_told s new w.session (ap (λ (x : State). x.waiting) h.2.3)
 wait_told g s new w (Lock at) step h = ⊎_elim
     (λ still. same_told s new (ap (λ (x : State). x.waiting) still.2))
     (λ free. then_told s (wait_refused s w.session) new (without_told s (wait_refused s w.session) w.session refl) (goes_told g (wait_refused s w.session) new h.0 w.call step free.1))
@@ -176,7 +172,7 @@ told_among g o found es s k (e ∷ events) last h w m cycle is = ⊎_elim
     (λ stood. inr (h.0, h.1, h.2, inl stood))
     (told_in g o found es s k h.0 e h.1 w before cycle is))
     (λ stood. inr (h.0, h.1, h.2, inr stood))
-    (told_among g o found (es ++ entries_of s e) h.0 (session_event_stays g o found es s h.0 e k h.1) events last h.2 w m cycle is)
+    (told_among g o found (es ++ entries_of s e h.0) h.0 (session_event_stays g o found es s h.0 e k h.1) events last h.2 w m cycle is)
 
 pub opened_told_among : (g : Geometry) (o : Opening) (found : List LogRecord) (first : State) (events : List ManagerEvent) (last : State) → IsOpened o found first → EventsMove g first events last
     → (w : Waiting) → IsAmong w last.waiting → (cycle : List ℕ) → w.cycle ≡ Some cycle → StoodAmong g first events last w.session cycle

@@ -39,6 +39,7 @@ use Rattle.laws_calls.specs.Settling.{SettledResume}
 use Rattle.laws_calls.specs.StateChanges.{wait_refused}
 use Rattle.laws_calls.specs.States.{DoesNotWait, IsOfSession, State, Waiting, HasSeat}
 use Rattle.laws_calls.specs.Victims.{TakesVictim, TellsVictim}
+use Rattle.laws_calls.proofs.Outside.{not_outside}
 
 -- ---- who is one
 
@@ -162,7 +163,7 @@ module _ (g : Geometry) (o : Opening) (found : List LogRecord) (es : List Entry)
   only_aborts running idle (inr (inr (inr (inl h)))) = absurd (subst NeedsTxn h.2 needs)
   only_aborts running idle (inr (inr (inr (inr (inl h))))) = absurd (in_one s session b of h.3)
   only_aborts running idle (inr (inr (inr (inr (inr (inr (inl h))))))) = absurd (not_prepared s session b of h.3)
-  only_aborts running idle (inr (inr (inr (inr (inr (inr (inr h))))))) = absurd (subst NeedsTxn h.2.0 needs)
+  only_aborts running idle (inr (inr (inr (inr (inr (inr (inr h))))))) = absurd (not_outside s session c step new needs h.2)
   only_aborts running idle (inr (inr (inr (inr (inr (inl h)))))) = inner_refused h.2.0 (rolls h.2.0 h.2.1) h.2.2
 
 -- a victim is still its session's

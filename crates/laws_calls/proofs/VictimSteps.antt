@@ -28,8 +28,9 @@ use Rattle.laws_calls.proofs.Prefixes.{whole_prefix}
 use Rattle.laws_calls.proofs.ReplyLinks.{as_many}
 use Rattle.laws_calls.proofs.SessionResumes.{waits_stay}
 use Rattle.laws_calls.proofs.SessionStates.{its_wait}
-use Rattle.laws_calls.proofs.SessionsWaiting.{waits_left, woken_waits, no_record_awaited}
-use Rattle.laws_calls.proofs.Sessions.{one_txn, one_member, own_of}
+use Rattle.laws_calls.proofs.LeftWaits.{waits_left}
+use Rattle.laws_calls.proofs.SessionsWaiting.{woken_waits, no_record_awaited}
+use Rattle.laws_calls.proofs.Sessions.{one_txn, one_member, own_of, older_resolved}
 use Rattle.laws_calls.proofs.TakenLocks.{sessions_of, state_of}
 use Rattle.laws_calls.proofs.TakenVictims.{back_moves, doom_goes, taken_back_state, victim_moves, victim_state, victim_waits, with_doom}
 use Rattle.shore_model.specs.declared.step.Step.{Step}
@@ -210,8 +211,8 @@ module _ (o : Opening) (found : List LogRecord) (es : List Entry) (s : State) (k
 
     withdrawn_waits : WaitsOfSessions (length found) withdrawn
     withdrawn_waits =
-        waits_left (length found) idle withdrawn
-        (record { waiting = refl; committing = refl; prepared = refl; seats = λ n t is. is; active = λ b mem. (b, mem, refl, refl, λ waits whole. whole); on = whole_prefix s.log; running = λ running. running })
+        waits_left (length found) idle withdrawn (older_resolved o found es s k.sessions)
+        (record { waiting = refl; committing = refl; prepared = refl; seats = λ n t is. is; active = λ b mem. (b, mem, refl, refl, λ waits whole. whole); resolving = refl; txns = λ t m. m; older = λ t less m. m; next = omega arith; outside = λ v m t is. is; on = whole_prefix s.log; running = λ running. running })
         (woken_waits o found es s k.sessions k.waits a.session (λ running. no_record_awaited o found es s k.sessions k.waits a of.0))
 
     abbrev short : Entry

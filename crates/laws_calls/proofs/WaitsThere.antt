@@ -1,9 +1,8 @@
 -- A request with which a transaction waits is its session's call's, at the granule for which that waits: each step keeps that.
-use Rattle.std.proofs.Common.{◌≡◌, ◌≢◌, ◌⊎◌, inl, inr, ⊎_elim, ◌++◌, ℕ, List, ◌∷◌, true, false, Option, Some, None, refl, sym, ap, subst, ◌∙◌, cond, arith, ◌<◌}
+use Rattle.std.proofs.Common.{◌≡◌, ◌≢◌, ◌⊎◌, inl, inr, ⊎_elim, ◌++◌, ℕ, List, ◌∷◌, true, false, Option, Some, None, refl, sym, ap, subst, ◌∙◌, cond, arith}
 use Rattle.std.specs.Prelude.{◌==◌, is_some}
 use Rattle.std.proofs.lemmas.Bool.{cases_Bool, eqb-false, eqb-true, eq-eqb}
 use Rattle.shore_types.specs.declared.faults.Fault.{Fault}
-use Rattle.shore_types.specs.declared.faults.Fault.TheVariants as fault
 use Rattle.shore_types.specs.declared.layout.Geometry.{Geometry}
 use Rattle.shore_types.specs.declared.locking.Granule.{Granule}
 use Rattle.shore_model.specs.declared.calls.Answer.{Answer}
@@ -13,7 +12,6 @@ use Rattle.shore_model.specs.declared.histories.Entry.{Entry}
 use Rattle.shore_model.specs.declared.histories.Opening.{Opening}
 use Rattle.shore_model.specs.declared.log_records.LogRecord.{LogRecord}
 use Rattle.shore_model.specs.declared.requests.Request.{Request}
-use Rattle.shore_model.specs.declared.rollbacks.Rollback.{Rollback}
 use Rattle.shore_model.specs.declared.rollbacks.Rollback.TheVariants.{To, Whole}
 use Rattle.shore_model.specs.declared.step.Step.{Step}
 use Rattle.shore_model.specs.declared.step.Step.TheVariants.{Done, Nothing, Refused, Waits}
@@ -25,76 +23,37 @@ use Rattle.shore_locks.specs.Tables.{is_waiting, waiting_request}
 use Rattle.shore_locks.proofs.Members.{In}
 use Rattle.shore_cycles.proofs.Steps.{waits_as}
 use Rattle.shore_cycles.specs.declared.victims.Victim.{Victim}
-use Rattle.laws_lives.proofs.Members.{among_with, among_without}
-use Rattle.laws_lives.specs.Sessions.{SessionTxn, with_undo, without_txn, Sessions, in_txn, prepare_answered}
-use Rattle.laws_lives.specs.UndoLists.{UndoList}
+use Rattle.laws_lives.proofs.Members.{among_without}
+use Rattle.laws_lives.specs.Sessions.{SessionTxn, Sessions, in_txn, prepare_answered}
 use Rattle.laws_lives.specs.Views.{IsAmong}
 use Rattle.laws_calls.proofs.AfterRefusals.{goes_leaves}
 use Rattle.laws_calls.proofs.AskedLocks.{ChangesByCall, call_changes, on_changes}
 use Rattle.laws_calls.proofs.Elements.{waits_on}
 use Rattle.laws_calls.proofs.LockWaits.{waited_so}
-use Rattle.laws_calls.proofs.SessionEndings.{call_waits, done_leaves, refusing_leaves}
-use Rattle.laws_calls.proofs.SessionInversions.{durable_no_lock, waits_in}
+use Rattle.laws_calls.proofs.SessionEndings.{call_waits, done_leaves, refusing_leaves, call_adds}
+use Rattle.laws_calls.proofs.SessionInversions.{durable_no_lock, waits_on_lock}
 use Rattle.laws_calls.proofs.SessionResumes.{woken}
 use Rattle.laws_calls.proofs.SessionStates.{session_call_stays, session_resume_stays}
 use Rattle.laws_calls.proofs.Sessions.{one_txn, one_member, prepare_seats}
 use Rattle.laws_calls.proofs.SettledEnds.{call_leaves, idle_before}
 use Rattle.laws_calls.proofs.TakenLocks.{leaves}
 use Rattle.laws_calls.proofs.WaitingRequests.{NoneWaitsAnew, cancelled_none, found_waiting, others_none, released_none}
-use Rattle.laws_calls.specs.CallSteps.{AbortStep, AnswersBehind, BeginStep, CallGoesOn, CallStep, CommitStep, InnerStep, ResumeStep, ResumesWait, behind_lock, commit_ended, lock_waiting, on_conflict_of, with_requests, prepare_ended}
+use Rattle.laws_calls.specs.CallSteps.{AbortStep, AnswersBehind, BeginStep, CallGoesOn, CallStep, CommitStep, InnerStep, ResumeStep, ResumesWait, behind_lock, commit_ended, lock_waiting, on_conflict_of, with_requests, prepare_ended, OutsideStep}
 use Rattle.laws_calls.specs.Events.{IsStateAfter, entries_of_resume}
 use Rattle.laws_calls.specs.LockChanges.{TakesAsAsked}
 use Rattle.laws_calls.specs.LockedStates.{IsSessionsState}
-use Rattle.laws_calls.specs.Rollbacks.{BackToStep, IsInterrupted, IsUnwound, SavepointStep}
+use Rattle.laws_calls.specs.Rollbacks.{BackToStep, SavepointStep}
 use Rattle.laws_calls.specs.SessionWaits.{AllWaitThere, IsItsRequest, WaitsThere}
 use Rattle.laws_calls.specs.Shapes.{with_locks_of}
-use Rattle.laws_calls.specs.StateChanges.{after_refusal, decision_waiting, wait_refused, begun}
-use Rattle.laws_calls.specs.States.{DoesNotWait, IsOfSession, State, Waiting, next_number, without_waiting, HasSeat}
+use Rattle.laws_calls.specs.StateChanges.{wait_refused, begun}
+use Rattle.laws_calls.specs.States.{DoesNotWait, IsOfSession, State, Waiting, without_waiting, HasSeat}
 use Rattle.laws_calls.specs.Victims.{TakesVictim, TellsVictim, Withdraws, victim_taken, with_cycle}
-use Rattle.laws_calls.proofs.Waiters.{other_seat}
 use Rattle.shore_model.specs.declared.sessions.SessionState.{SessionState}
 use Rattle.shore_model.specs.Histories.{free}
-use Rattle.laws_calls.proofs.Outside.{outside_same}
-
--- ---- transactions under way
-
--- each transaction was under way before, in the same session with the same number
-abbrev pub WasUnderWay : State → SessionTxn → Type 0
-WasUnderWay s b = (a : SessionTxn) × IsOfSession s b.session a × (a.txn ≡ b.txn)
-
-pub was_it : (s : State) (b : SessionTxn) → HasSeat s.sessions b → WasUnderWay s b
-was_it s b m = (b, (m, refl), refl)
-
-pub was_with : (s : State) (t : ℕ) (undo : UndoList) (b : SessionTxn) → HasSeat (record s.sessions { active = with_undo t undo s.sessions.active }) b → WasUnderWay s b
-was_with s t undo b m =
-    let w = among_with t undo b s.sessions.active m.0 in
-    (w.was, ((w.there, ap s.sessions.seats (sym w.session) ∙ m.1 ∙ ap in_txn w.txn, subst (λ t. 0 < t) w.txn m.2), sym w.session), sym w.txn)
-
-was_without : (s : State) (t : ℕ) (b : SessionTxn) → HasSeat (record s.sessions { active = without_txn t s.sessions.active }) b → WasUnderWay s b
-was_without s t b m = was_it s b ((among_without t b s.sessions.active m.0).0, m.1, m.2)
-
--- one session's seat is another one
-was_beside : (s : State) (session : ℕ) (seat : SessionState) (b : SessionTxn) → session ≢ b.session → HasSeat (record s.sessions { seats = λ n. cond (session == n) seat (s.sessions.seats n) }) b → HasSeat s.sessions b
-was_beside s session seat b apart m = (m.0, sym (other_seat s.sessions.seats session b.session seat apart) ∙ m.1, m.2)
-
--- as the new state has them
-pub was_in : (s new l : State) (b : SessionTxn) → new ≡ l → (HasSeat l.sessions b → WasUnderWay s b) → HasSeat new.sessions b → WasUnderWay s b
-was_in s new l b is by m = by (subst (λ (x : State). HasSeat x.sessions b) is m)
-
-abbrev pub AllWereUnderWay : State → State → Type 0
-AllWereUnderWay s new = (b : SessionTxn) → HasSeat new.sessions b → WasUnderWay s b
-
-refused_sessions : (f : Fault) (s : State) → (after_refusal f s).sessions ≡ s.sessions
-refused_sessions fault.Device s = refl
-refused_sessions (fault.Damaged device place) s = refl
-refused_sessions _ s = refl
-
-interrupted_were : (s : State) (a : SessionTxn) (r : Rollback) (f : Fault) (new : State) → IsInterrupted s a r f new → AllWereUnderWay s new
-interrupted_were s a r f new h b m = unwound h.1 (subst (λ (n : Sessions). HasSeat n b) (ap (λ (x : State). x.sessions) h.3 ∙ refused_sessions f h.0) m)
-  where
-    unwound : IsUnwound s a r h.0 → HasSeat h.0.sessions b → WasUnderWay s b
-    unwound (inl same) = was_in s h.0 s b same (was_it s b)
-    unwound (inr back) = was_in s h.0 _ b back.5 (was_with s a.txn _ b)
+use Rattle.laws_calls.proofs.Outside.{outside_something, outside_or}
+use Rattle.laws_calls.specs.Prepares.{PrepareStep}
+use Rattle.laws_calls.specs.Resolves.{resolve_ended}
+use Rattle.laws_calls.proofs.WereUnderWay.{WasUnderWay, was_it, was_with, was_without, was_beside, was_in_txn, was_in, AllWereUnderWay, interrupted_were, told_seat, resolve_were}
 
 module _ (g : Geometry) (l : State) (a : SessionTxn) (new : State) where
   -- what a transaction's call leaves once it is answered
@@ -140,6 +99,13 @@ module _ (g : Geometry) (s new : State) (session : ℕ) where
   commit_were a (Refused f) h b = absurd h
   commit_were a Nothing h b = absurd h
 
+  prepare_were : (a : SessionTxn) → a.session ≡ session → (global : List ℕ) (step : Step) → PrepareStep s a global step new → OthersWereUnderWay
+  prepare_were a of global (Waits wait) h b m other =
+      was_in s new _ b h.4 (λ now. was_it s b (now.0, was_in_txn a.txn b.txn (s.sessions.seats b.session) now.1, now.2)) m
+  prepare_were a of global (Refused f) h b m other = was_in s new s b h.1 (was_it s b) m
+  prepare_were a of global (Done answer) h b m other = absurd h
+  prepare_were a of global Nothing h b m other = absurd h
+
   savepoint_were : (a : SessionTxn) (step : Step) → SavepointStep s a step new → AllWereUnderWay s new
   savepoint_were a (Done answer) h b = was_in s new _ b h.2 (was_with s a.txn _ b)
   savepoint_were a (Refused f) h b = was_in s new s b h.2 (was_it s b)
@@ -165,9 +131,13 @@ module _ (g : Geometry) (s new : State) (session : ℕ) where
   inner_were a of c step (inr (inl (whole, inl h))) b m other = was_in s new s b h.3 (was_it s b) m
   inner_were a of c step (inr (inl (whole, inr (inl h)))) b m other = goes_were g s a c step new h.1 b m
   inner_were a of c step (inr (inl (whole, inr (inr (inl h))))) b m other = commit_were a step h.1 b m
-  inner_were a of c step (inr (inl (whole, inr (inr (inr h))))) b m other = savepoint_were a step h.1 b m
+  inner_were a of c step (inr (inl (whole, inr (inr (inr (inl h)))))) b m other = savepoint_were a step h.1 b m
+  inner_were a of c step (inr (inl (whole, inr (inr (inr (inr h)))))) b m other = prepare_were a of h.0 step h.2 b m other
   inner_were a of c step (inr (inr (inl h))) b m other = back_were a h.0 step h.3 b m
   inner_were a of c step (inr (inr (inr h))) b m other = abort_were a of step h.1 b m other
+
+  outside_were : (c : Call) (step : Step) → OutsideStep s session c step new → OthersWereUnderWay
+  outside_were c step h b m other = ⊎_elim (λ same. was_in s new s b same (was_it s b) m) (λ r. resolve_were s session r.global r.asked step new r.to b m other) (outside_or s session c step new h)
 
   pub call_were : (c : Call) (step : Step) → CallStep g s session c step new → OthersWereUnderWay
   call_were c step (inl h) b m other = was_in s new s b h.1 (was_it s b) m
@@ -176,7 +146,7 @@ module _ (g : Geometry) (s new : State) (session : ℕ) where
   call_were c step (inr (inr (inr (inl h)))) b m other = begin_were step h.3 b m other
   call_were c step (inr (inr (inr (inr (inl h))))) b m other = was_in s new s b h.5 (was_it s b) m
   call_were c step (inr (inr (inr (inr (inr (inr (inl h))))))) b m other = was_in s new s b h.5 (was_it s b) m
-  call_were c step (inr (inr (inr (inr (inr (inr (inr h))))))) b m other = was_in s new s b (outside_same s c step new h.2) (was_it s b) m
+  call_were c step (inr (inr (inr (inr (inr (inr (inr h))))))) b m other = outside_were c step h.2 b m other
   call_were c step (inr (inr (inr (inr (inr (inl h)))))) b m other = inner_were h.2.0 h.2.1.1 c step h.2.2 b m other
 
   -- ---- no call comes to nothing
@@ -188,7 +158,7 @@ module _ (g : Geometry) (s new : State) (session : ℕ) where
   call_nothing c (inr (inr (inr (inl h)))) = h.3
   call_nothing c (inr (inr (inr (inr (inl h))))) = let clash = h.4 in cc
   call_nothing c (inr (inr (inr (inr (inr (inr (inl h))))))) = let clash = h.4 in cc
-  call_nothing c (inr (inr (inr (inr (inr (inr (inr h))))))) = h.2.1
+  call_nothing c (inr (inr (inr (inr (inr (inr (inr h))))))) = outside_something s session c new h.2
   call_nothing c (inr (inr (inr (inr (inr (inl h)))))) = by h.2.2
     where
       by : InnerStep g s h.2.0 c Nothing new → ⊥
@@ -196,7 +166,8 @@ module _ (g : Geometry) (s new : State) (session : ℕ) where
       by (inr (inl (whole, inl x))) = let clash = x.2 in cc
       by (inr (inl (whole, inr (inl x)))) = x.1
       by (inr (inl (whole, inr (inr (inl x))))) = x.1
-      by (inr (inl (whole, inr (inr (inr x))))) = x.1
+      by (inr (inl (whole, inr (inr (inr (inl x)))))) = x.1
+      by (inr (inl (whole, inr (inr (inr (inr x)))))) = x.2
       by (inr (inr (inl x))) = x.3
       by (inr (inr (inr x))) = x.1
 
@@ -218,12 +189,7 @@ module _ (g : Geometry) (s new : State) (session : ℕ) where
   call_waited : (c : Call) (step : Step) → CallStep g s session c step new → OthersWaited
   call_waited c (Done answer) h = same_waited (call_leaves g s new session c (Done answer) h tt)
   call_waited c (Refused f) h = same_waited (call_leaves g s new session c (Refused f) h tt)
-  call_waited c (Waits wait) h =
-      let t = waits_in g s new session c wait h in
-      ⊎_elim
-      (λ asks. one_waited (lock_waiting t.txn c asks.1.1) t.of.1 (ap (λ (x : State). x.waiting) asks.1.5))
-      (λ commits. one_waited (decision_waiting t.txn.session call.Commit (next_number s)) t.of.1 (ap (λ (x : State). x.waiting) commits.1.1))
-      t.how
+  call_waited c (Waits wait) h = one_waited (record { session = session; call = c; wait = wait; cycle = None }) refl (call_adds g s new session c wait h)
   call_waited c Nothing h = absurd (call_nothing c h)
 
 -- ---- it is kept
@@ -306,7 +272,8 @@ module _ (g : Geometry) (o : Opening) (found : List LogRecord) (es : List Entry)
       by (inl (inr (t, of, (lock, asked, inl one)))) = others_none s.locks.requests new.locks.requests t.txn one.others r there wants (apart t of)
       by (inl (inr (t, of, (lock, asked, inr place)))) =
           others_none s.locks.requests place.between t.txn place.first.others r (others_none place.between new.locks.requests t.txn place.place.others r there wants (apart t of)) wants (apart t of)
-      by (inr (abort, done, (t, of, gone))) = released_none t.txn s.locks.requests k.sessions.locks.orderly.one_each r (subst (In r) gone there) wants
+      by (inr (inl (abort, done, (t, of, gone)))) = released_none t.txn s.locks.requests k.sessions.locks.orderly.one_each r (subst (In r) gone there) wants
+      by (inr (inr (t, its, ends, gone))) = released_none t.txn s.locks.requests k.sessions.locks.orderly.one_each r (subst (In r) gone there) wants
 
   -- its own
   own_there : (step : Step) (new : State) → CallStep g s session c step new → WaitsThere s session → WaitsThere new session
@@ -328,7 +295,7 @@ module _ (g : Geometry) (o : Opening) (found : List LogRecord) (es : List Entry)
       refused f (inr (inr (inr (inl h)))) same = idle (λ w m. h.1 w (subst (IsAmong w) same m))
       refused f (inr (inr (inr (inr (inl h))))) same = as_it_was h.5
       refused f (inr (inr (inr (inr (inr (inr (inl h))))))) same = as_it_was h.5
-      refused f (inr (inr (inr (inr (inr (inr (inr h))))))) same = absurd h.2.1
+      refused f (inr (inr (inr (inr (inr (inr (inr h))))))) same = idle (λ w m. h.1 w (subst (IsAmong w) same m))
       refused f (inr (inr (inr (inr (inr (inl h)))))) same = idle (λ w m. h.1 w (subst (IsAmong w) same m))
 
       by : (step : Step) → CallStep g s session c step new → WaitsThere new session
@@ -341,15 +308,11 @@ module _ (g : Geometry) (o : Opening) (found : List LogRecord) (es : List Entry)
           let one = later.waits.once w (record { session = session; call = c; wait = Durable n; cycle = None }) m (call_waits g s new session c (Durable n) h) of in
           absurd (durable_no_lock n at (ap (λ (x : Waiting). x.wait) (sym one) ∙ lock))
       by (Waits (Lock at)) h =
-          let t = waits_in g s new session c (Lock at) h in
+          let t = waits_on_lock g s new session c at h in
           let later = session_call_stays o found es s k g session c (Waits (Lock at)) new h in
-          ⊎_elim
-          (λ asks.
           let quiet = k.sessions.locks.waits t.running t.txn t.of.0.0 (λ w m spared same. t.idle w m (same ∙ t.of.1)) in
-          fresh_there o found _ new later session t.txn (fresh_active g o found es s k.sessions t.txn t.of.0 quiet c at new asks.1, t.of.1) at c
-          (fresh g o found es s k.sessions t.txn t.of.0 quiet c at new asks.1) (record { session = session; call = c; wait = Lock at; cycle = None }) (call_waits g s new session c (Lock at) h) refl refl refl)
-          (λ commits. absurd (durable_no_lock _ at (sym commits.1.0)))
-          t.how
+          fresh_there o found _ new later session t.txn (fresh_active g o found es s k.sessions t.txn t.of.0 quiet c at new t.goes, t.of.1) at c
+          (fresh g o found es s k.sessions t.txn t.of.0 quiet c at new t.goes) (record { session = session; call = c; wait = Lock at; cycle = None }) (call_waits g s new session c (Lock at) h) refl refl refl
 
   pub call_there : (step : Step) (new : State) → CallStep g s session c step new → AllWaitThere s → AllWaitThere new
   call_there step new h was v = ⊎_elim
@@ -442,7 +405,10 @@ module _ (g : Geometry) (o : Opening) (found : List LogRecord) (es : List Entry)
   wait_there w of (Durable n) (inl h) = same_there h.2
   wait_there w of (Durable n) (inr (inl h)) = subst AllWaitThere (sym h.2.3)
       (all_there s (commit_ended s h.2.0) k.sessions.locks.orderly (still_waited s h.2.0.session) (freed_were s h.2.0) (released_none h.2.0.txn s.locks.requests k.sessions.locks.orderly.one_each) was)
-  wait_there w of (Durable n) (inr (inr h)) = subst AllWaitThere (sym h.2.4) (prepared_there w h.2.0 h.2.1)
+  wait_there w of (Durable n) (inr (inr (inl h))) = subst AllWaitThere (sym h.2.4) (prepared_there w h.2.0 h.2.1)
+  wait_there w of (Durable n) (inr (inr (inr h))) = subst AllWaitThere (sym h.2.3)
+      (all_there s (resolve_ended s w.session h.2.0) k.sessions.locks.orderly (still_waited s w.session) (λ b m. was_it s b (m.0, sym (told_seat s.sessions.seats w.session b.session) ∙ m.1, m.2))
+      (λ r there wants. there) was)
   wait_there w of (Lock at) h = ⊎_elim
       (λ still. same_there still.2)
       (λ free.

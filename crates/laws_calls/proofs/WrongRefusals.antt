@@ -18,13 +18,15 @@ use Rattle.shore_model.specs.declared.step.Step.TheVariants.{Refused}
 use Rattle.laws_calls.proofs.AcquireAnswers.{IsLockFault, acquire_fault}
 use Rattle.laws_calls.proofs.Decided.{both_ways}
 use Rattle.laws_calls.proofs.SessionInversions.{IsOwn, same_fault}
-use Rattle.laws_calls.specs.CallSteps.{BeginStep, CallGoesOn, InnerStep, IsTooLong, MayAsk, RefusesBehind, RefusesEarly, RefusesGranule, RefusesId, RefusesLock, RefusesRead, CallStep, on_conflict_of, txn_count, NeedsTxn}
+use Rattle.laws_calls.specs.CallSteps.{BeginStep, CallGoesOn, InnerStep, IsTooLong, MayAsk, RefusesBehind, RefusesEarly, RefusesGranule, RefusesId, RefusesLock, RefusesRead, CallStep, on_conflict_of, txn_count, NeedsTxn, OutsideStep}
 use Rattle.laws_calls.specs.StateChanges.{IsPageFault}
 use Rattle.laws_calls.specs.Rollbacks.{IsInterrupted}
 use Rattle.laws_calls.specs.Shapes.{ForItsTxn}
 use Rattle.laws_calls.specs.States.{DoesNotWait, HasNoTxn, IsInTxn, IsOfSession, MayBegin, State, HasPrepared}
 use Rattle.laws_calls.proofs.Sessions.{in_one, not_prepared}
 use Rattle.shore_model.specs.declared.sessions.SessionState.{SessionState}
+use Rattle.laws_calls.specs.Prepares.{RefusesPrepare}
+use Rattle.laws_calls.proofs.Outside.{outside_fault, outside_refused, not_outside, interrupted_outside}
 
 -- ---- which refusals there are
 
@@ -45,7 +47,21 @@ IsInner (fault.Damaged device offset) = Unit {0}
 IsInner fault.Memory = Unit {0}
 IsInner fault.TooManySavepoints = Unit {0}
 IsInner fault.NoSavepoint = Unit {0}
+IsInner fault.BadGlobalId = Unit {0}
+IsInner fault.GlobalIdInUse = Unit {0}
 IsInner _ = ⊥
+
+-- those of a prepare
+abbrev pub IsOfPrepare : Fault → Type 0
+IsOfPrepare fault.BadGlobalId = Unit {0}
+IsOfPrepare fault.GlobalIdInUse = Unit {0}
+IsOfPrepare fault.LogFull = Unit {0}
+IsOfPrepare _ = ⊥
+
+pub prepare_refuses : (s : State) (a : SessionTxn) (global : List ℕ) (f : Fault) → RefusesPrepare s a global f → IsOfPrepare f
+prepare_refuses s a global f (inl bad) = subst IsOfPrepare (sym bad.0) tt
+prepare_refuses s a global f (inr (inl used)) = subst IsOfPrepare (sym used.0) tt
+prepare_refuses s a global f (inr (inr full)) = subst IsOfPrepare (sym full.0) tt
 
 -- those before the locks
 abbrev pub IsEarly : Fault → Type 0
@@ -120,6 +136,21 @@ module _ (g : Geometry) where
   refused_early (call.TryLock at mode) f h = lock_early at mode f h
   refused_early _ f h = absurd h
 
+prepare_inner : (f : Fault) → IsOfPrepare f → IsInner f
+prepare_inner fault.BadGlobalId h = tt
+prepare_inner fault.GlobalIdInUse h = tt
+prepare_inner fault.LogFull h = tt
+prepare_inner _ h = absurd h
+
+-- none of a prepare's comes before locks
+pub early_no_prepare : (f : Fault) → IsEarly f → IsOfPrepare f → ⊥
+early_no_prepare fault.NoStore e h = h
+early_no_prepare fault.NoPage e h = h
+early_no_prepare fault.NoRecord e h = h
+early_no_prepare fault.TooLong e h = h
+early_no_prepare fault.BadMode e h = h
+early_no_prepare _ e h = absurd e
+
 pub page_behind : (s : State) (f : Fault) → IsPageFault s f → IsBehind f
 page_behind s f (inl device) = subst IsBehind (sym device) tt
 page_behind s f (inr (inl damaged)) = subst IsBehind (sym damaged.1) tt
@@ -163,6 +194,7 @@ module _ (g : Geometry) (s new : State) (session : ℕ) where
     in_none : HasNoTxn s session → f ≡ fault.NoTransaction → Origin c f
     in_doubt : HasPrepared s session → f ≡ fault.IsPrepared → Origin c f
     rolls_back : (a : SessionTxn) → IsOfSession s session a → (a.undo.rolling ≡ None → ⊥) → f ≡ fault.MustAbort → (c ≡ call.Begin → ⊥) → Origin c f
+    outside : OutsideStep s session c (Refused f) new → Origin c f
     inside : IsInTxn s session → IsInner f → (c ≡ call.Begin → ⊥) → (c ≡ call.Commit → ⊥) → Origin c f
 
   origin_of : (c : Call) (f : Fault) → RefusedWith c f → Origin c f
@@ -172,7 +204,7 @@ module _ (g : Geometry) (s new : State) (session : ℕ) where
   origin_of c f (inr (inr (inr (inl h)))) = begins h.2 h.3
   origin_of c f (inr (inr (inr (inr (inl h))))) = in_none h.3 (same_fault f fault.NoTransaction h.4)
   origin_of c f (inr (inr (inr (inr (inr (inr (inl h))))))) = in_doubt h.3 (same_fault f fault.IsPrepared h.4)
-  origin_of c f (inr (inr (inr (inr (inr (inr (inr h))))))) = absurd h.2.1
+  origin_of c f (inr (inr (inr (inr (inr (inr (inr h))))))) = outside h.2
   origin_of c f (inr (inr (inr (inr (inr (inl h)))))) = by h.2.2
     where
       no_early : (other : Call) (f : Fault) → (RefusesEarly g other f → ⊥) → c ≡ other → RefusesEarly g c f → ⊥
@@ -193,8 +225,11 @@ module _ (g : Geometry) (s new : State) (session : ℕ) where
           inside (in_one s session h.2.0 h.2.1) (subst IsInner (sym (same_fault f x.0 x.2)) (early_inner x.0 (refused_early g c x.0 x.1))) (λ e. no_early call.Begin x.0 (λ x. x) e x.1) (λ e. no_early call.Commit x.0 (λ x. x) e x.1)
       by (inr (inl (whole, inr (inl x)))) = inside (in_one s session h.2.0 h.2.1) (goes_inner h.2.0 c f x.1) (λ e. asks_none call.Begin (λ x. x) e x.0) (λ e. asks_none call.Commit (λ x. x) e x.0)
       by (inr (inl (whole, inr (inr (inl x))))) = absurd x.1
-      by (inr (inl (whole, inr (inr (inr x))))) =
+      by (inr (inl (whole, inr (inr (inr (inl x)))))) =
           inside (in_one s session h.2.0 h.2.1) (subst IsInner (sym x.1.0) tt) (λ e. apart_calls call.Savepoint call.Begin (λ d. cc) x.0 e) (λ e. apart_calls call.Savepoint call.Commit (λ d. cc) x.0 e)
+      by (inr (inl (whole, inr (inr (inr (inr x)))))) =
+          inside (in_one s session h.2.0 h.2.1) (prepare_inner f (prepare_refuses s h.2.0 x.0 f x.2.0)) (λ e. apart_calls (call.Prepare x.0) call.Begin (λ d. cc) x.1 e)
+          (λ e. apart_calls (call.Prepare x.0) call.Commit (λ d. cc) x.1 e)
       by (inr (inr (inl x))) =
           inside (in_one s session h.2.0 h.2.1) (⊎_elim (λ late. subst IsInner (sym late.0) tt) (λ rolls. interrupted (To x.0) rolls.1) x.3)
           (λ e. apart_calls (call.BackTo x.0) call.Begin (λ d. cc) x.1 e) (λ e. apart_calls (call.BackTo x.0) call.Commit (λ d. cc) x.1 e)
@@ -207,8 +242,8 @@ module _ (g : Geometry) (s new : State) (session : ℕ) where
       ⊎_elim (λ x. subst P (sym x.0) active) (λ more. ⊎_elim (λ x. subst P (sym x.0) many) (λ x. subst P (sym x.0) full) more) h.0
 
   -- who must abort rolls back
-  pub must_of : (c : Call) → RefusedWith c fault.MustAbort → (a : SessionTxn) × IsOfSession s session a × (a.undo.rolling ≡ None → ⊥)
-  must_of c h = by (origin_of c fault.MustAbort h)
+  pub must_of : (c : Call) → NeedsTxn c → RefusedWith c fault.MustAbort → (a : SessionTxn) × IsOfSession s session a × (a.undo.rolling ≡ None → ⊥)
+  must_of c needs h = by (origin_of c fault.MustAbort h)
     where
       by : Origin c fault.MustAbort → (a : SessionTxn) × IsOfSession s session a × (a.undo.rolling ≡ None → ⊥)
       by (rolls_back a of rolling e first) = (a, of, rolling)
@@ -218,6 +253,7 @@ module _ (g : Geometry) (s new : State) (session : ℕ) where
       by (begins e x) = absurd (begin_fault (λ f. f ≢ fault.MustAbort) (λ e. cc) (λ e. cc) (λ e. cc) fault.MustAbort x refl)
       by (in_none none e) = absurd cc
       by (in_doubt doubt e) = absurd cc
+      by (outside x) = absurd (not_outside s session c (Refused fault.MustAbort) new needs x)
       by (inside mine inner first other) = absurd inner
 
   pub busy_though_idle : (c : Call) → DoesNotWait s session → RefusedWith c fault.Busy → ⊥
@@ -231,6 +267,7 @@ module _ (g : Geometry) (s new : State) (session : ℕ) where
       by (in_none none e) = cc
       by (in_doubt doubt e) = cc
       by (rolls_back a of rolling e first) = cc
+      by (outside x) = outside_fault s session c fault.Busy new x
       by (inside mine inner first other) = inner
 
   pub none_though_in_one : (c : Call) → IsInTxn s session → RefusedWith c fault.NoTransaction → ⊥
@@ -244,6 +281,7 @@ module _ (g : Geometry) (s new : State) (session : ℕ) where
       by (in_none none e) = mine none
       by (in_doubt doubt e) = cc
       by (rolls_back a of rolling e first) = cc
+      by (outside x) = outside_fault s session c fault.NoTransaction new x
       by (inside mine inner first other) = inner
 
   -- only in one that is prepared
@@ -258,6 +296,7 @@ module _ (g : Geometry) (s new : State) (session : ℕ) where
       by (in_none none e) = absurd cc
       by (in_doubt doubt e) = doubt
       by (rolls_back a of rolling e first) = absurd cc
+      by (outside x) = absurd (outside_fault s session c fault.IsPrepared new x)
       by (inside mine inner first other) = absurd inner
 
   pub prepared_though_at_work : (c : Call) → ForItsTxn s session (λ a. RefusedWith c fault.IsPrepared → ⊥)
@@ -277,10 +316,11 @@ module _ (g : Geometry) (s new : State) (session : ℕ) where
       by (in_none none e) = cc
       by (in_doubt doubt e) = cc
       by (rolls_back a of rolling e first) = cc
+      by (outside x) = outside_fault s session c fault.Failed new x
       by (inside mine inner first other) = inner
 
-  begin_when : (c : Call) (f : Fault) → IsOwn f → (IsInner f → ⊥) → RefusedWith c f → BeginStep s session (Refused f) new
-  begin_when c f own outside h = by (origin_of c f h)
+  begin_when : (c : Call) (f : Fault) → IsOwn f → (IsInner f → ⊥) → (OutsideStep s session c (Refused f) new → ⊥) → RefusedWith c f → BeginStep s session (Refused f) new
+  begin_when c f own apart beside h = by (origin_of c f h)
     where
       by : Origin c f → BeginStep s session (Refused f) new
       by (lacks_memory e) = absurd (subst IsOwn e own)
@@ -290,17 +330,24 @@ module _ (g : Geometry) (s new : State) (session : ℕ) where
       by (in_none none e) = absurd (subst IsOwn e own)
       by (in_doubt doubt e) = absurd (subst IsOwn e own)
       by (rolls_back a of rolling e first) = absurd (subst IsOwn e own)
-      by (inside mine inner first other) = absurd (outside inner)
+      by (outside x) = absurd (beside x)
+      by (inside mine inner first other) = absurd (apart inner)
 
   pub too_many_below : (c : Call) → txn_count s < MAX_TRANSACTIONS → RefusedWith c fault.TooManyTransactions → ⊥
   too_many_below c below h =
       ⊎_elim (λ x. let clash = x.0 in cc) (λ more. ⊎_elim (λ x. let full = x.2 in omega arith) (λ x. let clash = x.0 in cc) more)
-      (begin_when c fault.TooManyTransactions tt (λ x. x) h).0
+      (begin_when c fault.TooManyTransactions tt (λ x. x) (outside_fault s session c fault.TooManyTransactions new) h).0
 
   pub active_though_none : (c : Call) → HasNoTxn s session → RefusedWith c fault.AlreadyActive → ⊥
   active_though_none c none h =
       ⊎_elim (λ x. x.1 none) (λ more. ⊎_elim (λ x. let clash = x.0 in cc) (λ x. let clash = x.0 in cc) more)
-      (begin_when c fault.AlreadyActive tt (λ x. x) h).0
+      (begin_when c fault.AlreadyActive tt (λ x. x) beside h).0
+    where
+      beside : OutsideStep s session c (Refused fault.AlreadyActive) new → ⊥
+      beside x = ⊎_elim
+          (λ early. ⊎_elim (λ active. active.1 (inl none)) (λ more. ⊎_elim (λ y. let clash = y.0 in cc) (λ y. let clash = y.0 in cc) more) early.refuses)
+          (λ stopped. interrupted_outside stopped.how.0 fault.AlreadyActive stopped.how.2)
+          (outside_refused s session c fault.AlreadyActive new x)
 
   pub begin_refused : (f : Fault) → IsOwn f → RefusedWith call.Begin f → BeginStep s session (Refused f) new
   begin_refused f own h = by (origin_of call.Begin f h)
@@ -313,6 +360,7 @@ module _ (g : Geometry) (s new : State) (session : ℕ) where
       by (in_none none e) = absurd (subst IsOwn e own)
       by (in_doubt doubt e) = absurd (subst IsOwn e own)
       by (rolls_back a of rolling e first) = absurd (first refl)
+      by (outside x) = ⊎_elim (λ y. let clash = y.0 in absurd cc) (λ y. let clash = y.2 in absurd cc) x
       by (inside mine inner first other) = absurd (first refl)
 
   pub begin_full_though_room : MayBegin s → RefusedWith call.Begin fault.LogFull → ⊥
@@ -330,6 +378,7 @@ module _ (g : Geometry) (s new : State) (session : ℕ) where
       by (begins e x) = cc
       by (in_none none e) = in_one s session b of none
       by (in_doubt doubt e) = not_prepared s session b of doubt
+      by (outside x) = not_outside s session call.Commit (Refused f) new tt x
       by (inside mine inner first other) = other refl
 
   pub too_long_in_no_txn : (c : Call) → HasNoTxn s session → RefusedWith c fault.TooLong → ⊥
@@ -340,9 +389,10 @@ module _ (g : Geometry) (s new : State) (session : ℕ) where
       by (has_failed failed e) = cc
       by (is_busy waits e) = cc
       by (begins e x) = begin_fault (λ f. f ≢ fault.TooLong) (λ e. cc) (λ e. cc) (λ e. cc) fault.TooLong x refl
-      by (in_none outside e) = cc
+      by (in_none free e) = cc
       by (in_doubt doubt e) = cc
       by (rolls_back a of rolling e first) = cc
+      by (outside x) = outside_fault s session c fault.TooLong new x
       by (inside mine inner first other) = mine none
 
   pub commit_forces_none : (n : ℕ) → RefusedWith call.Commit (fault.NeedForce n) → ⊥
@@ -356,4 +406,5 @@ module _ (g : Geometry) (s new : State) (session : ℕ) where
       by (in_none none e) = cc
       by (in_doubt doubt e) = cc
       by (rolls_back a of rolling e first) = cc
+      by (outside x) = not_outside s session call.Commit (Refused (fault.NeedForce n)) new tt x
       by (inside mine inner first other) = other refl

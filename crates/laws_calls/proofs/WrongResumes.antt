@@ -12,7 +12,7 @@ use Rattle.shore_types.specs.declared.locking.Mode.{Mode}
 use Rattle.shore_model.specs.Locks.{HoldsAtLeast, path}
 use Rattle.shore_model.specs.Modes.{is_allowed}
 use Rattle.shore_model.specs.declared.calls.Answer.{Answer}
-use Rattle.shore_model.specs.declared.calls.Answer.TheVariants.{Committed, Prepared}
+use Rattle.shore_model.specs.declared.calls.Answer.TheVariants.{Committed, Prepared, Resolved}
 use Rattle.shore_model.specs.declared.calls.Call.{Call}
 use Rattle.shore_model.specs.declared.histories.Entry.{Entry}
 use Rattle.shore_model.specs.declared.histories.Opening.{Opening}
@@ -44,13 +44,14 @@ use Rattle.laws_calls.proofs.Decided.{both_ways}
 use Rattle.laws_calls.proofs.SessionInversions.{durable_no_lock}
 use Rattle.laws_calls.proofs.SessionResumes.{WaitsWhole}
 use Rattle.laws_calls.proofs.SessionStates.{waits_whole}
-use Rattle.laws_calls.proofs.Sessions.{one_txn, committed_seat, parted, seat_apart}
+use Rattle.laws_calls.proofs.Sessions.{one_txn, committed_seat, parted, seat_apart, committed_above}
 use Rattle.laws_calls.specs.Events.{Forced, IsStateAfter, EventMoves}
 use Rattle.laws_calls.specs.StateChanges.{wait_refused}
 use Rattle.laws_calls.specs.CallSteps.{CallGoesOn, MayAsk, ResumesCall, ResumesWait, CallStep, ResumeStep, commit_ended, on_conflict_of}
 use Rattle.laws_calls.specs.LockedStates.{IsSessionsState}
 use Rattle.laws_calls.specs.Shapes.{ForItsTxn, WaitsOnLocks, WaitsOnRecords}
 use Rattle.laws_calls.specs.States.{DoesNotWait, IsOfSession, State, Waiting, without_waiting}
+use Rattle.laws_calls.proofs.SessionsWaiting.{resolver_outside}
 
 waits_no_done : (wait : Wait) (answer : Answer) → Done answer ≡ Waits wait → ⊥
 waits_no_done wait answer e = cc
@@ -122,7 +123,8 @@ module _ (g : Geometry) (s new : State) (session : ℕ) where
       none : (v : Waiting) (wait : Wait) → ResumesWait g s v wait Nothing new → ⊥
       none v (Durable n) (inl x) = let clash = x.1 in cc
       none v (Durable n) (inr (inl x)) = let clash = x.1 in cc
-      none v (Durable n) (inr (inr x)) = let clash = x.1 in cc
+      none v (Durable n) (inr (inr (inl x))) = let clash = x.1 in cc
+      none v (Durable n) (inr (inr (inr x))) = let clash = x.1 in cc
       none v (Lock at) x = ⊎_elim (λ still. let clash = still.1 in cc) (λ goes. goes.1) x.2
 
   -- ---- of a commit
@@ -131,13 +133,13 @@ module _ (g : Geometry) (s new : State) (session : ℕ) where
   done_though_not_durable answer on h =
       let t = done answer h in
       let r = on_record (λ n. s.durable < n) on (Done answer) t (runs (Done answer) (λ e. cc) t.waited t.how).1 in
-      ⊎_elim (λ still. waits_no_done (Durable r.0) answer still.1) (⊎_elim (λ ends. let le = ends.0 in let less = r.1 in omega arith) (λ ends. let le = ends.0 in let less = r.1 in omega arith)) r.2
+      ⊎_elim (λ still. waits_no_done (Durable r.0) answer still.1) (⊎_elim (λ ends. let le = ends.0 in let less = r.1 in omega arith) (⊎_elim (λ ends. let le = ends.0 in let less = r.1 in omega arith) (λ ends. let le = ends.0 in let less = r.1 in omega arith))) r.2
 
   pub waits_though_durable : (wait : Wait) → WaitsOnRecords s session (λ n. n ≤ s.durable) → ResumesTo (Waits wait) → ⊥
   waits_though_durable wait on h =
       let t = waits wait h in
       let r = on_record (λ n. n ≤ s.durable) on (Waits wait) t (runs (Waits wait) (λ e. cc) t.waited t.how).1 in
-      ⊎_elim (λ still. let less = still.0 in let le = r.1 in omega arith) (⊎_elim (λ ends. waits_no_done wait Committed (sym ends.1)) (λ ends. waits_no_done wait Prepared (sym ends.1))) r.2
+      ⊎_elim (λ still. let less = still.0 in let le = r.1 in omega arith) (⊎_elim (λ ends. waits_no_done wait Committed (sym ends.1)) (⊎_elim (λ ends. waits_no_done wait Prepared (sym ends.1)) (λ ends. waits_no_done wait Resolved (sym ends.1)))) r.2
 
   pub commit_refused : (f : Fault) → s.failed ≡ false → WaitsOnRecords s session (λ n. Unit {0}) → ResumesTo (Refused f) → ⊥
   commit_refused f running on h =
@@ -146,7 +148,7 @@ module _ (g : Geometry) (s new : State) (session : ℕ) where
       (λ failed. both_ways s.failed failed.0 running)
       (λ runs.
       let r = on_record (λ n. Unit {0}) on (Refused f) t runs.1 in
-      ⊎_elim (λ still. let clash = still.1 in cc) (⊎_elim (λ ends. let clash = ends.1 in cc) (λ ends. let clash = ends.1 in cc)) r.2)
+      ⊎_elim (λ still. let clash = still.1 in cc) (⊎_elim (λ ends. let clash = ends.1 in cc) (⊎_elim (λ ends. let clash = ends.1 in cc) (λ ends. let clash = ends.1 in cc))) r.2)
       t.how
 
   pub waits_for_other : (n : ℕ) → ((w : Waiting) → IsAmong w s.waiting → w.session ≡ session → w.wait ≢ Durable n) → ResumesTo (Waits (Durable n)) → ⊥
@@ -157,7 +159,8 @@ module _ (g : Geometry) (s new : State) (session : ℕ) where
       its : (wait : Wait) → ResumesWait g s (waits (Durable n) h).waited wait (Waits (Durable n)) new → wait ≡ Durable n
       its (Durable m) (inl x) = sym (same_wait (Durable n) (Durable m) x.1)
       its (Durable m) (inr (inl x)) = absurd (waits_no_done (Durable n) Committed (sym x.1))
-      its (Durable m) (inr (inr x)) = absurd (waits_no_done (Durable n) Prepared (sym x.1))
+      its (Durable m) (inr (inr (inl x))) = absurd (waits_no_done (Durable n) Prepared (sym x.1))
+      its (Durable m) (inr (inr (inr x))) = absurd (waits_no_done (Durable n) Resolved (sym x.1))
       its (Lock at) x =
           ⊎_elim
           (λ still. absurd (durable_no_lock n at (same_wait (Durable n) (Lock at) still.1)))
@@ -274,7 +277,7 @@ gone t rs orderly =
     (subst (All (λ (k : ℕ × Granule). k.0 ≢ t)) (sym (released_own rs t orderly.one_each))
     (All-map (λ (k : ℕ × Granule). k.0 ≢ t) (λ (r : Request). (r.txn, r.granule)) (of_others t rs) (not_of t rs)))
 
-module _ (g : Geometry) (o : Opening) (found : List LogRecord) (es : List Entry) (s new : State) (k : IsSessionsState o found es s) (session : ℕ) (a : SessionTxn)
+module _ (g : Geometry) (o : Opening) (found : List LogRecord) (es : List Entry) (s new : State) (after : IsStateAfter o found es s) (session : ℕ) (a : SessionTxn)
     (mem : IsAmong a s.sessions.committing) (of : a.session ≡ session) (answer : Answer) (h : ResumeStep g s session (Done answer) new) where
   pub ends : new ≡ commit_ended s a
   ends = by t.waited.wait (runs g s new session (Done answer) (λ e. cc) t.waited t.how).1
@@ -284,25 +287,28 @@ module _ (g : Geometry) (o : Opening) (found : List LogRecord) (es : List Entry)
 
       same : (b : SessionTxn) → IsAmong b s.sessions.committing → b.session ≡ t.waited.session → commit_ended s b ≡ commit_ended s a
       same b m is =
-          ap (λ (n : ℕ). commit_ended s (record { session = b.session; txn = n; undo = a.undo })) (one_txn s.sessions b a (committed_seat k b m) (committed_seat k a mem) (is ∙ t.of ∙ sym of))
+          ap (λ (n : ℕ). commit_ended s (record { session = b.session; txn = n; undo = a.undo })) (one_txn s.sessions b a (committed_seat after.sessions b m) (committed_seat after.sessions a mem) (is ∙ t.of ∙ sym of))
           ∙ ap (λ (n : ℕ). commit_ended s (record { session = n; txn = a.txn; undo = a.undo })) (is ∙ t.of ∙ sym of)
 
       by : (wait : Wait) → ResumesWait g s t.waited wait (Done answer) new → new ≡ commit_ended s a
       by (Durable n) (inl x) = absurd (waits_no_done (Durable n) answer x.1)
       by (Durable n) (inr (inl x)) = x.2.3 ∙ same x.2.0 x.2.1 x.2.2
-      by (Durable n) (inr (inr x)) = absurd (seat_apart (committed_seat k a mem) (ap s.sessions.seats (of ∙ sym t.of) ∙ x.2.2.1))
-      by (Lock at) x = absurd (parted k x.0 a x.1.0.0 mem (one_txn s.sessions x.0 a x.1.0.1 (committed_seat k a mem) (x.1.1 ∙ t.of ∙ sym of)))
+      by (Durable n) (inr (inr (inr x))) =
+          absurd (resolver_outside (length found) s t.waited x.2.0.global x.2.0.outcome (after.waits.each t.waited t.there) x.2.2 a.txn (committed_above after.sessions a mem)
+          (ap s.sessions.seats (t.of ∙ sym of) ∙ committed_seat after.sessions a mem))
+      by (Durable n) (inr (inr (inl x))) = absurd (seat_apart (committed_seat after.sessions a mem) (ap s.sessions.seats (of ∙ sym t.of) ∙ x.2.2.1))
+      by (Lock at) x = absurd (parted after.sessions x.0 a x.1.0.0 mem (one_txn s.sessions x.0 a x.1.0.1 (committed_seat after.sessions a mem) (x.1.1 ∙ t.of ∙ sym of)))
 
   pub no_lock_left : All (λ h. h.txn ≢ a.txn) new.sessions.held
-  no_lock_left = subst (λ (s : State). All (λ h. h.txn ≢ a.txn) s.sessions.held) (sym ends) (gone_of s.locks.requests a.txn k.locks.orderly)
+  no_lock_left = subst (λ (s : State). All (λ h. h.txn ≢ a.txn) s.sessions.held) (sym ends) (gone_of s.locks.requests a.txn after.sessions.locks.orderly)
 
   pub no_request_left : All (λ r. r.txn ≢ a.txn) new.locks.requests
-  no_request_left = subst (λ (s : State). All (λ r. r.txn ≢ a.txn) s.locks.requests) (sym ends) (gone a.txn s.locks.requests k.locks.orderly)
+  no_request_left = subst (λ (s : State). All (λ r. r.txn ≢ a.txn) s.locks.requests) (sym ends) (gone a.txn s.locks.requests after.sessions.locks.orderly)
 
   pub others_keep : (u : ℕ) → u ≢ a.txn → KeepsLocks s.sessions.held new.sessions.held u
   others_keep u other m at held =
-      let was = holder_from_lock u at m s.locks.requests (subst (λ (l : List Hold). HoldsAtLeast l u m at) k.locks.held held) in
-      let enough = weaker_released a.txn s.locks.requests k.locks.orderly u at m other (enough_of u at m s.locks.requests k.locks.orderly.one_each was) in
+      let was = holder_from_lock u at m s.locks.requests (subst (λ (l : List Hold). HoldsAtLeast l u m at) after.sessions.locks.held held) in
+      let enough = weaker_released a.txn s.locks.requests after.sessions.locks.orderly u at m other (enough_of u at m s.locks.requests after.sessions.locks.orderly.one_each was) in
       subst (λ (s : State). HoldsAtLeast s.sessions.held u m at) (sym ends)
       (lock_from_holder u at m (released a.txn s.locks.requests) (holder_of u at m (released a.txn s.locks.requests) enough))
 

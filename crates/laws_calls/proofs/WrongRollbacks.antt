@@ -27,10 +27,10 @@ use Rattle.laws_lives.specs.Sessions.{SessionTxn}
 use Rattle.laws_lives.specs.UndoLists.{images_since, rolled_back}
 use Rattle.shore_model.specs.declared.step.Step.TheVariants.{Done, Refused, Waits}
 use Rattle.shore_model.specs.declared.step.Wait.{Wait}
-use Rattle.laws_calls.proofs.SessionInversions.{aborted_in, answered_of, same_fault, saved_in, waits_in, went_back_in}
+use Rattle.laws_calls.proofs.SessionInversions.{aborted_in, answered_of, same_fault, saved_in, went_back_in, waits_of, waits_whole}
 use Rattle.laws_calls.proofs.Sessions.{one_txn}
 use Rattle.laws_calls.proofs.AcquireAnswers.{IsLockFault, acquire_fault}
-use Rattle.laws_calls.proofs.WrongRefusals.{IsBehind, IsEarly, begin_fault, must_of, page_behind, refused_behind, refused_early}
+use Rattle.laws_calls.proofs.WrongRefusals.{IsBehind, IsEarly, begin_fault, must_of, page_behind, refused_behind, refused_early, prepare_refuses}
 use Rattle.laws_calls.proofs.WrongResumes.{gone}
 use Rattle.laws_calls.specs.CallSteps.{AbortStep, CallStep, CallGoesOn, InnerStep, OpenStep, on_conflict_of, NeedsTxn}
 use Rattle.laws_calls.specs.LockedStates.{IsSessionsState}
@@ -39,6 +39,10 @@ use Rattle.laws_calls.specs.Shapes.{ForItsTxn, IsLackOfRoom, StopsAborts, rollba
 use Rattle.laws_calls.specs.StateChanges.{IsPageFault, after_refusal}
 use Rattle.laws_calls.specs.States.{HasNoTxn, IsOfSession, State}
 use Rattle.shore_model.specs.Histories.{free}
+use Rattle.laws_calls.proofs.Outside.{not_outside, resolve_fault, resolve_in, IsOfOutside, outside_fault}
+use Rattle.shore_model.specs.declared.calls.Outcome.{Outcome}
+use Rattle.shore_model.specs.declared.calls.Outcome.TheVariants as outcome
+use Rattle.laws_calls.specs.Resolves.{DecidesRollback, ResolvesTo}
 
 same_savepoint : (n m : ℕ) → call.BackTo n ≡ call.BackTo m → n ≡ m
 same_savepoint n m e = cc
@@ -88,24 +92,31 @@ module _ (g : Geometry) (s new : State) (session : ℕ) where
   no_open a (call.BackTo n) r f is (inl h) = h.1
   no_open a (call.BackTo n) r f is (inr (inl h)) = h.0
   no_open a (call.BackTo n) r f is (inr (inr (inl h))) = h.1
-  no_open a (call.BackTo n) r f is (inr (inr (inr h))) = let clash = h.0 in cc
+  no_open a (call.BackTo n) r f is (inr (inr (inr (inl h)))) = let clash = h.0 in cc
+  no_open a (call.BackTo n) r f is (inr (inr (inr (inr h)))) = let clash = h.1 in cc
   no_open a call.Abort r f is (inl h) = h.1
   no_open a call.Abort r f is (inr (inl h)) = h.0
   no_open a call.Abort r f is (inr (inr (inl h))) = h.1
-  no_open a call.Abort r f is (inr (inr (inr h))) = let clash = h.0 in cc
+  no_open a call.Abort r f is (inr (inr (inr (inl h)))) = let clash = h.0 in cc
+  no_open a call.Abort r f is (inr (inr (inr (inr h)))) = let clash = h.1 in cc
+  no_open a (call.Resolve global asked) r f is (inl h) = h.1
+  no_open a (call.Resolve global asked) r f is (inr (inl h)) = h.0
+  no_open a (call.Resolve global asked) r f is (inr (inr (inl h))) = h.1
+  no_open a (call.Resolve global asked) r f is (inr (inr (inr (inl h)))) = let clash = h.0 in cc
+  no_open a (call.Resolve global asked) r f is (inr (inr (inr (inr h)))) = let clash = h.1 in cc
   no_open a _ r f is h = absurd cc
 
-  stopped_in : (c : Call) (r : Rollback) (f : Fault) → rollback_of c ≡ Some r → CallStep g s session c (Refused f) new → StoppedIn c r f
-  stopped_in c r f is (inl h) = let e = same_fault f fault.Memory h.0 in plainly c r f fault.Memory e h.1 (inl e) (λ d. cc) (λ d. cc)
-  stopped_in c r f is (inr (inl h)) = let e = same_fault f fault.Failed h.1 in plainly c r f fault.Failed e h.2 (inr (inl e)) (λ d. cc) (λ d. cc)
-  stopped_in c r f is (inr (inr (inl h))) = let e = same_fault f fault.Busy h.2 in plainly c r f fault.Busy e h.3 (inr (inr (inl e))) (λ d. cc) (λ d. cc)
-  stopped_in c r f is (inr (inr (inr (inl h)))) = let clash : rollback_of call.Begin ≡ Some r = subst (λ (x : Call). rollback_of x ≡ Some r) h.2 is in absurd cc
-  stopped_in c r f is (inr (inr (inr (inr (inl h))))) =
+  stopped_in : (c : Call) (r : Rollback) (f : Fault) → NeedsTxn c → rollback_of c ≡ Some r → CallStep g s session c (Refused f) new → StoppedIn c r f
+  stopped_in c r f needs is (inl h) = let e = same_fault f fault.Memory h.0 in plainly c r f fault.Memory e h.1 (inl e) (λ d. cc) (λ d. cc)
+  stopped_in c r f needs is (inr (inl h)) = let e = same_fault f fault.Failed h.1 in plainly c r f fault.Failed e h.2 (inr (inl e)) (λ d. cc) (λ d. cc)
+  stopped_in c r f needs is (inr (inr (inl h))) = let e = same_fault f fault.Busy h.2 in plainly c r f fault.Busy e h.3 (inr (inr (inl e))) (λ d. cc) (λ d. cc)
+  stopped_in c r f needs is (inr (inr (inr (inl h)))) = let clash : rollback_of call.Begin ≡ Some r = subst (λ (x : Call). rollback_of x ≡ Some r) h.2 is in absurd cc
+  stopped_in c r f needs is (inr (inr (inr (inr (inl h))))) =
       let e = same_fault f fault.NoTransaction h.4 in plainly c r f fault.NoTransaction e h.5 (inr (inr (inr (inl e)))) (λ d. cc) (λ d. cc)
-  stopped_in c r f is (inr (inr (inr (inr (inr (inr (inl h))))))) =
+  stopped_in c r f needs is (inr (inr (inr (inr (inr (inr (inl h))))))) =
       let e = same_fault f fault.IsPrepared h.4 in plainly c r f fault.IsPrepared e h.5 (inr (inr (inr (inr (inr (inr (inr e))))))) (λ d. cc) (λ d. cc)
-  stopped_in c r f is (inr (inr (inr (inr (inr (inr (inr h))))))) = absurd h.2.1
-  stopped_in c r f is (inr (inr (inr (inr (inr (inl h)))))) = by h.2.2
+  stopped_in c r f needs is (inr (inr (inr (inr (inr (inr (inr h))))))) = absurd (not_outside s session c (Refused f) new needs h.2)
+  stopped_in c r f needs is (inr (inr (inr (inr (inr (inl h)))))) = by h.2.2
     where
       by : InnerStep g s h.2.0 c (Refused f) new → StoppedIn c r f
       by (inl x) =
@@ -131,8 +142,8 @@ module _ (g : Geometry) (s new : State) (session : ℕ) where
       by (inr (inr (inr x))) =
           subst (λ q. StoppedIn c q f) (same_rollback (rollback_of c) Whole r (ap rollback_of x.0) is) (interrupted c Whole f h.2.0 h.2.1 x.1)
 
-  pub rollback_stops : (c : Call) (r : Rollback) (f : Fault) → rollback_of c ≡ Some r → CallStep g s session c (Refused f) new → Stopped s session r f new
-  rollback_stops c r f is h = (stopped_in c r f is h).left
+  pub rollback_stops : (c : Call) (r : Rollback) (f : Fault) → NeedsTxn c → rollback_of c ≡ Some r → CallStep g s session c (Refused f) new → Stopped s session r f new
+  rollback_stops c r f needs is h = (stopped_in c r f needs is h).left
 
   -- none of these is for lack of room
   page_not : (x : State) (f : Fault) → f ≢ fault.Device → ((device : Device) (offset : ℕ) → f ≢ fault.Damaged device offset) → ((n : ℕ) → f ≢ fault.NeedForce n) → IsPageFault x f → ⊥
@@ -144,8 +155,8 @@ module _ (g : Geometry) (s new : State) (session : ℕ) where
       → exact ≢ fault.MustAbort → exact ≢ fault.NoSavepoint → exact ≢ fault.IsPrepared → IsStop exact → ⊥
   full_stop exact page a b c d e f g stop = ⊎_elim a (⊎_elim b (⊎_elim c (⊎_elim d (⊎_elim e (⊎_elim f (⊎_elim (λ x. page x.0 x.1) g)))))) stop
 
-  pub undo_has_room : (c : Call) (r : Rollback) (f : Fault) → rollback_of c ≡ Some r → IsLackOfRoom f → CallStep g s session c (Refused f) new → ⊥
-  undo_has_room c r f is lacks h = by lacks (stopped_in c r f is h).fault_is
+  txn_has_room : (c : Call) (r : Rollback) (f : Fault) → NeedsTxn c → rollback_of c ≡ Some r → IsLackOfRoom f → CallStep g s session c (Refused f) new → ⊥
+  txn_has_room c r f needs is lacks h = by lacks (stopped_in c r f needs is h).fault_is
     where
       by : IsLackOfRoom f → IsStop f → ⊥
       by (inl e) stop =
@@ -162,11 +173,37 @@ module _ (g : Geometry) (s new : State) (session : ℕ) where
           full_stop (fault.WouldBlock e.0) (λ x. page_not x (fault.WouldBlock e.0) (λ d. cc) (λ device offset d. cc) (λ n d. cc)) (λ d. cc) (λ d. cc) (λ d. cc) (λ d. cc) (λ d. cc) (λ d. cc) (λ d. cc)
           (subst IsStop e.1 stop)
 
+  -- a resolve is refused for no lack of room
+  pub resolve_has_room : (global : List ℕ) (asked : Outcome) (f : Fault) → IsLackOfRoom f → CallStep g s session (call.Resolve global asked) (Refused f) new → ⊥
+  resolve_has_room global asked f lacks h = by lacks (resolve_fault g s new session global asked f h)
+    where
+      by : IsLackOfRoom f → IsOfOutside f → ⊥
+      by (inl e) of = subst IsOfOutside e of
+      by (inr (inl e)) of = subst IsOfOutside e of
+      by (inr (inr (inl e))) of = subst IsOfOutside e of
+      by (inr (inr (inr (inl e)))) of = subst IsOfOutside e.1 of
+      by (inr (inr (inr (inr e)))) of = subst IsOfOutside e.1 of
+
+  pub undo_has_room : (c : Call) (r : Rollback) (f : Fault) → rollback_of c ≡ Some r → IsLackOfRoom f → CallStep g s session c (Refused f) new → ⊥
+  undo_has_room call.Begin r f is lacks h = let clash : None ≡ Some r = is in cc
+  undo_has_room call.InDoubt r f is lacks h = let clash : None ≡ Some r = is in cc
+  undo_has_room (call.Resolve global asked) r f is lacks h = resolve_has_room global asked f lacks h
+  undo_has_room c r f is lacks h = txn_has_room c r f tt is lacks h
+
+  -- a resolve that is refused has left all, or decided to roll back, and has been interrupted
+  pub resolve_stops : (global : List ℕ) (asked : Outcome) (f : Fault) → CallStep g s session (call.Resolve global asked) (Refused f) new
+      → (new ≡ s) ⊎ ((b : SessionTxn) × (decided : State) × DecidesRollback s global b decided × IsInterrupted decided b Whole f new)
+  resolve_stops global asked f h = ⊎_elim (λ general. inl general.3) (λ goes. ⊎_elim (λ early. inl early.3) (λ on. by asked on.1) goes.2) (resolve_in g s new session global asked (Refused f) h)
+    where
+      by : (asked : Outcome) → ResolvesTo s session global asked (Refused f) new → (new ≡ s) ⊎ ((b : SessionTxn) × (decided : State) × DecidesRollback s global b decided × IsInterrupted decided b Whole f new)
+      by outcome.Commit to = absurd to
+      by outcome.Abort to = inr (to.0, to.1, to.2, to.3)
+
   pub abort_stops : (f : Fault) → CallStep g s session call.Abort (Refused f) new → StopsAborts f
   abort_stops f h = by t.fault_is
     where
       t : StoppedIn call.Abort Whole f
-      t = stopped_in call.Abort Whole f refl h
+      t = stopped_in call.Abort Whole f tt refl h
 
       by : IsStop f → StopsAborts f
       by (inl memory) = inr (inr (inr (inr (s, inl memory))))
@@ -179,20 +216,20 @@ module _ (g : Geometry) (s new : State) (session : ℕ) where
       by (inr (inr (inr (inr (inr (inr (inr doubt))))))) = inr (inr (inr (inl doubt)))
 
   pub abort_must_not : CallStep g s session call.Abort (Refused fault.MustAbort) new → ⊥
-  abort_must_not h = (stopped_in call.Abort Whole fault.MustAbort refl h).own refl (λ a of. inr (inl refl))
+  abort_must_not h = (stopped_in call.Abort Whole fault.MustAbort tt refl h).own refl (λ a of. inr (inl refl))
 
   pub abort_has_savepoint : CallStep g s session call.Abort (Refused fault.NoSavepoint) new → ⊥
-  abort_has_savepoint h = let t = (stopped_in call.Abort Whole fault.NoSavepoint refl h).late refl in let clash = t.1 in cc
+  abort_has_savepoint h = let t = (stopped_in call.Abort Whole fault.NoSavepoint tt refl h).late refl in let clash = t.1 in cc
 
   pub must_abort_though_same_way : (n : ℕ) → ForItsTxn s session (λ a. a.undo.rolling ≡ Some (To n)) → CallStep g s session (call.BackTo n) (Refused fault.MustAbort) new → ⊥
-  must_abort_though_same_way n way h = (stopped_in (call.BackTo n) (To n) fault.MustAbort refl h).own refl (λ a of. inr (inr (n, way a of, refl)))
+  must_abort_though_same_way n way h = (stopped_in (call.BackTo n) (To n) fault.MustAbort tt refl h).own refl (λ a of. inr (inr (n, way a of, refl)))
 
   to_same : (n m : ℕ) → To n ≡ To m → n ≡ m
   to_same n m e = cc
 
   pub none_though_there : (n : ℕ) → ForItsTxn s session (λ a. n < length a.undo.marks) → CallStep g s session (call.BackTo n) (Refused fault.NoSavepoint) new → ⊥
   none_though_there n there h =
-      let t = (stopped_in (call.BackTo n) (To n) fault.NoSavepoint refl h).late refl in
+      let t = (stopped_in (call.BackTo n) (To n) fault.NoSavepoint tt refl h).late refl in
       let less = there t.2.0 t.2.1 in
       let late = t.2.2 in
       let same = to_same n t.0 t.1 in
@@ -200,8 +237,8 @@ module _ (g : Geometry) (s new : State) (session : ℕ) where
 
   -- ---- refusals of any call
 
-  pub must_abort_though_whole : (c : Call) → ForItsTxn s session (λ a. a.undo.rolling ≡ None) → CallStep g s session c (Refused fault.MustAbort) new → ⊥
-  must_abort_though_whole c whole h = let t = must_of g s new session c h in t.2 (whole t.0 t.1)
+  pub must_abort_though_whole : (c : Call) → NeedsTxn c → ForItsTxn s session (λ a. a.undo.rolling ≡ None) → CallStep g s session c (Refused fault.MustAbort) new → ⊥
+  must_abort_though_whole c needs whole h = let t = must_of g s new session c needs h in t.2 (whole t.0 t.1)
 
   no_interrupt : (f : Fault) → f ≢ fault.Memory → (IsBehind f → ⊥) → (x : State) → Interrupts x f → ⊥
   no_interrupt f memory behind x (inl e) = memory e
@@ -222,7 +259,8 @@ module _ (g : Geometry) (s new : State) (session : ℕ) where
   full_in a c (inr (inl (whole, inl h))) = absurd (subst IsEarly (sym (same_fault fault.TooManySavepoints h.0 h.2)) (refused_early g c h.0 h.1))
   full_in a c (inr (inl (whole, inr (inl h)))) = absurd (no_goes a c h.1)
   full_in a c (inr (inl (whole, inr (inr (inl h))))) = absurd h.1
-  full_in a c (inr (inl (whole, inr (inr (inr h))))) = h.1.1
+  full_in a c (inr (inl (whole, inr (inr (inr (inl h)))))) = h.1.1
+  full_in a c (inr (inl (whole, inr (inr (inr (inr h)))))) = absurd (prepare_refuses s a h.0 fault.TooManySavepoints h.2.0)
   full_in a c (inr (inr (inl h))) =
       ⊎_elim (λ late. let clash = late.0 in absurd cc) (λ rolls. absurd (no_interrupt fault.TooManySavepoints (λ e. cc) (λ x. x) rolls.1.0 rolls.1.2)) h.3
   full_in a c (inr (inr (inr h))) = absurd (no_interrupt fault.TooManySavepoints (λ e. cc) (λ x. x) h.1.0 h.1.2)
@@ -235,7 +273,7 @@ module _ (g : Geometry) (s new : State) (session : ℕ) where
       begin_fault g s new session (λ f. f ≢ fault.TooManySavepoints) (λ e. cc) (λ e. cc) (λ e. cc) fault.TooManySavepoints h.3 refl
   too_many_below c below (inr (inr (inr (inr (inl h))))) = let clash = same_fault fault.TooManySavepoints fault.NoTransaction h.4 in cc
   too_many_below c below (inr (inr (inr (inr (inr (inr (inl h))))))) = let clash = same_fault fault.TooManySavepoints fault.IsPrepared h.4 in cc
-  too_many_below c below (inr (inr (inr (inr (inr (inr (inr h))))))) = h.2.1
+  too_many_below c below (inr (inr (inr (inr (inr (inr (inr h))))))) = outside_fault s session c fault.TooManySavepoints new h.2
   too_many_below c below (inr (inr (inr (inr (inr (inl h)))))) =
       let full = full_in h.2.0 c h.2.2 in let less = below h.2.0 h.2.1 in omega (arith, full, less)
 
@@ -251,8 +289,8 @@ module _ (g : Geometry) (s new : State) (session : ℕ) where
       by a (inr (inr (inl x))) = let clash : None ≡ Some (To x.0) = sym plain ∙ ap rollback_of x.1 in absurd cc
       by a (inr (inr (inr x))) = let clash : None ≡ Some Whole = sym plain ∙ ap rollback_of x.0 in absurd cc
 
-  pub no_wait_in_rollback : (c : Call) (wait : Wait) → ForItsTxn s session (λ a. a.undo.rolling ≢ None) → CallStep g s session c (Waits wait) new → ⊥
-  no_wait_in_rollback c wait rolls h = let t = waits_in g s new session c wait h in rolls t.txn t.of t.whole
+  pub no_wait_in_rollback : (c : Call) (wait : Wait) → NeedsTxn c → ForItsTxn s session (λ a. a.undo.rolling ≢ None) → CallStep g s session c (Waits wait) new → ⊥
+  no_wait_in_rollback c wait needs rolls h = let t = waits_of g s new session c wait needs h in rolls t.0 t.1 (waits_whole g s new session c wait t.0 t.2)
 
   some_same : (x y : Rollback) → Some x ≡ Some y → x ≡ y
   some_same x y e = cc

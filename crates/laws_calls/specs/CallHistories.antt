@@ -1,6 +1,7 @@
 -- The history that calls make, and what holds of a state after it. No value keeps the history: it is spoken of as what was called and
 -- answered since an open.
-use Rattle.std.specs.Prelude.{◌≡◌, ◌<◌, ◌≤◌, ℕ, List, [], ◌++◌, All, Contains, false, length, take}
+use Rattle.std.specs.Prelude.{◌≡◌, ◌<◌, ◌≤◌, ℕ, List, [], ◌∷◌, ◌++◌, if◌then◌else◌, All, Contains, false, length, nat_eq, take}
+use Rattle.std.specs.Cmp.Lexicographic.{pointwise}
 use Rattle.std.specs.List.{AllByRecursion}
 use Rattle.shore_types.specs.declared.layout.TheConstants.{LONGEST_FRAME, MAX_TRANSACTIONS}
 use Rattle.shore_model.specs.declared.calls.Call.{Call}
@@ -14,7 +15,7 @@ use Rattle.shore_locks.specs.Orderly.{IsOrderly}
 use Rattle.shore_locks.specs.Tables.{is_waiting}
 use Rattle.shore_path.specs.Rooted.{AreRooted}
 use Rattle.laws_lives.specs.LogPrefixes.{decisions_in}
-use Rattle.laws_lives.specs.Sessions.{Sessions}
+use Rattle.laws_lives.specs.Sessions.{Sessions, in_use}
 use Rattle.laws_lives.specs.WholeLogs.{IsOpenOn}
 use Rattle.laws_room.specs.Claims.{Claimed}
 use Rattle.laws_room.specs.LogRooms.{HasLogRoom}
@@ -26,14 +27,24 @@ use Rattle.laws_calls.specs.States.{State, log_room}
 abbrev pub txn_of : Sessions → ℕ → ℕ
 txn_of s session = (s.seats session).txn
 
--- the number that a call which was answered goes under: a begin's is the one that it began
+-- the first of some transactions that has this global id, 0 if none has
+abbrev pub number_under : List ℕ → List (ℕ × List ℕ) → ℕ
+number_under global [] = 0
+number_under global (p ∷ ps) = if pointwise nat_eq p.1 global then p.0 else number_under global ps
+
+-- the transaction in the table that has it: its resolve may not be answered yet
+abbrev pub txn_under : Sessions → List ℕ → ℕ
+txn_under s global = number_under global (in_use s)
+
+-- the number that a call which was answered goes under: a begin's is the one that it began, and a resolve's the one that it decided
 abbrev pub answered_under : Sessions → ℕ → Call → ℕ
 answered_under s session call.Begin = s.next_txn
+answered_under s session (call.Resolve global asked) = txn_under s global
 answered_under s session _ = txn_of s session
 
 -- ---- what holds after it
 
--- each acknowledged decision has its Commit among the durable records, behind the base
+-- each acknowledged decision has its record among the durable ones, behind the base
 pub record IsForced (base : ℕ) (es : List Entry) (s : State) : Type 0 where
   pub least : base ≤ s.durable
   pub most : s.durable ≤ length s.log

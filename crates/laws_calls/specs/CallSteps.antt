@@ -5,7 +5,7 @@ use Rattle.std.specs.List.{list_any}
 use Rattle.std.specs.Cmp.Lexicographic.{slice_cmp}
 use Rattle.std.specs.FinMap.{entries, from_entries, get}
 use Rattle.std.specs.Ordering.{nat_cmp}
-use Rattle.shore_types.specs.Layout.{HasPage, HasSlot, HasStore}
+use Rattle.shore_types.specs.Layout.{HasGranule, HasPage, HasSlot, HasStore}
 use Rattle.shore_types.specs.Locking.{level_of}
 use Rattle.shore_types.specs.declared.faults.Fault.{Fault}
 use Rattle.shore_types.specs.declared.faults.Fault.TheVariants as fault
@@ -17,13 +17,12 @@ use Rattle.shore_types.specs.declared.locking.Granule.TheVariants as granule
 use Rattle.shore_types.specs.declared.locking.Mode.{Mode}
 use Rattle.shore_types.specs.declared.locking.Mode.TheVariants.{EX}
 use Rattle.shore_model.specs.declared.calls.Answer.{Answer}
-use Rattle.shore_model.specs.declared.calls.Answer.TheVariants.{Aborted, AreInDoubt, Began, Committed, Deleted, Got, Inserted, Locked, Prepared, Scanned, Updated}
+use Rattle.shore_model.specs.declared.calls.Answer.TheVariants.{Aborted, AreInDoubt, Began, Committed, Deleted, Got, Inserted, Locked, Prepared, Resolved, Scanned, Updated}
 use Rattle.shore_model.specs.declared.calls.Call.{Call}
 use Rattle.shore_model.specs.declared.calls.Call.TheVariants as call
-use Rattle.shore_model.specs.declared.requests.Request.{Request}
+use Rattle.shore_model.specs.declared.calls.Outcome as outcomes
 use Rattle.shore_model.specs.Modes.{is_allowed}
 use Rattle.shore_model.specs.Records.{scan_of}
-use Rattle.shore_model.specs.Requests.{held_by_all}
 use Rattle.shore_locks.specs.Grants.{released}
 use Rattle.shore_locks.specs.Tables.{is_waiting}
 use Rattle.shore_path.specs.declared.answers.Acquired.TheVariants as acquire
@@ -36,14 +35,17 @@ use Rattle.laws_room.specs.Choosing.{IsLowest}
 use Rattle.laws_room.specs.Claims.{SlotCounts}
 use Rattle.laws_lives.specs.Logged.{log_after}
 use Rattle.laws_lives.specs.SessionSteps.{AnswerAbort, AnswerCommit, AnswerPrepare, entries_by}
-use Rattle.laws_lives.specs.Sessions.{ResolvedTxn, SessionTxn, Sessions, abort_answered, commit_answered, in_prepared, locks_moved, prepare_answered, seated}
+use Rattle.laws_lives.specs.Sessions.{ResolvedTxn, SessionTxn, Sessions, abort_answered, commit_answered, in_prepared, prepare_answered, seated, txns_of}
 use Rattle.laws_lives.specs.Views.{IsAmong}
 use Rattle.shore_model.specs.declared.step.Step.{Step}
 use Rattle.shore_model.specs.declared.step.Step.TheVariants.{Done, Nothing, Refused, Waits}
 use Rattle.shore_model.specs.declared.step.Wait.{Wait}
 use Rattle.shore_model.specs.declared.step.Wait.TheVariants.{Durable, Lock}
 use Rattle.shore_model.specs.declared.rollbacks.Rollback.TheVariants.{Whole}
+use Rattle.laws_calls.specs.Prepares.{PrepareStep}
 use Rattle.laws_calls.specs.Rollbacks.{BackToStep, IsInterrupted, SavepointStep, TakesCall}
+use Rattle.laws_calls.specs.Resolves.{ResolveStep, resolve_ended}
+pub use Rattle.laws_calls.specs.StateChanges.{with_requests}
 use Rattle.laws_calls.specs.StateChanges.{CanLog, FitsAt, IsPageFault, IsShort, MayChange, after_refusal, answered, begun, committed, wait_refused}
 use Rattle.laws_calls.specs.States.{DoesNotWait, HasNoTxn, HasPrepared, IsInTxn, IsOfSession, MayBegin, State, Waiting, next_number, without_waiting}
 
@@ -68,10 +70,6 @@ on_conflict_of (call.Prepare global) = conflict.Wait
 on_conflict_of (call.Resolve global outcome) = conflict.Wait
 on_conflict_of call.InDoubt = conflict.Wait
 
--- the state with these requests in its table: the locks of the sessions are those that the requests hold
-abbrev pub with_requests : State → List Request → State
-with_requests s rs = record s { locks = record { limit = s.locks.limit; requests = rs }; sessions = locks_moved s.sessions (held_by_all rs) }
-
 -- what the table makes of the lock that a call asks for
 abbrev pub lock_outcome : State → SessionTxn → Call → Asked → Outcome
 lock_outcome s a c lock = acquired (on_conflict_of c) s.locks a.txn lock.granule lock.mode
@@ -92,13 +90,6 @@ abbrev pub HasLocked : State → SessionTxn → Call → State → Type 0
 HasLocked s a c locked = (lock : Asked) × (lock_asked_by c ≡ Some lock) × ((lock_outcome s a c lock).answer ≡ Ok acquire.Done) × (locked ≡ behind_lock s a c lock)
 
 -- ---- before the locks
-
--- the granule lies in the volume
-abbrev pub HasGranule : Geometry → Granule → Type 0
-HasGranule g granule.Volume = Unit {0}
-HasGranule g (granule.Store store) = HasStore g store
-HasGranule g (granule.Page page) = HasPage g page
-HasGranule g (granule.Record id) = HasSlot g id
 
 -- nothing refuses the call before it asks for its locks
 abbrev pub MayAsk : Geometry → Call → Type 0
@@ -267,6 +258,10 @@ CallGoesOn g s a c Nothing new = ⊥
 abbrev pub ended_among : List SessionTxn → List ResolvedTxn → List ResolvedTxn
 ended_among active rs = filter (λ r. not (list_any (λ a. a.txn == r.txn) active)) rs
 
+-- a resolve has decided this one, which is no more under way, and is not answered
+abbrev pub HasEnded : Sessions → ResolvedTxn → Type 0
+HasEnded s r = IsAmong r s.resolving × (IsAmong r.txn (txns_of s.active) → ⊥)
+
 -- the transactions in the table: those under way, and those that are decided and not answered
 abbrev pub txn_count : State → ℕ
 txn_count s = length s.sessions.active + length s.sessions.committing + length (ended_among s.sessions.active s.sessions.resolving)
@@ -331,9 +326,11 @@ InDoubtStep s (Waits wait) new = ⊥
 InDoubtStep s (Refused f) new = ⊥
 InDoubtStep s Nothing new = ⊥
 
--- a call from outside of any transaction, or of another's
-abbrev pub OutsideStep : State → Call → Step → State → Type 0
-OutsideStep s c step new = (c ≡ call.InDoubt) × InDoubtStep s step new
+-- a call that is about no transaction, or about one that is in doubt
+abbrev pub OutsideStep : State → ℕ → Call → Step → State → Type 0
+OutsideStep s session c step new =
+    ((c ≡ call.InDoubt) × InDoubtStep s step new)
+    ⊎ ((global : List ℕ) × (asked : outcomes.Outcome) × (c ≡ call.Resolve global asked) × ResolveStep s session global asked step new)
 
 -- ---- calls of a transaction
 
@@ -344,6 +341,7 @@ OpenStep g s a c step new =
     ⊎ (MayAsk g c × CallGoesOn g s a c step new)
     ⊎ ((c ≡ call.Commit) × CommitStep s a step new)
     ⊎ ((c ≡ call.Savepoint) × SavepointStep s a step new)
+    ⊎ ((global : List ℕ) × (c ≡ call.Prepare global) × PrepareStep s a global step new)
 
 -- The call of a transaction under way. Once a rollback has begun, nothing else is taken than what ends it; what needs no transaction comes to what it ever does.
 abbrev pub InnerStep : Geometry → State → SessionTxn → Call → Step → State → Type 0
@@ -363,7 +361,7 @@ CallStep g s session c step new =
     ⊎ ((s.failed ≡ false) × DoesNotWait s session × NeedsTxn c × HasNoTxn s session × (step ≡ Refused fault.NoTransaction) × (new ≡ s))
     ⊎ ((s.failed ≡ false) × DoesNotWait s session × ((a : SessionTxn) × IsOfSession s session a × InnerStep g s a c step new))
     ⊎ ((s.failed ≡ false) × DoesNotWait s session × NeedsTxn c × HasPrepared s session × (step ≡ Refused fault.IsPrepared) × (new ≡ s))
-    ⊎ ((s.failed ≡ false) × DoesNotWait s session × OutsideStep s c step new)
+    ⊎ ((s.failed ≡ false) × DoesNotWait s session × OutsideStep s session c step new)
 
 -- the commit is answered, and then its locks go
 abbrev pub commit_ended : State → SessionTxn → State
@@ -383,14 +381,16 @@ prepare_ended s session t global = record s {
   waiting = without_waiting session s.waiting;
 }
 
--- Going on with a call that waits for this. While its record is not durable, or its request still waits, nothing is done. A commit or a prepare is answered
--- then, and a call goes on from its locks as if it were made now.
+-- Going on with a call that waits for this. While its record is not durable, or its request still waits, nothing is done. A commit, a prepare or a resolve is
+-- answered then, and a call goes on from its locks as if it were made now.
 abbrev pub ResumesWait : Geometry → State → Waiting → Wait → Step → State → Type 0
 ResumesWait g s w (Durable n) step new =
     ((s.durable < n) × (step ≡ Waits (Durable n)) × (new ≡ s))
     ⊎ ((n ≤ s.durable) × (step ≡ Done Committed) × ((a : SessionTxn) × IsAmong a s.sessions.committing × (a.session ≡ w.session) × (new ≡ commit_ended s a)) × (w.call ≡ call.Commit))
     ⊎ ((n ≤ s.durable) × (step ≡ Done Prepared)
     × ((t : ℕ) × (global : List ℕ) × IsPreparing s.sessions w.session t global × (w.call ≡ call.Prepare global) × (new ≡ prepare_ended s w.session t global)))
+    ⊎ ((n ≤ s.durable) × (step ≡ Done Resolved)
+    × ((r : ResolvedTxn) × HasEnded s.sessions r × (w.call ≡ call.Resolve r.global r.outcome) × (new ≡ resolve_ended s w.session r)))
 ResumesWait g s w (Lock at) step new =
     (a : SessionTxn) × IsOfSession s w.session a
     × (((is_waiting a.txn s.locks.requests ≡ true) × (step ≡ Waits (Lock at)) × (new ≡ s))

@@ -15,10 +15,14 @@ use Rattle.shore_model.specs.Alone.{IsAbsent, record_named_by}
 use Rattle.shore_model.specs.Modes.{is_allowed}
 use Rattle.shore_model.specs.declared.calls.Call.{Call}
 use Rattle.shore_model.specs.declared.calls.Call.TheVariants as call
+use Rattle.shore_model.specs.declared.calls.Outcome.{Outcome}
+use Rattle.shore_model.specs.declared.calls.Outcome.TheVariants as outcome
 use Rattle.shore_path.specs.Acquires.{IsBlockedBy, IsFullOnPath}
 use Rattle.laws_locks.specs.CallLocks.{Asked, lock_asked_by}
-use Rattle.laws_lives.specs.Sessions.{SessionTxn}
+use Rattle.laws_lives.specs.Sessions.{IsUnused, SessionTxn}
 use Rattle.laws_calls.specs.CallSteps.{HasPlace, IsPlaceOf, ServesTxn, behind_lock, behind_place, txn_count, NeedsTxn}
+use Rattle.laws_calls.specs.Prepares.{IsGlobalId, MayPrepare}
+use Rattle.laws_calls.specs.Resolves.{IsResolvable, IsRollingBack, MayResolve}
 use Rattle.laws_calls.specs.Rollbacks.{TakesCall}
 use Rattle.laws_calls.specs.Shapes.{store_locked}
 use Rattle.laws_calls.specs.StateChanges.{CanLog, FitsAt}
@@ -105,7 +109,7 @@ LacksPlace g s session (call.Prepare global) = ⊥
 LacksPlace g s session (call.Resolve global outcome) = ⊥
 LacksPlace g s session call.InDoubt = ⊥
 
--- the sums leave no room for the ending of one more transaction, or for a change and its undo
+-- the sums leave no room for the ending of one more transaction, for a change and its undo, or for a Prepare and what may follow it
 abbrev pub LacksLog : Geometry → State → ℕ → Call → Type 0
 LacksLog g s session call.Begin = MayBegin s → ⊥
 LacksLog g s session (call.Insert store bytes) = InItsTxn s session (λ a. (id : Rid) × HasPlace g (store_locked s a store bytes) a store bytes id × (CanLog s id (Some bytes) → ⊥))
@@ -120,7 +124,7 @@ LacksLog g s session call.Savepoint = ⊥
 LacksLog g s session (call.BackTo index) = ⊥
 LacksLog g s session call.Commit = ⊥
 LacksLog g s session call.Abort = ⊥
-LacksLog g s session (call.Prepare global) = ⊥
+LacksLog g s session (call.Prepare global) = InItsTxn s session (λ a. MayPrepare s a global → ⊥)
 LacksLog g s session (call.Resolve global outcome) = ⊥
 LacksLog g s session call.InDoubt = ⊥
 
@@ -137,11 +141,15 @@ abbrev pub WouldWaitFor : State → ℕ → Call → ℕ → Type 0
 WouldWaitFor s session c holder = (at : Granule) × (mode : Mode) × (c ≡ call.TryLock at mode)
     × InItsTxn s session (λ a. IsBlockedBy (behind_lock s a c (record { granule = at; mode = mode })).locks.requests a.txn at mode holder)
 
+-- it is a resolve of this, for an outcome
+abbrev pub Resolves : Call → (List ℕ → Outcome → Type 0) → Type 0
+Resolves c P = (global : List ℕ) × (asked : Outcome) × (c ≡ call.Resolve global asked) × P global asked
+
 -- What earns a refusal of a call of a session in a state. `Memory` has its cause outside of it, and so have a device's faults; that a transaction is the victim
 -- of a cycle is told beside this.
 abbrev pub EarnsRefusal : Geometry → State → ℕ → Call → Fault → Type 0
 EarnsRefusal g s session c fault.NoTransaction = NeedsTxn c × HasNoTxn s session
-EarnsRefusal g s session c fault.AlreadyActive = (c ≡ call.Begin) × IsInTxn s session
+EarnsRefusal g s session c fault.AlreadyActive = ((c ≡ call.Begin) × IsInTxn s session) ⊎ Resolves c (λ global asked. MayResolve s session global → ⊥)
 EarnsRefusal g s session c fault.TooManyTransactions = (c ≡ call.Begin) × (MAX_TRANSACTIONS ≤ txn_count s)
 EarnsRefusal g s session c fault.NoStore = NamesOne store_of_granule c (λ store. HasStore g store → ⊥)
 EarnsRefusal g s session c fault.NoPage = NamesOne page_of_granule c (λ page. HasStore g page.store × (HasPage g page → ⊥))
@@ -152,14 +160,15 @@ EarnsRefusal g s session c fault.LogFull = LacksLog g s session c
 EarnsRefusal g s session c fault.LockTableFull = LacksNode g s session c
 EarnsRefusal g s session c fault.BadMode = (lock : Asked) × (lock_asked_by c ≡ Some lock) × IsFalse (is_allowed (level_of lock.granule) lock.mode)
 EarnsRefusal g s session c (fault.Deadlock cycle) = ⊥
-EarnsRefusal g s session c fault.MustAbort = NeedsTxn c × InItsTxn s session (λ a. TakesCall a.undo c → ⊥)
+EarnsRefusal g s session c fault.MustAbort =
+    (NeedsTxn c × InItsTxn s session (λ a. TakesCall a.undo c → ⊥)) ⊎ Resolves c (λ global asked. (asked ≡ outcome.Commit) × ((a : SessionTxn) × IsRollingBack s a global))
 EarnsRefusal g s session c fault.Busy = DoesNotWait s session → ⊥
 EarnsRefusal g s session c fault.NoSavepoint = (n : ℕ) × (c ≡ call.BackTo n) × InItsTxn s session (λ a. length a.undo.marks ≤ n)
 EarnsRefusal g s session c fault.TooManySavepoints = (c ≡ call.Savepoint) × InItsTxn s session (λ a. MAX_SAVEPOINTS ≤ length a.undo.marks)
 EarnsRefusal g s session c fault.IsPrepared = NeedsTxn c × HasPrepared s session
-EarnsRefusal g s session c fault.BadGlobalId = ⊥
-EarnsRefusal g s session c fault.GlobalIdInUse = ⊥
-EarnsRefusal g s session c fault.NoGlobalId = ⊥
+EarnsRefusal g s session c fault.BadGlobalId = (global : List ℕ) × (c ≡ call.Prepare global) × (IsGlobalId global → ⊥)
+EarnsRefusal g s session c fault.GlobalIdInUse = (global : List ℕ) × (c ≡ call.Prepare global) × (IsUnused s.sessions global → ⊥)
+EarnsRefusal g s session c fault.NoGlobalId = Resolves c (λ global asked. (a : SessionTxn) → IsResolvable s a global ⊎ IsRollingBack s a global → ⊥)
 EarnsRefusal g s session c (fault.WouldBlock holder) = WouldWaitFor s session c holder
 EarnsRefusal g s session c (fault.NeedForce number) = s.durable < number
 EarnsRefusal g s session c fault.Device = Unit {0}

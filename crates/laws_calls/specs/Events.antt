@@ -51,17 +51,17 @@ entries_of_waiting s (Some w) step = entries_of_resumed s w step
 abbrev pub entries_of_resume : State → ℕ → Step → List Entry
 entries_of_resume s session step = entries_of_waiting s (call_waiting session s.waiting) step
 
-abbrev pub entries_of : State → ManagerEvent → List Entry
-entries_of s (Called session c step) = entries_of_call s session c step
-entries_of s (Resumed session step) = entries_of_resume s session step
-entries_of s (Forced n) = []
-entries_of s HasFailed = []
+abbrev pub entries_of : State → ManagerEvent → State → List Entry
+entries_of s (Called session c step) new = entries_of_call s session c step new
+entries_of s (Resumed session step) new = entries_of_resume s session step
+entries_of s (Forced n) new = []
+entries_of s HasFailed new = []
 
 -- the events lead to the state, and make the entries
 abbrev pub MovesMaking : Geometry → State → List ManagerEvent → State → List Entry → Type 0
 MovesMaking g s [] last made = (last ≡ s) × (made ≡ [])
 MovesMaking g s (e ∷ events) last made = (new : State) × (later : List Entry)
-    × EventMoves g s e new × MovesMaking g new events last later × (made ≡ entries_of s e ++ later)
+    × EventMoves g s e new × MovesMaking g new events last later × (made ≡ entries_of s e new ++ later)
 
 -- ---- what holds after it
 

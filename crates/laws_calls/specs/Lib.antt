@@ -2,6 +2,8 @@ pub mod States
 pub mod StateChanges
 pub mod CallHistories
 pub mod Rollbacks
+pub mod Prepares
+pub mod Resolves
 pub mod CallSteps
 pub mod LockedStates
 pub mod SessionWaits
@@ -18,3 +20,4 @@ pub mod WorkedRun
 pub mod WorkedSessions
 pub mod WorkedDeadlock
 pub mod WorkedRollbacks
+pub mod WorkedPrepares

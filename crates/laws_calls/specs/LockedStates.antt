@@ -1,8 +1,6 @@
 -- What holds of the sessions of a manager and of its lock table after a history, while calls take locks.
-use Rattle.std.specs.Prelude.{◌≡◌, ◌<◌, ℕ, List, [], ◌∷◌, Ok, Err, All, false, true, length}
+use Rattle.std.specs.Prelude.{◌≡◌, ◌<◌, ℕ, List, [], ◌∷◌, ◌++◌, Ok, Err, All, false, true, length, map}
 use Rattle.shore_model.specs.declared.calls.Call.{Call}
-use Rattle.shore_model.specs.declared.calls.Call.TheVariants as call
-use Rattle.shore_model.specs.declared.histories.Decision.TheVariants as decision
 use Rattle.shore_model.specs.declared.histories.Entry.{Entry}
 use Rattle.shore_model.specs.declared.histories.Opening.{Opening}
 use Rattle.shore_model.specs.declared.histories.Entry.TheVariants.{Decided, Exchanged}
@@ -12,12 +10,12 @@ use Rattle.shore_model.specs.declared.requests.Request.{Request}
 use Rattle.shore_locks.specs.Orderly.{IsOrderly}
 use Rattle.shore_locks.specs.Tables.{is_waiting}
 use Rattle.shore_path.specs.Rooted.{AreRooted}
-use Rattle.laws_lives.specs.LogPrefixes.{LogDecides}
+use Rattle.laws_lives.specs.LogPrefixes.{LogDecides, decisions_in}
 use Rattle.laws_lives.specs.Doubts.{TracksDoubts}
 use Rattle.laws_lives.specs.LogTells.{IsLogAfter}
 use Rattle.laws_lives.specs.OwnSeats.{HasOwnSeats}
 use Rattle.laws_lives.specs.SessionSteps.{exchange}
-use Rattle.laws_lives.specs.Sessions.{SessionTxn, Sessions}
+use Rattle.laws_lives.specs.Sessions.{EachOnce, SessionTxn, Sessions, resolved_of}
 use Rattle.laws_lives.specs.Soundness.{IsSoundAfter, SessionsAgree}
 use Rattle.laws_lives.specs.Views.{IsAmong}
 use Rattle.laws_lives.specs.WholeLogs.{IsWholeLog}
@@ -30,40 +28,25 @@ use Rattle.laws_calls.specs.States.{AsksForNothing, HasSeat, State, Waiting}
 
 -- ---- entries
 
--- what the record of a call has decided that waits for it
-abbrev pub entries_decided : State → ℕ → Call → List Entry
-entries_decided s session call.Commit = Decided (decision.Commit (txn_of s.sessions session)) ∷ []
-entries_decided s session (call.Prepare global) = Decided (decision.Prepare (txn_of s.sessions session) global) ∷ []
-entries_decided s session call.Begin = []
-entries_decided s session (call.Get id) = []
-entries_decided s session (call.GetForUpdate id) = []
-entries_decided s session (call.Insert store bytes) = []
-entries_decided s session (call.Update id bytes) = []
-entries_decided s session (call.Delete id) = []
-entries_decided s session (call.Scan store) = []
-entries_decided s session (call.Lock at mode) = []
-entries_decided s session (call.TryLock at mode) = []
-entries_decided s session call.Savepoint = []
-entries_decided s session (call.BackTo index) = []
-entries_decided s session call.Abort = []
-entries_decided s session (call.Resolve global outcome) = []
-entries_decided s session call.InDoubt = []
+-- what is decided by the records that a step has appended
+abbrev pub decisions_made : State → State → List Entry
+decisions_made s new = map Decided (decisions_in (length s.log) new.log)
 
--- what a wait adds: the decision of its call, and nothing for a lock
-abbrev pub entries_of_wait : State → ℕ → Call → Wait → List Entry
-entries_of_wait s session c (Durable n) = entries_decided s session c
-entries_of_wait s session c (Lock at) = []
+-- what a wait adds: what its call has decided, and nothing for a lock
+abbrev pub entries_of_wait : State → State → Wait → List Entry
+entries_of_wait s new (Durable n) = decisions_made s new
+entries_of_wait s new (Lock at) = []
 
--- what a call of a session adds to the history
-abbrev pub entries_of_call : State → ℕ → Call → Step → List Entry
-entries_of_call s session c (Done answer) = Exchanged session (answered_under s.sessions session c) (exchange c (Ok answer)) ∷ []
-entries_of_call s session c (Refused fault) = Exchanged session (txn_of s.sessions session) (exchange c (Err fault)) ∷ []
-entries_of_call s session c (Waits wait) = entries_of_wait s session c wait
-entries_of_call s session c Nothing = []
+-- What a call of a session adds to the history: its reply, or what it has decided and waits for; a resolve that is interrupted may have decided to roll back.
+abbrev pub entries_of_call : State → ℕ → Call → Step → State → List Entry
+entries_of_call s session c (Done answer) new = Exchanged session (answered_under s.sessions session c) (exchange c (Ok answer)) ∷ []
+entries_of_call s session c (Refused fault) new = decisions_made s new ++ Exchanged session (txn_of new.sessions session) (exchange c (Err fault)) ∷ []
+entries_of_call s session c (Waits wait) new = entries_of_wait s new wait
+entries_of_call s session c Nothing new = []
 
 -- what a call adds that goes on
 abbrev pub entries_of_resumed : State → Waiting → Step → List Entry
-entries_of_resumed s w (Done answer) = Exchanged w.session (txn_of s.sessions w.session) (exchange w.call (Ok answer)) ∷ []
+entries_of_resumed s w (Done answer) = Exchanged w.session (answered_under s.sessions w.session w.call) (exchange w.call (Ok answer)) ∷ []
 entries_of_resumed s w (Refused fault) = Exchanged w.session (txn_of s.sessions w.session) (exchange w.call (Err fault)) ∷ []
 entries_of_resumed s w (Waits wait) = []
 entries_of_resumed s w Nothing = []
@@ -93,4 +76,6 @@ pub record IsSessionsState (o : Opening) (found : List LogRecord) (es : List Ent
   pub whole : IsWholeLog s.log s.sessions
   pub doubts : TracksDoubts s.log s.sessions
   pub decides : LogDecides (length found) o es s.log
+  -- no transaction is decided by two resolves
+  pub single : EachOnce (resolved_of s.sessions)
   pub locks : HasTrueLocks s

@@ -1,31 +1,37 @@
 -- What the calls of sessions wait for, and what is forced, beside their history.
-use Rattle.std.specs.Prelude.{◌≡◌, ◌<◌, ◌≤◌, ◌⊎◌, ℕ, List, None, Some, Contains, false, length, slice_get, take}
+use Rattle.std.specs.Prelude.{◌≡◌, ◌≢◌, ◌<◌, ◌≤◌, ◌⊎◌, ℕ, List, None, Some, Contains, false, length, slice_get, take}
 use Rattle.shore_types.specs.declared.locking.Granule.{Granule}
 use Rattle.shore_model.specs.declared.histories.Decision.{Decision}
 use Rattle.shore_model.specs.declared.histories.Decision.TheVariants as decision
 use Rattle.shore_model.specs.declared.calls.Call.{Call}
 use Rattle.shore_model.specs.declared.calls.Call.TheVariants as call
+use Rattle.shore_model.specs.declared.calls.Outcome.{Outcome}
 use Rattle.shore_model.specs.declared.requests.Request.{Request}
 use Rattle.shore_model.specs.Locks.{path}
 use Rattle.shore_locks.specs.Grants.{wanted_mode}
 use Rattle.shore_locks.specs.Tables.{waiting_request}
 use Rattle.shore_path.specs.Walks.{asked_of}
 use Rattle.laws_locks.specs.CallLocks.{Asked, lock_asked_by}
-use Rattle.laws_lives.specs.LogPrefixes.{decisions_in}
-use Rattle.laws_lives.specs.Sessions.{PreparedTxn, SessionTxn, Sessions, in_prepared}
+use Rattle.laws_lives.specs.LogPrefixes.{decision_asked, decisions_in}
+use Rattle.laws_lives.specs.Sessions.{PreparedTxn, ResolvedTxn, SessionTxn, Sessions, in_prepared, in_txn}
 use Rattle.laws_lives.specs.Views.{IsAmong}
 use Rattle.shore_model.specs.declared.step.Wait.TheVariants.{Lock}
-use Rattle.laws_calls.specs.CallSteps.{IsPreparing}
+use Rattle.laws_calls.specs.CallSteps.{HasEnded, IsPreparing}
 use Rattle.laws_calls.specs.StateChanges.{decision_waiting}
 use Rattle.laws_calls.specs.States.{HasSeat, IsOfSession, State, Waiting}
 
--- a commit or a prepare has decided this, and is not answered
+-- the session is in no transaction, or in one that is prepared
+abbrev pub IsNotUnderWay : Sessions → ℕ → Type 0
+IsNotUnderWay s session = (t : ℕ) → 0 < t → s.seats session ≢ in_txn t
+
+-- a commit, a prepare or a resolve has decided this, and is not answered
 abbrev pub IsUnanswered : Sessions → ℕ → Call → Decision → Type 0
 IsUnanswered s session c d =
     ((a : SessionTxn) × IsAmong a s.committing × (a.session ≡ session) × (c ≡ call.Commit) × (d ≡ decision.Commit a.txn))
     ⊎ ((t : ℕ) × (global : List ℕ) × IsPreparing s session t global × (c ≡ call.Prepare global) × (d ≡ decision.Prepare t global))
+    ⊎ ((r : ResolvedTxn) × HasEnded s r × (c ≡ call.Resolve r.global r.outcome) × (d ≡ decision_asked r.txn r.outcome) × IsNotUnderWay s session)
 
--- a commit or a prepare waits for its record, which the log has
+-- it waits for its record, which the log has
 pub record IsDecisionWait (base : ℕ) (s : State) (w : Waiting) : Type 0 where
   pub number : ℕ
   pub decision : Decision
@@ -47,14 +53,18 @@ pub record IsLockWait (s : State) (w : Waiting) : Type 0 where
   pub lock : Asked
   pub asked : lock_asked_by w.call ≡ Some lock
 
--- Each call that waits is a commit, a prepare, or a call that asks for a lock, a session waits with one, and as long as no device has failed each transaction
--- that is committed or prepared, and not answered, has such a call.
+-- Each call that waits is a commit, a prepare, a resolve, or a call that asks for a lock, a session waits with one, and as long as no device has failed each
+-- transaction that is committed, prepared or resolved, and not answered, has such a call; a resolved one has no two.
 pub record WaitsOfSessions (base : ℕ) (s : State) : Type 0 where
   pub each : (w : Waiting) → IsAmong w s.waiting → IsDecisionWait base s w ⊎ IsLockWait s w
   pub once : (v w : Waiting) → IsAmong v s.waiting → IsAmong w s.waiting → v.session ≡ w.session → v ≡ w
   pub all : s.failed ≡ false → (a : SessionTxn) → IsAmong a s.sessions.committing → (n : ℕ) × IsAmong (decision_waiting a.session call.Commit n) s.waiting
   pub prepares : s.failed ≡ false → (p : PreparedTxn) → IsAmong p s.sessions.prepared → p.answered ≡ false
       → (session : ℕ) × (n : ℕ) × IsAmong (decision_waiting session (call.Prepare p.global) n) s.waiting × (s.sessions.seats session ≡ in_prepared p.txn)
+  pub resolves : s.failed ≡ false → (r : ResolvedTxn) → HasEnded s.sessions r
+      → (session : ℕ) × (n : ℕ) × IsAmong (decision_waiting session (call.Resolve r.global r.outcome) n) s.waiting
+  pub resolve_once : (v w : Waiting) (global : List ℕ) (x y : Outcome) → IsAmong v s.waiting → IsAmong w s.waiting
+      → v.call ≡ call.Resolve global x → w.call ≡ call.Resolve global y → v ≡ w
 
 -- a request at a granule on the path to a call's lock, for the mode that the call asks there, joined to the one held
 pub record IsItsRequest (c : Call) (at : Granule) (r : Request) : Type 0 where

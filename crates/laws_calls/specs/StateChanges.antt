@@ -9,12 +9,14 @@ use Rattle.shore_model.specs.declared.calls.Answer.{Answer}
 use Rattle.shore_model.specs.declared.calls.Call.{Call}
 use Rattle.shore_model.specs.declared.calls.Call.TheVariants as call
 use Rattle.shore_model.specs.declared.log_records.Payload.TheVariants as payload
+use Rattle.shore_model.specs.declared.requests.Request.{Request}
+use Rattle.shore_model.specs.Requests.{held_by_all}
 use Rattle.shore_model.specs.declared.step.Step.{Step}
 use Rattle.shore_model.specs.declared.step.Step.TheVariants.{Done, Waits, Refused, Nothing}
 use Rattle.shore_model.specs.declared.step.Wait.TheVariants.{Durable}
 use Rattle.laws_lives.specs.Logged.{and_record, log_after_answer}
 use Rattle.laws_lives.specs.SessionSteps.{BeginTxn, entries_by}
-use Rattle.laws_lives.specs.Sessions.{SessionTxn, commit_appended, reply_given, seated, txn_begun}
+use Rattle.laws_lives.specs.Sessions.{SessionTxn, commit_appended, locks_moved, reply_given, seated, txn_begun}
 use Rattle.laws_room.specs.Claims.{SlotCounts, Grows}
 use Rattle.laws_calls.specs.States.{State, Waiting, next_number, without_waiting, log_room, page_slots}
 use Rattle.shore_types.specs.declared.faults.Device.TheVariants.{Volume}
@@ -36,6 +38,10 @@ abbrev pub after_refusal : Fault → State → State
 after_refusal fault.Device s = with_failure s
 after_refusal (fault.Damaged device place) s = with_failure s
 after_refusal _ s = s
+
+-- the state with these requests in its table: the locks of the sessions are those that the requests hold
+abbrev pub with_requests : State → List Request → State
+with_requests s rs = record s { locks = record { limit = s.locks.limit; requests = rs }; sessions = locks_moved s.sessions (held_by_all rs) }
 
 -- a call of a transaction under way has its answer, and what it changed is in place, in the undo list, and logged
 abbrev pub answered : State → SessionTxn → Call → Answer → SlotCounts → State

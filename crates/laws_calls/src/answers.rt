@@ -3,7 +3,7 @@ ghost use Rattle.std.specs.Prelude.{◌≡◌, ◌≢◌, ◌≤◌, ℕ, IsSome
 ghost use Rattle.std.specs.Cmp.Lexicographic.{slice_cmp};
 ghost use Rattle.std.specs.FinMap.{get, is_sorted};
 ghost use Rattle.std.specs.Ordering.{nat_cmp};
-ghost use Rattle.shore_types.specs.Layout.{HasPage, HasStore, HasSlot};
+ghost use Rattle.shore_types.specs.Layout.{HasGranule, HasPage, HasSlot, HasStore};
 ghost use Rattle.shore_types.specs.declared.ids.Rid.{Rid};
 ghost use Rattle.shore_types.specs.declared.layout.Geometry.{Geometry};
 ghost use Rattle.shore_types.specs.declared.layout.TheConstants.{MAX_RECORD_BYTES, MAX_TRANSACTIONS};
@@ -25,7 +25,7 @@ ghost use Rattle.laws_lives.specs.Views.{IsAmong};
 ghost use Rattle.shore_model.specs.declared.step.Step.TheVariants.{Done};
 ghost use Rattle.shore_model.specs.declared.step.Wait.TheVariants.{Lock};
 ghost use Rattle.laws_calls.specs.StateChanges.{CanLog, FitsAt};
-ghost use Rattle.laws_calls.specs.CallSteps.{ServesTxn, CallStep, HasGranule, NeedsTxn, lock_outcome, place_outcome, txn_count};
+ghost use Rattle.laws_calls.specs.CallSteps.{ServesTxn, CallStep, NeedsTxn, lock_outcome, place_outcome, txn_count};
 ghost use Rattle.laws_calls.specs.States.{State, Waiting, HasNoTxn, IsInTxn, MayBegin};
 ghost use Rattle.shore_types.specs.Locking.{level_of};
 ghost use Rattle.shore_types.specs.declared.locking.Granule.TheVariants.{Record};

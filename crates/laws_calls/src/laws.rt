@@ -11,14 +11,14 @@ ghost use Rattle.shore_types.specs.declared.ids.Rid.{Rid};
 ghost use Rattle.shore_types.specs.declared.layout.Geometry.{Geometry};
 ghost use Rattle.shore_types.specs.declared.layout.TheConstants.{LAST_OPENED, LONGEST_FRAME, MAX_LOG_BYTES, MAX_RECORD_BYTES};
 ghost use Rattle.shore_model.specs.declared.calls.Answer.{Answer};
-ghost use Rattle.shore_model.specs.declared.calls.Answer.TheVariants.{Aborted, Committed, Prepared};
+ghost use Rattle.shore_model.specs.declared.calls.Answer.TheVariants.{Aborted, Committed, Prepared, Resolved};
 ghost use Rattle.shore_model.specs.declared.calls.Call.{Call};
-ghost use Rattle.shore_model.specs.declared.calls.Call.TheVariants.{Abort, Commit};
+ghost use Rattle.shore_model.specs.declared.calls.Call.TheVariants.{Abort, Commit, Prepare, Resolve};
 ghost use Rattle.shore_model.specs.declared.histories.Decision.TheVariants as decision;
 ghost use Rattle.shore_model.specs.declared.histories.Entry.{Entry};
 ghost use Rattle.shore_model.specs.declared.histories.Opening.{Opening};
 ghost use Rattle.shore_model.specs.declared.log_records.LogRecord.{LogRecord};
-ghost use Rattle.shore_model.specs.Histories.{IsHistory, Kept, RunsAloneAfter, Sound, acknowledged, decisions, in_doubt, serial, shown};
+ghost use Rattle.shore_model.specs.Histories.{IsHistory, Kept, RunsAloneAfter, Sound, acknowledged, decision_asked_by, decisions, in_doubt, serial, shown};
 ghost use Rattle.shore_model.specs.Lives.{next_opening};
 ghost use Rattle.shore_model.specs.Logs.{records_told};
 ghost use Rattle.shore_model.specs.Locks.{Harmony, WellRooted};
@@ -37,7 +37,7 @@ ghost use Rattle.shore_model.specs.declared.step.Step.{Step};
 ghost use Rattle.shore_model.specs.declared.step.Step.TheVariants.{Done, Refused, Waits};
 ghost use Rattle.shore_model.specs.declared.step.Wait.{Wait};
 ghost use Rattle.shore_model.specs.declared.step.Wait.TheVariants.{Durable};
-ghost use Rattle.laws_calls.specs.CallHistories.{IsOpened, IsPrefix, IsRoomyState, KeepsDurable, txn_of};
+ghost use Rattle.laws_calls.specs.CallHistories.{IsOpened, IsPrefix, IsRoomyState, KeepsDurable, txn_of, txn_under};
 ghost use Rattle.laws_calls.specs.Events.{IsStateAfter, ManagerEvent, EventMoves, EventsMove, MovesMaking, entries_of_resume};
 ghost use Rattle.laws_calls.specs.StateChanges.{with_durable, with_failure};
 ghost use Rattle.laws_calls.specs.LockChanges.{TakesAsAsked};
@@ -45,6 +45,10 @@ ghost use Rattle.laws_calls.specs.CallSteps.{ResumesCall, CallStep, ResumeStep};
 ghost use Rattle.laws_calls.specs.LockedStates.{entries_of_call};
 ghost use Rattle.laws_calls.specs.States.{DoesNotWait, HasSeat, IsOfSession, State, Waiting, cost_of_log, log_room, next_number};
 ghost use Rattle.laws_calls.specs.WorkedRun.{first_id, first_page, one_insert, opened_empty};
+ghost use Rattle.shore_model.specs.declared.calls.Outcome.TheVariants as outcome;
+ghost use Rattle.laws_calls.specs.Resolves.{IsRollingBack, rollback_number};
+ghost use Rattle.laws_calls.specs.Shapes.{ResolvesTxn, IsNoRefusal};
+ghost use Rattle.shore_model.specs.declared.calls.Outcome.{Outcome};
 
 /// What an open leaves is a state after no entries.
 pub fn open_begins_a_state()
@@ -54,7 +58,7 @@ pub fn open_begins_a_state()
 /// Each call of each session, whatever it comes to, goes on with the history: what waits and what is forced stay true as well.
 pub fn calls_keep_state()
     ensures { (g : Geometry) (o : Opening) (found : List LogRecord) (es : List Entry) (old new : State) (session : ℕ) (c : Call) (step : Step) → IsStateAfter o found es old →
-        CallStep g old session c step new → IsStateAfter o found (es ++ entries_of_call old session c step) new }
+        CallStep g old session c step new → IsStateAfter o found (es ++ entries_of_call old session c step new) new }
 {}
 
 /// So does each resume.
@@ -98,8 +102,8 @@ pub fn crash_keeps_acknowledged_commits()
 {}
 
 /// The log tells the serial records of all decisions, and with the changes of those in doubt what the decisions show. Those are in doubt whom the decisions
-/// leave so. A call that is answered, refused or waits for a lock adds nothing to what it tells, a rollback neither,
-/// and a Commit what its transaction has written, which is what stands at those ids while no rollback of it is under way. If nobody is under way, all that is
+/// leave so. A call that is answered, refused or waits for a lock adds nothing to what it tells, nor does one that asks for no commit, and a Commit,
+/// a resolve's too, what its transaction has written, which is what stands at those ids while no rollback of it is under way. If nobody is under way, all that is
 /// in place is told.
 pub fn log_tells_what_is_decided()
     ensures decided { (o : Opening) (found : List LogRecord) (es : List Entry) (s : State) →
@@ -111,12 +115,16 @@ pub fn log_tells_what_is_decided()
     ensures in_place { (o : Opening) (found : List LogRecord) (es : List Entry) (s : State) →
         IsStateAfter o found es s → s.sessions.active ≡ [] → s.sessions.records ≡ records_committed s.log }
     ensures call { (g : Geometry) (o : Opening) (found : List LogRecord) (es : List Entry) (old new : State) (session : ℕ) (c : Call) (step : Step) → IsStateAfter o found es old
-        → CallStep g old session c step new → ((n : ℕ) → step ≢ Waits (Durable n)) → records_committed new.log ≡ records_committed old.log }
+        → CallStep g old session c step new → ((n : ℕ) → step ≢ Waits (Durable n)) ⊎ ((t : ℕ) → decision_asked_by t c ≢ Some (decision.Commit t))
+        → records_committed new.log ≡ records_committed old.log }
     ensures resume { (g : Geometry) (o : Opening) (found : List LogRecord) (es : List Entry) (old new : State) (session : ℕ) (step : Step) → IsStateAfter o found es old
         → ResumeStep g old session step new → records_committed new.log ≡ records_committed old.log }
-    ensures commit { (g : Geometry) (o : Opening) (found : List LogRecord) (es : List Entry) (old new : State) (session n : ℕ) (c : Call) → IsStateAfter o found es old
-        → CallStep g old session c (Waits (Durable n)) new
+    ensures commit { (g : Geometry) (o : Opening) (found : List LogRecord) (es : List Entry) (old new : State) (session n : ℕ) → IsStateAfter o found es old
+        → CallStep g old session Commit (Waits (Durable n)) new
         → records_committed new.log ≡ overlay (records_committed old.log) (written_by o es (txn_of old.sessions session)) }
+    ensures resolve { (g : Geometry) (o : Opening) (found : List LogRecord) (es : List Entry) (old new : State) (session n : ℕ) (global : List ℕ) → IsStateAfter o found es old
+        → CallStep g old session (Resolve global outcome.Commit) (Waits (Durable n)) new
+        → records_committed new.log ≡ overlay (records_committed old.log) (written_by o es (txn_under old.sessions global)) }
     ensures own { (o : Opening) (found : List LogRecord) (es : List Entry) (s : State) (a : SessionTxn) (id : Rid) → IsStateAfter o found es s → IsAmong a s.sessions.active
         → a.undo.rolling ≡ None → IsSome (get (written_by o es a.txn) id)
         → get s.sessions.records id ≡ get (overlay (records_committed s.log) (written_by o es a.txn)) id }
@@ -143,12 +151,13 @@ pub fn calls_keep_room()
         → length found + (log_room s).reserved < LAST_OPENED → s.stream_bytes ≤ MAX_LOG_BYTES → IsRoomyState s }
 {}
 
-/// A call that comes to a wait waits, a commit for its own record. It waits no more once it is answered or refused. A device that fails, and a page that
+/// A call that comes to a wait waits: a commit, a prepare or a resolve for its own record, which an interrupted resolve may have appended before. It waits no more once it is answered or refused. A device that fails, and a page that
 /// is damaged, fail the state, and then all is refused.
 pub fn waits_end_and_faults_fail()
     ensures begin { (g : Geometry) (s new : State) (session : ℕ) (c : Call) (wait : Wait) →
         CallStep g s session c (Waits wait) new → IsAmong (record { session = session; call = c; wait = wait; cycle = None }) new.waiting }
-    ensures number { (g : Geometry) (s new : State) (session n : ℕ) (c : Call) → CallStep g s session c (Waits (Durable n)) new → n ≡ next_number s }
+    ensures number { (g : Geometry) (s new : State) (session n : ℕ) (c : Call) → CallStep g s session c (Waits (Durable n)) new →
+        (n ≡ next_number s) ⊎ ((a : SessionTxn) × (global : List ℕ) × (c ≡ Resolve global outcome.Abort) × IsRollingBack s a global × (n ≡ rollback_number a.txn s.log)) }
     ensures still { (g : Geometry) (s new : State) (session : ℕ) (wait : Wait) → ResumeStep g s session (Waits wait) new →
         (w : Waiting) × IsAmong w new.waiting × (w.session ≡ session) × (w.wait ≡ wait) }
     ensures told { (g : Geometry) (s new : State) (session : ℕ) (answer : Answer) → ResumeStep g s session (Done answer) new → DoesNotWait new session }
@@ -177,13 +186,14 @@ pub fn locks_stay_in_harmony()
 
 /// Locks are taken only as calls ask: by a call of a session, and going on with it, the requests of every other transaction stay or are granted, the own ones
 /// grow along the path to the granule that is asked for, an insert's to its place too, and nobody's become weaker. A commit keeps all of its locks until
-/// its answer, and has none after it; so does an abort, however often it is interrupted. The answer of a prepare leaves all locks.
+/// its answer, and has none after it; so does an abort, however often it is interrupted. A prepare and its answer leave all locks. A resolve gives those of its transaction
+/// back as its decision to commit is logged, or its rollback has ended, and its answer leaves all.
 pub fn locks_change_as_asked()
     ensures calls { (g : Geometry) (o : Opening) (found : List LogRecord) (es : List Entry) (old new : State) (session : ℕ) (c : Call) (step : Step) → IsStateAfter o found es old
         → CallStep g old session c step new → ((new.locks.requests ≡ old.locks.requests)
         ⊎ ((a : SessionTxn) × IsOfSession old session a × TakesAsAsked old.locks.requests a.txn c new.locks.requests))
-        ⊎ ((c ≡ Abort) × (step ≡ Done Aborted) × ((a : SessionTxn) × IsOfSession old session a
-        × (new.locks.requests ≡ released a.txn old.locks.requests))) }
+        ⊎ (((c ≡ Abort) × (step ≡ Done Aborted) × ((a : SessionTxn) × IsOfSession old session a × (new.locks.requests ≡ released a.txn old.locks.requests)))
+        ⊎ ((a : SessionTxn) × ResolvesTxn old c a × IsNoRefusal step × (new.locks.requests ≡ released a.txn old.locks.requests))) }
     ensures resumes { (g : Geometry) (o : Opening) (found : List LogRecord) (es : List Entry) (old new : State) (w : Waiting) (step : Step) → IsStateAfter o found es old
         → ResumesCall g old w step new → ((new.locks.requests ≡ old.locks.requests)
         ⊎ ((a : SessionTxn) × IsOfSession old w.session a × TakesAsAsked old.locks.requests a.txn w.call new.locks.requests))
@@ -196,6 +206,12 @@ pub fn locks_change_as_asked()
         × All (λ h. h.txn ≢ txn_of old.sessions w.session) new.sessions.held }
     ensures told_prepare { (g : Geometry) (old new : State) (w : Waiting) (n : ℕ) → w.wait ≡ Durable n → ResumesCall g old w (Done Prepared) new
         → (new.locks.requests ≡ old.locks.requests) × (new.sessions.held ≡ old.sessions.held) }
+    ensures prepare { (g : Geometry) (old new : State) (session : ℕ) (global : List ℕ) (step : Step) → CallStep g old session (Prepare global) step new → new.locks ≡ old.locks }
+    ensures told_resolve { (g : Geometry) (old new : State) (w : Waiting) (n : ℕ) → w.wait ≡ Durable n → ResumesCall g old w (Done Resolved) new
+        → (new.locks.requests ≡ old.locks.requests) × (new.sessions.held ≡ old.sessions.held) }
+    ensures resolve { (g : Geometry) (o : Opening) (found : List LogRecord) (es : List Entry) (old new : State) (session : ℕ) (global : List ℕ) (asked : Outcome) (step : Step) → IsStateAfter o found es old
+        → IsNoRefusal step → CallStep g old session (Resolve global asked) step new → (new.locks.requests ≡ released (txn_under old.sessions global) old.locks.requests)
+        × All (λ h. h.txn ≢ txn_under old.sessions global) new.sessions.held }
     ensures told_abort { (g : Geometry) (o : Opening) (found : List LogRecord) (es : List Entry) (old new : State) (session : ℕ) (answer : Answer) → IsStateAfter o found es old
         → CallStep g old session Abort (Done answer) new → (new.locks.requests ≡ released (txn_of old.sessions session) old.locks.requests)
         × All (λ h. h.txn ≢ txn_of old.sessions session) new.sessions.held }

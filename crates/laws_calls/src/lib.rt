@@ -5,6 +5,7 @@ pub mod answers;
 pub mod cycles;
 pub mod laws;
 pub mod locks;
+pub mod prepares;
 pub mod progress;
 pub mod refusals;
 pub mod rollbacks;

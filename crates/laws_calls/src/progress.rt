@@ -6,7 +6,6 @@ ghost use Rattle.shore_types.specs.declared.layout.Geometry.{Geometry};
 ghost use Rattle.shore_types.specs.declared.layout.TheConstants.{MAX_RECORD_BYTES};
 ghost use Rattle.shore_types.specs.declared.locking.Granule.{Granule};
 ghost use Rattle.shore_model.specs.declared.calls.Call.{Call};
-ghost use Rattle.shore_model.specs.declared.calls.Call.TheVariants.{InDoubt};
 ghost use Rattle.shore_model.specs.declared.histories.Entry.{Entry};
 ghost use Rattle.shore_model.specs.declared.histories.Opening.{Opening};
 ghost use Rattle.shore_model.specs.declared.log_records.LogRecord.{LogRecord};
@@ -16,7 +15,6 @@ ghost use Rattle.shore_model.specs.declared.step.Step.TheVariants.{Refused};
 ghost use Rattle.shore_model.specs.declared.step.Wait.TheVariants.{Lock};
 ghost use Rattle.laws_calls.specs.CallHistories.{IsOpened, IsRoomyState};
 ghost use Rattle.laws_calls.specs.Events.{IsStateAfter, ManagerEvent, EventsMove, MovesMaking};
-ghost use Rattle.shore_model.specs.Calls.{IsServed};
 ghost use Rattle.laws_calls.specs.StateChanges.{ComesOfState, wait_refused};
 ghost use Rattle.laws_calls.specs.CallSteps.{CallStep, ResumeStep, MayAsk};
 ghost use Rattle.laws_calls.specs.States.{State, Waiting};
@@ -28,13 +26,10 @@ ghost use Rattle.laws_calls.specs.Shapes.{ForItsTxn, LockWaitsMayAsk, rollback_o
 ghost use Rattle.laws_calls.specs.Victims.{TellsVictim};
 ghost use Rattle.laws_lives.specs.Soundness.{opening_with};
 
-/// The refusals and their order leave no gap: each call that is served comes to an answer, a wait, or a refusal that comes of the state alone; and so does
-/// a question who is in doubt.
+/// The refusals and their order leave no gap: each call comes to an answer, a wait, or a refusal that comes of the state alone.
 pub fn calls_come_to_something()
-    ensures served { (g : Geometry) (o : Opening) (found : List LogRecord) (es : List Entry) (s : State) (session : ℕ) (c : Call) → IsServed c
-        → IsStateAfter o found es s → IsRoomyState s → (step : Step) × (new : State) × CallStep g s session c step new × ComesOfState step }
-    ensures in_doubt { (g : Geometry) (o : Opening) (found : List LogRecord) (es : List Entry) (s : State) (session : ℕ) →
-        IsStateAfter o found es s → IsRoomyState s → (step : Step) × (new : State) × CallStep g s session InDoubt step new × ComesOfState step }
+    ensures { (g : Geometry) (o : Opening) (found : List LogRecord) (es : List Entry) (s : State) (session : ℕ) (c : Call) →
+        IsStateAfter o found es s → IsRoomyState s → (step : Step) × (new : State) × CallStep g s session c step new × ComesOfState step }
 {}
 
 /// So does each resume, of a commit, of a call that waits for a lock, or of a victim's.

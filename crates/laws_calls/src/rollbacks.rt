@@ -11,7 +11,7 @@ ghost use Rattle.shore_types.specs.declared.layout.TheConstants.{MAX_RECORD_BYTE
 ghost use Rattle.shore_model.specs.declared.calls.Answer.{Answer};
 ghost use Rattle.shore_model.specs.declared.calls.Answer.TheVariants.{Aborted, Saved, WentBack};
 ghost use Rattle.shore_model.specs.declared.calls.Call.{Call};
-ghost use Rattle.shore_model.specs.declared.calls.Call.TheVariants.{Abort, BackTo, Savepoint};
+ghost use Rattle.shore_model.specs.declared.calls.Call.TheVariants.{Abort, BackTo, Savepoint, Resolve};
 ghost use Rattle.shore_model.specs.declared.histories.Decision.TheVariants as decision;
 ghost use Rattle.shore_model.specs.declared.histories.Entry.{Entry};
 ghost use Rattle.shore_model.specs.declared.histories.Opening.{Opening};
@@ -32,19 +32,23 @@ ghost use Rattle.laws_calls.specs.CallHistories.{IsOpened};
 ghost use Rattle.laws_calls.specs.CallSteps.{CallStep, NeedsTxn, aborted};
 ghost use Rattle.laws_calls.specs.Events.{MovesMaking};
 ghost use Rattle.laws_calls.specs.LockedStates.{IsSessionsState};
-ghost use Rattle.laws_calls.specs.Rollbacks.{Interrupts, IsUnwound, put_back, rolled};
+ghost use Rattle.laws_calls.specs.Rollbacks.{Interrupts, IsUnwound, put_back, rolled, IsInterrupted};
 ghost use Rattle.laws_calls.specs.Shapes.{ForItsTxn, IsLackOfRoom, StopsAborts, rollback_of};
 ghost use Rattle.laws_calls.specs.StateChanges.{after_refusal, answered};
 ghost use Rattle.laws_calls.specs.States.{HasNoTxn, IsOfSession, State};
 ghost use Rattle.laws_calls.specs.WorkedRollbacks.{abort_twice, back_and_commit};
 ghost use Rattle.laws_calls.specs.WorkedRun.{first_id, first_page, opened_empty};
 ghost use Rattle.laws_lives.specs.Soundness.{opening_with};
+ghost use Rattle.shore_model.specs.declared.calls.Outcome.{Outcome};
+ghost use Rattle.laws_calls.specs.Resolves.{DecidesRollback, rollback_done};
 
-/// Undo is never refused: neither an abort nor a way back for lack of room on a page or in the log, or by the lock table. An abort is refused by nothing of
+/// Undo is never refused: neither an abort, nor a way back, nor a resolve, either way, for lack of room on a page or in the log, or by the lock table. An abort is refused by nothing of
 /// its transaction, only by what interrupts it.
 pub fn undo_is_never_refused()
     ensures room { (g : Geometry) (s new : State) (session : ℕ) (c : Call) (r : Rollback) (f : Fault) →
         rollback_of c ≡ Some r → IsLackOfRoom f → CallStep g s session c (Refused f) new → ⊥ }
+    ensures resolve { (g : Geometry) (s new : State) (session : ℕ) (global : List ℕ) (asked : Outcome) (f : Fault) →
+        IsLackOfRoom f → CallStep g s session (Resolve global asked) (Refused f) new → ⊥ }
     ensures abort { (g : Geometry) (s new : State) (session : ℕ) (f : Fault) → CallStep g s session Abort (Refused f) new → StopsAborts f }
     ensures must_abort { (g : Geometry) (s new : State) (session : ℕ) → CallStep g s session Abort (Refused MustAbort) new → ⊥ }
     ensures no_savepoint { (g : Geometry) (s new : State) (session : ℕ) → CallStep g s session Abort (Refused NoSavepoint) new → ⊥ }
@@ -54,7 +58,7 @@ pub fn undo_is_never_refused()
 /// savepoints, or of a savepoint that is there.
 pub fn refusals_of_rollbacks_have_their_causes()
     ensures must_abort_though_whole { (g : Geometry) (s new : State) (session : ℕ) (c : Call) →
-        ForItsTxn s session (λ a. a.undo.rolling ≡ None) → CallStep g s session c (Refused MustAbort) new → ⊥ }
+        NeedsTxn c → ForItsTxn s session (λ a. a.undo.rolling ≡ None) → CallStep g s session c (Refused MustAbort) new → ⊥ }
     ensures must_abort_though_same_way { (g : Geometry) (s new : State) (session n : ℕ) →
         ForItsTxn s session (λ a. a.undo.rolling ≡ Some (To n)) → CallStep g s session (BackTo n) (Refused MustAbort) new → ⊥ }
     ensures too_many_below { (g : Geometry) (s new : State) (session : ℕ) (c : Call) →
@@ -67,7 +71,7 @@ pub fn refusals_of_rollbacks_have_their_causes()
 pub fn rollbacks_go_on_alone()
     ensures answered { (g : Geometry) (s new : State) (session : ℕ) (c : Call) (answer : Answer) → NeedsTxn c → rollback_of c ≡ None →
         ForItsTxn s session (λ a. a.undo.rolling ≢ None) → CallStep g s session c (Done answer) new → ⊥ }
-    ensures waits { (g : Geometry) (s new : State) (session : ℕ) (c : Call) (wait : Wait) →
+    ensures waits { (g : Geometry) (s new : State) (session : ℕ) (c : Call) (wait : Wait) → NeedsTxn c →
         ForItsTxn s session (λ a. a.undo.rolling ≢ None) → CallStep g s session c (Waits wait) new → ⊥ }
     ensures other_way { (g : Geometry) (s new : State) (session n : ℕ) (r : Rollback) (answer : Answer) → r ≢ To n →
         ForItsTxn s session (λ a. a.undo.rolling ≡ Some r) → CallStep g s session (BackTo n) (Done answer) new → ⊥ }
@@ -104,11 +108,13 @@ pub fn wrong_rollbacks_do_not_come()
 {}
 
 /// A rollback that is refused was refused before it began, and left all as it was; or it was interrupted, and has put back the newest of its images, or none,
-/// and logged them.
+/// and logged them; a resolve has logged its decision before.
 pub fn interrupted_rollbacks_keep_their_steps()
-    ensures { (g : Geometry) (s new : State) (session : ℕ) (c : Call) (r : Rollback) (f : Fault) →
-        rollback_of c ≡ Some r → CallStep g s session c (Refused f) new →
+    ensures call { (g : Geometry) (s new : State) (session : ℕ) (c : Call) (r : Rollback) (f : Fault) →
+        NeedsTxn c → rollback_of c ≡ Some r → CallStep g s session c (Refused f) new →
         (new ≡ s) ⊎ ((a : SessionTxn) × IsOfSession s session a × ((mid : State) × IsUnwound s a r mid × Interrupts mid f × (new ≡ after_refusal f mid))) }
+    ensures resolve { (g : Geometry) (s new : State) (session : ℕ) (global : List ℕ) (asked : Outcome) (f : Fault) → CallStep g s session (Resolve global asked) (Refused f) new →
+        (new ≡ s) ⊎ ((b : SessionTxn) × (decided : State) × DecidesRollback s global b decided × IsInterrupted decided b Whole f new) }
 {}
 
 /// A rollback that was interrupted ends as one that was not: its abort leaves the same state, whatever was put back before, and so does its way back.
@@ -119,6 +125,8 @@ pub fn interrupted_rollbacks_end_alike()
     ensures back_to { (s : State) (a : SessionTxn) (kept undone : List (Rid × Image)) (n : ℕ) → a.undo.images ≡ kept ++ undone → n < length a.undo.marks →
         mark_of a.undo n ≤ length kept →
         answered (put_back s a kept undone (To n)) (rolled a kept (To n)) (BackTo n) WentBack s.counts ≡ answered s a (BackTo n) WentBack s.counts }
+    ensures resolve { (s : State) (a : SessionTxn) (kept undone : List (Rid × Image)) → a.undo.images ≡ kept ++ undone →
+        rollback_done (put_back s a kept undone Whole) (rolled a kept Whole) ≡ rollback_done s a }
 {}
 
 /// An abort that is answered leaves none of its transaction's locks and requests, and others theirs; and its session is in no transaction.

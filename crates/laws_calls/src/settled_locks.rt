@@ -18,6 +18,7 @@ ghost use Rattle.laws_calls.specs.Midway.{Interlude, Intervene, IsMidway, cycles
 ghost use Rattle.laws_calls.specs.SessionWaits.{AllWaitThere};
 ghost use Rattle.laws_calls.specs.Settling.{SettledCall, SettledResume};
 ghost use Rattle.laws_calls.specs.States.{IsOfSession, State, Waiting};
+ghost use Rattle.laws_calls.specs.Shapes.{ResolvesTxn, IsNoRefusal};
 
 /// By a call as a whole the requests stay; or an abort is answered, and all of its transaction's go; or they change as the call asks, whatever victims were taken
 /// on the way: its own grow along the path to its lock alone, those of others are only granted, but those of victims, which wait no more, and nobody's become
@@ -26,7 +27,8 @@ pub fn settled_locks_change_as_asked()
     ensures call { (g : Geometry) (o : Opening) (found : List LogRecord) (es : List Entry) (s new : State) (session : ℕ) (c : Call) (step : Step) → IsStateAfter o found es s →
         SettledCall g s session c step new →
         (new.locks.requests ≡ s.locks.requests)
-        ⊎ (((c ≡ Abort) × (step ≡ Done Aborted) × ((a : SessionTxn) × IsOfSession s session a × (new.locks.requests ≡ released a.txn s.locks.requests)))
+        ⊎ ((((c ≡ Abort) × (step ≡ Done Aborted) × ((a : SessionTxn) × IsOfSession s session a × (new.locks.requests ≡ released a.txn s.locks.requests)))
+        ⊎ ((a : SessionTxn) × ResolvesTxn s c a × IsNoRefusal step × (new.locks.requests ≡ released a.txn s.locks.requests)))
         ⊎ ((a : SessionTxn) × IsOfSession s session a
         × ((between : List Interlude) × ((between ≡ []) ⊎ ((x : State) × IsMidway g s session c between x)) × ChangesLocks s.locks.requests a.txn c (cycles_among between) new.locks.requests))) }
     ensures resume { (g : Geometry) (o : Opening) (found : List LogRecord) (es : List Entry) (s new : State) (session : ℕ) (step : Step) → IsStateAfter o found es s →

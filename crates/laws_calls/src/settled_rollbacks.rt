@@ -14,12 +14,15 @@ ghost use Rattle.laws_calls.specs.Events.{IsStateAfter};
 ghost use Rattle.laws_calls.specs.Settling.{SettledCall};
 ghost use Rattle.laws_calls.specs.Shapes.{IsLackOfRoom, StopsAborts, rollback_of};
 ghost use Rattle.laws_calls.specs.States.{State, Waiting};
+ghost use Rattle.shore_types.specs.declared.locking.Granule.{Granule};
+ghost use Rattle.shore_model.specs.declared.step.Wait.TheVariants.{Lock};
 
-/// Neither an abort nor a way back is refused for lack of room on a page or in the log, by the lock table, or as a victim, and an abort by nothing of its
-/// transaction but what interrupts it. No rollback waits, so none is resumed.
+/// Neither an abort, nor a way back, nor a resolve to abort is refused for lack of room on a page or in the log, by the lock table, or as a victim, and an abort by
+/// nothing of its transaction but what interrupts it. No rollback waits for a lock.
 pub fn settled_undo_is_never_refused()
     ensures room { (g : Geometry) (s new : State) (session : ℕ) (c : Call) (r : Rollback) (f : Fault) →
         rollback_of c ≡ Some r → IsLackOfRoom f → SettledCall g s session c (Refused f) new → ⊥ }
     ensures abort { (g : Geometry) (s new : State) (session : ℕ) (f : Fault) → SettledCall g s session Abort (Refused f) new → StopsAborts f }
-    ensures never_waits { (o : Opening) (found : List LogRecord) (es : List Entry) (s : State) (w : Waiting) → IsStateAfter o found es s → IsAmong w s.waiting → rollback_of w.call ≡ None }
+    ensures never_waits { (o : Opening) (found : List LogRecord) (es : List Entry) (s : State) (w : Waiting) (at : Granule) → IsStateAfter o found es s → IsAmong w s.waiting → w.wait ≡ Lock at →
+        rollback_of w.call ≡ None }
 {}

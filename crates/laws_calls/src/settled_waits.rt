@@ -1,5 +1,5 @@
 //! Waits of calls and resumes as a whole: each is for what it says.
-ghost use Rattle.std.specs.Prelude.{◌≡◌, ◌<◌, ℕ, List, length};
+ghost use Rattle.std.specs.Prelude.{◌≡◌, ◌<◌, ℕ, List, length, ◌≤◌};
 ghost use Rattle.shore_types.specs.declared.layout.Geometry.{Geometry};
 ghost use Rattle.shore_types.specs.declared.locking.Granule.{Granule};
 ghost use Rattle.shore_model.specs.declared.calls.Call.{Call};
@@ -17,7 +17,7 @@ ghost use Rattle.laws_calls.specs.Events.{EventsMove, IsStateAfter, ManagerEvent
 ghost use Rattle.laws_calls.specs.Midway.{HasItsWait};
 ghost use Rattle.laws_calls.specs.SessionWaits.{AllWaitThere, IsDecisionWait};
 ghost use Rattle.laws_calls.specs.Settling.{SettledCall, SettledResume};
-ghost use Rattle.laws_calls.specs.StateChanges.{committed};
+ghost use Rattle.laws_calls.specs.Shapes.{WaitsForItsRecord};
 ghost use Rattle.laws_calls.specs.States.{IsOfSession, State, Waiting, next_number};
 
 /// A request with which a transaction waits is its session's call's, at the granule for which that waits: so it is after an open, and after any events.
@@ -39,12 +39,12 @@ pub fn waits_for_locks_are_true()
         AllWaitThere s → SettledResume g s session (Waits (Lock at)) new → HasItsWait new session at }
 {}
 
-/// Only a commit waits for a record: for its own, which goes last in the log, and is not durable then. As it is resumed it waits on for that record as long as
-/// that is not durable, and nothing changes.
+/// Only a commit, a prepare and a resolve wait for a record: for that of their decision, which the log has, and which is not durable then. As it is resumed it
+/// waits on for that record as long as that is not durable, and nothing changes.
 pub fn waits_for_records_are_true()
     ensures call { (g : Geometry) (o : Opening) (found : List LogRecord) (es : List Entry) (s new : State) (session n : ℕ) (c : Call) → IsStateAfter o found es s →
         SettledCall g s session c (Waits (Durable n)) new →
-        (c ≡ Commit) × (n ≡ next_number s) × (new.durable < n) × ((a : SessionTxn) × IsOfSession s session a × (new ≡ committed s a)) }
+        WaitsForItsRecord s session c n new × (new.durable < n) × (n ≤ length new.log) }
     ensures resume { (g : Geometry) (o : Opening) (found : List LogRecord) (es : List Entry) (s new : State) (session n : ℕ) → IsStateAfter o found es s →
         SettledResume g s session (Waits (Durable n)) new →
         (w : Waiting) × IsAmong w s.waiting × (w.session ≡ session) × (w.wait ≡ Durable n) × IsDecisionWait (length found) s w × (s.durable < n) × (new ≡ s) }

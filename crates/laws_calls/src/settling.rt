@@ -1,5 +1,5 @@
 //! What calls and resumes come to as a whole, with the victims that break the cycles of waits: what they keep, how waits begin and end, and that no cycle is left.
-ghost use Rattle.std.specs.Prelude.{◌≡◌, ◌≤◌, ◌++◌, ◌∷◌, ℕ, List, [], None, IsTrue};
+ghost use Rattle.std.specs.Prelude.{◌≡◌, ◌≤◌, ◌++◌, ◌∷◌, ℕ, List, [], None, IsTrue, ◌⊎◌};
 ghost use Rattle.std.specs.FinMap.{empty};
 ghost use Rattle.shore_types.specs.declared.faults.Device.{Device};
 ghost use Rattle.shore_types.specs.declared.faults.Fault.{Fault};
@@ -26,11 +26,15 @@ ghost use Rattle.laws_calls.specs.States.{DoesNotWait, State, Waiting, next_numb
 ghost use Rattle.laws_calls.specs.WorkedDeadlock.{a_deadlock, told_in_a_deadlock};
 ghost use Rattle.laws_calls.specs.WorkedRun.{opened_empty};
 ghost use Rattle.laws_lives.specs.Soundness.{opening_with};
+ghost use Rattle.shore_model.specs.declared.calls.Call.TheVariants.{Resolve};
+ghost use Rattle.shore_model.specs.declared.calls.Outcome.TheVariants as outcome;
+ghost use Rattle.laws_calls.specs.Resolves.{IsRollingBack, rollback_number};
+ghost use Rattle.laws_lives.specs.Sessions.{SessionTxn};
 
 /// What each call and each resume come to, victims or not, goes on with the history, by the entry of the call that was made or went on.
 pub fn settled_calls_keep_state()
     ensures call { (g : Geometry) (o : Opening) (found : List LogRecord) (es : List Entry) (old new : State) (session : ℕ) (c : Call) (step : Step) → IsStateAfter o found es old →
-        SettledCall g old session c step new → IsStateAfter o found (es ++ entries_of_call old session c step) new }
+        SettledCall g old session c step new → IsStateAfter o found (es ++ entries_of_call old session c step new) new }
     ensures resume { (g : Geometry) (o : Opening) (found : List LogRecord) (es : List Entry) (old new : State) (session : ℕ) (step : Step) → IsStateAfter o found es old →
         SettledResume g old session step new → IsStateAfter o found (es ++ entries_of_resume old session step) new }
 {}
@@ -43,14 +47,15 @@ pub fn settled_calls_keep_room()
         IsStateAfter o found es old → IsRoomyState old → SettledResume g old session step new → IsRoomyState new }
 {}
 
-/// A call that comes to a wait waits, a commit for its own record, and its transaction is no victim then. It waits no more once it is answered or
+/// A call that comes to a wait waits, a commit and a prepare for their own record, and its transaction is no victim then. It waits no more once it is answered or
 /// refused, as a victim too, unless it was refused as an earlier call of its session waits. A device that fails, and a page that is damaged, fail the state.
 pub fn settled_calls_end_waits()
     ensures begin { (g : Geometry) (o : Opening) (found : List LogRecord) (es : List Entry) (s new : State) (session : ℕ) (c : Call) (wait : Wait) → IsStateAfter o found es s →
         SettledCall g s session c (Waits wait) new →
         IsAmong (record { session = session; call = c; wait = wait; cycle = None }) new.waiting }
     ensures number { (g : Geometry) (o : Opening) (found : List LogRecord) (es : List Entry) (s new : State) (session n : ℕ) (c : Call) → IsStateAfter o found es s →
-        SettledCall g s session c (Waits (Durable n)) new → n ≡ next_number s }
+        SettledCall g s session c (Waits (Durable n)) new →
+        (n ≡ next_number s) ⊎ ((a : SessionTxn) × (global : List ℕ) × (c ≡ Resolve global outcome.Abort) × IsRollingBack s a global × (n ≡ rollback_number a.txn s.log)) }
     ensures still { (g : Geometry) (o : Opening) (found : List LogRecord) (es : List Entry) (s new : State) (session : ℕ) (wait : Wait) → IsStateAfter o found es s →
         SettledResume g s session (Waits wait) new → (w : Waiting) × IsAmong w new.waiting × (w.session ≡ session) × (w.wait ≡ wait) × (w.cycle ≡ None) }
     ensures answered { (g : Geometry) (o : Opening) (found : List LogRecord) (es : List Entry) (s new : State) (session : ℕ) (c : Call) (answer : Answer) →

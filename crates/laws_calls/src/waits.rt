@@ -6,7 +6,8 @@ ghost use Rattle.shore_types.specs.declared.layout.Geometry.{Geometry};
 ghost use Rattle.shore_types.specs.declared.locking.Granule.{Granule};
 ghost use Rattle.shore_model.specs.declared.calls.Answer.{Answer};
 ghost use Rattle.shore_model.specs.declared.calls.Call.{Call};
-ghost use Rattle.shore_model.specs.declared.calls.Call.TheVariants.{Commit, Begin, TryLock};
+ghost use Rattle.shore_model.specs.declared.calls.Call.TheVariants.{Commit, Begin, Prepare, TryLock, Resolve};
+ghost use Rattle.shore_model.specs.Histories.{decision_asked_by};
 ghost use Rattle.shore_model.specs.declared.histories.Entry.{Entry};
 ghost use Rattle.shore_model.specs.declared.histories.Opening.{Opening};
 ghost use Rattle.shore_model.specs.declared.log_records.LogRecord.{LogRecord};
@@ -17,8 +18,8 @@ ghost use Rattle.shore_model.specs.declared.step.Step.TheVariants.{Done, Refused
 ghost use Rattle.shore_model.specs.declared.step.Wait.{Wait};
 ghost use Rattle.shore_model.specs.declared.step.Wait.TheVariants.{Durable, Lock};
 ghost use Rattle.laws_calls.specs.CallHistories.{IsOpened};
-ghost use Rattle.laws_calls.specs.Events.{EventMoves, Forced};
-ghost use Rattle.laws_calls.specs.CallSteps.{CallStep, ResumeStep, lock_outcome};
+ghost use Rattle.laws_calls.specs.Events.{EventMoves, Forced, IsStateAfter};
+ghost use Rattle.laws_calls.specs.CallSteps.{CallStep, NeedsTxn, ResumeStep, lock_outcome};
 ghost use Rattle.laws_calls.specs.LockedStates.{IsSessionsState};
 ghost use Rattle.laws_calls.specs.States.{DoesNotWait, IsOfSession, State, Waiting, next_number, HasNoTxn};
 ghost use Rattle.shore_types.specs.declared.faults.Fault.TheVariants.{Failed};
@@ -27,15 +28,25 @@ ghost use Rattle.shore_locks.specs.Tables.{is_waiting};
 ghost use Rattle.shore_path.specs.declared.answers.Acquired.TheVariants as acquire;
 ghost use Rattle.laws_locks.specs.CallLocks.{Asked, lock_asked_by};
 ghost use Rattle.laws_calls.specs.Shapes.{ForItsTxn, WaitsOnLocks, WaitsOnRecords};
+ghost use Rattle.shore_model.specs.declared.calls.Outcome.{Outcome};
+ghost use Rattle.shore_model.specs.declared.calls.Outcome.TheVariants as outcome;
 
-/// Waits that must not come: of a commit for another record, or unlogged; of another call for a record, or for a granule at which its acquire does not
-/// wait; of a try, of a begin, of a session in no transaction or that waits, and after a failure. What waits is among the calls that wait.
+/// Waits that must not come: of a commit, a prepare or a resolve for another record, or unlogged; of a call for a record that decides nothing, or for a granule at which its
+/// acquire does not wait; of a try, of a begin, of a session in no transaction or that waits, and after a failure. What waits is among the calls that wait.
 pub fn wrong_waits_do_not_come()
     ensures for_other_record { (g : Geometry) (s new : State) (session : ℕ) (wait : Wait) →
         wait ≢ Durable (next_number s) → CallStep g s session Commit (Waits wait) new → ⊥ }
     ensures unlogged { (g : Geometry) (s new : State) (session : ℕ) (wait : Wait) → new.log ≡ s.log → CallStep g s session Commit (Waits wait) new → ⊥ }
-    ensures for_no_commit { (g : Geometry) (s new : State) (session : ℕ) (c : Call) (n : ℕ) →
-        c ≢ Commit → CallStep g s session c (Waits (Durable n)) new → ⊥ }
+    ensures prepare_for_other_record { (g : Geometry) (s new : State) (session : ℕ) (global : List ℕ) (wait : Wait) →
+        wait ≢ Durable (next_number s) → CallStep g s session (Prepare global) (Waits wait) new → ⊥ }
+    ensures prepare_unlogged { (g : Geometry) (s new : State) (session : ℕ) (global : List ℕ) (wait : Wait) →
+        new.log ≡ s.log → CallStep g s session (Prepare global) (Waits wait) new → ⊥ }
+    ensures resolve_for_other_record { (g : Geometry) (s new : State) (session : ℕ) (global : List ℕ) (wait : Wait) →
+        wait ≢ Durable (next_number s) → CallStep g s session (Resolve global outcome.Commit) (Waits wait) new → ⊥ }
+    ensures resolve_unlogged { (g : Geometry) (s new : State) (session : ℕ) (global : List ℕ) (asked : Outcome) (wait : Wait) →
+        new.log ≡ s.log → CallStep g s session (Resolve global asked) (Waits wait) new → ⊥ }
+    ensures for_no_decision { (g : Geometry) (s new : State) (session t : ℕ) (c : Call) (n : ℕ) →
+        decision_asked_by t c ≡ None → CallStep g s session c (Waits (Durable n)) new → ⊥ }
     ensures though_free { (g : Geometry) (s new : State) (session : ℕ) (c : Call) (at : Granule) →
         ForItsTxn s session (λ a. (lock : Asked) → lock_asked_by c ≡ Some lock → (lock_outcome s a c lock).answer ≢ Ok (acquire.Waiting at)) →
         CallStep g s session c (Waits (Lock at)) new → ⊥ }
@@ -43,7 +54,7 @@ pub fn wrong_waits_do_not_come()
         CallStep g s session (TryLock at mode) (Waits wait) new → ⊥ }
     ensures of_a_begin { (g : Geometry) (s new : State) (session : ℕ) (wait : Wait) → CallStep g s session Begin (Waits wait) new → ⊥ }
     ensures in_no_txn { (g : Geometry) (s new : State) (session : ℕ) (c : Call) (wait : Wait) →
-        HasNoTxn s session → CallStep g s session c (Waits wait) new → ⊥ }
+        NeedsTxn c → HasNoTxn s session → CallStep g s session c (Waits wait) new → ⊥ }
     ensures after_failure { (g : Geometry) (s new : State) (session : ℕ) (c : Call) (wait : Wait) →
         IsTrue s.failed → CallStep g s session c (Waits wait) new → ⊥ }
     ensures twice { (g : Geometry) (s new : State) (session : ℕ) (c : Call) (wait : Wait) (w : Waiting) →
@@ -90,7 +101,7 @@ pub fn commits_end_transactions()
     ensures waits { (g : Geometry) (o : Opening) (found : List LogRecord) (es : List Entry) (s new : State) (session : ℕ) (wait : Wait) (a : SessionTxn) →
         IsSessionsState o found es s → CallStep g s session Commit (Waits wait) new → IsOfSession new session a → ⊥ }
     ensures answered { (g : Geometry) (o : Opening) (found : List LogRecord) (es : List Entry) (s new : State) (session : ℕ) (a : SessionTxn) (answer : Answer) →
-        IsSessionsState o found es s → IsAmong a s.sessions.committing → a.session ≡ session → ResumeStep g s session (Done answer) new →
+        IsStateAfter o found es s → IsAmong a s.sessions.committing → a.session ≡ session → ResumeStep g s session (Done answer) new →
         HasNoTxn new session }
 {}
 

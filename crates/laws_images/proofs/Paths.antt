@@ -2,7 +2,7 @@
 use Rattle.std.proofs.Common.{◌≡◌, ⊎_elim, ◌++◌, ◌-◌, ℕ, List, [], ◌∷◌, refl, sym, ap, subst, ◌∙◌, take}
 use Rattle.shore_types.specs.declared.layout.Geometry.{Geometry}
 use Rattle.shore_types.specs.declared.layout.TheConstants.{LOG_FRONT_BYTES}
-use Rattle.shore_disk.specs.Device.{History, size}
+use Rattle.shore_disk.specs.Device.{DeviceHistory, size}
 use Rattle.shore_disk.proofs.Moments.{started}
 use Rattle.shore_model.specs.declared.log_records.LogRecord.{LogRecord}
 use Rattle.shore_dwrite.specs.declared.places.TheConstants.{GATE_AT}
@@ -77,7 +77,7 @@ pub record IsCutOffAs (g : Geometry) (log_bytes volume_bytes : ℕ) (rs : List L
   pub fronts : HaveFrontsOf log_image volume_image log_left volume_left
 
 module _ (g : Geometry) (log_bytes volume_bytes : ℕ) (rs : List LogRecord) (pages : LoggedPages) (log_image volume_image : List ℕ)
-    (stood : StandsFor g log_bytes volume_bytes rs pages log_image volume_image) (log volume : History) (moments : List Moment) (last : Moment)
+    (stood : StandsFor g log_bytes volume_bytes rs pages log_image volume_image) (log volume : DeviceHistory) (moments : List Moment) (last : Moment)
     (path : Path g (take LOG_FRONT_BYTES log_image) (take GATE_AT volume_image) (begun_on log volume rs pages) moments last) where
   pub cut_off_as : (log_left volume_left : List ℕ) → IsLostAlong (begun_on log volume rs pages) moments log_left volume_left
       → IsCutOffAs g log_bytes volume_bytes rs pages log_image volume_image log_left volume_left

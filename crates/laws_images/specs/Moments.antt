@@ -2,7 +2,7 @@
 use Rattle.std.specs.Prelude.{◌≡◌, ◌≤◌, ◌⊎◌, ℕ, List, [], ◌∷◌, length, take}
 use Rattle.shore_types.specs.declared.layout.Geometry.{Geometry}
 use Rattle.shore_model.specs.declared.log_records.LogRecord.{LogRecord}
-use Rattle.shore_disk.specs.Device.{History, LeavesOnly, left_since, may_leave, moment}
+use Rattle.shore_disk.specs.Device.{DeviceHistory, LeavesOnly, left_since, may_leave, moment}
 use Rattle.shore_frames.specs.Frames.{GivesBehind}
 use Rattle.laws_lives.specs.Pages.{LoggedPages}
 use Rattle.laws_lives.specs.Recovery.{CrashMayLeave, RecoveryEvent, RecoveryState}
@@ -11,8 +11,8 @@ use Rattle.laws_heaps.specs.LoggedHeaps.{LeavesStore}
 
 -- the calls of both devices so far, and the store over plain data that they stand for
 pub record Moment : Type 0 where
-  pub log : History
-  pub volume : History
+  pub log : DeviceHistory
+  pub volume : DeviceHistory
   pub store : RecoveryState
 
 -- an image of the log device: behind this front the frames give a prefix of the list, of this many records at least

@@ -3,7 +3,7 @@ use Rattle.std.specs.Prelude.{◌≡◌, ◌-◌, ℕ, List, take}
 use Rattle.shore_types.specs.declared.faults.Device.TheVariants.{Volume}
 use Rattle.shore_types.specs.declared.layout.Geometry.{Geometry}
 use Rattle.shore_types.specs.declared.layout.TheConstants.{LOG_FRONT_BYTES}
-use Rattle.shore_disk.specs.Device.{History}
+use Rattle.shore_disk.specs.Device.{DeviceHistory}
 use Rattle.shore_gate.specs.Label.{HoldsLabel}
 use Rattle.shore_model.specs.declared.log_records.LogRecord.{LogRecord}
 use Rattle.shore_dwrite.specs.declared.places.TheConstants.{GATE_AT}
@@ -32,5 +32,5 @@ pub record HaveFrontsOf (log_image volume_image log_left volume_left : List ℕ)
   pub volume : take GATE_AT volume_left ≡ take GATE_AT volume_image
 
 -- an open begins: nothing of the log is redone yet
-abbrev pub begun_on : History → History → List LogRecord → LoggedPages → Moment
+abbrev pub begun_on : DeviceHistory → DeviceHistory → List LogRecord → LoggedPages → Moment
 begun_on log volume rs pages = record { log = log; volume = volume; store = found_state rs pages }

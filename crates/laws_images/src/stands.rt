@@ -2,7 +2,7 @@
 ghost use Rattle.std.specs.Prelude.{◌≡◌, ◌-◌, ℕ, List, [], take};
 ghost use Rattle.shore_types.specs.declared.layout.Geometry.{Geometry};
 ghost use Rattle.shore_types.specs.declared.layout.TheConstants.{LOG_FRONT_BYTES};
-ghost use Rattle.shore_disk.specs.Device.{History};
+ghost use Rattle.shore_disk.specs.Device.{DeviceHistory};
 ghost use Rattle.shore_model.specs.declared.log_records.LogRecord.{LogRecord};
 ghost use Rattle.shore_dwrite.specs.declared.places.TheConstants.{GATE_AT};
 ghost use Rattle.laws_lives.specs.Pages.{LoggedPages, empty_page};
@@ -35,7 +35,7 @@ pub fn crashes_leave_what_stands()
 pub fn opens_leave_what_stands()
     ensures way { (g : Geometry) (log_front front : List ℕ) (first last : Moment) (moments : List Moment) → Path g log_front front first moments last →
         (works : List RecoveryEvent) × RestartsTo first.store works last.store }
-    ensures lost { (g : Geometry) (log_bytes volume_bytes : ℕ) (rs : List LogRecord) (pages : LoggedPages) (log_image volume_image : List ℕ) (log volume : History)
+    ensures lost { (g : Geometry) (log_bytes volume_bytes : ℕ) (rs : List LogRecord) (pages : LoggedPages) (log_image volume_image : List ℕ) (log volume : DeviceHistory)
         (moments : List Moment) (last : Moment) (log_left volume_left : List ℕ) → StandsFor g log_bytes volume_bytes rs pages log_image volume_image →
         Path g (take LOG_FRONT_BYTES log_image) (take GATE_AT volume_image) (begun_on log volume rs pages) moments last →
         IsLostAlong (begun_on log volume rs pages) moments log_left volume_left →

@@ -1,5 +1,5 @@
 -- Transactions in doubt in a log: what an open makes of them, and what must hold of them so that it can. All of it is a function of the log.
-use Rattle.std.specs.Prelude.{◌≡◌, ◌≢◌, ◌⊎◌, ◌++◌, ℕ, List, [], ◌∷◌, Option, None, Some, Contains, All, Any, IsTrue, true, false, filter, map, reverse}
+use Rattle.std.specs.Prelude.{◌≡◌, ◌≢◌, ◌⊎◌, ◌++◌, ◌<◌, ℕ, List, [], ◌∷◌, Option, None, Some, Contains, All, Any, IsTrue, true, false, filter, length, map, reverse}
 use Rattle.std.specs.FinMap.{get}
 use Rattle.std.specs.List.{AllByRecursion, filter_map}
 use Rattle.shore_types.specs.Images.{Image}
@@ -16,7 +16,7 @@ use Rattle.shore_model.specs.Locks.{HoldsAtLeast, OnOnePath, ancestors}
 use Rattle.shore_model.specs.Logs.{has, is_commit, is_in_doubt, is_prepare, is_rollback, logged_writes, unanswered}
 use Rattle.shore_model.specs.Records.{WriteSet, overlay}
 use Rattle.laws_lives.specs.LogTells.{records_committed}
-use Rattle.laws_lives.specs.Sessions.{IsFree, SessionTxn, Sessions, in_doubt_of, pairs_of, resolved_of, txns_of}
+use Rattle.laws_lives.specs.Sessions.{EachOnce, IsFree, SessionTxn, Sessions, in_doubt_of, pairs_of, resolved_of, txns_of}
 use Rattle.laws_lives.specs.UndoLists.{UndoList}
 use Rattle.laws_lives.specs.Views.{IsAmong}
 
@@ -100,6 +100,10 @@ locks_for t (g ∷ gs) = locks_under t g ++ locks_for t gs
 abbrev pub restored_locks : List LoggedDoubt → List Hold
 restored_locks [] = []
 restored_locks (d ∷ ds) = locks_for d.txn d.granules ++ restored_locks ds
+
+-- they have more places than this: there is a list of different ones that is longer
+abbrev pub NeedMore : ℕ → List LoggedDoubt → Type 0
+NeedMore limit ds = (nodes : List (ℕ × Granule)) × EachOnce nodes × ((x : ℕ × Granule) → IsAmong x nodes → IsAmong x (map node_of (restored_locks ds))) × (limit < length nodes)
 
 -- ---- beside the sessions
 

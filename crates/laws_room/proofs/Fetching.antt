@@ -97,7 +97,7 @@ fetched R undos counts k p =
 longer_list : (x : Rid × Image) (es : List (Rid × Image)) (q : Rid) → longest (befores_in q es) ≤ longest (befores_in q (x ∷ es))
 longer_list x es q = let h = longest_append (befores_in q es) (before_of q x) in omega arith
 
-its_longest : (es : List (Rid × Image)) → AllByRecursion (λ e. image_len e.1 ≤ longest (befores_in e.0 es)) es
+pub its_longest : (es : List (Rid × Image)) → AllByRecursion (λ e. image_len e.1 ≤ longest (befores_in e.0 es)) es
 its_longest [] = tt
 its_longest (e ∷ es) =
     let h = longest_append (befores_in e.0 es) (before_of e.0 e) in
@@ -145,7 +145,7 @@ module _ (p : PageId) (n : ℕ) (F : ℕ → Slot) (room : HasRoom (each_from F 
       subst HoldsItsImage (sym read) (All-get_or HoldsItsImage (each_from F 0 n) i (F i) (omega (arith, length-each F 0 n)) room.each) in
       holds.1
 
-  raised_less : (e : Rid × Image) (f : ℕ → Slot) → (p ≡ e.0.page → (e.0.slot < n) × (image_len e.1 ≤ (F e.0.slot).claim))
+  pub raised_less : (e : Rid × Image) (f : ℕ → Slot) → (p ≡ e.0.page → (e.0.slot < n) × (image_len e.1 ≤ (F e.0.slot).claim))
       → ((i : ℕ) → (f i).claim ≤ (F i).claim)
       → (i : ℕ) → (cond (eq_by_cmp rid_cmp (rid_on p i) e.0) (raised (image_len e.1) (f i)) (f i)).claim ≤ (F i).claim
   raised_less e f within less i =
@@ -160,7 +160,7 @@ module _ (p : PageId) (n : ℕ) (F : ℕ → Slot) (room : HasRoom (each_from F 
         | false ↦ λ is. less i
       ] refl
 
-  kept_fits : (e : Rid × Image) (f : ℕ → Slot) → (p ≡ e.0.page → (e.0.slot < n) × (image_len e.1 ≤ (F e.0.slot).claim))
+  pub kept_fits : (e : Rid × Image) (f : ℕ → Slot) → (p ≡ e.0.page → (e.0.slot < n) × (image_len e.1 ≤ (F e.0.slot).claim))
       → ((i : ℕ) → (f i).claim ≤ (F i).claim) → p ≡ e.0.page
       → (e.0.slot < length (each_from f 0 n)) × Fits (each_from f 0 n) e.0.slot (image_len e.1)
   kept_fits e f within less same =

@@ -14,7 +14,7 @@ use Rattle.laws_lives.specs.SessionSteps.{AnswerAbort, AnswerCommit, AnswerInDou
 use Rattle.laws_lives.specs.Sessions.{Sessions}
 use Rattle.laws_calls.proofs.SettledComings.{session_event_comes}
 use Rattle.laws_calls.proofs.Links.{ComesBy, GoesBy, IsDurable}
-use Rattle.laws_calls.proofs.SessionsWaiting.{goes_on_log}
+use Rattle.laws_calls.proofs.LeftWaits.{goes_on_log}
 use Rattle.laws_runs.proofs.SplitWorks.{by_on, split_works, stays_durable, works_on}
 use Rattle.laws_lives.proofs.Lists.{recursion-weaker}
 use Rattle.laws_calls.specs.Events as calls
@@ -100,8 +100,8 @@ module _ (m : StoredState) (stored : IsStored m.state m.store) where
       )
 
   module _ (o : Opening) (found : List LogRecord) (es : List Entry) (k : IsStateAfter o found es m.state) where
-    pub event_comes : (g : Geometry) (new : State) (e : calls.ManagerEvent) → EventMoves g m.state e new → Comes m es new (entries_of m.state e)
-    event_comes g new e h = comes_over es g new (entries_of m.state e) (session_event_comes g o found es m.state k new e h)
+    pub event_comes : (g : Geometry) (new : State) (e : calls.ManagerEvent) → EventMoves g m.state e new → Comes m es new (entries_of m.state e new)
+    event_comes g new e h = comes_over es g new (entries_of m.state e new) (session_event_comes g o found es m.state k new e h)
 
   pub rest_comes : (es : List Entry) (new : State) → new ≡ m.state → Comes m es new []
   rest_comes es new same works store work is = (

@@ -1,9 +1,13 @@
+mod DoubtsThere
 mod Losers
-mod NoPrepares
 mod Worked
 pub mod CanStore
+pub mod EventEntries
+pub mod EventRecords
 pub mod Events
 pub mod Fixed
+pub mod LockBounds
+pub mod LockPlaces
 pub mod LoggedIds
 pub mod ManagerLogs
 pub mod Opens
@@ -16,6 +20,8 @@ pub mod SoundStores
 pub mod SplitWorks
 pub mod StateLosers
 pub mod StaySteps
+pub mod TableBounds
+pub mod Undecided
 pub mod UnderWay
 pub mod Undoing
 mod StolenPage

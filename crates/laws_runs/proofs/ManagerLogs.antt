@@ -18,16 +18,20 @@ use Rattle.laws_lives.specs.Doubts.{IsOpeningOf, LoggedDoubt, doubts_in, pair_lo
 use Rattle.laws_lives.specs.Sessions.{pairs_of}
 use Rattle.laws_lives.specs.Soundness.{found_in_doubt}
 use Rattle.shore_model.specs.declared.log_records.LogRecord.{LogRecord}
+use Rattle.laws_calls.proofs.LockWaits.{waits_may_ask}
 use Rattle.laws_calls.proofs.SessionRooms.{session_event_roomy}
 use Rattle.laws_calls.proofs.SettledStates.{session_event_stays}
 use Rattle.laws_calls.specs.CallHistories.{IsRoomyState}
 use Rattle.laws_calls.specs.Events.{IsStateAfter, entries_of}
+use Rattle.laws_calls.specs.Shapes.{LockWaitsMayAsk}
 use Rattle.laws_lives.specs.Stretches.{MayBeFound}
 use Rattle.laws_lives.proofs.Invariant.{redone_whole}
 use Rattle.laws_lives.proofs.Restarts.{events_restart}
 use Rattle.laws_lives.proofs.UndoRecords.{undone_lawful}
 use Rattle.laws_lives.specs.Recovery.{AppendRecord, FlushPage, ForceLog, IsRecoverable, LeadsTo, LosePower, RecoveryEvent, RecoveryState, RedoRecord, after_redo}
-use Rattle.laws_lives.specs.Undo.{IsUndoneTo, undo_record}
+use Rattle.shore_model.specs.Logs.{Lawful}
+use Rattle.laws_lives.specs.Undo.{IsLoser, IsUndoneTo, undo_record}
+use Rattle.laws_lives.specs.Views.{IsAmong}
 use Rattle.laws_lives.specs.Restarts.{IsRestartOf, IsRestartStep, RestartsTo}
 use Rattle.laws_runs.proofs.Runs.{events_come, found_next, opened, opens_next}
 use Rattle.laws_runs.specs.StoredRuns.{AreStoredRuns, IsOpenedOver, IsStoredRun, Manage, StoredEvent, StoredMoves, StoredRun, StoredState, Tend, left_by_run, span_of_run}
@@ -37,7 +41,7 @@ use Rattle.laws_runs.proofs.Running.{event_leaving}
 use Rattle.laws_runs.proofs.Undoing.{undone_are_roomy}
 use Rattle.laws_runs.specs.RoomyLogs.{AreRoomy}
 use Rattle.laws_runs.specs.RoomyRuns.{AreOpenedFrom}
-use Rattle.laws_runs.specs.RoomyStates.{IsOpenedFrom, LeavesRoomyLogs}
+use Rattle.laws_runs.specs.RoomyStates.{HasLocksInBounds, IsOpenedFrom, LeavesRoomyLogs}
 
 -- ---- a restart
 
@@ -72,20 +76,22 @@ found_have P log [] last u all = subst (AllByRecursion P) u all
 found_have P log (t ∷ ts) last u all =
     recursion-unpush P log (undo_record log t) (found_have P (log ++ undo_record log t ∷ []) ts last u.1 all)
 
-pub opened_over : (stream_bytes : ℕ) (o : Opening) (found : List LogRecord) (ready : RecoveryState) (first : State) → IsRecoverable ready → ready.redone ≡ length ready.log
+pub opened_over : (g : Geometry) (stream_bytes : ℕ) (o : Opening) (found : List LogRecord) (ready : RecoveryState) (first : State) → IsRecoverable ready → ready.redone ≡ length ready.log
     → IsRestartOf found ready → IsOpeningOf found o → IsOpenedOver o ready first → first.stream_bytes ≡ stream_bytes → ((p : PageId) → first.counts p ≡ slot_count ready.log p)
-    → IsNext found first.sessions.next_txn → IsOpenedFrom stream_bytes ready.log first
-opened_over stream_bytes o found ready first kept redone restart opening opens long counts next = record {
+    → IsNext found first.sessions.next_txn → ((t : ℕ) → IsLoser ready.log t → ⊥) → HasLocksInBounds g first → IsOpenedFrom g stream_bytes ready.log first
+opened_over g stream_bytes o found ready first kept redone restart opening opens long counts next ended locks = record {
   log = sym opens.stored.log;
   as_long = long;
   records = λ id. opens.sessions.records id ∙ redone_whole ready kept redone id.page id.slot;
   prepared = ap pairs_of opens.sessions.prepared ∙ pairs_found o.in_doubt ∙ there.in_doubt;
   active = opens.sessions.active ∙ txns_paired o.in_doubt ∙ ap (map (λ (p : ℕ × List ℕ). p.0)) there.in_doubt ∙ txns_logged (doubts_in ready.log);
   undo_lists = opens.sessions.undo_lists;
+  ended = ended;
   counts = counts;
   some = opens.sessions.some;
   least = λ n some all. next.least n (omega (arith, some))
       (All-from_recursion (λ (r : LogRecord). r.txn < n) found (found_have (λ (r : LogRecord). r.txn < n) found restart.turns ready.log restart.undone all));
+  locks = locks;
 }
   where
     there : IsOpeningOf ready.log o
@@ -107,34 +113,40 @@ opened_over stream_bytes o found ready first kept redone restart opening opens l
 
 module _ (g : Geometry) (stream_bytes : ℕ) (o : Opening) (found : List LogRecord) where
   pub moves_leaving : (es : List Entry) (m : StoredState) (events : List StoredEvent) (last : StoredState) (made : List Entry) → IsStateAfter o found es m.state
-      → IsRoomyState m.state → LeavesRoomyLogs g stream_bytes m.state → StoredMoves g m events last made → IsRoomyState last.state × LeavesRoomyLogs g stream_bytes last.state
-  moves_leaving es m [] last made k roomy h x =
+      → LockWaitsMayAsk g m.state → IsRoomyState m.state → LeavesRoomyLogs g stream_bytes m.state → StoredMoves g m events last made → IsRoomyState last.state × LeavesRoomyLogs g stream_bytes last.state
+  moves_leaving es m [] last made k asks roomy h x =
       (subst (λ (x : StoredState). IsRoomyState x.state) (sym x.0) roomy, subst (λ (x : StoredState). LeavesRoomyLogs g stream_bytes x.state) (sym x.0) h)
-  moves_leaving es m (Manage e works ∷ events) last made k roomy h x =
-      moves_leaving (es ++ entries_of m.state e) x.0 events last x.1 (session_event_stays g o found es m.state x.0.state e k x.2.0)
-      (session_event_roomy o found es m.state k roomy g x.0.state e x.2.0) (event_leaving g stream_bytes o found es m.state x.0.state e k roomy h x.2.0) x.3
-  moves_leaving es m (Tend works ∷ events) last made k roomy h x =
+  moves_leaving es m (Manage e works ∷ events) last made k asks roomy h x =
+      moves_leaving (es ++ entries_of m.state e x.0.state) x.0 events last x.1 (session_event_stays g o found es m.state x.0.state e k x.2.0)
+      (waits_may_ask g m.state x.0.state (e ∷ []) (x.0.state, x.2.0, refl) asks)
+      (session_event_roomy o found es m.state k roomy g x.0.state e x.2.0) (event_leaving g stream_bytes o found es m.state x.0.state e k asks roomy h x.2.0) x.3
+  moves_leaving es m (Tend works ∷ events) last made k asks roomy h x =
       let same = x.2.0 in
-      moves_leaving es x.0 events last x.1 (subst (IsStateAfter o found es) (sym same) k) (subst IsRoomyState (sym same) roomy)
+      moves_leaving es x.0 events last x.1 (subst (IsStateAfter o found es) (sym same) k) (subst (LockWaitsMayAsk g) (sym same) asks) (subst IsRoomyState (sym same) roomy)
       (subst (LeavesRoomyLogs g stream_bytes) (sym same) h) x.3
 
 -- ---- a manager from its restart to a crash
 
 module _ (g : Geometry) (stream_bytes : ℕ) (o : Opening) (s : RecoveryState) (r : StoredRun) (f : MayBeFound s) (opening : IsOpeningOf s.log o) (h : IsStoredRun g o s r)
-    (k : AreRoomy g stream_bytes s.durable s.log) (opens : IsOpenedFrom stream_bytes r.ready.log r.first) where
+    (k : AreRoomy g stream_bytes s.durable s.log) (opens : IsOpenedFrom g stream_bytes r.ready.log r.first) where
   ready_roomy : AreRoomy g stream_bytes r.ready.durable r.ready.log
   ready_roomy = restart_roomy g stream_bytes s r.restart r.ready k h.restarts
 
+  ready_lawful : Lawful r.ready.log
+  ready_lawful =
+      let restarted = events_restart s.log s r.restart r.ready f.recoverable (record { turns = []; undone = refl; durable = f.durable }) h.restarts in
+      undone_lawful s.log restarted.1.turns r.ready.log restarted.1.undone f.lawful
+
   first_roomy : IsRoomyState r.first
-  first_roomy = opens_roomy g stream_bytes r.ready.log r.first opens (whole_roomy g stream_bytes r.ready.durable r.ready.log ready_roomy)
+  first_roomy = opens_roomy g stream_bytes r.ready.log r.first opens (whole_roomy g stream_bytes r.ready.durable r.ready.log ready_roomy) ready_lawful
 
   first_leaves : LeavesRoomyLogs g stream_bytes r.first
   first_leaves =
-      let restarted = events_restart s.log s r.restart r.ready f.recoverable (record { turns = []; undone = refl; durable = f.durable }) h.restarts in
-      opens_leaving g stream_bytes r.ready.log r.first opens r.first.durable (subst (λ n. AreRoomy g stream_bytes n r.ready.log) h.opens.stored.durable ready_roomy) (undone_lawful s.log restarted.1.turns r.ready.log restarted.1.undone f.lawful) h.no_losers
+      opens_leaving g stream_bytes r.ready.log r.first opens r.first.durable (subst (λ n. AreRoomy g stream_bytes n r.ready.log) h.opens.stored.durable ready_roomy) ready_lawful h.no_losers
 
   pub last_has_room : IsRoomyState r.last.state × LeavesRoomyLogs g stream_bytes r.last.state
-  last_has_room = moves_leaving g stream_bytes o s.log [] (record { state = r.first; store = r.ready }) r.events r.last r.made (opened g o s f opening r h) first_roomy first_leaves h.moves
+  last_has_room = moves_leaving g stream_bytes o s.log [] (record { state = r.first; store = r.ready }) r.events r.last r.made (opened g o s f opening r h)
+      (λ w there. absurd (subst (IsAmong w) h.opens.waiting there)) first_roomy first_leaves h.moves
 
   pub crash_roomy : AreRoomy g stream_bytes (left_by_run r).durable (left_by_run r).log
   crash_roomy =
@@ -143,7 +155,7 @@ module _ (g : Geometry) (stream_bytes : ℕ) (o : Opening) (s : RecoveryState) (
       (subst (λ n. AreRoomy g stream_bytes n r.last.store.log) (sym come.stored.durable) (subst (AreRoomy g stream_bytes r.last.state.durable) (sym come.stored.log) last_has_room.1.prefixes))
 
 pub runs_roomy : (g : Geometry) (stream_bytes : ℕ) (o : Opening) (s : RecoveryState) (runs : List StoredRun) (last : RecoveryState) → MayBeFound s → IsOpeningOf s.log o
-    → AreRoomy g stream_bytes s.durable s.log → AreStoredRuns g o s runs last → AreOpenedFrom stream_bytes runs → AreRoomy g stream_bytes last.durable last.log
+    → AreRoomy g stream_bytes s.durable s.log → AreStoredRuns g o s runs last → AreOpenedFrom g stream_bytes runs → AreRoomy g stream_bytes last.durable last.log
 runs_roomy g stream_bytes o s [] last f opening k h opens = subst (λ (x : RecoveryState). AreRoomy g stream_bytes x.durable x.log) (sym h) k
 runs_roomy g stream_bytes o s (r ∷ runs) last f opening k h opens =
     runs_roomy g stream_bytes (next_opening o (span_of_run s r)) (left_by_run r) runs last (found_next g o s f opening r h.0) (opens_next g o s f opening r h.0)

@@ -1,10 +1,11 @@
 -- What undo asks of a roomy log, what an open makes of one, and that analysis takes it.
-use Rattle.std.proofs.Common.{◌≡◌, ⊎_elim, ◌++◌, ◌+◌, ◌<◌, ◌≤◌, ℕ, nat_lt, List, [], ◌∷◌, true, false, cond, Option, Some, None, refl, sym, ap, subst, ◌∙◌, length, take, take_all, arith}
-use Rattle.std.specs.Prelude.{All, map, unwrap_or}
+use Rattle.std.proofs.Common.{◌≡◌, inl, inr, ⊎_elim, ◌++◌, ◌+◌, ◌<◌, ◌≤◌, ℕ, nat_lt, List, [], ◌∷◌, true, false, cond, Option, Some, None, refl, sym, ap, subst, ◌∙◌, length, take, take_all, arith}
+use Rattle.std.specs.Prelude.{map, unwrap_or}
 use Rattle.std.specs.FinMap.{empty, get, get-empty, same_map}
-use Rattle.std.specs.List.{AllByRecursion}
+use Rattle.std.specs.List.{AllByRecursion, filter_map}
 use Rattle.std.specs.Ordering.{eq_by_cmp}
-use Rattle.std.proofs.lemmas.Bool.{cases_Bool, ltb-true, ltb-false, true≢false}
+use Rattle.std.proofs.lemmas.Bool.{cases_Bool, ltb-true, ltb-false}
+use Rattle.std.proofs.lemmas.List.{length-map, reverse-reverse}
 use Rattle.std.proofs.lemmas.List.Elements.{All-nil, recursion_from_All}
 use Rattle.shore_types.specs.Ids.{exact_rids, rid_cmp, rids_total}
 use Rattle.shore_types.specs.Images.{Image, image_len}
@@ -17,16 +18,24 @@ use Rattle.shore_model.specs.declared.log_records.LogRecord.{LogRecord}
 use Rattle.shore_model.specs.declared.log_records.LogTxn.{LogTxn}
 use Rattle.shore_model.specs.declared.log_records.Payload.{Payload}
 use Rattle.shore_model.specs.declared.log_records.Payload.TheVariants.{Change, Compensation}
-use Rattle.shore_model.specs.Logs.{IsEntry, IsTable, Lawful, id_in, image_in, image_of_record}
+use Rattle.shore_model.specs.Logs.{IsEntry, IsTable, Lawful, id_in, image_in, image_of_record, is_in_doubt, unanswered}
 use Rattle.shore_model.specs.Records.{AreRecords, Records}
 use Rattle.shore_logrec.specs.Text.{cost_of}
+use Rattle.shore_analysis.proofs.InOrder.{among_map, map_among}
 use Rattle.shore_analysis.proofs.MeantLogs.{lawful_meant}
+use Rattle.shore_analysis.proofs.Phases as phases
+use Rattle.shore_analysis.proofs.Phases.{in_doubt_runs}
 use Rattle.shore_analysis.specs.Meant.{AreMeant, IsCrowded, IsInBounds}
 use Rattle.laws_calls.specs.CallHistories.{IsRoomyState}
 use Rattle.laws_calls.specs.States.{State, cost_of_log}
-use Rattle.laws_lives.specs.Doubts.{LoggedDoubt, doubts_in, pair_logged}
-use Rattle.laws_lives.specs.Sessions.{PreparedTxn, pairs_of}
-use Rattle.laws_runs.proofs.NoPrepares.{no_doubts, none_in_doubt}
+use Rattle.shore_types.specs.declared.locking.Granule.{Granule}
+use Rattle.laws_lives.proofs.DoubtRecords.{among_filter}
+use Rattle.laws_lives.proofs.DoubtsShown.{doubts_once}
+use Rattle.laws_lives.proofs.Members.{txn_among}
+use Rattle.laws_lives.specs.Doubts.{LoggedDoubt, NeedMore, doubt_of, doubts_in, pair_logged}
+use Rattle.laws_lives.specs.LogTells.{MatchesUndo}
+use Rattle.laws_lives.specs.UndoLists.{UndoList}
+use Rattle.shore_model.specs.declared.unanswered_changes.UnansweredChange.{UnansweredChange}
 use Rattle.laws_lives.specs.WholeLogs.{IsWholeLog}
 use Rattle.shore_page.specs.Room.{HasRoom, HoldsItsImage}
 use Rattle.shore_page.specs.Slots.{settled}
@@ -34,19 +43,19 @@ use Rattle.laws_lives.proofs.OneMore.{by_push, same_id}
 use Rattle.laws_lives.proofs.Redo.{image_of_record-push, or_image}
 use Rattle.laws_lives.specs.Undo.{HasNoLosers, IsLoser, undo_record}
 use Rattle.laws_room.proofs.Lists.{each_at}
-use Rattle.laws_room.proofs.RolledBack.{rolled_claimed, rolled_room}
+use Rattle.laws_room.proofs.RolledBack.{rolled_room}
 use Rattle.laws_room.specs.Claims.{Claimed, rid_on}
-use Rattle.laws_room.specs.LogRooms.{owed_by_all}
 use Rattle.laws_room.specs.Settling.{settled_slots}
 use Rattle.laws_lives.proofs.Lists.{length-push, recursion-weaker}
-use Rattle.laws_lives.specs.Sessions.{SessionTxn, txns_of}
+use Rattle.laws_lives.specs.Sessions.{EachOnce, SessionTxn, pair_of, txns_of}
 use Rattle.laws_lives.specs.Views.{IsAmong}
-use Rattle.laws_runs.proofs.Losers.{bounds_prepare_none}
+use Rattle.laws_runs.proofs.DoubtsThere.{doubt_there}
 use Rattle.laws_runs.proofs.Prefixes.{whole_placed}
 use Rattle.laws_runs.proofs.Redoing.{all_at, record_fits}
 use Rattle.laws_runs.proofs.SlotCounts.{same_claimed}
+use Rattle.laws_runs.proofs.Undecided.{some_claimed, some_owe_no_more}
 use Rattle.laws_runs.proofs.Undoing.{cost_pushed, undone_roomy}
-use Rattle.laws_runs.specs.RoomyLogs.{AreRoomy, IsPlacedLog, IsRoomyLog}
+use Rattle.laws_runs.specs.RoomyLogs.{AreRoomy, IsPlacedLog, IsRoomyLog, IsUndecided}
 use Rattle.laws_runs.specs.RoomyStates.{IsOpenedFrom, LeavesRoomyLogsFrom}
 use Rattle.laws_runs.specs.SlotCounts.{FitsBehind, slot_count}
 
@@ -60,7 +69,7 @@ empty_is_placed g = record {
   records = empty;
   shown = λ id. get-empty rid_cmp id ∙ sym (leaves_none id);
   undos = [];
-  losers = record { each = λ a m. absurd m; every = λ t h. let known = h.known in absurd (omega arith) };
+  undecided = record { each = λ a m. absurd m; every = λ t h. absurd (none_undecided t h) };
   pages = record {
     room = λ p. record { room = omega arith; each = All-nil HoldsItsImage };
     behind = λ id le. get-empty rid_cmp id;
@@ -72,6 +81,10 @@ empty_is_placed g = record {
   few = none_crowded;
 }
   where
+    none_undecided : (t : ℕ) → IsUndecided [] t → ⊥
+    none_undecided t (inl loser) = let known = loser.known in omega arith
+    none_undecided t (inr doubt) = cc
+
     no_entry : (txns : List LogTxn) → IsTable [] txns → MAX_TRANSACTIONS < length txns → ⊥
     no_entry [] table many = omega arith
     no_entry (e ∷ es) table many = let known = (recursion_from_All (IsEntry []) (e ∷ es) table.each).0.0.known in omega arith
@@ -81,7 +94,14 @@ empty_is_placed g = record {
 
 empty_is_roomy : (g : Geometry) (stream_bytes : ℕ) → LONGEST_FRAME ≤ stream_bytes → stream_bytes ≤ MAX_LOG_BYTES → IsRoomyLog g stream_bytes []
 unfolding empty_is_placed
-empty_is_roomy g stream_bytes least most = record { placed = empty_is_placed g; room = record { sum = omega arith; fits = omega arith; lsns = omega arith; short = most } }
+empty_is_roomy g stream_bytes least most = record { placed = empty_is_placed g; room = record { sum = omega arith; fits = omega arith; lsns = omega arith; short = most }; locks = none_more }
+  where
+    none_more : NeedMore g.max_locks [] → ⊥
+    none_more more = no_node more.0 more.2 more.3
+      where
+        no_node : (nodes : List (ℕ × Granule)) → ((x : ℕ × Granule) → IsAmong x nodes → ⊥) → g.max_locks < length nodes → ⊥
+        no_node [] none less = omega arith
+        no_node (x ∷ nodes) none less = none x (inl refl)
 
 pub format_is_roomy : (g : Geometry) (stream_bytes : ℕ) → LONGEST_FRAME ≤ stream_bytes → stream_bytes ≤ MAX_LOG_BYTES → AreRoomy g stream_bytes 0 []
 format_is_roomy g stream_bytes least most = record {
@@ -170,61 +190,69 @@ module _ (g : Geometry) where
       none_some : {bytes : List ℕ} → ◌≡◌ {A = Option (List ℕ)} None (Some bytes) → ⊥
       none_some e = cc
 
-module _ (g : Geometry) (stream_bytes : ℕ) (log : List LogRecord) (s : State) (opened : IsOpenedFrom stream_bytes log s) where
-  -- with no Prepare in the log nobody is under way
-  module _ (inside : All (IsInBounds g) log) where
-    no_doubt : doubts_in log ≡ []
-    no_doubt = no_doubts log (bounds_prepare_none g log inside)
+-- ---- analysis
 
-    none_active : s.sessions.active ≡ []
-    none_active = no_txns s.sessions.active (opened.active ∙ ap (map (λ (d : LoggedDoubt). d.txn)) no_doubt)
-      where
-        no_txns : (undos : List SessionTxn) → txns_of undos ≡ [] → undos ≡ []
-        no_txns [] e = refl
-        no_txns (a ∷ undos) e = cc
+pub meant : (g : Geometry) (stream_bytes least : ℕ) (log : List LogRecord) → AreRoomy g stream_bytes least log → Lawful log → AreMeant g log
+meant g stream_bytes least log k lawful = lawful_meant g log lawful (whole_placed g stream_bytes least log k).inside (λ n. (k.placed n).few)
 
-    none_prepared : s.sessions.prepared ≡ []
-    none_prepared = no_pairs s.sessions.prepared (opened.prepared ∙ ap (map pair_logged) no_doubt)
-      where
-        no_pairs : (ps : List PreparedTxn) → pairs_of ps ≡ [] → ps ≡ []
-        no_pairs [] e = refl
-        no_pairs (p ∷ ps) e = cc
+-- ---- the state that an open makes
 
-  pub opens_roomy : IsRoomyLog g stream_bytes log → IsRoomyState s
-  opens_roomy k =
-      let none = none_active k.placed.inside in
-      let doubts : length s.sessions.prepared ≡ 0 = ap length (none_prepared k.placed.inside) in
+module _ (g : Geometry) (stream_bytes : ℕ) (log : List LogRecord) (s : State) (opened : IsOpenedFrom g stream_bytes log s) where
+  -- who is under way is in doubt in the log, and the other way round
+  in_doubt : (t : ℕ) → IsAmong t (txns_of s.sessions.active) → is_in_doubt t log ≡ true
+  in_doubt t m =
+      let d = map_among (λ (d : LoggedDoubt). d.txn) t (doubts_in log) (subst (IsAmong t) opened.active m) in
+      ap (λ u. is_in_doubt u log) (sym d.2) ∙ (among_filter (λ (d : LoggedDoubt). is_in_doubt d.txn log) d.0 (filter_map doubt_of log) d.1).1
+
+  is_under_way : (t : ℕ) → is_in_doubt t log ≡ true → IsAmong t (txns_of s.sessions.active)
+  is_under_way t doubt =
+      let d = doubt_there t log doubt in
+      subst (IsAmong t) (sym opened.active) (subst (λ u. IsAmong u (map (λ (d : LoggedDoubt). d.txn) (doubts_in log))) d.2 (among_map (λ (d : LoggedDoubt). d.txn) d.0 (doubts_in log) d.1))
+
+  matches : (a : SessionTxn) → IsAmong a s.sessions.active → MatchesUndo log a.txn a.undo.images
+  matches a m = subst (λ (undo : UndoList). MatchesUndo log a.txn undo.images) (sym (opened.undo_lists a m)) (sym (reverse-reverse (map (λ (c : UnansweredChange). (c.id, c.before)) (unanswered a.txn log))))
+
+  each_undecided : (a : SessionTxn) → IsAmong a s.sessions.active → IsUndecided log a.txn × MatchesUndo log a.txn a.undo.images
+  each_undecided a m = (inr (in_doubt a.txn (txn_among a s.sessions.active m)), matches a m)
+
+  -- those in doubt come once each
+  once : Lawful log → EachOnce (txns_of s.sessions.active)
+  once lawful = subst EachOnce (sym opened.active) (doubts_once log lawful)
+
+  pub opens_roomy : IsRoomyLog g stream_bytes log → Lawful log → IsRoomyState s
+  opens_roomy k lawful =
       let same : k.placed.records ≡ s.sessions.records = same_map rids_total exact_rids k.placed.records s.sessions.records (λ id. k.placed.shown id ∙ sym (opened.records id)) in
-      let claimed : Claimed k.placed.records [] (slot_count log) = rolled_claimed k.placed.records k.placed.undos [] (slot_count log) k.placed.pages (λ a m. absurd m) in
-      let placed : Claimed s.sessions.records [] s.counts =
-      subst (λ R. Claimed R [] s.counts) same (same_claimed k.placed.records [] (slot_count log) s.counts opened.counts claimed) in
+      let claimed : Claimed k.placed.records s.sessions.active (slot_count log) = some_claimed g log k.placed s.sessions.active (once lawful) each_undecided in
+      let placed : Claimed s.sessions.records s.sessions.active s.counts =
+      subst (λ R. Claimed R s.sessions.active s.counts) same (same_claimed k.placed.records s.sessions.active (slot_count log) s.counts opened.counts claimed) in
+      let less = some_owe_no_more log k.placed.undos k.placed.undecided s.sessions.active (once lawful) each_undecided in
+      let many : length s.sessions.prepared ≡ length (doubts_in log) =
+      sym (length-map s.sessions.prepared pair_of) ∙ ap length opened.prepared ∙ length-map (doubts_in log) pair_logged in
       let fits = k.room.fits in
-      let sum = k.room.sum in
       let lsns = k.room.lsns in
       let short = k.room.short in
-      let reserved : owed_by_all s.sessions.active ≡ 0 = ap owed_by_all none in
       let kept : cost_of_log s.log ≡ cost_of_log log = ap cost_of_log opened.log in
       let last : length s.log ≡ length log = ap length opened.log in
       let long = opened.as_long in
       record {
-        pages = subst (λ (undos : List SessionTxn). Claimed s.sessions.records undos s.counts) (sym none) placed;
-        log = record { sum = omega arith; fits = omega (arith, fits, sum, reserved, kept, long, doubts); lsns = omega (arith, lsns, sum, reserved, last, doubts); short = omega arith };
+        pages = placed;
+        log = record { sum = refl; fits = omega (arith, fits, less, many, kept, long); lsns = omega (arith, lsns, less, many, last); short = omega (arith, short, long) };
       }
 
   pub opens_leaving : (least : ℕ) → AreRoomy g stream_bytes least log → Lawful log → HasNoLosers log → LeavesRoomyLogsFrom g stream_bytes least s
   opens_leaving least k lawful ended =
       let whole = whole_placed g stream_bytes least log k in
-      let none = bounds_prepare_none g log whole.inside in
       let numbers : AllByRecursion (λ r. r.txn < LAST_TXN) log =
       recursion-weaker (IsInBounds g) (λ r. r.txn < LAST_TXN) (λ r h. h.number) log (recursion_from_All (IsInBounds g) log whole.inside) in
-      let nobody : (t : ℕ) → IsAmong t (txns_of s.sessions.active) → ⊥ = λ t m. subst (λ (xs : List SessionTxn). IsAmong t (txns_of xs)) (none_active whole.inside) m in
+      let runs : (t : ℕ) → IsAmong t (txns_of s.sessions.active) → phases.IsUndecided log t =
+      λ t m. in_doubt_runs g log (meant g stream_bytes least log k lawful) t (in_doubt t m) in
       let is_whole : IsWholeLog log s.sessions =
       record {
         lawful = lawful;
-        writers = λ t id changed not_over. absurd (true≢false (sym (ended t id changed not_over) ∙ none_in_doubt t log none));
-        unended = λ t m. absurd (nobody t m);
-        above = λ t m. absurd (nobody t m);
-        undo_lists = λ a m. absurd (subst (IsAmong a) (none_active whole.inside) m);
+        writers = λ t id changed not_over. is_under_way t (ended t id changed not_over);
+        unended = λ t m. (runs t m).runs;
+        above = λ t m. (runs t m).some;
+        undo_lists = matches;
         some = opened.some;
       } in
       record {
@@ -232,10 +260,7 @@ module _ (g : Geometry) (stream_bytes : ℕ) (log : List LogRecord) (s : State) 
         prefixes = subst (AreRoomy g stream_bytes least) (sym opened.log) k;
         counts = λ p. opened.counts p ∙ ap (λ l. slot_count l p) (sym opened.log);
         whole = subst (λ l. IsWholeLog l s.sessions) (sym opened.log) is_whole;
+        losers = λ t loser. absurd (opened.ended t (subst (λ l. IsLoser l t) opened.log loser));
         txns = opened.least LAST_TXN (omega arith) numbers;
+        locks = opened.locks;
       }
-
--- ---- analysis
-
-pub meant : (g : Geometry) (stream_bytes least : ℕ) (log : List LogRecord) → AreRoomy g stream_bytes least log → Lawful log → AreMeant g log
-meant g stream_bytes least log k lawful = lawful_meant g log lawful (whole_placed g stream_bytes least log k).inside (λ n. (k.placed n).few)

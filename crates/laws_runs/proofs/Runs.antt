@@ -1,5 +1,5 @@
 -- A manager over its store from a restart to a crash, and managers one after another, as stretches of a life.
-use Rattle.std.proofs.Common.{◌≡◌, inl, ◌++◌, List, [], ◌∷◌, refl, sym, ap, subst, ◌∙◌, length, take, arith, append-nil, append_assoc}
+use Rattle.std.proofs.Common.{◌≡◌, inl, ◌++◌, List, [], ◌∷◌, refl, sym, ap, subst, ◌∙◌, length, map, take, arith, append-nil, append_assoc}
 use Rattle.std.specs.Prelude.{Contains}
 use Rattle.std.specs.FinMap.{get}
 use Rattle.std.proofs.lemmas.Bool.{true≢false}
@@ -15,6 +15,7 @@ use Rattle.laws_lives.specs.LogPrefixes.{LogDecides, decisions_in}
 use Rattle.laws_lives.specs.LogTells.{IsLogAfter}
 use Rattle.laws_lives.specs.Doubts.{IsOpeningOf, TracksDoubts}
 use Rattle.laws_lives.specs.OwnSeats.{HasOwnSeats}
+use Rattle.laws_lives.specs.Sessions.{EachOnce, ResolvedTxn}
 use Rattle.laws_lives.specs.WholeLogs.{IsWholeLog}
 use Rattle.laws_lives.specs.Views.{IsAmong}
 use Rattle.laws_calls.proofs.SessionOpens.{found_answered, locks_of_open}
@@ -48,7 +49,7 @@ pub record HasCome (o : Opening) (found : List LogRecord) (es : List Entry) (m l
 
 module _ (g : Geometry) (o : Opening) (found : List LogRecord) where
   manage_comes : (es : List Entry) (m new : StoredState) → IsStored m.state m.store → IsStateAfter o found es m.state → (e : StoredEvent)
-      → StoredSteps g m e new → HasCome o found es m new (entries_made m e)
+      → StoredSteps g m e new → HasCome o found es m new (entries_made m e new)
   manage_comes es m new stored k (Manage e works) h =
       let come = event_comes m stored o found es k g new.state e h.0 works new.store h.1 h.2 in
       record { state = session_event_stays g o found es m.state new.state e k h.0; stored = h.2; events = come.0; runs = come.1 }
@@ -73,14 +74,14 @@ module _ (g : Geometry) (o : Opening) (found : List LogRecord) where
       }
   events_come es m stored k (e ∷ events) last made h =
       let one = manage_comes es m h.0 stored k e h.2 in
-      let rest = events_come (es ++ entries_made m e) h.0 one.stored one.state events last h.1 h.3 in
-      let all : (es ++ entries_made m e) ++ h.1 ≡ es ++ made = append_assoc es (entries_made m e) h.1 ∙ ap (λ made. es ++ made) (sym h.4) in
+      let rest = events_come (es ++ entries_made m e h.0) h.0 one.stored one.state events last h.1 h.3 in
+      let all : (es ++ entries_made m e h.0) ++ h.1 ≡ es ++ made = append_assoc es (entries_made m e h.0) h.1 ∙ ap (λ made. es ++ made) (sym h.4) in
       record {
         state = subst (λ es. IsStateAfter o found es last.state) all rest.state;
         stored = rest.stored;
         events = one.events ++ rest.events;
         runs = subst (λ made. ManagerRunsTo (over m.state m.store) (one.events ++ rest.events) es (over last.state last.store) made) all
-            (runs_join (over m.state m.store) one.events es (over h.0.state h.0.store) (es ++ entries_made m e) rest.events (over last.state last.store) ((es ++ entries_made m e) ++ h.1)
+            (runs_join (over m.state m.store) one.events es (over h.0.state h.0.store) (es ++ entries_made m e h.0) rest.events (over last.state last.store) ((es ++ entries_made m e h.0) ++ h.1)
             one.runs rest.runs);
       }
 
@@ -115,6 +116,7 @@ module _ (g : Geometry) (o : Opening) (s : RecoveryState) (f : MayBeFound s) (op
           whole = subst (λ rs. IsWholeLog rs r.first.sessions) log at_work.sessions.whole;
           doubts = subst (λ rs. TracksDoubts rs r.first.sessions) log at_work.sessions.tracks;
           decides = subst (LogDecides (length s.log) o []) log at_work.decides;
+          single = subst (λ rs. EachOnce (map (λ (r : ResolvedTxn). r.txn) rs)) (sym opens.resolving) tt;
           locks = locks_of_open r.first h.opens.locks;
         };
         waits = record {
@@ -122,6 +124,8 @@ module _ (g : Geometry) (o : Opening) (s : RecoveryState) (f : MayBeFound s) (op
           once = λ v w m n same. absurd (subst (IsAmong v) h.opens.waiting m);
           all = λ running a m. absurd (subst (IsAmong a) opens.committing m);
           prepares = λ running p m e. absurd (true≢false (sym (found_answered p o.in_doubt (subst (IsAmong p) opens.prepared m)) ∙ e));
+          resolves = λ running r ended. absurd (subst (IsAmong r) opens.resolving ended.0);
+          resolve_once = λ v w global x y m n first second. absurd (subst (IsAmong v) h.opens.waiting m);
         };
         forced = record {
           least = omega (arith, least, durable);

@@ -14,7 +14,7 @@ use Rattle.laws_lives.specs.SessionSteps.{AnswerAbort, AnswerCommit, AnswerInDou
 use Rattle.laws_lives.specs.Views.{IsAmong}
 use Rattle.laws_calls.proofs.Links.{GoesBy}
 use Rattle.laws_calls.proofs.Prefixes.{prefix_on, whole_prefix}
-use Rattle.laws_calls.proofs.SessionsWaiting.{goes_on_log}
+use Rattle.laws_calls.proofs.LeftWaits.{goes_on_log}
 use Rattle.laws_calls.specs.CallHistories.{IsPrefix}
 use Rattle.laws_calls.specs.States.{State}
 use Rattle.laws_lives.specs.ManagerSteps.{AnswersDurable, WorksTo, decision_resolved}

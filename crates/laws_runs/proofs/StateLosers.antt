@@ -1,7 +1,9 @@
--- The log of a state with room is roomy: the losers of it are those under way that have a record, and there are no more than there may be.
-use Rattle.std.proofs.Common.{◌≡◌, ◌≢◌, inl, inr, ⊎_elim, ◌+◌, ◌<◌, ◌≤◌, ℕ, zero, suc, List, [], ◌∷◌, Bool, true, false, cond, refl, sym, ap, subst, length, arith}
+-- The log of a state with room is roomy: its losers and those in doubt in it are those under way that have a record, and there are no more than there may be.
+use Rattle.std.proofs.Common.{◌≡◌, ◌≢◌, inl, inr, ⊎_elim, ◌+◌, ◌<◌, ◌≤◌, ℕ, zero, suc, List, [], ◌∷◌, Bool, true, false, cond, refl, sym, ap, subst, ◌∙◌, length, arith}
 use Rattle.std.specs.Prelude.{◌==◌, All, IsTrue, not}
 use Rattle.std.specs.List.{AllByRecursion}
+use Rattle.std.proofs.lemmas.Bool.{cases_Bool}
+use Rattle.std.proofs.lemmas.List.{length-map}
 use Rattle.std.proofs.lemmas.List.Elements.{recursion_from_All}
 use Rattle.shore_types.specs.declared.ids.PageId.{PageId}
 use Rattle.shore_types.specs.declared.layout.Geometry.{Geometry}
@@ -9,7 +11,7 @@ use Rattle.shore_types.specs.declared.layout.TheConstants.{MAX_TRANSACTIONS}
 use Rattle.shore_model.specs.declared.histories.Entry.{Entry}
 use Rattle.shore_model.specs.declared.histories.Opening.{Opening}
 use Rattle.shore_model.specs.declared.log_records.LogTxn.{LogTxn}
-use Rattle.shore_model.specs.Logs.{IsEntry, last_of, rise_above}
+use Rattle.shore_model.specs.Logs.{IsEntry, is_in_doubt, is_over, last_of, rise_above}
 use Rattle.shore_analysis.proofs.Counted.{rise_first}
 use Rattle.shore_analysis.specs.Meant.{IsCrowded, IsInBounds}
 use Rattle.laws_calls.proofs.Links.{shorter_without}
@@ -17,18 +19,19 @@ use Rattle.laws_calls.proofs.Sessions.{AreSessionsAfter}
 use Rattle.laws_calls.specs.CallHistories.{IsRoomyState}
 use Rattle.laws_calls.specs.States.{State}
 use Rattle.laws_lives.proofs.WholeLogs.{image_in_place}
-use Rattle.laws_runs.proofs.NoPrepares.{HasNoPrepare, none_in_doubt}
+use Rattle.laws_lives.proofs.DoubtSteps.{doubt_is_prepared}
+use Rattle.laws_lives.specs.Doubts.{NeedMore, doubts_in, pair_logged}
 use Rattle.laws_lives.specs.WholeLogs.{IsWholeLog}
 use Rattle.laws_lives.specs.Undo.{IsLoser}
 use Rattle.laws_room.proofs.Leaving.{left_keeps}
 use Rattle.laws_room.specs.Claims.{Claimed}
 use Rattle.laws_room.specs.LogRooms.{owed, owed_by_all}
 use Rattle.laws_lives.proofs.Members.{among_without, member_stays, txn_among, txn_of_one, txn_stays}
-use Rattle.laws_lives.specs.Sessions.{EachOnce, SessionTxn, txns_of, without_txn}
+use Rattle.laws_lives.specs.Sessions.{EachOnce, SessionTxn, pair_of, txns_of, without_txn}
 use Rattle.laws_lives.specs.Views.{IsAmong}
-use Rattle.laws_runs.proofs.Losers.{bounds_prepare_none, loser_writes}
+use Rattle.laws_runs.proofs.DoubtsThere.{doubt_known, doubt_there}
 use Rattle.laws_runs.proofs.SlotCounts.{same_claimed}
-use Rattle.laws_runs.specs.RoomyLogs.{AreLosers, IsRoomyLog}
+use Rattle.laws_runs.specs.RoomyLogs.{AreUndecided, IsRoomyLog, IsUndecided}
 use Rattle.laws_runs.specs.SlotCounts.{slot_count}
 
 -- ---- a table of transactions under way is no longer than their list
@@ -57,7 +60,7 @@ table_within low (e ∷ es) undos rising all =
 
 -- ---- the transactions that have a record
 
-owed_less : (t : ℕ) (undos : List SessionTxn) → owed_by_all (without_txn t undos) ≤ owed_by_all undos
+pub owed_less : (t : ℕ) (undos : List SessionTxn) → owed_by_all (without_txn t undos) ≤ owed_by_all undos
 owed_less t [] = omega arith
 owed_less t (a ∷ undos) = by (not (a.txn == t)) (owed_less t undos)
   where
@@ -118,12 +121,21 @@ module _ (s : State) where
 -- ---- the log of a state with room is roomy
 
 module _ (g : Geometry) (base : ℕ) (o : Opening) (es : List Entry) (s : State) (k : AreSessionsAfter base o es s.sessions s.log) (roomy : IsRoomyState s) (few : length s.sessions.active ≤ MAX_TRANSACTIONS)
-    (whole : IsWholeLog s.log s.sessions) (counts : (p : PageId) → s.counts p ≡ slot_count s.log p) (inside : All (IsInBounds g) s.log) where
-  no_prepare : HasNoPrepare s.log
-  no_prepare = bounds_prepare_none g s.log inside
+    (whole : IsWholeLog s.log s.sessions) (counts : (p : PageId) → s.counts p ≡ slot_count s.log p) (inside : All (IsInBounds g) s.log)
+    (losers : (t : ℕ) → IsLoser s.log t → IsAmong t (txns_of s.sessions.active)) (places : NeedMore g.max_locks (doubts_in s.log) → ⊥) where
+  -- who is in doubt is prepared, and under way
+  doubt_under_way : (t : ℕ) → is_in_doubt t s.log ≡ true → IsAmong t (txns_of s.sessions.active)
+  doubt_under_way t doubt =
+      let d = doubt_there t s.log doubt in
+      subst (λ u. IsAmong u (txns_of s.sessions.active)) d.2 (k.agree.under_way d.0.txn (doubt_is_prepared k.sound k.logged k.doubts d.0 d.1))
 
-  loser_under_way : (t : ℕ) → IsLoser s.log t → IsAmong t (txns_of s.sessions.active)
-  loser_under_way t h = let wrote = loser_writes s.log whole.lawful no_prepare t h in whole.writers t wrote.0 wrote.1 h.not_over
+  undecided_under_way : (t : ℕ) → IsUndecided s.log t → IsAmong t (txns_of s.sessions.active)
+  undecided_under_way t (inl loser) = losers t loser
+  undecided_under_way t (inr doubt) = doubt_under_way t doubt
+
+  loser_or_doubt : (t : ℕ) → 0 < t → 0 < last_of t s.log → is_over t s.log ≡ false → IsUndecided s.log t
+  loser_or_doubt t some known not_over =
+      ⊎_elim (λ doubt. inr doubt) (λ none. inl (record { is_one = some; known = known; not_over = not_over; not_in_doubt = none })) (cases_Bool (is_in_doubt t s.log))
 
   not_crowded : IsCrowded s.log → ⊥
   not_crowded crowded =
@@ -131,34 +143,37 @@ module _ (g : Geometry) (base : ℕ) (o : Opening) (es : List Entry) (s : State)
       let many = crowded.2 in
       omega (arith, within, many, few)
     where
-      is_loser : (e : LogTxn) → IsEntry s.log e → IsLoser s.log e.txn
-      is_loser e h = record { is_one = h.0.is_one; known = h.0.known; not_over = h.0.not_over; not_in_doubt = none_in_doubt e.txn s.log no_prepare }
-
       all_under_way : (txns : List LogTxn) → AllByRecursion (IsEntry s.log) txns → AllByRecursion (λ e. IsAmong e.txn (txns_of s.sessions.active)) txns
       all_under_way [] all = tt
-      all_under_way (e ∷ txns) all = (loser_under_way e.txn (is_loser e all.0), all_under_way txns all.1)
+      all_under_way (e ∷ txns) all = (undecided_under_way e.txn (loser_or_doubt e.txn all.0.0.is_one all.0.0.known all.0.0.not_over), all_under_way txns all.1)
 
-  as_loser : (a : SessionTxn) → IsAmong a s.sessions.active → 0 < last_of a.txn s.log → IsLoser s.log a.txn
-  as_loser a m known = record {
-    is_one = whole.above a.txn (txn_among a s.sessions.active m);
-    known = known;
-    not_over = whole.unended a.txn (txn_among a s.sessions.active m);
-    not_in_doubt = none_in_doubt a.txn s.log no_prepare;
-  }
+  as_undecided : (a : SessionTxn) → IsAmong a s.sessions.active → 0 < last_of a.txn s.log → IsUndecided s.log a.txn
+  as_undecided a m known =
+      let there = txn_among a s.sessions.active m in
+      loser_or_doubt a.txn (whole.above a.txn there) known (whole.unended a.txn there)
+
+  -- who is undecided has a record
+  is_known : (t : ℕ) → IsUndecided s.log t → 0 < last_of t s.log
+  is_known t (inl loser) = loser.known
+  is_known t (inr doubt) = doubt_known t s.log doubt
 
   has_left : HasLeft s s.sessions.active s.sessions.active
   has_left = take_out s s.sessions.active s.sessions.active k.agree.once (λ a m. m) roomy.pages
 
-  are_losers : AreLosers s.log has_left.left
-  are_losers = record {
+  are_undecided : AreUndecided s.log has_left.left
+  are_undecided = record {
     each = λ a m.
         let active = has_left.from a m in
-        (as_loser a active (has_left.known a active m), whole.undo_lists a active);
+        (as_undecided a active (has_left.known a active m), whole.undo_lists a active);
     every = λ t h.
-        let a = txn_of_one t s.sessions.active (loser_under_way t h) in
-        let known = subst (λ u. 0 < last_of u s.log) (sym a.2) h.known in
+        let a = txn_of_one t s.sessions.active (undecided_under_way t h) in
+        let known = subst (λ u. 0 < last_of u s.log) (sym a.2) (is_known t h) in
         subst (λ u. IsAmong u (txns_of has_left.left)) a.2 (txn_among a.0 has_left.left (has_left.keeps a.0 a.1 known));
   }
+
+  -- as many are prepared as the log has in doubt
+  as_many : length s.sessions.prepared ≡ length (doubts_in s.log)
+  as_many = sym (length-map s.sessions.prepared pair_of) ∙ sym (ap length k.doubts.in_doubt) ∙ length-map (doubts_in s.log) pair_logged
 
   pub state_is_roomy : IsRoomyLog g s.stream_bytes s.log
   state_is_roomy = record {
@@ -166,7 +181,7 @@ module _ (g : Geometry) (base : ℕ) (o : Opening) (es : List Entry) (s : State)
       records = s.sessions.records;
       shown = λ id. sym (image_in_place k.sound k.logged whole id);
       undos = has_left.left;
-      losers = are_losers;
+      undecided = are_undecided;
       pages = same_claimed s.sessions.records has_left.left s.counts (slot_count s.log) (λ p. sym (counts p)) has_left.pages;
       inside = inside;
       few = not_crowded;
@@ -176,5 +191,7 @@ module _ (g : Geometry) (base : ℕ) (o : Opening) (es : List Entry) (s : State)
         let lsns = roomy.log.lsns in
         let sum = roomy.log.sum in
         let less = has_left.owed in
-        record { sum = omega arith; fits = omega (arith, fits, sum, less); lsns = omega (arith, lsns, sum, less); short = roomy.log.short };
+        let many = as_many in
+        record { sum = refl; fits = omega (arith, fits, sum, less, many); lsns = omega (arith, lsns, sum, less, many); short = roomy.log.short };
+    locks = places;
   }

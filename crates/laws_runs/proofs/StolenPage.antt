@@ -3,7 +3,9 @@ use Rattle.std.proofs.Common.{◌≡◌, inl, ⊎_elim, ◌++◌, ◌≤◌, ℕ
 use Rattle.std.specs.FinMap.{empty, get, get-empty}
 use Rattle.std.specs.Ordering.{eq_by_cmp}
 use Rattle.shore_types.specs.Ids.{rid_cmp}
-use Rattle.shore_types.specs.Layout.{HasPage, HasStore}
+use Rattle.shore_types.specs.Layout.{HasGranule, HasPage, HasStore, LocksInLimits}
+use Rattle.std.proofs.lemmas.List.Elements.{All-nil}
+use Rattle.shore_model.specs.declared.requests.Request.{Request}
 use Rattle.shore_types.specs.declared.ids.Rid.{Rid}
 use Rattle.shore_types.specs.declared.layout.Geometry.{Geometry}
 use Rattle.shore_types.specs.declared.layout.TheConstants.{MAX_LOG_BYTES, MAX_RECORD_BYTES}
@@ -44,7 +46,7 @@ use Rattle.laws_runs.specs.Stays.{AreStoredStays, IsStoredUp, Up}
 use Rattle.laws_runs.specs.StoredRuns.{IsOpenedOver, Manage, StoredMoves, StoredRun, Tend, span_of_run}
 use Rattle.laws_runs.specs.WorkedLogs.{inserted, taken_back}
 
-module _ (g : Geometry) (stream_bytes : ℕ) (bytes : List ℕ) (store : HasStore g 0) (page : HasPage g first_page) (short : length bytes ≤ MAX_RECORD_BYTES)
+module _ (g : Geometry) (stream_bytes : ℕ) (bytes : List ℕ) (store : HasStore g 0) (page : HasPage g first_page) (limits : LocksInLimits g) (short : length bytes ≤ MAX_RECORD_BYTES)
     (long : 100000 ≤ stream_bytes) (most : stream_bytes ≤ MAX_LOG_BYTES) where
   -- ---- the first manager: its record is forced, and its page written back
 
@@ -80,7 +82,7 @@ module _ (g : Geometry) (stream_bytes : ℕ) (bytes : List ℕ) (store : HasStor
     first = opened_empty stream_bytes;
     events = Manage begins [] ∷ Manage inserts (AppendRecord change ∷ []) ∷ Manage (Forced 1) (ForceLog 1 ∷ []) ∷ Tend (FlushPage first_page ∷ []) ∷ [];
     last = record { state = with_durable 1 run.1; store = with_flush };
-    made = entries_of (opened_empty stream_bytes) begins ++ (entries_of run.0 inserts ++ []);
+    made = entries_of (opened_empty stream_bytes) begins run.0 ++ (entries_of run.0 inserts run.1 ++ []);
     survive = 1;
     pages = with_flush.volume;
     begin = 0;
@@ -91,7 +93,7 @@ module _ (g : Geometry) (stream_bytes : ℕ) (bytes : List ℕ) (store : HasStor
       let durable = run.7 in
       let one = ap length run.6 in (
         record { state = run.0; store = formatted },
-        entries_of run.0 inserts ++ [],
+        entries_of run.0 inserts run.1 ++ [],
         (run.2, refl, record { log = sym run.4; durable = sym run.5 }),
         (
           record { state = run.1; store = with_change },
@@ -147,7 +149,7 @@ module _ (g : Geometry) (stream_bytes : ℕ) (bytes : List ℕ) (store : HasStor
     redone = refl;
     no_losers = λ t id changed over. absurd (unchanged changed);
     opens = opened_over_none;
-    from = opened_from_none stream_bytes;
+    from = opened_from_none g limits stream_bytes;
     moves = stolen_moves;
     lost = record { least = omega arith; most = omega arith; shows = λ p. inl refl };
     begin = refl;
@@ -273,9 +275,11 @@ module _ (g : Geometry) (stream_bytes : ℕ) (bytes : List ℕ) (store : HasStor
       prepared = refl;
       active = refl;
       undo_lists = λ a m. absurd m;
+      ended = none_left;
       counts = λ p. refl;
       some = omega arith;
       least = λ n some above. let one = above.0 in omega (arith, one);
+      locks = record { limit = let least = limits.0 in omega arith; within = omega arith; inside = All-nil (λ (r : Request). HasGranule g r.granule) };
     };
     moves = (refl, refl);
     lost = record { least = omega arith; most = omega arith; shows = λ p. inl refl };

@@ -38,7 +38,7 @@ use Rattle.laws_runs.specs.SoundStores.{IsSoundStore, IsUnderWay, managed}
 
 module _ (g : Geometry) (stream_bytes : ℕ) (o : Opening) (s : RecoveryState) (f : MayBeFound s) (opening : IsOpeningOf s.log o) (roomy : AreRoomy g stream_bytes s.durable s.log) (works : List RecoveryEvent) (ready : RecoveryState)
     (first : State) (restarts : RestartsTo s works ready) (redone : ready.redone ≡ length ready.log) (no_losers : HasNoLosers ready.log)
-    (opens : IsOpenedOver o ready first) (from : IsOpenedFrom stream_bytes ready.log first) where
+    (opens : IsOpenedOver o ready first) (from : IsOpenedFrom g stream_bytes ready.log first) where
   restarted : IsRecoverable ready × IsRestartOf s.log ready
   restarted = events_restart s.log s works ready f.recoverable (record { turns = []; undone = refl; durable = f.durable }) restarts
 
@@ -79,7 +79,7 @@ module _ (g : Geometry) (stream_bytes : ℕ) (o : Opening) (s : RecoveryState) (
         asks = λ w there. absurd (subst (IsAmong w) opens.waiting there);
         no_cycle = none_in_none first.locks.requests opens.locks.nobody_waits;
         stored = opens.stored;
-        roomy = opens_roomy g stream_bytes ready.log first from (whole_roomy g stream_bytes ready.durable ready.log room);
+        roomy = opens_roomy g stream_bytes ready.log first from (whole_roomy g stream_bytes ready.durable ready.log room) (undone_lawful s.log restarted.1.turns ready.log restarted.1.undone f.lawful);
         leaves = opens_leaving g stream_bytes ready.log first from first.durable (subst (λ n. AreRoomy g stream_bytes n ready.log) opens.stored.durable room) (undone_lawful s.log restarted.1.turns ready.log restarted.1.undone f.lawful) no_losers;
         recoverable = restarted.0;
         redone = redone;
@@ -125,7 +125,7 @@ module _ (g : Geometry) (stream_bytes : ℕ) (o : Opening) (found : List LogReco
       → StoredMoves g m events last made → IsUnderWay g stream_bytes o found (es ++ made) last
   moves_under_way es m events last made k h =
       let come = events_come g o found es m k.stored k.state events last made h in
-      let room = moves_leaving g stream_bytes o found es m events last made k.state k.roomy k.leaves h in
+      let room = moves_leaving g stream_bytes o found es m events last made k.state k.asks k.roomy k.leaves h in
       let worked = moves_work g m events last made (record { recoverable = k.recoverable; redone = k.redone }) h in
       record {
         state = come.state;
@@ -139,8 +139,8 @@ module _ (g : Geometry) (stream_bytes : ℕ) (o : Opening) (found : List LogReco
       }
 
   pub step_under_way : (es : List Entry) (m : StoredState) (e : StoredEvent) (new : StoredState) → IsUnderWay g stream_bytes o found es m → StoredSteps g m e new
-      → IsUnderWay g stream_bytes o found (es ++ entries_made m e) new
-  step_under_way es m e new k h = moves_under_way es m (e ∷ []) new (entries_made m e) k (new, [], h, (refl, refl), sym (append-nil (entries_made m e)))
+      → IsUnderWay g stream_bytes o found (es ++ entries_made m e new) new
+  step_under_way es m e new k h = moves_under_way es m (e ∷ []) new (entries_made m e new) k (new, [], h, (refl, refl), sym (append-nil (entries_made m e new)))
 
   pub under_way_inside : (es : List Entry) (m : StoredState) → IsUnderWay g stream_bytes o found es m → AreRecords g m.state.sessions.records
   under_way_inside es m k =
@@ -178,7 +178,7 @@ moves_join g m (e ∷ events) mid made later last more h k = (
   h.1 ++ more,
   h.2,
   moves_join g h.0 events mid h.1 later last more h.3 k,
-  ap (λ es. es ++ more) h.4 ∙ append_assoc (entries_made m e) h.1 more,
+  ap (λ es. es ++ more) h.4 ∙ append_assoc (entries_made m e h.0) h.1 more,
 )
 
 pub managed_join : (events later : List StoredEvent) → managed (events ++ later) ≡ managed events ++ managed later

@@ -1,14 +1,15 @@
 -- A record of undo keeps a log roomy.
-use Rattle.std.proofs.Common.{◌≡◌, ◌≢◌, inr, ⊎_elim, ◌++◌, ◌+◌, ◌-◌, ◌<◌, ℕ, List, [], ◌∷◌, true, false, cond, Some, refl, sym, ap, subst, ◌∙◌, length, map, drop, arith}
+use Rattle.std.proofs.Common.{◌≡◌, ◌≢◌, inl, inr, ⊎_elim, ◌++◌, ◌+◌, ◌-◌, ◌<◌, ℕ, List, [], ◌∷◌, true, false, cond, Some, refl, sym, ap, subst, ◌∙◌, length, map, drop, arith}
 use Rattle.std.specs.Prelude.{All, reverse}
 use Rattle.std.specs.FinMap.{get}
+use Rattle.std.specs.List.Sorted.{IsStrictlySortedBy}
 use Rattle.std.specs.Ordering.{eq_by_cmp}
 use Rattle.std.proofs.lemmas.List.{reverse-append, reverse-reverse}
-use Rattle.std.proofs.lemmas.List.Elements.{All-push}
+use Rattle.std.proofs.lemmas.List.Elements.{All-nil, All-push}
 use Rattle.std.proofs.lemmas.List.Sums.{sum_by_push}
 use Rattle.shore_types.specs.Ids.{rid_cmp}
 use Rattle.shore_types.specs.Images.{Image}
-use Rattle.shore_types.specs.Layout.{HasSlot}
+use Rattle.shore_types.specs.Layout.{HasGranule, HasSlot}
 use Rattle.shore_types.specs.declared.ids.PageId.{PageId}
 use Rattle.shore_types.specs.declared.ids.Rid.{Rid}
 use Rattle.shore_types.specs.declared.layout.Geometry.{Geometry}
@@ -16,17 +17,18 @@ use Rattle.shore_types.specs.declared.layout.TheConstants.{ENDING_COST, LAST_TXN
 use Rattle.shore_model.specs.declared.log_records.LogRecord.{LogRecord}
 use Rattle.shore_model.specs.declared.log_records.Payload.TheVariants.{Compensation, End}
 use Rattle.shore_model.specs.declared.unanswered_changes.UnansweredChange.{UnansweredChange}
-use Rattle.shore_model.specs.Logs.{answered_by, id_in, image_in, image_of_record, is_commit, is_end, is_over, unanswered, undo_next_of}
+use Rattle.shore_model.specs.Logs.{answered_by, id_in, image_in, image_of_record, is_commit, is_decision, is_end, is_in_doubt, is_prepare, is_rollback, unanswered, undo_next_of}
 use Rattle.shore_model.specs.Records.{Records, put_image}
 use Rattle.shore_logrec.specs.Text.{cost_of}
 use Rattle.shore_analysis.proofs.Counted.{last_is_one}
 use Rattle.shore_analysis.proofs.Undone.{was_crowded}
-use Rattle.shore_analysis.specs.Meant.{IsCrowded, IsInBounds, IsServedKind}
+use Rattle.shore_analysis.specs.Meant.{AreGranules, IsCrowded, IsInBounds, IsServedKind, granules_in}
 use Rattle.laws_calls.specs.States.{cost_of_log}
-use Rattle.laws_runs.proofs.NoPrepares.{none_in_doubt}
+use Rattle.laws_lives.proofs.DoubtRecords.{doubts_same}
 use Rattle.laws_lives.proofs.OneMore.{id_itself}
 use Rattle.laws_lives.proofs.Redo.{image_of_record-push, or_image}
 use Rattle.laws_lives.proofs.UndoChains.{unanswered_chain}
+use Rattle.laws_lives.specs.Doubts.{LoggedDoubt, NeedMore, doubts_in}
 use Rattle.laws_lives.specs.Undo.{IsLoser, IsUndoneTo, undo_payload, undo_record}
 use Rattle.laws_lives.specs.UndoChains.{IsUndoChain}
 use Rattle.laws_room.proofs.Costs.{compensation_bytes}
@@ -45,11 +47,11 @@ use Rattle.laws_lives.specs.Sessions.{SessionTxn, txns_of, with_undo, without_tx
 use Rattle.laws_lives.specs.UndoLists.{UndoList}
 use Rattle.laws_lives.specs.Views.{IsAmong}
 use Rattle.laws_lives.proofs.Writers.{same_or_not}
-use Rattle.laws_runs.proofs.Losers.{bounds_prepare_none, other_lost, other_still_loses, own_still_loses}
+use Rattle.laws_runs.proofs.Losers.{other_still_undecided, other_undecided, own_doubt, own_still_loses}
 use Rattle.laws_runs.proofs.Prefixes.{push_roomy, whole_roomy}
 use Rattle.laws_runs.proofs.Redoing.{all_at}
 use Rattle.laws_runs.proofs.SlotCounts.{behind_within, same_claimed, slot_count-push}
-use Rattle.laws_runs.specs.RoomyLogs.{AreRoomy, IsRoomyLog, room_of_log}
+use Rattle.laws_runs.specs.RoomyLogs.{AreRoomy, IsRoomyLog, IsUndecided, room_of_log}
 use Rattle.laws_runs.specs.SlotCounts.{slot_count, slots_behind}
 
 -- ---- the room of a log with one more record
@@ -58,15 +60,15 @@ pub cost_pushed : (log : List LogRecord) (r : LogRecord) → cost_of_log (log ++
 cost_pushed log r = sum_by_push (λ (r : LogRecord). cost_of r.payload) log r
 
 -- a room of these sums is the log's
-pub as_room_of_log : (stream_bytes : ℕ) (log : List LogRecord) (undos : List SessionTxn) (room : LogRoom) → HasLogRoom LONGEST_FRAME 0 undos room
+pub as_room_of_log : (stream_bytes : ℕ) (log : List LogRecord) (undos : List SessionTxn) (room : LogRoom) → HasLogRoom LONGEST_FRAME (length (doubts_in log)) undos room
     → room.kept ≡ cost_of_log log → room.stream_bytes ≡ stream_bytes → room.last_lsn ≡ length log
-    → HasLogRoom LONGEST_FRAME 0 undos (room_of_log stream_bytes log undos)
+    → HasLogRoom LONGEST_FRAME (length (doubts_in log)) undos (room_of_log stream_bytes log undos)
 as_room_of_log stream_bytes log undos room h kept stream last =
     let sum = h.sum in
     let fits = h.fits in
     let lsns = h.lsns in
     let short = h.short in
-    record { sum = omega arith; fits = omega arith; lsns = omega arith; short = omega arith }
+    record { sum = refl; fits = omega (arith, sum, fits, kept, stream); lsns = omega (arith, sum, lsns, last); short = omega (arith, short, stream) }
 
 -- what is put back is in place
 pub put_shown : (R : Records) (log : List LogRecord) (r : LogRecord) (e : Rid × Image) → image_in r.payload ≡ Some e
@@ -106,30 +108,49 @@ module _ (g : Geometry) (stream_bytes : ℕ) (log : List LogRecord) (k : IsRoomy
       let it = all_at (IsInBounds g) log (c.number - 1) change.found k.placed.inside change.here in
       it.id id (ap id_in change.says ∙ e)
 
+  undo_granules : (cs : List UnansweredChange) → AreGranules g (granules_in (undo_payload cs))
+  unfolding IsStrictlySortedBy
+  undo_granules [] = record { inside = All-nil (HasGranule g); rise = tt }
+  undo_granules (c ∷ cs) = record { inside = All-nil (HasGranule g); rise = tt }
+
   undo_in_bounds : IsInBounds g r
   undo_in_bounds = record {
     number = number_below;
     served = undo_served (unanswered t log);
     id = undo_inside (unanswered t log) (unanswered_chain log t);
+    granules = undo_granules (unanswered t log);
   }
 
   inside_more : All (IsInBounds g) new
   inside_more = All-push (IsInBounds g) log r k.placed.inside undo_in_bounds
 
   few_more : IsCrowded new → ⊥
-  few_more crowded = k.placed.few (was_crowded log t loser (λ u. none_in_doubt u log (bounds_prepare_none g log k.placed.inside)) r refl crowded)
+  few_more crowded = k.placed.few (was_crowded log t loser r refl crowded)
 
   its : (a : SessionTxn) × IsAmong a k.placed.undos × (a.txn ≡ t)
-  its = txn_of_one t k.placed.undos (k.placed.losers.every t loser)
+  its = txn_of_one t k.placed.undos (k.placed.undecided.every t (inl loser))
 
   abbrev a : SessionTxn
   a = its.0
 
-  others_lost : (u : ℕ) → t ≢ u → IsLoser new u → IsLoser log u
-  others_lost u other = other_lost log r (bounds_prepare_none g log k.placed.inside) (bounds_prepare_none g new inside_more) u other
+  -- a record of undo decides nothing
+  undecided_by : (cs : List UnansweredChange) → (is_prepare (undo_payload cs) ≡ false) × (is_commit (undo_payload cs) ≡ false) × (is_rollback (undo_payload cs) ≡ false) × (is_decision (undo_payload cs) ≡ false)
+  undecided_by [] = (refl, refl, refl, refl)
+  undecided_by (c ∷ cs) = (refl, refl, refl, refl)
 
-  others_lose : (u : ℕ) → t ≢ u → IsLoser log u → IsLoser new u
-  others_lose u other = other_still_loses log r (bounds_prepare_none g log k.placed.inside) (bounds_prepare_none g new inside_more) u other
+  same_doubts : doubts_in new ≡ doubts_in log
+  same_doubts = doubts_same log r (undecided_by (unanswered t log)).3
+
+  same_room : (undos : List SessionTxn) (room : LogRoom) → HasLogRoom LONGEST_FRAME (length (doubts_in log)) undos room → HasLogRoom LONGEST_FRAME (length (doubts_in new)) undos room
+  same_room undos room h = subst (λ (ds : List LoggedDoubt). HasLogRoom LONGEST_FRAME (length ds) undos room) (sym same_doubts) h
+
+  same_places : NeedMore g.max_locks (doubts_in new) → ⊥
+  same_places more = k.locks (subst (NeedMore g.max_locks) same_doubts more)
+
+  its_doubt : is_in_doubt t new ≡ false
+  its_doubt =
+      let none = undecided_by (unanswered t log) in
+      own_doubt log r none.0 none.1 none.2 ∙ loser.not_in_doubt
 
   -- ---- a Compensation
 
@@ -150,7 +171,7 @@ module _ (g : Geometry) (stream_bytes : ℕ) (log : List LogRecord) (k : IsRoomy
     says = ap undo_payload is
 
     matched : map (λ (c : UnansweredChange). (c.id, c.before)) (c ∷ cs) ≡ reverse a.undo.images
-    matched = ap (map (λ (c : UnansweredChange). (c.id, c.before))) (sym is ∙ ap (λ u. unanswered u log) (sym its.2)) ∙ (k.placed.losers.each a its.1).1
+    matched = ap (map (λ (c : UnansweredChange). (c.id, c.before))) (sym is ∙ ap (λ u. unanswered u log) (sym its.2)) ∙ (k.placed.undecided.each a its.1).1
 
     images : a.undo.images ≡ kept ++ e ∷ []
     images = sym (reverse-reverse a.undo.images) ∙ ap reverse (sym matched) ∙ reverse-append (e ∷ []) (map (λ (c : UnansweredChange). (c.id, c.before)) cs)
@@ -167,35 +188,35 @@ module _ (g : Geometry) (stream_bytes : ℕ) (log : List LogRecord) (k : IsRoomy
         (unanswered_own t log r refl ∙ ap (λ p. answered_by (1 + length log) p (unanswered t log)) says ∙ ap (drop 1) is)
         ∙ sym (reverse-reverse (map (λ (c : UnansweredChange). (c.id, c.before)) cs))
 
-    each_left : (b : SessionTxn) → IsAmong b undos_left → IsLoser new b.txn × MatchesUndo new b.txn b.undo.images
+    each_left : (b : SessionTxn) → IsAmong b undos_left → IsUndecided new b.txn × MatchesUndo new b.txn b.undo.images
     each_left b m =
         let was = among_with a.txn left b k.placed.undos m in
         ⊎_elim
         (λ own.
         let same : b.txn ≡ t = own.0 ∙ its.2 in
         let still : IsLoser new t =
-        own_still_loses log r (bounds_prepare_none g log k.placed.inside) (bounds_prepare_none g new inside_more) (ap is_commit says) (ap is_end says) loser in (
-          subst (IsLoser new) (sym same) still,
+        own_still_loses log r (ap is_prepare says) (ap is_commit says) (ap is_rollback says) (ap is_end says) loser in (
+          inl (subst (IsLoser new) (sym same) still),
           subst (λ u. MatchesUndo new u b.undo.images) (sym same) (subst (λ (undo : UndoList). MatchesUndo new t undo.images) (sym own.1) own_matches),
         ))
         (λ other.
         let apart : t ≢ b.txn = λ same. other.0 (sym same ∙ sym its.2) in
-        let before = k.placed.losers.each was.was was.there in
-        let known : IsLoser log b.txn × MatchesUndo log b.txn b.undo.images =
-        subst (λ (x : SessionTxn). IsLoser log x.txn × MatchesUndo log x.txn x.undo.images) (sym other.1) before in (
-          others_lose b.txn apart known.0,
+        let before = k.placed.undecided.each was.was was.there in
+        let known : IsUndecided log b.txn × MatchesUndo log b.txn b.undo.images =
+        subst (λ (x : SessionTxn). IsUndecided log x.txn × MatchesUndo log x.txn x.undo.images) (sym other.1) before in (
+          other_still_undecided log r b.txn apart known.0,
           ap (map (λ (c : UnansweredChange). (c.id, c.before))) (unanswered_other b.txn log r apart) ∙ known.1,
         ))
         was.one
 
-    every_left : (u : ℕ) → IsLoser new u → IsAmong u (txns_of undos_left)
+    every_left : (u : ℕ) → IsUndecided new u → IsAmong u (txns_of undos_left)
     every_left u h =
         subst (IsAmong u) (sym (txns_with a.txn left k.placed.undos))
-        (k.placed.losers.every u (⊎_elim (λ same. subst (IsLoser log) same loser) (λ other. others_lost u other h) (same_or_not t u)))
+        (k.placed.undecided.every u (⊎_elim (λ same. subst (IsUndecided log) same (inl loser)) (λ other. other_undecided log r u other h) (same_or_not t u)))
 
     pub compensated_roomy : IsRoomyLog g stream_bytes new
     compensated_roomy =
-        let room = (undone_takes LONGEST_FRAME 0 k.placed.undos (room_of_log stream_bytes log k.placed.undos) k.room k.placed.pages.once a its.1 kept e a.undo.marks a.undo.rolling images).1 in
+        let room = (undone_takes LONGEST_FRAME (length (doubts_in log)) k.placed.undos (room_of_log stream_bytes log k.placed.undos) k.room k.placed.pages.once a its.1 kept e a.undo.marks a.undo.rolling images).1 in
         let cost = cost_pushed log r in
         let says_cost = ap cost_of says in
         let bytes = compensation_bytes c.id c.before (undo_next_of cs) in
@@ -205,13 +226,14 @@ module _ (g : Geometry) (stream_bytes : ℕ) (log : List LogRecord) (k : IsRoomy
             records = put_image k.placed.records c.id c.before;
             shown = put_shown k.placed.records log r e (ap image_in says) k.placed.shown;
             undos = undos_left;
-            losers = record { each = each_left; every = every_left };
+            undecided = record { each = each_left; every = every_left };
             pages = same_claimed (put_image k.placed.records c.id c.before) undos_left (slot_count log) (slot_count new) same_count
                 (undo_keeps k.placed.records k.placed.undos (slot_count log) k.placed.pages a its.1 kept e a.undo.marks a.undo.rolling images);
             inside = inside_more;
             few = few_more;
           };
-          room = as_room_of_log stream_bytes new undos_left (undone_room c.before (room_of_log stream_bytes log k.placed.undos)) room (omega arith) refl (omega arith);
+          room = as_room_of_log stream_bytes new undos_left (undone_room c.before (room_of_log stream_bytes log k.placed.undos)) (same_room undos_left (undone_room c.before (room_of_log stream_bytes log k.placed.undos)) room) (omega arith) refl (omega arith);
+          locks = same_places;
         }
 
   -- ---- an End
@@ -226,7 +248,7 @@ module _ (g : Geometry) (stream_bytes : ℕ) (log : List LogRecord) (k : IsRoomy
     pub ended_roomy : IsRoomyLog g stream_bytes new
     ended_roomy =
         let undos_left = without_txn a.txn k.placed.undos in
-        let room = (ended_takes LONGEST_FRAME 0 k.placed.undos (room_of_log stream_bytes log k.placed.undos) k.room k.placed.pages.once a its.1).1 in
+        let room = (ended_takes LONGEST_FRAME (length (doubts_in log)) k.placed.undos (room_of_log stream_bytes log k.placed.undos) k.room k.placed.pages.once a its.1).1 in
         let cost = cost_pushed log r in
         let says_cost = ap cost_of ends in
         let bytes : ENDING_COST ≡ cost_of End = refl in
@@ -236,18 +258,18 @@ module _ (g : Geometry) (stream_bytes : ℕ) (log : List LogRecord) (k : IsRoomy
             records = k.placed.records;
             shown = λ id. k.placed.shown id ∙ sym (image_of_record-push log r id ∙ ap (λ p. or_image (image_in p) id (image_of_record log id)) ends);
             undos = undos_left;
-            losers = record {
+            undecided = record {
               each = λ b m.
                   let there = among_without a.txn b k.placed.undos m in
                   let apart : t ≢ b.txn = λ same. there.1 (sym same ∙ sym its.2) in
-                  let known = k.placed.losers.each b there.0 in (
-                    others_lose b.txn apart known.0,
+                  let known = k.placed.undecided.each b there.0 in (
+                    other_still_undecided log r b.txn apart known.0,
                     ap (map (λ (c : UnansweredChange). (c.id, c.before))) (unanswered_other b.txn log r apart) ∙ known.1,
                   );
               every = λ u h.
                   ⊎_elim
-                  (λ same. absurd (true_not_false (sym (subst (λ v. is_over v new ≡ true) same (over_now log r (inr (ap is_end ends)))) ∙ h.not_over)))
-                  (λ other. txn_stays a.txn u k.placed.undos (k.placed.losers.every u (others_lost u other h)) (λ same. other (sym its.2 ∙ sym same)))
+                  (λ same. absurd (not_its (subst (IsUndecided new) (sym same) h)))
+                  (λ other. txn_stays a.txn u k.placed.undos (k.placed.undecided.every u (other_undecided log r u other h)) (λ same. other (sym its.2 ∙ sym same)))
                   (same_or_not t u);
             };
             pages = same_claimed k.placed.records undos_left (slot_count log) (slot_count new)
@@ -256,11 +278,16 @@ module _ (g : Geometry) (stream_bytes : ℕ) (log : List LogRecord) (k : IsRoomy
             inside = inside_more;
             few = few_more;
           };
-          room = as_room_of_log stream_bytes new undos_left (ended_room (owed a) (room_of_log stream_bytes log k.placed.undos)) room (omega arith) refl (omega arith);
+          room = as_room_of_log stream_bytes new undos_left (ended_room (owed a) (room_of_log stream_bytes log k.placed.undos)) (same_room undos_left (ended_room (owed a) (room_of_log stream_bytes log k.placed.undos)) room) (omega arith) refl (omega arith);
+          locks = same_places;
         }
       where
         true_not_false : true ≡ false → ⊥
         true_not_false e = cc
+
+        not_its : IsUndecided new t → ⊥
+        not_its (inl still) = true_not_false (sym (over_now log r (inr (ap is_end ends))) ∙ still.not_over)
+        not_its (inr doubt) = true_not_false (sym doubt ∙ its_doubt)
 
   undone_by : (cs : List UnansweredChange) → unanswered t log ≡ cs → IsRoomyLog g stream_bytes new
   undone_by [] is = ended_roomy is

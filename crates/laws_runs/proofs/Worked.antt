@@ -1,11 +1,13 @@
 -- A log that a run leaves, and logs that a restart may not take.
-use Rattle.std.proofs.Common.{◌≡◌, inl, ⊎_elim, ◌++◌, ◌+◌, ◌<◌, ◌≤◌, ℕ, suc, List, [], ◌∷◌, true, false, Some, None, refl, sym, ap, subst, ◌∙◌, length, take, take_all, arith}
+use Rattle.std.proofs.Common.{◌≡◌, inl, inr, ⊎_elim, ◌++◌, ◌+◌, ◌<◌, ◌≤◌, ℕ, suc, List, [], ◌∷◌, true, false, Some, None, refl, sym, ap, subst, ◌∙◌, length, take, take_all, arith}
 use Rattle.std.specs.Prelude.{◌*◌, slice_get}
 use Rattle.std.specs.FinMap.{empty, get, get-empty}
 use Rattle.std.proofs.lemmas.List.Elements.{All-cons, All-nil}
 use Rattle.std.proofs.lemmas.List.Sums.{sum_by-cons}
 use Rattle.shore_types.specs.Ids.{rid_cmp}
-use Rattle.shore_types.specs.Layout.{HasPage, HasStore}
+use Rattle.shore_types.specs.Layout.{HasGranule, HasPage, HasStore, LocksInLimits}
+use Rattle.shore_model.specs.declared.requests.Request.{Request}
+use Rattle.laws_runs.proofs.DoubtsThere.{doubt_there}
 use Rattle.shore_types.specs.declared.layout.Geometry.{Geometry}
 use Rattle.shore_types.specs.declared.layout.TheConstants.{LONGEST_FRAME, MAX_LOG_BYTES, MAX_RECORD_BYTES, PAGE_ROOM, SLOT_ENTRY_BYTES}
 use Rattle.shore_model.specs.declared.histories.Entry.{Entry}
@@ -38,7 +40,7 @@ use Rattle.laws_runs.proofs.Prefixes.{whole_roomy}
 use Rattle.laws_runs.proofs.Redoing.{left_have_room}
 use Rattle.laws_runs.proofs.Running.{events_leaving_from}
 use Rattle.laws_runs.proofs.Undoing.{cost_pushed, undone_roomy}
-use Rattle.laws_runs.specs.RoomyLogs.{AreRoomy, IsRoomyLog}
+use Rattle.laws_runs.specs.RoomyLogs.{AreRoomy, IsRoomyLog, IsUndecided}
 use Rattle.laws_runs.specs.RoomyStates.{IsOpenedFrom, LeavesRoomyLogsFrom}
 use Rattle.laws_runs.specs.SlotCounts.{slots_left}
 use Rattle.laws_runs.specs.SoundStores.{MayBeOpened}
@@ -46,20 +48,22 @@ use Rattle.laws_runs.specs.WorkedLogs.{committed, inserted, room_taken, second_i
 
 -- ---- a log that a run leaves
 
-pub opened_from_none : (stream_bytes : ℕ) → IsOpenedFrom stream_bytes [] (opened_empty stream_bytes)
-opened_from_none stream_bytes = record {
+pub opened_from_none : (g : Geometry) → LocksInLimits g → (stream_bytes : ℕ) → IsOpenedFrom g stream_bytes [] (opened_empty stream_bytes)
+opened_from_none g limits stream_bytes = record {
   log = refl;
   as_long = refl;
   records = λ id. get-empty rid_cmp id ∙ sym (leaves_none id);
   prepared = refl;
   active = refl;
   undo_lists = λ a m. absurd m;
+  ended = λ t loser. let known = loser.known in omega arith;
   counts = λ p. refl;
   some = omega arith;
   least = λ n some above. omega arith;
+  locks = record { limit = let least = limits.0 in omega arith; within = omega arith; inside = All-nil (λ (r : Request). HasGranule g r.granule) };
 }
 
-module _ (g : Geometry) (bytes : List ℕ) (store : HasStore g 0) (page : HasPage g first_page) (short : length bytes ≤ MAX_RECORD_BYTES) where
+module _ (g : Geometry) (bytes : List ℕ) (store : HasStore g 0) (page : HasPage g first_page) (limits : LocksInLimits g) (short : length bytes ≤ MAX_RECORD_BYTES) where
   -- over a stream that is long enough each of its prefixes is roomy
   pub record HasRun (stream_bytes : ℕ) : Type 0 where
     pub last : State
@@ -73,8 +77,8 @@ module _ (g : Geometry) (bytes : List ℕ) (store : HasStore g 0) (page : HasPag
   has_run stream_bytes long most =
       let h = session_comes_through g stream_bytes bytes store page short long in
       let none = format_is_roomy g stream_bytes (omega arith) most in
-      let opened = opened_from_none stream_bytes in
-      let roomy = opens_roomy g stream_bytes [] (opened_empty stream_bytes) opened (whole_roomy g stream_bytes 0 [] none) in
+      let opened = opened_from_none g limits stream_bytes in
+      let roomy = opens_roomy g stream_bytes [] (opened_empty stream_bytes) opened (whole_roomy g stream_bytes 0 [] none) (λ n r at. absurd (nothing n r at)) in
       let leaves = opens_leaving g stream_bytes [] (opened_empty stream_bytes) opened 0 none (λ n r at. absurd (nothing n r at)) (λ t id changed. absurd (unchanged changed)) in
       record {
         last = h.0;
@@ -82,7 +86,7 @@ module _ (g : Geometry) (bytes : List ℕ) (store : HasStore g 0) (page : HasPag
         moves = h.3;
         there = h.4;
         log = session_leaves g stream_bytes bytes store page short long;
-        leaves = events_leaving_from g stream_bytes (opening_with empty) [] 0 [] (opened_empty stream_bytes) (one_insert bytes) h.0 h.1 (sessions_after_open (opening_with empty) [] (opened_empty stream_bytes) h.2) roomy leaves h.3;
+        leaves = events_leaving_from g stream_bytes (opening_with empty) [] 0 [] (opened_empty stream_bytes) (one_insert bytes) h.0 h.1 (sessions_after_open (opening_with empty) [] (opened_empty stream_bytes) h.2) (λ w m. absurd m) roomy leaves h.3;
       }
     where
       nothing : (n : ℕ) (r : LogRecord) → slice_get [] n ≡ Some r → ⊥
@@ -111,21 +115,25 @@ no_loser_left bytes t h = ⊎_elim
     true_not_false : true ≡ false → ⊥
     true_not_false e = cc
 
+none_left : (bytes : List ℕ) (t : ℕ) → IsUndecided (committed bytes) t → ⊥
+none_left bytes t (inl loser) = no_loser_left bytes t loser
+none_left bytes t (inr doubt) = absurd (doubt_there t (committed bytes) doubt).1
+
 none_owed : (undos : List SessionTxn) → ((a : SessionTxn) → IsAmong a undos → ⊥) → owed_by_all undos ≡ 0
 none_owed [] none = refl
 none_owed (a ∷ undos) none = absurd (none a (inl refl))
 
 -- The Commit has given away what was reserved before it, so the log may be opened over a stream that has room for it and the longest frame alone.
-pub committed_may_be_opened : (g : Geometry) (bytes : List ℕ) → HasStore g 0 → HasPage g first_page → length bytes ≤ MAX_RECORD_BYTES
+pub committed_may_be_opened : (g : Geometry) (bytes : List ℕ) → HasStore g 0 → HasPage g first_page → LocksInLimits g → length bytes ≤ MAX_RECORD_BYTES
     → MayBeOpened g (cost_of_log (committed bytes) + LONGEST_FRAME) (committed bytes) (λ p. empty_page)
-committed_may_be_opened g bytes store page short =
-    let h = has_run g bytes store page short 100000 (omega arith) (omega arith) in
+committed_may_be_opened g bytes store page limits short =
+    let h = has_run g bytes store page limits short 100000 (omega arith) (omega arith) in
     let longer : AreRoomy g 100000 0 (committed bytes) = subst (AreRoomy g 100000 0) h.log h.leaves.prefixes in
     let whole = whole_roomy g 100000 0 (committed bytes) longer in
-    let none = none_owed whole.placed.undos (λ a m. no_loser_left bytes a.txn (whole.placed.losers.each a m).0) in
+    let none = none_owed whole.placed.undos (λ a m. none_left bytes a.txn (whole.placed.undecided.each a m).0) in
     let fits = whole.room.fits in
     let roomy : IsRoomyLog g (cost_of_log (committed bytes) + LONGEST_FRAME) (committed bytes) =
-    record { placed = whole.placed; room = record { sum = omega arith; fits = omega (arith, none); lsns = omega (arith, none); short = omega (arith, fits) } } in
+    record { placed = whole.placed; room = record { sum = omega arith; fits = omega (arith, none); lsns = omega (arith, none); short = omega (arith, fits) }; locks = whole.locks } in
     record {
       lawful = subst Lawful h.log h.leaves.whole.lawful;
       doubts = record { apart = λ d e g h a. absurd a; differ = λ d e a. absurd a };

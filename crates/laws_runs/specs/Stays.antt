@@ -31,7 +31,7 @@ pub record IsStoredUp (g : Geometry) (stream_bytes : ℕ) (o : Opening) (s : Rec
   pub redone : r.ready.redone ≡ length r.ready.log
   pub no_losers : HasNoLosers r.ready.log
   pub opens : IsOpenedOver o r.ready r.first
-  pub from : IsOpenedFrom stream_bytes r.ready.log r.first
+  pub from : IsOpenedFrom g stream_bytes r.ready.log r.first
   pub moves : StoredMoves g (record { state = r.first; store = r.ready }) r.events r.last r.made
   pub lost : IsLost r.last.store r.survive r.pages
   pub begin : r.begin ≡ 0

@@ -41,14 +41,14 @@ abbrev pub StoredSteps : Geometry → StoredState → StoredEvent → StoredStat
 StoredSteps g m (Manage e works) new = EventMoves g m.state e new.state × WorksTo m.store works new.store × IsStored new.state new.store
 StoredSteps g m (Tend works) new = (new.state ≡ m.state) × WorksTo m.store works new.store × IsStored new.state new.store
 
-abbrev pub entries_made : StoredState → StoredEvent → List Entry
-entries_made m (Manage e works) = entries_of m.state e
-entries_made m (Tend works) = []
+abbrev pub entries_made : StoredState → StoredEvent → StoredState → List Entry
+entries_made m (Manage e works) new = entries_of m.state e new.state
+entries_made m (Tend works) new = []
 
 abbrev pub StoredMoves : Geometry → StoredState → List StoredEvent → StoredState → List Entry → Type 0
 StoredMoves g m [] last made = (last ≡ m) × (made ≡ [])
 StoredMoves g m (e ∷ events) last made = (new : StoredState) × (later : List Entry)
-    × StoredSteps g m e new × StoredMoves g new events last later × (made ≡ entries_made m e ++ later)
+    × StoredSteps g m e new × StoredMoves g new events last later × (made ≡ entries_made m e new ++ later)
 
 -- ---- from a restart to a crash
 

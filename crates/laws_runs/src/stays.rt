@@ -1,7 +1,7 @@
 //! The laws of stays of the power, each stated as the contract of an empty function.
 ghost use Rattle.std.specs.Prelude.{◌≡◌, ◌+◌, ◌≤◌, ◌++◌, ◌∷◌, ℕ, List, [], None, Some, length, take};
 ghost use Rattle.std.specs.FinMap.{empty, get};
-ghost use Rattle.shore_types.specs.Layout.{HasPage, HasStore};
+ghost use Rattle.shore_types.specs.Layout.{HasPage, HasStore, LocksInLimits};
 ghost use Rattle.shore_types.specs.declared.ids.Rid.{Rid};
 ghost use Rattle.shore_types.specs.declared.layout.Geometry.{Geometry};
 ghost use Rattle.shore_types.specs.declared.layout.TheConstants.{LONGEST_FRAME, MAX_LOG_BYTES, MAX_RECORD_BYTES};
@@ -35,7 +35,7 @@ pub fn formats_may_be_opened()
 /// A log in bounds may be opened, though an earlier prefix of it left no room for its undo: a Commit gives away what was reserved before it. Here a
 /// record was inserted and committed, and the stream has room for both records and the longest frame, and for nothing besides.
 pub fn logs_in_bounds_may_be_opened()
-    ensures opened { (g : Geometry) (bytes : List ℕ) → HasStore g 0 → HasPage g first_page → length bytes ≤ MAX_RECORD_BYTES →
+    ensures opened { (g : Geometry) (bytes : List ℕ) → HasStore g 0 → HasPage g first_page → LocksInLimits g → length bytes ≤ MAX_RECORD_BYTES →
         MayBeOpened g (cost_of_log (committed bytes) + LONGEST_FRAME) (committed bytes) (λ p. empty_page) }
     ensures before { (g : Geometry) (bytes : List ℕ) → IsRoomyLog g (cost_of_log (committed bytes) + LONGEST_FRAME) (take 1 (committed bytes)) → ⊥ }
 {}
@@ -58,9 +58,9 @@ pub fn crashes_leave_what_may_be_opened()
 pub fn managers_stay_under_way()
     ensures opens { (g : Geometry) (stream_bytes : ℕ) (o : Opening) (s ready : RecoveryState) (works : List RecoveryEvent) (first : State) → MayBeFound s →
         IsOpeningOf s.log o → AreRoomy g stream_bytes s.durable s.log → RestartsTo s works ready → ready.redone ≡ length ready.log → HasNoLosers ready.log → IsOpenedOver o ready first →
-        IsOpenedFrom stream_bytes ready.log first → IsUnderWay g stream_bytes o s.log [] (record { state = first; store = ready }) }
+        IsOpenedFrom g stream_bytes ready.log first → IsUnderWay g stream_bytes o s.log [] (record { state = first; store = ready }) }
     ensures each { (g : Geometry) (stream_bytes : ℕ) (o : Opening) (found : List LogRecord) (es : List Entry) (m new : StoredState) (e : StoredEvent) →
-        IsUnderWay g stream_bytes o found es m → StoredSteps g m e new → IsUnderWay g stream_bytes o found (es ++ entries_made m e) new }
+        IsUnderWay g stream_bytes o found es m → StoredSteps g m e new → IsUnderWay g stream_bytes o found (es ++ entries_made m e new) new }
     ensures moves { (g : Geometry) (stream_bytes : ℕ) (o : Opening) (found : List LogRecord) (es : List Entry) (m last : StoredState) (events : List StoredEvent) (made : List Entry) →
         IsUnderWay g stream_bytes o found es m → StoredMoves g m events last made → IsUnderWay g stream_bytes o found (es ++ made) last }
     ensures safe { (g : Geometry) (stream_bytes : ℕ) (o : Opening) (found : List LogRecord) (es : List Entry) (m : StoredState) → IsUnderWay g stream_bytes o found es m →
@@ -104,7 +104,7 @@ pub fn committed_work_survives_every_stay()
 /// Stays can be such: over an empty store a manager inserts a record and is not asked to commit, the log is forced, its page is written back, and the
 /// power is lost with the record on the volume. The next restart takes it back by records of its own, and the manager behind it shows no record.
 pub fn flushed_losers_are_undone()
-    ensures { (g : Geometry) (stream_bytes : ℕ) (bytes : List ℕ) → HasStore g 0 → HasPage g first_page → length bytes ≤ MAX_RECORD_BYTES →
+    ensures { (g : Geometry) (stream_bytes : ℕ) (bytes : List ℕ) → HasStore g 0 → HasPage g first_page → LocksInLimits g → length bytes ≤ MAX_RECORD_BYTES →
         100000 ≤ stream_bytes → stream_bytes ≤ MAX_LOG_BYTES →
         (stolen : StoredRun) × (opened : StoredRun) × (pages : LoggedPages)
         × AreStoredStays g stream_bytes (opening_with empty) [] (λ p. empty_page) (Up stolen ∷ Up opened ∷ []) (taken_back bytes) pages

@@ -3,6 +3,8 @@ use Rattle.std.specs.Prelude.{ℕ, ◌<◌, ◌≤◌, IsSomeAnd, slice_get, len
 use Rattle.shore_types.specs.declared.layout.Geometry.{Geometry}
 use Rattle.shore_types.specs.declared.ids.PageId.{PageId}
 use Rattle.shore_types.specs.declared.ids.Rid.{Rid}
+use Rattle.shore_types.specs.declared.locking.Granule.{Granule}
+use Rattle.shore_types.specs.declared.locking.Granule.TheVariants.{Volume, Store, Page, Record}
 use Rattle.shore_types.specs.declared.layout.TheConstants.{MAX_SLOTS, MAX_STORES, MAX_PAGES, LEAST_MAX_LOCKS, MOST_MAX_LOCKS}
 
 -- the store is there
@@ -16,6 +18,13 @@ HasPage g p = IsSomeAnd (slice_get g.stores p.store) (λ pages. p.page < pages)
 -- the page is there, and may have the slot
 abbrev pub HasSlot : Geometry → Rid → Type 0
 HasSlot g r = HasPage g r.page × (r.slot < MAX_SLOTS)
+
+-- the granule is there
+abbrev pub HasGranule : Geometry → Granule → Type 0
+HasGranule g Volume = Unit {0}
+HasGranule g (Store s) = HasStore g s
+HasGranule g (Page p) = HasPage g p
+HasGranule g (Record r) = HasSlot g r
 
 -- one store or more, and not too many; each has a page, and all together have not too many
 pub record StoresInLimits (g : Geometry) : Type 0 where

@@ -1,4 +1,6 @@
 use Rattle.laws_calls.proofs.AskedLocks.{abort_gone, call_changes, commit_keeps, prepare_leaves_locks, resume_changes, told_gone}
+use Rattle.laws_calls.proofs.ResolveLocks.{resolve_gone, resolve_leaves_locks}
+use Rattle.laws_calls.proofs.WrongPrepares.{in_place_then}
 use Rattle.laws_calls.proofs.laws.locks_change_as_asked.Goals as goal
 
 pub returns-clause-calls : goal.returns-clause-calls
@@ -18,3 +20,12 @@ returns-clause-told d g o found es old new w n k is h = told_gone g o found es o
 
 pub returns-clause-told_prepare : goal.returns-clause-told_prepare
 returns-clause-told_prepare d g old new w n is h = prepare_leaves_locks g old w n new is h
+
+pub returns-clause-prepare : goal.returns-clause-prepare
+returns-clause-prepare d g old new session global step h = (in_place_then g old new session global step h).2
+
+pub returns-clause-told_resolve : goal.returns-clause-told_resolve
+returns-clause-told_resolve d g old new w n is h = resolve_leaves_locks g old w n new is h
+
+pub returns-clause-resolve : goal.returns-clause-resolve
+returns-clause-resolve d g o found es old new session global asked step k some h = resolve_gone g o found es old k session global asked step new some h

@@ -1,5 +1,5 @@
 use Rattle.std.proofs.Common.{sym}
-use Rattle.laws_calls.proofs.SessionTells.{all_shown, all_told, call_tells, own_in_place, resume_tells_none, session_call_tells_none, sessions_told}
+use Rattle.laws_calls.proofs.SessionTells.{all_shown, all_told, call_tells, own_in_place, resolve_tells, resume_tells_none, session_call_tells_none, sessions_told}
 use Rattle.laws_calls.proofs.laws.log_tells_what_is_decided.Goals as goal
 
 pub returns-clause-decided : goal.returns-clause-decided
@@ -21,7 +21,10 @@ pub returns-clause-resume : goal.returns-clause-resume
 returns-clause-resume d g o found es old new session step k h = resume_tells_none o found es old k g session step new h
 
 pub returns-clause-commit : goal.returns-clause-commit
-returns-clause-commit d g o found es old new session n c k h = call_tells o found es old k g session n c new h
+returns-clause-commit d g o found es old new session n k h = call_tells o found es old k g session n new h
 
 pub returns-clause-own : goal.returns-clause-own
 returns-clause-own d o found es s a id k mem whole some = own_in_place o found es s k a mem whole id some
+
+pub returns-clause-resolve : goal.returns-clause-resolve
+returns-clause-resolve d g o found es old new session n global k h = resolve_tells o found es old k g session n global new h

@@ -8,4 +8,4 @@ pub returns-clause-abort : goal.returns-clause-abort
 returns-clause-abort d = settled_abort_stops
 
 pub returns-clause-never_waits : goal.returns-clause-never_waits
-returns-clause-never_waits d = no_rollback_waits
+returns-clause-never_waits d o found es s w at k there is = no_rollback_waits o found es s w k there at is

@@ -1,4 +1,4 @@
-use Rattle.laws_calls.proofs.WrongWaits.{append_unlogged, begin_waits, try_waits, waits_after_failure, waits_for_no_commit, waits_for_other_record, waits_in_no_txn, waits_there, waits_though_free, waits_twice}
+use Rattle.laws_calls.proofs.WrongWaits.{append_unlogged, begin_waits, prepare_for_other_record, prepare_unlogged, resolve_for_other_record, resolve_unlogged, try_waits, waits_after_failure, waits_for_no_decision, waits_for_other_record, waits_in_no_txn, waits_there, waits_though_free, waits_twice}
 use Rattle.laws_calls.proofs.waits.wrong_waits_do_not_come.Goals as goal
 
 pub returns-clause-for_other_record : goal.returns-clause-for_other_record
@@ -7,8 +7,14 @@ returns-clause-for_other_record d = waits_for_other_record
 pub returns-clause-unlogged : goal.returns-clause-unlogged
 returns-clause-unlogged d = append_unlogged
 
-pub returns-clause-for_no_commit : goal.returns-clause-for_no_commit
-returns-clause-for_no_commit d = waits_for_no_commit
+pub returns-clause-prepare_for_other_record : goal.returns-clause-prepare_for_other_record
+returns-clause-prepare_for_other_record d = prepare_for_other_record
+
+pub returns-clause-prepare_unlogged : goal.returns-clause-prepare_unlogged
+returns-clause-prepare_unlogged d = prepare_unlogged
+
+pub returns-clause-for_no_decision : goal.returns-clause-for_no_decision
+returns-clause-for_no_decision d g s new session t c n none h = waits_for_no_decision g s new session t c n none h
 
 pub returns-clause-though_free : goal.returns-clause-though_free
 returns-clause-though_free d = waits_though_free
@@ -30,3 +36,9 @@ returns-clause-twice d = waits_twice
 
 pub returns-clause-there : goal.returns-clause-there
 returns-clause-there d = waits_there
+
+pub returns-clause-resolve_for_other_record : goal.returns-clause-resolve_for_other_record
+returns-clause-resolve_for_other_record d = resolve_for_other_record
+
+pub returns-clause-resolve_unlogged : goal.returns-clause-resolve_unlogged
+returns-clause-resolve_unlogged d = resolve_unlogged

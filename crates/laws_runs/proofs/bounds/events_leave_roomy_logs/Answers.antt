@@ -6,10 +6,10 @@ use Rattle.laws_runs.proofs.Running.{event_leaving, events_leaving}
 use Rattle.laws_runs.proofs.bounds.events_leave_roomy_logs.Goals as goal
 
 pub returns-clause-each : goal.returns-clause-each
-returns-clause-each c g stream_bytes o found es old new e k roomy h moves = event_leaving g stream_bytes o found es old new e k roomy h moves
+returns-clause-each c g stream_bytes o found es old new e k asks roomy h moves = event_leaving g stream_bytes o found es old new e k asks roomy h moves
 
 pub returns-clause-run : goal.returns-clause-run
-returns-clause-run c g stream_bytes o found es first last events made k roomy h moves = events_leaving g stream_bytes o found es first events last made k roomy h moves
+returns-clause-run c g stream_bytes o found es first last events made k asks roomy h moves = events_leaving g stream_bytes o found es first events last made k asks roomy h moves
 
 pub returns-clause-crash : goal.returns-clause-crash
 returns-clause-crash c g stream_bytes s n h kept = left_roomy g stream_bytes s.durable s.log n kept.0 h.prefixes

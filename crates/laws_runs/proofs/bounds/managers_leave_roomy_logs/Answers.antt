@@ -5,7 +5,7 @@ pub returns-clause-restart : goal.returns-clause-restart
 returns-clause-restart c g stream_bytes s ready events k restarts = restart_roomy g stream_bytes s events ready k restarts
 
 pub returns-clause-moves : goal.returns-clause-moves
-returns-clause-moves c g stream_bytes o found es m last events made k roomy h moves = moves_leaving g stream_bytes o found es m events last made k roomy h moves
+returns-clause-moves c g stream_bytes o found es m last events made k asks roomy h moves = moves_leaving g stream_bytes o found es m events last made k asks roomy h moves
 
 pub returns-clause-last : goal.returns-clause-last
 returns-clause-last c g stream_bytes o s r found opening k run opens = last_has_room g stream_bytes o s r found opening run k opens
