@@ -1,6 +1,6 @@
 -- How many entries a table has, and whose they are: two tables of one log have as many, and list the losers.
-use Rattle.std.proofs.Common.{◌≡◌, ◌⊎◌, inl, inr, ⊎_elim, ◌<◌, ◌≤◌, ℕ, zero, suc, List, [], ◌∷◌, ◌++◌, false, Some, refl, sym, ap, subst, ◌∙◌, length, arith}
-use Rattle.std.specs.Prelude.{◌&&◌, IsTrue, nat_lt, slice_get, slice_index_or}
+use Rattle.std.proofs.Common.{◌≡◌, ◌⊎◌, inl, inr, ⊎_elim, ◌<◌, ◌≤◌, ℕ, zero, suc, List, [], ◌∷◌, ◌++◌, Bool, true, false, cond, Some, refl, sym, ap, subst, ◌∙◌, length, arith}
+use Rattle.std.specs.Prelude.{◌&&◌, IsTrue, filter, nat_lt, not, slice_get, slice_index_or}
 use Rattle.std.specs.List.{AllByRecursion}
 use Rattle.std.proofs.lemmas.Bool.{lt-ltb, ltb-true}
 use Rattle.std.proofs.lemmas.List.Elements.{recursion_from_All}
@@ -12,16 +12,17 @@ use Rattle.shore_types.specs.declared.layout.Geometry.{Geometry}
 use Rattle.shore_types.specs.declared.layout.TheConstants.{MAX_TRANSACTIONS}
 use Rattle.shore_model.specs.declared.log_records.LogRecord.{LogRecord}
 use Rattle.shore_model.specs.declared.log_records.LogTxn.{LogTxn}
-use Rattle.shore_model.specs.Logs.{IsEntry, IsTable, Lists, first_number, is_in_doubt, is_over, last_of, rise_above}
+use Rattle.shore_model.specs.Logs.{IsEntry, IsTable, Lists, first_number, is_in_doubt, is_over, is_prepared, last_of, rise_above}
 use Rattle.laws_lives.specs.Undo.{IsLoser}
 use Rattle.laws_lives.proofs.Booleans.{and_true}
 use Rattle.laws_lives.proofs.Numbers.{newest_other}
 use Rattle.laws_lives.proofs.OneMore.{by_push}
 use Rattle.laws_lives.proofs.Redo.{slice_get_last}
 use Rattle.laws_lives.proofs.Writers.{same_or_not}
-use Rattle.shore_analysis.proofs.MeantLogs.{longer_get, still_none_in_doubt}
-use Rattle.shore_analysis.proofs.Listed.{is_table}
+use Rattle.shore_analysis.proofs.MeantLogs.{longer_get}
+use Rattle.shore_analysis.proofs.Listed.{Any-here, Any-later, is_table}
 use Rattle.shore_analysis.specs.Meant.{AreMeant, IsCrowded, IsMeant}
+use Rattle.shore_analysis.specs.Losers.{is_of_loser}
 use Rattle.shore_analysis.specs.Passes.{entry_at}
 
 -- a transaction with a last record has a record
@@ -54,6 +55,12 @@ among_at t (x ∷ es) (suc k) e lt is own = inr (among_at t es k e (omega (arith
 pub listed_among : (t : ℕ) (es : List LogTxn) → Lists es t → Among t es
 unfolding Lists
 listed_among t es h = among_at t es h.0 h.1 h.2 h.3 h.4
+
+pub among_listed : (t : ℕ) (es : List LogTxn) → Among t es → Lists es t
+unfolding Lists
+among_listed t [] h = absurd h
+among_listed t (e ∷ es) (inl own) = Any-here (λ x. x.txn ≡ t) e es own
+among_listed t (e ∷ es) (inr later) = Any-later (λ x. x.txn ≡ t) e es (among_listed t es later)
 
 pub rise_first : (t : ℕ) (e : LogTxn) (es : List LogTxn) → IsTrue (rise_above t (e ∷ es)) → (t < e.txn) × IsTrue (rise_above e.txn es)
 rise_first t e es h = let both = and_true (nat_lt t e.txn) (rise_above e.txn es) h in (ltb-true t e.txn both.0, both.1)
@@ -129,7 +136,7 @@ as_many rs xs ys a b = fewer ys xs 0 0 a.rising b.rising (all_among xs (recursio
 module _ (g : Geometry) (log : List LogRecord) (r : LogRecord) (all : AreMeant g log) (meant : IsMeant g log r)
     (running : BTreeMap ℕ LogTxn) (known : (t : ℕ) → get nat_cmp running t ≡ entry_at t (log ++ r ∷ [])) (ordered : IsOrdered nat_cmp running) where
   table : IsTable (log ++ r ∷ []) (values running)
-  table = is_table (log ++ r ∷ []) (still_none_in_doubt g log r all meant) running known ordered
+  table = is_table (log ++ r ∷ []) running known ordered
 
   count : length (values running) ≡ length running.entries
   count = length-values_of running.entries
@@ -143,20 +150,79 @@ module _ (g : Geometry) (log : List LogRecord) (r : LogRecord) (all : AreMeant g
   pub too_many : MAX_TRANSACTIONS < length running.entries → IsCrowded (log ++ r ∷ [])
   too_many many = (values running, table, omega (arith, many, count))
 
--- ---- losers
+-- ---- losers, and those in doubt
 
-module _ (rs : List LogRecord) (txns : List LogTxn) (table : IsTable rs txns) (doubts : (t : ℕ) → is_in_doubt t rs ≡ false) where
-  pub listed_loser : (t : ℕ) → Lists txns t → IsLoser rs t
-  unfolding Lists
-  listed_loser t a =
-      let e = a.1 in
-      let entry : IsEntry rs e = subst (IsEntry rs) a.3 (table.each a.0 e a.2) in
-      subst (IsLoser rs) a.4 (record { is_one = entry.0.is_one; known = entry.0.known; not_over = entry.0.not_over; not_in_doubt = doubts e.txn })
+-- entries that are picked by what is so of their transactions
+module _ (p : LogTxn → Bool) (q : ℕ → Bool) (t : ℕ) where
+  among_head : (e : LogTxn) (es : List LogTxn) (b : Bool) → Among t (cond b (e ∷ es) es) → ((b ≡ true) × (e.txn ≡ t)) ⊎ Among t es
+  among_head e es true (inl own) = inl (refl, own)
+  among_head e es true (inr later) = inr later
+  among_head e es false later = inr later
 
-  pub loser_listed : (t : ℕ) → IsLoser rs t → Lists txns t
-  loser_listed t loser =
-      let one = last_is_one rs t loser.known in
+  pub picked_was : (es : List LogTxn) → AllByRecursion (λ e. p e ≡ q e.txn) es → Among t (filter p es) → Among t es × (q t ≡ true)
+  picked_was [] h a = absurd a
+  picked_was (e ∷ es) h a = ⊎_elim
+      (λ here. (inl here.1, ap q (sym here.1) ∙ sym h.0 ∙ here.0))
+      (λ later. let was = picked_was es h.1 later in (inr was.0, was.1))
+      (among_head e (filter p es) (p e) a)
+
+  pub picked_is : (es : List LogTxn) → AllByRecursion (λ e. p e ≡ q e.txn) es → Among t es → q t ≡ true → Among t (filter p es)
+  picked_is [] h a passes = a
+  picked_is (e ∷ es) h (inl own) passes = subst (λ b. Among t (cond b (e ∷ filter p es) (filter p es))) (sym (h.0 ∙ ap q own ∙ passes)) (inl own)
+  picked_is (e ∷ es) h (inr later) passes = behind (p e) (picked_is es h.1 later passes)
+    where
+      behind : (b : Bool) → Among t (filter p es) → Among t (cond b (e ∷ filter p es) (filter p es))
+      behind true a = inr a
+      behind false a = a
+
+module _ (rs : List LogRecord) (txns : List LogTxn) (table : IsTable rs txns) where
+  abbrev not_in_doubt : ℕ → Bool
+  not_in_doubt t = not (is_in_doubt t rs)
+
+  abbrev in_doubt : ℕ → Bool
+  in_doubt t = is_in_doubt t rs
+
+  losers_told : (es : List LogTxn) → AllByRecursion (IsEntry rs) es → AllByRecursion (λ e. is_of_loser e ≡ not_in_doubt e.txn) es
+  losers_told [] h = tt
+  losers_told (e ∷ es) h = (ap not h.0.0.in_doubt, losers_told es h.1)
+
+  doubts_told : (es : List LogTxn) → AllByRecursion (IsEntry rs) es → AllByRecursion (λ e. is_prepared e.state ≡ in_doubt e.txn) es
+  doubts_told [] h = tt
+  doubts_told (e ∷ es) h = (h.0.0.in_doubt, doubts_told es h.1)
+
+  entries : AllByRecursion (IsEntry rs) txns
+  entries = recursion_from_All (IsEntry rs) txns table.each
+
+  unended : (t : ℕ) (es : List LogTxn) → AllByRecursion (IsEntry rs) es → Among t es → (0 < t) × (0 < last_of t rs) × (is_over t rs ≡ false)
+  unended t [] h a = absurd a
+  unended t (e ∷ es) h (inl own) = subst (λ u. (0 < u) × (0 < last_of u rs) × (is_over u rs ≡ false)) own (h.0.0.is_one, h.0.0.known, h.0.0.not_over)
+  unended t (e ∷ es) h (inr later) = unended t es h.1 later
+
+  every : (t : ℕ) → 0 < t → 0 < last_of t rs → is_over t rs ≡ false → Among t txns
+  every t some known runs =
+      let one = last_is_one rs t known in
       let at : slice_index_or rs one.at one.found ≡ one.found = get_or_from_slice_get rs one.at one.found one.found one.here in
       let own : (slice_index_or rs one.at one.found).txn ≡ t = ap (λ r. r.txn) at ∙ one.own in
-      subst (Lists txns) own
-      (table.every one.at one.found (slice_get_within rs one.at one.found one.here) (subst (λ n. 0 < n) (sym own) loser.is_one) (ap (λ n. is_over n rs) own ∙ loser.not_over))
+      listed_among t txns (subst (Lists txns) own
+      (table.every one.at one.found (slice_get_within rs one.at one.found one.here) (subst (λ n. 0 < n) (sym own) some) (ap (λ n. is_over n rs) own ∙ runs)))
+
+  pub listed_loser : (t : ℕ) → Among t (filter is_of_loser txns) → IsLoser rs t
+  listed_loser t a =
+      let was = picked_was is_of_loser not_in_doubt t txns (losers_told txns entries) a in
+      let known = unended t txns entries was.0 in
+      record { is_one = known.0; known = known.1; not_over = known.2; not_in_doubt = not_true (is_in_doubt t rs) was.1 }
+    where
+      not_true : (b : Bool) → not b ≡ true → b ≡ false
+      not_true true e = cc
+      not_true false e = refl
+
+  pub loser_listed : (t : ℕ) → IsLoser rs t → Among t (filter is_of_loser txns)
+  loser_listed t loser =
+      picked_is is_of_loser not_in_doubt t txns (losers_told txns entries) (every t loser.is_one loser.known loser.not_over) (ap not loser.not_in_doubt)
+
+  pub listed_doubt : (t : ℕ) → Among t (filter (λ e. is_prepared e.state) txns) → is_in_doubt t rs ≡ true
+  listed_doubt t a = (picked_was (λ e. is_prepared e.state) in_doubt t txns (doubts_told txns entries) a).1
+
+  pub doubt_listed : (t : ℕ) → 0 < t → 0 < last_of t rs → is_over t rs ≡ false → is_in_doubt t rs ≡ true → Among t (filter (λ e. is_prepared e.state) txns)
+  doubt_listed t some known runs doubts =
+      picked_is (λ e. is_prepared e.state) in_doubt t txns (doubts_told txns entries) (every t some known runs) doubts

@@ -1,76 +1,73 @@
 -- The entries of the losers of a log, with one more record of undo.
 use Rattle.std.proofs.Common.{◌≡◌, ◌≢◌, inl, inr, ⊎_elim, ◌+◌, ◌<◌, ℕ, List, [], ◌∷◌, ◌++◌, Bool, true, false, cond, map, refl, sym, ap, subst, ◌∙◌, length, drop, arith}
-use Rattle.std.specs.Prelude.{filter, ◌==◌, ◌&&◌, not}
+use Rattle.std.specs.Prelude.{filter, ◌==◌, not}
 use Rattle.std.specs.List.{AllByRecursion}
 use Rattle.std.proofs.lemmas.Bool.{cases_Bool, true≢false, eqb-true, eqb-false}
 use Rattle.std.proofs.lemmas.List.Elements.{recursion_from_All}
 use Rattle.shore_types.specs.Images.{Image}
 use Rattle.shore_types.specs.declared.ids.Rid.{Rid}
-use Rattle.shore_types.specs.declared.layout.Geometry.{Geometry}
 use Rattle.shore_model.specs.declared.unanswered_changes.UnansweredChange.{UnansweredChange}
 use Rattle.shore_model.specs.declared.log_records.LogRecord.{LogRecord}
 use Rattle.shore_model.specs.declared.log_records.LogTxn.{LogTxn}
 use Rattle.shore_model.specs.declared.log_records.Payload.TheVariants.{Compensation}
-use Rattle.shore_model.specs.Logs.{IsEntry, has, is_over, is_commit, is_end, is_prepare, is_rollback, is_in_doubt, first_number, last_of, answered_by, unanswered, undo_next_of}
+use Rattle.shore_model.specs.Logs.{IsEntry, is_over, is_commit, is_end, is_prepare, is_prepared, is_rollback, first_number, last_of, answered_by, unanswered, undo_next_of}
 use Rattle.laws_lives.specs.Views.{IsAmong}
 use Rattle.laws_lives.proofs.EndedTxns.{over_now, over_other, over_same}
 use Rattle.laws_lives.proofs.UnansweredChanges.{unanswered_other, unanswered_own}
 use Rattle.laws_lives.specs.Undo.{IsLoser, undo_payload, undo_record}
 use Rattle.laws_lives.proofs.Numbers.{last_own, newest_other}
-use Rattle.laws_lives.proofs.OneMore.{has-not_its, has-not_this}
+use Rattle.laws_lives.proofs.OneMore.{has-not_this}
 use Rattle.laws_lives.proofs.Writers.{same_or_not}
 use Rattle.shore_analysis.specs.declared.analysis.Tables.{Tables}
-use Rattle.shore_analysis.specs.Meant.{AreMeant}
 use Rattle.shore_analysis.specs.Tables.{AreTables}
-use Rattle.shore_analysis.proofs.Counted.{Among, listed_among, loser_listed}
-use Rattle.shore_analysis.proofs.MeantLogs.{none_in_doubt}
-use Rattle.shore_analysis.specs.Losers.{AreEntriesOfLosers, IsEntryOfLoser, IsNextToUndo, NeedNotWait, is_another, with_numbers}
+use Rattle.shore_analysis.proofs.Counted.{Among, loser_listed}
+use Rattle.shore_analysis.proofs.Phases.{doubt-by, doubt_other}
+use Rattle.shore_analysis.specs.Losers.{AreEntriesOfLosers, IsEntryOfLoser, IsNextToUndo, NeedNotWait, is_another, is_of_loser, with_numbers}
 
 -- ---- the table of a log
 
-module _ (g : Geometry) (log : List LogRecord) (tables : Tables) (meant : AreMeant g log) (are : AreTables log tables) where
+module _ (log : List LogRecord) (tables : Tables) (are : AreTables log tables) where
   among_map : (t : ℕ) (es : List LogTxn) → Among t es → IsAmong t (map (λ e. e.txn) es)
   among_map t [] h = h
   among_map t (e ∷ es) (inl own) = inl own
   among_map t (e ∷ es) (inr later) = inr (among_map t es later)
 
-  entries : (es : List LogTxn) → AllByRecursion (IsEntry log) es → AllByRecursion (IsEntryOfLoser log) es
-  entries [] h = tt
-  entries (e ∷ es) h = (
-    record {
-      loser = record { is_one = h.0.0.is_one; known = h.0.0.known; not_over = h.0.0.not_over; not_in_doubt = none_in_doubt g log meant e.txn };
-      last = h.0.1.last;
-      undo_next = h.0.1.undo_next;
-    },
-    entries es h.1,
-  )
+  of_one : (e : LogTxn) → IsEntry log e → is_of_loser e ≡ true → IsEntryOfLoser log e
+  of_one e h loses = record {
+    loser = record { is_one = h.0.is_one; known = h.0.known; not_over = h.0.not_over; not_in_doubt = sym h.0.in_doubt ∙ not_true (is_prepared e.state) loses };
+    last = h.1.last;
+    undo_next = h.1.undo_next;
+  }
+    where
+      not_true : (b : Bool) → not b ≡ true → b ≡ false
+      not_true true e = cc
+      not_true false e = refl
 
-  pub of_tables : AreEntriesOfLosers log tables.txns
+  entries : (es : List LogTxn) → AllByRecursion (IsEntry log) es → AllByRecursion (IsEntryOfLoser log) (filter is_of_loser es)
+  entries [] h = tt
+  entries (e ∷ es) h = ⊎_elim
+      (λ yes. subst (λ b. AllByRecursion (IsEntryOfLoser log) (cond b (e ∷ filter is_of_loser es) (filter is_of_loser es))) (sym yes) (of_one e h.0 yes, entries es h.1))
+      (λ no. subst (λ b. AllByRecursion (IsEntryOfLoser log) (cond b (e ∷ filter is_of_loser es) (filter is_of_loser es))) (sym no) (entries es h.1))
+      (cases_Bool (is_of_loser e))
+
+  pub of_tables : AreEntriesOfLosers log (filter is_of_loser tables.txns)
   of_tables = record {
     each = entries tables.txns (recursion_from_All (IsEntry log) tables.txns are.txns.each);
-    every = λ t loser. among_map t tables.txns (listed_among t tables.txns (loser_listed log tables.txns are.txns (none_in_doubt g log meant) t loser));
+    every = λ t loser. among_map t (filter is_of_loser tables.txns) (loser_listed log tables.txns are.txns t loser);
   }
 
 -- ---- one record more
 
-doubt-by : (log more : List LogRecord) (t : ℕ) → has is_prepare t more ≡ has is_prepare t log → has is_commit t more ≡ has is_commit t log → has is_rollback t more ≡ has is_rollback t log → is_in_doubt t more ≡ is_in_doubt t log
-doubt-by log more t p c r =
-    ap (λ b. b && not (has is_commit t more) && not (has is_rollback t more)) p ∙ ap (λ b. has is_prepare t log && not b && not (has is_rollback t more)) c
-    ∙ ap (λ b. has is_prepare t log && not (has is_commit t log) && not b) r
-
 module _ (log : List LogRecord) (r : LogRecord) (u : ℕ) (ne : r.txn ≢ u) where
   last_other : last_of u (log ++ r ∷ []) ≡ last_of u log
   last_other = ap first_number (newest_other log r u ne)
-
-  doubt_other : is_in_doubt u (log ++ r ∷ []) ≡ is_in_doubt u log
-  doubt_other = doubt-by log (log ++ r ∷ []) u (has-not_its log r is_prepare u ne) (has-not_its log r is_commit u ne) (has-not_its log r is_rollback u ne)
 
   stays_loser : IsLoser log u → IsLoser (log ++ r ∷ []) u
   stays_loser h = record {
     is_one = h.is_one;
     known = subst (λ n. 0 < n) (sym last_other) h.known;
     not_over = over_other log r u ne ∙ h.not_over;
-    not_in_doubt = doubt_other ∙ h.not_in_doubt;
+    not_in_doubt = doubt_other log r u ne ∙ h.not_in_doubt;
   }
 
   was_loser : IsLoser (log ++ r ∷ []) u → IsLoser log u
@@ -78,7 +75,7 @@ module _ (log : List LogRecord) (r : LogRecord) (u : ℕ) (ne : r.txn ≢ u) whe
     is_one = h.is_one;
     known = subst (λ n. 0 < n) last_other h.known;
     not_over = sym (over_other log r u ne) ∙ h.not_over;
-    not_in_doubt = sym doubt_other ∙ h.not_in_doubt;
+    not_in_doubt = sym (doubt_other log r u ne) ∙ h.not_in_doubt;
   }
 
 other_entry : (log : List LogRecord) (r : LogRecord) (e : LogTxn) → r.txn ≢ e.txn → IsEntryOfLoser log e → IsEntryOfLoser (log ++ r ∷ []) e

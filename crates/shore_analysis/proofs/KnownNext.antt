@@ -1,27 +1,31 @@
 -- A pass that has taken a record in knows the log with that record.
-use Rattle.std.proofs.Common.{◌≡◌, ◌≢◌, ◌⊎◌, inl, inr, ⊎_elim, ◌+◌, ◌<◌, ℕ, List, [], ◌∷◌, ◌++◌, Bool, true, false, cond, Option, Some, None, refl, sym, ap, ◌∙◌, length, max, arith, Result, Ok, Err}
-use Rattle.std.specs.Prelude.{◌&&◌, ◌||◌, OnOk, is_some}
+use Rattle.std.proofs.Common.{◌≡◌, ◌≢◌, ◌⊎◌, inl, inr, ⊎_elim, ◌+◌, ◌<◌, ℕ, List, [], ◌∷◌, ◌++◌, Bool, true, false, cond, eqb, Option, Some, None, refl, sym, ap, ◌∙◌, length, max, arith, Result, Ok, Err}
+use Rattle.std.specs.Prelude.{◌&&◌, ◌||◌, OnOk, is_some, nat_lt, not}
 use Rattle.std.specs.Ordering.{eq_by_cmp, nat_cmp}
 use Rattle.std.specs.BTreeMap.{get, is_at}
 use Rattle.std.specs.BTreeSet.{contains}
 use Rattle.std.specs.Cmp.{nat_cmp_total, eq_by_cmp_equiv}
-use Rattle.std.proofs.lemmas.Bool.{cases_Bool, false_from_ne_true}
+use Rattle.std.proofs.lemmas.Bool.{cases_Bool, false_from_ne_true, lt-ltb, ne_eqb}
 use Rattle.std.proofs.lemmas.List.Elements.{All-pop, All-push, All-weaker}
 use Rattle.std.proofs.lemmas.Map.Lookups.{exact_unsigned}
 use Rattle.shore_types.specs.Ids.{page_cmp, exact_pages, pages_total}
 use Rattle.shore_types.specs.declared.layout.Geometry.{Geometry}
 use Rattle.shore_types.specs.declared.ids.PageId.{PageId}
 use Rattle.shore_model.specs.declared.log_records.LogRecord.{LogRecord}
-use Rattle.shore_model.specs.Logs.{id_in, is_commit, is_end, is_over, last_of, unanswered, undo_next_of}
+use Rattle.shore_model.specs.declared.log_records.LogTxn.{LogTxn}
+use Rattle.shore_model.specs.Logs.{has, id_in, is_commit, is_end, is_over, is_prepare, last_of, prepare_number, unanswered, undo_next_of}
 use Rattle.laws_lives.proofs.Booleans.{is_equal, or_none, or_true}
 use Rattle.laws_lives.proofs.EndedTxns.{over_now, over_other, over_same}
 use Rattle.shore_analysis.specs.declared.passes.Pass.{Pass}
 use Rattle.shore_analysis.specs.Meant.{IsMeant, AreMeant}
-use Rattle.shore_analysis.specs.Passes.{Knows, entry_after, entry_at, is_ending, noted, numbers_of, over_after, txn_after}
+use Rattle.shore_analysis.specs.Passes.{Knows, entry_after, entry_at, entry_of, is_ending, noted, over_after, phase_by, phase_of, progress_at, progress_by, txn_after}
+use Rattle.shore_analysis.specs.declared.progress.Phase.TheVariants.{Decided, Free, InDoubt}
 use Rattle.shore_analysis.specs.Tables.{IsNext, is_on_page}
 use Rattle.shore_analysis.proofs.Answered.{one_or_none}
 use Rattle.shore_analysis.proofs.MeantLogs.{nothing_unanswered}
-use Rattle.shore_analysis.proofs.OneMore.{entry-other, entry_some, goes_on, over_none, recovery-push}
+use Rattle.shore_analysis.proofs.Listed.{entry_runs}
+use Rattle.shore_analysis.proofs.OneMore.{entry-other, entry_some, goes_on, nothing_prepared, over_none, prepare_known, recovery-push}
+use Rattle.shore_analysis.proofs.Phases.{prepared_is, unprepared_no_doubt}
 
 -- a key is found, or is another
 pub key_cases : (k t : ℕ) → ((is_at (nat_cmp k) t ≡ true) × (k ≡ t)) ⊎ ((is_at (nat_cmp k) t ≡ false) × (k ≢ t))
@@ -59,11 +63,30 @@ page_noted page p n old absent = ⊎_elim
     stays (Some x) = refl
 
 -- a transaction without an entry that has not ended is new
-pub numbers_new : (rs : List LogRecord) (t : ℕ) → 0 < t → entry_at t rs ≡ None → is_over t rs ≡ false → Some (0, 0) ≡ numbers_of t rs
-numbers_new rs t one absent runs = ⊎_elim
-    (λ none. (λ i. Some (sym none i, undo_next_of (sym (nothing_unanswered rs t none) i))) ∙ sym (ap (λ b. cond b None (Some (last_of t rs, undo_next_of (unanswered t rs)))) runs))
+pub progress_new : (rs : List LogRecord) (t : ℕ) → 0 < t → entry_at t rs ≡ None → is_over t rs ≡ false
+    → Some (record { last = 0; newest = 0; phase = Free }) ≡ progress_at t rs
+progress_new rs t one absent runs = ⊎_elim
+    (λ none.
+    let free : has is_prepare t rs ≡ false = nothing_prepared t rs none in
+    let phase : Free ≡ phase_of t rs = sym ((λ i. cond (unprepared_no_doubt t rs free i) InDoubt (cond (not (free i)) Free Decided))) in
+    (λ i. Some (record { last = sym none i; newest = undo_next_of (sym (nothing_unanswered rs t none) i); phase = phase i }))
+    ∙ sym (ap (λ b. cond b None (Some (record { last = last_of t rs; newest = undo_next_of (unanswered t rs); phase = phase_of t rs }))) runs))
     (λ some. absurd (let there = sym absent ∙ entry_some t rs one some runs in cc))
     (one_or_none (last_of t rs))
+
+-- an entry tells how far its transaction has come
+pub phase_told : (rs : List LogRecord) (t : ℕ) → phase_by (entry_of t rs) ≡ phase_of t rs
+phase_told rs t = λ i. cond (prepared_is t rs i) InDoubt (cond ((unnumbered (prepare_number t rs) ∙ ap not (prepare_known t rs)) i) Free Decided)
+  where
+    unnumbered : (n : ℕ) → eqb n 0 ≡ not (nat_lt 0 n)
+    unnumbered n = ⊎_elim (λ none. rw none refl) (λ one. ne_eqb n 0 (λ e. omega (arith, e, one)) ∙ sym (ap not (lt-ltb 0 n one))) (one_or_none n)
+
+pub progress_told : (rs : List LogRecord) (t : ℕ) (e : LogTxn) → entry_at t rs ≡ Some e → Some (progress_by e) ≡ progress_at t rs
+progress_told rs t e there =
+    let runs = entry_runs t rs e there in
+    ap (λ (x : LogTxn). Some (progress_by x)) runs.is
+    ∙ (λ i. Some (record { last = last_of t rs; newest = undo_next_of (unanswered t rs); phase = phase_told rs t i }))
+    ∙ sym (ap (λ b. cond b None (Some (record { last = last_of t rs; newest = undo_next_of (unanswered t rs); phase = phase_of t rs }))) runs.runs)
 
 module _ (g : Geometry) (rs : List LogRecord) (r : LogRecord) (all : AreMeant g rs) (meant : IsMeant g rs r) where
   abbrev after : List LogRecord

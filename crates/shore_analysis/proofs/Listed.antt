@@ -1,6 +1,6 @@
 -- The tables are those that a pass over the whole log has kept.
 use Rattle.std.proofs.Common.{◌≡◌, ◌≢◌, inl, inr, ⊎_elim, ◌+◌, ◌<◌, ℕ, suc, List, [], ◌∷◌, ◌++◌, Bool, true, false, cond, Option, Some, None, refl, sym, ap, subst, ◌∙◌, length, map, arith}
-use Rattle.std.specs.Prelude.{◌&&◌, not, All, Any, IsTrue, nat_lt, reverse, slice_index_or}
+use Rattle.std.specs.Prelude.{◌&&◌, not, All, Any, IsTrue, nat_lt, slice_index_or}
 use Rattle.std.specs.List.{AllByRecursion}
 use Rattle.std.specs.List.Sorted.{IsStrictlySortedBy}
 use Rattle.std.specs.Ordering.{MatchOrdering, nat_cmp}
@@ -17,15 +17,15 @@ use Rattle.shore_types.specs.Ids.{page_cmp, exact_pages, pages_total}
 use Rattle.shore_types.specs.declared.ids.PageId.{PageId}
 use Rattle.shore_model.specs.declared.log_records.LogRecord.{LogRecord}
 use Rattle.shore_model.specs.declared.log_records.LogTxn.{LogTxn}
-use Rattle.shore_model.specs.declared.log_records.TxnState.TheVariants.{Active, RollingBack}
-use Rattle.shore_model.specs.Logs.{IsEntry, IsTable, Lists, first_number, is_in_doubt, is_over, is_prepared, last_of, records_of, rise_above}
+use Rattle.shore_model.specs.Logs.{IsEntry, IsTable, Lists, first_number, is_over, last_of, rise_above}
 use Rattle.laws_lives.proofs.Booleans.{and_true, is_equal}
 use Rattle.laws_lives.proofs.Numbers.{last_own, newest_other}
 use Rattle.laws_lives.proofs.OneMore.{by_push}
 use Rattle.laws_lives.proofs.Writers.{same_or_not}
 use Rattle.shore_analysis.specs.Passes.{as_dirty, entry_at, entry_of, is_running, recovery_at}
-use Rattle.shore_analysis.specs.Tables.{IsDirtyTable, first_change, newest_is_undo, state_of}
+use Rattle.shore_analysis.specs.Tables.{IsDirtyTable, first_change, state_of}
 use Rattle.shore_analysis.proofs.OneMore.{entry_some}
+use Rattle.shore_analysis.proofs.Phases.{prepared_is}
 use Rattle.shore_analysis.proofs.Answered.{one_or_none}
 
 -- ---- lists
@@ -89,10 +89,6 @@ entry_runs t rs e h = by_cases (is_running t rs) refl
         }
     by_cases false runs = absurd (let gone : None ≡ Some e = sym (ap (λ b. cond b (Some (entry_of t rs)) None) runs) ∙ h in cc)
 
-never_prepared : (b : Bool) (t : ℕ) (rs : List LogRecord) → newest_is_undo (reverse (records_of t rs)) ≡ b → is_prepared (state_of t rs) ≡ false
-never_prepared true t rs h = ap (λ b. is_prepared (cond b RollingBack Active)) h
-never_prepared false t rs h = ap (λ b. is_prepared (cond b RollingBack Active)) h
-
 pub below : (x y : ℕ) → nat_cmp x y ≡ Less → x < y
 below x y e = subst (λ r. MatchOrdering r (x < y) (x ≡ y) (y < x)) e (ranks x y)
 
@@ -106,10 +102,10 @@ known_if_there = by_push (λ rs. (t : ℕ) → last_of t rs ≡ 0 → All (λ r.
         (λ ne. All-push (λ x. x.txn ≢ t) rs r (known t (sym (ap first_number (newest_other rs r t ne)) ∙ none)) ne)
         (same_or_not r.txn t)
 
-module _ (rs : List LogRecord) (doubts : (t : ℕ) → is_in_doubt t rs ≡ false) where
+module _ (rs : List LogRecord) where
   pub is_entry : (t : ℕ) (e : LogTxn) → Runs t rs e → IsEntry rs e
   is_entry t e h = subst (IsEntry rs) (sym h.is) (
-    record { is_one = h.one; known = h.known; not_over = h.runs; in_doubt = never_prepared (newest_is_undo (reverse (records_of t rs))) t rs refl ∙ sym (doubts t) },
+    record { is_one = h.one; known = h.known; not_over = h.runs; in_doubt = prepared_is t rs },
     record { first = refl; last = refl; undo_next = refl; prepare = refl },
   )
 

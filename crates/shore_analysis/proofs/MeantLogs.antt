@@ -1,6 +1,6 @@
 -- What is so in every log whose records mean what they have to.
 use Rattle.std.proofs.Common.{◌≡◌, ⊎_elim, ◌⊎◌, inl, inr, ◌+◌, ◌-◌, ◌<◌, ◌≤◌, ℕ, zero, suc, List, [], ◌∷◌, ◌++◌, Bool, true, false, Option, Some, None, refl, sym, ap, subst, ◌∙◌, length, take, drop, take_all, arith}
-use Rattle.std.specs.Prelude.{◌==◌, not, slice_get, All, IsSomeAnd, IsTrue}
+use Rattle.std.specs.Prelude.{◌==◌, ◌&&◌, not, slice_get, All, IsSomeAnd}
 use Rattle.std.proofs.lemmas.List.{take-append-le}
 use Rattle.std.proofs.lemmas.Option.{slice_get_within, get_or_from_slice_get}
 use Rattle.shore_types.specs.Layout.{HasSlot}
@@ -11,15 +11,17 @@ use Rattle.shore_model.specs.declared.unanswered_changes.UnansweredChange.{Unans
 use Rattle.shore_model.specs.declared.log_records.LogRecord.{LogRecord}
 use Rattle.shore_model.specs.declared.log_records.Payload.{Payload}
 use Rattle.shore_model.specs.declared.log_records.Payload.TheVariants.{Change, Compensation, Commit, End, Prepare, RollbackDecided, CheckpointBegin, CheckpointEnd, Anchor}
-use Rattle.shore_model.specs.Logs.{Lawful, MayFollow, MaySay, Answers, id_in, has, is_over, is_commit, is_end, is_prepare, is_rollback, is_in_doubt, is_of_checkpoint, is_unprepared, first_number, last_of, answered_by, unanswered, undo_next_of}
+use Rattle.shore_model.specs.Logs.{Lawful, MayFollow, MaySay, Answers, id_in, has, is_over, is_commit, is_end, is_prepare, is_rollback, is_in_doubt, is_of_checkpoint, first_number, last_of, answered_by, unanswered, undo_next_of}
 use Rattle.laws_lives.specs.UndoChains.{LastNamesNext, next_named_by}
 use Rattle.laws_lives.proofs.EndedTxns.{over_now, over_other}
 use Rattle.laws_lives.proofs.UnansweredChanges.{unanswered_other, unanswered_own}
 use Rattle.laws_lives.proofs.Numbers.{last_own, newest_other}
 use Rattle.laws_lives.proofs.Redo.{slice_get_last, take_next}
 use Rattle.laws_lives.proofs.Writers.{no_place, same_or_not}
-use Rattle.laws_lives.proofs.OneMore.{by_push, has-not_this}
-use Rattle.shore_analysis.specs.Meant.{Means, IsMeant, IsCrowded, MayBeNext, AreMeant, IsFirstUnmeant, IsServedKind, IsInBounds}
+use Rattle.laws_lives.proofs.Booleans.{and_true}
+use Rattle.laws_lives.proofs.OneMore.{by_push, has-more, has-not_its, has-this}
+use Rattle.shore_analysis.specs.Passes.{undo_next_after}
+use Rattle.shore_analysis.specs.Meant.{AreGranules, granules_in, Means, IsMeant, IsCrowded, MayBeNext, AreMeant, IsFirstUnmeant, IsServedKind, IsInBounds}
 
 -- ---- lists
 
@@ -107,32 +109,6 @@ module _ (g : Geometry) where
         here = subst (λ k. IsSomeAnd (slice_get rs k) (λ r. MayBeNext g (take k rs) r → ⊥)) place (subst (λ o. IsSomeAnd o (λ r. MayBeNext g (take i rs) r → ⊥)) (sym at) refused);
       }
 
--- ---- nobody has prepared
-
-no_prepare : (g : Geometry) (log : List LogRecord) (t : ℕ) (p : Payload) → Means g log t p → is_prepare p ≡ false
-no_prepare g log t (Prepare global granules) h = absurd h
-no_prepare g log t _ h = refl
-
-no_rollback : (g : Geometry) (log : List LogRecord) (t : ℕ) (p : Payload) → Means g log t p → is_rollback p ≡ false
-no_rollback g log t RollbackDecided h = absurd h
-no_rollback g log t _ h = refl
-
-pub none_prepared : (g : Geometry) (log : List LogRecord) → AreMeant g log → (t : ℕ) → has is_prepare t log ≡ false
-none_prepared g = by_meant g (λ log. (t : ℕ) → has is_prepare t log ≡ false) (λ t. refl)
-    (λ xs r meant h t. has-not_this xs r is_prepare t (no_prepare g xs r.txn r.payload meant.says) ∙ h t)
-
-pub all_unprepared : (g : Geometry) (log : List LogRecord) → AreMeant g log → (t : ℕ) → IsTrue (is_unprepared t log)
-all_unprepared g log meant t = ap not (none_prepared g log meant t)
-
-pub none_in_doubt : (g : Geometry) (log : List LogRecord) → AreMeant g log → (t : ℕ) → is_in_doubt t log ≡ false
-none_in_doubt g log meant t = rw (none_prepared g log meant t) refl
-
--- also if the next record leaves too many
-pub still_none_in_doubt : (g : Geometry) (log : List LogRecord) (r : LogRecord) → AreMeant g log → IsMeant g log r → (t : ℕ) → is_in_doubt t (log ++ r ∷ []) ≡ false
-still_none_in_doubt g log r all meant t =
-    let none : has is_prepare t (log ++ r ∷ []) ≡ false = has-not_this log r is_prepare t (no_prepare g log r.txn r.payload meant.says) ∙ none_prepared g log all t in
-    rw (none) refl
-
 -- ---- which Change is to be undone next
 
 -- who has no record has changed nothing
@@ -145,9 +121,14 @@ nothing_unanswered = by_push (λ log. (t : ℕ) → last_of t log ≡ 0 → unan
         (λ ne. unanswered_other t log r ne ∙ known t (sym (ap first_number (newest_other log r t ne)) ∙ none))
         (same_or_not r.txn t)
 
--- of those that have not ended
+-- who is in doubt has a Prepare
+pub in_doubt_prepared : (t : ℕ) (log : List LogRecord) → is_in_doubt t log ≡ true → has is_prepare t log ≡ true
+in_doubt_prepared t log h =
+    (and_true (has is_prepare t log) (not (has is_commit t log)) (and_true (has is_prepare t log && not (has is_commit t log)) (not (has is_rollback t log)) h).0).0
+
+-- of those that have neither ended nor prepared
 abbrev LastsNameNext : List LogRecord → Type 0
-LastsNameNext log = (t : ℕ) → is_over t log ≡ false → 0 < last_of t log → LastNamesNext log t
+LastsNameNext log = (t : ℕ) → is_over t log ≡ false → has is_prepare t log ≡ false → 0 < last_of t log → LastNamesNext log t
 
 next_answered : (cs : List UnansweredChange) (id : Rid) (image : Image) (next : ℕ) → Answers cs id image next → undo_next_of (drop 1 cs) ≡ next
 next_answered [] id image next a = absurd a
@@ -158,20 +139,33 @@ true_or_false true h e = cc
 true_or_false false h e = cc
 
 module _ (g : Geometry) (log : List LogRecord) (r : LogRecord) (meant : IsMeant g log r) where
-  pub nexts_own : (p : Payload) → r.payload ≡ p → Means g log r.txn p → is_over r.txn (log ++ r ∷ []) ≡ false
+  -- what is to be undone next behind the record
+  pub nexts_after : (p : Payload) → r.payload ≡ p → Means g log r.txn p → is_over r.txn (log ++ r ∷ []) ≡ false
+      → undo_next_of (answered_by (1 + length log) p (unanswered r.txn log)) ≡ undo_next_after (1 + length log) p (undo_next_of (unanswered r.txn log))
+  nexts_after (Change id before image) e says runs = refl
+  nexts_after (Compensation id image undo_next) e says runs = next_answered (unanswered r.txn log) id image undo_next says.1.1
+  nexts_after Commit e says runs = absurd (true_or_false _ (over_now log r (inl (ap is_commit e))) runs)
+  nexts_after End e says runs = absurd (true_or_false _ (over_now log r (inr (ap is_end e))) runs)
+  nexts_after (Prepare global granules) e says runs = refl
+  nexts_after RollbackDecided e says runs = refl
+  nexts_after CheckpointBegin e says runs = absurd says
+  nexts_after (CheckpointEnd begin next txns dirty) e says runs = absurd says
+  nexts_after (Anchor checkpoint tail) e says runs = absurd says
+
+  nexts_own : (p : Payload) → r.payload ≡ p → Means g log r.txn p → is_over r.txn (log ++ r ∷ []) ≡ false → has is_prepare r.txn (log ++ r ∷ []) ≡ false
       → undo_next_of (answered_by (1 + length log) p (unanswered r.txn log)) ≡ next_named_by (1 + length log) p
-  nexts_own (Change id before image) e says runs = refl
-  nexts_own (Compensation id image undo_next) e says runs = next_answered (unanswered r.txn log) id image undo_next says.1
-  nexts_own Commit e says runs = absurd (true_or_false _ (over_now log r (inl (ap is_commit e))) runs)
-  nexts_own End e says runs = absurd (true_or_false _ (over_now log r (inr (ap is_end e))) runs)
-  nexts_own (Prepare global granules) e says runs = absurd says
-  nexts_own RollbackDecided e says runs = absurd says
-  nexts_own CheckpointBegin e says runs = absurd says
-  nexts_own (CheckpointEnd begin next txns dirty) e says runs = absurd says
-  nexts_own (Anchor checkpoint tail) e says runs = absurd says
+  nexts_own (Change id before image) e says runs free = refl
+  nexts_own (Compensation id image undo_next) e says runs free = next_answered (unanswered r.txn log) id image undo_next says.1.1
+  nexts_own Commit e says runs free = absurd (true_or_false _ (over_now log r (inl (ap is_commit e))) runs)
+  nexts_own End e says runs free = absurd (true_or_false _ (over_now log r (inr (ap is_end e))) runs)
+  nexts_own (Prepare global granules) e says runs free = absurd (true_or_false _ (has-this log r is_prepare (ap is_prepare e)) free)
+  nexts_own RollbackDecided e says runs free = absurd (true_or_false _ (has-more log r is_prepare r.txn (in_doubt_prepared r.txn log says)) free)
+  nexts_own CheckpointBegin e says runs free = absurd says
+  nexts_own (CheckpointEnd begin next txns dirty) e says runs free = absurd says
+  nexts_own (Anchor checkpoint tail) e says runs free = absurd says
 
   nexts_push : LastsNameNext log → LastsNameNext (log ++ r ∷ [])
-  nexts_push h t runs known = ⊎_elim
+  nexts_push h t runs free known = ⊎_elim
       (λ own.
       let number = last_own log r in
       let at : last_of r.txn (log ++ r ∷ []) - 1 ≡ length log = omega arith in
@@ -182,12 +176,12 @@ module _ (g : Geometry) (log : List LogRecord) (r : LogRecord) (meant : IsMeant 
         own = refl;
         next =
             ap undo_next_of (unanswered_own r.txn log r refl)
-            ∙ nexts_own r.payload refl meant.says (ap (λ u. is_over u (log ++ r ∷ [])) own ∙ runs)
+            ∙ nexts_own r.payload refl meant.says (ap (λ u. is_over u (log ++ r ∷ [])) own ∙ runs) (ap (λ u. has is_prepare u (log ++ r ∷ [])) own ∙ free)
             ∙ ap (λ n. next_named_by n r.payload) (sym number);
       }))
       (λ ne.
       let records = newest_other log r t ne in
-      let before = h t (sym (over_other log r t ne) ∙ runs) (subst (λ es. 0 < first_number es) records known) in
+      let before = h t (sym (over_other log r t ne) ∙ runs) (sym (has-not_its log r is_prepare t ne) ∙ free) (subst (λ es. 0 < first_number es) records known) in
       let same : last_of t (log ++ r ∷ []) ≡ last_of t log = ap (λ es. first_number es) records in
       record {
         is_one = known;
@@ -199,7 +193,7 @@ module _ (g : Geometry) (log : List LogRecord) (r : LogRecord) (meant : IsMeant 
       (same_or_not r.txn t)
 
 pub next_by_last : (g : Geometry) (log : List LogRecord) → AreMeant g log → LastsNameNext log
-next_by_last g = by_meant g LastsNameNext (λ t runs known. absurd (omega arith)) (λ xs r meant h. nexts_push g xs r meant h)
+next_by_last g = by_meant g LastsNameNext (λ t runs free known. absurd (omega arith)) (λ xs r meant h. nexts_push g xs r meant h)
 
 -- ---- lawful logs
 
@@ -207,16 +201,17 @@ not_zero : (t : ℕ) → (t == 0) ≡ false → 0 < t
 not_zero zero h = cc
 not_zero (suc t) h = omega arith
 
-served_says : (g : Geometry) (rs : List LogRecord) (t : ℕ) (p : Payload) → IsServedKind p → ((id : Rid) → id_in p ≡ Some id → HasSlot g id) → MaySay rs t p → Means g rs t p
-served_says g rs t (Change id was image) served inside says = (inside id refl, says.0)
-served_says g rs t (Compensation id image undo_next) served inside says = (inside id refl, says.1)
-served_says g rs t Commit served inside says = tt
-served_says g rs t End served inside says = says.1
-served_says g rs t (Prepare global granules) served inside says = absurd served
-served_says g rs t RollbackDecided served inside says = absurd served
-served_says g rs t CheckpointBegin served inside says = absurd served
-served_says g rs t (CheckpointEnd begin next txns dirty) served inside says = absurd served
-served_says g rs t (Anchor checkpoint tail) served inside says = absurd served
+served_says : (g : Geometry) (rs : List LogRecord) (t : ℕ) (p : Payload) → IsServedKind p → ((id : Rid) → id_in p ≡ Some id → HasSlot g id) → AreGranules g (granules_in p)
+    → MaySay rs t p → Means g rs t p
+served_says g rs t (Change id was image) served inside granules says = (inside id refl, says.0)
+served_says g rs t (Compensation id image undo_next) served inside granules says = (inside id refl, says)
+served_says g rs t Commit served inside granules says = says
+served_says g rs t End served inside granules says = says
+served_says g rs t (Prepare global gs) served inside granules says = (granules, says)
+served_says g rs t RollbackDecided served inside granules says = says
+served_says g rs t CheckpointBegin served inside granules says = absurd served
+served_says g rs t (CheckpointEnd begin next txns dirty) served inside granules says = absurd served
+served_says g rs t (Anchor checkpoint tail) served inside granules says = absurd served
 
 served_of : (p : Payload) → IsServedKind p → is_of_checkpoint p ≡ false
 served_of CheckpointBegin served = absurd served
@@ -230,7 +225,7 @@ follows_meant g rs r bounds follows = record {
   number = bounds.number;
   previous = follows.previous;
   not_over = follows.not_over;
-  says = served_says g rs r.txn r.payload bounds.served bounds.id follows.says;
+  says = served_says g rs r.txn r.payload bounds.served bounds.id bounds.granules follows.says;
 }
 
 pub lawful_meant : (g : Geometry) (rs : List LogRecord) → Lawful rs → All (IsInBounds g) rs → ((n : ℕ) → IsCrowded (take n rs) → ⊥) → AreMeant g rs

@@ -1,29 +1,27 @@
 -- What a pass knows with one record more.
-use Rattle.std.proofs.Common.{◌≡◌, ◌≢◌, inl, inr, ⊎_elim, ◌+◌, ◌<◌, ℕ, suc, List, [], ◌∷◌, ◌++◌, Bool, true, false, cond, Some, None, refl, sym, ap, ◌∙◌, length, arith}
-use Rattle.std.specs.Prelude.{◌==◌, ◌&&◌, not, filter, nat_lt, reverse}
+use Rattle.std.proofs.Common.{◌≡◌, ◌≢◌, inl, inr, ⊎_elim, ◌+◌, ◌<◌, ℕ, suc, List, [], ◌∷◌, ◌++◌, Bool, true, false, cond, Some, None, refl, sym, ap, subst, ◌∙◌, length, arith}
+use Rattle.std.specs.Prelude.{◌==◌, ◌&&◌, ◌||◌, not, filter, nat_lt, reverse, unwrap_or}
 use Rattle.std.specs.List.{enumerate_from}
-use Rattle.std.proofs.lemmas.Bool.{eq-eqb, ne_eqb, lt-ltb, le-ltb}
+use Rattle.std.proofs.lemmas.Bool.{cases_Bool, eq-eqb, ne_eqb, lt-ltb, le-ltb, ltb-false}
 use Rattle.std.proofs.lemmas.List.Elements.{filter-append}
 use Rattle.shore_types.specs.declared.layout.Geometry.{Geometry}
 use Rattle.shore_types.specs.declared.ids.PageId.{PageId}
 use Rattle.shore_model.specs.declared.log_records.LogRecord.{LogRecord}
 use Rattle.shore_model.specs.declared.log_records.LogTxn.{LogTxn}
-use Rattle.shore_model.specs.declared.log_records.Payload.{Payload}
-use Rattle.shore_model.specs.declared.log_records.Payload.TheVariants.{Prepare}
-use Rattle.shore_model.specs.declared.log_records.TxnState.TheVariants.{Active, RollingBack}
-use Rattle.shore_model.specs.Logs.{first_number, first_of, id_in, is_commit, is_end, is_over, is_prepare, last_of, numbered, prepare_number, records_of, unanswered, undo_next_of}
+use Rattle.shore_model.specs.declared.log_records.TxnState.TheVariants.{Active, Prepared, RollingBack}
+use Rattle.shore_model.specs.Logs.{first_number, first_of, has, id_in, is_commit, is_end, is_over, is_prepare, last_of, numbered, prepare_number, records_of, unanswered, undo_next_of}
 use Rattle.shore_model.proofs.LogSteps.{newest-push}
-use Rattle.laws_lives.specs.UndoChains.{next_named_by}
 use Rattle.laws_lives.proofs.Numbers.{last_own, newest_other}
-use Rattle.laws_lives.proofs.OneMore.{by_push}
+use Rattle.laws_lives.proofs.OneMore.{by_push, has-not_its, has-push}
 use Rattle.laws_lives.proofs.Writers.{same_or_not}
 use Rattle.laws_lives.proofs.EndedTxns.{over_other, over_same}
 use Rattle.laws_lives.proofs.UnansweredChanges.{unanswered_other, unanswered_own}
-use Rattle.shore_analysis.specs.Meant.{IsMeant, AreMeant, Means}
-use Rattle.shore_analysis.specs.Passes.{entry_after, entry_at, entry_of, first_in, noted, recovery_at}
-use Rattle.shore_analysis.specs.Tables.{first_change, is_on_page, newest_is_undo}
+use Rattle.shore_analysis.specs.Meant.{IsMeant, AreMeant}
+use Rattle.shore_analysis.specs.Passes.{begun, entry_after, entry_at, entry_of, noted, prepare_after, recovery_at, state_after, undo_next_after}
+use Rattle.shore_analysis.specs.Tables.{first_change, is_on_page, newest_is_undo, state_of}
 use Rattle.shore_analysis.proofs.Answered.{one_or_none}
-use Rattle.shore_analysis.proofs.MeantLogs.{by_meant, nexts_own}
+use Rattle.shore_analysis.proofs.MeantLogs.{nexts_after, nothing_unanswered}
+use Rattle.shore_analysis.proofs.Phases.{doubt_other, prepare_free, state_then}
 
 -- ---- the first record that passes a test
 
@@ -105,22 +103,35 @@ entry_none t rs none = ap (λ b. cond (nat_lt 0 t && b && not (is_over t rs)) (S
 pub entry_some : (t : ℕ) (rs : List LogRecord) → 0 < t → 0 < last_of t rs → is_over t rs ≡ false → entry_at t rs ≡ Some (entry_of t rs)
 entry_some t rs one known runs = rw (lt-ltb 0 t one, lt-ltb 0 (last_of t rs) known, runs) refl
 
-not_this : (g : Geometry) (p : Payload) (rs : List LogRecord) (t : ℕ) → Means g rs t p → (b : Bool) → (b && is_prepare p) ≡ false
-not_this g (Prepare global granules) rs t says b = absurd says
-not_this g _ rs t says true = refl
-not_this g _ rs t says false = refl
+-- who has a Prepare has its number
+pub prepare_known : (t : ℕ) (rs : List LogRecord) → nat_lt 0 (prepare_number t rs) ≡ has is_prepare t rs
+prepare_known t = by_push (λ rs. nat_lt 0 (prepare_number t rs) ≡ has is_prepare t rs) refl one_more
+  where
+    by : (n first : ℕ) (own : Bool) → 0 < n → nat_lt 0 (cond (nat_lt 0 first) first (cond own n 0)) ≡ (nat_lt 0 first || own)
+    by n first own some = ⊎_elim (λ none. by_none own none) (λ one. rw (lt-ltb 0 first one, lt-ltb 0 first one) refl) (one_or_none first)
+      where
+        by_none : (own : Bool) → first ≡ 0 → nat_lt 0 (cond (nat_lt 0 first) first (cond own n 0)) ≡ (nat_lt 0 first || own)
+        by_none true none = rw (le-ltb 0 first (omega (arith, none)), lt-ltb 0 n some) refl
+        by_none false none = rw (le-ltb 0 first (omega (arith, none))) refl
 
-unprepared_next : (g : Geometry) (rs : List LogRecord) (r : LogRecord) → IsMeant g rs r → ((t : ℕ) → prepare_number t rs ≡ 0) → (t : ℕ) → prepare_number t (rs ++ r ∷ []) ≡ 0
-unprepared_next g rs r meant known t =
-    first-push (λ x. (x.txn == t) && is_prepare x.payload) rs r
-    ∙ ap (λ n. cond (nat_lt 0 n) n (cond ((r.txn == t) && is_prepare r.payload) (1 + length rs) 0)) (known t)
-    ∙ ap (λ b. cond b (1 + length rs) 0) (not_this g r.payload rs r.txn meant.says (r.txn == t))
+    one_more : (rs : List LogRecord) (r : LogRecord) → nat_lt 0 (prepare_number t rs) ≡ has is_prepare t rs → nat_lt 0 (prepare_number t (rs ++ r ∷ [])) ≡ has is_prepare t (rs ++ r ∷ [])
+    one_more rs r known =
+        ap (nat_lt 0) (first-push (λ x. (x.txn == t) && is_prepare x.payload) rs r)
+        ∙ by (1 + length rs) (prepare_number t rs) ((r.txn == t) && is_prepare r.payload) (omega arith)
+        ∙ ap (λ b. b || ((r.txn == t) && is_prepare r.payload)) known ∙ sym (has-push rs r is_prepare t)
 
-pub unprepared : (g : Geometry) (rs : List LogRecord) → AreMeant g rs → (t : ℕ) → prepare_number t rs ≡ 0
-unprepared g = by_meant g (λ rs. (t : ℕ) → prepare_number t rs ≡ 0) (λ t. refl) (unprepared_next g)
+pub prepare_none : (t : ℕ) (rs : List LogRecord) → has is_prepare t rs ≡ false → prepare_number t rs ≡ 0
+prepare_none t rs none = let zero = ltb-false 0 (prepare_number t rs) (prepare_known t rs ∙ none) in omega (arith, zero)
 
-unprepared-push : (g : Geometry) (rs : List LogRecord) → AreMeant g rs → (r : LogRecord) → IsMeant g rs r → (t : ℕ) → prepare_number t (rs ++ r ∷ []) ≡ 0
-unprepared-push g rs all r meant t = unprepared_next g rs r meant (unprepared g rs all) t
+-- who has no record has no Prepare
+pub nothing_prepared : (t : ℕ) (rs : List LogRecord) → last_of t rs ≡ 0 → has is_prepare t rs ≡ false
+nothing_prepared t = by_push (λ rs. last_of t rs ≡ 0 → has is_prepare t rs ≡ false) (λ h. refl) one_more
+  where
+    one_more : (rs : List LogRecord) (r : LogRecord) → (last_of t rs ≡ 0 → has is_prepare t rs ≡ false) → last_of t (rs ++ r ∷ []) ≡ 0 → has is_prepare t (rs ++ r ∷ []) ≡ false
+    one_more rs r known none = ⊎_elim
+        (λ own. let here : last_of t (rs ++ r ∷ []) ≡ 1 + length rs = ap (λ u. last_of u (rs ++ r ∷ [])) (sym own) ∙ last_own rs r in absurd (omega arith))
+        (λ ne. has-not_its rs r is_prepare t ne ∙ known (sym (ap first_number (newest_other rs r t ne)) ∙ none))
+        (same_or_not r.txn t)
 
 -- who has a last record has a first one
 first_none : (t : ℕ) (rs : List LogRecord) → last_of t rs ≡ 0 → first_of t rs ≡ 0
@@ -139,24 +150,21 @@ first_some t rs known = ⊎_elim
     (λ none. let gone : last_of t rs ≡ 0 = ap (λ es. first_number (reverse es)) (none_picked (λ x. x.txn == t) rs none) in absurd (omega arith))
     (λ one. one) (one_or_none (first_of t rs))
 
+itself : (n : ℕ) → cond (nat_lt 0 n) n 0 ≡ n
+itself n = ⊎_elim (λ none. ap (λ b. cond b n 0) (le-ltb 0 n (omega (arith, none))) ∙ sym none) (λ one. ap (λ b. cond b n 0) (lt-ltb 0 n one)) (one_or_none n)
+
 -- another's entry stays as it is
 module _ (rs : List LogRecord) (r : LogRecord) (t : ℕ) (other : r.txn ≢ t) where
   first-other : first_of t (rs ++ r ∷ []) ≡ first_of t rs
   first-other =
       first-push (λ x. x.txn == t) rs r ∙ ap (λ b. cond (nat_lt 0 (first_of t rs)) (first_of t rs) (cond b (1 + length rs) 0)) (ne_eqb r.txn t other)
       ∙ itself (first_of t rs)
-    where
-      itself : (n : ℕ) → cond (nat_lt 0 n) n 0 ≡ n
-      itself n = ⊎_elim (λ none. ap (λ b. cond b n 0) (le-ltb 0 n (omega (arith, none))) ∙ sym none) (λ one. ap (λ b. cond b n 0) (lt-ltb 0 n one)) (one_or_none n)
 
   prepare-other : prepare_number t (rs ++ r ∷ []) ≡ prepare_number t rs
   prepare-other =
       first-push (λ x. (x.txn == t) && is_prepare x.payload) rs r
       ∙ ap (λ b. cond (nat_lt 0 (prepare_number t rs)) (prepare_number t rs) (cond (b && is_prepare r.payload) (1 + length rs) 0)) (ne_eqb r.txn t other)
       ∙ itself (prepare_number t rs)
-    where
-      itself : (n : ℕ) → cond (nat_lt 0 n) n 0 ≡ n
-      itself n = ⊎_elim (λ none. ap (λ b. cond b n 0) (le-ltb 0 n (omega (arith, none))) ∙ sym none) (λ one. ap (λ b. cond b n 0) (lt-ltb 0 n one)) (one_or_none n)
 
   last-other : last_of t (rs ++ r ∷ []) ≡ last_of t rs
   last-other = ap (λ es. first_number es) (newest_other rs r t other)
@@ -164,7 +172,7 @@ module _ (rs : List LogRecord) (r : LogRecord) (t : ℕ) (other : r.txn ≢ t) w
   entry_of-other : entry_of t (rs ++ r ∷ []) ≡ entry_of t rs
   entry_of-other = λ i. record {
     txn = t;
-    state = cond (newest_is_undo (newest_other rs r t other i)) RollingBack Active;
+    state = cond (doubt_other rs r t other i) Prepared (cond (newest_is_undo (newest_other rs r t other i)) RollingBack Active);
     first = first-other i;
     last = last-other i;
     undo_next = undo_next_of (unanswered_other t rs r other i);
@@ -176,32 +184,73 @@ module _ (rs : List LogRecord) (r : LogRecord) (t : ℕ) (other : r.txn ≢ t) w
 
 -- its own entry goes on
 module _ (g : Geometry) (rs : List LogRecord) (all : AreMeant g rs) (r : LogRecord) (meant : IsMeant g rs r) where
-  first_own : first_in (1 + length rs) (entry_at r.txn rs) ≡ first_of r.txn (rs ++ r ∷ [])
-  first_own = ⊎_elim
-      (λ none.
-      let nothing : first_of r.txn rs ≡ 0 = first_none r.txn rs none in
-      ap (first_in (1 + length rs)) (entry_none r.txn rs none)
-      ∙ sym (first-push (λ x. x.txn == r.txn) rs r ∙ rw (nothing, eq-eqb r.txn r.txn refl) refl))
-      (λ known.
-      let one : 0 < first_of r.txn rs = first_some r.txn rs known in
-      ap (first_in (1 + length rs)) (entry_some r.txn rs meant.some known meant.not_over)
-      ∙ sym (first-push (λ x. x.txn == r.txn) rs r ∙ ap (λ b. cond b (first_of r.txn rs) (cond (r.txn == r.txn) (1 + length rs) 0)) (lt-ltb 0 (first_of r.txn rs) one)))
-      (one_or_none (last_of r.txn rs))
+  abbrev t : ℕ
+  t = r.txn
 
-  pub goes_on : is_commit r.payload ≡ false → is_end r.payload ≡ false → Some (entry_after (1 + length rs) r (entry_at r.txn rs)) ≡ entry_at r.txn (rs ++ r ∷ [])
-  goes_on no_commit no_end =
-      let runs : is_over r.txn (rs ++ r ∷ []) ≡ false = over_same rs r no_commit no_end r.txn ∙ meant.not_over in
-      let number : last_of r.txn (rs ++ r ∷ []) ≡ 1 + length rs = last_own rs r in
-      let newest : reverse (records_of r.txn (rs ++ r ∷ [])) ≡ (1 + length rs, r) ∷ reverse (records_of r.txn rs) =
-      newest-push r.txn rs r ∙ ap (λ b. cond b ((1 + length rs, r) ∷ reverse (records_of r.txn rs)) (reverse (records_of r.txn rs))) (eq-eqb r.txn r.txn refl) in
-      let next : undo_next_of (unanswered r.txn (rs ++ r ∷ [])) ≡ next_named_by (1 + length rs) r.payload =
-      ap undo_next_of (unanswered_own r.txn rs r refl) ∙ nexts_own g rs r meant r.payload refl meant.says runs in
-      let none : prepare_number r.txn (rs ++ r ∷ []) ≡ 0 = unprepared-push g rs all r meant r.txn in
-      sym (entry_some r.txn (rs ++ r ∷ []) meant.some (omega (arith, number)) runs ∙ λ i. Some (record {
-        txn = r.txn;
-        state = cond (newest_is_undo (newest i)) RollingBack Active;
-        first = sym first_own i;
-        last = number i;
-        undo_next = next i;
-        prepare = none i;
+  abbrev after : List LogRecord
+  after = rs ++ r ∷ []
+
+  abbrev n : ℕ
+  n = 1 + length rs
+
+  -- what is known of it before
+  record IsBefore (e : LogTxn) : Type 0 where
+    pub txn : e.txn ≡ t
+    pub first : e.first ≡ first_of t after
+    pub undo_next : e.undo_next ≡ undo_next_of (unanswered t rs)
+    pub prepare : e.prepare ≡ prepare_number t rs
+
+  before : IsBefore (unwrap_or (entry_at t rs) (begun t n))
+  before = ⊎_elim
+      (λ none.
+      let nothing : first_of t rs ≡ 0 = first_none t rs none in
+      subst (λ o. IsBefore (unwrap_or o (begun t n))) (sym (entry_none t rs none)) (record {
+        txn = refl;
+        first = sym (first-push (λ x. x.txn == t) rs r ∙ rw (nothing, eq-eqb t t refl) refl);
+        undo_next = sym (ap undo_next_of (nothing_unanswered rs t none));
+        prepare = sym (prepare_none t rs (nothing_prepared t rs none));
       }))
+      (λ known.
+      let one : 0 < first_of t rs = first_some t rs known in
+      subst (λ o. IsBefore (unwrap_or o (begun t n))) (sym (entry_some t rs meant.some known meant.not_over)) (record {
+        txn = refl;
+        first = sym (first-push (λ x. x.txn == t) rs r ∙ ap (λ b. cond b (first_of t rs) (cond (t == t) n 0)) (lt-ltb 0 (first_of t rs) one));
+        undo_next = refl;
+        prepare = refl;
+      }))
+      (one_or_none (last_of t rs))
+
+  prepare_then : prepare_after n r.payload (prepare_number t rs) ≡ prepare_number t after
+  prepare_then = ⊎_elim
+      (λ yes.
+      let none : prepare_number t rs ≡ 0 = prepare_none t rs (prepare_free g rs t r.payload yes meant.says) in
+      ap (λ b. cond b n (prepare_number t rs)) yes
+      ∙ sym (first-push (λ x. (x.txn == t) && is_prepare x.payload) rs r ∙ rw (none, eq-eqb t t refl, yes) refl))
+      (λ no.
+      ap (λ b. cond b n (prepare_number t rs)) no
+      ∙ sym (first-push (λ x. (x.txn == t) && is_prepare x.payload) rs r
+      ∙ ap (λ b. cond (nat_lt 0 (prepare_number t rs)) (prepare_number t rs) (cond ((t == t) && b) n 0)) no ∙ other (t == t) (prepare_number t rs)))
+      (cases_Bool (is_prepare r.payload))
+    where
+      other : (b : Bool) (k : ℕ) → cond (nat_lt 0 k) k (cond (b && false) n 0) ≡ k
+      other true k = itself k
+      other false k = itself k
+
+  pub goes_on : is_commit r.payload ≡ false → is_end r.payload ≡ false → Some (entry_after n r (entry_at t rs)) ≡ entry_at t after
+  goes_on no_commit no_end =
+      let runs : is_over t after ≡ false = over_same rs r no_commit no_end t ∙ meant.not_over in
+      let number : last_of t after ≡ n = last_own rs r in
+      let newest : reverse (records_of t after) ≡ (n, r) ∷ reverse (records_of t rs) =
+      newest-push t rs r ∙ ap (λ b. cond b ((n, r) ∷ reverse (records_of t rs)) (reverse (records_of t rs))) (eq-eqb t t refl) in
+      let next : undo_next_after n r.payload (undo_next_of (unanswered t rs)) ≡ undo_next_of (unanswered t after) =
+      sym (ap undo_next_of (unanswered_own t rs r refl) ∙ nexts_after g rs r meant r.payload refl meant.says runs) in
+      let state : state_after r.payload ≡ state_of t after = state_then g rs all r meant no_commit no_end newest in
+      (λ i. Some (record {
+        txn = before.txn i;
+        state = state i;
+        first = before.first i;
+        last = sym number i;
+        undo_next = (ap (undo_next_after n r.payload) before.undo_next ∙ next) i;
+        prepare = (ap (prepare_after n r.payload) before.prepare ∙ prepare_then) i;
+      }))
+      ∙ sym (entry_some t after meant.some (omega (arith, number)) runs)

@@ -1,5 +1,5 @@
 -- An analysed log goes on by the records of undo: they mean what they have to, and no transaction comes to them.
-use Rattle.std.proofs.Common.{◌≡◌, ◌≢◌, ◌⊎◌, inl, inr, ⊎_elim, ◌-◌, ◌<◌, ◌≤◌, ◌+◌, ℕ, suc, List, [], ◌∷◌, ◌++◌, false, refl, sym, ap, subst, ◌∙◌, length, map, take, length-append, arith}
+use Rattle.std.proofs.Common.{◌≡◌, ◌≢◌, ◌⊎◌, inl, inr, ⊎_elim, ◌-◌, ◌<◌, ◌≤◌, ◌+◌, ℕ, suc, List, [], ◌∷◌, ◌++◌, refl, sym, ap, subst, ◌∙◌, length, map, take, length-append, arith}
 use Rattle.std.specs.Prelude.{◌&&◌, IsTrue, nat_lt, slice_index_or}
 use Rattle.std.specs.List.{AllByRecursion}
 use Rattle.std.proofs.lemmas.Bool.{lt-ltb}
@@ -11,7 +11,7 @@ use Rattle.shore_types.specs.declared.layout.TheConstants.{LAST_TXN}
 use Rattle.shore_model.specs.declared.unanswered_changes.UnansweredChange.{UnansweredChange}
 use Rattle.shore_model.specs.declared.log_records.LogRecord.{LogRecord}
 use Rattle.shore_model.specs.declared.log_records.LogTxn.{LogTxn}
-use Rattle.shore_model.specs.Logs.{Answers, IsEntry, IsListed, IsTable, Lists, first_number, is_in_doubt, is_over, last_of, rise_above, unanswered, undo_next_of}
+use Rattle.shore_model.specs.Logs.{Answers, IsEntry, IsListed, IsTable, Lists, first_number, is_over, last_of, rise_above, unanswered, undo_next_of}
 use Rattle.laws_lives.specs.Undo.{IsLoser, undo_payload, undo_record}
 use Rattle.laws_lives.specs.UndoChains.{IsUndoChain}
 use Rattle.laws_lives.proofs.Numbers.{newest_other}
@@ -23,19 +23,20 @@ use Rattle.laws_lives.proofs.EndedTxns.{over_other}
 use Rattle.shore_analysis.specs.Meant.{AreMeant, MayBeNext, IsCrowded, IsMeant, Means, MeansChange}
 use Rattle.shore_analysis.specs.Passes.{entry_of}
 use Rattle.shore_analysis.proofs.Answered.{last_named}
-use Rattle.shore_analysis.proofs.Counted.{Among, cases_lt, last_is_one, listed_among, rise_first}
-use Rattle.shore_analysis.proofs.Listed.{Any-here, Any-later, is_entry}
-use Rattle.shore_analysis.proofs.MeantLogs.{before_last, none_in_doubt}
+use Rattle.shore_analysis.proofs.Counted.{Among, among_listed, cases_lt, last_is_one, listed_among, rise_first}
+use Rattle.shore_analysis.proofs.Listed.{is_entry}
+use Rattle.shore_analysis.proofs.MeantLogs.{before_last}
+use Rattle.shore_analysis.proofs.Phases.{loser_undoable}
 
 -- ---- a loser's next record of undo means what it has to
 
 module _ (g : Geometry) (rs : List LogRecord) (t : ℕ) (all : AreMeant g rs) (loser : IsLoser rs t) where
   says_undo : (cs : List UnansweredChange) → unanswered t rs ≡ cs → IsUndoChain rs t cs → Means g rs t (undo_payload cs)
-  says_undo [] is chain = is
+  says_undo [] is chain = (loser_undoable t rs loser, is)
   says_undo (c ∷ cs) is chain =
       let k = chain.0 in
       let change : MeansChange g (take (c.number - 1) rs) k.found.txn c.id = subst (λ P. P) (ap (Means g (take (c.number - 1) rs) k.found.txn) k.says) (all (c.number - 1) k.found k.here).0.says in
-      (change.0, subst (λ xs. Answers xs c.id c.before (undo_next_of cs)) (sym is) (refl, refl, refl))
+      (change.0, (loser_undoable t rs loser, subst (λ xs. Answers xs c.id c.before (undo_next_of cs)) (sym is) (refl, refl, refl)))
 
   pub undo_meant : IsMeant g rs (undo_record rs t)
   undo_meant =
@@ -123,17 +124,11 @@ module _ (e : LogTxn) where
 
 -- ---- no transaction comes by undo, so a log that was not crowded is not
 
-among_listed : (t : ℕ) (es : List LogTxn) → Among t es → Lists es t
-unfolding Lists
-among_listed t [] h = absurd h
-among_listed t (e ∷ es) (inl own) = Any-here (λ x. x.txn ≡ t) e es own
-among_listed t (e ∷ es) (inr later) = Any-later (λ x. x.txn ≡ t) e es (among_listed t es later)
-
 uncrowded : (g : Geometry) (rs : List LogRecord) → AreMeant g rs → 0 < length rs → IsCrowded rs → ⊥
 uncrowded g = by_push (λ rs. AreMeant g rs → 0 < length rs → IsCrowded rs → ⊥) (λ all some. absurd (omega (arith, some)))
     (λ rs r known all some crowded. (subst (λ xs. MayBeNext g xs r) (before_last rs r) (all (length rs) r (slice_get_last rs r))).1 crowded)
 
-module _ (rs : List LogRecord) (t : ℕ) (loser : IsLoser rs t) (doubts : (u : ℕ) → is_in_doubt u rs ≡ false) (r : LogRecord) (its : r.txn ≡ t) where
+module _ (rs : List LogRecord) (t : ℕ) (loser : IsLoser rs t) (r : LogRecord) (its : r.txn ≡ t) where
   abbrev after : List LogRecord
   after = rs ++ r ∷ []
 
@@ -144,7 +139,7 @@ module _ (rs : List LogRecord) (t : ℕ) (loser : IsLoser rs t) (doubts : (u : �
   other_txn u ne e = ne (sym its ∙ e)
 
   was_entry : (e : LogTxn) → IsEntry after e → IsEntry rs (back e)
-  was_entry e h = is_entry rs doubts e.txn (back e) (⊎_elim
+  was_entry e h = is_entry rs e.txn (back e) (⊎_elim
       (λ own. record { one = h.0.is_one; known = subst (λ u. 0 < last_of u rs) own loser.known; runs = ap (λ u. is_over u rs) (sym own) ∙ loser.not_over; is = refl })
       (λ ne. record {
         one = h.0.is_one;
@@ -172,7 +167,7 @@ module _ (rs : List LogRecord) (t : ℕ) (loser : IsLoser rs t) (doubts : (u : �
   still_among u (e ∷ es) (inr later) = inr (still_among u es later)
 
   own_entry : IsEntry rs (entry_of t rs)
-  own_entry = is_entry rs doubts t (entry_of t rs) (record { one = loser.is_one; known = loser.known; runs = loser.not_over; is = refl })
+  own_entry = is_entry rs t (entry_of t rs) (record { one = loser.is_one; known = loser.known; runs = loser.not_over; is = refl })
 
   was_table : (es : List LogTxn) → IsTable after es → IsTable rs (put (entry_of t rs) (map back es))
   was_table es table = record {
@@ -201,4 +196,4 @@ pub undo_goes_on : (g : Geometry) (rs : List LogRecord) (t : ℕ) → AreMeant g
 undo_goes_on g rs t all loser =
     let one = last_is_one rs t loser.known in
     let within = slice_get_within rs one.at one.found one.here in
-    (undo_meant g rs t all loser, λ crowded. uncrowded g rs all (omega (arith, within)) (was_crowded rs t loser (none_in_doubt g rs all) (undo_record rs t) refl crowded))
+    (undo_meant g rs t all loser, λ crowded. uncrowded g rs all (omega (arith, within)) (was_crowded rs t loser (undo_record rs t) refl crowded))

@@ -1,3 +1,4 @@
+pub mod Doubts
 pub mod Losers
 pub mod Meant
 pub mod Passes

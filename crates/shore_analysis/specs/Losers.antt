@@ -3,7 +3,7 @@ use Rattle.std.specs.Prelude.{◌≡◌, ◌⊎◌, ◌<◌, ◌≤◌, ◌+◌,
 use Rattle.std.specs.List.{AllByRecursion}
 use Rattle.shore_model.specs.declared.log_records.LogRecord.{LogRecord}
 use Rattle.shore_model.specs.declared.log_records.LogTxn.{LogTxn}
-use Rattle.shore_model.specs.Logs.{last_of, unanswered, undo_next_of}
+use Rattle.shore_model.specs.Logs.{is_prepared, last_of, unanswered, undo_next_of}
 use Rattle.laws_lives.specs.Views.{IsAmong}
 use Rattle.laws_lives.specs.Undo.{IsLoser, undo_record}
 use Rattle.shore_analysis.specs.declared.losers.Losers.{Losers}
@@ -48,6 +48,10 @@ turns_left log losers = turns_left_of log losers.entries.items
 -- an entry, with these numbers if it is the transaction's
 abbrev pub with_numbers : ℕ → ℕ → ℕ → LogTxn → LogTxn
 with_numbers t last undo_next e = if e.txn == t then record e { last = last; undo_next = undo_next } else e
+
+-- an entry that is not of one in doubt
+abbrev pub is_of_loser : LogTxn → Bool
+is_of_loser e = not (is_prepared e.state)
 
 -- an entry of another transaction
 abbrev pub is_another : ℕ → LogTxn → Bool

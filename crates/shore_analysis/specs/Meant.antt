@@ -1,33 +1,46 @@
 -- What a record has to mean, given the records before it, for a restart to work on the log. It can be seen without the pages: whether a
 -- Change's before image is right, and whether its record was free, is not asked.
-use Rattle.std.specs.Prelude.{◌≡◌, ◌<◌, ◌-◌, ◌++◌, ℕ, List, [], ◌∷◌, false, Some, IsTrue, IsSomeAnd, length, take, slice_get}
+use Rattle.std.specs.Prelude.{◌≡◌, ◌<◌, ◌-◌, ◌++◌, ℕ, List, [], ◌∷◌, false, Some, All, IsTrue, IsSomeAnd, length, take, slice_get}
+use Rattle.std.specs.List.Sorted.{IsStrictlySortedBy}
 use Rattle.shore_types.specs.Images.{Image}
-use Rattle.shore_types.specs.Layout.{HasSlot}
+use Rattle.shore_types.specs.Layout.{HasGranule, HasPage, HasSlot, HasStore}
 use Rattle.shore_types.specs.declared.ids.Rid.{Rid}
 use Rattle.shore_types.specs.declared.layout.Geometry.{Geometry}
 use Rattle.shore_types.specs.declared.layout.TheConstants.{LAST_TXN, MAX_TRANSACTIONS}
+use Rattle.shore_types.specs.declared.locking.Granule.{Granule}
+use Rattle.shore_types.specs.declared.locking.Granule.TheVariants.{Volume, Store, Page, Record}
+use Rattle.shore_types.specs.Locking.{granule_cmp}
 use Rattle.shore_model.specs.declared.log_records.LogRecord.{LogRecord}
 use Rattle.shore_model.specs.declared.log_records.LogTxn.{LogTxn}
 use Rattle.shore_model.specs.declared.log_records.Payload.{Payload}
 use Rattle.shore_model.specs.declared.log_records.Payload.TheVariants.{Change, Compensation, Commit, End, Prepare, RollbackDecided, CheckpointBegin, CheckpointEnd, Anchor}
-use Rattle.shore_model.specs.Logs.{Answers, IsTable, id_in, is_over, is_unprepared, previous_of, unanswered}
+use Rattle.shore_model.specs.Logs.{IsTable, MayCommit, MayCompensate, MayEnd, MayPrepare, id_in, is_in_doubt, is_over, is_unprepared, previous_of}
 
 -- a Change: its id may be one, and no Prepare comes before it
 abbrev pub MeansChange : Geometry → List LogRecord → ℕ → Rid → Type 0
 MeansChange g before t id = HasSlot g id × IsTrue (is_unprepared t before)
 
--- a Compensation: its id may be one, and it answers the newest unanswered Change
+-- a Compensation: its id may be one, its transaction is not in doubt, and it answers the newest unanswered Change
 abbrev pub MeansCompensation : Geometry → List LogRecord → ℕ → Rid → Image → ℕ → Type 0
-MeansCompensation g before t id image undo_next = HasSlot g id × Answers (unanswered t before) id image undo_next
+MeansCompensation g before t id image undo_next = HasSlot g id × MayCompensate before t id image undo_next
+
+-- granules as a Prepare names them: each is there, and they rise
+pub record AreGranules (g : Geometry) (granules : List Granule) : Type 0 where
+  pub inside : All (HasGranule g) granules
+  pub rise : IsStrictlySortedBy granule_cmp granules
+
+-- a Prepare: its granules may be ones, it is the first, and all that its transaction has changed, undone or not, lies at or under one of them
+abbrev pub MeansPrepare : Geometry → List LogRecord → ℕ → List Granule → Type 0
+MeansPrepare g before t granules = AreGranules g granules × MayPrepare before t granules
 
 -- what a transaction's next record says; the kinds that no reader of the log serves mean nothing
 abbrev pub Means : Geometry → List LogRecord → ℕ → Payload → Type 0
 Means g before t (Change id was image) = MeansChange g before t id
 Means g before t (Compensation id image undo_next) = MeansCompensation g before t id image undo_next
-Means g before t Commit = Unit {0}
-Means g before t End = unanswered t before ≡ []
-Means g before t (Prepare global granules) = ⊥
-Means g before t RollbackDecided = ⊥
+Means g before t Commit = MayCommit before t
+Means g before t End = MayEnd before t
+Means g before t (Prepare global granules) = MeansPrepare g before t granules
+Means g before t RollbackDecided = IsTrue (is_in_doubt t before)
 Means g before t CheckpointBegin = ⊥
 Means g before t (CheckpointEnd begin next txns dirty) = ⊥
 Means g before t (Anchor checkpoint tail) = ⊥
@@ -39,6 +52,18 @@ pub record IsMeant (g : Geometry) (before : List LogRecord) (r : LogRecord) : Ty
   pub previous : r.previous ≡ previous_of r.txn before
   pub not_over : is_over r.txn before ≡ false
   pub says : Means g before r.txn r.payload
+
+-- the payload is a Change
+abbrev pub IsChange : Payload → Type 0
+IsChange (Change id before after) = Unit {0}
+IsChange (Compensation id after undo_next) = ⊥
+IsChange Commit = ⊥
+IsChange End = ⊥
+IsChange (Prepare global granules) = ⊥
+IsChange RollbackDecided = ⊥
+IsChange CheckpointBegin = ⊥
+IsChange (CheckpointEnd begin next txns dirty) = ⊥
+IsChange (Anchor checkpoint tail) = ⊥
 
 -- the payload is a Change of the id from this image
 abbrev pub IsChangeFrom : Rid → Image → Payload → Type 0
@@ -76,14 +101,27 @@ IsServedKind (Change id was image) = Unit {0}
 IsServedKind (Compensation id image undo_next) = Unit {0}
 IsServedKind Commit = Unit {0}
 IsServedKind End = Unit {0}
-IsServedKind (Prepare global granules) = ⊥
-IsServedKind RollbackDecided = ⊥
+IsServedKind (Prepare global granules) = Unit {0}
+IsServedKind RollbackDecided = Unit {0}
 IsServedKind CheckpointBegin = ⊥
 IsServedKind (CheckpointEnd begin next txns dirty) = ⊥
 IsServedKind (Anchor checkpoint tail) = ⊥
 
--- an id that the record changes may be one, its transaction has a number that one may have, and its kind is served
+-- the granules that a record names
+abbrev pub granules_in : Payload → List Granule
+granules_in (Change id was image) = []
+granules_in (Compensation id image undo_next) = []
+granules_in Commit = []
+granules_in End = []
+granules_in (Prepare global granules) = granules
+granules_in RollbackDecided = []
+granules_in CheckpointBegin = []
+granules_in (CheckpointEnd begin next txns dirty) = []
+granules_in (Anchor checkpoint tail) = []
+
+-- an id that the record changes may be one, and so may granules that it names, its transaction has a number that one may have, and its kind is served
 pub record IsInBounds (g : Geometry) (r : LogRecord) : Type 0 where
   pub number : r.txn < LAST_TXN
   pub served : IsServedKind r.payload
   pub id : (id : Rid) → id_in r.payload ≡ Some id → HasSlot g id
+  pub granules : AreGranules g (granules_in r.payload)

@@ -8,10 +8,10 @@ use Rattle.shore_types.specs.declared.ids.Rid.{Rid}
 use Rattle.shore_model.specs.declared.log_records.DirtyPage.{DirtyPage}
 use Rattle.shore_model.specs.declared.log_records.LogRecord.{LogRecord}
 use Rattle.shore_model.specs.declared.log_records.TxnState.{TxnState}
-use Rattle.shore_model.specs.declared.log_records.TxnState.TheVariants.{Active, RollingBack}
+use Rattle.shore_model.specs.declared.log_records.TxnState.TheVariants.{Active, Prepared, RollingBack}
 use Rattle.shore_model.specs.declared.log_records.Payload.{Payload}
 use Rattle.shore_model.specs.declared.log_records.Payload.TheVariants.{Change, Compensation, Commit, End, Prepare, RollbackDecided, CheckpointBegin, CheckpointEnd, Anchor}
-use Rattle.shore_model.specs.Logs.{IsTable, first_number, id_in, numbered, records_of}
+use Rattle.shore_model.specs.Logs.{IsTable, first_number, id_in, is_in_doubt, numbered, records_of}
 use Rattle.shore_analysis.specs.declared.analysis.Tables.{Tables}
 
 -- ---- transactions
@@ -33,9 +33,9 @@ abbrev pub newest_is_undo : List (ℕ × LogRecord) → Bool
 newest_is_undo [] = false
 newest_is_undo (r ∷ older) = is_undo r.1.payload
 
--- a transaction rolls back if its last record says so
+-- a transaction is prepared as long as it is in doubt; another rolls back if its last record says so
 abbrev pub state_of : ℕ → List LogRecord → TxnState
-state_of t rs = if newest_is_undo (reverse (records_of t rs)) then RollingBack else Active
+state_of t rs = if is_in_doubt t rs then Prepared else (if newest_is_undo (reverse (records_of t rs)) then RollingBack else Active)
 
 -- ---- pages
 

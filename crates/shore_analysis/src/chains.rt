@@ -4,7 +4,7 @@ ghost use Rattle.shore_types.specs.declared.layout.Geometry.{Geometry};
 ghost use Rattle.shore_model.specs.declared.log_records.LogRecord.{LogRecord};
 ghost use Rattle.shore_model.specs.Logs.{Answers, is_over, previous_of, unanswered, undo_next_of};
 ghost use Rattle.laws_lives.specs.UndoChains.{next_named_by};
-ghost use Rattle.shore_analysis.specs.Meant.{AreMeant, IsChangeFrom};
+ghost use Rattle.shore_analysis.specs.Meant.{AreMeant, IsChange, IsChangeFrom};
 
 use shore_model::{LogRecord, Payload};
 use shore_types::{Bytes, Lsn, Rid};
@@ -39,7 +39,7 @@ pub fn record_at(log: &[LogRecord], number: Lsn) -> Option<&LogRecord>
 
 /// The number of the Change that is left to be undone next once this one is, 0 if none is: its transaction's record before it says so.
 pub fn next_behind(log: &[LogRecord], change: &LogRecord) -> Lsn
-    ensures { (g : Geometry) (n : ℕ) → AreMeant g log.now → slice_get log.now n ≡ Some change.now
+    ensures { (g : Geometry) (n : ℕ) → AreMeant g log.now → slice_get log.now n ≡ Some change.now → IsChange change.now.payload
         → result ≡ undo_next_of (unanswered change.now.txn (take n log.now)) }
 {
     match record_at(log, change.previous) {

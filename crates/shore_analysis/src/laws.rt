@@ -1,11 +1,11 @@
 //! Laws of analysis, each as a function that does nothing.
-ghost use Rattle.std.specs.Prelude.{◌≡◌, ◌<◌, ◌↔◌, ◌++◌, ◌∷◌, [], ℕ, All, List, take};
+ghost use Rattle.std.specs.Prelude.{◌≡◌, ◌<◌, ◌↔◌, ◌++◌, ◌∷◌, [], ℕ, All, IsTrue, List, filter, take};
 ghost use Rattle.shore_types.specs.declared.layout.Geometry.{Geometry};
 ghost use Rattle.shore_model.specs.declared.log_records.LogRecord.{LogRecord};
-ghost use Rattle.shore_model.specs.Logs.{Lawful, Lists, unanswered, undo_next_of};
+ghost use Rattle.shore_model.specs.Logs.{Lawful, Lists, is_in_doubt, is_prepared, unanswered, undo_next_of};
 ghost use Rattle.laws_lives.specs.Undo.{IsLoser, IsUndoneTo, undo_record};
 ghost use Rattle.shore_analysis.specs.declared.analysis.Tables.{Tables};
-ghost use Rattle.shore_analysis.specs.Losers.{IsNextToUndo, IsUndoneInOrder};
+ghost use Rattle.shore_analysis.specs.Losers.{IsNextToUndo, IsUndoneInOrder, is_of_loser};
 ghost use Rattle.shore_analysis.specs.Meant.{AreMeant, MayBeNext, IsCrowded, IsFirstUnmeant, IsInBounds};
 ghost use Rattle.shore_analysis.specs.Tables.{AreTables};
 
@@ -16,10 +16,12 @@ pub fn lawful_logs_are_meant()
     ensures none { (g : Geometry) (rs : List LogRecord) (n : ℕ) → AreMeant g rs → IsFirstUnmeant g rs n → ⊥ }
 {}
 
-/// The table lists the losers, whom undo has to end. As long as no reader of the log gives a Prepare, nobody is in doubt.
+/// The table lists the losers, whom undo has to end, and those in doubt, whom it leaves.
 pub fn tables_list_the_losers()
-    ensures { (g : Geometry) (rs : List LogRecord) (tables : Tables) → AreMeant g rs → AreTables rs tables
-        → (t : ℕ) → Lists tables.txns t ↔ IsLoser rs t }
+    ensures losers { (g : Geometry) (rs : List LogRecord) (tables : Tables) → AreMeant g rs → AreTables rs tables
+        → (t : ℕ) → Lists (filter is_of_loser tables.txns) t ↔ IsLoser rs t }
+    ensures doubts { (g : Geometry) (rs : List LogRecord) (tables : Tables) → AreMeant g rs → AreTables rs tables
+        → (t : ℕ) → Lists (filter (λ e. is_prepared e.state) tables.txns) t ↔ IsTrue (is_in_doubt t rs) }
 {}
 
 /// A log that was analysed goes on by the records of undo, whichever loser takes its turn, so that analysis takes the longer log too.

@@ -4,10 +4,14 @@
 
 mod analysis;
 mod chains;
+mod doubts;
 pub mod laws;
 mod losers;
 mod passes;
+mod prepares;
+mod progress;
 
 pub use analysis::{NotAnalysed, Tables, analyse};
 pub use chains::{next_behind, record_at};
+pub use doubts::{in_doubt, prepare_at, to_be_undone};
 pub use losers::Losers;

@@ -13,7 +13,7 @@ ghost use Rattle.shore_analysis.specs.declared.analysis.Tables.{Tables};
 ghost use Rattle.shore_analysis.specs.Meant.{AreMeant};
 ghost use Rattle.shore_analysis.specs.Tables.{AreTables};
 ghost use Rattle.shore_analysis.specs.Losers as losers;
-ghost use Rattle.shore_analysis.specs.Losers.{HasLosers, IsNextToUndo, NeedNotWait, is_another, turns_left};
+ghost use Rattle.shore_analysis.specs.Losers.{HasLosers, IsNextToUndo, NeedNotWait, is_another, is_of_loser, turns_left};
 
 use crate::{next_behind, record_at};
 use shore_model::{LogRecord, LogTxn, Payload};
@@ -29,14 +29,22 @@ pub struct Losers {
 }
 
 impl Losers {
-    /// The losers of a log, by the transactions in its tables.
+    /// The losers of a log, by the transactions in its tables: all but those in doubt.
     pub fn of(txns: Sequence<LogTxn>) -> Losers
-        ensures { (g : Geometry) (found : List LogRecord) (tables : Tables) → AreMeant g found → AreTables found tables → tables.txns ≡ txns
+        ensures losers { (g : Geometry) (found : List LogRecord) (tables : Tables) → AreMeant g found → AreTables found tables → tables.txns ≡ txns
             → HasLosers found result }
+        ensures entries { result.entries.items ≡ filter is_of_loser txns }
     {
-        Losers {
-            entries: txns.into_vec(),
-        }
+        let mut entries = txns.into_vec();
+        leave_doubts(&mut entries);
+        Losers { entries }
+    }
+
+    /// How many are left.
+    pub fn count(&self) -> usize
+        ensures { result ≡ length self.now.entries.items }
+    {
+        self.entries.len()
     }
 
     /// The next record of undo: the End of a loser with nothing left to be undone, or, if there is none, a Compensation of the loser with the
@@ -192,4 +200,11 @@ fn leave(entries: &mut Vec<LogTxn>, txn: TxnId)
     ensures { entries.new.items ≡ filter (is_another txn) entries.old.items }
 {
     entries.retain(|entry| entry.txn != txn);
+}
+
+// Takes the entries of those in doubt out.
+fn leave_doubts(entries: &mut Vec<LogTxn>)
+    ensures { entries.new.items ≡ filter is_of_loser entries.old.items }
+{
+    entries.retain(|entry| !entry.state.is_prepared());
 }

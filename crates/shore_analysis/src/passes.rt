@@ -1,5 +1,5 @@
 //! A pass over the records of a log.
-ghost use Rattle.std.specs.Prelude.{◌≡◌, ◌↔◌, ◌++◌, ◌∷◌, ◌<◌, ◌+◌, [], ℕ, List, IfOk, IsTrue, OnOk, map, Some, None, true, false, length, if◌then◌else◌};
+ghost use Rattle.std.specs.Prelude.{◌≡◌, ◌↔◌, ◌++◌, ◌∷◌, ◌<◌, ◌+◌, [], ℕ, List, IfOk, IsTrue, OnOk, map, Some, None, true, length};
 ghost use Rattle.std.specs.Ordering.{nat_cmp};
 ghost use Rattle.std.specs.BTreeMap.{IsOrdered, Updates, get, values};
 ghost use Rattle.std.specs.BTreeSet as set;
@@ -8,17 +8,18 @@ ghost use Rattle.shore_types.specs.declared.ids.PageId.{PageId};
 ghost use Rattle.shore_types.specs.declared.layout.Geometry.{Geometry};
 ghost use Rattle.shore_types.specs.declared.layout.TheConstants.{LAST_TXN};
 ghost use Rattle.shore_model.specs.declared.log_records.LogRecord.{LogRecord};
-ghost use Rattle.shore_model.specs.declared.log_records.TxnState.TheVariants.{Active, RollingBack};
-ghost use Rattle.shore_analysis.specs.Tables.{AreTables, is_on_page, is_undo};
-ghost use Rattle.shore_model.specs.Logs.{id_in, unanswered, undo_next_of};
-ghost use Rattle.shore_analysis.specs.Meant.{AreMeant, MayBeNext, IsMeant, Means};
-ghost use Rattle.shore_analysis.specs.Passes.{Knows, as_dirty, entry_after, noted, numbers_of, over_after, txn_after};
+ghost use Rattle.shore_analysis.specs.Tables.{AreTables, is_on_page};
+ghost use Rattle.shore_model.specs.Logs.{id_in};
+ghost use Rattle.shore_analysis.specs.Meant.{AreMeant, MayBeNext, IsMeant, Means, MeansCompensation};
+ghost use Rattle.shore_analysis.specs.Passes.{Knows, as_dirty, entry_after, noted, over_after, progress_at, txn_after};
 
 use crate::analysis::Tables;
-use crate::chains::{is_answer, next_named};
-use shore_model::{DirtyPage, LogRecord, LogTxn, Payload, TxnState};
+use crate::chains::is_answer;
+use crate::prepares::may_prepare;
+use crate::progress::{Phase, Progress, begun, entry_by, progress_of};
+use shore_model::{DirtyPage, LogRecord, LogTxn, Payload};
 use shore_types::layout::{LAST_TXN, MAX_TRANSACTIONS};
-use shore_types::{Geometry, Lsn, PageId, Sequence, TxnId};
+use shore_types::{Bytes, Geometry, Lsn, PageId, Rid, Sequence, TxnId};
 use std::alloc::{AllocError, Global};
 use std::collections::{BTreeMap, BTreeSet};
 
@@ -87,21 +88,25 @@ impl Pass {
         if txn.0 == 0 || txn.0 >= LAST_TXN {
             return false;
         }
-        match self.numbers(txn) {
-            Some((last, newest)) => logged.previous == last
-                && means(geometry, before, newest, &logged.payload),
+        match self.progress(txn) {
+            Some(progress) => logged.previous == progress.last
+                && means(geometry, before, &progress, &logged.payload),
             None => false,
         }
     }
 
-    // The numbers of a transaction's last record and of its Change to be undone next; None if it has ended.
-    fn numbers(&self, txn: TxnId) -> Option<(Lsn, Lsn)>
-        ensures { (rs : List LogRecord) → Knows rs self.now → 0 < txn → result ≡ numbers_of txn rs }
+    // How far a transaction has come; None if it has ended.
+    fn progress(&self, txn: TxnId) -> Option<Progress>
+        ensures { (rs : List LogRecord) → Knows rs self.now → 0 < txn → result ≡ progress_at txn rs }
     {
         match self.running.get(&txn.0) {
-            Some(entry) => Some((entry.last, entry.undo_next)),
+            Some(entry) => Some(progress_of(entry)),
             None if self.over.contains(&txn.0) => None,
-            None => Some((Lsn(0), Lsn(0))),
+            None => Some(Progress {
+                last: Lsn(0),
+                newest: Lsn(0),
+                phase: Phase::Free,
+            }),
         }
     }
 
@@ -148,26 +153,49 @@ fn list_pages(
     Ok(pages)
 }
 
-// Whether the payload means what it has to behind the records before it, with this Change of its transaction to be undone next.
-fn means(geometry: &Geometry, before: &[LogRecord], newest: Lsn, payload: &Payload) -> bool
+// Whether the payload means what it has to behind the records before it, with its transaction so far.
+fn means(geometry: &Geometry, before: &[LogRecord], progress: &Progress, payload: &Payload) -> bool
     requires { AreMeant geometry.now before.now }
-    ensures { (t : ℕ) → newest ≡ undo_next_of (unanswered t before.now) → (IsTrue result ↔ Means geometry.now before.now t payload.now) }
+    ensures { (t : ℕ) → 0 < t → Some progress.now ≡ progress_at t before.now → (IsTrue result ↔ Means geometry.now before.now t payload.now) }
 {
     match payload {
-        Payload::Change { id, .. } => geometry.has_slot(*id),
+        Payload::Change { id, .. } => progress.phase.is_free() && geometry.has_slot(*id),
         Payload::Compensation {
             id,
             after,
             undo_next,
-        } => { geometry.has_slot(*id) && is_answer(before, newest, id, after, *undo_next) }
-        Payload::Commit => true,
-        Payload::End => newest.0 == 0,
-        Payload::Prepare { .. }
-        | Payload::RollbackDecided
-        | Payload::CheckpointBegin
-        | Payload::CheckpointEnd { .. }
-        | Payload::Anchor { .. } => false,
+        } => compensates(geometry, before, progress, id, after, *undo_next),
+        Payload::Commit => !progress.phase.is_decided(),
+        Payload::End => !progress.phase.is_doubtful() && progress.newest.0 == 0,
+        Payload::Prepare { granules, .. } => {
+            progress.phase.is_free()
+                && may_prepare(geometry, before, progress.last, granules.as_slice())
+        }
+        Payload::RollbackDecided => progress.phase.is_doubtful(),
+        Payload::CheckpointBegin | Payload::CheckpointEnd { .. } | Payload::Anchor { .. } => false,
     }
+}
+
+// Whether a Compensation means what it has to.
+fn compensates(
+    geometry: &Geometry,
+    before: &[LogRecord],
+    progress: &Progress,
+    id: &Rid,
+    after: &Option<Bytes>,
+    undo_next: Lsn,
+) -> bool
+    requires { AreMeant geometry.now before.now }
+    ensures { (t : ℕ) → Some progress.now ≡ progress_at t before.now
+        → (IsTrue result ↔ MeansCompensation geometry.now before.now t id.now after.now undo_next) }
+{
+    if progress.phase.is_doubtful() {
+        return false;
+    }
+    if !geometry.has_slot(*id) {
+        return false;
+    }
+    is_answer(before, progress.newest, id, after, undo_next)
 }
 
 // Notes the page that the record of this number changes, unless an earlier one has changed it.
@@ -229,34 +257,9 @@ fn go_on(
     ensures { OnOk result (Updates nat_cmp running.old running.new logged.now.txn
         (Some (entry_after number logged.now (get nat_cmp running.old logged.now.txn)))) }
 {
-    let first = match running.get(&logged.txn.0) {
-        Some(entry) => entry.first,
-        None => number,
-    };
-    let entry = LogTxn {
-        txn: logged.txn,
-        state: state_after(&logged.payload),
-        first,
-        last: number,
-        undo_next: next_named(number, &logged.payload),
-        prepare: Lsn(0),
-    };
+    let known = running.get(&logged.txn.0).copied();
+    let before = known.unwrap_or(begun(logged.txn, number));
+    let entry = entry_by(number, &logged.payload, &before);
     running.insert(logged.txn.0, entry)?;
     Ok(())
-}
-
-// The state of a transaction whose last record says this.
-fn state_after(payload: &Payload) -> TxnState
-    ensures { result ≡ (if is_undo payload.now then RollingBack else Active) }
-{
-    match payload {
-        Payload::Compensation { .. } | Payload::RollbackDecided => TxnState::RollingBack,
-        Payload::Change { .. }
-        | Payload::Commit
-        | Payload::End
-        | Payload::Prepare { .. }
-        | Payload::CheckpointBegin
-        | Payload::CheckpointEnd { .. }
-        | Payload::Anchor { .. } => TxnState::Active,
-    }
 }

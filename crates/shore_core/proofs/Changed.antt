@@ -39,7 +39,7 @@ use Rattle.shore_txn.specs.declared.undo.UndoEntry.{UndoEntry}
 use Rattle.shore_txn.specs.ActiveTxns.{OneBecomes}
 use Rattle.shore_txn.specs.Transactions.{kept_in, txns_in}
 use Rattle.shore_txn.specs.Txns.{IsAfterChange, IsAfterSavepoint, SameTxn, last_of}
-use Rattle.shore_txn.proofs.ActiveOthers.{AreApart, each_becomes}
+use Rattle.shore_txn.proofs.ActiveOthers.{each_becomes}
 use Rattle.shore_pool.specs.declared.frame.Frame.{Frame}
 use Rattle.shore_page.specs.Slots.{Slot}
 use Rattle.shore_core.specs.Cores.{CoreComesTo}
@@ -134,22 +134,19 @@ held_still P new old id device held there =
 -- ---- the last numbers of the transactions
 
 module _ (table new : Transactions) (next : ℕ) (earlier : (t : Txn) → IsAmong t (txns_in table) → last_of t < next) where
-  apart : AreApart (txns_in table)
-  apart = record { numbers = table.numbers; sessions = table.sessions }
-
   -- memory was taken
-  pub earlier_same : {session : ℕ} → OneBecomes session SameTxn (txns_in table) (txns_in new) → (t : Txn) → IsAmong t (txns_in new) → last_of t < next
-  earlier_same one = each_becomes (λ t. last_of t < next) (λ t. last_of t < next) apart earlier one (λ t number session less. less) (λ less. omega (arith, one.becomes.last, less))
+  pub earlier_same : {number : ℕ} → OneBecomes number SameTxn (txns_in table) (txns_in new) → (t : Txn) → IsAmong t (txns_in new) → last_of t < next
+  earlier_same one = each_becomes (λ t. last_of t < next) (λ t. last_of t < next) table.numbers earlier one (λ t other less. less) (λ less. omega (arith, one.becomes.last, less))
 
   -- a savepoint was set, or memory was taken
-  pub earlier_marked : {A E : Type 0} (session : ℕ) (r : Result A E) → OnOk r (OneBecomes session IsAfterSavepoint (txns_in table) (txns_in new))
-      → OnErr r (OneBecomes session SameTxn (txns_in table) (txns_in new)) → (t : Txn) → IsAmong t (txns_in new) → last_of t < next
-  earlier_marked session (Ok x) one none =
-      each_becomes (λ t. last_of t < next) (λ t. last_of t < next) apart earlier one (λ t number session less. less) (λ less. omega (arith, one.becomes.last, less))
-  earlier_marked session (Err e) none one = earlier_same one
+  pub earlier_marked : {A E : Type 0} (number : ℕ) (r : Result A E) → OnOk r (OneBecomes number IsAfterSavepoint (txns_in table) (txns_in new))
+      → OnErr r (OneBecomes number SameTxn (txns_in table) (txns_in new)) → (t : Txn) → IsAmong t (txns_in new) → last_of t < next
+  earlier_marked number (Ok x) one none =
+      each_becomes (λ t. last_of t < next) (λ t. last_of t < next) table.numbers earlier one (λ t other less. less) (λ less. omega (arith, one.becomes.last, less))
+  earlier_marked number (Err e) none one = earlier_same one
 
   -- a record was logged under the next number
-  pub earlier_changed : {session : ℕ} {entry : UndoEntry} → OneBecomes session (λ old new. IsAfterChange old entry new) (txns_in table) (txns_in new) → entry.lsn ≡ next
+  pub earlier_changed : {own : ℕ} {entry : UndoEntry} → OneBecomes own (λ old new. IsAfterChange old entry new) (txns_in table) (txns_in new) → entry.lsn ≡ next
       → (t : Txn) → IsAmong t (txns_in new) → last_of t < next + 1
   earlier_changed one number =
-      each_becomes (λ t. last_of t < next) (λ t. last_of t < next + 1) apart earlier one (λ t other session less. omega (arith, less)) (λ less. omega (arith, one.becomes.last, number))
+      each_becomes (λ t. last_of t < next) (λ t. last_of t < next + 1) table.numbers earlier one (λ t other less. omega (arith, less)) (λ less. omega (arith, one.becomes.last, number))

@@ -180,7 +180,7 @@ module _ {T V : Type 0} {G : tail.Ghosts T} {H : disk.Ghosts V} where
 
 -- ---- one call after another
 
-works_then : (s mid last : RecoveryState) (one two : List RecoveryEvent) → WorksTo s one mid → WorksTo mid two last → WorksTo s (one ++ two) last
+pub works_then : (s mid last : RecoveryState) (one two : List RecoveryEvent) → WorksTo s one mid → WorksTo mid two last → WorksTo s (one ++ two) last
 works_then s mid last [] two first second = subst (λ x. WorksTo x two last) first second
 works_then s mid last (e ∷ one) two first second = (first.0, first.1, first.2, works_then first.1 mid last one two first.3 second)
 

@@ -29,7 +29,7 @@ use Rattle.laws_heaps.specs.LoggedHeaps.{IsStoreOf}
 use Rattle.laws_heaps.proofs.Made.{appended_without}
 use Rattle.shore_txn.specs.ActiveTxns.{OneLeaves}
 use Rattle.shore_txn.specs.Transactions.{kept_in, txns_in, undos_in}
-use Rattle.shore_txn.specs.Txns.{as_session_txn, entries_of, last_of}
+use Rattle.shore_txn.specs.Txns.{as_session_txn, entries_of, last_of, number_of}
 use Rattle.shore_txn.specs.UndoEntries.{images_of}
 use Rattle.shore_txn.specs.declared.transactions.Transactions.{Transactions}
 use Rattle.shore_txn.specs.declared.txn.Txn.{Txn}
@@ -66,7 +66,7 @@ images_some [] e none = cc
 images_some (x ∷ kept) e none = cc
 
 -- a transaction that has a change left has an image left
-pub some_left : (table : Transactions) (t : Txn) → IsAmong (as_session_txn t) (undos_in table) → (a : SessionTxn) → IsAmong a (undos_in table) → a.session ≡ t.session
+pub some_left : (table : Transactions) (t : Txn) → IsAmong (as_session_txn t) (undos_in table) → (a : SessionTxn) → IsAmong a (undos_in table) → a.txn ≡ number_of t
     → (kept : List UndoEntry) (e : UndoEntry) → entries_of t ≡ kept ++ e ∷ [] → a.undo.images ≡ [] → ⊥
 some_left table t there a among is kept e entries none =
     images_some kept e (sym (ap images_of entries) ∙ ap (λ (b : SessionTxn). b.undo.images) (sym (own_is table t there a among is)) ∙ none)

@@ -14,7 +14,8 @@ use Rattle.laws_lives.specs.Recovery.{RecoveryState}
 use Rattle.laws_lives.specs.Sessions.{SessionTxn}
 use Rattle.laws_lives.specs.Views.{IsAmong}
 use Rattle.shore_sessions.proofs.Lists.{among_filtered}
-use Rattle.laws_calls.proofs.OneSessionStep.{none_early}
+use Rattle.laws_calls.proofs.EarlyTests.{none_early}
+use Rattle.laws_runs.proofs.LockBounds.{same_bounds}
 use Rattle.laws_calls.proofs.SessionFailures.{IsHarmless, early_harmless}
 use Rattle.laws_calls.proofs.SessionResumes.{woken}
 use Rattle.laws_calls.proofs.SessionsWaiting.{no_record_awaited, woken_waits}
@@ -27,8 +28,8 @@ use Rattle.laws_calls.specs.SessionWaits.{IsDecisionWait, IsLockWait, WaitsOfSes
 use Rattle.laws_calls.specs.States.{DoesNotWait, IsOfSession, State, Waiting}
 use Rattle.shore_model.specs.declared.step.Wait.{Wait}
 use Rattle.shore_model.specs.declared.step.Wait.TheVariants.{Durable, Lock}
-use Rattle.shore_sessions.specs.Calls.{is_commit, is_durable}
-use Rattle.shore_sessions.specs.Standing.{HasNonePrepared}
+use Rattle.shore_model.specs.declared.calls.Outcome.{Outcome}
+use Rattle.shore_sessions.specs.Calls.{awaits_record, is_durable, logs_decision}
 use Rattle.shore_sessions.specs.declared.waits.WaitingCall.{WaitingCall}
 use Rattle.shore_core.specs.declared.core_calls.Core.{Core}
 use Rattle.shore_core.specs.Cores.{IsSafe, geometry_of}
@@ -43,13 +44,20 @@ durable_lock n at e = cc
 pub commit_waits : (base : ℕ) (s : State) (w : Waiting) (n : ℕ) → WaitsOfSessions base s → IsAmong w s.waiting → w.wait ≡ Durable n → IsDecisionWait base s w
 commit_waits base s w n waits m is = elim (waits.each w m) [ inl commit ↦ commit | inr lock ↦ absurd (durable_lock n lock.at (sym is ∙ lock.is)) ]
 
--- .. which is a commit's, while nobody is prepared
-pub commit_of : {base : ℕ} {w : Waiting} (s : State) → IsDecisionWait base s w → HasNonePrepared s.sessions
+-- .. which is a commit's, if it is neither a prepare's nor a resolve's
+pub commit_of : {base : ℕ} {w : Waiting} (s : State) → IsDecisionWait base s w → (logs_decision w.call ≡ true → w.call ≡ call.Commit)
     → (a : SessionTxn) × IsAmong a s.sessions.committing × (a.session ≡ w.session) × (w.call ≡ call.Commit)
-commit_of s wait none = elim wait.unanswered [
+commit_of s wait only = elim wait.unanswered [
   | inl commit ↦ (commit.0, commit.1, commit.2, commit.3)
-  | inr prepare ↦ absurd (let never = subst (IsAmong (record { txn = prepare.0; global = prepare.1; answered = false })) none.prepared prepare.2.0 in never)
+  | inr (inl prepare) ↦ absurd (no_prepare prepare.1 (sym prepare.3 ∙ only (ap logs_decision prepare.3)))
+  | inr (inr resolve) ↦ absurd (no_resolve resolve.0.global resolve.0.outcome (sym resolve.2 ∙ only (ap logs_decision resolve.2)))
 ]
+  where
+    no_prepare : (global : List ℕ) → call.Prepare global ≡ call.Commit → ⊥
+    no_prepare global e = cc
+
+    no_resolve : (global : List ℕ) (asked : Outcome) → call.Resolve global asked ≡ call.Commit → ⊥
+    no_resolve global asked e = cc
 
 -- .. so its transaction is no victim
 pub spared_commit : (base : ℕ) (s : State) (w : Waiting) (n : ℕ) → WaitsOfSessions base s → IsAmong w s.waiting → w.wait ≡ Durable n → w.cycle ≡ None
@@ -62,8 +70,8 @@ lock_waits base s w at waits m is =
       | inr lock ↦ lock
     ]
 
--- who waits for a lock is no commit
-pub asks_lock : (w : WaitingCall) (at : Granule) → w.wait ≡ Lock at → is_commit w ≡ false
+-- who waits for a lock waits for no record
+pub asks_lock : (w : WaitingCall) (at : Granule) → w.wait ≡ Lock at → awaits_record w ≡ false
 asks_lock w at is = subst (λ (x : Wait). is_durable x ≡ false) (sym is) refl
 
 -- what is not there is none
@@ -106,7 +114,15 @@ safe_woken g s safe session a its quiet =
       asks = λ w at m. safe.asks w at (among_filtered (λ (v : Waiting). not (v.session == session)) w s.waiting m).0;
       roomy = record { pages = safe.roomy.pages; log = safe.roomy.log };
       stream_bytes = safe.stream_bytes;
-      leaves = record { as_long = safe.leaves.as_long; prefixes = safe.leaves.prefixes; counts = safe.leaves.counts; whole = safe.leaves.whole; txns = safe.leaves.txns };
+      leaves = record {
+        as_long = safe.leaves.as_long;
+        prefixes = safe.leaves.prefixes;
+        counts = safe.leaves.counts;
+        whole = safe.leaves.whole;
+        losers = safe.leaves.losers;
+        txns = safe.leaves.txns;
+        locks = same_bounds g s (wait_refused s session) refl safe.leaves.locks;
+      };
       inside = safe.inside;
     }
 

@@ -1,7 +1,7 @@
 -- What calls one after another keep of the volume.
 use Rattle.std.proofs.Common.{◌≡◌, ◌∙◌, sym, subst}
 use Rattle.shore_disk.specs.declared.device.Disk as disk
-use Rattle.shore_disk.specs.Device.{History, LeavesOnly}
+use Rattle.shore_disk.specs.Device.{DeviceHistory, LeavesOnly}
 use Rattle.shore_log.specs.declared.tail.Tail as tail
 use Rattle.shore_core.specs.declared.core_calls.Core.{Core}
 use Rattle.shore_heap.proofs.Going.{goes_nowhere}
@@ -23,7 +23,7 @@ module _ {T V : Type 0} {G : tail.Ghosts T} {H : disk.Ghosts V} where
   -- the device was called no more
   pub leaves_then : (old mid new : Core T V G H) → MayLeave old mid → history_of new ≡ history_of mid → MayLeave old new
   leaves_then old mid new leaves same front disk holds =
-      subst (λ (h : History). LeavesOnly (history_of old) h (LeavesPages (heap_of old) (durable_of old) front disk)) (sym same) (leaves front disk holds)
+      subst (λ (h : DeviceHistory). LeavesOnly (history_of old) h (LeavesPages (heap_of old) (durable_of old) front disk)) (sym same) (leaves front disk holds)
 
   -- the device was not called
   pub nothing_leaves : (core : Core T V G H) → MayLeave core core

@@ -7,33 +7,29 @@ use Rattle.shore_log.specs.declared.tail.Tail as tail
 use Rattle.shore_heap.specs.declared.heap.Heap.{Heap}
 use Rattle.shore_heap.specs.Heaps.{Shows}
 use Rattle.laws_lives.specs.Recovery.{RecoveryState}
-use Rattle.laws_room.specs.LogRooms.{owed, owed_by_all}
 use Rattle.laws_lives.specs.Views.{IsAmong}
 use Rattle.laws_calls.specs.States.{State, page_slots}
-use Rattle.shore_txn.specs.ActiveTxns.{OneLeaves, session_txns}
+use Rattle.shore_txn.specs.ActiveTxns.{OneLeaves}
 use Rattle.shore_txn.specs.Transactions.{kept_in, room_in, txns_in}
-use Rattle.shore_txn.specs.Txns.{as_session_txn, last_of}
+use Rattle.shore_txn.specs.Txns.{last_of}
 use Rattle.shore_txn.specs.declared.transactions.Transactions.{Transactions}
 use Rattle.shore_txn.specs.declared.txn.Txn.{Txn}
 use Rattle.shore_txn.specs.declared.undo.UndoEntry.{UndoEntry}
-use Rattle.shore_txn.proofs.OneOfMany.{among_more, map_join, map_parts, owed_parts}
+use Rattle.shore_txn.proofs.OneOfMany.{among_more}
+use Rattle.shore_txn.proofs.Reserves.{reserved_for_all, reserved_parts}
 use Rattle.shore_sessions.specs.Standing.{HasControl}
 use Rattle.shore_core.specs.declared.core_calls.Core.{Core}
 use Rattle.shore_core.specs.Cores.{CoreComesTo, IsIn, IsOver, control_of, durable_of, first_of, has_failed, heap_of, txns_of, waiting_of}
 use Rattle.shore_core.proofs.Coming.{comes_same, over_as}
 
-module _ (old new : Transactions) {session : ℕ} {changes : List UndoEntry} (left : OneLeaves session changes (txns_in old) (txns_in new)) where
-  owed_without : owed_by_all (session_txns (left.newer ++ left.one ∷ left.older)) ≡ owed_by_all (session_txns (left.newer ++ left.older)) + owed (as_session_txn left.one)
-  owed_without =
-      ap owed_by_all (map_parts as_session_txn left.newer left.older left.one) ∙ owed_parts (session_txns left.newer) (session_txns left.older) (as_session_txn left.one)
-      ∙ ap (λ undos. owed_by_all undos + owed (as_session_txn left.one)) (sym (map_join as_session_txn left.newer left.older))
-
+module _ (old new : Transactions) {number : ℕ} {changes : List UndoEntry} (left : OneLeaves number changes (txns_in old) (txns_in new)) where
   -- its ending is reserved no more
   pub reserved_left : (room_in new).reserved + ENDING_COST ≤ (room_in old).reserved
   reserved_left =
-      let was : (room_in old).reserved ≡ owed_by_all (session_txns (left.newer ++ left.one ∷ left.older)) = old.sum ∙ ap (λ ts. owed_by_all (session_txns ts)) left.was in
-      let is : (room_in new).reserved ≡ owed_by_all (session_txns (left.newer ++ left.older)) = new.sum ∙ ap (λ ts. owed_by_all (session_txns ts)) left.is in
-      omega (arith, was, is, owed_without)
+      let was : (room_in old).reserved ≡ reserved_for_all (left.newer ++ left.one ∷ left.older) = old.sum ∙ ap reserved_for_all left.was in
+      let is : (room_in new).reserved ≡ reserved_for_all (left.newer ++ left.older) = new.sum ∙ ap reserved_for_all left.is in
+      let parts = reserved_parts left.newer left.older left.one in
+      omega (arith, was, is, parts)
 
   -- a record more is logged, and all others are earlier still
   pub earlier_left : (next : ℕ) → ((t : Txn) → IsAmong t (txns_in old) → last_of t < next) → (t : Txn) → IsAmong t (txns_in new) → last_of t < next + 1

@@ -6,6 +6,7 @@ pub mod Releasing
 pub mod Leaving
 pub mod Placing
 pub mod Asking
+pub mod Callers
 pub mod Opening
 pub mod Earning
 pub mod Forcing
@@ -20,11 +21,16 @@ pub mod Settling
 pub mod Moving
 pub mod Going
 pub mod SafeRounds
+pub mod SafeCalls
 pub mod Acquiring
 pub mod Undoing
 pub mod Rewinding
 pub mod Ending
 pub mod Rolling
 pub mod Serving
+pub mod Decided
 pub mod Unwinding
 pub mod RolledBack
+pub mod Prepared
+pub mod Ended
+pub mod Stopped

@@ -1,11 +1,11 @@
 -- What a call comes to whose session has no transaction, or one that may do no more than end a rollback.
-use Rattle.std.proofs.Common.{◌≡◌, ◌≢◌, inl, inr, ℕ, List, None, Option, Some, Result, Err, IsErrAnd, false, true, refl, sym, subst}
+use Rattle.std.proofs.Common.{◌≡◌, ◌≢◌, ◌⊎◌, inl, inr, ℕ, List, None, Option, Some, Result, Err, IsErrAnd, false, true, refl, subst, ◌∙◌}
 use Rattle.std.specs.Prelude.{IsSome}
 use Rattle.shore_types.specs.declared.faults.Fault.{Fault}
 use Rattle.shore_types.specs.declared.faults.Fault.TheVariants as fault
-use Rattle.shore_model.specs.Calls.{IsServed}
 use Rattle.shore_model.specs.declared.calls.Call.{Call}
 use Rattle.shore_model.specs.declared.calls.Call.TheVariants as call
+use Rattle.shore_model.specs.declared.calls.Outcome.{Outcome}
 use Rattle.shore_model.specs.declared.log_records.LogRecord.{LogRecord}
 use Rattle.shore_disk.specs.declared.device.Disk as disk
 use Rattle.shore_log.specs.declared.tail.Tail as tail
@@ -13,18 +13,22 @@ use Rattle.laws_locks.specs.CallLocks.{Asked, lock_asked_by}
 use Rattle.laws_lives.specs.OwnSeats.{HasOwnSeats}
 use Rattle.laws_lives.specs.Recovery.{RecoveryState}
 use Rattle.laws_lives.specs.UndoLists.{UndoList}
-use Rattle.laws_lives.specs.Views.{IsAmong}
 use Rattle.laws_calls.proofs.SessionInversions.{asks_in_txn}
 use Rattle.laws_calls.specs.CallSteps.{NeedsTxn}
 use Rattle.laws_calls.specs.Rollbacks.{TakesCall}
-use Rattle.laws_calls.specs.States.{DoesNotWait, State}
+use Rattle.laws_calls.specs.States.{DoesNotWait, HasNoTxn, HasPrepared, State}
 use Rattle.shore_model.specs.declared.step.Step.{Step}
-use Rattle.shore_sessions.proofs.Seats.{its_seat}
-use Rattle.shore_sessions.proofs.WaitSteps.{in_none}
+use Rattle.shore_sessions.proofs.Seats.{in_no_txn}
+use Rattle.shore_sessions.proofs.WaitSteps.{call_waits, commit_call}
+use Rattle.shore_sessions.specs.Calls.{as_waiting}
+use Rattle.shore_sessions.specs.Controls.{txns_in, waits_in}
+use Rattle.shore_sessions.specs.Standing.{HasControl}
+use Rattle.shore_sessions.specs.declared.control.Control.{Control}
 use Rattle.shore_txn.specs.Transactions.{HasNoTxnOf}
 use Rattle.shore_core.specs.declared.core_calls.Core.{Core}
-use Rattle.shore_core.specs.Cores.{IsIn, IsOver, txns_of, waits_of}
-use Rattle.shore_core.specs.Replies.{IsNotOpen, Replied}
+use Rattle.shore_core.specs.Callers.{IsNotOpen}
+use Rattle.shore_core.specs.Cores.{IsIn, IsOver, control_of, txns_of}
+use Rattle.shore_core.specs.Replies.{Replied}
 use Rattle.shore_core.proofs.Coming.{comes_same}
 use Rattle.shore_core.proofs.Taking.{replied_as}
 
@@ -54,24 +58,29 @@ inner_asks c some = record {
     back : (n : ℕ) → IsSome (lock_asked_by (call.BackTo n)) → ⊥
     back n e = cc
 
--- a call that is served needs a transaction, unless it begins one
-pub needs_txn : (c : Call) → IsServed c → c ≢ call.Begin → NeedsTxn c
-needs_txn call.Begin served other = absurd (other refl)
-needs_txn (call.Get id) served other = tt
-needs_txn (call.GetForUpdate id) served other = tt
-needs_txn (call.Insert store bytes) served other = tt
-needs_txn (call.Update id bytes) served other = tt
-needs_txn (call.Delete id) served other = tt
-needs_txn (call.Scan store) served other = tt
-needs_txn (call.Lock at mode) served other = tt
-needs_txn (call.TryLock at mode) served other = tt
-needs_txn call.Savepoint served other = tt
-needs_txn (call.BackTo index) served other = tt
-needs_txn call.Commit served other = tt
-needs_txn call.Abort served other = tt
-needs_txn (call.Prepare global) served other = tt
-needs_txn (call.Resolve global outcome) served other = absurd served
-needs_txn call.InDoubt served other = absurd served
+-- a call in a session's transaction needs one, unless it begins one
+pub needs_txn : (c : Call) → (c ≡ call.Begin) ⊎ NeedsTxn c → c ≢ call.Begin → NeedsTxn c
+needs_txn c (inl begins) other = absurd (other begins)
+needs_txn c (inr needs) other = needs
+
+-- a call that is neither a resolve nor asks who is in doubt is in a session's transaction
+pub own_call : (c : Call) → ((global : List ℕ) (asked : Outcome) → c ≡ call.Resolve global asked → ⊥) → (c ≡ call.InDoubt → ⊥) → (c ≡ call.Begin) ⊎ NeedsTxn c
+own_call call.Begin resolve doubt = inl refl
+own_call (call.Get id) resolve doubt = inr tt
+own_call (call.GetForUpdate id) resolve doubt = inr tt
+own_call (call.Insert store bytes) resolve doubt = inr tt
+own_call (call.Update id bytes) resolve doubt = inr tt
+own_call (call.Delete id) resolve doubt = inr tt
+own_call (call.Scan store) resolve doubt = inr tt
+own_call (call.Lock at mode) resolve doubt = inr tt
+own_call (call.TryLock at mode) resolve doubt = inr tt
+own_call call.Savepoint resolve doubt = inr tt
+own_call (call.BackTo index) resolve doubt = inr tt
+own_call call.Commit resolve doubt = inr tt
+own_call call.Abort resolve doubt = inr tt
+own_call (call.Prepare global) resolve doubt = inr tt
+own_call (call.Resolve global asked) resolve doubt = absurd (resolve global asked refl)
+own_call call.InDoubt resolve doubt = absurd (doubt refl)
 
 pub inner_commit : IsInner call.Commit
 inner_commit = record { needs = tt; aborts = λ e. cc; goes = λ n e. cc }
@@ -79,32 +88,47 @@ inner_commit = record { needs = tt; aborts = λ e. cc; goes = λ n e. cc }
 pub inner_savepoint : IsInner call.Savepoint
 inner_savepoint = record { needs = tt; aborts = λ e. cc; goes = λ n e. cc }
 
+pub inner_prepare : (global : List ℕ) → IsInner (call.Prepare global)
+inner_prepare global = record { needs = tt; aborts = λ e. cc; goes = λ n e. cc }
+
 -- it is not taken once a rollback has begun
 whole_taken : (undo : UndoList) (c : Call) → IsInner c → TakesCall undo c → undo.rolling ≡ None
 whole_taken undo c inner (inl whole) = whole
 whole_taken undo c inner (inr (inl abort)) = absurd (inner.aborts abort)
 whole_taken undo c inner (inr (inr back)) = absurd (inner.goes back.0 back.2)
 
+-- a session that has no transaction in the table, and does not wait, is in none
+pub in_none : (control : Control) (s : State) → HasControl control s → HasOwnSeats s.sessions → (session : ℕ) → s.failed ≡ false → DoesNotWait s session → HasNoTxnOf session (txns_in control) → HasNoTxn s session
+in_none control s was seats session works idle none =
+    in_no_txn (txns_in control) s was.txns seats session none
+    (λ a m same. let its = commit_call (waits_in control) s was.waits works a m in idle (as_waiting its.0) (call_waits (waits_in control) s was.waits its.0 its.1) (its.2 ∙ same))
+
 module _ {T V : Type 0} {G : tail.Ghosts T} {H : disk.Ghosts V} (core : Core T V G H) where
   -- a call of a session that has no transaction
   pub replied_none : (front : List ℕ) (disk : ℕ → List ℕ) (before : List LogRecord) (s : State) (store : RecoveryState) (session : ℕ) (c : Call)
       → IsIn front disk before core s → IsOver disk core s store → HasOwnSeats s.sessions → NeedsTxn c → s.failed ≡ false → DoesNotWait s session → HasNoTxnOf session (txns_of core)
       → Replied session c (Err fault.NoTransaction) core core front before s store
-  replied_none front disk before s store session c is over seats needs works idle none =
-      let stands = is.beside.parts.stands in
-      let in_no = in_none (waits_of core) s stands.waits seats stands.txns.unprepared session works idle (λ a m. none a (subst (IsAmong a) stands.txns.active m)) in
-      record {
-        later = s;
-        replies = inr (inr (inr (inr (inl (works, idle, needs, in_no, refl, refl)))));
-        comes = inr (comes_same core front disk before s store is over);
-      }
+  replied_none front disk before s store session c is over seats needs works idle none = record {
+    later = s;
+    replies = inr (inr (inr (inr (inl (works, idle, needs, in_none (control_of core) s is.beside.parts.stands seats session works idle none, refl, refl)))));
+    comes = inr (comes_same core front disk before s store is over);
+  }
+
+  -- .. or one that is prepared
+  pub replied_prepared : (front : List ℕ) (disk : ℕ → List ℕ) (before : List LogRecord) (s : State) (store : RecoveryState) (session : ℕ) (c : Call) (r : Result Step Fault) (f : Fault)
+      → IsIn front disk before core s → IsOver disk core s store → NeedsTxn c → s.failed ≡ false → DoesNotWait s session → IsErrAnd r (λ e. e ≡ f) → f ≡ fault.IsPrepared → HasPrepared s session
+      → Replied session c r core core front before s store
+  replied_prepared front disk before s store session c r f is over needs works idle same is_prepared prepared =
+      replied_as core core front before s store session c r fault.IsPrepared (subst (λ x. IsErrAnd r (λ e. e ≡ x)) is_prepared same)
+      (inr (inr (inr (inr (inr (inr (inl (works, idle, needs, prepared, refl, refl))))))))
+      (inr (comes_same core front disk before s store is over))
 
   pub replied_not_open : (front : List ℕ) (disk : ℕ → List ℕ) (before : List LogRecord) (s : State) (store : RecoveryState) (session : ℕ) (c : Call) (r : Result Step Fault) (f : Fault)
-      → IsIn front disk before core s → IsOver disk core s store → HasOwnSeats s.sessions → IsInner c → s.failed ≡ false → DoesNotWait s session → IsErrAnd r (λ e. e ≡ f) → IsNotOpen core session f
+      → IsIn front disk before core s → IsOver disk core s store → IsInner c → s.failed ≡ false → DoesNotWait s session → IsErrAnd r (λ e. e ≡ f) → IsNotOpen s session f
       → Replied session c r core core front before s store
-  replied_not_open front disk before s store session c r f is over seats inner works idle same (must, (a, m, of, rolls)) =
-      let stands = is.beside.parts.stands in
-      let here = its_seat s seats stands.txns.unprepared a (subst (IsAmong a) (sym stands.txns.active) m) in
+  replied_not_open front disk before s store session c r f is over inner works idle same (inl (must, (a, its, rolls))) =
       replied_as core core front before s store session c r fault.MustAbort (subst (λ x. IsErrAnd r (λ e. e ≡ x)) must same)
-      (inr (inr (inr (inr (inr (inl (works, idle, (a, (here, of), inl (inner.needs, (λ takes. rolls (whole_taken a.undo c inner takes)), refl, refl)))))))))
+      (inr (inr (inr (inr (inr (inl (works, idle, (a, its, inl (inner.needs, (λ takes. rolls (whole_taken a.undo c inner takes)), refl, refl)))))))))
       (inr (comes_same core front disk before s store is over))
+  replied_not_open front disk before s store session c r f is over inner works idle same (inr (is_prepared, prepared)) =
+      replied_prepared front disk before s store session c r f is over inner.needs works idle same is_prepared prepared

@@ -25,7 +25,7 @@ use Rattle.shore_model.specs.declared.step.Step.TheVariants.{Refused}
 use Rattle.laws_calls.specs.CallSteps.{CallStep}
 use Rattle.laws_calls.specs.Rollbacks.{TakesCall}
 use Rattle.laws_calls.specs.StateChanges.{after_refusal, answered}
-use Rattle.laws_calls.specs.States.{DoesNotWait, IsOfSession, State, page_slots}
+use Rattle.laws_calls.specs.States.{DoesNotWait, State, page_slots}
 use Rattle.shore_txn.specs.ActiveTxns.{OneBecomes}
 use Rattle.shore_txn.specs.Transactions.{txns_in}
 use Rattle.shore_txn.specs.Txns.{IsBackAt, last_of}
@@ -38,7 +38,9 @@ use Rattle.shore_core.specs.Cores.{CoreComesTo, IsSafe, geometry_of}
 use Rattle.shore_core.specs.Replies.{Replied}
 use Rattle.shore_core.specs.Undoing.{IsDownTo, Unwinds}
 use Rattle.shore_core.proofs.Coming.{StaysRefused, comes_then}
-use Rattle.shore_core.proofs.Rolling.{call_of, interrupted, unwound_of}
+use Rattle.shore_model.specs.declared.calls.Call.{Call}
+use Rattle.shore_core.specs.Callers.{MayPutBack}
+use Rattle.shore_core.proofs.Rolling.{caller, interrupted, unwound_of}
 
 -- ---- savepoints that are there, and those that are not
 
@@ -80,7 +82,7 @@ takes_back undo n (inr rolling) = inr (inr (n, rolling, refl))
 pub earlier_back : (table new : Transactions) (number session index : ℕ) → ((t : Txn) → IsAmong t (txns_in table) → last_of t < number)
     → OneBecomes session (IsBackAt index) (txns_in table) (txns_in new) → (t : Txn) → IsAmong t (txns_in new) → last_of t < number
 earlier_back table new number session index earlier one =
-    each_becomes (λ t. last_of t < number) (λ t. last_of t < number) (record { numbers = table.numbers; sessions = table.sessions }) earlier one (λ t other apart less. less) (λ less. omega (arith, less, one.becomes.last))
+    each_becomes (λ t. last_of t < number) (λ t. last_of t < number) table.numbers earlier one (λ t other less. less) (λ less. omega (arith, less, one.becomes.last))
 
 -- ---- the state
 
@@ -102,19 +104,22 @@ no_images (e ∷ images) none = absurd (omega arith)
 -- ---- replies
 
 module _ {T V : Type 0} {G : tail.Ghosts T} {H : disk.Ghosts V} (old new : Core T V G H) (front : List ℕ) (before : List LogRecord) (s : State) (store : RecoveryState) (session : ℕ) (a : SessionTxn)
-    (safe : IsSafe (geometry_of old) s) (of : IsOfSession s session a) (works : s.failed ≡ false) (idle : DoesNotWait s session) (r : Rollback) (may : MayRoll a.undo r) (least : ℕ) (at : least ≡ least_kept a.undo r) where
+    (safe : IsSafe (geometry_of old) s) (works : s.failed ≡ false) (idle : DoesNotWait s session) (r : Rollback) (roll : MayRoll a.undo r) (may : MayPutBack s session a r) (least : ℕ) (at : least ≡ least_kept a.undo r) where
+  abbrev c : Call
+  c = caller (geometry_of old) s safe session a works idle r may
+
   -- it was interrupted
-  pub interrupted_replied : (res : Result Step Fault) (f : Fault) → IsErrAnd res (λ e. e ≡ f) → Unwinds new a r least (Err f) front before s store → Replied session (call_of r) res old new front before s store
+  pub interrupted_replied : (res : Result Step Fault) (f : Fault) → IsErrAnd res (λ e. e ≡ f) → Unwinds new a r least (Err f) front before s store → Replied session c res old new front before s store
   interrupted_replied (Ok step) f same h = absurd same
   interrupted_replied (Err e) f same (mid, left, down, more, why, stays) = record {
     later = mid;
-    replies = subst (λ (x : Fault). CallStep (geometry_of old) s session (call_of r) (Refused x) (after_refusal x mid)) (sym same)
-        (interrupted (geometry_of old) s safe session a of works idle r may f mid (unwound_of s a r left mid (omega (arith, at, more)) down) why);
+    replies = subst (λ (x : Fault). CallStep (geometry_of old) s session c (Refused x) (after_refusal x mid)) (sym same)
+        (interrupted (geometry_of old) s safe session a works idle r roll may f mid (unwound_of s a r left mid (omega (arith, at, more)) down) why);
     comes = subst (λ (x : Fault). StaysRefused new front before mid store x) (sym same) stays;
   }
 
   -- all is put back, and then an allocation failed
   pub unended_replied : (mid_core : Core T V G H) (res : Result Step Fault) (f : Fault) → IsErrAnd res (λ e. e ≡ f) → (mid : State) → IsDownTo s a r least mid → (one : CoreComesTo mid_core front before store mid)
-      → (f ≡ fault.Memory) → CoreComesTo new front before one.after mid → Replied session (call_of r) res old new front before s store
+      → (f ≡ fault.Memory) → CoreComesTo new front before one.after mid → Replied session c res old new front before s store
   unended_replied mid_core res f same mid down one memory two =
       interrupted_replied res f same (mid, least, down, omega arith, inl memory, inr (comes_then mid_core new front before mid mid store one two))

@@ -1,8 +1,9 @@
 -- A state is safe behind a lock that was asked for, if it was before.
-use Rattle.std.proofs.Common.{◌≡◌, ◌≢◌, ℕ, ◌++◌, List, [], append-nil, Result, Ok, Err, false, refl, sym, ap, subst, ◌∙◌}
+use Rattle.std.proofs.Common.{◌≡◌, ◌≢◌, ℕ, ◌++◌, List, [], append-nil, Result, Ok, Err, false, refl, sym, ap, subst, ◌∙◌, arith}
 use Rattle.shore_disk.specs.declared.device.Disk as disk
 use Rattle.shore_disk.specs.Device.{size}
 use Rattle.shore_log.specs.declared.tail.Tail as tail
+use Rattle.shore_types.specs.Layout.{HasGranule, HasSlot}
 use Rattle.shore_types.specs.declared.faults.Fault.{Fault}
 use Rattle.shore_types.specs.declared.ids.Rid.{Rid}
 use Rattle.shore_types.specs.declared.layout.Geometry.{Geometry}
@@ -32,8 +33,10 @@ use Rattle.shore_heap.specs.Heaps as heaps
 use Rattle.shore_heap.specs.Heaps.{Shows}
 use Rattle.laws_lives.specs.Recovery.{RecoveryState}
 use Rattle.shore_txn.specs.Transactions.{kept_in}
-use Rattle.laws_runs.specs.RoomyStates.{LeavesRoomyLogs}
-use Rattle.laws_calls.proofs.SessionsWaiting.{waits_left}
+use Rattle.laws_runs.specs.RoomyStates.{HasLocksInBounds, LeavesRoomyLogs}
+use Rattle.laws_calls.proofs.LeftWaits.{AreOlder, waits_left}
+use Rattle.laws_calls.proofs.Sessions.{older_resolved}
+use Rattle.laws_runs.proofs.LockBounds.{asked_bounds}
 use Rattle.laws_calls.proofs.TakenLocks.{leaves, locked_state}
 use Rattle.laws_calls.specs.CallHistories.{IsForced, IsRoomyState}
 use Rattle.laws_calls.specs.CallSteps.{behind_lock, behind_place, lock_outcome, on_conflict_of, place_outcome, with_requests}
@@ -60,13 +63,18 @@ never_waits answer (Err f) is at waits = clash (sym is ∙ waits)
 
 -- with other requests in the table all but its locks is the same
 module _ (s : State) (rs : List Request) where
-  waits_behind : (base : ℕ) → WaitsOfSessions base s → WaitsOfSessions base (with_requests s rs)
-  waits_behind base = waits_left base s (with_requests s rs) (record {
+  waits_behind : (base : ℕ) → AreOlder s → WaitsOfSessions base s → WaitsOfSessions base (with_requests s rs)
+  waits_behind base older = waits_left base s (with_requests s rs) older (record {
     waiting = refl;
     committing = refl;
     prepared = refl;
     seats = λ n t is. is;
     active = λ a mine. (a, mine, refl, refl, λ waits whole. whole);
+    resolving = refl;
+    txns = λ t there. there;
+    older = λ t less there. there;
+    next = omega arith;
+    outside = λ w m t is. is;
     on = ([], sym (append-nil s.log));
     running = λ works. works;
   })
@@ -77,44 +85,48 @@ module _ (s : State) (rs : List Request) where
   roomy_behind : IsRoomyState s → IsRoomyState (with_requests s rs)
   roomy_behind h = record { pages = h.pages; log = h.log }
 
-  leaves_behind : (g : Geometry) (n : ℕ) → LeavesRoomyLogs g n s → LeavesRoomyLogs g n (with_requests s rs)
-  leaves_behind g n h = record {
+  leaves_behind : (g : Geometry) (n : ℕ) → HasLocksInBounds g (with_requests s rs) → LeavesRoomyLogs g n s → LeavesRoomyLogs g n (with_requests s rs)
+  leaves_behind g n locks h = record {
     as_long = h.as_long;
     prefixes = h.prefixes;
     counts = h.counts;
     whole = record { lawful = h.whole.lawful; writers = h.whole.writers; unended = h.whole.unended; above = h.whole.above; undo_lists = h.whole.undo_lists; some = h.whole.some };
+    losers = h.losers;
     txns = h.txns;
+    locks = locks;
   }
 
-  pub safe_behind : (g : Geometry) (safe : IsSafe g s) → IsSessionsState safe.opening safe.found safe.entries (with_requests s rs) → IsSafe g (with_requests s rs)
-  safe_behind g safe sessions = record {
+  pub safe_behind : (g : Geometry) (safe : IsSafe g s) → IsSessionsState safe.opening safe.found safe.entries (with_requests s rs) → HasLocksInBounds g (with_requests s rs) → IsSafe g (with_requests s rs)
+  safe_behind g safe sessions locks = record {
     opening = safe.opening;
     found = safe.found;
     entries = safe.entries;
     after = record {
       sessions = sessions;
-      waits = waits_behind _ safe.after.waits;
+      waits = waits_behind _ (older_resolved safe.opening safe.found safe.entries s safe.after.sessions) safe.after.waits;
       forced = forced_behind _ safe.entries safe.after.forced;
       few = safe.after.few;
     };
     asks = safe.asks;
     roomy = roomy_behind safe.roomy;
     stream_bytes = safe.stream_bytes;
-    leaves = leaves_behind g safe.stream_bytes safe.leaves;
+    leaves = leaves_behind g safe.stream_bytes locks safe.leaves;
     inside = safe.inside;
   }
 
 module _ (g : Geometry) (s : State) (safe : IsSafe g s) (a : SessionTxn) (mem : HasSeat s.sessions a) (quiet : is_waiting a.txn s.locks.requests ≡ false) where
   -- behind a call's lock, unless the call waits for it
-  pub safe_behind_lock : (c : Call) (lock : Asked) → ((at : Granule) → (lock_outcome s a c lock).answer ≢ Ok (acquire.Waiting at)) → IsSafe g (behind_lock s a c lock)
-  safe_behind_lock c lock never =
+  pub safe_behind_lock : (c : Call) (lock : Asked) → HasGranule g lock.granule → ((at : Granule) → (lock_outcome s a c lock).answer ≢ Ok (acquire.Waiting at)) → IsSafe g (behind_lock s a c lock)
+  safe_behind_lock c lock there never =
       safe_behind s (lock_outcome s a c lock).requests g safe
       (locked_state safe.opening safe.found safe.entries s safe.after.sessions a mem quiet (on_conflict_of c) lock.granule lock.mode never)
+      (asked_bounds g s (behind_lock s a c lock) (on_conflict_of c) a.txn lock.granule lock.mode refl there safe.leaves.locks)
 
   -- .. and behind that of an insert's place
-  pub safe_behind_place : (id : Rid) → ((at : Granule) → (place_outcome s a id).answer ≢ Ok (acquire.Waiting at)) → IsSafe g (behind_place s a id)
-  safe_behind_place id never =
+  pub safe_behind_place : (id : Rid) → HasSlot g id → ((at : Granule) → (place_outcome s a id).answer ≢ Ok (acquire.Waiting at)) → IsSafe g (behind_place s a id)
+  safe_behind_place id there never =
       safe_behind s (place_outcome s a id).requests g safe (locked_state safe.opening safe.found safe.entries s safe.after.sessions a mem quiet Refuse (Record id) EX never)
+      (asked_bounds g s (behind_place s a id) Refuse a.txn (Record id) EX refl there safe.leaves.locks)
 
   -- .. which is reached
   pub place_reached : (id : Rid) → (place_outcome s a id).answer ≡ Ok acquire.Done → IsReached (place_outcome s a id).requests a.txn (Record id) EX

@@ -21,10 +21,11 @@ use Rattle.laws_lives.specs.UndoLists.{undo_rolled}
 use Rattle.shore_model.specs.declared.rollbacks.Rollback.TheVariants.{Whole}
 use Rattle.laws_lives.specs.Views.{IsAmong}
 use Rattle.laws_calls.proofs.LongerLogs.{victims_further}
+use Rattle.laws_runs.proofs.LockBounds.{asked_bounds, asks_there, victims_bounds}
 use Rattle.laws_runs.proofs.Running.{comes_leaving, later_leaving}
 use Rattle.laws_calls.proofs.SessionRooms.{comes_roomy}
 use Rattle.laws_calls.specs.CallHistories.{IsRoomyState}
-use Rattle.laws_calls.specs.CallSteps.{MayAsk, lock_outcome}
+use Rattle.laws_calls.specs.CallSteps.{MayAsk, lock_outcome, on_conflict_of}
 use Rattle.laws_calls.specs.LockRounds.{EndsLock, IsBroken, LetThrough, LocksTo, waits_at}
 use Rattle.laws_calls.specs.StateChanges.{wait_refused}
 use Rattle.laws_calls.specs.States.{DoesNotWait, HasSeat, State, Waiting, page_slots}
@@ -110,7 +111,8 @@ module _ (g : Geometry) where
             subst (MayAsk g) was.2 (safe.asks was.0 at was.1 (was.3 ∙ is));
         roomy = comes_roomy safe.opening safe.found safe.entries s safe.after safe.roomy g new [] comes;
         stream_bytes = safe.stream_bytes;
-        leaves = later_leaving g safe.stream_bytes s.durable new (omega (arith, even)) (comes_leaving g safe.stream_bytes safe.opening safe.found s.durable safe.entries s new [] safe.after safe.roomy safe.leaves comes);
+        leaves = later_leaving g safe.stream_bytes s.durable new (omega (arith, even)) (comes_leaving g safe.stream_bytes safe.opening safe.found s.durable safe.entries s new [] safe.after safe.roomy safe.leaves comes tt
+            (victims_bounds g s t (v ∷ []) new (new, h, refl) safe.leaves.locks));
         inside = subst (λ (x : State). AreRecords g x.sessions.records) (sym h.is) safe.inside;
       }
 
@@ -135,7 +137,15 @@ module _ (g : Geometry) where
       asks = λ w at there is. elim there [ inl same ↦ subst (λ (x : Waiting). MayAsk g x.call) same may | inr older ↦ safe.asks w at older is ];
       roomy = record { pages = safe.roomy.pages; log = safe.roomy.log };
       stream_bytes = safe.stream_bytes;
-      leaves = record { as_long = safe.leaves.as_long; prefixes = safe.leaves.prefixes; counts = safe.leaves.counts; whole = record { lawful = safe.leaves.whole.lawful; writers = safe.leaves.whole.writers; unended = safe.leaves.whole.unended; above = safe.leaves.whole.above; undo_lists = safe.leaves.whole.undo_lists; some = safe.leaves.whole.some }; txns = safe.leaves.txns };
+      leaves = record {
+        as_long = safe.leaves.as_long;
+        prefixes = safe.leaves.prefixes;
+        counts = safe.leaves.counts;
+        whole = record { lawful = safe.leaves.whole.lawful; writers = safe.leaves.whole.writers; unended = safe.leaves.whole.unended; above = safe.leaves.whole.above; undo_lists = safe.leaves.whole.undo_lists; some = safe.leaves.whole.some };
+        losers = safe.leaves.losers;
+        txns = safe.leaves.txns;
+        locks = asked_bounds g s (waits_at s a c lock at) (on_conflict_of c) a.txn lock.granule lock.mode refl (asks_there g c lock may asks) safe.leaves.locks;
+      };
       inside = safe.inside;
     }
 
@@ -197,7 +207,7 @@ module _ (g : Geometry) where
       safe_locked new h =
           let on = safe_through h.rounds s h.later k h.go in
           subst (λ (x : State). IsSafe g x × HasSeat x.sessions a) (sym h.ends.1)
-          (safe_behind_lock g h.later on.0.safe a on.0.active on.0.quiet c lock (λ at waits. done_waits_not at (sym h.ends.0 ∙ waits)), on.0.active)
+          (safe_behind_lock g h.later on.0.safe a on.0.active on.0.quiet c lock (asks_there g c lock may asks) (λ at waits. done_waits_not at (sym h.ends.0 ∙ waits)), on.0.active)
 
       pub still_active : (at : Granule) (new : State) → LocksTo s a c lock (Ok (acquire.Waiting at)) new → HasSeat new.sessions a
       still_active at new h =

@@ -1,5 +1,5 @@
 -- What stands beside the answers of calls one after another.
-use Rattle.std.proofs.Common.{◌≡◌, inl, inr, ℕ, Result, Ok, Err, IfErr, IfOk, IsErrAnd, refl, sym, ap, subst, ◌∙◌, arith}
+use Rattle.std.proofs.Common.{◌≡◌, ◌⊎◌, inl, inr, ℕ, Result, Ok, Err, IfErr, IfOk, IsErrAnd, refl, sym, ap, subst, ◌∙◌, arith}
 use Rattle.shore_types.specs.declared.faults.Device.{Device}
 use Rattle.shore_types.specs.declared.faults.Fault.{Fault}
 use Rattle.shore_types.specs.declared.faults.Fault.TheVariants as fault
@@ -25,7 +25,7 @@ use Rattle.laws_calls.specs.CallSteps.{RefusesEarly, RefusesGranule, RefusesId, 
 use Rattle.shore_sessions.specs.Noting.{IsOfNoDevice}
 use Rattle.shore_core.specs.declared.core_calls.Core.{Core}
 use Rattle.shore_core.specs.Cores.{durable_of, faults_of, first_of, geometry_of, has_failed, heap_of, last_of, tail_of}
-use Rattle.shore_core.specs.Replies.{IsEarned, IsNotOpen, Keeps, MakesNoCall, NeedsForceIn, OnlyLocks, Serves, ServesCall, fault_at}
+use Rattle.shore_core.specs.Replies.{IsEarned, Keeps, MakesNoCall, NeedsForceIn, OnlyLocks, Serves, ServesCall, fault_at}
 use Rattle.shore_core.proofs.Earning.{earned_as}
 use Rattle.shore_core.proofs.Forcing.{forced_as}
 use Rattle.shore_core.proofs.Keeping.{keeps_then, leaves_nothing, leaves_then}
@@ -97,10 +97,10 @@ no_damage_of_device d offset is = cc
 pub no_force_of_device : (n : ℕ) → fault.Device ≡ fault.NeedForce n → ⊥
 no_force_of_device n is = cc
 
--- what refuses a session whose transaction may do no more than end a rollback
-module _ {T V : Type 0} {G : tail.Ghosts T} {H : disk.Ghosts V} where
-  pub not_open_aside : (core : Core T V G H) (session : ℕ) (f : Fault) → IsNotOpen core session f → IsAside f
-  not_open_aside core session f must = as_aside f fault.MustAbort must.0 tt
+-- what refuses a session whose transaction is prepared, or may do no more than end a rollback
+pub not_open_aside : (f : Fault) → (f ≡ fault.MustAbort) ⊎ (f ≡ fault.IsPrepared) → IsAside f
+not_open_aside f (inl must) = as_aside f fault.MustAbort must tt
+not_open_aside f (inr prepared) = as_aside f fault.IsPrepared prepared tt
 
 -- ---- causes
 

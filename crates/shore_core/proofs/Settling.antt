@@ -4,19 +4,17 @@ use Rattle.shore_disk.specs.declared.device.Disk as disk
 use Rattle.shore_log.specs.declared.tail.Tail as tail
 use Rattle.shore_types.specs.declared.faults.Fault.{Fault}
 use Rattle.shore_types.specs.declared.layout.Geometry.{Geometry}
-use Rattle.shore_types.specs.declared.locking.Granule.{Granule}
 use Rattle.shore_model.specs.declared.calls.Call.{Call}
 use Rattle.shore_model.specs.declared.log_records.LogRecord.{LogRecord}
 use Rattle.laws_lives.specs.Recovery.{RecoveryState}
 use Rattle.laws_locks.specs.CallLocks.{Asked, lock_asked_by}
-use Rattle.laws_calls.proofs.SessionInversions.{waits_in}
+use Rattle.laws_calls.proofs.SessionInversions.{waits_on_lock}
 use Rattle.laws_calls.specs.CallSteps.{CallStep, ResumeStep}
 use Rattle.laws_calls.specs.Settling.{SettledCall, SettledResume, WaitsForNoLock}
 use Rattle.laws_calls.specs.StateChanges.{after_refusal}
 use Rattle.laws_calls.specs.States.{State}
 use Rattle.shore_model.specs.declared.step.Step.{Step}
 use Rattle.shore_model.specs.declared.step.Step.TheVariants.{Done, Nothing, Refused, Waits}
-use Rattle.shore_model.specs.declared.step.Wait.{Wait}
 use Rattle.shore_model.specs.declared.step.Wait.TheVariants.{Durable, Lock}
 use Rattle.shore_core.specs.declared.core_calls.Core.{Core}
 use Rattle.shore_core.specs.Cores.{geometry_of}
@@ -24,9 +22,6 @@ use Rattle.shore_core.specs.Replies.{Called, Replied, as_step, once_noted}
 
 none_is_some : (lock : Asked) → ◌≡◌ {A = Option Asked} None (Some lock) → ⊥
 none_is_some lock e = cc
-
-lock_is_durable : (at : Granule) (n : ℕ) → ◌≡◌ {A = Wait} (Lock at) (Durable n) → ⊥
-lock_is_durable at n e = cc
 
 module _ (g : Geometry) (s new : State) (session : ℕ) where
   -- a call that asks for no lock waits for none
@@ -36,10 +31,8 @@ module _ (g : Geometry) (s new : State) (session : ℕ) where
   asks_for_none c Nothing none h = tt
   asks_for_none c (Waits (Durable n)) none h = tt
   asks_for_none c (Waits (Lock at)) none h =
-      elim (waits_in g s new session c (Lock at) h).how [
-        | inl asks ↦ none_is_some asks.1.0 (sym none ∙ asks.1.2)
-        | inr commits ↦ lock_is_durable at _ commits.1.0
-      ]
+      let goes = (waits_on_lock g s new session c at h).goes in
+      absurd (none_is_some goes.0 (sym none ∙ goes.2))
 
   pub called_at_once : (c : Call) (step : Step) → WaitsForNoLock step → CallStep g s session c step new → SettledCall g s session c step new
   called_at_once c step none h = record { first = step; mid = new; rounds = []; calls = h; settles = (none, refl, refl) }

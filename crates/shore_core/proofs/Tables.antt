@@ -3,12 +3,12 @@ use Rattle.std.proofs.Common.{inl, inr, ◌≡◌, ◌+◌, ◌*◌, ◌≤◌, 
 use Rattle.std.specs.List.{AllByRecursion}
 use Rattle.std.specs.Option.{IfNone}
 use Rattle.std.proofs.lemmas.List.{append_assoc}
+use Rattle.std.proofs.lemmas.List.Sorted.{length_permutation}
 use Rattle.shore_types.specs.declared.layout.TheConstants.{ENDING_COST, GREATEST_CHECKPOINT, LAST_LSN, LONGEST_FRAME}
 use Rattle.shore_model.specs.declared.log_records.LogRecord.{LogRecord}
-use Rattle.laws_lives.specs.Sessions.{PreparedTxn}
 use Rattle.laws_lives.specs.Views.{IsAmong}
 use Rattle.laws_room.specs.LogRooms.{owed_by_all}
-use Rattle.shore_txn.specs.Transactions.{room_in}
+use Rattle.shore_txn.specs.Transactions.{prepared_in, room_in, undos_in}
 use Rattle.laws_calls.specs.States.{HasRoomFor, State}
 use Rattle.shore_sessions.specs.declared.control.Control.{Control}
 use Rattle.shore_sessions.specs.Controls.{txns_in}
@@ -66,9 +66,9 @@ module _ (control : Control) (waiting : List LogRecord) (durable : ℕ) (failed 
 
   reserved_is : owed_by_all s.sessions.active + ENDING_COST * length s.sessions.prepared ≡ (room_in (txns_in control)).reserved
   reserved_is =
-      let owed : owed_by_all s.sessions.active ≡ (room_in (txns_in control)).reserved = ap owed_by_all was.stands.txns.active ∙ sym (txns_in control).sum in
-      let none : ENDING_COST * length s.sessions.prepared ≡ 0 = ap (λ (ps : List PreparedTxn). ENDING_COST * length ps) was.stands.txns.unprepared.prepared in
-      omega (arith, owed, none)
+      ap (λ undos. owed_by_all undos + ENDING_COST * length s.sessions.prepared) was.stands.txns.active
+      ∙ ap (λ n. owed_by_all (undos_in (txns_in control)) + ENDING_COST * n) (sym (length_permutation s.sessions.prepared (prepared_in (txns_in control)) was.stands.txns.prepared))
+      ∙ sym (txns_in control).sum
 
   pub has_room : Admitted → HasRoomFor s need
   has_room h = (omega (arith, h.0, next_is), omega (arith, h.1, was.stands.txns.kept, was.stands.txns.stream, reserved_is))

@@ -1,5 +1,5 @@
 -- What holds of a core that is in a state, and what a call that reads leaves of it.
-use Rattle.std.proofs.Common.{◌≡◌, ◌⊎◌, ◌≤◌, ◌∙◌, inl, inr, ℕ, List, Bool, Option, None, Some, IsSomeAnd, Result, Ok, Err, IfErr, IsErrAnd, true, false, nat_lt, refl, sym, ap, subst, arith}
+use Rattle.std.proofs.Common.{◌≡◌, ◌⊎◌, ◌≤◌, ◌<◌, ◌∙◌, inl, inr, ℕ, List, Bool, Option, None, Some, IsSomeAnd, Result, Ok, Err, IfErr, IsErrAnd, true, false, nat_lt, refl, sym, ap, subst, arith}
 use Rattle.std.specs.FinMap.{get}
 use Rattle.std.specs.List.{slice_get}
 use Rattle.std.specs.Option.{option_and_then}
@@ -12,7 +12,7 @@ use Rattle.shore_page.specs.Slots.{Slot, image_at_slot}
 use Rattle.shore_page.specs.Undo.{claiming}
 use Rattle.shore_pool.specs.declared.frame.Frame.{Frame}
 use Rattle.shore_heap.specs.Contents.{HasSlots}
-use Rattle.laws_lives.specs.Sessions.{SessionTxn}
+use Rattle.laws_lives.specs.Sessions.{SessionTxn, Sessions}
 use Rattle.laws_room.specs.Claims.{Claimed, SlotCounts, rid_on, slots_of, undecided_at}
 use Rattle.laws_room.proofs.Leaving.{map_each}
 use Rattle.laws_room.proofs.Lists.{each_at}
@@ -22,7 +22,7 @@ use Rattle.shore_types.specs.declared.faults.Fault.TheVariants as fault
 use Rattle.shore_types.specs.declared.faults.Device.{Device}
 use Rattle.shore_model.specs.declared.log_records.LogRecord.{LogRecord}
 use Rattle.laws_calls.specs.StateChanges.{IsPageFault, after_refusal, with_durable, with_failure}
-use Rattle.laws_calls.specs.States.{State}
+use Rattle.laws_calls.specs.States.{State, cost_of_log}
 use Rattle.laws_calls.specs.CallSteps.{RefusesRead, CallStep}
 use Rattle.shore_disk.specs.Cause.{HasCause}
 use Rattle.shore_disk.specs.declared.device.Disk as disk
@@ -44,8 +44,14 @@ use Rattle.shore_core.specs.Replies.{IsServedBehind, Replied, Served}
 use Rattle.shore_core.proofs.Coming.{StaysRefused, comes_failed}
 use Rattle.shore_core.specs.Parts.{HasParts}
 use Rattle.shore_sessions.specs.declared.control.Control.{Control}
-use Rattle.shore_sessions.specs.Standing.{HasControl}
-use Rattle.shore_sessions.proofs.TxnSteps.{none_still}
+use Rattle.shore_sessions.specs.Controls.{txns_in}
+use Rattle.shore_sessions.specs.Seated.{IsSeated}
+use Rattle.shore_sessions.specs.Standing.{HasControl, HasTxns, IsLogged}
+use Rattle.shore_txn.specs.Transactions.{next_in, prepared_in}
+use Rattle.shore_txn.specs.Transactions as table
+use Rattle.shore_txn.specs.declared.transactions.Transactions.{Transactions}
+use Rattle.std.specs.List.{AllByRecursion}
+use Rattle.std.specs.List.Sorted.{IsPermutation}
 
 pub true_false : true ≡ false → ⊥
 true_false clash = cc
@@ -54,11 +60,35 @@ pub map_err : {A : Type 0} (P Q : Fault → Type 0) (r : Result A Fault) → ((f
 map_err P Q (Ok x) each holds = tt
 map_err P Q (Err f) each holds = each f holds
 
+-- the transactions are those of a state with the same sessions, stream and log
+txns_as : (txns : Transactions) (s t : State) → t.sessions ≡ s.sessions → t.stream_bytes ≡ s.stream_bytes → t.log ≡ s.log → HasTxns txns s → HasTxns txns t
+txns_as txns s t sessions stream log was = record {
+  active = ap (λ (x : Sessions). x.active) sessions ∙ was.active;
+  prepared = subst (λ (x : Sessions). IsPermutation x.prepared (prepared_in txns)) (sym sessions) was.prepared;
+  seats = subst (λ (x : Sessions). AllByRecursion (IsSeated x) (table.txns_in txns)) (sym sessions) was.seats;
+  entered = subst (λ (x : Sessions). (n : ℕ) → (x.seats n).txn < next_in txns) (sym sessions) was.entered;
+  names = was.names;
+  next = ap (λ (x : Sessions). x.next_txn) sessions ∙ was.next;
+  stream = stream ∙ was.stream;
+  kept = ap cost_of_log log ∙ was.kept;
+  each = subst (λ l. AllByRecursion (IsLogged l) (table.txns_in txns)) (sym log) was.each;
+  above = subst (λ (l : List LogRecord). AllByRecursion (λ r. r.txn < next_in txns) l) (sym log) was.above;
+}
+
 -- a device that failed is noted
 control_failed : (control : Control) (s : State) → HasControl control s → HasControl control (with_failure s)
 control_failed control s was = record {
-  txns = record { active = was.txns.active; unprepared = none_still refl refl was.txns.unprepared; next = was.txns.next; stream = was.txns.stream; kept = was.txns.kept; each = was.txns.each; above = was.txns.above };
-  waits = record { waiting = was.waits.waiting; committing = λ works. absurd (true_false works); asking = was.waits.asking };
+  txns = txns_as (txns_in control) s (with_failure s) refl refl refl was.txns;
+  waits = record {
+    waiting = was.waits.waiting;
+    kinds = was.waits.kinds;
+    committing = λ works. absurd (true_false works);
+    asking = was.waits.asking;
+    preparing = was.waits.preparing;
+    ended = was.waits.ended;
+    once = was.waits.once;
+  };
+  resolving = λ works. absurd (true_false works);
   locks = was.locks;
 }
 
@@ -71,8 +101,17 @@ pub parts_told : (control : Control) (waiting : List LogRecord) (durable n : ℕ
     → HasParts control waiting n failed before (with_durable n s)
 parts_told control waiting durable n failed before s was = record {
   stands = record {
-    txns = record { active = was.stands.txns.active; unprepared = none_still refl refl was.stands.txns.unprepared; next = was.stands.txns.next; stream = was.stands.txns.stream; kept = was.stands.txns.kept; each = was.stands.txns.each; above = was.stands.txns.above };
-    waits = record { waiting = was.stands.waits.waiting; committing = was.stands.waits.committing; asking = was.stands.waits.asking };
+    txns = txns_as (txns_in control) s (with_durable n s) refl refl refl was.stands.txns;
+    waits = record {
+      waiting = was.stands.waits.waiting;
+      kinds = was.stands.waits.kinds;
+      committing = was.stands.waits.committing;
+      asking = was.stands.waits.asking;
+      preparing = was.stands.waits.preparing;
+      ended = was.stands.waits.ended;
+      once = was.stands.waits.once;
+    };
+    resolving = was.stands.resolving;
     locks = was.stands.locks;
   };
   log = was.log;

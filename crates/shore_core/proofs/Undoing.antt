@@ -55,11 +55,11 @@ false_true e = cc
 
 -- ---- the newest change
 
--- a session has one transaction
-pub own_is : (table : Transactions) (t : Txn) → IsAmong (as_session_txn t) (undos_in table) → (a : SessionTxn) → IsAmong a (undos_in table) → a.session ≡ t.session → a ≡ as_session_txn t
-own_is table t there a among is = once_same (λ (b : SessionTxn). b.session) _ table.sessions a (as_session_txn t) among there is
+-- a number is that of one transaction
+pub own_is : (table : Transactions) (t : Txn) → IsAmong (as_session_txn t) (undos_in table) → (a : SessionTxn) → IsAmong a (undos_in table) → a.txn ≡ number_of t → a ≡ as_session_txn t
+own_is table t there a among is = once_same (λ (b : SessionTxn). b.txn) _ table.numbers a (as_session_txn t) among there is
 
-pub none_of : (table : Transactions) (t : Txn) → IsAmong (as_session_txn t) (undos_in table) → (a : SessionTxn) → IsAmong a (undos_in table) → a.session ≡ t.session → entries_of t ≡ [] → a.undo.images ≡ []
+pub none_of : (table : Transactions) (t : Txn) → IsAmong (as_session_txn t) (undos_in table) → (a : SessionTxn) → IsAmong a (undos_in table) → a.txn ≡ number_of t → entries_of t ≡ [] → a.undo.images ≡ []
 none_of table t there a among is none = ap (λ (b : SessionTxn). b.undo.images) (own_is table t there a among is) ∙ ap images_of none
 
 get_last : {A : Type 0} (xs : List A) (x d : A) → get_or (xs ++ x ∷ []) (length xs) d ≡ x
@@ -95,21 +95,21 @@ module _ (table : Transactions) (who : ℕ) (id : Rid) (bytes cost : ℕ) (r : L
   own_images = ap images_of next.entries ∙ map_join image_of next.kept (next.entry ∷ [])
 
   -- it is the transaction's of each state
-  pub next_own : (a : SessionTxn) → IsAmong a (undos_in table) → a.session ≡ who → a ≡ as_session_txn next.own
-  next_own a among is = own_is table next.own next.there a among (is ∙ sym next.session)
+  pub next_own : (a : SessionTxn) → IsAmong a (undos_in table) → a.txn ≡ who → a ≡ as_session_txn next.own
+  next_own a among is = own_is table next.own next.there a among (is ∙ sym next.number)
 
-  pub next_some : (a : SessionTxn) → IsAmong a (undos_in table) → a.session ≡ who → a.undo.images ≡ [] → ⊥
+  pub next_some : (a : SessionTxn) → IsAmong a (undos_in table) → a.txn ≡ who → a.undo.images ≡ [] → ⊥
   next_some a among is none = never (images_of next.kept) (sym own_images ∙ ap (λ (b : SessionTxn). b.undo.images) (sym (next_own a among is)) ∙ none)
     where
       never : (xs : List (Rid × Image)) → xs ++ image_of next.entry ∷ [] ≡ [] → ⊥
       never [] e = cc
       never (x ∷ xs) e = cc
 
-  pub next_image : (a : SessionTxn) (kept : List (Rid × Image)) (e : Rid × Image) → IsAmong a (undos_in table) → a.session ≡ who → a.undo.images ≡ kept ++ e ∷ [] → image_of next.entry ≡ e
+  pub next_image : (a : SessionTxn) (kept : List (Rid × Image)) (e : Rid × Image) → IsAmong a (undos_in table) → a.txn ≡ who → a.undo.images ≡ kept ++ e ∷ [] → image_of next.entry ≡ e
   next_image a kept e among is images =
       last_same (images_of next.kept) kept (image_of next.entry) e (sym own_images ∙ ap (λ (b : SessionTxn). b.undo.images) (sym (next_own a among is)) ∙ images)
 
-  pub next_cost : (a : SessionTxn) (kept : List (Rid × Image)) (e : Rid × Image) → IsAmong a (undos_in table) → a.session ≡ who → a.undo.images ≡ kept ++ e ∷ [] → cost ≡ compensation_cost e.1
+  pub next_cost : (a : SessionTxn) (kept : List (Rid × Image)) (e : Rid × Image) → IsAmong a (undos_in table) → a.txn ≡ who → a.undo.images ≡ kept ++ e ∷ [] → cost ≡ compensation_cost e.1
   next_cost a kept e among is images = next.cost_is ∙ ap (λ (x : Rid × Image). compensation_cost x.1) (next_image a kept e among is images)
 
   -- the entry that is taken out
@@ -117,14 +117,14 @@ module _ (table : Transactions) (who : ℕ) (id : Rid) (bytes cost : ℕ) (r : L
   next_undone later lsn rollback e one =
       next_image (as_session_txn one.before) (images_of (entries_of one.after)) (image_of e)
       (among_map as_session_txn one.before (txns_in table) (subst (IsAmong one.before) (sym one.was) (among_middle one.newer one.older one.before)))
-      one.session
+      one.txn
       (ap images_of one.becomes.entries ∙ map_join image_of (entries_of one.after) (e ∷ []))
 
   pub next_earlier : (number : ℕ) → ((t : Txn) → IsAmong t (txns_in table) → last_of t < number) → r.previous < number
   next_earlier number earlier = subst (λ n. n < number) (sym (ap (λ (x : LogRecord). x.previous) next.record_is)) (earlier next.own next.among)
 
   -- its record is that of the state
-  pub next_record : (log : List LogRecord) (a : SessionTxn) (kept : List (Rid × Image)) (e : Rid × Image) → IsLogged log next.own → IsAmong a (undos_in table) → a.session ≡ who → a.undo.images ≡ kept ++ e ∷ []
+  pub next_record : (log : List LogRecord) (a : SessionTxn) (kept : List (Rid × Image)) (e : Rid × Image) → IsLogged log next.own → IsAmong a (undos_in table) → a.txn ≡ who → a.undo.images ≡ kept ++ e ∷ []
       → r ≡ record { txn = a.txn; previous = previous_of a.txn log; payload = Compensation e.0 e.1 (next_to_undo a.txn log) }
   next_record log a kept e logged among is images =
       next.record_is
@@ -136,7 +136,7 @@ module _ (table : Transactions) (who : ℕ) (id : Rid) (bytes cost : ℕ) (r : L
 pub earlier_undone : (table new : Transactions) (number : ℕ) → ((t : Txn) → IsAmong t (txns_in table) → last_of t < number) → {who lsn : ℕ} {rollback : Rollback} {e : UndoEntry}
     → OneBecomes who (IsAfterUndo lsn rollback e) (txns_in table) (txns_in new) → lsn ≡ number → (t : Txn) → IsAmong t (txns_in new) → last_of t < number + 1
 earlier_undone table new number earlier one same =
-    each_becomes (λ t. last_of t < number) (λ t. last_of t < number + 1) (record { numbers = table.numbers; sessions = table.sessions }) earlier one (λ t other session less. omega (arith, less))
+    each_becomes (λ t. last_of t < number) (λ t. last_of t < number + 1) table.numbers earlier one (λ t other less. omega (arith, less))
     (λ less. omega (arith, one.becomes.last, same))
 
 -- ---- its page

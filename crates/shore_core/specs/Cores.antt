@@ -1,6 +1,6 @@
 -- What a core has, and the state that it is in.
 use Rattle.std.specs.Prelude.{◌≡◌, ◌+◌, ◌-◌, ℕ, List, Bool, false, length}
-use Rattle.shore_disk.specs.Device.{History, may_leave}
+use Rattle.shore_disk.specs.Device.{DeviceHistory, may_leave}
 use Rattle.shore_disk.specs.declared.device.Disk as disk
 use Rattle.shore_log.specs.declared.tail.Tail as tail
 use Rattle.shore_types.specs.declared.layout.Geometry.{Geometry}
@@ -92,7 +92,7 @@ module _ {T V : Type 0} {G : tail.Ghosts T} {H : disk.Ghosts V} where
   geometry_of core = heaps.geometry_of core.heap
 
   -- the calls of its volume
-  abbrev pub history_of : Core T V G H → History
+  abbrev pub history_of : Core T V G H → DeviceHistory
   history_of core = heaps.history_of core.heap
 
   abbrev pub faults_of : Core T V G H → ℕ

@@ -1,5 +1,5 @@
 -- What a call comes to behind the refusals that stand before every call.
-use Rattle.std.specs.Prelude.{◌≡◌, ◌≢◌, ◌⊎◌, ℕ, List, None, Result, Ok, Err, IfErr, IfOk, true, false}
+use Rattle.std.specs.Prelude.{◌≡◌, ◌⊎◌, ℕ, List, Result, Ok, Err, IfErr, IfOk, true, false}
 use Rattle.shore_disk.specs.Cause.{HasCause}
 use Rattle.shore_disk.specs.declared.device.Disk as disk
 use Rattle.shore_log.specs.declared.tail.Tail as tail
@@ -20,6 +20,7 @@ use Rattle.shore_types.specs.declared.ids.PageId.{PageId}
 use Rattle.shore_types.specs.declared.layout.Geometry.{Geometry}
 use Rattle.shore_model.specs.declared.calls.Call.{Call}
 use Rattle.shore_model.specs.declared.calls.Call.TheVariants as call
+use Rattle.shore_model.specs.declared.calls.Outcome.TheVariants as outcome
 use Rattle.shore_model.specs.declared.log_records.LogRecord.{LogRecord}
 use Rattle.shore_model.specs.declared.step.Step.{Step}
 use Rattle.shore_model.specs.declared.step.Step.TheVariants.{Done, Waits, Refused, Nothing}
@@ -31,7 +32,6 @@ use Rattle.shore_types.specs.Images.{Image}
 use Rattle.shore_types.specs.declared.ids.Rid.{Rid}
 use Rattle.laws_room.specs.Claims.{SlotCounts}
 use Rattle.shore_sessions.specs.Standing.{changed}
-use Rattle.shore_txn.specs.Transactions.{undos_in}
 use Rattle.shore_sessions.specs.declared.waits.WaitingCall.{WaitingCall}
 use Rattle.laws_lives.specs.Views.{IsAmong}
 use Rattle.laws_calls.specs.States.{IsOfSession, State}
@@ -57,8 +57,8 @@ abbrev pub IsEarned : Geometry → (ℕ → List ℕ) → ℕ → (PageId → Ty
 IsEarned g disk last IsRead f = (device : Device) (offset : ℕ) → f ≡ fault.Damaged device offset → (device ≡ Volume)
     × ((id : PageId) × IsRead id × HasPage g id × (offset ≡ page_offset (page_number g id)) × HasNoPage (disk (page_number g id)) id last)
 
--- The pages that a call may read: that of its record, or those of its store. A rollback reads those of its transaction's changes, which its call does not
--- name: of it nothing more is said than that they lie in the volume.
+-- The pages that a call may read: that of its record, or those of its store. A rollback, by a resolve too, reads those of its transaction's changes, which
+-- its call does not name: of it nothing more is said than that they lie in the volume.
 abbrev pub Reads : Call → PageId → Type 0
 Reads (call.Get id) page = page ≡ id.page
 Reads (call.Insert store bytes) page = page.store ≡ store
@@ -74,7 +74,8 @@ Reads (call.BackTo index) page = Unit {0}
 Reads call.Commit page = ⊥
 Reads call.Abort page = Unit {0}
 Reads (call.Prepare global) page = ⊥
-Reads (call.Resolve global outcome) page = ⊥
+Reads (call.Resolve global outcome.Commit) page = ⊥
+Reads (call.Resolve global outcome.Abort) page = Unit {0}
 Reads call.InDoubt page = ⊥
 
 -- ---- replies
@@ -126,10 +127,6 @@ abbrev pub ForWriter : ℕ → List Request → Rid → State → (SessionTxn �
 ForWriter session rs id s P = (a : SessionTxn) → IsOfSession s session a → IsReached rs a.txn (Record id) EX → P a
 
 module _ {T V : Type 0} {G : tail.Ghosts T} {H : disk.Ghosts V} where
-  -- the session's transaction may do no more than end its rollback, which has begun
-  abbrev pub IsNotOpen : Core T V G H → ℕ → Fault → Type 0
-  IsNotOpen core session f = (f ≡ fault.MustAbort) × ((a : SessionTxn) × IsAmong a (undos_in (txns_of core)) × (a.session ≡ session) × (a.undo.rolling ≢ None))
-
   -- the volume is the same device, of the same length, and as honest
   pub record SameVolume (old new : Core T V G H) : Type 0 where
     pub geometry : geometry_of new ≡ geometry_of old
@@ -241,7 +238,8 @@ module _ {T V : Type 0} {G : tail.Ghosts T} {H : disk.Ghosts V} where
   forced_at call.Savepoint old new = old
   forced_at call.Commit old new = old
   forced_at (call.Prepare global) old new = old
-  forced_at (call.Resolve global outcome) old new = old
+  forced_at (call.Resolve global outcome.Commit) old new = old
+  forced_at (call.Resolve global outcome.Abort) old new = new
   forced_at call.InDoubt old new = old
 
   -- What stands beside each answer of a call that may read these pages: what no call changes is kept, at any moment each page of the volume is as it was or as it

@@ -30,12 +30,12 @@ use Rattle.shore_pool.specs.Pools.{HasInPlace, PoolHolds}
 use Rattle.shore_core.specs.Cores.{CoreComesTo, durable_of, geometry_of, heap_of}
 use Rattle.shore_core.specs.Replies.{Stays}
 
--- The newest change of the session's transaction is to be put back at this id, and this is its Compensation, which costs so much.
-pub record IsNext (table : Transactions) (who : ℕ) (id : Rid) (bytes cost : ℕ) (r : LogRecord) : Type 0 where
+-- The newest change of the transaction with this number is to be put back at this id, and this is its Compensation, which costs so much.
+pub record IsNext (table : Transactions) (t : ℕ) (id : Rid) (bytes cost : ℕ) (r : LogRecord) : Type 0 where
   pub own : Txn
   pub among : IsAmong own (txns_in table)
   pub there : IsAmong (as_session_txn own) (undos_in table)
-  pub session : own.session ≡ who
+  pub number : number_of own ≡ t
   pub some : 1 ≤ number_of own
   pub below : number_of own < 2 ^ 64
   pub behind : number_behind (entries_of own) < 2 ^ 64

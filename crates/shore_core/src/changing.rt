@@ -21,6 +21,7 @@ use shore_types::{Bytes, Fault, Lsn, Rid, Sequence};
 use std::alloc::Global;
 
 impl<T: Tail, V: Disk> Core<T, V> {
+    ghost use Rattle.shore_core.specs.Callers.{IsOfCaller};
     ghost use Rattle.shore_core.specs.Cores.{geometry_of, has_failed, heap_of, locks_of, txns_of};
     ghost use Rattle.shore_core.specs.Replies.{Changes, ForWriter, InEach, MakesNoCall, Served, ServesCall};
 
@@ -34,6 +35,7 @@ impl<T: Tail, V: Disk> Core<T, V> {
         requires there { HasSlot (geometry_of self.old) id }
         requires short { length bytes ≤ MAX_RECORD_BYTES }
         requires seated { IsSeatIn seat.now (txns_of self.old) }
+        requires own { IsOfCaller seat.now (txns_of self.old) }
         ensures served { has_failed self.old ≡ false → InEach (λ front disk before s store. ForWriter seat.now.session (locks_of self.old).requests id s (λ a. Served a (Call.Update id bytes) result self.old self.new front before s store)) self.old }
         ensures serves { ServesCall (λ page. page ≡ id.page) self.old result self.old self.new }
     {
@@ -48,6 +50,7 @@ impl<T: Tail, V: Disk> Core<T, V> {
     pub(crate) fn delete(&mut self, alloc: Global, seat: &Seat, id: Rid) -> Result<Step, Fault>
         requires there { HasSlot (geometry_of self.old) id }
         requires seated { IsSeatIn seat.now (txns_of self.old) }
+        requires own { IsOfCaller seat.now (txns_of self.old) }
         ensures served { has_failed self.old ≡ false → InEach (λ front disk before s store. ForWriter seat.now.session (locks_of self.old).requests id s (λ a. Served a (Call.Delete id) result self.old self.new front before s store)) self.old }
         ensures serves { ServesCall (λ page. page ≡ id.page) self.old result self.old self.new }
     {
@@ -71,6 +74,7 @@ impl<T: Tail, V: Disk> Core<T, V> {
         requires before { image_len before ≤ MAX_RECORD_BYTES }
         requires some { IsTrue (is_some before) ⊎ IsTrue (is_some after) }
         requires seated { IsSeatIn seat.now (txns_of self.old) }
+        requires own { IsOfCaller seat.now (txns_of self.old) }
         ensures changed { has_failed self.old ≡ false → InEach (λ front disk before s store. ForWriter seat.now.session (locks_of self.old).requests id s (λ a. Changes self.new a id after result front before s store)) self.old }
         ensures no_call { MakesNoCall self.old self.new }
         ensures refused { IfErr result (λ f. (f ≡ Fault.Memory) ⊎ (f ≡ Fault.LogFull)) }

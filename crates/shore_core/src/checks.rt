@@ -1,12 +1,12 @@
 //! What a call is refused with before its locks, and which lock it asks for.
 ghost use Rattle.std.specs.Prelude.{◌≡◌, IfErr, IsSome, IsTrue, OnOk, option_map};
-ghost use Rattle.shore_types.specs.Layout.{HasPage, HasSlot, HasStore};
+ghost use Rattle.shore_types.specs.Layout.{HasGranule, HasPage, HasSlot, HasStore};
 ghost use Rattle.shore_types.specs.Locking.{level_of};
 ghost use Rattle.shore_types.specs.declared.faults.Fault.TheVariants as Fault;
 ghost use Rattle.shore_types.specs.declared.locking.Granule.TheVariants as Granule;
 ghost use Rattle.shore_model.specs.Modes.{is_allowed};
 ghost use Rattle.laws_locks.specs.CallLocks as held;
-ghost use Rattle.laws_calls.specs.CallSteps.{HasGranule, IsTooLong, MayAsk, RefusesEarly, RefusesGranule, RefusesId, RefusesLock, on_conflict_of};
+ghost use Rattle.laws_calls.specs.CallSteps.{IsTooLong, MayAsk, RefusesEarly, RefusesGranule, RefusesId, RefusesLock, on_conflict_of};
 ghost use Rattle.laws_calls.specs.StateChanges.{IsShort};
 ghost use Rattle.shore_core.specs.declared.checks.Asked.{Asked};
 

@@ -14,6 +14,7 @@ use shore_txn::Seat;
 use shore_types::Fault;
 
 impl<T: Tail, V: Disk> Core<T, V> {
+    ghost use Rattle.shore_core.specs.Callers.{IsOfCaller};
     ghost use Rattle.shore_core.specs.Cores.{control_of, faults_of, has_failed, txns_of};
     ghost use Rattle.shore_core.specs.Replies.{InEach, Reads, Replied, ServesCall};
 
@@ -22,6 +23,7 @@ impl<T: Tail, V: Disk> Core<T, V> {
     pub(crate) fn commit(&mut self, seat: &Seat) -> Result<Step, Fault>
         requires free { HasNoWait seat.now.session (control_of self.old) }
         requires seated { IsSeatIn seat.now (txns_of self.old) }
+        requires own { IsOfCaller seat.now (txns_of self.old) }
         ensures replied { has_failed self.old ≡ false → InEach (λ front disk before s store. DoesNotWait s seat.now.session → Replied seat.now.session Call.Commit result self.old self.new front before s store) self.old }
         ensures serves { ServesCall (Reads Call.Commit) self.old result self.old self.new }
         ensures faults { faults_of self.new ≡ faults_of self.old }

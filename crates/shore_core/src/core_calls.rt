@@ -8,9 +8,10 @@ ghost use Rattle.laws_lives.specs.Recovery.{RecoveryState, after_force};
 ghost use Rattle.shore_model.specs.declared.step.Step.TheVariants as Step;
 ghost use Rattle.laws_calls.specs.StateChanges.{after_refusal, with_durable, with_failure};
 ghost use Rattle.shore_model.specs.Calls.{IsServed};
+ghost use Rattle.laws_calls.specs.CallSteps.{NeedsTxn};
 ghost use Rattle.laws_calls.specs.States.{DoesNotWait, State};
 ghost use Rattle.shore_sessions.specs.Controls.{HasNoWait, txns_in};
-ghost use Rattle.shore_txn.specs.Transactions.{HasNoTxnOf, room_in};
+ghost use Rattle.shore_txn.specs.Transactions.{HasNoTxnOf, IsSeatIn, room_in};
 ghost use Rattle.shore_txn.specs.Transactions as table;
 ghost use Rattle.shore_txn.specs.Txns.{last_of};
 ghost use Rattle.shore_txn.specs.declared.txn.Txn.{Txn};
@@ -21,6 +22,7 @@ use shore_heap::Heap;
 use shore_log::Tail;
 use shore_model::{Answer, Call, Step, Wait};
 use shore_sessions::Control;
+use shore_txn::Seat;
 use shore_types::layout::{ENDING_COST, LAST_LSN, LAST_TXN, MAX_TRANSACTIONS};
 use shore_types::{Fault, Geometry, Lsn, SessionId};
 use std::alloc::Global;
@@ -46,17 +48,23 @@ pub struct Core<T: Tail, V: Disk> {
 }
 
 impl<T: Tail, V: Disk> Core<T, V> {
+    ghost use Rattle.shore_core.specs.Callers.{IsOfCaller};
     ghost use Rattle.shore_core.specs.Cores.{CoreComesTo, IsIn, IsOver, control_of, durable_of, first_of, geometry_of, has_failed, heap_of, tail_of, txns_of, waiting_of};
     ghost use Rattle.shore_core.specs.Cores as cores;
     ghost use Rattle.shore_core.specs.Replies.{Called, Fails, InEach, Reads, Replied, Serves, ServesCall, Stays, Stepped, fault_at, forced_at};
 
     /// A call of a session. Refused in this order: `Failed` after a failure of a device or a damaged page, `Busy` while the session's earlier
-    /// call waits, `AlreadyActive` or `NoTransaction`, `MustAbort` if the transaction is a victim or its rollback was interrupted, as the call says before
-    /// its locks, as its locks are refused, and as the call says behind them; `Memory` if an allocation failed, and `NeedForce(n)` if a page needs a frame
-    /// that is free once the log is forced up to number n. A call that would wait in a cycle of which its transaction is the youngest is refused by `Deadlock`:
-    /// that transaction is a victim, keeps its locks and its changes, and takes only an abort. A refused call has changed nothing but locks that were taken,
-    /// and others that it doomed as victims, if it waited first; a rollback keeps the steps that it has made: the same call goes on with the others. But after
-    /// `Device` and `Damaged` every later call is refused. A call that waits for a lock goes on at a resume, once another has let it through.
+    /// call waits, `AlreadyActive` or `NoTransaction`, `IsPrepared` if the transaction is prepared, `MustAbort` if it is a victim or its rollback was
+    /// interrupted, as the call says before its locks, as its locks are refused, and as the call says behind them; `Memory` if an allocation failed, and
+    /// `NeedForce(n)` if a page needs a frame that is free once the log is forced up to number n. A call that would wait in a cycle of which its transaction is
+    /// the youngest is refused by `Deadlock`: that transaction is a victim, keeps its locks and its changes, and takes only an abort.
+    ///
+    /// A prepare is refused by `BadGlobalId`, `GlobalIdInUse` or `LogFull`; a resolve, of any session that is in no other transaction, by `AlreadyActive`,
+    /// `NoGlobalId`, or to commit by `MustAbort` once a resolve has decided to roll back.
+    ///
+    /// A refused call has changed nothing but locks that were taken, and others that it doomed as victims, if it waited first; a rollback keeps the steps that
+    /// it has made, that of a resolve its decision too: the same call goes on with the others. But after `Device` and `Damaged` every later call is refused.
+    /// A call that waits for a lock goes on at a resume, once another has let it through; one that waits for its record, once its force is told.
     pub fn call(&mut self, alloc: Global, session: SessionId, call: Call) -> Step
         requires { IsServed call }
 
@@ -112,29 +120,55 @@ impl<T: Tail, V: Disk> Core<T, V> {
     }
 
     fn dispatch(&mut self, alloc: Global, session: SessionId, call: Call) -> Result<Step, Fault>
-        requires served { IsServed call }
         requires free { HasNoWait session (control_of self.old) }
         ensures replied { has_failed self.old ≡ false → InEach (λ front disk before s store. DoesNotWait s session → Called session call result self.old self.new front before s store) self.old }
         ensures serves { ServesCall (Reads call) (forced_at call self.old self.new) result self.old self.new }
     {
-        // It is not looked for again: no call but its end takes a transaction out, so the seat stays right.
-        let Some(seat) = self.control.seat(session) else {
-            return self.without_txn(alloc, session, &call);
-        };
+        match call {
+            Call::Resolve(global, outcome) => self.resolve(alloc, session, global, outcome),
+            Call::InDoubt => self.list_in_doubt(alloc, session),
+            call => self.in_session(alloc, session, call),
+        }
+    }
+
+    // A call that is about the session's own transaction. That is not looked for again: no call but its end takes a transaction out, so the seat stays
+    // right.
+    fn in_session(&mut self, alloc: Global, session: SessionId, call: Call) -> Result<Step, Fault>
+        requires own { (call ≡ Call.Begin) ⊎ NeedsTxn call }
+        requires free { HasNoWait session (control_of self.old) }
+        ensures replied { has_failed self.old ≡ false → InEach (λ front disk before s store. DoesNotWait s session → Called session call result self.old self.new front before s store) self.old }
+        ensures serves { ServesCall (Reads call) (forced_at call self.old self.new) result self.old self.new }
+    {
+        match self.control.seat(session) {
+            Some(seat) => self.in_txn(alloc, &seat, call),
+            None => self.without_txn(alloc, session, &call),
+        }
+    }
+
+    // A call of a session that has a transaction.
+    fn in_txn(&mut self, alloc: Global, seat: &Seat, call: Call) -> Result<Step, Fault>
+        requires inner { (call ≡ Call.Begin) ⊎ NeedsTxn call }
+        requires free { HasNoWait seat.now.session (control_of self.old) }
+        requires seated { IsSeatIn seat.now (txns_of self.old) }
+        requires own { IsOfCaller seat.now (txns_of self.old) }
+        ensures replied { has_failed self.old ≡ false → InEach (λ front disk before s store. DoesNotWait s seat.now.session → Called seat.now.session call result self.old self.new front before s store) self.old }
+        ensures serves { ServesCall (Reads call) (forced_at call self.old self.new) result self.old self.new }
+    {
         match call {
             Call::Begin => Err(Fault::AlreadyActive),
-            Call::Commit => self.commit(&seat),
-            Call::Savepoint => self.savepoint(&seat),
-            Call::BackTo(index) => self.back_to(alloc, &seat, index),
-            Call::Abort => self.abort(alloc, &seat),
-            call => self.with_txn(alloc, &seat, call),
+            Call::Commit => self.commit(seat),
+            Call::Prepare(global) => self.prepare(alloc, seat, global),
+            Call::Savepoint => self.savepoint(seat),
+            Call::BackTo(index) => self.back_to(alloc, seat, index),
+            Call::Abort => self.abort(alloc, seat),
+            call => self.with_txn(alloc, seat, call),
         }
     }
 
     // A call of a session that has no transaction.
     fn without_txn(&mut self, alloc: Global, session: SessionId, call: &Call) -> Result<Step, Fault>
         requires none { HasNoTxnOf session (txns_of self.old) }
-        requires served { IsServed call.now }
+        requires own { (call.now ≡ Call.Begin) ⊎ NeedsTxn call.now }
         ensures replied { has_failed self.old ≡ false → InEach (λ front disk before s store. DoesNotWait s session → Called session call.now result self.old self.new front before s store) self.old }
         ensures serves { ServesCall (Reads call.now) (forced_at call.now self.old self.new) result self.old self.new }
     {

@@ -31,6 +31,7 @@ use shore_types::{Bytes, Fault, LogEnds, Lsn, PageId, Rid, Sequence, StoreId, Tx
 use std::alloc::Global;
 
 impl<T: Tail, V: Disk> Core<T, V> {
+    ghost use Rattle.shore_core.specs.Callers.{IsOfCaller};
     ghost use Rattle.shore_core.specs.Cores.{control_of, geometry_of, has_failed, heap_of, locks_of, txns_of};
     ghost use Rattle.shore_core.specs.Replies.{ForTxn, InEach, OnlyLocks, OnlyReads, Served, Serves, ServesCall, Stays};
 
@@ -47,6 +48,7 @@ impl<T: Tail, V: Disk> Core<T, V> {
         requires short { length bytes ≤ MAX_RECORD_BYTES }
         requires quiet { is_waiting txn (locks_of self.old).requests ≡ false }
         requires seated { IsSeatIn seat.now (txns_of self.old) }
+        requires own { IsOfCaller seat.now (txns_of self.old) }
         ensures served { has_failed self.old ≡ false → InEach (λ front disk before s plain. ForTxn seat.now.session txn s (λ a. Served a (Call.Insert store bytes) result self.old self.new front before s plain)) self.old }
         ensures serves { ServesCall (λ page. page.store ≡ store) self.old result self.old self.new }
     {

@@ -15,7 +15,9 @@ mod lockable;
 mod locking;
 mod making;
 mod nodes;
+mod preparing;
 mod reading;
+mod resolving;
 mod resuming;
 mod rolling_back;
 

@@ -19,12 +19,14 @@ use shore_types::{Fault, TxnId};
 use std::alloc::Global;
 
 impl<T: Tail, V: Disk> Core<T, V> {
+    ghost use Rattle.shore_core.specs.Callers.{IsOfCaller};
     ghost use Rattle.shore_core.specs.Cores.{control_of, geometry_of, has_failed, locks_of, txns_of};
     ghost use Rattle.shore_core.specs.Replies.{AskedFor, Called, ForTxn, InEach, Reads, Served, ServesCall};
 
     pub(crate) fn with_txn(&mut self, alloc: Global, seat: &Seat, call: Call) -> Result<Step, Fault>
         requires free { HasNoWait seat.now.session (control_of self.old) }
         requires seated { IsSeatIn seat.now (txns_of self.old) }
+        requires own { IsOfCaller seat.now (txns_of self.old) }
         ensures replied { IsSome (held.lock_asked_by call) → has_failed self.old ≡ false → InEach (λ front disk before s store. DoesNotWait s seat.now.session → Called seat.now.session call result self.old self.new front before s store) self.old }
         ensures serves { ServesCall (Reads call) self.old result self.old self.new }
     {
@@ -46,6 +48,7 @@ impl<T: Tail, V: Disk> Core<T, V> {
         call: Call,
     ) -> Result<Step, Fault>
         requires seated { IsSeatIn seat.now (txns_of self.old) }
+        requires own { IsOfCaller seat.now (txns_of self.old) }
         requires free { HasNoWait seat.now.session (control_of self.old) }
         requires quiet { is_waiting txn (locks_of self.old).requests ≡ false }
         ensures asked { IsSome (held.lock_asked_by call) → has_failed self.old ≡ false → InEach (λ front disk before s store.
@@ -81,6 +84,7 @@ impl<T: Tail, V: Disk> Core<T, V> {
         requires may { MayAsk (geometry_of self.old) call }
         requires reached { (lock : held.Asked) → held.lock_asked_by call ≡ Some lock → IsReached (locks_of self.old).requests txn lock.granule lock.mode }
         requires seated { IsSeatIn seat.now (txns_of self.old) }
+        requires own { IsOfCaller seat.now (txns_of self.old) }
         requires quiet { is_waiting txn (locks_of self.old).requests ≡ false }
         ensures served { has_failed self.old ≡ false → InEach (λ front disk before s store. ForTxn seat.now.session txn s (λ a. Served a call result self.old self.new front before s store)) self.old }
         ensures serves { ServesCall (Reads call) self.old result self.old self.new }

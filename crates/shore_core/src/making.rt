@@ -2,11 +2,14 @@
 ghost use Rattle.std.specs.Prelude.{◌≡◌, ◌+◌, ◌≤◌, [], ℕ, List, false, length};
 ghost use Rattle.shore_types.specs.declared.layout.TheConstants.{LAST_OPENED};
 ghost use Rattle.laws_calls.specs.States.{State, page_slots};
-ghost use Rattle.shore_heap.specs.Contents.{unclaimed};
 ghost use Rattle.shore_heap.specs.Heaps.{Shows};
 ghost use Rattle.shore_sessions.specs.Controls.{txns_in};
 ghost use Rattle.shore_sessions.specs.Standing.{HasControl};
 ghost use Rattle.shore_txn.specs.Transactions as table;
+ghost use Rattle.shore_txn.specs.Transactions.{kept_in, room_in};
+ghost use Rattle.shore_txn.specs.Txns.{last_of};
+ghost use Rattle.shore_txn.specs.declared.txn.Txn.{Txn};
+ghost use Rattle.laws_lives.specs.Views.{IsAmong};
 ghost use Rattle.laws_heaps.specs.LoggedHeaps.{IsStoreOf};
 ghost use Rattle.laws_lives.specs.Recovery.{RecoveryState};
 
@@ -21,8 +24,8 @@ use std::alloc::Global;
 impl<V: Disk> Core<PlainTail, V> {
     ghost use Rattle.shore_core.specs.Cores.{IsIn, IsKept, IsOver, durable_of, first_of, has_failed, heap_of, control_of, waiting_of};
 
-    /// The core over a heap whose pages show a log with no transaction under way: what a restart has left. `last` is the number of the log's last
-    /// record, and `durable` that up to which it is durable.
+    /// The core over a heap whose pages show a log with no transaction under way but those in doubt, which the control has: what a restart has left. `last` is
+    /// the number of the log's last record, and `durable` that up to which it is durable.
     pub fn over(
         alloc: Global,
         heap: Heap<V>,
@@ -30,9 +33,9 @@ impl<V: Disk> Core<PlainTail, V> {
         last: Lsn,
         durable: Lsn,
     ) -> Core<PlainTail, V>
-        requires active { table.txns_in (txns_in control) ≡ [] }
+        requires earlier { (t : Txn) → IsAmong t (table.txns_in (txns_in control)) → last_of t ≤ last }
         requires durable { durable ≤ last }
-        requires few { last + 1 ≤ LAST_OPENED }
+        requires few { last + 1 + (room_in (txns_in control)).reserved ≤ LAST_OPENED }
         ensures heap { heap_of result ≡ heap }
         ensures control { control_of result ≡ control }
         ensures durable { durable_of result ≡ durable }
@@ -42,7 +45,7 @@ impl<V: Disk> Core<PlainTail, V> {
 
         // It is in each state that table, log and pages stand for.
         ensures state { (front : List ℕ) (disk : ℕ → List ℕ) (s : State) → length s.log ≡ last → s.durable ≡ durable → s.failed ≡ false
-            → HasControl control s → Shows unclaimed heap front disk (page_slots s) → IsIn front disk s.log result s }
+            → HasControl control s → Shows (kept_in (txns_in control)) heap front disk (page_slots s) → IsIn front disk s.log result s }
         ensures over { (disk : ℕ → List ℕ) (s : State) (store : RecoveryState) → IsKept s store → IsStoreOf heap disk store → IsOver disk result s store }
     {
         Core {

@@ -3,25 +3,35 @@ ghost use Rattle.std.specs.Prelude.{◌≡◌, ◌≤◌, ◌<◌, IsFalse, IsTr
 ghost use Rattle.laws_lives.specs.Views.{IsAmong};
 ghost use Rattle.shore_model.specs.declared.step.Wait.TheVariants as Wait;
 ghost use Rattle.laws_calls.specs.States.{Waiting};
+ghost use Rattle.shore_sessions.specs.declared.waits.WaitingCall.{WaitingCall};
+ghost use Rattle.shore_core.specs.Resumes.{IsAwaited};
 
 use crate::core_calls::Core;
 use shore_disk::Disk;
 use shore_log::Tail;
-use shore_model::{Answer, Step, Wait};
+use shore_model::{Answer, Call, Step, Wait};
 use shore_sessions::WaitingCall;
 use shore_types::{Fault, Granule, Lsn, SessionId, TxnId};
 use std::alloc::Global;
 
+/// What it is that waits for its record.
+#[derive(Clone, Copy)]
+enum Awaited {
+    Commit,
+    Prepare,
+    Resolve,
+}
+
 impl<T: Tail, V: Disk> Core<T, V> {
-    ghost use Rattle.shore_core.specs.Cores.{has_failed, heap_of};
+    ghost use Rattle.shore_core.specs.Cores.{has_failed, heap_of, waits_of};
     ghost use Rattle.shore_core.specs.Resumes.{NoneWaits};
     ghost use Rattle.shore_core.specs.Replies.{ForTxn, InEach, MakesNoCall, ReadsWaiting, Resumed, Serves, fault_at};
 
-    /// Goes on with the session's call that waits. A commit is answered once its record is durable; a call that waits for a lock goes on once its
-    /// transaction waits no more, and may then be refused as any call, or wait for another granule of its path. Once a device has failed it is
+    /// Goes on with the session's call that waits. A commit, a prepare and a resolve are answered once the record of the decision is durable; a call that waits
+    /// for a lock goes on once its transaction waits no more, and may then be refused as any call, or wait for another granule of its path. Once a device has failed it is
     /// refused by `Failed`, once; and if its transaction has become the victim of a cycle, by `Deadlock`, once. With no call that waits there is nothing to do.
     pub fn resume(&mut self, alloc: Global, session: SessionId) -> Step
-        // A commit is answered only if the force of its record was told.
+        // A decision is answered only if the force of its record was told.
         ensures step { InEach (λ front disk before s store. Resumed session result self.old self.new front before s store) self.old }
         ensures serves { Serves (ReadsWaiting self.old session) self.old (fault_at result) self.old self.new }
         ensures still { IsTrue (has_failed self.old) → heap_of self.new ≡ heap_of self.old }
@@ -31,20 +41,21 @@ impl<T: Tail, V: Disk> Core<T, V> {
             return Step::Nothing;
         };
         let (txn, wait) = (waiting.txn, waiting.wait);
+        let awaited = awaited_by(&waiting.call);
         if self.failed {
             self.control.take_wait(session);
             return Step::Refused(Fault::Failed);
         }
         match wait {
-            Wait::Durable(number) => self.resume_commit(session, number),
+            Wait::Durable(number) => self.resume_durable(session, number, awaited),
             Wait::Lock(granule) => self.resume_call(alloc, session, txn, granule),
         }
     }
 
-    // A commit's locks go with its answer.
-    fn resume_commit(&mut self, session: SessionId, number: Lsn) -> Step
-        ensures step { has_failed self.old ≡ false → InEach (λ front disk before s store. (w : Waiting) → IsAmong w s.waiting → w.session ≡ session → w.wait ≡ Wait.Durable number
-            → Resumed session result self.old self.new front before s store) self.old }
+    // A call that waits for its record. A commit's locks go with its answer, and those of a prepare stay; those of a resolve are gone.
+    fn resume_durable(&mut self, session: SessionId, number: Lsn, awaited: Awaited) -> Step
+        ensures step { has_failed self.old ≡ false → InEach (λ front disk before s store. (w : WaitingCall) → IsAmong w (waits_of self.old) → w.session ≡ session → w.wait ≡ Wait.Durable number
+            → IsAwaited w.call awaited → Resumed session result self.old self.new front before s store) self.old }
         ensures plain { fault_at result ≡ Ok tt }
         ensures no_call { MakesNoCall self.old self.new }
         ensures heap { heap_of self.new ≡ heap_of self.old }
@@ -52,8 +63,20 @@ impl<T: Tail, V: Disk> Core<T, V> {
         if awaits_force(number, self.durable) {
             return Step::Waits(Wait::Durable(number));
         }
-        self.control.end_commit(session);
-        Step::Done(Answer::Committed)
+        match awaited {
+            Awaited::Commit => {
+                self.control.end_commit(session);
+                Step::Done(Answer::Committed)
+            }
+            Awaited::Prepare => {
+                self.control.end_prepare(session);
+                Step::Done(Answer::Prepared)
+            }
+            Awaited::Resolve => {
+                self.control.end_resolve(session);
+                Step::Done(Answer::Resolved)
+            }
+        }
     }
 
     // The table is asked first, so that a call that waits on costs one look. While a call waits its transaction is under way. The session of a victim is told
@@ -89,8 +112,32 @@ impl<T: Tail, V: Disk> Core<T, V> {
     }
 }
 
+// What a call is, if it is one of those that wait for their records.
+fn awaited_by(call: &Call) -> Awaited
+    ensures { IsAwaited call.now result }
+{
+    match call {
+        Call::Prepare(_) => Awaited::Prepare,
+        Call::Resolve(..) => Awaited::Resolve,
+        Call::Commit
+        | Call::Begin
+        | Call::Get(_)
+        | Call::GetForUpdate(_)
+        | Call::Insert(..)
+        | Call::Update(..)
+        | Call::Delete(_)
+        | Call::Scan(_)
+        | Call::Lock(..)
+        | Call::TryLock(..)
+        | Call::Savepoint
+        | Call::BackTo(_)
+        | Call::Abort
+        | Call::InDoubt => Awaited::Commit,
+    }
+}
+
 // Whether a record of this number is still to be forced.
-fn awaits_force(number: Lsn, durable: Lsn) -> bool
+pub(crate) fn awaits_force(number: Lsn, durable: Lsn) -> bool
     ensures awaits { IsTrue result → durable < number }
     ensures durable { IsFalse result → number ≤ durable }
 {

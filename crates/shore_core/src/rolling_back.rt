@@ -1,5 +1,5 @@
 //! Savepoints and rollbacks.
-ghost use Rattle.std.specs.Prelude.{◌≡◌, ◌⊎◌, ◌↔◌, ◌≤◌, ◌++◌, ◌∷◌, [], None, Some, List, IfErr, IfOk, IfSome, IfNone, IsSomeAnd, IsTrue, OnOk, Ok, false, is_some, length};
+ghost use Rattle.std.specs.Prelude.{◌≡◌, ◌⊎◌, ◌↔◌, ◌≤◌, ◌++◌, ◌∷◌, [], ℕ, None, Some, List, IfErr, IfOk, IfSome, IfNone, IsSomeAnd, IsTrue, OnOk, Ok, false, is_some, length};
 ghost use Rattle.shore_types.specs.Images.{Image, image_len};
 ghost use Rattle.shore_types.specs.Layout.{HasPage};
 ghost use Rattle.shore_types.specs.declared.faults.Fault.TheVariants as Fault;
@@ -8,18 +8,20 @@ ghost use Rattle.shore_model.specs.declared.calls.Call.TheVariants as Call;
 ghost use Rattle.shore_model.specs.declared.log_records.LogRecord.{LogRecord};
 ghost use Rattle.shore_page.specs.Room.{Fits};
 ghost use Rattle.shore_heap.specs.Heaps.{frame_of};
-ghost use Rattle.laws_lives.specs.OwnSeats.{HasOwnSeats};
 ghost use Rattle.laws_lives.specs.Sessions.{SessionTxn};
 ghost use Rattle.laws_lives.specs.UndoLists.{MayRoll, least_kept};
 ghost use Rattle.shore_model.specs.declared.rollbacks.Rollback.TheVariants as Rollback;
 ghost use Rattle.laws_calls.specs.Rollbacks.{Interrupts};
-ghost use Rattle.laws_calls.specs.States.{DoesNotWait, IsOfSession, State};
-ghost use Rattle.shore_sessions.specs.Controls.{HasNoWait};
-ghost use Rattle.shore_sessions.specs.Standing.{HasControl};
+ghost use Rattle.laws_calls.specs.States.{DoesNotWait, HasPrepared, IsOfSession, State};
+ghost use Rattle.laws_calls.specs.Resolves.{IsRollingBack};
+ghost use Rattle.shore_sessions.specs.Controls.{HasNoWait, HasWaitRoom};
+ghost use Rattle.shore_sessions.specs.Standing.{HasControl, IsAt};
 ghost use Rattle.laws_lives.specs.Views.{IsAmong};
-ghost use Rattle.shore_txn.specs.Transactions.{IsSeatIn, undos_in};
+ghost use Rattle.shore_txn.specs.Transactions.{AtSeat, IsSeatIn, undos_in};
 ghost use Rattle.shore_txn.specs.Transactions as table;
-ghost use Rattle.shore_txn.specs.Txns.{as_session_txn, rolling_of};
+ghost use Rattle.shore_txn.specs.TxnStates.{is_in_doubt};
+ghost use Rattle.shore_txn.specs.Txns.{as_session_txn, number_of, rolling_of, state_of};
+ghost use Rattle.shore_txn.specs.declared.txn_state.TxnState.TheVariants as state;
 ghost use Rattle.shore_txn.specs.declared.txn.Txn.{Txn};
 ghost use Rattle.shore_core.specs.Undoing.{IsNext};
 
@@ -48,28 +50,48 @@ struct Undo {
 }
 
 impl<T: Tail, V: Disk> Core<T, V> {
+    ghost use Rattle.shore_core.specs.Callers.{IsNotInDoubt, IsNotOpen, IsOfCaller, MayPutBack};
     ghost use Rattle.shore_core.specs.Cores.{control_of, geometry_of, has_failed, heap_of, last_of, txns_of, waits_of};
-    ghost use Rattle.shore_core.specs.Replies.{InEach, IsNotOpen, MakesNoCall, OnlyReads, Reads, Replied, Serves, ServesCall, Stays};
+    ghost use Rattle.shore_core.specs.Replies.{InEach, MakesNoCall, OnlyReads, Reads, Replied, Serves, ServesCall, Stays};
+    ghost use Rattle.shore_core.specs.Resolving.{EndsRollback};
     ghost use Rattle.shore_core.specs.Undoing.{Ends, PutsBack, Rewinds, Unwinds, WritesBack};
 
-    // The transaction at a seat, if it may do more than end a rollback.
+    // The transaction of the session that calls, if it is not prepared and may do more than end a rollback.
     pub(crate) fn active(&self, seat: &Seat) -> Result<&Txn, Fault>
-        requires { IsSeatIn seat.now (txns_of self.now) }
-        ensures some { IfOk result (λ t. IsAmong t.now (table.txns_in (txns_of self.now)) × (t.now.session ≡ seat.now.session)) }
+        requires seated { IsSeatIn seat.now (txns_of self.now) }
+        requires own { IsOfCaller seat.now (txns_of self.now) }
+        ensures some { IfOk result (λ t. IsAmong t.now (table.txns_in (txns_of self.now)) × (number_of t.now ≡ seat.now.txn)) }
         ensures there { IfOk result (λ t. IsAmong (as_session_txn t.now) (undos_in (txns_of self.now))) }
-        ensures of_session { IfOk result (λ t. (s : State) → HasControl (control_of self.now) s → HasOwnSeats s.sessions → IsOfSession s seat.now.session (as_session_txn t.now)) }
+        ensures of_session { IfOk result (λ t. (s : State) → HasControl (control_of self.now) s → IsOfSession s seat.now.session (as_session_txn t.now)) }
         ensures whole { IfOk result (λ t. (as_session_txn t.now).undo.rolling ≡ None) }
-        ensures refused { IfErr result (IsNotOpen self.now seat.now.session) }
+        ensures open { OnOk result (AtSeat seat.now (txns_of self.now) (λ t. state_of t ≡ state.Active)) }
+        ensures refused { IfErr result (λ f. (f ≡ Fault.MustAbort) ⊎ (f ≡ Fault.IsPrepared)) }
+        ensures not_open { IfErr result (λ f. (s : State) → HasControl (control_of self.now) s → IsNotOpen s seat.now.session f) }
     {
         let own = self.control.txn(seat);
         match own.state() {
             TxnState::Active => Ok(own),
             TxnState::RollingBack(_) => Err(Fault::MustAbort),
+            TxnState::Preparing | TxnState::Prepared => Err(Fault::IsPrepared),
         }
     }
 
+    // One that is prepared is not rolled back by its session.
+    fn check_unprepared(&self, seat: &Seat) -> Result<(), Fault>
+        requires seated { IsSeatIn seat.now (txns_of self.now) }
+        requires own { IsOfCaller seat.now (txns_of self.now) }
+        ensures unprepared { OnOk result (IsNotInDoubt seat.now (txns_of self.now)) }
+        ensures refused { IfErr result (λ f. (f ≡ Fault.IsPrepared) × ((s : State) → HasControl (control_of self.now) s → HasPrepared s seat.now.session)) }
+    {
+        if self.control.txn(seat).is_in_doubt() {
+            return Err(Fault::IsPrepared);
+        }
+        Ok(())
+    }
+
     pub(crate) fn savepoint(&mut self, seat: &Seat) -> Result<Step, Fault>
-        requires { IsSeatIn seat.now (txns_of self.old) }
+        requires seated { IsSeatIn seat.now (txns_of self.old) }
+        requires own { IsOfCaller seat.now (txns_of self.old) }
         ensures replied { has_failed self.old ≡ false → InEach (λ front disk before s store. DoesNotWait s seat.now.session → Replied seat.now.session Call.Savepoint result self.old self.new front before s store) self.old }
         ensures serves { ServesCall (Reads Call.Savepoint) self.old result self.old self.new }
         ensures heap { heap_of self.new ≡ heap_of self.old }
@@ -90,9 +112,11 @@ impl<T: Tail, V: Disk> Core<T, V> {
     ) -> Result<Step, Fault>
         requires free { HasNoWait seat.now.session (control_of self.old) }
         requires seated { IsSeatIn seat.now (txns_of self.old) }
+        requires own { IsOfCaller seat.now (txns_of self.old) }
         ensures replied { has_failed self.old ≡ false → InEach (λ front disk before s store. DoesNotWait s seat.now.session → Replied seat.now.session (Call.BackTo index) result self.old self.new front before s store) self.old }
         ensures serves { ServesCall (Reads (Call.BackTo index)) self.new result self.old self.new }
     {
+        self.check_unprepared(seat)?;
         let own = self.control.txn(seat);
         if !may_go_back(own.state(), index) {
             return Err(Fault::MustAbort);
@@ -108,28 +132,33 @@ impl<T: Tail, V: Disk> Core<T, V> {
     pub(crate) fn abort(&mut self, alloc: Global, seat: &Seat) -> Result<Step, Fault>
         requires free { HasNoWait seat.now.session (control_of self.old) }
         requires seated { IsSeatIn seat.now (txns_of self.old) }
+        requires own { IsOfCaller seat.now (txns_of self.old) }
         ensures replied { has_failed self.old ≡ false → InEach (λ front disk before s store. DoesNotWait s seat.now.session → Replied seat.now.session (Call.Abort) result self.old self.new front before s store) self.old }
         ensures serves { ServesCall (Reads Call.Abort) self.new result self.old self.new }
     {
+        self.check_unprepared(seat)?;
         self.put_back(alloc, seat, Rollback::Whole, 0)?;
         self.end(seat)?;
         Ok(Step::Done(Answer::Aborted))
     }
 
-    // Puts the newest changes of a session's transaction back until so many are left. What was put back before a refusal stays so, and the same rollback
-    // goes on with the rest.
-    fn put_back(
+    // Puts the newest changes of the transaction at a seat back until so many are left: the caller's own, or one that it resolves. What was put back before a
+    // refusal stays so, and the same rollback goes on with the rest.
+    pub(crate) fn put_back(
         &mut self,
         alloc: Global,
         seat: &Seat,
         rollback: Rollback,
         least: usize,
     ) -> Result<(), Fault>
-        requires { IsSeatIn seat.now (txns_of self.old) }
-        ensures unwinds { has_failed self.old ≡ false → InEach (λ front disk before s store. (a : SessionTxn) → DoesNotWait s seat.now.session → IsOfSession s seat.now.session a → MayRoll a.undo rollback
-            → least ≡ least_kept a.undo rollback → least ≤ length a.undo.images → Unwinds self.new a rollback least result front before s store) self.old }
+        requires seated { IsSeatIn seat.now (txns_of self.old) }
+        requires unprepared { IsNotInDoubt seat.now (txns_of self.old) }
+        ensures unwinds { has_failed self.old ≡ false → InEach (λ front disk before s store. (a : SessionTxn) → DoesNotWait s seat.now.session → IsAt seat.now s a
+            → MayPutBack s seat.now.session a rollback → MayRoll a.undo rollback → least ≡ least_kept a.undo rollback → least ≤ length a.undo.images → Unwinds self.new a rollback least result front before s store) self.old }
         ensures seated { IsSeatIn seat.now (txns_of self.new) }
+        ensures unprepared { IsNotInDoubt seat.now (txns_of self.new) }
         ensures waits { waits_of self.new ≡ waits_of self.old }
+        ensures memory { HasWaitRoom (control_of self.old) → HasWaitRoom (control_of self.new) }
         ensures serves { Serves (Reads Call.Abort) self.new result self.old self.new }
         ensures failed { has_failed self.new ≡ has_failed self.old }
     {
@@ -140,7 +169,7 @@ impl<T: Tail, V: Disk> Core<T, V> {
         Ok(())
     }
 
-    // Puts the newest change of a session's transaction back. Its page is fetched while the image is still in the undo list, so that it comes with the
+    // Puts the newest change of the transaction at a seat back. Its page is fetched while the image is still in the undo list, so that it comes with the
     // claim: only `log_undo` takes the image out.
     fn put_back_newest(
         &mut self,
@@ -148,13 +177,16 @@ impl<T: Tail, V: Disk> Core<T, V> {
         seat: &Seat,
         rollback: Rollback,
     ) -> Result<(), Fault>
-        requires { IsSeatIn seat.now (txns_of self.old) }
-        ensures put_back { has_failed self.old ≡ false → InEach (λ front disk before s store. (a : SessionTxn) (kept : List (Rid × Image)) (e : Rid × Image) → IsOfSession s seat.now.session a
+        requires seated { IsSeatIn seat.now (txns_of self.old) }
+        requires unprepared { IsNotInDoubt seat.now (txns_of self.old) }
+        ensures put_back { has_failed self.old ≡ false → InEach (λ front disk before s store. (a : SessionTxn) (kept : List (Rid × Image)) (e : Rid × Image) → IsAt seat.now s a
             → a.undo.images ≡ kept ++ e ∷ [] → PutsBack self.new a kept e rollback result front before s store) self.old }
         ensures rewinds { OnOk result (Rewinds self.old self.new) }
         ensures longer { last_of self.old ≤ last_of self.new }
         ensures seated { IsSeatIn seat.now (txns_of self.new) }
+        ensures unprepared { IsNotInDoubt seat.now (txns_of self.new) }
         ensures waits { waits_of self.new ≡ waits_of self.old }
+        ensures memory { HasWaitRoom (control_of self.old) → HasWaitRoom (control_of self.new) }
         ensures serves { Serves (Reads Call.Abort) self.new result self.old self.new }
         ensures failed { has_failed self.new ≡ has_failed self.old }
     {
@@ -184,19 +216,22 @@ impl<T: Tail, V: Disk> Core<T, V> {
         self.fetch(alloc, id.page)
     }
 
-    // Logs the Compensation of the newest change of the session's transaction, and makes it on its page, which is in a frame and has room. All memory was
+    // Logs the Compensation of the newest change of the transaction at a seat, and makes it on its page, which is in a frame and has room. All memory was
     // taken before, and behind the record nothing can fail.
     fn log_undo(&mut self, seat: &Seat, rollback: Rollback, undo: Undo) -> Result<(), Fault>
         requires seated { IsSeatIn seat.now (txns_of self.old) }
-        requires next { IsNext (txns_of self.old) seat.now.session undo.id undo.bytes undo.cost undo.logged }
+        requires unprepared { IsNotInDoubt seat.now (txns_of self.old) }
+        requires next { IsNext (txns_of self.old) seat.now.txn undo.id undo.bytes undo.cost undo.logged }
         requires there { HasPage (geometry_of self.old) undo.id.page }
         requires fits { IsSomeAnd (frame_of (heap_of self.old) undo.id.page) (λ f. Fits f.page.slots undo.id.slot undo.bytes) }
-        ensures put_back { has_failed self.old ≡ false → InEach (λ front disk before s store. (a : SessionTxn) (kept : List (Rid × Image)) (e : Rid × Image) → IsOfSession s seat.now.session a
+        ensures put_back { has_failed self.old ≡ false → InEach (λ front disk before s store. (a : SessionTxn) (kept : List (Rid × Image)) (e : Rid × Image) → IsAt seat.now s a
             → a.undo.images ≡ kept ++ e ∷ [] → PutsBack self.new a kept e rollback result front before s store) self.old }
         ensures rewinds { OnOk result (Rewinds self.old self.new) }
         ensures longer { last_of self.old ≤ last_of self.new }
         ensures seated { IsSeatIn seat.now (txns_of self.new) }
+        ensures unprepared { IsNotInDoubt seat.now (txns_of self.new) }
         ensures waits { waits_of self.new ≡ waits_of self.old }
+        ensures memory { HasWaitRoom (control_of self.old) → HasWaitRoom (control_of self.new) }
         ensures no_call { MakesNoCall self.old self.new }
         ensures refused { IfErr result (λ f. f ≡ Fault.Memory) }
     {
@@ -211,11 +246,11 @@ impl<T: Tail, V: Disk> Core<T, V> {
         Ok(())
     }
 
-    // What puts the newest change of a session's transaction back.
+    // What puts the newest change of the transaction at a seat back.
     fn undo_of(&self, alloc: Global, seat: &Seat) -> Result<Option<Undo>, Fault>
         requires { IsSeatIn seat.now (txns_of self.now) }
-        ensures some { IfOk result (λ o. IfSome o (λ u. IsNext (txns_of self.now) seat.now.session u.id u.bytes u.cost u.logged)) }
-        ensures none { IfOk result (λ o. IfNone o ((a : SessionTxn) → IsAmong a (undos_in (txns_of self.now)) → a.session ≡ seat.now.session → a.undo.images ≡ [])) }
+        ensures some { IfOk result (λ o. IfSome o (λ u. IsNext (txns_of self.now) seat.now.txn u.id u.bytes u.cost u.logged)) }
+        ensures none { IfOk result (λ o. IfNone o ((a : SessionTxn) → IsAmong a (undos_in (txns_of self.now)) → a.txn ≡ seat.now.txn → a.undo.images ≡ [])) }
         ensures memory { IfErr result (λ f. f ≡ Fault.Memory) }
     {
         let own = self.control.txn(seat);
@@ -239,13 +274,18 @@ impl<T: Tail, V: Disk> Core<T, V> {
         }))
     }
 
-    // Logs the End of a session's transaction, if it has logged anything, and ends it. Its room was reserved at the begin, and goes with it. All its changes
-    // are put back by then; one that has any left is not ended.
-    fn end(&mut self, seat: &Seat) -> Result<(), Fault>
+    // Logs the End of the transaction at a seat, if it has logged anything, and ends it. Its room was reserved at the begin, and goes with it. All its changes
+    // are put back by then; one that has any left is not ended. One that a resolve rolls back has its decision logged, and is not answered with this.
+    pub(crate) fn end(&mut self, seat: &Seat) -> Result<(), Fault>
         requires free { HasNoWait seat.now.session (control_of self.old) }
         requires seated { IsSeatIn seat.now (txns_of self.old) }
-        ensures ended { has_failed self.old ≡ false → InEach (λ front disk before s store. (a : SessionTxn) → IsOfSession s seat.now.session a → a.undo.images ≡ []
+        requires unprepared { IsNotInDoubt seat.now (txns_of self.old) }
+        ensures ended { has_failed self.old ≡ false → InEach (λ front disk before s store. (a : SessionTxn) → IsOfSession s seat.now.session a → a.txn ≡ seat.now.txn → a.undo.images ≡ []
             → Ends self.new a result front before s store) self.old }
+        ensures resolves { has_failed self.old ≡ false → InEach (λ front disk before s store. (a : SessionTxn) (global : List ℕ) → IsAt seat.now s a → IsRollingBack s a global → a.undo.images ≡ []
+            → EndsRollback self.new a global result front before s store) self.old }
+        ensures waits { waits_of self.new ≡ waits_of self.old }
+        ensures memory { HasWaitRoom (control_of self.old) → HasWaitRoom (control_of self.new) }
         ensures refused { IfErr result (λ f. (f ≡ Fault.MustAbort) ⊎ (f ≡ Fault.Memory)) }
         ensures no_call { MakesNoCall self.old self.new }
         ensures heap { heap_of self.new ≡ heap_of self.old }
@@ -274,13 +314,14 @@ impl<T: Tail, V: Disk> Core<T, V> {
     }
 }
 
-// Whether a transaction may go back to a savepoint: a rollback that has begun only goes on.
+// Whether a transaction may go back to a savepoint: a rollback that has begun only goes on, and one that is prepared waits for its decision.
 fn may_go_back(state: TxnState, index: usize) -> bool
-    ensures { IsTrue result ↔ ((rolling_of state ≡ None) ⊎ (rolling_of state ≡ Some (Rollback.To index))) }
+    ensures { IsTrue result ↔ ((is_in_doubt state ≡ false) × ((rolling_of state ≡ None) ⊎ (rolling_of state ≡ Some (Rollback.To index)))) }
 {
     match state {
         TxnState::Active => true,
         TxnState::RollingBack(Rollback::To(begun)) => begun == index,
         TxnState::RollingBack(Rollback::Whole) => false,
+        TxnState::Preparing | TxnState::Prepared => false,
     }
 }

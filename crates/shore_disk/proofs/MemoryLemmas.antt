@@ -4,7 +4,7 @@ use Rattle.std.specs.Global.{Vec}
 use Rattle.std.proofs.lemmas.List.{length-replicate, take_more, ext_get_or, get_or-drop, get_or-take, get_or-append_right, get_or_append_left, length-take-le, length-drop, take_at, drop_at}
 use Rattle.std.proofs.lemmas.List.Elements.{All-head, All-tail}
 use Rattle.std.proofs.lemmas.Bool.{cases_lt}
-use Rattle.shore_disk.specs.Device.{Call, wrote, synced, History, Torn, overwritten, seen_after, seen, noted, LeftAfter}
+use Rattle.shore_disk.specs.Device.{Call, wrote, synced, DeviceHistory, Torn, overwritten, seen_after, seen, noted, LeftAfter}
 use Rattle.shore_disk.specs.declared.memory.Place.{Place}
 use Rattle.shore_disk.specs.declared.memory.Pick.{Pick}
 use Rattle.shore_disk.specs.declared.memory.Pick.TheVariants.{Old, New, Noise}
@@ -46,7 +46,7 @@ picked_new first (wrote at bytes ∷ older) = ap (λ (image : List ℕ). overwri
 picked_new first (synced ∷ older) = refl
 
 -- the image that is picked from what is kept
-pub picked_is : (pick : Pick) (stable bytes : List ℕ) (places : List Place) (h : History) → bytes ≡ seen h → stable ≡ picked_after Old h.first h.calls
+pub picked_is : (pick : Pick) (stable bytes : List ℕ) (places : List Place) (h : DeviceHistory) → bytes ≡ seen h → stable ≡ picked_after Old h.first h.calls
     → with_noise stable places ≡ picked_after Noise h.first h.calls → laid bytes stable places ≡ bytes → picked_from pick stable bytes places ≡ picked_after pick h.first h.calls
 picked_is Old stable bytes places h seen lost noise differ = lost
 picked_is New stable bytes places h seen lost noise differ = differ ∙ seen ∙ sym (picked_new h.first h.calls)

@@ -1,6 +1,6 @@
 -- A device in memory or over a file, seen as the one that it is.
 use Rattle.std.specs.Prelude.{ℕ, Bool, true, false}
-use Rattle.shore_disk.specs.Device.{History}
+use Rattle.shore_disk.specs.Device.{DeviceHistory}
 use Rattle.shore_disk.specs.FileDisk.{file_history}
 use Rattle.shore_disk.specs.FileDisk as file
 use Rattle.shore_disk.specs.MemDisk as memory
@@ -12,7 +12,7 @@ abbrev pub is_in_memory : AnyDisk → Bool
 is_in_memory (any.Memory d) = true
 is_in_memory (any.File d) = false
 
-abbrev pub any_history : AnyDisk → History
+abbrev pub any_history : AnyDisk → DeviceHistory
 any_history (any.Memory d) = memory.history_of d
 any_history (any.File d) = file_history d
 

@@ -7,7 +7,7 @@ pub data Call : Type 0 where
   synced : Call
 
 -- the bytes at first, all of them stable, and the calls since, the newest first
-pub record History : Type 0 where
+pub record DeviceHistory : Type 0 where
   pub first : List ℕ
   pub calls : List Call
 
@@ -37,36 +37,36 @@ LeftSince first [] t c = LeftAfter first [] c
 LeftSince first (call ∷ older) t c = LeftAfter first (call ∷ older) c ⊎ ((t ≤ length older) × LeftSince first older t c)
 
 -- the device's length
-abbrev pub size : History → ℕ
+abbrev pub size : DeviceHistory → ℕ
 size h = length h.first
 
 -- the bytes as read
-abbrev pub seen : History → List ℕ
+abbrev pub seen : DeviceHistory → List ℕ
 seen h = seen_after h.first h.calls
 
 -- what a crash now may leave
-abbrev pub may_leave : History → List ℕ → Type 0
+abbrev pub may_leave : DeviceHistory → List ℕ → Type 0
 may_leave h = LeftAfter h.first h.calls
 
 -- the moment, as a number that does not fall
-abbrev pub moment : History → ℕ
+abbrev pub moment : DeviceHistory → ℕ
 moment h = length h.calls
 
 -- what a crash at some moment since t may have left
-abbrev pub left_since : History → ℕ → List ℕ → Type 0
+abbrev pub left_since : DeviceHistory → ℕ → List ℕ → Type 0
 left_since h = LeftSince h.first h.calls
 
 -- one call more
-abbrev pub noted : History → Call → History
+abbrev pub noted : DeviceHistory → Call → DeviceHistory
 noted h call = record { first = h.first; calls = call ∷ h.calls }
 
 -- A write: at an error any bytes stand in its range, or it was not begun.
-abbrev pub Writes : {E : Type 0} → ℕ → List ℕ → Result Unit E → History → History → Type 0
+abbrev pub Writes : {E : Type 0} → ℕ → List ℕ → Result Unit E → DeviceHistory → DeviceHistory → Type 0
 Writes at bytes (Ok _) old new = new ≡ noted old (wrote at bytes)
 Writes at bytes (Err _) old new = (new ≡ old) ⊎ ((torn : List ℕ) × (length torn ≡ length bytes) × (new ≡ noted old (wrote at torn)))
 
 -- A sync: at an error it did nothing.
-abbrev pub Syncs : {E : Type 0} → Result Unit E → History → History → Type 0
+abbrev pub Syncs : {E : Type 0} → Result Unit E → DeviceHistory → DeviceHistory → Type 0
 Syncs (Ok _) old new = new ≡ noted old synced
 Syncs (Err _) old new = new ≡ old
 
@@ -84,19 +84,19 @@ abbrev pub Only : List ℕ → (List ℕ → Type 0) → Type 0
 Only image outcomes = (c : List ℕ) → outcomes c → c ≡ image
 
 -- the same device, some calls later
-abbrev pub IsLater : History → History → Type 0
+abbrev pub IsLater : DeviceHistory → DeviceHistory → Type 0
 IsLater old new = (more : List Call) × (new ≡ record { first = old.first; calls = more ++ old.calls })
 
 -- A crash at any moment from old to new, both included, leaves an image that has P.
-pub record LeavesOnly (old new : History) (P : List ℕ → Type 0) : Type 0 where
+pub record LeavesOnly (old new : DeviceHistory) (P : List ℕ → Type 0) : Type 0 where
   pub later : IsLater old new
   pub each : (c : List ℕ) → left_since new (moment old) c → P c
 
 -- what a crash may have left of what stood before, with a range of n bytes torn
-abbrev pub TornFrom : ℕ → ℕ → History → List ℕ → Type 0
+abbrev pub TornFrom : ℕ → ℕ → DeviceHistory → List ℕ → Type 0
 TornFrom at n old c = (d : List ℕ) × may_leave old d × Torn at n d c
 
 -- these bytes are on the device, and a crash leaves nothing else
-pub record Stands (h : History) (image : List ℕ) : Type 0 where
+pub record Stands (h : DeviceHistory) (image : List ℕ) : Type 0 where
   pub read : seen h ≡ image
   pub only : Only image (may_leave h)

@@ -1,6 +1,6 @@
 -- What a device over a file shows of itself.
 use Rattle.std.specs.Prelude.{ℕ, [], replicate}
-use Rattle.shore_disk.specs.Device.{History}
+use Rattle.shore_disk.specs.Device.{DeviceHistory}
 use Rattle.shore_disk.specs.declared.file.FileDisk.{FileDisk}
 
 -- how many of its calls have failed, up to 2^64 - 1
@@ -8,5 +8,5 @@ abbrev pub failures_of : FileDisk → ℕ
 failures_of d = d.failures
 
 -- its length; of its bytes nothing is told
-abbrev pub file_history : FileDisk → History
+abbrev pub file_history : FileDisk → DeviceHistory
 file_history d = record { first = replicate d.len 0; calls = [] }

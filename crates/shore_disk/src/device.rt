@@ -1,6 +1,6 @@
 //! A device of fixed length, and the model of a disk that the crates above are proved against.
 ghost use Rattle.std.specs.Prelude.{◌≡◌, ◌+◌, ◌≤◌, Bool, ℕ, length, take, drop, IsTrue, OnOk};
-ghost use Rattle.shore_disk.specs.Device.{History, size, seen, Writes, Syncs, CountsFault};
+ghost use Rattle.shore_disk.specs.Device.{DeviceHistory, size, seen, Writes, Syncs, CountsFault};
 
 use shore_types::Fault;
 use thiserror::Error;
@@ -30,7 +30,7 @@ pub trait Disk {
     ghost is_honest: { Self → Bool };
 
     /// The bytes at first, and the calls since. Of a device that is not honest it tells the length alone.
-    ghost history: { Self → History };
+    ghost history: { Self → DeviceHistory };
 
     /// What `failures` answers.
     ghost faults: { Self → ℕ };

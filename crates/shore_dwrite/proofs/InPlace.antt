@@ -4,7 +4,7 @@ use Rattle.std.proofs.lemmas.Bool.{cases_lt}
 use Rattle.std.proofs.lemmas.Option.{get_or_from_slice_get, slice_get_within}
 use Rattle.std.proofs.lemmas.List.{length-take-le, length-drop}
 use Rattle.std.proofs.lemmas.List.Elements.{All-get_or}
-use Rattle.shore_disk.specs.Device.{History, Torn, overwritten, seen, wrote, noted, Writes, Syncs, LeavesOnly, Stands}
+use Rattle.shore_disk.specs.Device.{DeviceHistory, Torn, overwritten, seen, wrote, noted, Writes, Syncs, LeavesOnly, Stands}
 use Rattle.shore_dwrite.specs.Differences.{DiffersInPages, HasPages}
 use Rattle.shore_dwrite.specs.Shown.{RiseFrom}
 use Rattle.shore_dwrite.specs.Volumes.{part, page_at, page_offset}
@@ -12,12 +12,12 @@ use Rattle.shore_dwrite.proofs.Moves.{write_more, stands_still, synced_stands}
 use Rattle.shore_dwrite.proofs.PageWrites.{page_here, page_beside, differs_none, differs_more, differs_torn}
 
 -- the first so many are written
-pub record WroteFirst (old now : History) (numbers texts base : List ℕ) (written : ℕ) : Type 0 where
+pub record WroteFirst (old now : DeviceHistory) (numbers texts base : List ℕ) (written : ℕ) : Type 0 where
   pub moments : LeavesOnly old now (DiffersInPages numbers base)
   pub differs : DiffersInPages numbers base (seen now)
   pub each : (i k : ℕ) → i < written → slice_get numbers i ≡ Some k → page_at (seen now) k ≡ part (8192 * i) 8192 texts
 
-pub wrote_none : (h : History) (numbers texts base : List ℕ) → Stands h base → WroteFirst h h numbers texts base 0
+pub wrote_none : (h : DeviceHistory) (numbers texts base : List ℕ) → Stands h base → WroteFirst h h numbers texts base 0
 wrote_none h numbers texts base stands = record {
   moments = stands_still h base (DiffersInPages numbers base) stands (differs_none numbers base);
   differs = subst (DiffersInPages numbers base) (sym stands.read) (differs_none numbers base);
@@ -39,13 +39,13 @@ rise_apart low (k ∷ ks) (suc i) (suc j) a b rise got_a got_b before = rise_apa
 pub is_contained : (numbers : List ℕ) (i k : ℕ) → slice_get numbers i ≡ Some k → Contains numbers k
 is_contained numbers i k got = (i, slice_get_within numbers i k got, get_or_from_slice_get numbers i k k got)
 
-pub wrote_torn : {E : Type 0} (old now new : History) (numbers texts base bytes : List ℕ) (written k at : ℕ) (r : Result Unit E) → WroteFirst old now numbers texts base written → slice_get numbers written ≡ Some k
+pub wrote_torn : {E : Type 0} (old now new : DeviceHistory) (numbers texts base bytes : List ℕ) (written k at : ℕ) (r : Result Unit E) → WroteFirst old now numbers texts base written → slice_get numbers written ≡ Some k
     → page_offset k + 8192 ≤ length base → length bytes ≡ 8192 → at ≡ page_offset k → Writes at bytes r now new → LeavesOnly old new (DiffersInPages numbers base)
 wrote_torn old now new numbers texts base bytes written k at r so_far got fits long at_is writes =
     write_more old now new (DiffersInPages numbers base) (page_offset k) bytes r so_far.moments (subst (λ (n : ℕ). Writes n bytes r now new) at_is writes)
     (λ c d is torn. differs_torn numbers base k (is_contained numbers written k got) fits c d is (subst (λ (n : ℕ). Torn (page_offset k) n d c) long torn))
 
-pub wrote_more : (old now new : History) (numbers texts base bytes : List ℕ) (written k at : ℕ) → WroteFirst old now numbers texts base written → slice_get numbers written ≡ Some k → RiseFrom 0 numbers
+pub wrote_more : (old now new : DeviceHistory) (numbers texts base bytes : List ℕ) (written k at : ℕ) → WroteFirst old now numbers texts base written → slice_get numbers written ≡ Some k → RiseFrom 0 numbers
     → page_offset k + 8192 ≤ length base → length bytes ≡ 8192 → bytes ≡ part (8192 * written) 8192 texts → at ≡ page_offset k → new ≡ noted now (wrote at bytes) → WroteFirst old new numbers texts base (written + 1)
 wrote_more old now new numbers texts base bytes written k place so_far got rise fits long bytes_are at_is wrote_is =
     let read = seen now in
@@ -54,8 +54,8 @@ wrote_more old now new numbers texts base bytes written k place so_far got rise 
     let within : at + 8192 ≤ length read = omega (arith, so_far.differs.len) in
     record {
       moments = wrote_torn {E = Unit {0}} old now new numbers texts base bytes written k at (Ok tt) so_far got fits long refl is;
-      differs = subst (λ (h : History). DiffersInPages numbers base (seen h)) (sym is) (differs_more numbers base read bytes k (is_contained numbers written k got) fits long so_far.differs);
-      each = λ i n before got_n. subst (λ (h : History). page_at (seen h) n ≡ part (8192 * i) 8192 texts) (sym is) (elim (cases_lt i written) [
+      differs = subst (λ (h : DeviceHistory). DiffersInPages numbers base (seen h)) (sym is) (differs_more numbers base read bytes k (is_contained numbers written k got) fits long so_far.differs);
+      each = λ i n before got_n. subst (λ (h : DeviceHistory). page_at (seen h) n ≡ part (8192 * i) 8192 texts) (sym is) (elim (cases_lt i written) [
         | inl less ↦ page_beside read bytes k long within n (λ same. absurd (omega (arith, rise_apart 0 numbers i written n k rise got_n got less))) ∙ so_far.each i n less got_n
         | inr from ↦
             let last : i ≡ written = omega arith in
@@ -64,7 +64,7 @@ wrote_more old now new numbers texts base bytes written k place so_far got rise 
       ]);
     }
 
-pub wrote_all : (old now : History) (numbers texts base : List ℕ) (written : ℕ) → length numbers ≤ written → WroteFirst old now numbers texts base written → HasPages base (seen now) numbers texts
+pub wrote_all : (old now : DeviceHistory) (numbers texts base : List ℕ) (written : ℕ) → length numbers ≤ written → WroteFirst old now numbers texts base written → HasPages base (seen now) numbers texts
 wrote_all old now numbers texts base written all so_far = record {
   differs = so_far.differs;
   each = λ i k got. so_far.each i k (omega (arith, slice_get_within numbers i k got)) got;
@@ -84,7 +84,7 @@ pub length-text : (texts : List ℕ) (i count : ℕ) → length texts ≡ 8192 *
 length-text texts i count long inside = ap length (text_is texts i) ∙ length-take-le 8192 (drop (8192 * i) texts) (omega (arith, length-drop (8192 * i) texts))
 
 -- a sync that answers Ok, behind the last page
-pub wrote_and_synced : {E : Type 0} (old now new : History) (numbers texts base : List ℕ) (written : ℕ) (r : Result Unit E) → length numbers ≤ written → WroteFirst old now numbers texts base written → Syncs r now new
+pub wrote_and_synced : {E : Type 0} (old now new : DeviceHistory) (numbers texts base : List ℕ) (written : ℕ) (r : Result Unit E) → length numbers ≤ written → WroteFirst old now numbers texts base written → Syncs r now new
     → OnOk r ((image : List ℕ) × Stands new image × HasPages base image numbers texts)
 wrote_and_synced old now new numbers texts base written (Ok u) all so_far syncs = (seen now, synced_stands now new syncs, wrote_all old now numbers texts base written all so_far)
 wrote_and_synced old now new numbers texts base written (Err e) all so_far syncs = tt

@@ -1,7 +1,7 @@
 -- What a crash leaves at each moment of a replay.
 use Rattle.std.proofs.Common.{◌≡◌, inl, inr, ℕ, suc, ◌*◌, ◌<◌, ◌≤◌, List, [], ◌∷◌, length, take, drop, get_or, refl, sym, ap, ◌∙◌, arith}
 use Rattle.std.proofs.lemmas.Option.{slice_get-get_or}
-use Rattle.shore_disk.specs.Device.{History, overwritten, TornFrom, LeavesOnly, Stands}
+use Rattle.shore_disk.specs.Device.{DeviceHistory, overwritten, TornFrom, LeavesOnly, Stands}
 use Rattle.shore_disk.proofs.Moments.{joined, widened}
 use Rattle.shore_gate.specs.declared.gates.TheConstants.{OPEN, CLOSED}
 use Rattle.shore_types.specs.declared.layout.Geometry.{Geometry}
@@ -36,7 +36,7 @@ shows_same : (g : Geometry) (front : List ℕ) (a b : ℕ → List ℕ) (image :
 shows_same g front a b image same (is, inl shut) = (is, inl (shut.0, λ k within. shut.1 k within ∙ same k within))
 shows_same g front a b image same (is, inr opened) = (is, inr (opened.0, opened.1, λ k within. opened.2 k within ∙ same k within))
 
-module _ (g : Geometry) (front : List ℕ) (pages : ℕ → List ℕ) (numbers texts : List ℕ) (batch : IsBatch g numbers texts) (long : length texts ≡ 8192 * length numbers) (start : History)
+module _ (g : Geometry) (front : List ℕ) (pages : ℕ → List ℕ) (numbers texts : List ℕ) (batch : IsBatch g numbers texts) (long : length texts ≡ 8192 * length numbers) (start : DeviceHistory)
     (image : List ℕ) (front_is : take 4096 image ≡ front) (fits : 270336 ≤ length image) (read : HasRead image numbers texts) (named : List ℕ) (area : HasArea g image named)
     (shown : (k : ℕ) → k < page_count g → overlaid named (drop 8192 image) (page_at image) k ≡ pages k) where
   is_laid : IsLaid g front (page_at image) numbers texts batch long image
@@ -58,7 +58,7 @@ module _ (g : Geometry) (front : List ℕ) (pages : ℕ → List ℕ) (numbers t
   shows_by : (c : List ℕ) → DiffersInPages numbers image c → ShowsBehind g front pages c
   shows_by c differs = shows_same g front laid pages c same (laid_by c differs)
 
-  pub while_replayed : (now : History) → LeavesOnly start now (DiffersInPages numbers image) → LeavesOnly start now (ShowsBehind g front pages)
+  pub while_replayed : (now : DeviceHistory) → LeavesOnly start now (DiffersInPages numbers image) → LeavesOnly start now (ShowsBehind g front pages)
   while_replayed now moments = widened start now (DiffersInPages numbers image) (ShowsBehind g front pages) moments shows_by
 
   module _ (placed : List ℕ) (has : HasPages image placed numbers texts) where
@@ -75,7 +75,7 @@ module _ (g : Geometry) (front : List ℕ) (pages : ℕ → List ℕ) (numbers t
     either_way c (inl shows) = shows_same g front laid pages c same shows
     either_way c (inr shows) = shows_same g front laid pages c same shows
 
-    pub while_shut : (three four : History) → LeavesOnly start three (ShowsBehind g front pages) → Stands three placed → LeavesOnly three four (TornFrom 4096 1 three) → LeavesOnly start four (ShowsBehind g front pages)
+    pub while_shut : (three four : DeviceHistory) → LeavesOnly start three (ShowsBehind g front pages) → Stands three placed → LeavesOnly three four (TornFrom 4096 1 three) → LeavesOnly start four (ShowsBehind g front pages)
     while_shut three four before stands moments = joined start three four (ShowsBehind g front pages) before (widened three four (TornFrom 4096 1 three) (ShowsBehind g front pages) moments (λ c torn.
         either_way c (gate_shows g front (page_at image) numbers texts batch long laid placed c placed_fits placed_is_laid are_placed (inr (laid_by placed has.differs)) (torn_from_stands three placed 4096 1 c stands torn))))
 

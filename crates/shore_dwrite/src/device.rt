@@ -2,7 +2,7 @@
 ghost use Rattle.std.specs.Prelude.{◌≡◌, [], ◌∷◌, ◌⊎◌, ◌+◌, ◌*◌, ◌<◌, ◌≤◌, ℕ, List, length, All, Contains, IsTrue, IfErr, IfOk, OnOk, slice_get, Some};
 ghost use Rattle.std.proofs.Props.{props};
 ghost use Rattle.shore_types.specs.declared.layout.TheConstants.{PAGE_BYTES, MAX_PAGES, MAX_STORES, PAGES_AT};
-ghost use Rattle.shore_disk.specs.Device.{History, size, seen, may_leave, overwritten, CountsFault, LeavesOnly, Stands};
+ghost use Rattle.shore_disk.specs.Device.{DeviceHistory, size, seen, may_leave, overwritten, CountsFault, LeavesOnly, Stands};
 ghost use Rattle.shore_gate.specs.declared.gates.TheConstants.{OPEN};
 ghost use Rattle.shore_dwrite.specs.Checks.{HasRead, RefusesArea};
 ghost use Rattle.shore_dwrite.specs.Differences.{DiffersInArea, DiffersInPages, HasImages, HasPages};

@@ -5,7 +5,7 @@ use Rattle.std.proofs.lemmas.List.{take_at, take_all, take-take, drop_at, drop-d
 use Rattle.shore_types.specs.declared.faults.Device.TheVariants.{Log}
 use Rattle.shore_types.specs.declared.layout.Geometry.{Geometry}
 use Rattle.shore_types.specs.Layout.{IsInLimits}
-use Rattle.shore_disk.specs.Device.{History, overwritten, Torn, TornFrom, Writes, Stands, LeavesOnly}
+use Rattle.shore_disk.specs.Device.{DeviceHistory, overwritten, Torn, TornFrom, Writes, Stands, LeavesOnly}
 use Rattle.shore_disk.proofs.Images.{overwritten-append}
 use Rattle.shore_disk.proofs.Moments.{at_end, started, joined, widened, write_leaves}
 use Rattle.shore_gate.specs.declared.gates.TheConstants.{OPEN, CLOSED}
@@ -42,11 +42,11 @@ pub shut_rest : (n : ℕ) (d c : List ℕ) → IsShut d → Torn 512 n d c → I
 shut_rest n d c s (inl same) = subst IsShut (sym same) s
 shut_rest n d c s (inr torn) = (s.0, take 511 s.1 ++ torn.0 ++ drop (512 + length torn.0) (s.0 ∷ s.1), s.2, torn.2 ∙ ap (λ (l : List ℕ). overwritten l 512 torn.0) s.3)
 
-pub label_leaves : {E : Type 0} (bytes : List ℕ) (r : Result Unit E) (old new : History) (rest : List ℕ) → length bytes ≡ 511 → Stands old (CLOSED ∷ rest) → Writes 1 bytes r old new → LeavesOnly old new IsShut
+pub label_leaves : {E : Type 0} (bytes : List ℕ) (r : Result Unit E) (old new : DeviceHistory) (rest : List ℕ) → length bytes ≡ 511 → Stands old (CLOSED ∷ rest) → Writes 1 bytes r old new → LeavesOnly old new IsShut
 label_leaves bytes r old new rest long stands writes =
     write_leaves 1 bytes r old new IsShut writes (λ c d left torn. shut_label d c (shut d rest (stands.only d left)) (subst (λ n. Torn 1 n d c) long torn))
 
-pub rest_leaves : (n : ℕ) (a b c : History) → LeavesOnly a b IsShut → LeavesOnly b c (TornFrom 512 n b) → LeavesOnly a c IsShut
+pub rest_leaves : (n : ℕ) (a b c : DeviceHistory) → LeavesOnly a b IsShut → LeavesOnly b c (TornFrom 512 n b) → LeavesOnly a c IsShut
 rest_leaves n a b c one two =
     joined a b c IsShut one (widened b c (TornFrom 512 n b) IsShut two (λ i torn. shut_rest n torn.0 i (at_end a b IsShut one torn.0 torn.1) torn.2))
 
@@ -150,24 +150,24 @@ one_byte (b ∷ d ∷ bytes) is = absurd (omega arith)
 
 module _ (Made : List ℕ → Type 0) where
   -- before the first call
-  pub untouched : (h : History) → LeavesOnly h h (LeftByFormat Made h)
+  pub untouched : (h : DeviceHistory) → LeavesOnly h h (LeftByFormat Made h)
   untouched h = started h (LeftByFormat Made h) (λ c left. inl (c, left, inl refl))
 
   -- as the gate is closed
-  pub gate_closing : (a b : History) → LeavesOnly a b (TornFrom 0 1 a) → LeavesOnly a b (LeftByFormat Made a)
+  pub gate_closing : (a b : DeviceHistory) → LeavesOnly a b (TornFrom 0 1 a) → LeavesOnly a b (LeftByFormat Made a)
   gate_closing a b one = widened a b (TornFrom 0 1 a) (LeftByFormat Made a) one (λ i torn. inl torn)
 
   -- while it is closed
-  pub closing : (a b c : History) → LeavesOnly a b (TornFrom 0 1 a) → LeavesOnly b c IsShut → LeavesOnly a c (LeftByFormat Made a)
+  pub closing : (a b c : DeviceHistory) → LeavesOnly a b (TornFrom 0 1 a) → LeavesOnly b c IsShut → LeavesOnly a c (LeftByFormat Made a)
   closing a b c one two = joined a b c (LeftByFormat Made a) (gate_closing a b one) (widened b c IsShut (LeftByFormat Made a) two (λ i s. inr (inl s)))
 
-  any_gate : (h : History) (gate : ℕ) (rest : List ℕ) → Made (OPEN ∷ rest) → LeftByFormat Made h (gate ∷ rest)
+  any_gate : (h : DeviceHistory) (gate : ℕ) (rest : List ℕ) → Made (OPEN ∷ rest) → LeftByFormat Made h (gate ∷ rest)
   any_gate h gate rest made = elim (cases_eq gate OPEN) [
     | inl is_open ↦ inr (inr (subst (λ b. Made (b ∷ rest)) (sym is_open) made))
     | inr other ↦ inr (inl (gate, rest, other, refl))
   ]
 
-  gate_torn : (h : History) (rest c : List ℕ) → Made (OPEN ∷ rest) → Torn 0 1 (CLOSED ∷ rest) c → LeftByFormat Made h c
+  gate_torn : (h : DeviceHistory) (rest c : List ℕ) → Made (OPEN ∷ rest) → Torn 0 1 (CLOSED ∷ rest) c → LeftByFormat Made h c
   gate_torn h rest c made (inl same) = subst (LeftByFormat Made h) (sym same) (any_gate h CLOSED rest made)
   gate_torn h rest c made (inr torn) =
       let b = one_byte torn.0 torn.1 in
@@ -175,7 +175,7 @@ module _ (Made : List ℕ → Type 0) where
       subst (LeftByFormat Made h) (sym is) (any_gate h b.0 rest made)
 
   -- and as it is opened
-  pub opening : (a b c : History) (rest : List ℕ) → LeavesOnly a b (LeftByFormat Made a) → Stands b (CLOSED ∷ rest) → Made (OPEN ∷ rest) → LeavesOnly b c (TornFrom 0 1 b) → LeavesOnly a c (LeftByFormat Made a)
+  pub opening : (a b c : DeviceHistory) (rest : List ℕ) → LeavesOnly a b (LeftByFormat Made a) → Stands b (CLOSED ∷ rest) → Made (OPEN ∷ rest) → LeavesOnly b c (TornFrom 0 1 b) → LeavesOnly a c (LeftByFormat Made a)
   opening a b c rest one stands made two =
       joined a b c (LeftByFormat Made a) one (widened b c (TornFrom 0 1 b) (LeftByFormat Made a) two (λ i torn. gate_torn a rest i made (subst (λ d. Torn 0 1 d i) (stands.only torn.0 torn.1) torn.2)))
 

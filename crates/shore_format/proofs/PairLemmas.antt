@@ -2,7 +2,7 @@
 use Rattle.std.proofs.Common.{◌≡◌, ◌≢◌, inl, inr, ℕ, List, [], ◌∷◌, ◌++◌, refl, sym, ◌∙◌, ap, subst}
 use Rattle.std.proofs.lemmas.Bool.{cases_eq}
 use Rattle.shore_types.specs.declared.layout.Geometry.{Geometry}
-use Rattle.shore_disk.specs.Device.{History, IsLater, LeavesOnly, Stands, Torn, TornFrom, left_since, may_leave, moment, overwritten, size}
+use Rattle.shore_disk.specs.Device.{DeviceHistory, IsLater, LeavesOnly, Stands, Torn, TornFrom, left_since, may_leave, moment, overwritten, size}
 use Rattle.shore_disk.proofs.Moments.{at_end, started}
 use Rattle.shore_gate.specs.declared.gates.TheConstants.{OPEN, CLOSED}
 use Rattle.shore_format.specs.Fronts.{IsShut, LogStandsFor}
@@ -10,17 +10,17 @@ use Rattle.shore_format.specs.Pairs.{AreFormatted, FormatGoesOn, FormatMoment, F
 use Rattle.shore_format.specs.Volumes.{IsEmptyVolume}
 use Rattle.shore_format.proofs.FrontLemmas.{one_byte, shut}
 
-abbrev pub both : History → History → FormatMoment
+abbrev pub both : DeviceHistory → DeviceHistory → FormatMoment
 both log volume = record { log = log; volume = volume }
 
-no_later : (h : History) → IsLater h h
+no_later : (h : DeviceHistory) → IsLater h h
 no_later h = ([], refl)
 
 -- now is one of the moments since another, and the one moment since now
-now_left : (old new : History) → IsLater old new → (c : List ℕ) → may_leave new c → left_since new (moment old) c
+now_left : (old new : DeviceHistory) → IsLater old new → (c : List ℕ) → may_leave new c → left_since new (moment old) c
 now_left old new later = at_end old new (left_since new (moment old)) (record { later = later; each = λ c left. left })
 
-left_now : (h : History) (c : List ℕ) → left_since h (moment h) c → may_leave h c
+left_now : (h : DeviceHistory) (c : List ℕ) → left_since h (moment h) c → may_leave h c
 left_now h = (started h (may_leave h) (λ c left. left)).each
 
 -- one step more
@@ -44,7 +44,7 @@ module _ (g : Geometry) (first : FormatMoment) where
   at_first = record { moments = []; path = first_path }
 
   -- the gate of the log's label is being closed
-  pub closing_pair : (log : History) → LeavesOnly first.log log (TornFrom 0 1 first.log) → FormatWay g first (both log first.volume)
+  pub closing_pair : (log : DeviceHistory) → LeavesOnly first.log log (TornFrom 0 1 first.log) → FormatWay g first (both log first.volume)
   closing_pair log closes = record {
     moments = both log first.volume ∷ [];
     path = path_on P first first (both log first.volume) [] first_path (record {
@@ -59,11 +59,11 @@ module _ (g : Geometry) (first : FormatMoment) where
     pub way : FormatWay g first now
     pub shut : (c : List ℕ) → may_leave now.log c → IsShut c
 
-  pub shut_way : (log : History) (rest : List ℕ) → LeavesOnly first.log log (TornFrom 0 1 first.log) → Stands log (CLOSED ∷ rest) → ShutWay (both log first.volume)
+  pub shut_way : (log : DeviceHistory) (rest : List ℕ) → LeavesOnly first.log log (TornFrom 0 1 first.log) → Stands log (CLOSED ∷ rest) → ShutWay (both log first.volume)
   shut_way log rest closes stands = record { way = closing_pair log closes; shut = λ c left. shut c rest (stands.only c left) }
 
   -- the log is called behind it
-  pub log_on : (now : FormatMoment) → ShutWay now → (log : History) → LeavesOnly now.log log IsShut → ShutWay (both log now.volume)
+  pub log_on : (now : FormatMoment) → ShutWay now → (log : DeviceHistory) → LeavesOnly now.log log IsShut → ShutWay (both log now.volume)
   log_on now before log leaves = record {
     way = record {
       moments = before.way.moments ++ both log now.volume ∷ [];
@@ -77,7 +77,7 @@ module _ (g : Geometry) (first : FormatMoment) where
   }
 
   -- the volume is called while it is closed
-  pub volume_on : (now : FormatMoment) → ShutWay now → (volume : History) → IsLater now.volume volume → ShutWay (both now.log volume)
+  pub volume_on : (now : FormatMoment) → ShutWay now → (volume : DeviceHistory) → IsLater now.volume volume → ShutWay (both now.log volume)
   volume_on now before volume later = record {
     way = record {
       moments = before.way.moments ++ both now.log volume ∷ [];
@@ -106,7 +106,7 @@ module _ (g : Geometry) (first : FormatMoment) where
         let is : l ≡ b.0 ∷ rest = torn.2 ∙ ap (λ (i : List ℕ). overwritten (CLOSED ∷ rest) 0 i) b.1 in
         subst (λ (i : List ℕ). P i w) (sym is) (any_gate b.0 w left)
 
-    pub opening_pair : ShutWay now → Stands now.log (CLOSED ∷ rest) → (log : History) → LeavesOnly now.log log (TornFrom 0 1 now.log) → FormatWay g first (both log now.volume)
+    pub opening_pair : ShutWay now → Stands now.log (CLOSED ∷ rest) → (log : DeviceHistory) → LeavesOnly now.log log (TornFrom 0 1 now.log) → FormatWay g first (both log now.volume)
     opening_pair before stands log opens = record {
       moments = before.way.moments ++ both log now.volume ∷ [];
       path = path_on P first now (both log now.volume) before.way.moments before.way.path (record {

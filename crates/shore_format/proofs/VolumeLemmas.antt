@@ -6,7 +6,7 @@ use Rattle.shore_types.specs.declared.faults.Device.TheVariants.{Volume}
 use Rattle.shore_types.specs.declared.ids.PageId.{PageId}
 use Rattle.shore_types.specs.declared.layout.Geometry.{Geometry}
 use Rattle.shore_types.specs.Layout.{HasPage, IsInLimits}
-use Rattle.shore_disk.specs.Device.{History, seen, noted, wrote, may_leave, Stands, overwritten, Writes, LeavesOnly}
+use Rattle.shore_disk.specs.Device.{DeviceHistory, seen, noted, wrote, may_leave, Stands, overwritten, Writes, LeavesOnly}
 use Rattle.shore_disk.proofs.Images.{overwritten-append}
 use Rattle.shore_disk.proofs.Moments.{at_end, joined, started}
 use Rattle.shore_gate.specs.declared.gates.TheConstants.{OPEN, CLOSED}
@@ -26,13 +26,13 @@ use Rattle.shore_format.proofs.FrontLemmas.{label_leaves, shut_torn}
 -- ---- the label and the gate of the area
 
 -- a crash behind both writes, or in one that failed, leaves the gate of the label closed
-pub gated_moments : {E F : Type 0} (label gate rest : List ℕ) (r : Result Unit E) (s : Result Unit F) (old labelled gated : History) → length label ≡ 511 → Stands old (CLOSED ∷ rest)
+pub gated_moments : {E F : Type 0} (label gate rest : List ℕ) (r : Result Unit E) (s : Result Unit F) (old labelled gated : DeviceHistory) → length label ≡ 511 → Stands old (CLOSED ∷ rest)
     → Writes 1 label r old labelled → Writes 4096 gate s labelled gated → LeavesOnly old gated IsShut
 gated_moments label gate rest r s old labelled gated long stands one two =
     write_more old labelled gated IsShut 4096 gate s (label_leaves label r old labelled rest long stands one) two (λ c d shut torn. shut_torn 4096 (length gate) d c (omega arith) shut torn)
 
 -- .. and behind the pages too
-pub paged_moments : {E F : Type 0} (label gate rest : List ℕ) (r : Result Unit E) (s : Result Unit F) (old labelled gated paged : History) → length label ≡ 511 → Stands old (CLOSED ∷ rest)
+pub paged_moments : {E F : Type 0} (label gate rest : List ℕ) (r : Result Unit E) (s : Result Unit F) (old labelled gated paged : DeviceHistory) → length label ≡ 511 → Stands old (CLOSED ∷ rest)
     → Writes 1 label r old labelled → Writes 4096 gate s labelled gated → (((c : List ℕ) → may_leave gated c → IsShut c) → LeavesOnly gated paged IsShut) → LeavesOnly old paged IsShut
 paged_moments label gate rest r s old labelled gated paged long stands one two pages =
     let both = gated_moments label gate rest r s old labelled gated long stands one two in
@@ -40,26 +40,26 @@ paged_moments label gate rest r s old labelled gated paged long stands one two p
 
 -- ---- pages, one after another
 
-pub record WroteFirst (g : Geometry) (old now : History) (written : ℕ) : Type 0 where
+pub record WroteFirst (g : Geometry) (old now : DeviceHistory) (written : ℕ) : Type 0 where
   pub moments : ((c : List ℕ) → may_leave old c → IsShut c) → LeavesOnly old now IsShut
   pub long : length (seen now) ≡ length (seen old)
   pub front : take 270336 (seen now) ≡ take 270336 (seen old)
   pub empty : (id : PageId) → HasPage g id → page_number g id < written → IsPageText (page_at (seen now) (page_number g id)) id 0 []
 
-pub wrote_none : (g : Geometry) (h : History) → WroteFirst g h h 0
+pub wrote_none : (g : Geometry) (h : DeviceHistory) → WroteFirst g h h 0
 wrote_none g h = record { moments = λ shut. started h IsShut shut; long = refl; front = refl; empty = λ id there below. absurd (omega (arith, below)) }
 
-pub wrote_torn : {E : Type 0} (g : Geometry) (old now new : History) (written k at : ℕ) (bytes : List ℕ) (r : Result Unit E) → WroteFirst g old now written → at ≡ page_offset k
+pub wrote_torn : {E : Type 0} (g : Geometry) (old now new : DeviceHistory) (written k at : ℕ) (bytes : List ℕ) (r : Result Unit E) → WroteFirst g old now written → at ≡ page_offset k
     → Writes at bytes r now new → ((c : List ℕ) → may_leave old c → IsShut c) → LeavesOnly old new IsShut
 wrote_torn g old now new written k at bytes r so_far is writes shut =
     write_more old now new IsShut at bytes r (so_far.moments shut) writes (λ c d s torn. shut_torn at (length bytes) d c (omega (arith, is)) s torn)
 
-pub wrote_more : (g : Geometry) (old now new : History) (k at : ℕ) (id : PageId) (bytes : List ℕ) → WroteFirst g old now k → HasPage g id → page_number g id ≡ k → at ≡ page_offset k
+pub wrote_more : (g : Geometry) (old now new : DeviceHistory) (k at : ℕ) (id : PageId) (bytes : List ℕ) → WroteFirst g old now k → HasPage g id → page_number g id ≡ k → at ≡ page_offset k
     → page_offset k + 8192 ≤ length (seen old) → IsPageText bytes id 0 [] → new ≡ noted now (wrote at bytes) → WroteFirst g old new (k + 1)
 wrote_more g old now new k at id bytes so_far there number is fits text writes =
     let long : length bytes ≡ 8192 = text.whole in
     let within : page_offset k + 8192 ≤ length (seen now) = omega (arith, fits, so_far.long) in
-    let seen_is : seen new ≡ overwritten (seen now) (page_offset k) bytes = ap (λ (h : History). seen h) writes ∙ ap (λ n. overwritten (seen now) n bytes) is in
+    let seen_is : seen new ≡ overwritten (seen now) (page_offset k) bytes = ap (λ (h : DeviceHistory). seen h) writes ∙ ap (λ n. overwritten (seen now) n bytes) is in
     record {
       moments = λ shut. wrote_torn {E = Unit {0}} g old now new k k at bytes (Ok tt) so_far is writes shut;
       long = ap (λ (l : List ℕ). length l) seen_is ∙ length-overwritten (seen now) (page_offset k) bytes (omega (arith, within, long)) ∙ so_far.long;
@@ -78,7 +78,7 @@ wrote_more g old now new k at id bytes so_far there number is fits text writes =
     }
 
 -- all of them
-pub wrote_all : (g : Geometry) (old now : History) (written : ℕ) → ((id : PageId) → HasPage g id → page_number g id < written) → WroteFirst g old now written → HasEmptyPages g (seen old) (seen now)
+pub wrote_all : (g : Geometry) (old now : DeviceHistory) (written : ℕ) → ((id : PageId) → HasPage g id → page_number g id < written) → WroteFirst g old now written → HasEmptyPages g (seen old) (seen now)
 wrote_all g old now written each so_far = record { long = so_far.long; front = so_far.front; empty = λ id there. so_far.empty id there (each id there) }
 
 -- ---- the whole of it behind the closed gate

@@ -1,7 +1,7 @@
 -- What a format writes at the front of a log device, what it leaves, and what the frames give behind the front.
 use Rattle.std.specs.Prelude.{◌≡◌, ◌≢◌, ◌⊎◌, ℕ, List, [], ◌∷◌, ◌++◌, replicate}
 use Rattle.shore_types.specs.declared.layout.Geometry.{Geometry}
-use Rattle.shore_disk.specs.Device.{History, TornFrom}
+use Rattle.shore_disk.specs.Device.{DeviceHistory, TornFrom}
 use Rattle.shore_gate.specs.declared.gates.TheConstants.{OPEN, CLOSED}
 use Rattle.shore_gate.specs.Anchor.{anchor_bytes}
 use Rattle.shore_model.specs.declared.log_records.LogRecord.{LogRecord}
@@ -26,5 +26,5 @@ IsShut image = (gate : ℕ) × (rest : List ℕ) × (gate ≢ OPEN) × (image �
 
 -- A crash within a format leaves of a device what it could have left before, but for the gate of the label; or a closed gate, behind
 -- which nothing counts; or what the format makes of it.
-abbrev pub LeftByFormat : (List ℕ → Type 0) → History → List ℕ → Type 0
+abbrev pub LeftByFormat : (List ℕ → Type 0) → DeviceHistory → List ℕ → Type 0
 LeftByFormat Made old image = TornFrom 0 1 old image ⊎ IsShut image ⊎ Made image

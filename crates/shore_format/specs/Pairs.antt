@@ -1,7 +1,7 @@
 -- What a format leaves on two devices, in the end and at each moment of it.
 use Rattle.std.specs.Prelude.{◌≡◌, ◌⊎◌, ℕ, List, [], ◌∷◌}
 use Rattle.shore_types.specs.declared.layout.Geometry.{Geometry}
-use Rattle.shore_disk.specs.Device.{History, IsLater, TornFrom, left_since, may_leave, moment, size}
+use Rattle.shore_disk.specs.Device.{DeviceHistory, IsLater, TornFrom, left_since, may_leave, moment, size}
 use Rattle.shore_format.specs.Fronts.{IsShut, LogStandsFor}
 use Rattle.shore_format.specs.Volumes.{IsEmptyVolume}
 
@@ -14,8 +14,8 @@ pub record AreFormatted (g : Geometry) (log_bytes volume_bytes : ℕ) (log_image
 
 -- the calls of both devices so far
 pub record FormatMoment : Type 0 where
-  pub log : History
-  pub volume : History
+  pub log : DeviceHistory
+  pub volume : DeviceHistory
 
 -- A pair of images that a crash within a format leaves. The gate of the log's label is closed, so that nothing opens; or both are formatted; or they are
 -- what a crash could have left of both before, but for that gate.

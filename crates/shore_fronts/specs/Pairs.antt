@@ -4,7 +4,7 @@ use Rattle.shore_types.specs.declared.faults.Device.TheVariants.{Log, Volume}
 use Rattle.shore_types.specs.declared.faults.Fault.{Fault}
 use Rattle.shore_types.specs.declared.faults.Fault.TheVariants.{WrongPair}
 use Rattle.shore_types.specs.declared.layout.Geometry.{Geometry}
-use Rattle.shore_disk.specs.Device.{History, size, seen}
+use Rattle.shore_disk.specs.Device.{DeviceHistory, size, seen}
 use Rattle.shore_gate.specs.Label.{HoldsLabel, HasLabel, verdict_of}
 use Rattle.shore_gate.specs.Anchor as anchors
 use Rattle.shore_gate.specs.Anchor.{offset_of}
@@ -15,27 +15,27 @@ use Rattle.shore_fronts.specs.Volumes.{volume_label}
 -- ---- what the fronts say
 
 -- both have labels, of one pair that is laid out like this
-abbrev pub ArePaired : Geometry → History → History → Type 0
+abbrev pub ArePaired : Geometry → DeviceHistory → DeviceHistory → Type 0
 ArePaired g log volume = HoldsLabel Log (size log) (take 512 (seen log)) (log_label g (size log)) × HasLabel Volume volume (volume_label g)
 
 -- and the first anchor counts
-abbrev pub HaveFronts : Geometry → History → History → Type 0
+abbrev pub HaveFronts : Geometry → DeviceHistory → DeviceHistory → Type 0
 HaveFronts g log volume = HasFront g (size log) (seen log) × HasLabel Volume volume (volume_label g)
 
-abbrev pub AreFronts : History → History → Fronts → Type 0
+abbrev pub AreFronts : DeviceHistory → DeviceHistory → Fronts → Type 0
 AreFronts log volume fronts = (have : HaveFronts fronts.geometry log volume) × (fronts.anchor_offset ≡ offset_of have.0.slot) × (fronts.of_pages ≡ fronts.geometry)
 
 -- ---- what an open is refused with
 
 -- the labels, by their checks in their order, the log's first; and labels of two pairs
-abbrev pub RefusesLabels : History → History → Fault → Type 0
+abbrev pub RefusesLabels : DeviceHistory → DeviceHistory → Fault → Type 0
 RefusesLabels log volume fault =
     (verdict_of Log log ≡ Err fault)
     ⊎ ((verdict_of Log log ≡ Ok tt) × (verdict_of Volume volume ≡ Err fault))
     ⊎ ((verdict_of Log log ≡ Ok tt) × (verdict_of Volume volume ≡ Ok tt) × (fault ≡ WrongPair) × ((g : Geometry) → ArePaired g log volume → ⊥))
 
 -- .. and behind labels of one pair the log's anchors
-abbrev pub RefusesFronts : History → History → Fault → Type 0
+abbrev pub RefusesFronts : DeviceHistory → DeviceHistory → Fault → Type 0
 RefusesFronts log volume fault =
     RefusesLabels log volume fault
     ⊎ ((g : Geometry) × ArePaired g log volume × (first_checked (anchors.verdict_of (seen log)) ≡ Err fault))

@@ -2,7 +2,7 @@
 use Rattle.std.specs.Prelude.{◌≡◌, ℕ, ◌+◌, ◌-◌, ◌*◌, ◌^◌, ◌<◌, ◌≤◌, Bool, true, ◌&&◌, nat_le, ◌==◌, List, [], ◌∷◌, ◌++◌, length, take, drop, replicate, slice_index, sum, All, Result}
 use Rattle.std.specs.List.{flat_map}
 use Rattle.byteorder.specs.Endian.{little_bytes}
-use Rattle.shore_disk.specs.Device.{History, size, seen}
+use Rattle.shore_disk.specs.Device.{DeviceHistory, size, seen}
 use Rattle.shore_types.specs.declared.faults.Device.{Device}
 use Rattle.shore_types.specs.declared.faults.Device.TheVariants.{Log, Volume}
 use Rattle.shore_types.specs.declared.faults.Fault.{Fault}
@@ -101,8 +101,8 @@ label_verdict device size bytes = judged (kind_checks device size bytes ++ (fiel
     ++ (store_checks device 32 0 (stores_of bytes) ++ end_checks device size bytes (number_at bytes 28 4) (sum (stores_of bytes)))))
 
 -- the label's bytes as read, and what they are refused with, on a device of this history
-abbrev pub HasLabel : Device → History → Label → Type 0
+abbrev pub HasLabel : Device → DeviceHistory → Label → Type 0
 HasLabel device history = HoldsLabel device (size history) (take 512 (seen history))
 
-abbrev pub verdict_of : Device → History → Result Unit Fault
+abbrev pub verdict_of : Device → DeviceHistory → Result Unit Fault
 verdict_of device history = label_verdict device (size history) (take 512 (seen history))

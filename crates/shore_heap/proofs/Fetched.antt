@@ -1,7 +1,7 @@
 -- What a fetch leaves of a heap, by what it leaves of its pool.
-use Rattle.std.proofs.Common.{◌≡◌, ◌≢◌, ◌⊎◌, ℕ, List, Option, Some, None, IsSomeAnd, option_map, refl, sym, ap, subst, ◌∙◌, inl, inr}
+use Rattle.std.proofs.Common.{◌≡◌, ◌≢◌, ◌⊎◌, ℕ, List, Option, Some, None, IsSomeAnd, map, option_map, refl, sym, ap, subst, ◌∙◌, inl, inr}
 use Rattle.std.proofs.lemmas.Bool.{cases_eq}
-use Rattle.shore_disk.specs.Device.{History, LeavesOnly}
+use Rattle.shore_disk.specs.Device.{DeviceHistory, LeavesOnly}
 use Rattle.shore_disk.specs.declared.device.Disk.{Ghosts}
 use Rattle.shore_disk.proofs.Moments.{widened}
 use Rattle.shore_types.specs.declared.ids.PageId.{PageId}
@@ -10,7 +10,8 @@ use Rattle.shore_types.specs.Layout.{HasPage}
 use Rattle.shore_dwrite.specs.Settled as settled_device
 use Rattle.shore_dwrite.specs.declared.device.PageDev.{PageDev}
 use Rattle.shore_dwrite.specs.Volumes.{page_number}
-use Rattle.shore_page.specs.Slots.{Slot}
+use Rattle.shore_page.specs.Slots.{PageState, Slot, settled}
+use Rattle.shore_page.specs.Text.{images_of}
 use Rattle.shore_pool.specs.declared.frame.Frame.{Frame}
 use Rattle.shore_pool.specs.declared.pool.Pool.{Pool}
 use Rattle.shore_pool.specs.Changes as changes
@@ -19,8 +20,9 @@ use Rattle.shore_pool.specs.Pools as pools
 use Rattle.shore_pool.specs.Pools.{PoolHolds, NeedsForce}
 use Rattle.shore_pool.proofs.Same.{pages_on}
 use Rattle.shore_heap.specs.declared.heap.Heap.{Heap}
-use Rattle.shore_heap.specs.Contents.{AreBounds, AreKept, FitIn, ClaimsOfPages, claimed_frame}
-use Rattle.shore_heap.specs.Heaps.{KeepsSlots, LeavesPages, Shows, StayInPlace, WroteBack, bounds_of, faults_of, frame_at, frame_of, geometry_of, history_of, honesty_of}
+use Rattle.shore_heap.specs.Contents.{AreBounds, AreKept, FitIn, KeepWhatFits, ClaimsOfPages, claimed_frame, with_page_slots}
+use Rattle.shore_heap.specs.Heaps.{IsAsRead, KeepsSlots, LeavesPages, Shows, StayInPlace, WroteBack, bounds_of, faults_of, frame_at, frame_of, geometry_of, history_of, honesty_of}
+use Rattle.shore_heap.proofs.Claimed.{images_kept}
 use Rattle.shore_heap.proofs.Frames.{Came, IsRead, have_fetched}
 use Rattle.shore_heap.proofs.Going.{may_be}
 use Rattle.shore_heap.proofs.Showing.{shows_by}
@@ -54,6 +56,15 @@ module _ {D : Type 0} {G : Ghosts D} (old : Heap D G) (mid : Pool D G) (id : Pag
       each : (o : Option Frame) → IsSomeAnd o (IsRead id last) → IsSomeAnd o (λ f. f.recovery ≡ None)
       each None is = is
       each (Some f) is = is.2
+
+-- the page is there as it was read
+pub as_read : (id : PageId) (last : ℕ) (kept : List (ℕ × ℕ)) (o now : Option Frame) → IsSomeAnd o (IsRead id last)
+    → ((f : Frame) → o ≡ Some f → (slots : List Slot) × KeepWhatFits kept f.page.slots slots × (now ≡ Some (with_page_slots slots f))) → IsSomeAnd now (IsAsRead kept)
+as_read id last kept None now read fitting = absurd read
+as_read id last kept (Some f) now read fitting =
+    let (slots, keeps, is) = fitting f refl in
+    let bare : f.page.slots ≡ map settled (images_of slots) = ap (λ (p : PageState). p.slots) read.0 ∙ ap (map settled) (sym (images_kept kept f.page.slots slots keeps)) in
+    subst (λ (o : Option Frame). IsSomeAnd o (IsAsRead kept)) (sym is) (record { slots = subst (λ (l : List Slot). KeepWhatFits kept l slots) bare keeps; clean = read.2 })
 
 pub came_by : {D : Type 0} {G : Ghosts D} (old : Heap D G) (mid : Pool D G) (new : Heap D G) (id : PageId) (K : ClaimsOfPages) (last : ℕ) (number : page_number (pools.geometry_of mid) id ≡ page_number (geometry_of old) id)
     → (frame_of old id ≡ None) × IsSomeAnd (pools.frame_of mid id) (IsRead id last) → ((f : Frame) → pools.frame_of mid id ≡ Some f → FitIn (K id) f.page.slots → frame_of new id ≡ Some (claimed_frame (K id) f))
@@ -95,7 +106,7 @@ module _ {D : Type 0} {G : Ghosts D} (old : Heap D G) (mid : Pool D G) (durable 
       → WroteBack old new durable front disk
   wrote_of new front disk w more = (w.left, more.0, stay_of new front disk w more.1)
 
-  pub moment_of : (later : History) (front : List ℕ) (disk : ℕ → List ℕ) → LeavesOnly (history_of old) later (pools.LeavesPages old.pool durable front disk) → LeavesOnly (history_of old) later (LeavesPages old durable front disk)
+  pub moment_of : (later : DeviceHistory) (front : List ℕ) (disk : ℕ → List ℕ) → LeavesOnly (history_of old) later (pools.LeavesPages old.pool durable front disk) → LeavesOnly (history_of old) later (LeavesPages old durable front disk)
   moment_of later front disk leaves = widened (history_of old) later (pools.LeavesPages old.pool durable front disk) (LeavesPages old durable front disk) leaves
       (λ image l. (l.0, l.1, may_be (geometry_of old) (frame_at old) durable disk old.pool.in_order l.0 l.2))
 

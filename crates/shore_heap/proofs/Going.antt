@@ -1,7 +1,7 @@
 -- One call that fetches pages after another.
 use Rattle.std.proofs.Common.{◌≡◌, ◌⊎◌, ◌≤◌, ℕ, List, Option, Some, None, IsSomeAnd, IsErrAnd, OnOk, Result, Ok, Err, MatchResult, refl, sym, ap, subst, ◌∙◌, inl, inr, arith}
 use Rattle.shore_disk.specs.Cause.{HasCause}
-use Rattle.shore_disk.specs.Device.{History, LeavesOnly, size}
+use Rattle.shore_disk.specs.Device.{DeviceHistory, LeavesOnly, size}
 use Rattle.shore_disk.specs.declared.device.Disk.{Ghosts}
 use Rattle.shore_disk.proofs.Moments.{joined, widened}
 use Rattle.shore_types.specs.declared.faults.Device.TheVariants as Device
@@ -175,7 +175,7 @@ module _ {D : Type 0} {G : Ghosts D} (K : ClaimsOfPages) (durable : ℕ) where
           let kept = one.kept front disk S shows are in
           (kept.0, shows_by mid.pool new (geometry_of mid) K front kept.0 S same refl kept.1.holds kept.1.pages (bounds front kept.0 S kept.1), stay_on disk kept.0 kept.2);
       wrote = λ front disk holds. let w = one.wrote front disk holds in (w.0, subst (λ (p : Pool D G). PoolHolds p front w.0) (sym same) w.1, stay_on disk w.0 w.2);
-      any_moment = λ front disk holds. subst (λ (h : History). LeavesOnly (history_of old) h (LeavesPages old durable front disk)) (sym (ap pools.history_of same)) (one.any_moment front disk holds);
+      any_moment = λ front disk holds. subst (λ (h : DeviceHistory). LeavesOnly (history_of old) h (LeavesPages old durable front disk)) (sym (ap pools.history_of same)) (one.any_moment front disk holds);
       dirty = λ front disk holds k f is. one.dirty front disk holds k f (subst (λ (p : Pool D G). pools.frame_at p k ≡ Some f) same is);
       forced = λ front disk holds number needs. one.forced front disk holds number (subst (λ (p : Pool D G). NeedsForce p durable number) same needs);
       honest = ap pools.honesty_of same ∙ one.honest;

@@ -1,4 +1,5 @@
 pub mod Bounds
+pub mod Claimed
 pub mod Fetched
 pub mod Finding
 pub mod Flushed

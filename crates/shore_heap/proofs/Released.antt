@@ -34,7 +34,7 @@ nothing_kept None text id kept slots slot has none behind =
 nothing_kept (Some f) text id kept slots slot has none behind = behind_last (lowered 0) slots slot (subst (λ l. length l ≤ slot) has behind)
 
 -- claims rise, and no image changes
-images_raised : (bytes : ℕ) (slots : List Slot) (slot : ℕ) → images_of (with_change (raised bytes) slots slot) ≡ images_of slots
+pub images_raised : (bytes : ℕ) (slots : List Slot) (slot : ℕ) → images_of (with_change (raised bytes) slots slot) ≡ images_of slots
 images_raised bytes [] slot = refl
 images_raised bytes (s ∷ slots) zero = refl
 images_raised bytes (s ∷ slots) (suc slot) = ap (λ (l : List Image). s.image ∷ l) (images_raised bytes slots slot)

@@ -1,12 +1,12 @@
 -- What is in the slots of each page, be it in a frame or on the volume alone, and which lengths a page is known to refuse.
-use Rattle.std.specs.Prelude.{◌≡◌, ◌==◌, ◌&&◌, ◌≤◌, ℕ, Bool, List, [], Option, None, Some, map, slice_index_or, if◌then◌else◌}
+use Rattle.std.specs.Prelude.{◌≡◌, ◌==◌, ◌&&◌, ◌⊎◌, ◌<◌, ◌≤◌, ℕ, Bool, List, [], ◌∷◌, Option, None, Some, length, map, slice_index_or, if◌then◌else◌}
 use Rattle.shore_types.specs.declared.ids.PageId.{PageId}
 use Rattle.shore_types.specs.declared.layout.Geometry.{Geometry}
 use Rattle.shore_types.specs.Images.{Image}
 use Rattle.shore_types.specs.Layout.{HasPage}
 pub use Rattle.shore_page.specs.Claims.{FitIn, ClaimsOfPages, claimed_by, unclaimed}
-use Rattle.shore_page.specs.Room.{Fits}
-use Rattle.shore_page.specs.Slots.{Slot, image_at_slot, settled}
+use Rattle.shore_page.specs.Room.{Fits, raised}
+use Rattle.shore_page.specs.Slots.{Slot, image_at_slot, settled, with_change}
 use Rattle.shore_page.specs.Text.{IsPageText, images_of}
 use Rattle.shore_heap.specs.Bounds.{bound_at}
 use Rattle.shore_pool.specs.declared.frame.Frame.{Frame}
@@ -14,6 +14,20 @@ use Rattle.shore_pool.specs.declared.frame.Frame.{Frame}
 -- a frame whose slots keep so much more
 abbrev pub claimed_frame : List (ℕ × ℕ) → Frame → Frame
 claimed_frame kept f = record f { page = record f.page { slots = claimed_by kept f.page.slots } }
+
+-- .. whose page has other slots
+abbrev pub with_page_slots : List Slot → Frame → Frame
+with_page_slots slots f = record f { page = record f.page { slots = slots } }
+
+-- a slot is there, and can keep so many bytes
+abbrev pub CanKeep : List Slot → ℕ → ℕ → Type 0
+CanKeep slots slot bytes = (slot < length slots) × Fits slots slot bytes
+
+-- The slots keep what they can of these pairs, of which the last is reserved first: one for which there is no room when its turn comes is passed over.
+abbrev pub KeepWhatFits : List (ℕ × ℕ) → List Slot → List Slot → Type 0
+KeepWhatFits [] slots new = new ≡ slots
+KeepWhatFits (c ∷ rest) slots new = (so_far : List Slot) × KeepWhatFits rest slots so_far
+    × ((CanKeep so_far c.0 c.1 × (new ≡ with_change (raised c.1) so_far c.0)) ⊎ ((CanKeep so_far c.0 c.1 → ⊥) × (new ≡ so_far)))
 
 -- A page in a frame has the slots of its frame. One that the volume alone has claims what its records take, and what may come back to it.
 abbrev pub HasSlots : Option Frame → List ℕ → PageId → List (ℕ × ℕ) → List Slot → Type 0

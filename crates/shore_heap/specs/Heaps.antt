@@ -1,7 +1,7 @@
 -- What a heap shows over a volume, and what a call leaves of it.
-use Rattle.std.specs.Prelude.{◌≡◌, ◌≢◌, ◌⊎◌, ◌≤◌, Bool, ℕ, List, MatchResult, None, OnOk, Option, Result, Some}
+use Rattle.std.specs.Prelude.{◌≡◌, ◌≢◌, ◌⊎◌, ◌≤◌, Bool, ℕ, List, MatchResult, None, OnOk, Option, Result, Some, map}
 use Rattle.shore_disk.specs.Cause.{HasCause}
-use Rattle.shore_disk.specs.Device.{History, LeavesOnly, size}
+use Rattle.shore_disk.specs.Device.{DeviceHistory, LeavesOnly, size}
 use Rattle.shore_disk.specs.declared.device.Disk.{Ghosts}
 use Rattle.shore_types.specs.declared.faults.Device.TheVariants as device
 use Rattle.shore_types.specs.declared.faults.Fault.{Fault}
@@ -15,8 +15,8 @@ use Rattle.shore_types.specs.Layout.{HasPage}
 use Rattle.shore_dwrite.specs.declared.device.PageDev.{PageDev}
 use Rattle.shore_dwrite.specs.Shown.{ShowsBehind}
 use Rattle.shore_dwrite.specs.Volumes.{HasNoPage, page_number, page_offset}
-use Rattle.shore_page.specs.Slots.{Slot}
-use Rattle.shore_page.specs.Text.{IsPageText}
+use Rattle.shore_page.specs.Slots.{Slot, settled}
+use Rattle.shore_page.specs.Text.{IsPageText, images_of}
 use Rattle.shore_pool.specs.declared.frame.Frame.{Frame}
 use Rattle.shore_pool.specs.declared.pool.Pool.{Pool}
 use Rattle.shore_pool.specs.Pools as pools
@@ -25,7 +25,7 @@ use Rattle.shore_pool.specs.Pools.{HasInPlace, PoolHolds, NeedsForce}
 use Rattle.shore_page.specs.declared.undecided.Claims as claims
 use Rattle.shore_heap.specs.declared.choices.Places as choices
 use Rattle.shore_heap.specs.declared.heap.Heap.{Heap}
-use Rattle.shore_heap.specs.Contents.{AreBounds, AreKept, HasSlots, ClaimsOfPages}
+use Rattle.shore_heap.specs.Contents.{AreBounds, AreKept, HasSlots, KeepWhatFits, ClaimsOfPages}
 
 abbrev pub pool_of : {D : Type 0} {G : Ghosts D} → Heap D G → Pool D G
 pool_of heap = heap.pool
@@ -36,7 +36,7 @@ device_of heap = pools.device_of heap.pool
 abbrev pub geometry_of : {D : Type 0} {G : Ghosts D} → Heap D G → Geometry
 geometry_of heap = pools.geometry_of heap.pool
 
-abbrev pub history_of : {D : Type 0} {G : Ghosts D} → Heap D G → History
+abbrev pub history_of : {D : Type 0} {G : Ghosts D} → Heap D G → DeviceHistory
 history_of heap = pools.history_of heap.pool
 
 -- whether what is said of the device's bytes holds of it
@@ -104,6 +104,11 @@ KeepsSlots K old new durable front disk S = (left : ℕ → List ℕ) × Shows K
 -- An image of the volume that a crash leaves in the midst of it: it shows such pages behind the same front.
 abbrev pub LeavesPages : {D : Type 0} {G : Ghosts D} → Heap D G → ℕ → List ℕ → (ℕ → List ℕ) → List ℕ → Type 0
 LeavesPages heap durable front disk image = (left : ℕ → List ℕ) × ShowsBehind (geometry_of heap) front left image × MayBeLeft heap durable disk left
+
+-- the frame has its page as it was read: clean, and each slot keeps what its record takes, and of what is told what finds room
+pub record IsAsRead (kept : List (ℕ × ℕ)) (f : Frame) : Type 0 where
+  pub slots : KeepWhatFits kept (map settled (images_of f.page.slots)) f.page.slots
+  pub clean : f.recovery ≡ None
 
 -- the call was refused since a force is needed: no page may leave its frame
 abbrev pub AsksForForce : {D : Type 0} {G : Ghosts D} → Heap D G → ℕ → Fault → Type 0

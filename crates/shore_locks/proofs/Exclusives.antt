@@ -1,5 +1,5 @@
 -- The granules that a transaction holds in EX: which they are, that each comes once, and that a rising list of them is one list.
-use Rattle.std.proofs.Common.{◌≡◌, inl, inr, ⊎_elim, ℕ, List, [], ◌∷◌, true, false, Option, None, Some, refl, ap, sym, subst, ◌∙◌, map, get_or, ◌+◌, arith}
+use Rattle.std.proofs.Common.{◌≡◌, inl, inr, ⊎_elim, ℕ, List, [], ◌∷◌, true, false, Option, None, Some, refl, ap, sym, subst, ◌∙◌, map, length, get_or, ◌≤◌, ◌+◌, arith}
 use Rattle.std.specs.Prelude.{Contains, filter, ◌==◌, ◌&&◌, ◌↔◌}
 use Rattle.std.specs.declared.cmp.Ordering.{Ordering}
 use Rattle.std.specs.declared.cmp.Ordering.TheVariants.{Less, Equal, Greater}
@@ -9,10 +9,10 @@ use Rattle.std.specs.List.Sorted.{IsPermutation, IsSorted, IsStrictlySortedBy}
 use Rattle.std.specs.Ordering.{eq_by_cmp, is_eq, is_lt, ordering_reverse}
 use Rattle.std.proofs.lemmas.Bool.Decides.{Decides-eqb}
 use Rattle.std.proofs.lemmas.List.Elements.{All-from_recursion, recursion_from_All}
-use Rattle.std.proofs.lemmas.List.Sorted.{Contains-permutation, IsPermutation-sym}
+use Rattle.std.proofs.lemmas.List.{length-map}
+use Rattle.std.proofs.lemmas.List.Sorted.{Contains-permutation, IsPermutation-sym, length_permutation}
 use Rattle.std.proofs.lemmas.Map.Keys.{IsDistinct-IsPermutation, apart_from_distinct, sorted_from_all_adjacent}
-use Rattle.shore_types.specs.Ids.{exact_rids}
-use Rattle.shore_types.specs.Locking.{granule_cmp, granules_total, ids_of, same_granule}
+use Rattle.shore_types.specs.Locking.{exact_granules, granule_cmp, granules_total, same_granule}
 use Rattle.shore_types.specs.declared.ids.Rid.{Rid}
 use Rattle.shore_types.specs.declared.locking.Granule.{Granule}
 use Rattle.shore_types.specs.declared.locking.Granule.TheVariants.{Volume, Store, Page, Record}
@@ -22,30 +22,13 @@ use Rattle.shore_model.specs.declared.requests.Request.{Request}
 use Rattle.shore_model.specs.Modes.{is_write}
 use Rattle.shore_model.specs.Requests.{AreRequests, are_alike, requests_by}
 use Rattle.shore_nodes.specs.Tables.{is_for, mode_held, request_for}
+use Rattle.shore_nodes.proofs.Counts.{length-filter_most}
 use Rattle.shore_nodes.proofs.Entering.{both_true, found_in, held_in, request_in}
 use Rattle.shore_nodes.proofs.Keys.{alike-Decides, same_granule-Decides}
 use Rattle.shore_nodes.proofs.Members.{Contains-In, In, In-All, In-Contains, In-filter, All-In, either, filter-In, filter-no, filter-yes}
 use Rattle.shore_locks.specs.Listing.{granules_in_ex, holds_ex, is_ex}
 
 -- ---- granules in their order
-
-pub exact_granules : (x y : Granule) → granule_cmp x y ≡ Equal → x ≡ y
-exact_granules Volume Volume e = refl
-exact_granules (Store s) (Store t) e = ap (λ (r : Rid). Store r.page.store) (exact_rids (ids_of (Store s)) (ids_of (Store t)) e)
-exact_granules (Page p) (Page q) e = ap (λ (r : Rid). Page r.page) (exact_rids (ids_of (Page p)) (ids_of (Page q)) e)
-exact_granules (Record a) (Record b) e = ap Record (exact_rids a b e)
-exact_granules Volume (Store t) e = cc
-exact_granules Volume (Page q) e = cc
-exact_granules Volume (Record b) e = cc
-exact_granules (Store s) Volume e = cc
-exact_granules (Store s) (Page q) e = cc
-exact_granules (Store s) (Record b) e = cc
-exact_granules (Page p) Volume e = cc
-exact_granules (Page p) (Store t) e = cc
-exact_granules (Page p) (Record b) e = cc
-exact_granules (Record a) Volume e = cc
-exact_granules (Record a) (Store t) e = cc
-exact_granules (Record a) (Page q) e = cc
 
 equal_of : (o : Ordering) → is_eq o ≡ true → o ≡ Equal
 equal_of Less e = cc
@@ -191,6 +174,15 @@ module _ (t : ℕ) (ws rs : List Request) (one : AreRequests rs) (own : requests
     λ c. ex_held t rs one g (subst (In g) (are ∙ same_own t ws rs own) (Contains-In xs g (Contains-permutation ys xs g (IsPermutation-sym xs ys moved) c))),
     λ is. Contains-permutation xs ys g moved (In-Contains xs g (subst (In g) (sym (are ∙ same_own t ws rs own)) (held_ex t rs g is))),
   )
+
+  -- no more than there are requests
+  pub listed_few : length ys ≤ length rs
+  listed_few =
+      let moved_few = length_permutation xs ys moved in
+      let same : length xs ≡ length (granules_in_ex t rs) = ap length (are ∙ same_own t ws rs own) in
+      let mapped = length-map (filter (λ r. (r.txn == t) && holds_ex r) rs) (λ (r : Request). r.granule) in
+      let most = length-filter_most (λ (r : Request). (r.txn == t) && holds_ex r) rs in
+      omega (arith, moved_few, same, mapped, most)
 
   pub listed_rising : IsSorted granule_cmp ys → IsStrictlySortedBy granule_cmp ys
   listed_rising sorted =

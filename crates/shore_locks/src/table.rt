@@ -213,6 +213,7 @@ impl LockTable {
     pub fn exclusive(&self, alloc: Global, txn: TxnId) -> Result<Sequence<Granule>, AllocError>
         ensures held { IfOk result (λ granules. (g : Granule) → Contains granules g ↔ (mode_held txn g self.now.requests ≡ Some Mode.EX)) }
         ensures order { IfOk result (λ granules. IsStrictlySortedBy granule_cmp granules) }
+        ensures few { IfOk result (λ granules. length granules ≤ self.now.limit) }
     {
         let mut granules = Vec::new(alloc);
         append_exclusive(&mut granules, self.nodes.nodes().list(txn), txn)?;

@@ -97,13 +97,13 @@ later-In : {Y : Type 0} (ys : List Y) (y : Y) (o : Option Y) → In y ys → In 
 later-In ys y None h = h
 later-In ys y (Some z) h = inr h
 
-filter_map-In : {X Y : Type 0} (f : X → Option Y) (xs : List X) (x : X) (y : Y) → In x xs → f x ≡ Some y → In y (filter_map f xs)
+pub filter_map-In : {X Y : Type 0} (f : X → Option Y) (xs : List X) (x : X) (y : Y) → In x xs → f x ≡ Some y → In y (filter_map f xs)
 filter_map-In f [] x y h e = absurd h
 filter_map-In f (z ∷ xs) x y h e =
     ⊎_elim (λ same. first-In (filter_map f xs) y (f z) (ap f same ∙ e)) (λ t. later-In (filter_map f xs) y (f z) (filter_map-In f xs x y t e)) h
 
 -- a lock tells its request's transaction and granule, and the mode held
-lock_of : (r : Request) (o : Option Mode) (h : Hold) → hold_in r o ≡ Some h → (r.txn ≡ h.txn) × (r.granule ≡ h.granule) × (o ≡ Some h.mode)
+pub lock_of : (r : Request) (o : Option Mode) (h : Hold) → hold_in r o ≡ Some h → (r.txn ≡ h.txn) × (r.granule ≡ h.granule) × (o ≡ Some h.mode)
 lock_of r None h e = cc
 lock_of r (Some k) h e =
     let same : record { txn = r.txn; granule = r.granule; mode = k } ≡ h = cc in

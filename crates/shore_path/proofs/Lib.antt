@@ -17,6 +17,7 @@ pub mod Passing
 pub mod Reached
 pub mod Restored
 pub mod RestoredPaths
+pub mod RestoredTables
 pub mod WalkLoops
 pub mod Walking
 pub mod Ways

@@ -38,7 +38,7 @@ use Rattle.shore_path.proofs.Moving.{onto_put}
 
 -- ---- nobody waits
 
-wants_none : (rs : List Request) → NobodyWaits rs → (q : Request) → In q rs → is_some q.wanted ≡ false
+pub wants_none : (rs : List Request) → NobodyWaits rs → (q : Request) → In q rs → is_some q.wanted ≡ false
 wants_none rs nobody q h = ⊎_elim (λ wants. absurd (none_waits q.txn rs (nobody q.txn) q h refl wants)) (λ no. no) (either (is_some q.wanted))
 
 no_second : (b c : Bool) → c ≡ false → (b && c) ≡ false

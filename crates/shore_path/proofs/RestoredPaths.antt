@@ -19,13 +19,13 @@ use Rattle.shore_path.proofs.ModeFacts.{aim_enough}
 
 -- ---- granules and modes
 
-not_above_itself : (g : Granule) → In g (ancestors g) → ⊥
+pub not_above_itself : (g : Granule) → In g (ancestors g) → ⊥
 not_above_itself Volume h = absurd h
 not_above_itself (Store s) h = ⊎_elim (λ e. cc) (λ later. absurd later) h
 not_above_itself (Page p) h = ⊎_elim (λ e. cc) (λ later. ⊎_elim (λ e. cc) (λ none. absurd none) later) h
 not_above_itself (Record r) h = ⊎_elim (λ e. cc) (λ later. ⊎_elim (λ e. cc) (λ more. ⊎_elim (λ e. cc) (λ none. absurd none) more) later) h
 
-apart_from : (g a : Granule) → Contains (ancestors g) a → a ≡ g → ⊥
+pub apart_from : (g a : Granule) → Contains (ancestors g) a → a ≡ g → ⊥
 apart_from g a h same = not_above_itself g (subst (λ x. In x (ancestors g)) same (Contains-In (ancestors g) a h))
 
 longer : (g h : Granule) (gs : List Granule) → Contains gs h → Contains (g ∷ gs) h
@@ -119,7 +119,7 @@ module _ (t : ℕ) (g : Granule) (old mid new : Table) (taken : TakesIntentions 
 pub stops_above : (t : ℕ) (g : Granule) (old new : Table) (fault : Fault) → StopsAmong old new t (ancestors g) (λ h. IX) fault → StopsAmong old new t (path g) (λ h. IX) fault
 stops_above t g old new fault s = record { at = s.at; among = longer g s.at (ancestors g) s.among; taken = s.taken; refused = s.refused }
 
-asked_above : (g a : Granule) → Contains (ancestors g) a → asked_of g EX a ≡ IX
+pub asked_above : (g a : Granule) → Contains (ancestors g) a → asked_of g EX a ≡ IX
 asked_above g a c =
     ⊎_elim (λ yes. absurd (apart_from g a c ((same_granule-Decides a g).0 yes))) (λ no. rw no refl) (either (same_granule a g))
 

@@ -1,7 +1,7 @@
 -- Which frames are freed.
 use Rattle.std.proofs.Common.{◌≡◌, ◌≢◌, ◌⊎◌, ℕ, Option, Some, None, IsSomeAnd, option_map, inl, inr, sym, ap, subst, ◌∙◌}
 use Rattle.std.proofs.lemmas.Bool.{cases_eq}
-use Rattle.shore_disk.specs.Device.{History}
+use Rattle.shore_disk.specs.Device.{DeviceHistory}
 use Rattle.shore_disk.specs.declared.device.Disk.{Ghosts}
 use Rattle.shore_pool.specs.declared.frame.Frame.{Frame}
 use Rattle.shore_pool.specs.declared.pool.Pool.{Pool}
@@ -34,6 +34,6 @@ oldest_may pool durable None dirty due first = due
 oldest_may pool durable (Some f) dirty due first = inr (dirty, due, first)
 
 -- what was written only if no frame was clean, told of the same frames
-pub writes_from : (at now : ℕ → Option Frame) (was is : History) → now ≡ at → (is ≡ was) ⊎ ((k : ℕ) (f : Frame) → now k ≡ Some f → f.recovery ≢ None)
+pub writes_from : (at now : ℕ → Option Frame) (was is : DeviceHistory) → now ≡ at → (is ≡ was) ⊎ ((k : ℕ) (f : Frame) → now k ≡ Some f → f.recovery ≢ None)
     → (is ≡ was) ⊎ ((k : ℕ) (f : Frame) → at k ≡ Some f → f.recovery ≢ None)
 writes_from at now was is same = subst (λ (frames : ℕ → Option Frame). (is ≡ was) ⊎ ((k : ℕ) (f : Frame) → frames k ≡ Some f → f.recovery ≢ None)) same

@@ -1,6 +1,6 @@
 -- What a crash leaves of the pages while a call goes on.
 use Rattle.std.proofs.Common.{ℕ, List, Option, inl, inr, refl}
-use Rattle.shore_disk.specs.Device.{History, LeavesOnly}
+use Rattle.shore_disk.specs.Device.{DeviceHistory, LeavesOnly}
 use Rattle.shore_disk.specs.declared.device.Disk.{Ghosts}
 use Rattle.shore_disk.proofs.Moments.{widened}
 use Rattle.shore_types.specs.declared.layout.Geometry.{Geometry}
@@ -19,7 +19,7 @@ module _ (g : Geometry) (at : ℕ → Option Frame) (durable : ℕ) (front : Lis
   as_it_was k = inl refl
 
   -- a batch is written, or not
-  pub while_written : (old new : History) (other : ℕ → List ℕ) → MayBeLeft at durable disk other → LeavesOnly old new (ShowsEither g front disk other) → LeavesOnly old new Leaves
+  pub while_written : (old new : DeviceHistory) (other : ℕ → List ℕ) → MayBeLeft at durable disk other → LeavesOnly old new (ShowsEither g front disk other) → LeavesOnly old new Leaves
   while_written old new other may leaves = widened old new (ShowsEither g front disk other) Leaves leaves (λ image shows. elim shows [
     | inl before ↦ (disk, before, as_it_was)
     | inr after ↦ (other, after, may)

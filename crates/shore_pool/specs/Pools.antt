@@ -1,6 +1,6 @@
 -- What a pool holds over a volume, and what a call leaves of both.
 use Rattle.std.specs.Prelude.{◌≡◌, ◌≢◌, ◌⊎◌, ◌<◌, Bool, ℕ, List, Option, Some, None, IsSomeAnd, option_map}
-use Rattle.shore_disk.specs.Device.{History}
+use Rattle.shore_disk.specs.Device.{DeviceHistory}
 use Rattle.shore_disk.specs.declared.device.Disk.{Ghosts}
 use Rattle.shore_types.specs.declared.ids.PageId.{PageId}
 use Rattle.shore_types.specs.declared.layout.Geometry.{Geometry}
@@ -23,7 +23,7 @@ geometry_of pool = device.geometry_of pool.device
 abbrev pub device_of : {D : Type 0} {G : Ghosts D} → Pool D G → PageDev D G
 device_of pool = pool.device
 
-abbrev pub history_of : {D : Type 0} {G : Ghosts D} → Pool D G → History
+abbrev pub history_of : {D : Type 0} {G : Ghosts D} → Pool D G → DeviceHistory
 history_of {G = G} pool = G.history (device.device_of pool.device)
 
 -- whether what is said of the device's bytes holds of it

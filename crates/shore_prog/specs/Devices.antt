@@ -1,13 +1,13 @@
 -- The devices of a script.
 use Rattle.std.specs.Prelude.{◌≡◌, ℕ}
 use Rattle.shore_disk.specs.AnyDisk.{any_history}
-use Rattle.shore_disk.specs.Device.{History, size}
+use Rattle.shore_disk.specs.Device.{DeviceHistory, size}
 use Rattle.shore_disk.specs.Fuse.{fuse_calls, fuse_inner}
 use Rattle.shore_disk.specs.declared.any.AnyDisk.{AnyDisk}
 use Rattle.shore_disk.specs.declared.fuse.FuseDisk.{FuseDisk}
 use Rattle.shore_script.specs.declared.fuses.Fuses.{Fuses}
 
-abbrev pub history_of : FuseDisk AnyDisk → History
+abbrev pub history_of : FuseDisk AnyDisk → DeviceHistory
 history_of d = any_history (fuse_inner d)
 
 -- a log and a volume, each with as many bytes as it is to have

@@ -12,7 +12,7 @@ ghost use Rattle.shore_prog.specs.declared.manager.Progress.TheVariants.{Again};
 
 use crate::devices::{ScriptDisk, first_pair, pair_after_crash};
 use crate::forcing::force;
-use crate::rounds::{WaitingLines, go_round};
+use crate::rounds::{WaitingLines, go_first, go_round};
 use shore_disk::Pick;
 use shore_model::{Answer, Call, Wait};
 use shore_script::{Command, Devices, Fuse, Fuses, Settings, render};
@@ -276,12 +276,16 @@ fn ask<W: Write>(
     requires { IsServed call }
 {
     waiting.reserve()?;
+    let is_resolve = matches!(call, Call::Resolve(..));
     match world.step(alloc, Event::Call(session, call)) {
         Step::Waits(wait) => {
             if let Wait::Lock(granule) = &wait {
                 render::waits(out, session, granule)?;
             }
             waiting.add(alloc, session, wait, line)?;
+            if is_resolve {
+                go_first(alloc, world, waiting, session, out)?;
+            }
         }
         Step::Refused(fault) => return refuse(alloc, world, Some(session), fault, out),
         Step::Done(answer) => render::answer(out, session, &answer)?,

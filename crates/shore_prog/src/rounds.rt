@@ -114,6 +114,42 @@ pub fn go_round<W: Write>(
     Ok(())
 }
 
+/// Forces the log for a resolve, and goes on with it before all others: its locks are free by now, and whoever waits for them is answered behind it. A force
+/// that was refused for another cause than the device has changed nothing: it waits on, as the others.
+pub fn go_first<W: Write>(
+    alloc: Global,
+    world: &mut ScriptWorld,
+    waiting: &mut WaitingLines,
+    session: SessionId,
+    out: &mut W,
+) -> io::Result<()> {
+    match force(alloc, world) {
+        Ok(()) => resume_one(alloc, world, waiting, session, out),
+        Err(Fault::Device) => give_up(alloc, world, waiting, session, out),
+        Err(_) => Ok(()),
+    }
+}
+
+// Goes on with the call of a session that waits.
+fn resume_one<W: Write>(
+    alloc: Global,
+    world: &mut ScriptWorld,
+    waiting: &mut WaitingLines,
+    session: SessionId,
+    out: &mut W,
+) -> io::Result<()> {
+    let mut ended = false;
+    for line in waiting.lines.iter_mut() {
+        if line.session == session {
+            ended = resume(alloc, world, line, out)? == Resumed::Ended;
+        }
+    }
+    if ended {
+        waiting.lines.retain(|line| line.session != session);
+    }
+    Ok(())
+}
+
 // The call of a session that waits is answered by the failure of the device, and waits no more.
 fn give_up<W: Write>(
     alloc: Global,

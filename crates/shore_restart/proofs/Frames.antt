@@ -2,7 +2,7 @@
 use Rattle.std.proofs.Common.{◌≡◌, ◌≤◌, ◌+◌, ℕ, List, [], ◌∷◌, ◌++◌, Bool, Result, Ok, Err, None, inl, inr, refl, sym, ap, subst, ◌∙◌, length, take, take-add, length-append, length-drop, arith}
 use Rattle.std.proofs.lemmas.List.{length-take-le}
 use Rattle.shore_types.specs.declared.layout.Geometry.{Geometry}
-use Rattle.shore_disk.specs.Device.{History, LeavesOnly, may_leave}
+use Rattle.shore_disk.specs.Device.{DeviceHistory, LeavesOnly, may_leave}
 use Rattle.shore_disk.specs.declared.device.Disk.{Ghosts}
 use Rattle.shore_disk.proofs.Moments.{at_end, widened}
 use Rattle.shore_model.specs.declared.log_records.LogRecord.{LogRecord}
@@ -36,7 +36,7 @@ module _ {L : Type 0} {G : Ghosts L} where
         subst (λ (rs : List LogRecord). GivesBehind log_front rs c) same (settled_gives log log_front rest.settled c left),
       )
 
-  module _ (g : Geometry) (log_front front : List ℕ) (volume : History) (old new : LogDev L G) (s : RecoveryState) (rest : IsAtRest log_front old s) (covered : (c : List ℕ) → may_leave volume c → ShowsLeft g front s c) where
+  module _ (g : Geometry) (log_front front : List ℕ) (volume : DeviceHistory) (old new : LogDev L G) (s : RecoveryState) (rest : IsAtRest log_front old s) (covered : (c : List ℕ) → may_leave volume c → ShowsLeft g front s c) where
     -- with the frame or without it, a prefix of the log is left
     frame_left : (count : ℕ) → count ≤ length (waiting old) → (c : List ℕ) → GivesWithOrWithout log_front (stable old) (take count (waiting old)) c → GivesPrefix log_front s c
     frame_left count within c (inl without) =
@@ -111,17 +111,17 @@ module _ {L : Type 0} {G : Ghosts L} where
 
   -- ---- frame by frame
 
-  abbrev moment : History → LogDev L G → RecoveryState → Moment
+  abbrev moment : DeviceHistory → LogDev L G → RecoveryState → Moment
   moment volume log s = record { log = log_history log; volume = volume; store = s }
 
   -- the frames so far
-  pub record SoFar (g : Geometry) (log_front front : List ℕ) (volume : History) (first log : LogDev L G) (s : RecoveryState) : Type 0 where
+  pub record SoFar (g : Geometry) (log_front front : List ℕ) (volume : DeviceHistory) (first log : LogDev L G) (s : RecoveryState) : Type 0 where
     pub durable : ℕ
     pub moments : List Moment
     pub path : Path g log_front front (moment volume first s) moments (moment volume log (after_force s durable))
     pub at_rest : IsAtRest log_front log (after_force s durable)
 
-  pub none_so_far : (g : Geometry) (log_front front : List ℕ) (volume : History) (log : LogDev L G) (s : RecoveryState) → IsAtRest log_front log s
+  pub none_so_far : (g : Geometry) (log_front front : List ℕ) (volume : DeviceHistory) (log : LogDev L G) (s : RecoveryState) → IsAtRest log_front log s
       → ((c : List ℕ) → may_leave volume c → ShowsLeft g front s c) → SoFar g log_front front volume log log s
   none_so_far g log_front front volume log s rest covered = record {
     durable = s.durable;
@@ -130,7 +130,7 @@ module _ {L : Type 0} {G : Ghosts L} where
     at_rest = record { settled = rest.settled; none_staged = rest.none_staged; records = rest.records; durable = rest.durable };
   }
 
-  module _ (g : Geometry) (log_front front : List ℕ) (volume : History) (first log : LogDev L G) (s : RecoveryState) (so_far : SoFar g log_front front volume first log s) where
+  module _ (g : Geometry) (log_front front : List ℕ) (volume : DeviceHistory) (first log : LogDev L G) (s : RecoveryState) (so_far : SoFar g log_front front volume first log s) where
     pub shown_so_far : (c : List ℕ) → may_leave volume c → ShowsLeft g front (after_force s so_far.durable) c
     shown_so_far = (path_covered g log_front front (moment volume first s) so_far.moments (moment volume log (after_force s so_far.durable)) so_far.path).volume
 

@@ -17,10 +17,11 @@ use Rattle.shore_log.specs.Settled.{records_of_log, stable}
 use Rattle.shore_log.specs.declared.device.LogDev.{LogDev}
 use Rattle.shore_model.specs.declared.log_records.LogRecord.{LogRecord}
 use Rattle.shore_page.specs.Room.{lowered}
+use Rattle.shore_page.specs.Slots.{Slot}
 use Rattle.shore_pool.specs.Changes.{changed, reclaimed}
 use Rattle.shore_pool.specs.declared.frame.Frame.{Frame}
 use Rattle.shore_heap.specs.declared.heap.Heap.{Heap}
-use Rattle.shore_heap.specs.Heaps.{KeepsVolume, RefusesPage, WroteBack, frame_at, geometry_of}
+use Rattle.shore_heap.specs.Heaps.{KeepsVolume, RefusesPage, WroteBack, frame_at, frame_of, geometry_of}
 use Rattle.laws_heaps.specs.LoggedHeaps.{IsMade, IsReleased}
 use Rattle.shore_restart.specs.declared.errors.RestartError.{RestartError}
 use Rattle.shore_restart.specs.declared.errors.RestartError.TheVariants.{Page}
@@ -60,11 +61,11 @@ made_within : (o : Option Frame) (f : Frame) (number slot last : ℕ) (image : I
 made_within None f number slot last image is low = absurd (no_frame f is)
 made_within (Some h) f number slot last image is low = subst (λ (n : ℕ). n ≤ last) (ap (λ (x : Frame). x.page.number) (one_frame (changed number slot image h) f is)) low
 
-released_within : (o : Option Frame) (f : Frame) (slot last : ℕ) → ((h : Frame) → o ≡ Some h → h.recovery ≢ None → h.page.number ≤ last) → option_map (reclaimed (lowered 0) slot) o ≡ Some f
+released_within : (o : Option Frame) (f : Frame) (claim : Slot → Slot) (slot last : ℕ) → ((h : Frame) → o ≡ Some h → h.recovery ≢ None → h.page.number ≤ last) → option_map (reclaimed claim slot) o ≡ Some f
     → f.recovery ≢ None → f.page.number ≤ last
-released_within None f slot last low is dirty = absurd (no_frame f is)
-released_within (Some h) f slot last low is dirty =
-    let same = one_frame (reclaimed (lowered 0) slot h) f is in
+released_within None f claim slot last low is dirty = absurd (no_frame f is)
+released_within (Some h) f claim slot last low is dirty =
+    let same = one_frame (reclaimed claim slot h) f is in
     subst (λ (n : ℕ). n ≤ last) (ap (λ (x : Frame). x.page.number) same) (low h refl (λ clean. dirty (sym (ap (λ (x : Frame). x.recovery) same) ∙ clean)))
 
 -- no more of a log is durable than there is
@@ -208,6 +209,19 @@ module _ {V : Type 0} {H : Ghosts V} where
 
       released_low : IsLow last (frame_at new)
       released_low k f is dirty = elim (cases_eq k (page_number (geometry_of mid) id.page)) [
-        | inl same ↦ released_within (frame_at mid (page_number (geometry_of mid) id.page)) f id.slot last (λ h at. made_low (page_number (geometry_of mid) id.page) h at) (sym released.0 ∙ ap (frame_at new) (sym same) ∙ is) dirty
+        | inl same ↦ released_within (frame_at mid (page_number (geometry_of mid) id.page)) f (lowered 0) id.slot last (λ h at. made_low (page_number (geometry_of mid) id.page) h at) (sym released.0 ∙ ap (frame_at new) (sym same) ∙ is) dirty
         | inr apart ↦ made_low k f (sym (released.1 k apart) ∙ is) dirty
       ]
+
+  -- .. whose slot keeps more
+  pub claim_held : (front : List ℕ) (disk : ℕ → List ℕ) (mid new : Heap V H) (id : Rid) (claim : Slot → Slot) (last : ℕ) → geometry_of new ≡ geometry_of mid → frame_of new id.page ≡ option_map (reclaimed claim id.slot) (frame_of mid id.page)
+      → ((k : ℕ) → k ≢ page_number (geometry_of mid) id.page → frame_at new k ≡ frame_at mid k) → KeepsVolume mid new → IsHeld front disk mid last → IsHeld front disk new last
+  claim_held front disk mid new id claim last geometry here others kept held = record {
+    holds = (kept front disk held.holds).0;
+    low = λ k f is dirty. elim (cases_eq k (page_number (geometry_of mid) id.page)) [
+      | inl same ↦
+          released_within (frame_of mid id.page) f claim id.slot last (λ h at. held.low (page_number (geometry_of mid) id.page) h at)
+          (sym here ∙ ap (λ (g : Geometry). frame_at new (page_number g id.page)) geometry ∙ ap (frame_at new) (sym same) ∙ is) dirty
+      | inr apart ↦ held.low k f (sym (others k apart) ∙ is) dirty
+    ];
+  }

@@ -1,5 +1,5 @@
 -- A turn of undo over the log alone: the loser's next record, and what undo works with behind it.
-use Rattle.std.proofs.Common.{◌≡◌, ◌<◌, ◌+◌, ℕ, List, [], ◌∷◌, ◌++◌, Option, None, Some, sym, ap, subst, ◌∙◌, length, arith}
+use Rattle.std.proofs.Common.{◌≡◌, ◌<◌, ◌+◌, ℕ, List, [], ◌∷◌, ◌++◌, Option, None, Some, refl, sym, ap, subst, ◌∙◌, length, arith}
 use Rattle.std.specs.Prelude.{All, IfNone, IfSome, IsSome}
 use Rattle.shore_types.specs.Layout.{HasSlot}
 use Rattle.shore_types.specs.declared.ids.Rid.{Rid}
@@ -13,8 +13,10 @@ use Rattle.shore_analysis.specs.Meant.{AreMeant}
 use Rattle.laws_runs.specs.SlotCounts.{FitsBehind}
 use Rattle.shore_analysis.specs.Losers.{HasLosers, IsNextToUndo, turns_left}
 use Rattle.shore_restart.specs.declared.turns.Undo.{Undo}
+use Rattle.shore_restart.specs.Doubts.{reserved_told}
 use Rattle.shore_restart.specs.Room.{IsRoomBehind, LeavesRoom}
 use Rattle.shore_restart.specs.Turns.{CannotUndo, HasNoTurnRoom, IsUndoOf, TakesTurn}
+use Rattle.shore_restart.proofs.DoubtsKept.{same_reserved}
 use Rattle.shore_restart.proofs.UndoTexts.{last_low, undo_fits, undo_kept_meant, undo_there}
 
 -- the record is the next one of undo
@@ -84,6 +86,10 @@ module _ (g : Geometry) (log : List LogRecord) (stream_bytes : ℕ) (undo : Undo
         losers = losers;
         room = room;
       })))
+
+  -- what those in doubt have reserved is as it was
+  pub turn_reserved : reserved_told (log ++ r ∷ []) ≡ reserved_told log
+  turn_reserved = ap (λ (x : LogRecord). reserved_told (log ++ x ∷ [])) turn.is ∙ same_reserved log (r.txn ∷ []) (log ++ undo_record log r.txn ∷ []) (turn.loser, refl)
 
   -- it leaves no room
   pub turn_lacks_room : (LeavesRoom (log ++ r ∷ []) stream_bytes → ⊥) → HasNoTurnRoom log stream_bytes

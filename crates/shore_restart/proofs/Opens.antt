@@ -1,169 +1,77 @@
--- The state that a core over a restart opens in: what the log leaves is in place, and nobody is in a transaction. Nor is anybody in doubt, as the log has
--- no Prepare.
-use Rattle.std.proofs.Common.{◌≡◌, ◌<◌, ℕ, List, [], ◌∷◌, ◌++◌, false, refl, sym, ap, subst, ◌∙◌, length, map, arith}
-use Rattle.std.specs.Prelude.{Contains}
-use Rattle.std.specs.FinMap.{get}
-use Rattle.std.specs.List.{AllByRecursion}
-use Rattle.std.proofs.lemmas.List.Elements.{recursion_from_All}
+-- A core over a restart opens over its store: what the log leaves is in place, those in doubt are under way with what is theirs, and nobody else is.
+use Rattle.std.proofs.Common.{◌≡◌, ◌+◌, ◌≤◌, ℕ, List, false, refl, sym, ap, subst, ◌∙◌, length, length-append, arith}
 use Rattle.shore_disk.specs.declared.device.Disk as disk
-use Rattle.shore_types.specs.declared.ids.PageId.{PageId}
 use Rattle.shore_types.specs.declared.layout.Geometry.{Geometry}
-use Rattle.shore_model.specs.declared.histories.InDoubt.{InDoubt}
+use Rattle.shore_types.specs.declared.layout.TheConstants.{LAST_OPENED}
 use Rattle.shore_model.specs.declared.histories.Opening.{Opening}
-use Rattle.shore_model.specs.declared.holds.Hold.{Hold}
 use Rattle.shore_model.specs.declared.log_records.LogRecord.{LogRecord}
-use Rattle.shore_model.specs.Histories.{free}
-use Rattle.shore_model.specs.Logs.{Lawful, image_of_record, records_told}
-use Rattle.laws_lives.specs.Doubts.{IsOpeningOf, doubts_in}
-use Rattle.laws_lives.specs.Soundness.{found_in_doubt}
-use Rattle.laws_lives.specs.Views.{IsAmong}
-use Rattle.laws_lives.proofs.Openings.{undone_opening}
-use Rattle.laws_calls.proofs.EmptyOpens.{none_granted}
-use Rattle.laws_lives.proofs.Lists.{recursion-at, recursion-push}
-use Rattle.shore_locks.specs.Tables.{Table}
-use Rattle.shore_page.specs.Slots.{settled}
-use Rattle.laws_room.specs.Claims.{rid_on}
-use Rattle.laws_room.proofs.Lists.{each_alike}
-use Rattle.laws_room.proofs.Settled.{claims_settled}
-use Rattle.laws_calls.specs.States.{State, page_slots}
+use Rattle.shore_model.specs.declared.log_records.LogTxn.{LogTxn}
+use Rattle.shore_model.specs.Logs.{IsTable, Lawful}
+use Rattle.laws_lives.specs.Doubts.{IsOpeningOf, undo_in}
 use Rattle.laws_lives.specs.Recovery.{IsRecoverable, RecoveryState}
-use Rattle.laws_lives.specs.Undo.{HasNoLosers, IsUndoneTo, undo_record}
+use Rattle.laws_lives.specs.Sessions.{SessionTxn}
+use Rattle.laws_lives.specs.Undo.{HasNoLosers, IsLoser, IsUndoneTo}
+use Rattle.laws_lives.specs.Views.{IsAmong}
 use Rattle.laws_lives.proofs.Invariant.{redone_whole}
-use Rattle.laws_lives.proofs.UndoRecords.{undone_lawful}
+use Rattle.laws_lives.proofs.SessionsAgree.{each_at}
+use Rattle.laws_lives.proofs.UndoRecords.{undone_grows, undone_lawful}
 use Rattle.laws_lives.proofs.WritersTold.{leaves_told}
+use Rattle.laws_calls.specs.States.{State, page_slots}
 use Rattle.laws_runs.specs.StoredRuns.{IsOpenedOver}
+use Rattle.laws_heaps.specs.LoggedHeaps.{IsStoreOf}
 use Rattle.shore_analysis.specs.Meant.{AreMeant}
 use Rattle.shore_analysis.specs.Tables.{IsNext}
-use Rattle.shore_analysis.proofs.Counted.{last_is_one}
 use Rattle.shore_analysis.proofs.InTurn.{in_order_undone}
-use Rattle.laws_runs.specs.SlotCounts.{slot_count, slots_left}
-use Rattle.shore_txn.specs.ActiveTxns.{session_txns}
-use Rattle.shore_txn.specs.Transactions.{next_in, room_in}
-use Rattle.shore_sessions.specs.declared.control.Control.{Control}
-use Rattle.shore_sessions.specs.declared.waits.WaitingCall.{WaitingCall}
-use Rattle.shore_sessions.specs.Controls.{locks_in, txns_in, waits_in}
-use Rattle.shore_sessions.specs.Standing.{HasControl, HasTxns, HasWaits, IsLogged}
 use Rattle.shore_heap.specs.declared.heap.Heap.{Heap}
-use Rattle.shore_heap.specs.Contents.{unclaimed}
 use Rattle.shore_heap.specs.Heaps.{Shows}
-use Rattle.shore_heap.proofs.Showing.{shows_same}
-use Rattle.laws_heaps.proofs.SettledSlots.{shows_only, slots_done}
-use Rattle.laws_heaps.specs.LoggedHeaps.{IsStoreOf}
 use Rattle.shore_log.specs.declared.tail.Tail as tail
+use Rattle.shore_txn.specs.Transactions as table
+use Rattle.shore_txn.specs.Transactions.{kept_in, next_in, room_in}
+use Rattle.shore_txn.specs.Txns.{last_of}
+use Rattle.shore_txn.specs.declared.txn.Txn.{Txn}
+use Rattle.shore_sessions.specs.declared.control.Control.{Control}
+use Rattle.shore_sessions.specs.Controls.{txns_in}
+use Rattle.shore_sessions.specs.Standing.{HasControl}
 use Rattle.shore_core.specs.declared.core_calls.Core.{Core}
 use Rattle.shore_core.specs.Cores.{IsIn, IsKept, IsOver}
-use Rattle.shore_restart.specs.Idle.{IsIdle}
+use Rattle.shore_restart.specs.GivenBack.{HasDoubtsBack, StandsWith}
 use Rattle.shore_restart.specs.Opened.{OpensIn}
 use Rattle.shore_restart.specs.Room.{IsRoomBehind}
-use Rattle.shore_restart.specs.Standing.{Stands}
 use Rattle.shore_restart.specs.Turns.{IsUndoneSoFar}
-use Rattle.shore_restart.proofs.NoDoubts.{no_doubts, nobody_found, none_logged}
-
--- ---- numbers of transactions
-
--- records of undo are of transactions that the log had
-pub below_undone : (n : ℕ) (log : List LogRecord) (turns : List ℕ) (last : List LogRecord) → IsUndoneTo log turns last → AllByRecursion (λ r. r.txn < n) log
-    → AllByRecursion (λ r. r.txn < n) last
-below_undone n log [] last undone all = subst (AllByRecursion (λ r. r.txn < n)) (sym undone) all
-below_undone n log (t ∷ turns) last undone all =
-    let one = last_is_one log t undone.0.known in
-    let here = recursion-at (λ (r : LogRecord). r.txn < n) log one.at one.found all one.here in
-    below_undone n (log ++ undo_record log t ∷ []) turns last undone.1
-    (recursion-push (λ (r : LogRecord). r.txn < n) log (undo_record log t) all (subst (λ k. k < n) one.own here))
+use Rattle.shore_restart.proofs.DoubtsKept.{few_doubts, same_restored, same_undo}
+use Rattle.shore_restart.proofs.DoubtsTold.{active_listed, as_many_undos, each_given, one_of_them, prepared_listed}
+use Rattle.shore_restart.proofs.KeptPages.{shows_opened}
+use Rattle.shore_restart.proofs.OpenedTxns.{given_earlier, opened_control, opened_locks, opened_state, opened_txns}
+use Rattle.shore_restart.proofs.Rooms.{records_cost}
+use Rattle.shore_restart.proofs.Unkept.{are_told, still_told}
 
 -- ---- the state
 
-module _ (ready : RecoveryState) (control : Control) (stream_bytes : ℕ) where
-  abbrev pub opened_state : State
-  opened_state = record {
+module _ (ready : RecoveryState) (control : Control) (stream_bytes : ℕ) (g : Geometry) (found : List LogRecord) (turns : List ℕ) (limit : ℕ) (meant : AreMeant g found)
+    (undone : IsUndoneTo found turns ready.log) (back : HasDoubtsBack limit found control) (next : IsNext found (next_in (txns_in control))) where
+  opened_over : IsRecoverable ready → ready.redone ≡ length ready.log → Lawful found → HasNoLosers ready.log → IsRoomBehind ready.log stream_bytes (room_in (txns_in control))
+      → (txns : List LogTxn) → IsTable found txns → (o : Opening) → IsOpeningOf found o → IsOpenedOver o ready (opened_state ready control stream_bytes)
+  opened_over kept redone lawful quiet room txns entries o opening = record {
     sessions = record {
-      records = records_told ready.log;
-      active = [];
-      committing = [];
-      held = [];
-      next_txn = next_in (txns_in control);
-      seats = λ n. free;
-      prepared = [];
-      resolving = [];
+      records = λ id. sym (redone_whole ready kept redone id.page id.slot ∙ leaves_told ready.log (undone_lawful found turns ready.log undone lawful) quiet id);
+      seats = λ n. refl;
+      committing = refl;
+      resolving = refl;
+      prepared = prepared_listed found (txns_in control) back.txns o.in_doubt opening.in_doubt;
+      active = active_listed found (txns_in control) back.txns o.in_doubt opening.in_doubt;
+      undo_lists = λ a among.
+          let of = one_of_them found (txns_in control) back.txns a among in
+          subst (λ (a : SessionTxn). a.undo ≡ undo_in ready.log a.txn) of.2 (sym (same_undo found turns ready.log undone of.0 of.1));
+      locks = same_restored found turns ready.log undone _ back.locks.restored;
+      some = next.some;
+      below = (opened_txns ready control stream_bytes g found turns limit meant undone back next room).above;
     };
-    locks = locks_in control;
-    counts = slot_count ready.log;
-    log = ready.log;
-    durable = ready.durable;
-    stream_bytes = stream_bytes;
-    waiting = [];
-    failed = false;
+    stored = record { log = refl; durable = refl };
+    locks = opened_locks ready control stream_bytes g found turns limit meant undone back next;
+    waiting = refl;
+    running = refl;
+    few = let few = few_doubts g found meant lawful txns entries in let many = as_many_undos found (txns_in control) back.txns in omega (arith, few, many);
   }
-
-  module _ (kept : IsRecoverable ready) (redone : ready.redone ≡ length ready.log) (lawful : Lawful ready.log) (quiet : HasNoLosers ready.log) where
-    -- The log that was found means what it has to, so it has no Prepare: whatever opening it says has nobody in doubt.
-    pub opened_over : (g : Geometry) (found : List LogRecord) (turns : List ℕ) → AreMeant g found → IsUndoneTo found turns ready.log → IsNext found (next_in (txns_in control)) → (limit : ℕ)
-        → IsIdle limit control → (o : Opening) → IsOpeningOf found o → IsOpenedOver o ready opened_state
-    opened_over g found turns meant undone next limit idle o opening =
-        let nobody : o.in_doubt ≡ [] = nobody_found found o opening (no_doubts g found meant) in
-        let none : doubts_in ready.log ≡ [] = none_logged ready.log o (undone_opening o found turns ready.log undone opening) nobody in
-        record {
-          sessions = record {
-            records = λ id. sym (redone_whole ready kept redone id.page id.slot ∙ leaves_told ready.log lawful quiet id);
-            seats = λ n. refl;
-            committing = refl;
-            resolving = refl;
-            prepared = sym (ap (map found_in_doubt) nobody);
-            active = sym (ap (map (λ (d : InDoubt). d.txn)) nobody);
-            undo_lists = λ a among. absurd among;
-            locks = record {
-              each = λ h among. absurd (none_held h among);
-              all = λ d g among. absurd (subst (IsAmong d) none among);
-              above = λ d g a among. absurd (subst (IsAmong d) none among);
-            };
-            some = next.some;
-            below = below_undone (next_in (txns_in control)) found turns ready.log undone (recursion_from_All (λ (r : LogRecord). r.txn < next_in (txns_in control)) found next.above);
-          };
-          stored = record { log = refl; durable = refl };
-          locks = none_granted opened_state refl (ap (λ (t : Table). t.requests) idle.locks);
-          waiting = refl;
-          running = refl;
-          few = omega arith;
-        }
-      where
-        none_held : (h : Hold) → Contains [] h → ⊥
-        none_held h in_none = absurd (omega (arith, in_none.1))
-
-    -- the slots of its pages are those that the log leaves
-    slots_told : (p : PageId) → page_slots opened_state p ≡ slots_left ready.log p
-    slots_told p =
-        sym (claims_settled (records_told ready.log) p (slot_count ready.log p))
-        ∙ each_alike (λ i. settled (get (records_told ready.log) (rid_on p i))) (λ i. settled (image_of_record ready.log (rid_on p i))) 0 (slot_count ready.log p)
-        (λ i least most. ap settled (sym (leaves_told ready.log lawful quiet (rid_on p i))))
-
-    pub opened_shows : {V : Type 0} {H : disk.Ghosts V} (heap : Heap V H) (front : List ℕ) (disk : ℕ → List ℕ) → Stands front disk heap ready
-        → Shows unclaimed heap front disk (page_slots opened_state)
-    opened_shows heap front disk stands =
-        shows_same heap unclaimed front disk stands.slots (page_slots opened_state)
-        (λ p has. slots_told p ∙ sym (slots_done ready p kept (stands.store.done p) redone) ∙ sym (shows_only heap disk ready stands.store stands.settled front stands.slots stands.shows p has))
-        stands.shows
-
-  -- with nothing under way the control stands for it
-  module _ (limit : ℕ) (idle : IsIdle limit control) where
-    pub opened_txns : IsRoomBehind ready.log stream_bytes (room_in (txns_in control)) → AllByRecursion (λ r. r.txn < next_in (txns_in control)) ready.log
-        → HasTxns (txns_in control) opened_state
-    opened_txns room below = record {
-      active = sym (ap session_txns idle.txns);
-      unprepared = record { prepared = refl; resolving = refl };
-      next = refl;
-      stream = sym room.stream;
-      kept = sym room.kept;
-      each = subst (AllByRecursion (IsLogged ready.log)) (sym idle.txns) tt;
-      above = below;
-    }
-
-    pub opened_waits : HasWaits (waits_in control) opened_state
-    opened_waits = subst (λ (calls : List WaitingCall). HasWaits calls opened_state) (sym idle.waits)
-        (record { waiting = refl; committing = λ running. refl; asking = λ w among no_commit. absurd among })
-
-    pub opened_control : IsRoomBehind ready.log stream_bytes (room_in (txns_in control)) → AllByRecursion (λ r. r.txn < next_in (txns_in control)) ready.log
-        → HasControl control opened_state
-    opened_control room below = record { txns = opened_txns room below; waits = opened_waits; locks = refl }
 
 -- ---- the core
 
@@ -171,26 +79,48 @@ module _ {T V : Type 0} {G : tail.Ghosts T} {H : disk.Ghosts V} (core : Core T V
     (found log : List LogRecord) (stream_bytes : ℕ) (ready : RecoveryState) where
   -- what is made of a heap and a control that a restart has left opens over its store
   pub opens_in : (g : Geometry) → AreMeant g found → ready.log ≡ log → Lawful found → (undone : IsUndoneSoFar found log) → HasNoLosers log → ready.redone ≡ length ready.log
-      → Stands front left heap ready → (limit : ℕ) → IsIdle limit control → IsNext found (next_in (txns_in control)) → IsRoomBehind log stream_bytes (room_in (txns_in control))
-      → ((s : State) → s.log ≡ ready.log → s.durable ≡ ready.durable → s.failed ≡ false → HasControl control s → Shows unclaimed heap front left (page_slots s)
+      → ((t : ℕ) → IsLoser log t → ⊥) → StandsWith (kept_in (txns_in control)) front left heap ready → (limit : ℕ) → HasDoubtsBack limit found control → IsNext found (next_in (txns_in control))
+      → IsRoomBehind log stream_bytes (room_in (txns_in control)) → (txns : List LogTxn) → IsTable found txns
+      → ((s : State) → s.log ≡ ready.log → s.durable ≡ ready.durable → s.failed ≡ false → HasControl control s → Shows (kept_in (txns_in control)) heap front left (page_slots s)
       → IsIn front left s.log core s)
       → ((s : State) (store : RecoveryState) → IsKept s store → IsStoreOf heap left store → IsOver left core s store) → OpensIn core front left found log stream_bytes ready
-  opens_in g meant same lawful undone quiet redone stands limit idle next room in_state over_store =
+  opens_in g meant same lawful undone quiet redone ended stands limit back next room txns entries in_state over_store =
       let s = opened_state ready control stream_bytes in
       let here : IsUndoneTo found undone.0 ready.log = subst (IsUndoneTo found undone.0) (sym same) (in_order_undone found undone.0 log undone.1) in
       let kept = stands.recoverable in
       let still_lawful = undone_lawful found undone.0 ready.log here lawful in
       let quiet_here = subst HasNoLosers (sym same) quiet in
       let behind = subst (λ (l : List LogRecord). IsRoomBehind l stream_bytes (room_in (txns_in control))) (sym same) room in
-      let below = below_undone (next_in (txns_in control)) found undone.0 ready.log here (recursion_from_All (λ (r : LogRecord). r.txn < next_in (txns_in control)) found next.above) in
       record {
         first = s;
-        opened = opened_over ready control stream_bytes kept redone still_lawful quiet_here g found undone.0 meant here next limit idle;
+        opened = opened_over ready control stream_bytes g found undone.0 limit meant here back next kept redone lawful quiet_here behind txns entries;
         counts = λ p. refl;
         stream = refl;
         next = next;
         is_in = subst (λ (l : List LogRecord). IsIn front left l core s) same
-            (in_state s refl refl refl (opened_control ready control stream_bytes limit idle behind below)
-            (opened_shows ready control stream_bytes kept redone still_lawful quiet_here heap front left stands));
+            (in_state s refl refl refl (opened_control ready control stream_bytes g found undone.0 limit meant here back next behind)
+            (shows_opened (txns_in control) front left heap ready stands (still_told found undone.0 ready.log (txns_in control) here (are_told found (txns_in control) back.txns)) redone still_lawful quiet_here));
         over = over_store s ready (record { stored = record { log = refl; durable = refl }; redone = redone; recoverable = kept }) stands.store;
+        ended = ended;
       }
+
+-- ---- what the core asks
+
+module _ (g : Geometry) (found log : List LogRecord) (undone : IsUndoneSoFar found log) (meant : AreMeant g found) (limit : ℕ) (control : Control) (back : HasDoubtsBack limit found control) where
+  -- the last record of each is one of the log's
+  pub are_earlier : (t : Txn) → IsAmong t (table.txns_in (txns_in control)) → last_of t ≤ length log
+  are_earlier t among =
+      let here = in_order_undone found undone.0 log undone.1 in
+      let grown = undone_grows found undone.0 log here in
+      let all = each_given found (txns_in control) back.txns (λ t. last_of t ≤ length found) (λ d t there of. given_earlier g found undone.0 log meant here d t there of) in
+      let low = each_at (λ (t : Txn). last_of t ≤ length found) (table.txns_in (txns_in control)) t all among in
+      omega (arith, low, ap length grown.1, length-append found grown.0)
+
+-- .. and numbers are left for all that is reserved
+pub numbers_left : (log : List LogRecord) (control : Control) (stream_bytes : ℕ) → IsRoomBehind log stream_bytes (room_in (txns_in control)) → length log + 1 + (room_in (txns_in control)).reserved ≤ LAST_OPENED
+numbers_left log control stream_bytes room =
+    let frame = room.leaves.frame in
+    let short = room.leaves.short in
+    let reserved = room.reserved in
+    let cost = records_cost log in
+    omega (arith, frame, short, reserved, cost)

@@ -11,12 +11,12 @@ use Rattle.shore_disk.specs.declared.device.Disk.{Ghosts}
 use Rattle.shore_dwrite.specs.Volumes.{HasNoPage, page_number, page_offset}
 use Rattle.shore_heap.specs.declared.heap.Heap.{Heap}
 use Rattle.shore_heap.specs.Heaps.{RefusesPage, geometry_of}
-use Rattle.laws_lives.specs.Recovery.{RecoveryState}
+use Rattle.laws_heaps.specs.LoggedHeaps.{IsStoreOf}
+use Rattle.laws_lives.specs.Recovery.{IsRecoverable, RecoveryState}
 use Rattle.shore_disk.specs.Cause.{HasCause}
 use Rattle.shore_restart.specs.declared.errors.RestartError.{RestartError}
 use Rattle.shore_restart.specs.declared.errors.RestartError.TheVariants.{BadRecord, Log, Memory, NoRoom, Page}
 use Rattle.shore_restart.specs.Errors.{IsEarned, IsPageError, volume_answer}
-use Rattle.shore_restart.specs.Standing.{Stands}
 use Rattle.shore_restart.proofs.Standing.{force_within}
 
 one_page : (f h : Fault) → Page f ≡ Page h → f ≡ h
@@ -39,19 +39,19 @@ device_error f error (inr other) is = other.1 ∙ ap Page is
 
 module _ {V : Type 0} {H : Ghosts V} where
   -- under a store no page is damaged
-  pub refused_page : (front : List ℕ) (disk : ℕ → List ℕ) (heap : Heap V H) (s : RecoveryState) (page : PageId) (ends : LogEnds) (f h : Fault) (error : RestartError) → Stands front disk heap s
+  pub refused_page : (disk : ℕ → List ℕ) (heap : Heap V H) (s : RecoveryState) (page : PageId) (ends : LogEnds) (f h : Fault) (error : RestartError) → IsStoreOf heap disk s → IsRecoverable s
       → HasPage (geometry_of heap) page → length s.log ≤ ends.last → RefusesPage heap disk page ends f → IsPageError f error → error ≡ Page h
       → (h ≡ fault.Device) ⊎ ((n : ℕ) × (h ≡ fault.NeedForce n) × (ends.durable < n) × (n ≤ length s.log))
-  refused_page front disk heap s page ends f h error stands there low (inl dev) of is = inl (sym (page_is f h error of is).0 ∙ dev)
-  refused_page front disk heap s page ends f h error stands there low (inr (inl memory)) of is = absurd ((page_is f h error of is).1 memory)
-  refused_page front disk heap s page ends f h error stands there low (inr (inr (inl damaged))) of is =
-      let text = stands.store.volume.each page there in
+  refused_page disk heap s page ends f h error store recoverable there low (inl dev) of is = inl (sym (page_is f h error of is).0 ∙ dev)
+  refused_page disk heap s page ends f h error store recoverable there low (inr (inl memory)) of is = absurd ((page_is f h error of is).1 memory)
+  refused_page disk heap s page ends f h error store recoverable there low (inr (inr (inl damaged))) of is =
+      let text = store.volume.each page there in
       let high = damaged.1 (s.volume page).number text.images text.text in
-      let most = stands.recoverable.ahead page in
-      let logged = stands.recoverable.durable in
+      let most = recoverable.ahead page in
+      let logged = recoverable.durable in
       absurd (omega arith)
-  refused_page front disk heap s page ends f h error stands there low (inr (inr (inr asks))) of is =
-      inr (asks.0, sym (page_is f h error of is).0 ∙ asks.1, asks.2.above, force_within front disk heap s ends.durable asks.0 stands asks.2)
+  refused_page disk heap s page ends f h error store recoverable there low (inr (inr (inr asks))) of is =
+      inr (asks.0, sym (page_is f h error of is).0 ∙ asks.1, asks.2.above, force_within disk heap s ends.durable asks.0 store recoverable asks.2)
 
   pub earned_page : (disk : ℕ → List ℕ) (heap : Heap V H) (page : PageId) (ends : LogEnds) (f : Fault) (error : RestartError) → HasPage (geometry_of heap) page
       → RefusesPage heap disk page ends f → IsPageError f error → IsEarned (geometry_of heap) disk ends.last error

@@ -1,7 +1,7 @@
 -- Paths of a restart: one behind another, and what a crash leaves at their ends.
 use Rattle.std.proofs.Common.{◌≡◌, ◌≤◌, ℕ, List, [], ◌∷◌, ◌++◌, inl, inr, refl, sym, subst, length, take, arith}
 use Rattle.shore_types.specs.declared.layout.Geometry.{Geometry}
-use Rattle.shore_disk.specs.Device.{History, LeavesOnly, may_leave}
+use Rattle.shore_disk.specs.Device.{DeviceHistory, LeavesOnly, may_leave}
 use Rattle.shore_disk.proofs.Moments.{started}
 use Rattle.laws_lives.specs.Recovery.{RecoveryEvent, RecoveryState, IsRecoverable, LeadsTo}
 use Rattle.laws_lives.specs.Restarts.{IsRestartStep, RestartsTo}
@@ -43,13 +43,13 @@ module _ (g : Geometry) (log_front front : List ℕ) where
   path_and first moments mid last one step covered = path_on first moments mid (last ∷ []) last one (step, (refl, covered))
 
   -- work on the volume
-  pub step_volume : (log old new : History) (s later : RecoveryState) (works : List RecoveryEvent) → ((c : List ℕ) → may_leave log c → GivesPrefix log_front s c)
+  pub step_volume : (log old new : DeviceHistory) (s later : RecoveryState) (works : List RecoveryEvent) → ((c : List ℕ) → may_leave log c → GivesPrefix log_front s c)
       → RestartsTo s works later → LeavesOnly old new (ShowsLeft g front s)
       → RestartGoesOn g log_front front (record { log = log; volume = old; store = s }) (record { log = log; volume = new; store = later })
   step_volume log old new s later works covered work leaves = record { works = works; work = work; log = started log (GivesPrefix log_front s) covered; volume = leaves; one = inl refl }
 
   -- .. and on the log device
-  pub step_log : (volume old new : History) (s later : RecoveryState) (works : List RecoveryEvent) → ((c : List ℕ) → may_leave volume c → ShowsLeft g front s c)
+  pub step_log : (volume old new : DeviceHistory) (s later : RecoveryState) (works : List RecoveryEvent) → ((c : List ℕ) → may_leave volume c → ShowsLeft g front s c)
       → RestartsTo s works later → LeavesOnly old new (GivesPrefix log_front s)
       → RestartGoesOn g log_front front (record { log = old; volume = volume; store = s }) (record { log = new; volume = volume; store = later })
   step_log volume old new s later works covered work leaves = record { works = works; work = work; log = leaves; volume = started volume (ShowsLeft g front s) covered; one = inr refl }

@@ -35,7 +35,7 @@ some_held None P none = absurd none
 some_held (Some a) P is = refl
 
 module _ {V : Type 0} {H : Ghosts V} where
-  same_geometry : (old new : Heap V H) → device_of new ≡ device_of old → geometry_of new ≡ geometry_of old
+  pub same_geometry : (old new : Heap V H) → device_of new ≡ device_of old → geometry_of new ≡ geometry_of old
   same_geometry old new device = ap (λ (d : PageDev V H). settled_device.geometry_of d) device
 
   -- the slot of the change is there

@@ -2,7 +2,7 @@
 use Rattle.std.proofs.Common.{◌≡◌, ◌+◌, ℕ, List, [], ◌∷◌, ◌++◌, Bool, Some, Ok, Err, refl, sym, ap, subst, ◌∙◌, length, drop}
 use Rattle.std.specs.Prelude.{if◌then◌else◌, slice_get}
 use Rattle.shore_types.specs.declared.layout.Geometry.{Geometry}
-use Rattle.shore_disk.specs.Device.{History, LeavesOnly, may_leave}
+use Rattle.shore_disk.specs.Device.{DeviceHistory, LeavesOnly, may_leave}
 use Rattle.shore_disk.specs.declared.device.Disk.{Ghosts}
 use Rattle.shore_model.specs.declared.log_records.LogRecord.{LogRecord}
 use Rattle.shore_heap.specs.declared.heap.Heap.{Heap}
@@ -20,7 +20,7 @@ use Rattle.shore_restart.proofs.Standing.{stands_left}
 
 module _ {V : Type 0} {H : Ghosts V} where
   -- so many records are redone
-  pub record SoFar (log : History) (log_front front : List ℕ) (first heap : Heap V H) (s : RecoveryState) (n : ℕ) : Type 0 where
+  pub record SoFar (log : DeviceHistory) (log_front front : List ℕ) (first heap : Heap V H) (s : RecoveryState) (n : ℕ) : Type 0 where
     pub later : RecoveryState
     pub moments : List Moment
     pub path : Path (geometry_of first) log_front front (moment_of log first s) moments (moment_of log heap later)
@@ -30,7 +30,7 @@ module _ {V : Type 0} {H : Ghosts V} where
     pub left : ℕ → List ℕ
     pub stands : Stands front left heap later
 
-  pub none_so_far : (log : History) (log_front front : List ℕ) (disk : ℕ → List ℕ) (heap : Heap V H) (s : RecoveryState) → Stands front disk heap s → s.redone ≡ 0
+  pub none_so_far : (log : DeviceHistory) (log_front front : List ℕ) (disk : ℕ → List ℕ) (heap : Heap V H) (s : RecoveryState) → Stands front disk heap s → s.redone ≡ 0
       → ((c : List ℕ) → may_leave log c → GivesPrefix log_front s c) → SoFar log log_front front heap heap s 0
   none_so_far log log_front front disk heap s stands none covered = record {
     later = s;
@@ -43,7 +43,7 @@ module _ {V : Type 0} {H : Ghosts V} where
     stands = stands;
   }
 
-  module _ (log : History) (log_front front : List ℕ) (first heap new : Heap V H) (s : RecoveryState) (n : ℕ) (so_far : SoFar log log_front front first heap s n) (same : geometry_of heap ≡ geometry_of first) where
+  module _ (log : DeviceHistory) (log_front front : List ℕ) (first heap new : Heap V H) (s : RecoveryState) (n : ℕ) (so_far : SoFar log log_front front first heap s n) (same : geometry_of heap ≡ geometry_of first) where
     covered : (c : List ℕ) → may_leave log c → GivesPrefix log_front so_far.later c
     covered = (path_covered (geometry_of first) log_front front (moment_of log first s) so_far.moments (moment_of log heap so_far.later) so_far.path).log
 
@@ -78,7 +78,7 @@ module _ {V : Type 0} {H : Ghosts V} where
       done = tt;
     }
 
-  pub all_done : (A : Type 0) (x : A) (log : History) (log_front front : List ℕ) (first heap : Heap V H) (s : RecoveryState) (n : ℕ) → SoFar log log_front front first heap s n → n ≡ length s.log
+  pub all_done : (A : Type 0) (x : A) (log : DeviceHistory) (log_front front : List ℕ) (first heap : Heap V H) (s : RecoveryState) (n : ℕ) → SoFar log log_front front first heap s n → n ≡ length s.log
       → RedoesAll (Ok x) log log_front front first heap s
   all_done A x log log_front front first heap s n so_far all = record {
     later = so_far.later;

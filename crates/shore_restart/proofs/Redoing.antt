@@ -7,7 +7,7 @@ use Rattle.shore_types.specs.declared.layout.Geometry.{Geometry}
 use Rattle.shore_analysis.specs.Meant.{AreMeant, Means}
 use Rattle.shore_types.specs.declared.ids.PageId.{PageId}
 use Rattle.shore_types.specs.declared.ids.Rid.{Rid}
-use Rattle.shore_disk.specs.Device.{History, LeavesOnly}
+use Rattle.shore_disk.specs.Device.{DeviceHistory, LeavesOnly}
 use Rattle.shore_disk.specs.declared.device.Disk.{Ghosts}
 use Rattle.shore_model.specs.declared.log_records.LogRecord.{LogRecord}
 use Rattle.shore_model.specs.declared.log_records.Payload.{Payload}
@@ -70,8 +70,8 @@ id_meant g before t (payload.Change there was image) id means is = let same : th
 id_meant g before t (payload.Compensation there image undo_next) id means is = let same : there ≡ id = cc in subst (HasSlot g) same means.0
 id_meant g before t payload.Commit id means is = absurd cc
 id_meant g before t payload.End id means is = absurd cc
-id_meant g before t (payload.Prepare global granules) id means is = absurd means
-id_meant g before t payload.RollbackDecided id means is = absurd means
+id_meant g before t (payload.Prepare global granules) id means is = absurd cc
+id_meant g before t payload.RollbackDecided id means is = absurd cc
 id_meant g before t payload.CheckpointBegin id means is = absurd means
 id_meant g before t (payload.CheckpointEnd begin next txns dirty) id means is = absurd means
 id_meant g before t (payload.Anchor checkpoint tail) id means is = absurd means
@@ -116,7 +116,7 @@ module _ {V : Type 0} {H : Ghosts V} where
       work = record {
         works = f.work.works ++ RedoRecord ∷ [];
         work = work_and s f.work.works f.later RedoRecord (after_redo f.later r) f.work.work tt leads;
-        volume = subst (λ (h : History). LeavesOnly (history_of old) h (ShowsLeft (geometry_of old) front s)) (sym history) f.work.volume;
+        volume = subst (λ (h : DeviceHistory). LeavesOnly (history_of old) h (ShowsLeft (geometry_of old) front s)) (sym history) f.work.volume;
         left = left_by front left old new (after_redo f.later r) same stands;
       };
       log = f.same.log;

@@ -27,6 +27,10 @@ cost_texts (r ∷ rs) =
     let long : length (texts (r ∷ rs)) ≡ length (record_text r) + length (texts rs) = length-append (record_text r) (texts rs) in
     omega (arith, first, alone, cost, long, cost_texts rs)
 
+-- so each costs more than its number
+pub records_cost : (rs : List LogRecord) → length rs ≤ cost_of_log rs
+records_cost rs = let cost = cost_texts rs in omega (arith, cost)
+
 -- what has texts has a record
 some_records : (rs : List LogRecord) → 1 ≤ length (texts rs) → 1 ≤ length rs
 some_records [] some = absurd (omega (arith, some))

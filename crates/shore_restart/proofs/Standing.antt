@@ -15,6 +15,7 @@ use Rattle.shore_heap.specs.Contents.{AreKept, unclaimed}
 use Rattle.shore_heap.specs.Heaps.{KeepsSlots, LeavesPages, frame_at, frame_of, geometry_of, history_of, pool_of}
 use Rattle.laws_lives.specs.Recovery.{IsRecoverable, RecoveryState}
 use Rattle.laws_lives.proofs.Redo.{own_number}
+use Rattle.laws_heaps.specs.LoggedHeaps.{IsStoreOf}
 use Rattle.laws_heaps.proofs.Flushes.{left_amid, work_of}
 use Rattle.laws_heaps.proofs.LoggedLeft.{left_settled}
 use Rattle.laws_heaps.proofs.SettledSlots.{frame_number, settled_kept, shows_only}
@@ -41,17 +42,16 @@ module _ {V : Type 0} {H : Ghosts V} where
   stands_left front disk heap s stands c left = (s.volume, λ p. inl refl, left_settled heap front disk s c stands.store stands.shows.holds left)
 
   -- so a force of all leaves none that needs one
-  pub force_within : (front : List ℕ) (disk : ℕ → List ℕ) (heap : Heap V H) (s : RecoveryState) (durable n : ℕ) → Stands front disk heap s → NeedsForce (pool_of heap) durable n
-      → n ≤ length s.log
-  force_within front disk heap s durable n stands needs = at (frame_at heap needs.one.0) refl needs.one.1
+  pub force_within : (disk : ℕ → List ℕ) (heap : Heap V H) (s : RecoveryState) (durable n : ℕ) → IsStoreOf heap disk s → IsRecoverable s → NeedsForce (pool_of heap) durable n → n ≤ length s.log
+  force_within disk heap s durable n store recoverable needs = at (frame_at heap needs.one.0) refl needs.one.1
     where
       at : (o : Option Frame) → frame_at heap needs.one.0 ≡ o → IsSomeAnd o (λ f. f.page.number ≡ n) → n ≤ length s.log
       at None is none = absurd none
       at (Some f) is number =
           let order = heap.pool.in_order needs.one.0 f is in
           let here : frame_of heap f.page.id ≡ Some f = ap (frame_at heap) order.1 ∙ is in
-          let same = frame_number heap disk s f.page.id f stands.store order.0 here in
-          omega (arith, number, same, in_place_low s stands.recoverable f.page.id)
+          let same = frame_number heap disk s f.page.id f store order.0 here in
+          omega (arith, number, same, in_place_low s recoverable f.page.id)
 
   -- .. over the same pages
   pub left_by : (front : List ℕ) (disk : ℕ → List ℕ) (old new : Heap V H) (s : RecoveryState) → geometry_of new ≡ geometry_of old → Stands front disk new s

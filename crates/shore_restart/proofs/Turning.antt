@@ -4,7 +4,7 @@ use Rattle.std.specs.Prelude.{IsSomeAnd, is_some, IsTrue}
 use Rattle.std.proofs.lemmas.List.{length-append, take-append-le}
 use Rattle.shore_types.specs.Layout.{HasPage}
 use Rattle.shore_types.specs.declared.ids.Rid.{Rid}
-use Rattle.shore_disk.specs.Device.{History}
+use Rattle.shore_disk.specs.Device.{DeviceHistory}
 use Rattle.shore_disk.specs.declared.device.Disk.{Ghosts}
 use Rattle.shore_disk.proofs.Moments.{started}
 use Rattle.shore_model.specs.declared.log_records.LogRecord.{LogRecord}
@@ -93,7 +93,7 @@ module _ {L V : Type 0} {G : Ghosts L} {H : Ghosts V} (log_front front : List �
   append_stops result error log new heap r Done same m = record {
     later = m.later;
     moments = m.moments;
-    path = subst (λ (h : History). Path (geometry_of first) log_front front (moment_of (log_history first_log) first s) m.moments (moment_of h heap m.later)) (sym same) m.path;
+    path = subst (λ (h : DeviceHistory). Path (geometry_of first) log_front front (moment_of (log_history first_log) first s) m.moments (moment_of h heap m.later)) (sym same) m.path;
     done = tt;
   }
 
@@ -105,8 +105,8 @@ module _ {L V : Type 0} {G : Ghosts L} {H : Ghosts V} (log_front front : List �
     later = later;
     moments = came.moments;
     path =
-        subst (λ (h : History). Path (geometry_of first) log_front front (moment_of (log_history first_log) first s) came.moments (record { log = log_history mid; volume = h; store = later })) (sym history)
-        (subst (λ (h : History). Path (geometry_of first) log_front front (moment_of (log_history first_log) first s) came.moments (moment_of h heap later)) (sym same) came.path);
+        subst (λ (h : DeviceHistory). Path (geometry_of first) log_front front (moment_of (log_history first_log) first s) came.moments (record { log = log_history mid; volume = h; store = later })) (sym history)
+        (subst (λ (h : DeviceHistory). Path (geometry_of first) log_front front (moment_of (log_history first_log) first s) came.moments (moment_of h heap later)) (sym same) came.path);
     done = (log_is, came.ready.redone, rest, leads, disk, stands);
   }
 
@@ -156,7 +156,7 @@ module _ {L V : Type 0} {G : Ghosts L} {H : Ghosts V} (log_front front : List �
         record {
           later = after_append a.later r;
           moments = a.moments ++ moment_of (log_history mid) heap (after_append a.later r) ∷ [];
-          path = subst (λ (h : History). Path (geometry_of first) log_front front (moment_of (log_history first_log) first s) (a.moments ++ moment_of (log_history mid) heap (after_append a.later r) ∷ []) (moment_of h heap (after_append a.later r)))
+          path = subst (λ (h : DeviceHistory). Path (geometry_of first) log_front front (moment_of (log_history first_log) first s) (a.moments ++ moment_of (log_history mid) heap (after_append a.later r) ∷ []) (moment_of h heap (after_append a.later r)))
               (sym history) path_taken;
           done = (rest.records, a.done.4, record { at_rest = rest; stands = a.done.5; redone = omega (arith, long, all) });
         }

@@ -1,8 +1,10 @@
+pub mod Doubts
 pub mod Errors
+pub mod GivenBack
 pub mod Held
-pub mod Idle
 pub mod Missing
 pub mod Quiet
+pub mod Reports
 pub mod Room
 pub mod Standing
 pub mod Turns

@@ -14,7 +14,7 @@ use Rattle.shore_analysis.specs.Tables.{IsNext}
 use Rattle.shore_model.specs.declared.histories.Opening.{Opening}
 use Rattle.laws_lives.specs.Doubts.{IsOpeningOf}
 use Rattle.laws_lives.specs.Recovery.{RecoveryState}
-use Rattle.laws_lives.specs.Undo.{HasNoLosers}
+use Rattle.laws_lives.specs.Undo.{HasNoLosers, IsLoser}
 use Rattle.laws_calls.specs.States.{State}
 use Rattle.laws_runs.specs.StoredRuns.{IsOpenedOver}
 use Rattle.laws_runs.specs.SlotCounts.{slot_count}
@@ -44,9 +44,9 @@ module _ {T V : Type 0} {G : tail.Ghosts T} {H : Ghosts V} where
   abbrev pub log_fault_left : Result (Core T V G H × Report) (RestartError × Heap V H) → Result (Unit {0}) Fault
   log_fault_left result = log_answer (answer_of result)
 
-  -- The core is in the state of a manager that opens over such a store as the log found says, with those in doubt whom it has. It is behind a volume with
-  -- these texts of its pages and a log stream of this length. Pages have the slots that records of the log have used, and the next transaction has the
-  -- number that follows those of the log found.
+  -- The core is in the state of a manager that opens over such a store as the log found says: those in doubt whom it has are under way, with the undo lists and
+  -- locks that it gives them, and nobody else. It is behind a volume with these texts of its pages and a log stream of this length. Pages have the slots that
+  -- records of the log have used, and the next transaction has the number that follows those of the log found.
   pub record OpensIn (core : Core T V G H) (front : List ℕ) (disk : ℕ → List ℕ) (found log : List LogRecord) (stream_bytes : ℕ) (ready : RecoveryState) : Type 0 where
     pub first : State
     pub opened : (o : Opening) → IsOpeningOf found o → IsOpenedOver o ready first
@@ -55,6 +55,8 @@ module _ {T V : Type 0} {G : tail.Ghosts T} {H : Ghosts V} where
     pub next : IsNext found first.sessions.next_txn
     pub is_in : IsIn front disk log core first
     pub over : IsOver disk core first ready
+    -- nobody is left to be undone, not even one that has changed nothing
+    pub ended : (t : ℕ) → IsLoser log t → ⊥
 
   -- From the moment of an open a restart has come to another. If it gave a core, and the log is lawful, all records are done then, no loser is
   -- left, all of the log is durable and on its device, and the core has opened over that.

@@ -4,7 +4,7 @@ use Rattle.shore_types.specs.declared.faults.Fault.TheVariants as fault
 use Rattle.shore_types.specs.declared.ids.PageId.{PageId}
 use Rattle.shore_types.specs.declared.layout.Geometry.{Geometry}
 use Rattle.shore_types.specs.declared.layout.TheConstants.{LOG_FRONT_BYTES}
-use Rattle.shore_disk.specs.Device.{History, LeavesOnly, may_leave, size}
+use Rattle.shore_disk.specs.Device.{DeviceHistory, LeavesOnly, may_leave, size}
 use Rattle.shore_disk.specs.declared.device.Disk.{Ghosts}
 use Rattle.shore_log.specs.Settled.{IsSettled, records_of_log, stable}
 use Rattle.shore_log.specs.declared.device.LogDev.{LogDev}
@@ -32,7 +32,7 @@ pub record IsAtRest {L : Type 0} {G : Ghosts L} (log_front : List ℕ) (log : Lo
   pub durable : s.durable ≡ length (stable log)
 
 -- the calls of its device
-abbrev pub log_history : {L : Type 0} {G : Ghosts L} → LogDev L G → History
+abbrev pub log_history : {L : Type 0} {G : Ghosts L} → LogDev L G → DeviceHistory
 log_history {G = G} log = G.history log.device
 
 abbrev pub log_faults : {L : Type 0} {G : Ghosts L} → LogDev L G → ℕ
@@ -48,14 +48,14 @@ pub record SameLog {L : Type 0} {G : Ghosts L} (old new : LogDev L G) : Type 0 w
   pub size : size (log_history new) ≡ size (log_history old)
 
 -- A force of the log device, beside a volume with such calls, on which it was not called. At its end all of the log is durable.
-pub record Forces {L : Type 0} {G : Ghosts L} {A : Type 0} (result : Result A RestartError) (g : Geometry) (log_front front : List ℕ) (volume : History) (old new : LogDev L G) (s : RecoveryState) : Type 0 where
+pub record Forces {L : Type 0} {G : Ghosts L} {A : Type 0} (result : Result A RestartError) (g : Geometry) (log_front front : List ℕ) (volume : DeviceHistory) (old new : LogDev L G) (s : RecoveryState) : Type 0 where
   pub durable : ℕ
   pub moments : List Moment
   pub path : Path g log_front front (record { log = log_history old; volume = volume; store = s }) moments (record { log = log_history new; volume = volume; store = after_force s durable })
   pub done : OnOk result ((durable ≡ length s.log) × IsAtRest log_front new (after_force s durable))
 
 -- one frame of it, if a record waited
-pub record ForcesFrame {L : Type 0} {G : Ghosts L} (result : Result Bool RestartError) (g : Geometry) (log_front front : List ℕ) (volume : History) (old new : LogDev L G) (s : RecoveryState) : Type 0 where
+pub record ForcesFrame {L : Type 0} {G : Ghosts L} (result : Result Bool RestartError) (g : Geometry) (log_front front : List ℕ) (volume : DeviceHistory) (old new : LogDev L G) (s : RecoveryState) : Type 0 where
   pub durable : ℕ
   pub no_lower : s.durable ≤ durable
   pub goes_on : RestartGoesOn g log_front front (record { log = log_history old; volume = volume; store = s }) (record { log = log_history new; volume = volume; store = after_force s durable })
@@ -106,11 +106,11 @@ module _ {V : Type 0} {H : Ghosts V} where
     pub pages : OnOk result ((r : LogRecord) → slice_get s.log s.redone ≡ Some r → later.in_place ≡ redone_on_all (s.redone + 1) r s.in_place)
 
   -- the moment of a heap, beside a log device with such calls
-  abbrev pub moment_of : History → Heap V H → RecoveryState → Moment
+  abbrev pub moment_of : DeviceHistory → Heap V H → RecoveryState → Moment
   moment_of log heap s = record { log = log; volume = heaps.history_of heap; store = s }
 
   -- All records are redone, one after another, while the log device is not called. The heap stands for a store of the same log then.
-  pub record RedoesAll {A : Type 0} (result : Result A RestartError) (log : History) (log_front front : List ℕ) (old new : Heap V H) (s : RecoveryState) : Type 0 where
+  pub record RedoesAll {A : Type 0} (result : Result A RestartError) (log : DeviceHistory) (log_front front : List ℕ) (old new : Heap V H) (s : RecoveryState) : Type 0 where
     pub later : RecoveryState
     pub moments : List Moment
     pub path : Path (heaps.geometry_of old) log_front front (moment_of log old s) moments (moment_of log new later)

@@ -4,10 +4,11 @@ use Rattle.shore_types.specs.declared.layout.Geometry.{Geometry}
 use Rattle.shore_model.specs.declared.log_records.LogRecord.{LogRecord}
 use Rattle.shore_model.specs.Logs.{unanswered, undo_next_of}
 use Rattle.laws_lives.specs.Undo.{IsLoser, undo_record}
-use Rattle.shore_analysis.specs.Meant.{AreMeant, IsFirstUnmeant}
+use Rattle.shore_analysis.specs.Meant.{AreMeant}
 use Rattle.laws_runs.specs.SlotCounts.{FitsBehind}
 use Rattle.shore_analysis.specs.Losers.{HasLosers, IsNextToUndo, IsUndoneInOrder, turns_left}
 use Rattle.shore_restart.specs.declared.turns.Undo.{Undo}
+use Rattle.shore_restart.specs.Doubts.{IsRefusedBy, IsTaken, IsUnkept}
 use Rattle.shore_restart.specs.Errors.{DoesNotFit}
 use Rattle.shore_restart.specs.Room.{IsRoomBehind, LeavesRoom}
 
@@ -39,13 +40,14 @@ CannotUndo log n = (t : ℕ) × IsLoser log t × IsNextToUndo log t × (n ≡ un
 
 -- ---- why a restart is refused
 
--- the record of this number does not fit its page, or what its undo brings back does not, behind the records of undo so far
+-- The record of this number does not fit its page; or what its undo brings back does not, behind the records of undo so far; or behind all of them there is no
+-- room for the image before it, which one in doubt may put back.
 abbrev pub IsMisfit : List LogRecord → ℕ → Type 0
-IsMisfit log n = DoesNotFit log n ⊎ ((so_far : List LogRecord) × IsUndoneSoFar log so_far × CannotUndo so_far n)
+IsMisfit log n = DoesNotFit log n ⊎ ((so_far : List LogRecord) × IsUndoneSoFar log so_far × (CannotUndo so_far n ⊎ (((t : ℕ) → IsLoser so_far t → ⊥) × IsUnkept so_far n)))
 
--- it is the first that does not mean what it has to; or all do, and it is such a misfit
+-- by it the log itself says that no restart may work on it; or one may, and it is such a misfit
 abbrev pub IsBadRecord : Geometry → List LogRecord → ℕ → Type 0
-IsBadRecord g log n = IsFirstUnmeant g log n ⊎ (AreMeant g log × IsMisfit log n)
+IsBadRecord g log n = IsRefusedBy g log n ⊎ (IsTaken g log × IsMisfit log n)
 
 -- the log leaves no room in a stream of this length, or it does with the records of undo so far but not with one more
 abbrev pub LacksRoom : List LogRecord → ℕ → Type 0

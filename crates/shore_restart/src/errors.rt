@@ -4,17 +4,18 @@ ghost use Rattle.shore_restart.specs.declared.errors.RestartError.TheVariants.{M
 ghost use Rattle.shore_restart.specs.Errors.{IsLogError, IsPageError};
 
 use shore_types::{Fault, Lsn};
-use std::alloc::AllocError;
+use std::alloc::{AllocError, AllocFailed};
 
 /// Why a restart gives no core. What it has made durable until then stays, and the next restart goes on with it.
 #[derive(Drop)]
 pub enum RestartError {
     /// An allocation failed.
     Memory,
-    /// The log's records leave no room for the longest frame, or its numbers none for a record more: those that were found, or they and the
-    /// records of undo.
+    /// The log's records leave no room for the longest frame beside what those in doubt have reserved, or its numbers none for a record more: those that were
+    /// found, or they and the records of undo.
     NoRoom,
-    /// The record of this number does not mean what a record has to (analysis), or its page has no room for it, or for what its undo brings back.
+    /// The record of this number does not mean what a record has to (analysis); or it is the Prepare of one in doubt that cannot hold what is its beside those
+    /// before it; or its page has no room for it, or for what its undo brings back or may bring back.
     BadRecord(Lsn),
     /// A page of the volume could not be read or written back: its device failed (`Device`), or the page is damaged (`Damaged`).
     Page(Fault),
@@ -26,6 +27,14 @@ impl From<AllocError> for RestartError {
     ghost from_gives = { λ _ error. error ≡ Memory };
 
     fn from(_: AllocError) -> RestartError {
+        RestartError::Memory
+    }
+}
+
+impl<T: Drop> From<AllocFailed<T>> for RestartError {
+    ghost from_gives = { λ _ error. error ≡ Memory };
+
+    fn from(_: AllocFailed<T>) -> RestartError {
         RestartError::Memory
     }
 }

@@ -1,7 +1,7 @@
 //! The force of the records of undo.
 ghost use Rattle.std.specs.Prelude.{◌≡◌, ◌⊎◌, ◌<◌, [], ℕ, List, IfErr, IfOk, IsFalse, IsTrue, None, OnOk, length};
 ghost use Rattle.shore_disk.specs.Cause.{HasCause};
-ghost use Rattle.shore_disk.specs.Device.{History, may_leave};
+ghost use Rattle.shore_disk.specs.Device.{DeviceHistory, may_leave};
 ghost use Rattle.shore_types.specs.declared.faults.Fault.{Fault};
 ghost use Rattle.shore_types.specs.declared.faults.Fault.TheVariants as Fault;
 ghost use Rattle.shore_types.specs.declared.layout.Geometry.{Geometry};
@@ -25,7 +25,7 @@ use std::alloc::Global;
 pub fn force<L: Disk>(alloc: Global, log: &mut LogDev<L>) -> Result<(), RestartError>
     requires room { LeavesRoom (records_of_log log.old) (stream_bytes_of log.old) }
     ensures forces { (log_front : List ℕ) (s : RecoveryState) → IsAtRest log_front log.old s → s.redone ≡ length s.log
-        → (g : Geometry) (front : List ℕ) (h : History) → ((c : List ℕ) → may_leave h c → ShowsLeft g front s c)
+        → (g : Geometry) (front : List ℕ) (h : DeviceHistory) → ((c : List ℕ) → may_leave h c → ShowsLeft g front s c)
         → Forces result g log_front front h log.old log.new s }
     ensures refused { IfErr result (λ error. (error ≡ RestartError.Memory) ⊎ (error ≡ RestartError.Log Fault.Device) ⊎ (error ≡ RestartError.Log Fault.LogFull)) }
     ensures log_device { (log_front : List ℕ) → IsQuiet log_front log.old → StaysQuiet result log_front log.old log.new }
@@ -41,7 +41,7 @@ pub fn force<L: Disk>(alloc: Global, log: &mut LogDev<L>) -> Result<(), RestartE
 fn force_frame<L: Disk>(alloc: Global, log: &mut LogDev<L>) -> Result<bool, RestartError>
     requires room { LeavesRoom (records_of_log log.old) (stream_bytes_of log.old) }
     ensures forces { (log_front : List ℕ) (s : RecoveryState) → IsAtRest log_front log.old s
-        → (g : Geometry) (front : List ℕ) (h : History) → ((c : List ℕ) → may_leave h c → ShowsLeft g front s c)
+        → (g : Geometry) (front : List ℕ) (h : DeviceHistory) → ((c : List ℕ) → may_leave h c → ShowsLeft g front s c)
         → ForcesFrame result g log_front front h log.old log.new s }
     ensures fewer { IfOk result (λ more. IsTrue more → length (waiting log.new) < length (waiting log.old)) }
     ensures none { IfOk result (λ more. IsFalse more → log.old.staged ≡ None → log.new ≡ log.old × (waiting log.old ≡ [])) }

@@ -3,7 +3,8 @@ ghost use Rattle.std.specs.Prelude.{◌≡◌, ◌↔◌, ◌++◌, ◌∷◌, �
 ghost use Rattle.shore_model.specs.declared.log_records.LogRecord.{LogRecord};
 ghost use Rattle.shore_logrec.specs.Text.{Fits, cost_of};
 ghost use Rattle.laws_calls.specs.States.{cost_of_log};
-ghost use Rattle.shore_restart.specs.Room.{IsRoomBehind, LeavesRoom};
+ghost use Rattle.shore_restart.specs.Doubts.{reserved_told};
+ghost use Rattle.shore_restart.specs.Room.{HasSums, IsRoomBehind, LeavesRoom, LeavesRoomBeside};
 
 use shore_logrec::{LogRecord, encoded_len};
 use shore_txn::LogRoom;
@@ -30,11 +31,11 @@ fn cost(logged: &LogRecord) -> u64
     FRAME_SHARE + encoded_len(logged) as u64
 }
 
-/// The room of a log that was found. None if it leaves none for the longest frame, or no number for a record more.
+/// The room of a log that was found, with nothing reserved. None if it leaves none for the longest frame, or no number for a record more.
 pub fn room_of(log: &[LogRecord], stream_bytes: u64) -> Option<LogRoom>
     requires { All Fits log.now }
-    ensures some { IfSome result (IsRoomBehind log.now stream_bytes) }
-    ensures none { IsSome result ↔ LeavesRoom log.now stream_bytes }
+    ensures some { IfSome result (HasSums stream_bytes (cost_of_log log.now) 0) }
+    ensures none { IsSome result ↔ LeavesRoomBeside 0 log.now stream_bytes }
 {
     if log.len() as u64 >= LAST_OPENED {
         return None;
@@ -42,16 +43,16 @@ pub fn room_of(log: &[LogRecord], stream_bytes: u64) -> Option<LogRoom>
     LogRoom::new(stream_bytes, cost_of_all(log))
 }
 
-/// The room behind a record more, by that before it, which is of a log with so many records. None if there is none.
+/// The room behind a record more, by that before it, which is of a log with so many records. As much is reserved. None if there is none.
 pub fn room_with(room: &LogRoom, logged: &LogRecord, records: u64) -> Option<LogRoom>
     requires { Fits logged.now }
     ensures some { (log : List LogRecord) (stream_bytes : ℕ) → IsRoomBehind log stream_bytes room.now → records ≡ length log
-        → IfSome result (IsRoomBehind (log ++ logged.now ∷ []) stream_bytes) }
+        → reserved_told (log ++ logged.now ∷ []) ≡ reserved_told log → IfSome result (IsRoomBehind (log ++ logged.now ∷ []) stream_bytes) }
     ensures none { (log : List LogRecord) (stream_bytes : ℕ) → IsRoomBehind log stream_bytes room.now → records ≡ length log
-        → (IsSome result ↔ LeavesRoom (log ++ logged.now ∷ []) stream_bytes) }
+        → reserved_told (log ++ logged.now ∷ []) ≡ reserved_told log → (IsSome result ↔ LeavesRoom (log ++ logged.now ∷ []) stream_bytes) }
 {
     if records >= LAST_OPENED - 1 {
         return None;
     }
-    LogRoom::new(room.stream_bytes, room.kept.saturating_add(cost(logged)))
+    room.with_record(cost(logged))
 }

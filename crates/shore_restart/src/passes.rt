@@ -1,6 +1,7 @@
 //! The passes of a restart over its two devices: analysis, redo, undo, and the force of undo's records.
 ghost use Rattle.std.specs.Prelude.{◌≡◌, ◌≢◌, ◌⊎◌, ◌<◌, ◌≤◌, ℕ, List, IfErr, IfOk, OnOk, length};
 ghost use Rattle.shore_disk.specs.Cause.{HasCause};
+ghost use Rattle.shore_types.specs.Layout.{LocksInLimits};
 ghost use Rattle.shore_types.specs.declared.faults.Fault.{Fault};
 ghost use Rattle.shore_types.specs.declared.faults.Fault.TheVariants as Fault;
 ghost use Rattle.shore_model.specs.declared.log_records.LogRecord.{LogRecord};
@@ -17,28 +18,30 @@ ghost use Rattle.shore_analysis.specs.Meant.{AreMeant, IsFirstUnmeant};
 ghost use Rattle.shore_analysis.specs.Tables.{AreTables, IsNext};
 ghost use Rattle.shore_restart.specs.declared.errors.RestartError.{RestartError};
 ghost use Rattle.shore_restart.specs.declared.errors.RestartError.TheVariants as RestartError;
+ghost use Rattle.shore_restart.specs.Doubts.{IsRefusedBy, IsTaken};
 ghost use Rattle.shore_restart.specs.Errors.{log_answer, volume_answer};
+ghost use Rattle.shore_restart.specs.GivenBack.{HasDoubtsBack, PassesMove};
 ghost use Rattle.shore_restart.specs.Held.{IsHeld, IsPageFault};
-ghost use Rattle.shore_restart.specs.Idle.{IsIdle};
 ghost use Rattle.shore_restart.specs.Missing.{missing_on};
 ghost use Rattle.shore_restart.specs.Quiet.{IsQuiet, StaysQuiet};
+ghost use Rattle.shore_restart.specs.Reports.{IsReportOf};
 ghost use Rattle.shore_restart.specs.Room.{IsRoomBehind};
-ghost use Rattle.shore_restart.specs.Standing.{IsFound, RestartMoves, SameLog, SameVolume, log_faults, stream_bytes_of};
+ghost use Rattle.shore_restart.specs.Standing.{IsFound, SameLog, SameVolume, log_faults, stream_bytes_of};
 ghost use Rattle.shore_restart.specs.Turns.{IsBadRecord, IsUndoneSoFar, LacksRoom};
 
+use crate::claims::keep_claims;
+use crate::doubts::{locks_of, txns_of};
 use crate::errors::RestartError;
 use crate::log_sums::room_of;
 use crate::redo::redo;
 use crate::turns::Undo;
-use shore_analysis::{Losers, NotAnalysed, Tables, analyse};
+use shore_analysis::{Losers, NotAnalysed, Tables, analyse, in_doubt};
 use shore_disk::Disk;
 use shore_heap::Heap;
-use shore_locks::LockTable;
 use shore_log::LogDev;
 use shore_logrec::LogRecord;
 use shore_sessions::Control;
-use shore_txn::{LogRoom, Transactions};
-use shore_types::{Geometry, TxnId};
+use shore_types::{Geometry, Lsn};
 use std::alloc::Global;
 
 /// What a restart did.
@@ -50,40 +53,43 @@ pub struct Report {
     pub redone: u64,
     /// How many losers were ended.
     pub undone: u64,
+    /// How many transactions are in doubt.
+    pub in_doubt: u64,
 }
 
 /// What the passes of a restart leave beside the devices.
 #[derive(Drop)]
 pub struct Passed {
-    /// No transaction and no lock, the next number, and the room of the log.
+    /// Those in doubt with their locks, the next number, and the room of the log.
     pub control: Control,
     /// How much was redone and undone.
     pub report: Report,
 }
 
-/// Redoes the log that the device has, undoes its losers, and forces the records of that.
+/// Gives those in doubt what the log says is theirs, redoes the log that the device has, undoes its losers and forces the records of that. Then the pages keep what
+/// those in doubt may put back.
 pub fn run_passes<L: Disk, V: Disk>(
     alloc: Global,
     log: &mut LogDev<L>,
     heap: &mut Heap<V>,
 ) -> Result<Passed, RestartError>
+    requires limits { LocksInLimits (geometry_of heap.old) }
     ensures moves { (log_front front : List ℕ) (disk : ℕ → List ℕ) (s : RecoveryState) → IsFound log_front front disk log.old heap.old s
-        → RestartMoves result log_front front log.old log.new heap.old heap.new s (λ later. later.durable ≡ length later.log) }
+        → PassesMove result log_front front log.old log.new heap.old heap.new s }
     ensures undone { OnOk result (IsUndoneSoFar (records_of_log log.old) (records_of_log log.new)) }
     ensures none { OnOk result ((t : ℕ) → IsLoser (records_of_log log.new) t → ⊥) }
     ensures done { Lawful (records_of_log log.old) → OnOk result (HasNoLosers (records_of_log log.new)) }
-    ensures idle { IfOk result (λ left. IsIdle (geometry_of heap.old).max_locks left.control) }
+    ensures doubts { IfOk result (λ left. HasDoubtsBack (geometry_of heap.old).max_locks (records_of_log log.old) left.control) }
     ensures next { IfOk result (λ left. IsNext (records_of_log log.old) (next_in (txns_in left.control))) }
     ensures room { IfOk result (λ left. IsRoomBehind (records_of_log log.new) (stream_bytes_of log.new) (room_in (txns_in left.control))) }
-    ensures report { IfOk result (λ left. (left.report.read ≡ length (records_of_log log.old)) × (left.report.redone ≤ left.report.read)
-        × ((tables : Tables) × AreTables (records_of_log log.old) tables × (left.report.undone ≡ length tables.txns))) }
+    ensures report { IfOk result (λ left. IsReportOf (records_of_log log.old) left.report) }
     ensures missing { (log_front front : List ℕ) (disk : ℕ → List ℕ) (s : RecoveryState) → IsFound log_front front disk log.old heap.old s
         → IfOk result (λ left. left.report.redone ≡ missing_on s.log s.in_place) }
     ensures bad { (log_front front : List ℕ) (disk : ℕ → List ℕ) (s : RecoveryState) → IsFound log_front front disk log.old heap.old s
         → IfErr result (λ error. (n : ℕ) → error ≡ RestartError.BadRecord n → IsBadRecord (geometry_of heap.old) (records_of_log log.old) n) }
-    ensures meant { IfErr result (λ error. error ≢ RestartError.Memory → AreMeant (geometry_of heap.old) (records_of_log log.old)
-        ⊎ ((n : ℕ) × (error ≡ RestartError.BadRecord n) × IsFirstUnmeant (geometry_of heap.old) (records_of_log log.old) n)) }
-    ensures taken { OnOk result (AreMeant (geometry_of heap.old) (records_of_log log.old)) }
+    ensures meant { IfErr result (λ error. error ≢ RestartError.Memory → IsTaken (geometry_of heap.old) (records_of_log log.old)
+        ⊎ ((n : ℕ) × (error ≡ RestartError.BadRecord n) × IsRefusedBy (geometry_of heap.old) (records_of_log log.old) n)) }
+    ensures taken { OnOk result (IsTaken (geometry_of heap.old) (records_of_log log.old)) }
     ensures no_room { IfErr result (λ error. error ≡ RestartError.NoRoom → LacksRoom (records_of_log log.old) (stream_bytes_of log.old)) }
     ensures device { (log_front front : List ℕ) (disk : ℕ → List ℕ) (s : RecoveryState) → IsFound log_front front disk log.old heap.old s
         → IfErr result (λ error. (f : Fault) → error ≡ RestartError.Page f → f ≡ Fault.Device) }
@@ -96,44 +102,30 @@ pub fn run_passes<L: Disk, V: Disk>(
     ensures log_cause { HasCause (log_answer result) (log_faults log.old) (log_faults log.new) }
 {
     let tables = tables_of(alloc, heap.geometry(), log.records())?;
+    let doubts = in_doubt(alloc, tables.txns.as_slice())?;
+    let locks = locks_of(alloc, heap.geometry(), log.records(), &doubts)?;
     let Some(room) = room_of(log.records(), log.stream_bytes()) else {
         return Err(RestartError::NoRoom);
     };
+    let mut txns = txns_of(alloc, room, tables.next, log.records(), &doubts)?;
     let read = log.records().len() as u64;
     let redone = redo(alloc, heap, log.records())?;
-    let undone = tables.txns.as_slice().len() as u64;
-    let mut undo = Undo {
-        losers: Losers::of(tables.txns),
-        room,
-    };
+    let losers = Losers::of(tables.txns);
+    let undone = losers.count() as u64;
+    let room = txns.room();
+    let mut undo = Undo { losers, room };
     undo.undo_all(alloc, log, heap)?;
+    txns.set_room(undo.room);
+    keep_claims(alloc, heap, &txns, Lsn(log.records().len() as u64))?;
     Ok(Passed {
-        control: idle_control(alloc, heap.geometry(), undo.room, tables.next)?,
+        control: Control::new(alloc, txns, locks),
         report: Report {
             read,
             redone,
             undone,
+            in_doubt: doubts.len() as u64,
         },
     })
-}
-
-// A control with nothing under way, that has the memory for all requests of locks that the geometry allows.
-fn idle_control(
-    alloc: Global,
-    geometry: &Geometry,
-    room: LogRoom,
-    next: TxnId,
-) -> Result<Control, RestartError>
-    requires some { 1 ≤ next }
-    requires unreserved { room.reserved ≡ 0 }
-    ensures idle { IfOk result (IsIdle geometry.now.max_locks) }
-    ensures next { IfOk result (λ control. next_in (txns_in control) ≡ next) }
-    ensures room { IfOk result (λ control. room_in (txns_in control) ≡ room) }
-    ensures refused { IfErr result (λ error. error ≡ RestartError.Memory) }
-{
-    let locks = LockTable::new(alloc, geometry.max_locks as usize)?;
-    let txns = Transactions::new(alloc, room, next.0);
-    Ok(Control::new(alloc, txns, locks))
 }
 
 // The tables of a log.

@@ -1,7 +1,7 @@
 //! Redo: each record of the log that its page does not have is done on it again (ARIES: the redo pass, which repeats history).
 ghost use Rattle.std.specs.Prelude.{◌≡◌, ◌≢◌, ◌+◌, ◌<◌, ◌≤◌, ℕ, List, IfErr, IfOk, Some, length, slice_get};
 ghost use Rattle.shore_disk.specs.Cause.{HasCause};
-ghost use Rattle.shore_disk.specs.Device.{History, may_leave};
+ghost use Rattle.shore_disk.specs.Device.{DeviceHistory, may_leave};
 ghost use Rattle.shore_types.specs.Layout.{HasPage, HasSlot};
 ghost use Rattle.shore_types.specs.declared.faults.Fault.{Fault};
 ghost use Rattle.shore_types.specs.declared.faults.Fault.TheVariants as Fault;
@@ -36,7 +36,7 @@ pub fn redo<V: Disk>(
 ) -> Result<u64, RestartError>
     requires meant { AreMeant (geometry_of heap.old) log.now }
     ensures redone { (front : List ℕ) (disk : ℕ → List ℕ) (s : RecoveryState) → Stands front disk heap.old s → s.log ≡ log.now → s.durable ≡ length s.log → s.redone ≡ 0
-        → (h : History) (log_front : List ℕ) → ((c : List ℕ) → may_leave h c → GivesPrefix log_front s c) → RedoesAll result h log_front front heap.old heap.new s }
+        → (h : DeviceHistory) (log_front : List ℕ) → ((c : List ℕ) → may_leave h c → GivesPrefix log_front s c) → RedoesAll result h log_front front heap.old heap.new s }
     ensures missing { (front : List ℕ) (disk : ℕ → List ℕ) (s : RecoveryState) → Stands front disk heap.old s → s.log ≡ log.now → s.durable ≡ length s.log → s.redone ≡ 0
         → IfOk result (λ redone. redone ≡ missing_on log.now s.in_place) }
     ensures bad { (front : List ℕ) (disk : ℕ → List ℕ) (s : RecoveryState) → Stands front disk heap.old s → s.log ≡ log.now → s.durable ≡ length s.log → s.redone ≡ 0

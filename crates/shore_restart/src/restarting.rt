@@ -1,21 +1,22 @@
 //! A restart, from what an open has found to a core.
-ghost use Rattle.std.specs.Prelude.{◌≡◌, ◌≢◌, ◌⊎◌, ◌<◌, ◌≤◌, ◌+◌, [], ℕ, List, IfErr, IfOk, OnOk, length};
+ghost use Rattle.std.specs.Prelude.{◌≡◌, ◌≢◌, ◌⊎◌, ◌<◌, ◌≤◌, ◌+◌, ℕ, List, IfErr, IfOk, OnOk, length};
 ghost use Rattle.shore_disk.specs.Cause.{HasCause};
+ghost use Rattle.shore_types.specs.Layout.{LocksInLimits};
 ghost use Rattle.shore_types.specs.declared.faults.Fault.{Fault};
 ghost use Rattle.shore_types.specs.declared.faults.Fault.TheVariants as Fault;
 ghost use Rattle.shore_log.specs.Settled.{records_of_log, stable};
 ghost use Rattle.shore_heap.specs.Heaps.{faults_of, geometry_of};
-ghost use Rattle.shore_core.specs.Cores.{durable_of, first_of, locks_of};
+ghost use Rattle.shore_core.specs.Cores.{control_of, durable_of, first_of};
 ghost use Rattle.laws_lives.specs.Recovery.{RecoveryState};
-ghost use Rattle.shore_analysis.specs.declared.analysis.Tables.{Tables};
-ghost use Rattle.shore_analysis.specs.Meant.{AreMeant, IsFirstUnmeant};
-ghost use Rattle.shore_analysis.specs.Tables.{AreTables};
 ghost use Rattle.shore_restart.specs.declared.errors.RestartError.{RestartError};
 ghost use Rattle.shore_restart.specs.declared.errors.RestartError.TheVariants as RestartError;
+ghost use Rattle.shore_restart.specs.Doubts.{IsRefusedBy, IsTaken};
+ghost use Rattle.shore_restart.specs.GivenBack.{HasDoubtsBack};
 ghost use Rattle.shore_restart.specs.Held.{IsHeld, IsPageFault};
 ghost use Rattle.shore_restart.specs.Opened.{Restarts, answer_of, heap_left, log_fault_left, volume_fault_left};
 ghost use Rattle.shore_restart.specs.Missing.{missing_on};
 ghost use Rattle.shore_restart.specs.Quiet.{IsQuiet, StaysQuiet};
+ghost use Rattle.shore_restart.specs.Reports.{IsReportOf};
 ghost use Rattle.shore_restart.specs.Standing.{IsFound, SameLog, SameVolume, log_faults, stream_bytes_of};
 ghost use Rattle.shore_restart.specs.Turns.{IsBadRecord, IsUndoneSoFar, LacksRoom};
 
@@ -29,21 +30,21 @@ use shore_types::Lsn;
 use std::alloc::Global;
 
 /// Restarts on what an open of both devices has found: redoes the records of the log that their pages do not have, undoes the losers and forces the
-/// records of that, and makes a core over what is left. It may be stopped at any moment; the next restart goes on. If there is no core the heap is
-/// handed back, and is of no use but for its device.
+/// records of that, and makes a core over what is left, in which those in doubt have what is theirs. It may be stopped at any moment; the next restart goes on.
+/// If there is no core the heap is handed back, and is of no use but for its device.
 pub fn restart<L: Disk, V: Disk>(
     alloc: Global,
     log: &mut LogDev<L>,
     heap: Heap<V>,
 ) -> Result<(Core<PlainTail, V>, Report), (RestartError, Heap<V>)>
+    requires limits { LocksInLimits (geometry_of heap) }
     // From what was found to what is left, a crash at any moment leaves what a crash may make of a store on the way. Of a lawful log that is
     // one with all records done and no loser, durable and shown by the core.
     ensures restarts { (log_front front : List ℕ) (disk : ℕ → List ℕ) (s : RecoveryState) → IsFound log_front front disk log.old heap s
         → Restarts result log_front front log.old log.new heap s }
     // The log has grown by the turns of the losers, in their order.
     ensures undone { OnOk result (IsUndoneSoFar (records_of_log log.old) (records_of_log log.new)) }
-    ensures report { IfOk result (λ done. (done.1.read ≡ length (records_of_log log.old)) × (done.1.redone ≤ done.1.read)
-        × ((tables : Tables) × AreTables (records_of_log log.old) tables × (done.1.undone ≡ length tables.txns))) }
+    ensures report { IfOk result (λ done. IsReportOf (records_of_log log.old) done.1) }
     // .. and of a store that was found, how many of the log's records its pages did not have.
     ensures missing { (log_front front : List ℕ) (disk : ℕ → List ℕ) (s : RecoveryState) → IsFound log_front front disk log.old heap s
         → IfOk result (λ done. done.1.redone ≡ missing_on s.log s.in_place) }
@@ -55,18 +56,20 @@ pub fn restart<L: Disk, V: Disk>(
     ensures device { (log_front front : List ℕ) (disk : ℕ → List ℕ) (s : RecoveryState) → IsFound log_front front disk log.old heap s
         → IfErr result (λ refused. (f : Fault) → refused.0 ≡ RestartError.Page f → f ≡ Fault.Device) }
     ensures log_device { (log_front : List ℕ) → IsQuiet log_front log.old → StaysQuiet (answer_of result) log_front log.old log.new }
-    // .. and whatever the pages hold, what the records mean comes first: it is refused by the first that does not mean what it has to, unless all do.
-    ensures meant { IfErr result (λ refused. refused.0 ≢ RestartError.Memory → AreMeant (geometry_of heap) (records_of_log log.old)
-        ⊎ ((n : ℕ) × (refused.0 ≡ RestartError.BadRecord n) × IsFirstUnmeant (geometry_of heap) (records_of_log log.old) n)) }
-    ensures taken { OnOk result (AreMeant (geometry_of heap) (records_of_log log.old)) }
+    // .. and whatever the pages hold, what the log says comes first: it is refused by the first record that does not mean what it has to; and if all do, by the
+    // Prepare of the first in doubt that cannot hold what is its beside those before it.
+    ensures meant { IfErr result (λ refused. refused.0 ≢ RestartError.Memory → IsTaken (geometry_of heap) (records_of_log log.old)
+        ⊎ ((n : ℕ) × (refused.0 ≡ RestartError.BadRecord n) × IsRefusedBy (geometry_of heap) (records_of_log log.old) n)) }
+    ensures taken { OnOk result (IsTaken (geometry_of heap) (records_of_log log.old)) }
     // .. and a page is named that has no text of it with a number up to the log's last.
     ensures bad_number { IfErr result (λ refused. (n : ℕ) → refused.0 ≡ RestartError.BadRecord n → (0 < n) × (n ≤ length (records_of_log log.old))) }
     ensures any_pages { (front : List ℕ) (disk : ℕ → List ℕ) → IsHeld front disk heap (length (records_of_log log.old))
         → IfErr result (λ refused. (f : Fault) → refused.0 ≡ RestartError.Page f → IsPageFault (geometry_of heap) disk (length (records_of_log log.old)) f) }
     // The core's buffer is empty and begins behind the log, all of which is durable: any core.
     ensures numbers { IfOk result (λ done. (first_of done.0 ≡ 1 + length (records_of_log log.new)) × (durable_of done.0 ≡ length (stable log.new))) }
-    // Nobody asks for a lock or has one, and there may be as many requests as the geometry allows.
-    ensures locks { IfOk result (λ done. locks_of done.0 ≡ record { limit = (geometry_of heap).max_locks; requests = [] }) }
+    // Those in doubt wait for their decisions, each with its undo list, under its name and in no session, and nobody else is under way. They have their locks, and
+    // nobody has another or waits for one; there may be as many nodes as the geometry allows.
+    ensures doubts { IfOk result (λ done. HasDoubtsBack (geometry_of heap).max_locks (records_of_log log.old) (control_of done.0)) }
     ensures volume { SameVolume heap (heap_left result) }
     ensures log { SameLog log.old log.new }
     ensures volume_cause { HasCause (volume_fault_left result) (faults_of heap) (faults_of (heap_left result)) }

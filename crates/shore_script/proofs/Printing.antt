@@ -6,7 +6,7 @@ use Rattle.std.specs.Prelude.{slice_get}
 use Rattle.hex.specs.Hex.{encode_lower, encode_with, lower_digits}
 use Rattle.shore_model.specs.declared.log_records.LogRecord.{LogRecord}
 use Rattle.shore_types.specs.declared.ids.Rid.{Rid}
-use Rattle.shore_script.specs.Texts.{bytes_text, log_line, log_lines, next_number, record_line, record_lines, some_record_line}
+use Rattle.shore_script.specs.Texts.{bytes_text, doubt_line, doubt_lines, log_line, log_lines, next_number, record_line, record_lines, some_record_line}
 
 pub Appends-nothing : (a : Option (List ℕ)) → Appends a a []
 Appends-nothing None = tt
@@ -60,3 +60,14 @@ log_lines-more first (r ∷ records) zero logged h =
 log_lines-more first (r ∷ records) (suc i) logged h =
     ap (λ (l : List ℕ). log_line first r ++ l) (log_lines-more (next_number first) records i logged h)
     ∙ sym (append_assoc (log_line first r) (log_lines (next_number first) (take i records)) (log_line (number_after first (suc i)) logged))
+
+-- one pair of those in doubt more
+pub doubt_lines-more : (ps : List (List ℕ × ℕ)) (i : ℕ) (p : List ℕ × ℕ) → slice_get ps i ≡ Some p
+    → doubt_lines (take (suc i) ps) ≡ doubt_lines (take i ps) ++ doubt_line p.0 p.1
+doubt_lines-more [] i p h = cc h
+doubt_lines-more (q ∷ ps) zero p h =
+    let same : q ≡ p = ap (λ (o : Option (List ℕ × ℕ)). unwrap_or o q) h in
+    append-nil (doubt_line q.0 q.1) ∙ ap (λ (r : List ℕ × ℕ). doubt_line r.0 r.1) same
+doubt_lines-more (q ∷ ps) (suc i) p h =
+    ap (λ (l : List ℕ). doubt_line q.0 q.1 ++ l) (doubt_lines-more ps i p h)
+    ∙ sym (append_assoc (doubt_line q.0 q.1) (doubt_lines (take i ps)) (doubt_line p.0 p.1))

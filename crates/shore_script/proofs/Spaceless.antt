@@ -5,6 +5,8 @@ use Rattle.shore_disk.specs.declared.memory.Pick.{Pick}
 use Rattle.shore_disk.specs.declared.memory.Pick.TheVariants as pick
 use Rattle.shore_model.specs.declared.calls.Call.{Call}
 use Rattle.shore_model.specs.declared.calls.Call.TheVariants as call
+use Rattle.shore_model.specs.declared.calls.Outcome.{Outcome}
+use Rattle.shore_model.specs.declared.calls.Outcome.TheVariants as outcome
 use Rattle.shore_types.specs.declared.faults.Device.{Device}
 use Rattle.shore_types.specs.declared.faults.Device.TheVariants as device
 use Rattle.shore_types.specs.declared.ids.Rid.{Rid}
@@ -13,11 +15,12 @@ use Rattle.shore_types.specs.declared.locking.Granule.TheVariants as granule
 use Rattle.shore_types.specs.Names.{device_name}
 use Rattle.shore_script.specs.declared.command.Command.{Command}
 use Rattle.shore_script.specs.declared.command.Command.TheVariants as command
-use Rattle.shore_script.specs.Bytes.{SpellsBytes}
+use Rattle.shore_script.specs.Bytes.{IsPairs, SpellsBytes}
 use Rattle.shore_script.specs.Ids.{IsGranule, IsNumber, IsRecord}
-use Rattle.shore_script.specs.Words.{AskCall, AskCrash, AskPlain, HasOne, HasTwo, IsAlone, pick_word}
+use Rattle.shore_script.specs.Words.{AskCall, AskCrash, AskPlain, HasOne, HasTwo, IsAlone, outcome_word, pick_word}
 use Rattle.shore_script.proofs.Cuts.{Lacks, Lacks-append, Lacks-cons}
 use Rattle.shore_script.proofs.Digits.{decimal-Lacks}
+use Rattle.shore_script.proofs.Hexes.{encoded-lacks}
 use Rattle.shore_script.proofs.Names.{page_name-cut, rid_name-cut}
 
 -- three words at most, and no space in any
@@ -73,6 +76,9 @@ granule-lacks (granule.Page page) word h =
     subst (Lacks 32) (sym (h.0 ∙ page_name-cut page)) (dotted (decimal page.store) (decimal page.page) (short-lacks page.store h.1) (short-lacks page.page h.2))
 granule-lacks (granule.Record id) word h = record-lacks id word h
 
+pairs-lacks : (bytes word : List ℕ) → IsPairs word bytes → Lacks 32 word
+pairs-lacks bytes word h = subst (Lacks 32) (sym h.0) (encoded-lacks 32 (omega arith) bytes h.2)
+
 device-lacks : (d : Device) (word : List ℕ) → word ≡ device_name d → Lacks 32 word
 device-lacks device.Log word h = subst (Lacks 32) (sym h) refl
 device-lacks device.Volume word h = subst (Lacks 32) (sym h) refl
@@ -98,9 +104,9 @@ AskCall-spaceless words call.Commit h = alone-spaceless words (codes "commit") h
 AskCall-spaceless words call.Savepoint h = alone-spaceless words (codes "savepoint") h refl
 AskCall-spaceless words (call.BackTo index) h = one-spaceless words (codes "back") _ h refl (number-lacks (2 ^ 64) (omega arith) index)
 AskCall-spaceless words call.Abort h = alone-spaceless words (codes "abort") h refl
-AskCall-spaceless words (call.Prepare global) h = absurd h
-AskCall-spaceless words (call.Resolve global outcome) h = absurd h
-AskCall-spaceless words call.InDoubt h = absurd h
+AskCall-spaceless words (call.Prepare global) h = one-spaceless words (codes "prepare") _ h refl (pairs-lacks global)
+AskCall-spaceless words (call.Resolve global outcome) h = two-spaceless words (codes "resolve") _ _ h refl (pairs-lacks global)
+AskCall-spaceless words call.InDoubt h = alone-spaceless words (codes "indoubt") h refl
 
 AskCrash-spaceless : (words : List (List ℕ)) (p : Option Pick) → AskCrash words p → AreSpaceless words
 AskCrash-spaceless words None h = alone-spaceless words (codes "crash") h refl
@@ -171,7 +177,7 @@ insert_spells s w none call.Savepoint h = h
 insert_spells s w none (call.BackTo index) h = h
 insert_spells s w none call.Abort h = h
 insert_spells s w none (call.Prepare global) h = h
-insert_spells s w none (call.Resolve global outcome) h = h
+insert_spells s w none (call.Resolve global outcome) h = cc h.0
 insert_spells s w none call.InDoubt h = h
 
 pub update_spells : (record_word word : List ℕ) → ((bytes : List ℕ) → ¬ (SpellsBytes word bytes)) → (x : Call) → ¬ (AskCall (codes "update" ∷ record_word ∷ word ∷ []) x)
@@ -189,5 +195,44 @@ update_spells s w none call.Savepoint h = h
 update_spells s w none (call.BackTo index) h = h
 update_spells s w none call.Abort h = h
 update_spells s w none (call.Prepare global) h = h
-update_spells s w none (call.Resolve global outcome) h = h
+update_spells s w none (call.Resolve global outcome) h = cc h.0
 update_spells s w none call.InDoubt h = h
+
+-- ---- global ids that no word spells, and outcomes that no word names
+
+pub prepare_spells : (word : List ℕ) → ((bytes : List ℕ) → ¬ (IsPairs word bytes)) → (x : Call) → ¬ (AskCall (codes "prepare" ∷ word ∷ []) x)
+prepare_spells w none call.Begin h = h
+prepare_spells w none (call.Get id) h = cc h.0
+prepare_spells w none (call.GetForUpdate id) h = cc h.0
+prepare_spells w none (call.Insert store bytes) h = h
+prepare_spells w none (call.Update id bytes) h = h
+prepare_spells w none (call.Delete id) h = cc h.0
+prepare_spells w none (call.Scan store) h = cc h.0
+prepare_spells w none (call.Lock granule mode) h = h
+prepare_spells w none (call.TryLock granule mode) h = h
+prepare_spells w none call.Commit h = h
+prepare_spells w none call.Savepoint h = h
+prepare_spells w none (call.BackTo index) h = cc h.0
+prepare_spells w none call.Abort h = h
+prepare_spells w none (call.Prepare global) h = none global h.1
+prepare_spells w none (call.Resolve global outcome) h = h
+prepare_spells w none call.InDoubt h = h
+
+pub resolve_spells : (word outcome_text : List ℕ) → ((bytes : List ℕ) (o : Outcome) → IsPairs word bytes → outcome_text ≡ outcome_word o → ⊥)
+    → (x : Call) → ¬ (AskCall (codes "resolve" ∷ word ∷ outcome_text ∷ []) x)
+resolve_spells w o none call.Begin h = h
+resolve_spells w o none (call.Get id) h = h
+resolve_spells w o none (call.GetForUpdate id) h = h
+resolve_spells w o none (call.Insert store bytes) h = cc h.0
+resolve_spells w o none (call.Update id bytes) h = cc h.0
+resolve_spells w o none (call.Delete id) h = h
+resolve_spells w o none (call.Scan store) h = h
+resolve_spells w o none (call.Lock granule mode) h = cc h.0
+resolve_spells w o none (call.TryLock granule mode) h = cc h.0
+resolve_spells w o none call.Commit h = h
+resolve_spells w o none call.Savepoint h = h
+resolve_spells w o none (call.BackTo index) h = h
+resolve_spells w o none call.Abort h = h
+resolve_spells w o none (call.Prepare global) h = h
+resolve_spells w o none (call.Resolve global outcome) h = none global outcome h.1 h.2
+resolve_spells w o none call.InDoubt h = h

@@ -37,6 +37,14 @@ abbrev pub record_lines : List (Rid × List ℕ) → List ℕ
 record_lines [] = []
 record_lines (pair ∷ pairs) = record_line pair.0 pair.1 ++ record_lines pairs
 
+-- a global id, and who is in doubt by it
+abbrev pub doubt_line : List ℕ → ℕ → List ℕ
+doubt_line global txn = bytes_text global ++ (codes " " ++ (decimal txn ++ line_end))
+
+abbrev pub doubt_lines : List (List ℕ × ℕ) → List ℕ
+doubt_lines [] = []
+doubt_lines (pair ∷ pairs) = doubt_line pair.0 pair.1 ++ doubt_lines pairs
+
 -- what a session is answered; the steps that no session asks for have no text of their own
 abbrev pub answer_text : Answer → List ℕ
 answer_text (answer.Began txn) = codes "began " ++ (decimal txn ++ line_end)
@@ -52,7 +60,7 @@ answer_text answer.Committed = codes "committed" ++ line_end
 answer_text answer.Aborted = codes "aborted" ++ line_end
 answer_text answer.Prepared = codes "prepared" ++ line_end
 answer_text answer.Resolved = codes "resolved" ++ line_end
-answer_text (answer.AreInDoubt found) = codes "ok" ++ line_end
+answer_text (answer.AreInDoubt found) = codes "indoubt " ++ (decimal (length found) ++ (line_end ++ doubt_lines found))
 answer_text (answer.Staged number) = codes "ok" ++ line_end
 answer_text (answer.Forced number) = codes "ok" ++ line_end
 answer_text (answer.Flushed pages) = codes "ok" ++ line_end

@@ -4,8 +4,10 @@ use Rattle.shore_disk.specs.declared.memory.Pick.{Pick}
 use Rattle.shore_disk.specs.declared.memory.Pick.TheVariants as pick
 use Rattle.shore_model.specs.declared.calls.Call.{Call}
 use Rattle.shore_model.specs.declared.calls.Call.TheVariants as call
+use Rattle.shore_model.specs.declared.calls.Outcome.{Outcome}
+use Rattle.shore_model.specs.declared.calls.Outcome.TheVariants as outcome
 use Rattle.shore_types.specs.Names.{device_name, mode_name}
-use Rattle.shore_script.specs.Bytes.{SpellsBytes}
+use Rattle.shore_script.specs.Bytes.{IsPairs, SpellsBytes}
 use Rattle.shore_script.specs.Ids.{IsNumber, IsRecord, IsGranule}
 use Rattle.shore_script.specs.declared.command.Command.{Command}
 use Rattle.shore_script.specs.declared.command.Command.TheVariants as command
@@ -36,7 +38,11 @@ HasTwo (first ∷ second ∷ []) word P Q = ⊥
 HasTwo (first ∷ second ∷ third ∷ []) word P Q = (first ≡ word) × P second × Q third
 HasTwo (first ∷ second ∷ third ∷ fourth ∷ words) word P Q = ⊥
 
--- the words ask for the call; none ask for what is not served yet
+abbrev pub outcome_word : Outcome → List ℕ
+outcome_word outcome.Commit = codes "commit"
+outcome_word outcome.Abort = codes "abort"
+
+-- the words ask for the call; a global id is written as pairs of digits
 abbrev pub AskCall : List (List ℕ) → Call → Type 0
 AskCall words call.Begin = IsAlone words (codes "begin")
 AskCall words (call.Get id) = HasOne words (codes "get") (λ word. IsRecord word id)
@@ -51,9 +57,9 @@ AskCall words call.Commit = IsAlone words (codes "commit")
 AskCall words call.Savepoint = IsAlone words (codes "savepoint")
 AskCall words (call.BackTo index) = HasOne words (codes "back") (λ word. IsNumber (2 ^ 64) word index)
 AskCall words call.Abort = IsAlone words (codes "abort")
-AskCall words (call.Prepare global) = ⊥
-AskCall words (call.Resolve global outcome) = ⊥
-AskCall words call.InDoubt = ⊥
+AskCall words (call.Prepare global) = HasOne words (codes "prepare") (λ word. IsPairs word global)
+AskCall words (call.Resolve global outcome) = HasTwo words (codes "resolve") (λ word. IsPairs word global) (λ word. word ≡ outcome_word outcome)
+AskCall words call.InDoubt = IsAlone words (codes "indoubt")
 
 abbrev pub pick_word : Pick → List ℕ
 pick_word pick.Old = codes "old"

@@ -1,17 +1,17 @@
 //! A line of the script.
-ghost use Rattle.std.specs.Prelude.{◌≡◌, ◌∷◌, [], IfOk, IfSome, codes};
+ghost use Rattle.std.specs.Prelude.{◌≡◌, ◌≢◌, ◌∷◌, [], IfOk, IfSome, codes};
 ghost use Rattle.shore_model.specs.Calls.{IsServed};
 ghost use Rattle.shore_script.specs.Commands.{IsServedCommand};
 ghost use Rattle.shore_script.specs.Lines.{InWords, IsCallOf, IsLineOf, TextAsks};
 ghost use Rattle.shore_script.specs.Reading.{Reads};
-ghost use Rattle.shore_script.specs.Words.{AskCall, AskPlain, pick_word};
+ghost use Rattle.shore_script.specs.Words.{AskCall, AskPlain, outcome_word, pick_word};
 ghost use Rattle.shore_types.specs.Names.{device_name};
 
 use crate::fuses::Fuse;
 use crate::lines::MAX_LINE_BYTES;
 use crate::words;
 use shore_disk::Pick;
-use shore_model::Call;
+use shore_model::{Call, Outcome};
 use shore_types::{Device, SessionId};
 use std::alloc::{AllocError, Global};
 
@@ -168,7 +168,7 @@ fn call_of(alloc: Global, text: &str) -> Result<Option<Call>, AllocError>
     match text.split_once(' ') {
         Some((word, rest)) => match rest.split_once(' ') {
             Some((first, second)) => call_with_two(alloc, word, first, second),
-            None => Ok(call_with_one(word, rest)),
+            None => call_with_a_word(alloc, word, rest),
         },
         None => Ok(call_of_a_word(text)),
     }
@@ -183,11 +183,23 @@ fn call_of_a_word(word: &str) -> Option<Call>
         "commit" => Some(Call::Commit),
         "abort" => Some(Call::Abort),
         "savepoint" => Some(Call::Savepoint),
+        "indoubt" => Some(Call::InDoubt),
         _ => None,
     }
 }
 
+fn call_with_a_word(alloc: Global, word: &str, object: &str) -> Result<Option<Call>, AllocError>
+    ensures served { IfOk result (λ found. IfSome found IsServed) }
+    ensures asks { IfOk result (Reads (AskCall (word.now ∷ object.now ∷ []))) }
+{
+    match word {
+        "prepare" => prepare_of(alloc, object),
+        _ => Ok(call_with_one(word, object)),
+    }
+}
+
 fn call_with_one(word: &str, object: &str) -> Option<Call>
+    requires { word.now ≢ codes "prepare" }
     ensures served { IfSome result IsServed }
     ensures asks { Reads (AskCall (word.now ∷ object.now ∷ [])) result }
 {
@@ -215,6 +227,7 @@ fn call_with_two(
         "update" => update_of(alloc, first, second),
         "lock" => Ok(lock_of(first, second)),
         "try" => Ok(try_of(first, second)),
+        "resolve" => resolve_of(alloc, first, second),
         _ => Ok(None),
     }
 }
@@ -256,5 +269,38 @@ fn update_of(alloc: Global, id: &str, bytes: &str) -> Result<Option<Call>, Alloc
     match words::bytes(alloc, bytes)? {
         Some(bytes) => Ok(Some(Call::Update(id, bytes))),
         None => Ok(None),
+    }
+}
+
+fn prepare_of(alloc: Global, global: &str) -> Result<Option<Call>, AllocError>
+    ensures served { IfOk result (λ found. IfSome found IsServed) }
+    ensures asks { IfOk result (Reads (AskCall (codes "prepare" ∷ global.now ∷ []))) }
+{
+    match words::global(alloc, global)? {
+        Some(global) => Ok(Some(Call::Prepare(global))),
+        None => Ok(None),
+    }
+}
+
+fn resolve_of(alloc: Global, global: &str, outcome: &str) -> Result<Option<Call>, AllocError>
+    ensures served { IfOk result (λ found. IfSome found IsServed) }
+    ensures asks { IfOk result (Reads (AskCall (codes "resolve" ∷ global.now ∷ outcome.now ∷ []))) }
+{
+    let Some(outcome) = outcome_of(outcome) else {
+        return Ok(None);
+    };
+    match words::global(alloc, global)? {
+        Some(global) => Ok(Some(Call::Resolve(global, outcome))),
+        None => Ok(None),
+    }
+}
+
+fn outcome_of(word: &str) -> Option<Outcome>
+    ensures { Reads (λ outcome. word.now ≡ outcome_word outcome) result }
+{
+    match word {
+        "commit" => Some(Outcome::Commit),
+        "abort" => Some(Outcome::Abort),
+        _ => None,
     }
 }

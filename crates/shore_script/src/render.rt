@@ -2,11 +2,11 @@
 ghost use Rattle.std.specs.Prelude.{◌≡◌, ◌≤◌, ◌+◌, ◌^◌, ◌-◌, IfOk, OnOk, length, min, slice_get};
 ghost use Rattle.std.specs.Io.KnownBytes.{Appends};
 ghost use Rattle.hex.specs.Hex.{encode_lower};
-ghost use Rattle.shore_script.specs.Texts.{answer_line, answer_text, bytes_text, fault_line, kind_text, lock_line, log_line, log_lines, open_fault_line, record_line, record_lines, some_record_line, waits_line};
+ghost use Rattle.shore_script.specs.Texts.{answer_line, answer_text, bytes_text, doubt_line, doubt_lines, fault_line, kind_text, lock_line, log_line, log_lines, open_fault_line, record_line, record_lines, some_record_line, waits_line};
 ghost use Rattle.shore_script.specs.declared.render.TheConstants.{PART};
 
 use shore_model::{Answer, LogRecord, Payload, Request};
-use shore_types::{Fault, Granule, Pairs, Rid, SessionId};
+use shore_types::{Fault, GlobalId, Granule, Pairs, Rid, SessionId, TxnId};
 use std::io::{self, Write};
 
 /// So many bytes of a record are written at a time.
@@ -45,6 +45,7 @@ fn answer_of<W: Write>(out: &mut W, answer: &Answer) -> io::Result<()>
         Answer::Got(found) => got(out, found.as_slice()),
         Answer::Inserted(id) => writeln!(out, "at {id}"),
         Answer::Scanned(pairs) => scanned(out, pairs),
+        Answer::AreInDoubt(found) => in_doubt(out, found.as_slice()),
         Answer::Saved(index) => writeln!(out, "savepoint {index}"),
         Answer::Committed => writeln!(out, "committed"),
         Answer::Aborted => writeln!(out, "aborted"),
@@ -52,6 +53,30 @@ fn answer_of<W: Write>(out: &mut W, answer: &Answer) -> io::Result<()>
         Answer::Resolved => writeln!(out, "resolved"),
         _ => writeln!(out, "ok"),
     }
+}
+
+fn in_doubt<W: Write>(out: &mut W, found: &[(GlobalId, TxnId)]) -> io::Result<()>
+    ensures { OnOk result (Appends (W.contents out.old) (W.contents out.new) (answer_text (Answer.AreInDoubt found.now))) }
+{
+    let count = found.len();
+    writeln!(out, "indoubt {count}")?;
+    doubts(out, found)
+}
+
+fn doubts<W: Write>(out: &mut W, found: &[(GlobalId, TxnId)]) -> io::Result<()>
+    ensures { OnOk result (Appends (W.contents out.old) (W.contents out.new) (doubt_lines found.now)) }
+{
+    for one in found {
+        doubt(out, &one.0, one.1)?;
+    }
+    Ok(())
+}
+
+fn doubt<W: Write>(out: &mut W, global: &GlobalId, txn: TxnId) -> io::Result<()>
+    ensures { OnOk result (Appends (W.contents out.old) (W.contents out.new) (doubt_line global.now txn)) }
+{
+    bytes(out, global.as_slice())?;
+    writeln!(out, " {txn}")
 }
 
 fn got<W: Write>(out: &mut W, found: &[u8]) -> io::Result<()>

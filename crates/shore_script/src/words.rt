@@ -7,7 +7,7 @@ ghost use Rattle.shore_script.specs.Reading.{Reads};
 ghost use Rattle.shore_types.specs.Names.{mode_name};
 
 use hex::FromHexError;
-use shore_types::{Bytes, Granule, Mode, PageId, Rid, Sequence, SessionId, StoreId};
+use shore_types::{Bytes, GlobalId, Granule, Mode, PageId, Rid, Sequence, SessionId, StoreId};
 use std::alloc::{AllocError, Global};
 
 /// The most bytes that the form `HH*N` repeats.
@@ -128,6 +128,13 @@ pub fn bytes(alloc: Global, word: &str) -> Result<Option<Bytes>, AllocError>
         Some((pair, count)) => copies(alloc, pair, count),
         None => pairs(alloc, word),
     }
+}
+
+/// A global id: pairs of lower-case hexadecimal digits. `Ok(None)`: the word is none.
+pub fn global(alloc: Global, word: &str) -> Result<Option<GlobalId>, AllocError>
+    ensures { IfOk result (Reads (IsPairs word.now)) }
+{
+    pairs(alloc, word)
 }
 
 // A byte by its pair of digits, as often as a number says.

@@ -1,6 +1,6 @@
 -- What follows of an answer that may be there or not.
 use Rattle.std.proofs.Common.{◌≡◌, is_some, Option, None, Some, Result, Ok, Err, true, false, IfSome}
-use Rattle.std.specs.Prelude.{IfNone, OnErr, OnOk}
+use Rattle.std.specs.Prelude.{IfNone, IfOk, OnErr, OnOk}
 
 pub some_so : {A : Type 0} {P Q : A → Type 0} (o : Option A) → ((x : A) → P x → Q x) → IfSome o P → IfSome o Q
 some_so None f h = h
@@ -9,6 +9,10 @@ some_so (Some x) f h = f x h
 pub none_so : {A : Type 0} {P Q : Type 0} (o : Option A) → (P → Q) → IfNone o P → IfNone o Q
 none_so None f h = f h
 none_so (Some x) f h = h
+
+pub none_if : {A P : Type 0} (o : Option A) → P → IfNone o P
+none_if None holds = holds
+none_if (Some x) holds = tt
 
 module _ {A E : Type 0} {P Q R S : Type 0} where
   pub ok_so : (r : Result A E) → (P → Q → R → S) → OnOk r P → OnOk r Q → OnOk r R → OnOk r S
@@ -32,3 +36,11 @@ some_told P None is holds = absurd (clash is)
   where
     clash : false ≡ true → ⊥
     clash e = cc
+
+pub ok_both : {A E : Type 0} {P Q R : A → Type 0} (r : Result A E) → ((x : A) → P x → Q x → R x) → IfOk r P → IfOk r Q → IfOk r R
+ok_both (Ok x) f p q = f x p q
+ok_both (Err e) f p q = p
+
+pub both_some : {A : Type 0} {P Q R : A → Type 0} (o : Option A) → ((x : A) → P x → Q x → R x) → IfSome o P → IfSome o Q → IfSome o R
+both_some None f p q = p
+both_some (Some x) f p q = f x p q

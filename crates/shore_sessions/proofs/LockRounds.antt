@@ -1,6 +1,6 @@
 -- What a lock comes to in the table is what it comes to over plain data: round for round, and in a round victim for victim.
 use Rattle.std.proofs.Common.{◌≡◌, ◌≢◌, inl, inr, ⊎_elim, ◌++◌, ℕ, List, [], ◌∷◌, Bool, true, false, cond, Option, None, Some, refl, ap, sym, subst, ◌∙◌, append_assoc}
-use Rattle.std.specs.Prelude.{◌==◌, Result, Ok, Err, if◌then◌else◌, is_some, not}
+use Rattle.std.specs.Prelude.{◌==◌, Result, Ok, Err, filter, if◌then◌else◌, is_some, not}
 use Rattle.std.proofs.lemmas.List.{append-nil}
 use Rattle.std.proofs.lemmas.Bool.{cases_Bool, eq-eqb, eqb-false, eqb-true, ne_eqb}
 use Rattle.shore_types.specs.declared.faults.Fault.{Fault}
@@ -34,12 +34,13 @@ use Rattle.shore_model.specs.declared.rollbacks.Rollback.TheVariants.{Whole}
 use Rattle.laws_calls.specs.CallSteps.{behind_lock, lock_outcome, lock_waiting, on_conflict_of, with_requests}
 use Rattle.laws_calls.specs.LockRounds.{EndsLock, EndsWell, IsBroken, LetThrough, LocksTo, waits_at}
 use Rattle.laws_calls.specs.StateChanges.{wait_refused}
-use Rattle.laws_calls.specs.States.{DoesNotWait, State, Waiting, without_waiting}
+use Rattle.laws_calls.specs.States.{DoesNotWait, HasSeat, State, Waiting, without_waiting}
 use Rattle.laws_calls.specs.Victims.{TakesVictims}
-use Rattle.shore_txn.proofs.OneOfMany.{among_map, map_among}
-use Rattle.shore_sessions.specs.Calls.{name_of, names_of}
+use Rattle.shore_txn.proofs.OneOfMany.{map_among}
+use Rattle.shore_sessions.specs.Calls.{name_of}
 use Rattle.shore_sessions.specs.Noting.{AreNoted, IsNotable, answer_of, told_cycle, victim_noted}
 use Rattle.shore_sessions.proofs.FairWaits.{IsFair, fair_asked, fair_victim, fair_woken}
+use Rattle.shore_sessions.proofs.Sitting.{seat_sits, sits, sitting, sitting_seat}
 use Rattle.shore_sessions.proofs.StillWaits.{still_at}
 use Rattle.shore_sessions.proofs.WaitSteps.{names-with_undo}
 
@@ -87,7 +88,7 @@ notes_unlocked : (session t : ℕ) (vs : List Victim) (s : State) (rs : List Req
 notes_unlocked session t [] s rs new noted = (noted.0, noted.1)
 notes_unlocked session t (v ∷ vs) s rs new noted = (
   noted.0,
-  record { active = noted.1.active; number = noted.1.number; own = noted.1.own; waits = noted.1.waits },
+  record { seat = (noted.1.seat.0, noted.1.seat.1, noted.1.seat.2); number = noted.1.number; own = noted.1.own; waits = noted.1.waits },
   notes_unlocked session t vs (victim_noted s noted.0 v.cycle) rs new noted.2,
 )
 
@@ -95,7 +96,7 @@ notes_unlocked session t (v ∷ vs) s rs new noted = (
 
 module _ (a : SessionTxn) (c : Call) (lock : Asked) (may_wait : on_conflict_of c ≡ conflict.Wait) where
   abbrev named : State → List (ℕ × ℕ)
-  named s = names_of s.sessions.active
+  named s = sitting s.sessions
 
   -- with the call of the one who asks
   abbrev with_head : Waiting → State → State
@@ -151,29 +152,32 @@ module _ (a : SessionTxn) (c : Call) (lock : Asked) (may_wait : on_conflict_of c
           absurd (quiet_waits_not v.txn u.locks.requests quiet next.0 next.1))
           (cases_Bool (is_waiting v.txn u.locks.requests))
 
-      its : (b : SessionTxn) × IsAmong b u.sessions.active × (b.txn ≡ v.txn)
+      its : (b : SessionTxn) × HasSeat u.sessions b × (b.txn ≡ v.txn)
       its =
           let name = fair.under v.txn waits in
-          let one = map_among name_of name.0 u.sessions.active name.1 in
+          let one = sitting_seat u.sessions name.0 name.1 in
           (one.0, one.1, ap (λ (n : ℕ × ℕ). n.1) one.2 ∙ name.2)
 
       b : SessionTxn
       b = its.0
 
+      seat : HasSeat u.sessions b
+      seat = its.1
+
       active : IsAmong b u.sessions.active
-      active = its.1
+      active = seat.0
 
       number : b.txn ≡ v.txn
       number = its.2
 
       named_b : IsAmong (name_of b) (named u)
-      named_b = among_map name_of b u.sessions.active active
+      named_b = seat_sits u.sessions b seat
 
       mid : State
       mid = with_requests (victim_noted u b v.cycle) (cancelled b.txn u.locks.requests)
 
       names_then : named mid ≡ named u
-      names_then = names-with_undo b.txn (undo_rolled b.undo b.undo.images Whole) u.sessions.active
+      names_then = ap (filter (sits u.sessions)) (names-with_undo b.txn (undo_rolled b.undo b.undo.images Whole) u.sessions.active)
 
       head : Waiting
       head = record h { cycle = if v.txn == a.txn then Some v.cycle else h.cycle }
@@ -204,7 +208,7 @@ module _ (a : SessionTxn) (c : Call) (lock : Asked) (may_wait : on_conflict_of c
 
       notable : IsNotable a.session a.txn u v b
       notable = record {
-        active = active;
+        seat = seat;
         number = number;
         own = λ same. fair.by_number (name_of b) (name_of a) named_b there same;
         waits = λ other none. opposite (subst (λ t. is_waiting t u.locks.requests ≡ true) (sym number) waits)

@@ -7,69 +7,64 @@ use Rattle.shore_model.specs.declared.log_records.LogRecord.{LogRecord}
 use Rattle.shore_locks.specs.Tables.{is_waiting}
 use Rattle.shore_path.specs.declared.answers.OnConflict.TheVariants as conflict
 use Rattle.laws_locks.specs.CallLocks.{Asked}
-use Rattle.laws_lives.specs.Sessions.{SessionTxn, in_txn}
+use Rattle.laws_lives.specs.Sessions.{SessionTxn}
 use Rattle.laws_lives.specs.Views.{IsAmong}
 use Rattle.laws_calls.proofs.Sessions.{committed_seat, one_member, one_txn, parted}
 use Rattle.laws_calls.specs.CallSteps.{on_conflict_of}
 use Rattle.laws_calls.specs.Events.{IsStateAfter}
-use Rattle.laws_calls.specs.States.{DoesNotWait, State}
-use Rattle.shore_txn.proofs.OneOfMany.{among_map, map_among}
-use Rattle.shore_sessions.specs.Calls.{name_of, names_of}
+use Rattle.laws_calls.specs.States.{DoesNotWait, HasSeat, State}
+use Rattle.shore_sessions.specs.Calls.{name_of}
 use Rattle.shore_sessions.specs.Controls.{txns_in, waits_in}
 use Rattle.shore_sessions.specs.Noting.{HasSessionsOf}
-use Rattle.shore_sessions.specs.Standing.{HasNonePrepared, HasTxns, HasWaits}
+use Rattle.shore_sessions.specs.Standing.{AreResolving, HasTxns, HasWaits}
 use Rattle.shore_sessions.specs.declared.control.Control.{Control}
 use Rattle.shore_sessions.proofs.LockRounds.{IsStart}
-use Rattle.shore_sessions.proofs.Seats.{its_seat}
+use Rattle.shore_sessions.proofs.Sitting.{seat_sits, sitting, sitting_seat}
 
-module _ (o : Opening) (found : List LogRecord) (es : List Entry) (s : State) (k : IsStateAfter o found es s) (none : HasNonePrepared s.sessions) (works : s.failed ≡ false) where
-  abbrev names : List (ℕ × ℕ)
-  names = names_of s.sessions.active
-
-  seat : (b : SessionTxn) → IsAmong b s.sessions.active → s.sessions.seats b.session ≡ in_txn b.txn
-  seat b m = (its_seat s k.sessions.seats none b m).1
-
+module _ (o : Opening) (found : List LogRecord) (es : List Entry) (s : State) (k : IsStateAfter o found es s) (works : s.failed ≡ false) where
   -- whose name it is
-  of_name : (n : ℕ × ℕ) → IsAmong n names → (b : SessionTxn) × IsAmong b s.sessions.active × (name_of b ≡ n)
-  of_name n m = map_among name_of n s.sessions.active m
+  of_name : (n : ℕ × ℕ) → IsAmong n (sitting s.sessions) → (b : SessionTxn) × HasSeat s.sessions b × (name_of b ≡ n)
+  of_name n m = sitting_seat s.sessions n m
 
-  by_number : (n m : ℕ × ℕ) → IsAmong n names → IsAmong m names → n.1 ≡ m.1 → n.0 ≡ m.0
+  by_number : (n m : ℕ × ℕ) → IsAmong n (sitting s.sessions) → IsAmong m (sitting s.sessions) → n.1 ≡ m.1 → n.0 ≡ m.0
   by_number n m there here same =
       let b = of_name n there in
       let d = of_name m here in
       ap (λ (x : ℕ × ℕ). x.0) (sym b.2)
-      ∙ ap (λ (a : SessionTxn). a.session) (one_member k.sessions b.0 d.0 b.1 d.1 (ap (λ (x : ℕ × ℕ). x.1) b.2 ∙ same ∙ ap (λ (x : ℕ × ℕ). x.1) (sym d.2))) ∙ ap (λ (x : ℕ × ℕ). x.0) d.2
+      ∙ ap (λ (a : SessionTxn). a.session) (one_member k.sessions b.0 d.0 b.1.0 d.1.0 (ap (λ (x : ℕ × ℕ). x.1) b.2 ∙ same ∙ ap (λ (x : ℕ × ℕ). x.1) (sym d.2))) ∙ ap (λ (x : ℕ × ℕ). x.0) d.2
 
-  by_session : (n m : ℕ × ℕ) → IsAmong n names → IsAmong m names → n.0 ≡ m.0 → n.1 ≡ m.1
+  by_session : (n m : ℕ × ℕ) → IsAmong n (sitting s.sessions) → IsAmong m (sitting s.sessions) → n.0 ≡ m.0 → n.1 ≡ m.1
   by_session n m there here same =
       let b = of_name n there in
       let d = of_name m here in
-      ap (λ (x : ℕ × ℕ). x.1) (sym b.2) ∙ one_txn s.sessions b.0 d.0 (seat b.0 b.1) (seat d.0 d.1) (ap (λ (x : ℕ × ℕ). x.0) b.2 ∙ same ∙ ap (λ (x : ℕ × ℕ). x.0) (sym d.2)) ∙ ap (λ (x : ℕ × ℕ). x.1) d.2
+      ap (λ (x : ℕ × ℕ). x.1) (sym b.2) ∙ one_txn s.sessions b.0 d.0 b.1.1 d.1.1 (ap (λ (x : ℕ × ℕ). x.0) b.2 ∙ same ∙ ap (λ (x : ℕ × ℕ). x.0) (sym d.2)) ∙ ap (λ (x : ℕ × ℕ). x.1) d.2
 
-  pub starts : (a : SessionTxn) (c : Call) (lock : Asked) (may_wait : on_conflict_of c ≡ conflict.Wait) → IsAmong a s.sessions.active → is_waiting a.txn s.locks.requests ≡ false → DoesNotWait s a.session
+  pub starts : (a : SessionTxn) (c : Call) (lock : Asked) (may_wait : on_conflict_of c ≡ conflict.Wait) → HasSeat s.sessions a → is_waiting a.txn s.locks.requests ≡ false → DoesNotWait s a.session
       → IsStart a c lock may_wait s
-  starts a c lock may_wait m quiet idle = record {
+  starts a c lock may_wait seat quiet idle = record {
     fair = record {
       orderly = k.sessions.locks.orderly;
       rooted = k.sessions.locks.rooted;
-      under = λ u waits. let b = k.sessions.locks.waiters u waits in (name_of b.0, among_map name_of b.0 s.sessions.active b.1.0, b.2);
+      under = λ u waits. let b = k.sessions.locks.waiters u waits in (name_of b.0, seat_sits s.sessions b.0 b.1, b.2);
       quiet = λ n there none.
           let b = of_name n there in
           subst (λ (x : ℕ × ℕ). is_waiting x.1 s.locks.requests ≡ false) b.2
-          (k.sessions.locks.waits works b.0 b.1 (λ w l asks same. none w l asks (same ∙ ap (λ (x : ℕ × ℕ). x.0) b.2)));
+          (k.sessions.locks.waits works b.0 b.1.0 (λ w l asks same. none w l asks (same ∙ ap (λ (x : ℕ × ℕ). x.0) b.2)));
       by_number = by_number;
       by_session = by_session;
     };
-    there = among_map name_of a s.sessions.active m;
+    there = seat_sits s.sessions a seat;
     quiet = quiet;
     idle = idle;
   }
 
   -- a session is in one transaction
-  pub stands_for : (control new : Control) → HasTxns (txns_in control) s → HasWaits (waits_in control) s → txns_in new ≡ txns_in control → waits_in new ≡ waits_in control → HasSessionsOf new s
-  stands_for control new txns waits same calls = record {
+  pub stands_for : (control new : Control) → HasTxns (txns_in control) s → HasWaits (waits_in control) s → AreResolving (txns_in control) (waits_in control) s
+      → txns_in new ≡ txns_in control → waits_in new ≡ waits_in control → HasSessionsOf new s
+  stands_for control new txns waits resolving same calls = record {
     txns = subst (λ x. HasTxns x s) (sym same) txns;
     waits = subst (λ x. HasWaits x s) (sym calls) waits;
+    resolving = subst (λ x. AreResolving x (waits_in new) s) (sym same) (subst (λ x. AreResolving (txns_in control) x s) (sym calls) resolving);
     works = works;
-    apart = λ a b committed active of. parted k.sessions b a active committed (one_txn s.sessions b a (seat b active) (committed_seat k.sessions a committed) of);
+    apart = λ a b committed seat of. parted k.sessions b a seat.0 committed (one_txn s.sessions b a seat.1 (committed_seat k.sessions a committed) of);
   }

@@ -1,13 +1,15 @@
 -- What a record more makes of a log: the last records of transactions, and the sum of its costs.
-use Rattle.std.proofs.Common.{◌≡◌, ◌≢◌, ◌+◌, ◌<◌, ◌≤◌, ◌++◌, ◌∷◌, ◌==◌, [], List, ℕ, cond, refl, ap, ◌∙◌, arith, length}
-use Rattle.std.specs.Prelude.{filter, reverse}
+use Rattle.std.proofs.Common.{◌≡◌, ◌≢◌, ◌+◌, ◌<◌, ◌≤◌, ◌++◌, ◌∷◌, ◌==◌, [], List, ℕ, Bool, true, false, cond, refl, ap, ◌∙◌, arith, length}
+use Rattle.std.specs.Prelude.{◌&&◌, filter, reverse}
 use Rattle.std.specs.List.{AllByRecursion, enumerate_from}
 use Rattle.std.proofs.lemmas.Bool.{eq-eqb, ne_eqb}
 use Rattle.std.proofs.lemmas.List.Sums.{sum_by-append}
 use Rattle.shore_model.specs.declared.log_records.LogRecord.{LogRecord}
-use Rattle.shore_model.specs.Logs.{first_number, last_of, previous_of, records_of, unanswered, unanswered_in}
+use Rattle.shore_model.specs.Logs.{first_number, is_rollback, last_of, previous_of, records_of, unanswered, unanswered_in}
 use Rattle.shore_model.proofs.LogSteps.{newest-push}
 use Rattle.shore_logrec.specs.Text.{cost_of}
+use Rattle.laws_calls.proofs.RollbackNumbers.{number_push}
+use Rattle.laws_calls.specs.Resolves.{rollback_number}
 use Rattle.laws_calls.specs.States.{cost_of_log}
 
 last_own : (log : List LogRecord) (r : LogRecord) → last_of r.txn (log ++ r ∷ []) ≡ 1 + length log
@@ -50,3 +52,33 @@ all_higher n m (r ∷ log) rise all = (omega (arith, rise, all.0), all_higher n 
 
 pub cost_push : (log : List LogRecord) (r : LogRecord) → cost_of_log (log ++ r ∷ []) ≡ cost_of_log log + cost_of r.payload
 cost_push log r = let sum = sum_by-append (λ (x : LogRecord). cost_of x.payload) log (r ∷ []) in omega (arith, sum)
+
+-- ---- a Rollback decided
+
+-- a record of another transaction decides nothing of this one
+pub rollback_other : (t : ℕ) (log : List LogRecord) (r : LogRecord) → r.txn ≢ t → rollback_number t (log ++ r ∷ []) ≡ rollback_number t log
+rollback_other t log r other = number_push t log r ∙ ap (λ b. cond (b && is_rollback r.payload) (1 + length log) (rollback_number t log)) (ne_eqb r.txn t other)
+
+-- .. nor does another record of its own
+pub rollback_not : (t : ℕ) (log : List LogRecord) (r : LogRecord) → is_rollback r.payload ≡ false → rollback_number t (log ++ r ∷ []) ≡ rollback_number t log
+rollback_not t log r not_one = number_push t log r ∙ ap (λ b. cond ((r.txn == t) && b) (1 + length log) (rollback_number t log)) not_one ∙ by (r.txn == t)
+  where
+    by : (b : Bool) → cond (b && false) (1 + length log) (rollback_number t log) ≡ rollback_number t log
+    by true = refl
+    by false = refl
+
+pub rollback_own : (log : List LogRecord) (r : LogRecord) → is_rollback r.payload ≡ true → rollback_number r.txn (log ++ r ∷ []) ≡ 1 + length log
+rollback_own log r is =
+    number_push r.txn log r ∙ ap (λ b. cond (b && is_rollback r.payload) (1 + length log) (rollback_number r.txn log)) (eq-eqb r.txn r.txn refl)
+    ∙ ap (λ b. cond b (1 + length log) (rollback_number r.txn log)) is
+
+no_rollback_from : (t n : ℕ) (log : List LogRecord) → AllByRecursion (λ r. r.txn < t) log → filter (λ e. (e.1.txn == t) && is_rollback e.1.payload) (enumerate_from n log) ≡ []
+no_rollback_from t n [] below = refl
+no_rollback_from t n (r ∷ log) below =
+    let other : r.txn ≢ t = λ same. omega (arith, below.0, same) in
+    let rest = filter (λ e. (e.1.txn == t) && is_rollback e.1.payload) (enumerate_from (n + 1) log) in
+    ap (λ b. cond (b && is_rollback r.payload) ((n, r) ∷ rest) rest) (ne_eqb r.txn t other) ∙ no_rollback_from t (n + 1) log below.1
+
+-- a transaction above all records has none
+pub rollback_none : (t : ℕ) (log : List LogRecord) → AllByRecursion (λ r. r.txn < t) log → rollback_number t log ≡ 0
+rollback_none t log below = ap (λ es. first_number (reverse es)) (no_rollback_from t 1 log below)

@@ -3,19 +3,22 @@ use Rattle.std.proofs.Common.{◌≡◌, ◌≢◌, inl, inr, ◌<◌, ◌++◌,
 use Rattle.std.specs.Prelude.{◌==◌, All, filter, if◌then◌else◌, reverse}
 use Rattle.std.proofs.lemmas.Bool.{eq-eqb, ne_eqb}
 use Rattle.std.proofs.lemmas.List.{map-append}
-use Rattle.laws_lives.specs.Sessions.{SessionTxn}
+use Rattle.std.specs.List.{cons_option}
+use Rattle.laws_lives.specs.Sessions.{EachOnce, ResolvedTxn, SessionTxn, in_txn, txns_of}
 use Rattle.laws_lives.specs.Views.{IsAmong}
 use Rattle.shore_model.specs.declared.rollbacks.Rollback.TheVariants.{Whole}
+use Rattle.shore_model.specs.Histories.{free}
+use Rattle.laws_calls.specs.CallSteps.{IsPreparing}
 use Rattle.laws_calls.specs.States.{State, Waiting}
 use Rattle.laws_calls.specs.Victims.{with_cycle}
 use Rattle.shore_txn.proofs.OneOfMany.{map_among}
-use Rattle.shore_sessions.specs.Calls.{as_waiting, as_waitings, caller_of, commits_of, cycle_noted, is_commit, is_durable, names_of}
+use Rattle.shore_sessions.specs.Calls.{as_resolved, as_waiting, as_waitings, asks_commit, awaits_record, caller_of, commits_of, cycle_noted, is_commit, logs_decision, names_of, resolved_by}
 use Rattle.shore_sessions.specs.Noting.{victim_noted}
 use Rattle.shore_sessions.specs.Standing.{HasWaits}
 use Rattle.shore_sessions.specs.declared.waits.WaitingCall.{WaitingCall}
 use Rattle.shore_sessions.proofs.Lists.{reverse-cons}
 use Rattle.shore_sessions.proofs.Taking.{AreApart, all_among, among_all, among_at, apart_rest, first_apart}
-use Rattle.shore_sessions.proofs.WaitSteps.{names-with_undo}
+use Rattle.shore_sessions.proofs.WaitSteps.{names-with_undo, numbers_named}
 
 map_turned : {A B : Type 0} (f : A → B) (xs : List A) → map f (reverse xs) ≡ reverse (map f xs)
 map_turned f [] = refl
@@ -42,8 +45,18 @@ module _ (session : ℕ) (cycle : List ℕ) where
   caller_same : (w : WaitingCall) → caller_of (note w) ≡ caller_of w
   caller_same w = elim (w.session == session) as (λ b. caller_of (cond b (told w) w) ≡ caller_of w) [ true ↦ refl | false ↦ refl ]
 
-  commit_same : (w : WaitingCall) → is_commit (note w) ≡ is_commit w
-  commit_same w = elim (w.session == session) as (λ b. is_commit (cond b (told w) w) ≡ is_commit w) [ true ↦ refl | false ↦ refl ]
+  record_same : (w : WaitingCall) → awaits_record (note w) ≡ awaits_record w
+  record_same w = elim (w.session == session) as (λ b. awaits_record (cond b (told w) w) ≡ awaits_record w) [ true ↦ refl | false ↦ refl ]
+
+  call_same : (w : WaitingCall) → (note w).call ≡ w.call
+  call_same w = elim (w.session == session) as (λ b. (cond b (told w) w).call ≡ w.call) [ true ↦ refl | false ↦ refl ]
+
+  resolved_same : (w : WaitingCall) → as_resolved (note w) ≡ as_resolved w
+  resolved_same w = elim (w.session == session) as (λ b. as_resolved (cond b (told w) w) ≡ as_resolved w) [ true ↦ refl | false ↦ refl ]
+
+  pub resolved_noted : (calls : List WaitingCall) → resolved_by (cycle_noted session cycle calls) ≡ resolved_by calls
+  resolved_noted [] = refl
+  resolved_noted (w ∷ ws) = ap (λ o. cons_option o (resolved_by (cycle_noted session cycle ws))) (resolved_same w) ∙ ap (cons_option (as_resolved w)) (resolved_noted ws)
 
   session_same : (w : WaitingCall) → (note w).session ≡ w.session
   session_same w = ap (λ (n : ℕ × ℕ). n.0) (caller_same w)
@@ -64,11 +77,11 @@ module _ (session : ℕ) (cycle : List ℕ) where
   commits_noted [] = refl
   commits_noted (w ∷ ws) =
       elim (w.session == session) as (λ b. map caller_of (filter is_commit (cond b (told w) w ∷ cycle_noted session cycle ws)) ≡ map caller_of (commits_of (w ∷ ws))) [
-        | true ↦ elim (is_durable w.wait) as (λ d. map caller_of (cond d (told w ∷ commits_of (cycle_noted session cycle ws)) (commits_of (cycle_noted session cycle ws))) ≡ map caller_of (cond d (w ∷ commits_of ws) (commits_of ws))) [
+        | true ↦ elim (asks_commit w.call) as (λ d. map caller_of (cond d (told w ∷ commits_of (cycle_noted session cycle ws)) (commits_of (cycle_noted session cycle ws))) ≡ map caller_of (cond d (w ∷ commits_of ws) (commits_of ws))) [
           | true ↦ ap (λ l. caller_of w ∷ l) (commits_noted ws)
           | false ↦ commits_noted ws
         ]
-        | false ↦ elim (is_durable w.wait) as (λ d. map caller_of (cond d (w ∷ commits_of (cycle_noted session cycle ws)) (commits_of (cycle_noted session cycle ws))) ≡ map caller_of (cond d (w ∷ commits_of ws) (commits_of ws))) [
+        | false ↦ elim (asks_commit w.call) as (λ d. map caller_of (cond d (w ∷ commits_of (cycle_noted session cycle ws)) (commits_of (cycle_noted session cycle ws))) ≡ map caller_of (cond d (w ∷ commits_of ws) (commits_of ws))) [
           | true ↦ ap (λ l. caller_of w ∷ l) (commits_noted ws)
           | false ↦ commits_noted ws
         ]
@@ -114,14 +127,41 @@ module _ (session : ℕ) (cycle : List ℕ) where
 -- ---- what they tell of a state
 
 module _ (calls : List WaitingCall) (s : State) (was : HasWaits calls s) (b : SessionTxn) (cycle : List ℕ) where
+  names_still : names_of (victim_noted s b cycle).sessions.active ≡ names_of s.sessions.active
+  names_still = names-with_undo b.txn (record { images = b.undo.images; marks = []; rolling = Some Whole }) s.sessions.active
+
+  numbers_still : txns_of (victim_noted s b cycle).sessions.active ≡ txns_of s.sessions.active
+  numbers_still =
+      numbers_named (victim_noted s b cycle).sessions.active ∙ ap (map (λ (n : ℕ × ℕ). n.1)) names_still ∙ sym (numbers_named s.sessions.active)
+
+  -- the call that is noted was there
+  noted_of : (w : WaitingCall) → IsAmong w (cycle_noted b.session cycle calls) → (v : WaitingCall) × IsAmong v calls × (note b.session cycle v ≡ w)
+  noted_of w m = map_among (note b.session cycle) w calls m
+
   pub waits_noted : HasWaits (cycle_noted b.session cycle calls) (victim_noted s b cycle)
   waits_noted = record {
     waiting = ap (with_cycle b.session cycle) was.waiting ∙ waitings-noted b.session cycle calls;
+    kinds = λ w m.
+        let old = noted_of w m in
+        ap awaits_record (sym old.2) ∙ record_same b.session cycle old.0 ∙ was.kinds old.0 old.1 ∙ ap logs_decision (sym (call_same b.session cycle old.0) ∙ ap (λ (v : WaitingCall). v.call) old.2);
     committing = λ works. was.committing works ∙ sym (ap reverse (commits_noted b.session cycle calls));
     asking = λ w m is.
-        let old = map_among (note b.session cycle) w calls m in
+        let old = noted_of w m in
         let caller = sym (caller_same b.session cycle old.0) ∙ ap caller_of old.2 in
-        subst (λ n. IsAmong n (names_of (victim_noted s b cycle).sessions.active)) caller
-        (subst (IsAmong (caller_of old.0)) (sym (names-with_undo b.txn (record { images = b.undo.images; marks = []; rolling = Some Whole }) s.sessions.active))
-        (was.asking old.0 old.1 (sym (commit_same b.session cycle old.0) ∙ ap is_commit old.2 ∙ is)));
+        let its = was.asking old.0 old.1 (sym (record_same b.session cycle old.0) ∙ ap awaits_record old.2 ∙ is) in (
+          subst (λ n. IsAmong n (names_of (victim_noted s b cycle).sessions.active)) caller (subst (IsAmong (caller_of old.0)) (sym names_still) its.0),
+          subst (λ (n : ℕ × ℕ). s.sessions.seats n.0 ≡ in_txn n.1) caller its.1,
+        );
+    preparing = λ w global m is.
+        let old = noted_of w m in
+        let caller = sym (caller_same b.session cycle old.0) ∙ ap caller_of old.2 in
+        subst (λ (n : ℕ × ℕ). IsPreparing s.sessions n.0 n.1 global) caller
+        (was.preparing old.0 global old.1 (sym (call_same b.session cycle old.0) ∙ ap (λ (v : WaitingCall). v.call) old.2 ∙ is));
+    ended = λ w r m is.
+        let old = noted_of w m in
+        let caller = sym (caller_same b.session cycle old.0) ∙ ap caller_of old.2 in
+        let its = was.ended old.0 r old.1 (sym (resolved_same b.session cycle old.0) ∙ ap as_resolved old.2 ∙ is) in
+        subst (λ (n : ℕ × ℕ). (IsAmong n.1 (txns_of (victim_noted s b cycle).sessions.active) → ⊥) × (n.1 < s.sessions.next_txn) × (s.sessions.seats n.0 ≡ free)) caller
+        ((λ k. its.0 (subst (IsAmong old.0.txn) numbers_still k)), its.1, its.2);
+    once = subst (λ (rs : List ResolvedTxn). EachOnce (map (λ r. r.txn) rs)) (sym (resolved_noted b.session cycle calls)) was.once;
   }

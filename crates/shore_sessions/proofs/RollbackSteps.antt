@@ -1,7 +1,9 @@
 -- What savepoints, rollbacks and their endings make of the transactions under way.
-use Rattle.std.proofs.Common.{◌≡◌, ◌≢◌, ◌+◌, ◌<◌, ◌++◌, ◌∷◌, [], ℕ, List, Bool, true, false, cond, drop, refl, sym, ap, subst, ◌∙◌, arith, length, map, take}
+use Rattle.std.proofs.Common.{◌≡◌, ◌≢◌, ⊎_elim, ◌+◌, ◌<◌, ◌++◌, ◌∷◌, ◌==◌, [], ℕ, List, Bool, true, false, cond, drop, refl, sym, ap, subst, ◌∙◌, arith, length, map, take}
 use Rattle.std.specs.Prelude.{reverse}
 use Rattle.std.specs.List.{AllByRecursion}
+use Rattle.std.specs.List.Sorted.{IsPermutation}
+use Rattle.std.proofs.lemmas.Bool.{cases_Bool, ne_eqb}
 use Rattle.std.proofs.lemmas.List.{append-nil, map-append, take-append-drop}
 use Rattle.shore_types.specs.Images.{Image}
 use Rattle.shore_types.specs.declared.ids.Rid.{Rid}
@@ -9,24 +11,28 @@ use Rattle.shore_types.specs.declared.layout.TheConstants.{ENDING_COST}
 use Rattle.shore_model.specs.declared.log_records.LogRecord.{LogRecord}
 use Rattle.shore_model.specs.declared.log_records.Payload.TheVariants.{Compensation, End}
 use Rattle.shore_model.specs.declared.unanswered_changes.UnansweredChange.{UnansweredChange}
+use Rattle.shore_model.specs.declared.sessions.SessionState.{SessionState}
+use Rattle.shore_model.specs.Histories.{free}
 use Rattle.shore_model.specs.Logs.{previous_of, unanswered, undo_next_of}
 use Rattle.shore_logrec.specs.Text.{cost_of}
 use Rattle.laws_room.specs.Entries.{claim_before, claims_before}
 use Rattle.laws_room.specs.LogRooms.{compensation_cost}
 use Rattle.laws_room.proofs.Costs.{compensation_bytes}
 use Rattle.laws_room.proofs.Entries.{before_push}
-use Rattle.laws_lives.specs.Logged.{next_to_undo}
+use Rattle.laws_lives.specs.Logged.{and_record, next_to_undo}
 use Rattle.laws_lives.specs.LogTells.{MatchesUndo}
-use Rattle.laws_lives.specs.Sessions.{SessionTxn, with_undo, without_txn}
+use Rattle.laws_lives.specs.Sessions.{SessionTxn, in_txn, with_undo, without_txn}
 use Rattle.laws_lives.specs.UndoLists.{undo_rolled}
 use Rattle.laws_lives.specs.Views.{IsAmong}
 use Rattle.shore_model.specs.declared.rollbacks.Rollback.{Rollback}
 use Rattle.laws_lives.proofs.UnansweredChanges.{unanswered_own}
-use Rattle.laws_calls.specs.States.{State}
+use Rattle.laws_calls.specs.Resolves.{rollback_number}
+use Rattle.laws_calls.specs.States.{State, cost_of_log}
 use Rattle.shore_txn.specs.ActiveTxns.{OneBecomes, OneLeaves}
-use Rattle.shore_txn.specs.Transactions.{next_in, room_in, undos_in}
+use Rattle.shore_txn.specs.Transactions.{next_in, prepared_in, room_in, undos_in}
 use Rattle.shore_txn.specs.Transactions as table
-use Rattle.shore_txn.specs.Txns.{IsAfterSavepoint, IsAfterUndo, IsBackAt, as_session_txn, entries_of, number_of}
+use Rattle.shore_txn.specs.TxnStates.{is_in_doubt}
+use Rattle.shore_txn.specs.Txns.{IsAfterSavepoint, IsAfterUndo, IsBackAt, as_session_txn, entries_of, number_of, state_of}
 use Rattle.shore_txn.specs.UndoEntries.{first_number, image_of, images_of, number_behind}
 use Rattle.shore_txn.specs.declared.transactions.Transactions.{Transactions}
 use Rattle.shore_txn.specs.declared.txn.Txn.{Txn}
@@ -35,18 +41,20 @@ use Rattle.shore_txn.proofs.ActiveOthers.{each_becomes, each_left}
 use Rattle.shore_txn.proofs.ActiveSteps.{one_of}
 use Rattle.shore_txn.proofs.OneOfMany.{among_middle}
 use Rattle.shore_txn.proofs.UndoLemmas.{last_same}
+use Rattle.shore_sessions.specs.Seated.{IsSeated}
 use Rattle.shore_sessions.specs.Standing.{HasTxns, IsLogged, abort_ended, as_change, put_back}
 use Rattle.shore_sessions.proofs.Lists.{all_by_members, reverse-cons}
-use Rattle.shore_sessions.proofs.LogSteps.{cost_push, previous_own}
-use Rattle.shore_sessions.proofs.TxnSteps.{StaysLogged, above_pushed, apart_in, changes_push, each_was, leaver, logged_beside, none_still}
+use Rattle.shore_sessions.proofs.LogSteps.{cost_push, previous_own, rollback_not}
+use Rattle.shore_sessions.proofs.SeatSteps.{undo_seated}
+use Rattle.shore_sessions.proofs.TxnSteps.{StaysLogged, above_pushed, above_still, changes_push, each_was, logged_beside, names_left, others_logged, seats_left, txns_on}
 
 -- ---- what a log has of each stays
 
 pub savepoint_logged : (t u : Txn) → IsAfterSavepoint t u → StaysLogged t u
-savepoint_logged t u after = record { txn = after.txn; last = after.last; entries = after.entries }
+savepoint_logged t u after = record { txn = after.txn; last = after.last; entries = after.entries; decided = after.name.decided }
 
 pub back_logged : (index : ℕ) (t u : Txn) → IsBackAt index t u → StaysLogged t u
-back_logged index t u after = record { txn = after.txn; last = after.last; entries = after.entries }
+back_logged index t u after = record { txn = after.txn; last = after.last; entries = after.entries; decided = after.name.decided }
 
 -- all images stay if none is since the savepoint
 pub all_left : (mark : ℕ) (images : List (Rid × Image)) → drop mark images ≡ [] → take mark images ≡ images
@@ -83,14 +91,18 @@ images_logged log t is =
     alike [] = refl
     alike (e ∷ es) = ap (λ l. image_of e ∷ l) (alike es)
 
+-- one becomes another in this way too
+pub becomes_of : {number : ℕ} {B C : Txn → Txn → Type 0} {old new : List Txn} (one : OneBecomes number B old new) → C one.before one.after → OneBecomes number C old new
+becomes_of one so = record { newer = one.newer; older = one.older; before = one.before; after = one.after; was = one.was; is = one.is; txn = one.txn; becomes = so }
+
 -- ---- the newest change is put back
 
 module _ (old new : Transactions) (s : State) (was : HasTxns old s) where
-  module _ (session lsn : ℕ) (rollback : Rollback) (undone : UndoEntry) (a : SessionTxn) (kept : List (Rid × Image))
-      (one : OneBecomes session (IsAfterUndo lsn rollback undone) (table.txns_in old) (table.txns_in new)) (m : IsAmong a s.sessions.active) (own : a.session ≡ session)
+  module _ (its_number lsn : ℕ) (rollback : Rollback) (undone : UndoEntry) (a : SessionTxn) (kept : List (Rid × Image))
+      (one : OneBecomes its_number (IsAfterUndo lsn rollback undone) (table.txns_in old) (table.txns_in new)) (m : IsAmong a s.sessions.active) (own : a.txn ≡ its_number)
       (newest : a.undo.images ≡ kept ++ image_of undone ∷ []) where
     is_one : as_session_txn one.before ≡ a
-    is_one = one_of one a old.sessions (subst (IsAmong a) was.active m) own
+    is_one = one_of one a old.numbers (subst (IsAmong a) was.active m) own
 
     images_were : images_of (entries_of one.before) ≡ images_of (entries_of one.after) ++ image_of undone ∷ []
     images_were = ap images_of one.becomes.entries ∙ map-append image_of (entries_of one.after) (undone ∷ [])
@@ -110,28 +122,21 @@ module _ (old new : Transactions) (s : State) (was : HasTxns old s) where
     claim_back = claims_split.1 ∙ ap (λ l. claim_before l (image_of undone)) left_is
 
     pub txns_put_back : (cost : ℕ) → (l : List (Rid × Image)) × (a.undo.images ≡ l ++ image_of undone ∷ []) × (undos_in new ≡ with_undo a.txn (undo_rolled a.undo l rollback) (undos_in old))
-        → next_in new ≡ next_in old → cost ≡ compensation_cost undone.before → (room_in new).kept ≡ (room_in old).kept + cost → (room_in new).stream_bytes ≡ (room_in old).stream_bytes
+        → is_in_doubt (state_of one.before) ≡ false → prepared_in new ≡ prepared_in old → next_in new ≡ next_in old → cost ≡ compensation_cost undone.before → (room_in new).kept ≡ (room_in old).kept + cost → (room_in new).stream_bytes ≡ (room_in old).stream_bytes
         → lsn ≡ 1 + length s.log → HasTxns new (put_back s a kept (image_of undone) rollback)
-    txns_put_back cost undos next costs kept_more stream number = record {
-      active =
-          ap (with_undo a.txn (undo_rolled a.undo kept rollback)) was.active
-          ∙ ap (λ l. with_undo a.txn (undo_rolled a.undo l rollback) (undos_in old)) (last_same kept undos.0 (image_of undone) (image_of undone) (sym newest ∙ undos.1)).0 ∙ sym undos.2;
-      unprepared = none_still refl refl was.unprepared;
-      next = was.next ∙ sym next;
-      stream = was.stream ∙ sym stream;
-      kept =
-          cost_push s.log r ∙ ap (λ n. n + cost_of r.payload) was.kept
-          ∙ ap (λ n. (room_in old).kept + n) (sym (compensation_bytes undone.id undone.before (next_to_undo a.txn s.log)) ∙ sym costs) ∙ sym kept_more;
-      each = all_by_members (IsLogged (s.log ++ r ∷ [])) (table.txns_in new)
-          (each_becomes (IsLogged s.log) (IsLogged (s.log ++ r ∷ [])) (apart_in old) (each_was old new s was) one (λ u apart who is. logged_beside s.log r u (other u apart) is) here);
-      above = above_pushed old new s was a (Compensation undone.id undone.before (next_to_undo a.txn s.log)) m next;
-    }
+    txns_put_back cost undos free doubts next costs kept_more stream number =
+        txns_on old new s was (put_back s a kept (image_of undone) rollback) (λ n. refl) refl doubts refl refl next stream
+        (becomes_of one (undo_seated lsn rollback undone one.before one.after free one.becomes))
+        (ap (with_undo a.txn (undo_rolled a.undo kept rollback)) was.active
+        ∙ ap (λ l. with_undo a.txn (undo_rolled a.undo l rollback) (undos_in old)) (last_same kept undos.0 (image_of undone) (image_of undone) (sym newest ∙ undos.1)).0 ∙ sym undos.2)
+        (cost_push s.log r ∙ ap (λ n. n + cost_of r.payload) was.kept
+        ∙ ap (λ n. (room_in old).kept + n) (sym (compensation_bytes undone.id undone.before (next_to_undo a.txn s.log)) ∙ sym costs) ∙ sym kept_more)
+        (all_by_members (IsLogged (s.log ++ r ∷ [])) (table.txns_in new)
+        (each_becomes (IsLogged s.log) (IsLogged (s.log ++ r ∷ [])) old.numbers (each_was old new s was) one (λ u apart is. logged_beside s.log r u (λ same. apart (sym same ∙ own)) is) here))
+        (above_pushed old new s was a (Compensation undone.id undone.before (next_to_undo a.txn s.log)) m next)
       where
         r : LogRecord
         r = record { txn = a.txn; previous = previous_of a.txn s.log; payload = Compensation undone.id undone.before (next_to_undo a.txn s.log) }
-
-        other : (u : Txn) → number_of u ≢ number_of one.before → r.txn ≢ number_of u
-        other u apart same = apart (sym (ap (λ (b : SessionTxn). b.txn) is_one ∙ same))
 
         number_is : r.txn ≡ number_of one.after
         number_is = ap (λ (b : SessionTxn). b.txn) (sym is_one) ∙ sym one.becomes.txn
@@ -144,35 +149,96 @@ module _ (old new : Transactions) (s : State) (was : HasTxns old s) where
                   unanswered_own (number_of one.after) s.log r number_is
                   ∙ ap (drop 1) (ap (λ n. unanswered n s.log) one.becomes.txn ∙ before.changes ∙ ap (λ (es : List UndoEntry). reverse (map as_change es)) one.becomes.entries ∙ changes_push (entries_of one.after) undone);
               claims = claims_split.0;
+              decided =
+                  one.becomes.name.decided ∙ before.decided ∙ ap (λ n. rollback_number n s.log) (sym one.becomes.txn) ∙ sym (rollback_not (number_of one.after) s.log r refl);
             }
 
-  -- ---- an abort has ended
+  -- ---- a rollback has ended
 
-  module _ (session : ℕ) (changes : List UndoEntry) (a : SessionTxn) (one : OneLeaves session changes (table.txns_in old) (table.txns_in new)) (m : IsAmong a s.sessions.active) (own : a.session ≡ session)
-      (undos : undos_in new ≡ without_txn a.txn (undos_in old)) (next : next_in new ≡ next_in old) (stream : (room_in new).stream_bytes ≡ (room_in old).stream_bytes) where
-    other_than : (u : Txn) → number_of u ≢ number_of one.one → a.txn ≢ number_of u
-    other_than u apart same = apart (sym (ap (λ (b : SessionTxn). b.txn) (leaver old new s was session changes a one m own) ∙ same))
+  module _ (number : ℕ) (changes : List UndoEntry) (a : SessionTxn) (one : OneLeaves number changes (table.txns_in old) (table.txns_in new)) (m : IsAmong a s.sessions.active) (own : a.txn ≡ number)
+      (undos : undos_in new ≡ without_txn a.txn (undos_in old)) (doubts : prepared_in new ≡ prepared_in old) (next : next_in new ≡ next_in old)
+      (stream : (room_in new).stream_bytes ≡ (room_in old).stream_bytes) where
+    pub record IsEnded (t : State) (log : List LogRecord) : Type 0 where
+      pub active : t.sessions.active ≡ without_txn a.txn s.sessions.active
+      pub prepared : t.sessions.prepared ≡ s.sessions.prepared
+      pub seats : (u : Txn) → IsAmong u (table.txns_in old) → number_of u ≢ number → IsSeated s.sessions u → IsSeated t.sessions u
+      pub entered : (n : ℕ) → (t.sessions.seats n).txn < next_in old
+      pub number_to_come : t.sessions.next_txn ≡ s.sessions.next_txn
+      pub bytes : t.stream_bytes ≡ s.stream_bytes
+      pub log_is : t.log ≡ log
 
-    pub txns_aborted : (logged : Bool) → (room_in new).kept ≡ (room_in old).kept + cond logged ENDING_COST 0 → HasTxns new (abort_ended s a logged)
-    txns_aborted true kept = record {
-      active = ap (without_txn a.txn) was.active ∙ sym undos;
-      unprepared = none_still refl refl was.unprepared;
-      next = was.next ∙ sym next;
-      stream = was.stream ∙ sym stream;
-      kept = cost_push s.log r ∙ ap (λ n. n + cost_of r.payload) was.kept ∙ sym kept;
-      each = all_by_members (IsLogged (s.log ++ r ∷ [])) (table.txns_in new)
-          (each_left (IsLogged s.log) (IsLogged (s.log ++ r ∷ [])) (apart_in old) (each_was old new s was) one (λ u apart who is. logged_beside s.log r u (other_than u apart) is));
-      above = above_pushed old new s was a End m next;
+    ended : (t : State) (log : List LogRecord) → IsEnded t log → cost_of_log log ≡ (room_in new).kept → AllByRecursion (IsLogged log) (table.txns_in new)
+        → AllByRecursion (λ r. r.txn < next_in new) log → HasTxns new t
+    ended t log is kept each above = record {
+      active = is.active ∙ ap (without_txn a.txn) was.active ∙ sym undos;
+      prepared = subst (λ ps. IsPermutation ps (prepared_in new)) (sym is.prepared) (subst (IsPermutation s.sessions.prepared) (sym doubts) was.prepared);
+      seats = seats_left old new s was number changes a one m own t.sessions is.seats;
+      entered = λ n. subst (λ k. (t.sessions.seats n).txn < k) (sym next) (is.entered n);
+      names = names_left old new s was number changes a one m own;
+      next = is.number_to_come ∙ was.next ∙ sym next;
+      stream = is.bytes ∙ was.stream ∙ sym stream;
+      kept = ap cost_of_log is.log_is ∙ kept;
+      each = subst (λ l. AllByRecursion (IsLogged l) (table.txns_in new)) (sym is.log_is) each;
+      above = subst (λ (l : List LogRecord). AllByRecursion (λ r. r.txn < next_in new) l) (sym is.log_is) above;
     }
-      where
-        r : LogRecord
-        r = record { txn = a.txn; previous = previous_of a.txn s.log; payload = End }
-    txns_aborted false kept = record {
-      active = ap (without_txn a.txn) was.active ∙ sym undos;
-      unprepared = none_still refl refl was.unprepared;
-      next = was.next ∙ sym next;
-      stream = was.stream ∙ sym stream;
-      kept = was.kept ∙ (let same : (room_in old).kept ≡ (room_in new).kept = omega (arith, kept) in same);
-      each = all_by_members (IsLogged s.log) (table.txns_in new) (each_left (IsLogged s.log) (IsLogged s.log) (apart_in old) (each_was old new s was) one (λ u apart who is. is));
-      above = subst (λ n. AllByRecursion (λ (r : LogRecord). r.txn < n) s.log) (sym next) was.above;
-    }
+
+    -- .. and its End is logged
+    pub txns_ended : (t : State) → IsEnded t (and_record a.txn s.log End) → (room_in new).kept ≡ (room_in old).kept + ENDING_COST → HasTxns new t
+    txns_ended t is kept =
+        let r : LogRecord = record { txn = a.txn; previous = previous_of a.txn s.log; payload = End } in
+        ended t (and_record a.txn s.log End) is (cost_push s.log r ∙ ap (λ n. n + cost_of r.payload) was.kept ∙ sym kept)
+        (all_by_members (IsLogged (and_record a.txn s.log End)) (table.txns_in new)
+        (each_left (IsLogged s.log) (IsLogged (and_record a.txn s.log End)) old.numbers (each_was old new s was) one (others_logged old new s was number changes a one m own End)))
+        (above_pushed old new s was a End m next)
+
+    -- .. or nothing is
+    pub txns_gone : (t : State) → IsEnded t s.log → (room_in new).kept ≡ (room_in old).kept → HasTxns new t
+    txns_gone t is kept =
+        ended t s.log is (was.kept ∙ sym kept)
+        (all_by_members (IsLogged s.log) (table.txns_in new) (each_left (IsLogged s.log) (IsLogged s.log) old.numbers (each_was old new s was) one (λ u apart is. is)))
+        (above_still old new s was next)
+
+    module _ (seat : s.sessions.seats a.session ≡ in_txn a.txn) (works : Bool) where
+      free_now : (n : ℕ) → (abort_ended s a works).sessions.seats n ≡ cond (a.session == n) free (s.sessions.seats n)
+      free_now n = refl
+
+      -- whose session was in another is in it still
+      its_others : (u : Txn) → IsAmong u (table.txns_in old) → number_of u ≢ number → IsSeated s.sessions u → IsSeated (abort_ended s a works).sessions u
+      its_others u n apart was_seated = record {
+        own = λ seated.
+            let other : a.session ≢ u.session = λ same. apart
+            (ap (λ (p : SessionState). p.txn) (sym (ap s.sessions.seats same ∙ was_seated.own seated) ∙ seat) ∙ own) in
+            ap (λ b. cond b free (s.sessions.seats u.session)) (ne_eqb a.session u.session other) ∙ was_seated.own seated;
+        alone = λ k at. ⊎_elim
+            (λ same. let some = u.some in let none = sym (ap (λ b. (cond b free (s.sessions.seats k)).txn) same) ∙ at in absurd (omega (arith, some, none)))
+            (λ other. was_seated.alone k (sym (ap (λ b. (cond b free (s.sessions.seats k)).txn) other) ∙ at))
+            (cases_Bool (a.session == k));
+      }
+
+      entered_less : (n : ℕ) → ((abort_ended s a works).sessions.seats n).txn < next_in old
+      entered_less n = ⊎_elim
+          (λ same. let some = old.some in subst (λ b. (cond b free (s.sessions.seats n)).txn < next_in old) (sym same) (omega (arith, some)))
+          (λ other. subst (λ b. (cond b free (s.sessions.seats n)).txn < next_in old) (sym other) (was.entered n))
+          (cases_Bool (a.session == n))
+
+    pub txns_aborted : s.sessions.seats a.session ≡ in_txn a.txn → (logged : Bool) → (room_in new).kept ≡ (room_in old).kept + cond logged ENDING_COST 0 → HasTxns new (abort_ended s a logged)
+    txns_aborted seat true kept =
+        txns_ended (abort_ended s a true) (record {
+          active = refl;
+          prepared = refl;
+          seats = its_others seat true;
+          entered = entered_less seat true;
+          number_to_come = refl;
+          bytes = refl;
+          log_is = refl;
+        }) kept
+    txns_aborted seat false kept =
+        txns_gone (abort_ended s a false) (record {
+          active = refl;
+          prepared = refl;
+          seats = its_others seat false;
+          entered = entered_less seat false;
+          number_to_come = refl;
+          bytes = refl;
+          log_is = refl;
+        }) (let same : (room_in new).kept ≡ (room_in old).kept = omega (arith, kept) in same)

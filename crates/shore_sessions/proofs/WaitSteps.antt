@@ -1,36 +1,39 @@
 -- What the calls that wait tell of a state, and what each step makes of them.
-use Rattle.std.proofs.Common.{◌≡◌, ◌≢◌, ◌<◌, inr, ⊎_elim, ◌++◌, ◌∷◌, [], ℕ, List, None, Bool, true, false, cond, refl, sym, ap, subst, ◌∙◌, length, map}
-use Rattle.std.specs.Prelude.{◌==◌, All, filter, not, reverse}
+use Rattle.std.proofs.Common.{◌≡◌, ◌≢◌, ◌<◌, inr, ⊎_elim, ◌++◌, ◌∷◌, [], ℕ, List, None, Some, Bool, true, false, cond, refl, sym, ap, subst, ◌∙◌, append-nil, arith, length, map}
+use Rattle.std.specs.Prelude.{◌==◌, ◌||◌, All, filter, not, reverse}
+use Rattle.std.specs.List.{cons_option}
 use Rattle.std.proofs.lemmas.Bool.{eq-eqb, eqb-true, eqb-false, ne_eqb}
-use Rattle.std.proofs.lemmas.List.Elements.{filter-append}
+use Rattle.std.proofs.lemmas.List.Elements.{filter-append, filter_map-append}
 use Rattle.std.proofs.lemmas.List.{length-map, length-reverse, map-append, reverse-append}
 use Rattle.shore_types.specs.declared.locking.Granule.{Granule}
 use Rattle.shore_model.specs.declared.calls.Call.{Call}
 use Rattle.shore_model.specs.declared.calls.Call.TheVariants as call
+use Rattle.shore_model.specs.declared.calls.Outcome.{Outcome}
 use Rattle.shore_model.specs.declared.sessions.SessionState.{SessionState}
+use Rattle.shore_model.specs.Histories.{free}
 use Rattle.laws_lives.specs.OwnSeats.{HasOwnSeats}
-use Rattle.laws_lives.specs.Sessions.{EachOnce, SessionTxn, in_txn, txns_of, with_undo, without_txn}
+use Rattle.laws_lives.specs.Sessions.{EachOnce, ResolvedTxn, SessionTxn, in_txn, txns_of, with_undo, without_txn}
 use Rattle.laws_lives.specs.UndoLists.{UndoList}
 use Rattle.laws_lives.specs.Views.{IsAmong}
 use Rattle.laws_lives.proofs.Members.{member_stays}
-use Rattle.laws_calls.specs.StateChanges.{committed, decision_waiting, wait_refused}
+use Rattle.laws_calls.specs.StateChanges.{begun, committed, decision_waiting, wait_refused}
 use Rattle.laws_calls.specs.CallSteps.{commit_ended, lock_waiting}
-use Rattle.laws_calls.specs.States.{DoesNotWait, HasNoTxn, IsOfSession, State, Waiting, next_number, without_waiting}
+use Rattle.laws_calls.specs.States.{DoesNotWait, HasSeat, IsOfSession, State, Waiting, next_number, without_waiting}
 use Rattle.shore_model.specs.declared.step.Wait.TheVariants.{Durable, Lock}
 use Rattle.shore_txn.proofs.OneOfMany.{among_map, map_among, once_same}
-use Rattle.shore_sessions.specs.Calls.{as_waiting, as_waitings, caller_of, commits_of, committers_of, is_commit, name_of, names_of}
-use Rattle.shore_sessions.specs.Standing.{HasNonePrepared, HasWaits}
+use Rattle.shore_sessions.specs.Calls.{as_resolved, as_waiting, as_waitings, asks_commit, asks_prepare, asks_resolve, awaits_record, caller_of, commits_of, committers_of, is_commit, logs_decision, name_of, names_of, resolved_as, resolved_by}
+use Rattle.shore_sessions.specs.Standing.{HasWaits, abort_ended}
 use Rattle.shore_sessions.specs.declared.waits.WaitingCall.{WaitingCall}
 use Rattle.shore_sessions.proofs.Lists.{among_either, among_filtered, among_passing, among_turned, filter-map, filter-reverse, filter_alike, filter_all, filter_both, turned_among}
-use Rattle.shore_sessions.proofs.Seats.{in_no_txn, its_seat}
-use Rattle.shore_sessions.proofs.Taking.{AreApart, among_all, is_other, one_of_session}
+use Rattle.shore_sessions.proofs.Permuted.{among_made, made_among, made_passing}
+use Rattle.shore_sessions.proofs.Taking.{AreApart, among_all, is_other, one_of_session, own_is_not_other}
 
 -- ---- lists
 
 pub waitings-push : (calls : List WaitingCall) (w : WaitingCall) → as_waitings (calls ++ w ∷ []) ≡ as_waiting w ∷ as_waitings calls
 waitings-push calls w = ap reverse (map-append as_waiting calls (w ∷ [])) ∙ reverse-append (map as_waiting calls) (as_waiting w ∷ [])
 
-committers-pushed : (calls : List WaitingCall) (w : WaitingCall) (more : List WaitingCall) → commits_of (w ∷ []) ≡ more
+pub committers-pushed : (calls : List WaitingCall) (w : WaitingCall) (more : List WaitingCall) → commits_of (w ∷ []) ≡ more
     → committers_of (calls ++ w ∷ []) ≡ reverse (map caller_of more) ++ committers_of calls
 committers-pushed calls w more is =
     ap (λ (ws : List WaitingCall). reverse (map caller_of ws)) (filter-append is_commit calls (w ∷ []) ∙ ap (λ ws. commits_of calls ++ ws) is)
@@ -58,6 +61,124 @@ names-with_undo t undo (x ∷ xs) =
       | false ↦ ap (λ ns. name_of x ∷ ns) (names-with_undo t undo xs)
     ]
 
+-- the numbers are those of the names
+pub numbers_named : (xs : List SessionTxn) → txns_of xs ≡ map (λ n. n.1) (names_of xs)
+numbers_named [] = refl
+numbers_named (x ∷ xs) = ap (λ ns. x.txn ∷ ns) (numbers_named xs)
+
+pub resolved_pushed : (calls : List WaitingCall) (w : WaitingCall) → resolved_by (calls ++ w ∷ []) ≡ resolved_by calls ++ resolved_by (w ∷ [])
+resolved_pushed calls w = filter_map-append as_resolved calls (w ∷ [])
+
+-- one that resolves nothing
+pub resolved_still : (calls : List WaitingCall) (w : WaitingCall) → as_resolved w ≡ None → resolved_by (calls ++ w ∷ []) ≡ resolved_by calls
+resolved_still calls w none = resolved_pushed calls w ∙ ap (λ o. resolved_by calls ++ cons_option o []) none ∙ append-nil (resolved_by calls)
+
+-- in a list of which some are taken no element comes twice
+once_taken : (p : WaitingCall → Bool) (calls : List WaitingCall) → EachOnce (map (λ (r : ResolvedTxn). r.txn) (resolved_by calls)) → EachOnce (map (λ (r : ResolvedTxn). r.txn) (resolved_by (filter p calls)))
+once_taken p [] once = once
+once_taken p (w ∷ ws) once =
+    (elim (as_resolved w) as (λ o. as_resolved w ≡ o → EachOnce (map (λ (r : ResolvedTxn). r.txn) (cons_option o (resolved_by ws))) → EachOnce (map (λ (r : ResolvedTxn). r.txn) (resolved_by (filter p (w ∷ ws))))) [
+      | None ↦ λ is all. elim (p w) as (λ b. EachOnce (map (λ (r : ResolvedTxn). r.txn) (resolved_by (cond b (w ∷ filter p ws) (filter p ws))))) [
+        | true ↦ subst (λ o. EachOnce (map (λ (r : ResolvedTxn). r.txn) (cons_option o (resolved_by (filter p ws))))) (sym is) (once_taken p ws all)
+        | false ↦ once_taken p ws all
+      ]
+      | Some r ↦ λ is all. elim (p w) as (λ b. EachOnce (map (λ (r : ResolvedTxn). r.txn) (resolved_by (cond b (w ∷ filter p ws) (filter p ws))))) [
+        | true ↦ subst (λ o. EachOnce (map (λ (r : ResolvedTxn). r.txn) (cons_option o (resolved_by (filter p ws))))) (sym is) ((λ m. all.0 (still_among r.txn m)), once_taken p ws all.1)
+        | false ↦ once_taken p ws all.1
+      ]
+    ]) refl once
+  where
+    still_among : (t : ℕ) → IsAmong t (map (λ (r : ResolvedTxn). r.txn) (resolved_by (filter p ws))) → IsAmong t (map (λ (r : ResolvedTxn). r.txn) (resolved_by ws))
+    still_among t m =
+        let r = map_among (λ (r : ResolvedTxn). r.txn) t (resolved_by (filter p ws)) m in
+        let w = among_made as_resolved r.0 (filter p ws) r.1 in
+        subst (λ n. IsAmong n (map (λ (r : ResolvedTxn). r.txn) (resolved_by ws))) r.2
+        (among_map (λ (r : ResolvedTxn). r.txn) r.0 (resolved_by ws) (made_among as_resolved w.0 r.0 ws (among_filtered p w.0 ws w.1).0 w.2))
+
+-- ---- which calls wait for a record
+
+clash : true ≡ false → ⊥
+clash e = cc
+
+clash_some : (r : ResolvedTxn) → None ≡ Some r → ⊥
+clash_some r e = cc
+
+pub or_left : (x y : Bool) → (x || y) ≡ false → x ≡ false
+or_left true y is = cc
+or_left false y is = refl
+
+-- a call that logs no decision is no commit, no prepare and no resolve
+pub no_commit : (c : Call) → logs_decision c ≡ false → asks_commit c ≡ false
+no_commit c plain = or_left (asks_commit c) (asks_prepare c || asks_resolve c) plain
+
+pub never_prepares : (c : Call) → logs_decision c ≡ false → (global : List ℕ) → c ≡ call.Prepare global → ⊥
+never_prepares c plain global is = clash (sym (ap logs_decision is) ∙ plain)
+
+pub never_resolves : (t : ℕ) (c : Call) → logs_decision c ≡ false → resolved_as t c ≡ None
+never_resolves t call.Begin plain = refl
+never_resolves t (call.Get id) plain = refl
+never_resolves t (call.GetForUpdate id) plain = refl
+never_resolves t (call.Insert store bytes) plain = refl
+never_resolves t (call.Update id bytes) plain = refl
+never_resolves t (call.Delete id) plain = refl
+never_resolves t (call.Scan store) plain = refl
+never_resolves t (call.Lock at mode) plain = refl
+never_resolves t (call.TryLock at mode) plain = refl
+never_resolves t call.Savepoint plain = refl
+never_resolves t (call.BackTo index) plain = refl
+never_resolves t call.Commit plain = refl
+never_resolves t call.Abort plain = refl
+never_resolves t (call.Prepare global) plain = refl
+never_resolves t (call.Resolve global asked) plain = absurd (clash plain)
+never_resolves t call.InDoubt plain = refl
+
+-- a call that logs a decision is a commit, a prepare or a resolve
+pub one_of_three : {P : Type 0} (c : Call) → logs_decision c ≡ true → (asks_commit c ≡ true → P) → ((global : List ℕ) → c ≡ call.Prepare global → P)
+    → ((global : List ℕ) (asked : Outcome) → c ≡ call.Resolve global asked → P) → P
+one_of_three call.Commit logs commit prepare resolve = commit refl
+one_of_three (call.Prepare global) logs commit prepare resolve = prepare global refl
+one_of_three (call.Resolve global asked) logs commit prepare resolve = resolve global asked refl
+one_of_three call.Begin logs commit prepare resolve = absurd (clash (sym logs))
+one_of_three (call.Get id) logs commit prepare resolve = absurd (clash (sym logs))
+one_of_three (call.GetForUpdate id) logs commit prepare resolve = absurd (clash (sym logs))
+one_of_three (call.Insert store bytes) logs commit prepare resolve = absurd (clash (sym logs))
+one_of_three (call.Update id bytes) logs commit prepare resolve = absurd (clash (sym logs))
+one_of_three (call.Delete id) logs commit prepare resolve = absurd (clash (sym logs))
+one_of_three (call.Scan store) logs commit prepare resolve = absurd (clash (sym logs))
+one_of_three (call.Lock at mode) logs commit prepare resolve = absurd (clash (sym logs))
+one_of_three (call.TryLock at mode) logs commit prepare resolve = absurd (clash (sym logs))
+one_of_three call.Savepoint logs commit prepare resolve = absurd (clash (sym logs))
+one_of_three (call.BackTo index) logs commit prepare resolve = absurd (clash (sym logs))
+one_of_three call.Abort logs commit prepare resolve = absurd (clash (sym logs))
+one_of_three call.InDoubt logs commit prepare resolve = absurd (clash (sym logs))
+
+-- a commit resolves nothing
+pub resolves_none : (t : ℕ) (c : Call) → asks_commit c ≡ true → resolved_as t c ≡ None
+resolves_none t call.Commit is = refl
+resolves_none t call.Begin is = refl
+resolves_none t (call.Get id) is = refl
+resolves_none t (call.GetForUpdate id) is = refl
+resolves_none t (call.Insert store bytes) is = refl
+resolves_none t (call.Update id bytes) is = refl
+resolves_none t (call.Delete id) is = refl
+resolves_none t (call.Scan store) is = refl
+resolves_none t (call.Lock at mode) is = refl
+resolves_none t (call.TryLock at mode) is = refl
+resolves_none t call.Savepoint is = refl
+resolves_none t (call.BackTo index) is = refl
+resolves_none t call.Abort is = refl
+resolves_none t (call.Prepare global) is = refl
+resolves_none t (call.Resolve global asked) is = absurd (clash (sym is))
+resolves_none t call.InDoubt is = refl
+
+-- without the call of a session, which resolves nothing, the same is resolved
+pub resolved_but : (calls : List WaitingCall) → AreApart calls → (session : ℕ) (w : WaitingCall) → IsAmong w calls → w.session ≡ session → as_resolved w ≡ None
+    → resolved_by (filter (is_other session) calls) ≡ resolved_by calls
+resolved_but calls apart session w m own none =
+    sym (made_passing as_resolved (λ r. true) (is_other session) calls
+    (λ v r n is. sym (ap not (ne_eqb v.session session (λ same. clash_some r (sym none ∙ ap as_resolved (sym (one_of_session calls apart v w n m (same ∙ sym own))) ∙ is))))))
+    ∙ filter_all (λ (r : ResolvedTxn). true) (resolved_by calls) (λ r n. refl)
+
 -- ---- what they tell
 
 module _ (calls : List WaitingCall) (s : State) (was : HasWaits calls s) where
@@ -72,15 +193,19 @@ module _ (calls : List WaitingCall) (s : State) (was : HasWaits calls s) where
       let its = waiting_call v m in
       λ same. among_all (λ (w : WaitingCall). w.session ≢ session) calls free its.0 its.1 (ap (λ (x : Waiting). x.session) its.2 ∙ same)
 
-  -- who waits for a lock is under way
-  pub asker_of : (w : WaitingCall) → IsAmong w calls → is_commit w ≡ false → (a : SessionTxn) × IsAmong a s.sessions.active × (a.session ≡ w.session) × (a.txn ≡ w.txn)
+  -- who waits for a lock is under way, and its session is in it
+  pub asker_of : (w : WaitingCall) → IsAmong w calls → awaits_record w ≡ false → (a : SessionTxn) × IsAmong a s.sessions.active × (a.session ≡ w.session) × (a.txn ≡ w.txn)
   asker_of w m is =
-      let its = map_among name_of (caller_of w) s.sessions.active (was.asking w m is) in
+      let its = map_among name_of (caller_of w) s.sessions.active (was.asking w m is).0 in
       (its.0, its.1, ap (λ (n : ℕ × ℕ). n.0) its.2, ap (λ (n : ℕ × ℕ). n.1) its.2)
 
-  -- .. and its session is in it
-  pub asks : HasOwnSeats s.sessions → HasNonePrepared s.sessions → (w : WaitingCall) → IsAmong w calls → is_commit w ≡ false → (a : SessionTxn) × IsOfSession s w.session a × (a.txn ≡ w.txn)
-  asks seats none w m is = let its = asker_of w m is in (its.0, (its_seat s seats none its.0 its.1, its.2), its.3)
+  pub asks : ((a : SessionTxn) → IsAmong a s.sessions.active → 0 < a.txn) → (w : WaitingCall) → IsAmong w calls → awaits_record w ≡ false → (a : SessionTxn) × IsOfSession s w.session a × (a.txn ≡ w.txn)
+  asks some w m is =
+      let its = asker_of w m is in (
+        its.0,
+        ((its.1, ap s.sessions.seats its.2 ∙ (was.asking w m is).1 ∙ ap in_txn (sym its.3), some its.0 its.1), its.2),
+        its.3,
+      )
 
   -- whose commit waits is committed
   pub commits : (w : WaitingCall) → IsAmong w calls → is_commit w ≡ true → s.failed ≡ false
@@ -91,16 +216,12 @@ module _ (calls : List WaitingCall) (s : State) (was : HasWaits calls s) where
       (its.0, its.1, ap (λ (n : ℕ × ℕ). n.0) its.2, ap (λ (n : ℕ × ℕ). n.1) its.2)
 
   -- .. and who is committed has a commit that waits
-  pub commit_call : s.failed ≡ false → (a : SessionTxn) → IsAmong a s.sessions.committing → (w : WaitingCall) × IsAmong w calls × (w.session ≡ a.session) × (w.txn ≡ a.txn)
+  pub commit_call : s.failed ≡ false → (a : SessionTxn) → IsAmong a s.sessions.committing → (w : WaitingCall) × IsAmong w calls × (w.session ≡ a.session) × (w.txn ≡ a.txn) × (is_commit w ≡ true)
   commit_call works a m =
       let named = subst (IsAmong (name_of a)) (was.committing works) (among_map name_of a s.sessions.committing m) in
       let its = map_among caller_of (name_of a) (commits_of calls) (turned_among (name_of a) (map caller_of (commits_of calls)) named) in
-      (its.0, (among_filtered is_commit its.0 calls its.1).0, ap (λ (n : ℕ × ℕ). n.0) its.2, ap (λ (n : ℕ × ℕ). n.1) its.2)
-
-  pub in_none : HasOwnSeats s.sessions → HasNonePrepared s.sessions → (session : ℕ) → s.failed ≡ false → DoesNotWait s session
-      → ((a : SessionTxn) → IsAmong a s.sessions.active → a.session ≢ session) → HasNoTxn s session
-  in_none seats unprepared session works waits_not none = in_no_txn s seats unprepared session none
-      (λ a m same. let its = commit_call works a m in waits_not (as_waiting its.0) (call_waits its.0 its.1) (its.2 ∙ same))
+      let found = among_filtered is_commit its.0 calls its.1 in
+      (its.0, found.0, ap (λ (n : ℕ × ℕ). n.0) its.2, ap (λ (n : ℕ × ℕ). n.1) its.2, found.1)
 
   pub committing_count : s.failed ≡ false → length s.sessions.committing ≡ length (commits_of calls)
   committing_count works =
@@ -108,85 +229,173 @@ module _ (calls : List WaitingCall) (s : State) (was : HasWaits calls s) where
 
   -- ---- steps
 
-  -- the same calls wait, and nobody under way is lost
-  pub waits_kept : (new : State) → new.waiting ≡ s.waiting → new.sessions.committing ≡ s.sessions.committing → (new.failed ≡ false → s.failed ≡ false)
-      → ((n : ℕ × ℕ) → IsAmong n (names_of s.sessions.active) → IsAmong n (names_of new.sessions.active)) → HasWaits calls new
-  waits_kept new waiting committing works stay = record {
+  -- the names, the seats and who is in doubt stay
+  pub waits_kept : (t : State) → t.waiting ≡ s.waiting → t.sessions.committing ≡ s.sessions.committing → (t.failed ≡ false → s.failed ≡ false)
+      → names_of t.sessions.active ≡ names_of s.sessions.active → ((n : ℕ) → t.sessions.seats n ≡ s.sessions.seats n) → t.sessions.prepared ≡ s.sessions.prepared
+      → t.sessions.next_txn ≡ s.sessions.next_txn → HasWaits calls t
+  waits_kept t waiting committing works names seats prepared next = record {
     waiting = waiting ∙ was.waiting;
+    kinds = was.kinds;
     committing = λ f. ap names_of committing ∙ was.committing (works f);
-    asking = λ w m is. stay (caller_of w) (was.asking w m is);
+    asking = λ w m is. let its = was.asking w m is in (subst (IsAmong (caller_of w)) (sym names) its.0, seats w.session ∙ its.1);
+    preparing = λ w global m is.
+        let its = was.preparing w global m is in
+        (subst (IsAmong (record { txn = w.txn; global = global; answered = false })) (sym prepared) its.0, seats w.session ∙ its.1);
+    ended = λ w r m is.
+        let its = was.ended w r m is in
+        ((λ n. its.0 (subst (IsAmong w.txn) numbers n)), subst (λ k. w.txn < k) (sym next) its.1, seats w.session ∙ its.2);
+    once = was.once;
   }
+    where
+      numbers : txns_of t.sessions.active ≡ txns_of s.sessions.active
+      numbers = numbers_named t.sessions.active ∙ ap (map (λ (n : ℕ × ℕ). n.1)) names ∙ sym (numbers_named s.sessions.active)
 
   -- a call waits for a lock
-  pub waits_asked : (a : SessionTxn) (c : Call) (at : Granule) → IsAmong a s.sessions.active
+  pub waits_asked : (a : SessionTxn) (c : Call) (at : Granule) → HasSeat s.sessions a → logs_decision c ≡ false
       → HasWaits (calls ++ record { session = a.session; txn = a.txn; call = c; wait = Lock at; cycle = None } ∷ []) (record s { waiting = lock_waiting a c at ∷ s.waiting })
-  waits_asked a c at m = let it : WaitingCall = record { session = a.session; txn = a.txn; call = c; wait = Lock at; cycle = None } in record {
+  waits_asked a c at seat plain = let it : WaitingCall = record { session = a.session; txn = a.txn; call = c; wait = Lock at; cycle = None } in record {
     waiting = ap (λ ws. lock_waiting a c at ∷ ws) was.waiting ∙ sym (waitings-push calls it);
-    committing = λ f. was.committing f ∙ sym (committers-pushed calls it [] refl);
+    kinds = λ w n. ⊎_elim (λ old. was.kinds w old) (λ new. ⊎_elim (λ same. subst (λ (v : WaitingCall). awaits_record v ≡ logs_decision v.call) same (sym plain)) (λ none. absurd none) new) (among_either w calls (it ∷ []) n);
+    committing = λ f. was.committing f ∙ sym (committers-pushed calls it [] (ap (λ b. cond b (it ∷ []) []) (no_commit c plain)));
     asking = λ w n is. ⊎_elim (λ old. was.asking w old is)
-        (λ new. ⊎_elim (λ same. subst (λ v. IsAmong v (names_of s.sessions.active)) (ap caller_of same) (among_map name_of a s.sessions.active m)) (λ none. absurd none) new)
+        (λ new. ⊎_elim
+        (λ same. (subst (λ v. IsAmong (caller_of v) (names_of s.sessions.active)) same (among_map name_of a s.sessions.active seat.0), subst (λ (v : WaitingCall). s.sessions.seats v.session ≡ in_txn v.txn) same seat.1))
+        (λ none. absurd none) new)
         (among_either w calls (it ∷ []) n);
+    preparing = λ w global n is. ⊎_elim (λ old. was.preparing w global old is)
+        (λ new. ⊎_elim (λ same. absurd (never_prepares c plain global (ap (λ (v : WaitingCall). v.call) same ∙ is))) (λ none. absurd none) new)
+        (among_either w calls (it ∷ []) n);
+    ended = λ w r n is. ⊎_elim (λ old. was.ended w r old is)
+        (λ new. ⊎_elim (λ same. absurd (clash_some r (sym (never_resolves a.txn c plain) ∙ ap as_resolved same ∙ is))) (λ none. absurd none) new)
+        (among_either w calls (it ∷ []) n);
+    once = subst (λ (rs : List ResolvedTxn). EachOnce (map (λ r. r.txn) rs)) (sym (resolved_still calls it (never_resolves a.txn c plain))) was.once;
   }
 
-  -- who waits for a lock is under way still if one leaves of whose session no call waits
-  pub still_asks : (a : SessionTxn) → IsAmong a s.sessions.active → EachOnce (txns_of s.sessions.active) → All (λ w. w.session ≢ a.session) calls
-      → (w : WaitingCall) → IsAmong w calls → is_commit w ≡ false → IsAmong (caller_of w) (names_of (without_txn a.txn s.sessions.active))
-  still_asks a m once free w n is =
-      let its = map_among name_of (caller_of w) s.sessions.active (was.asking w n is) in
-      let other : its.0.txn ≢ a.txn = λ same. among_all (λ (v : WaitingCall). v.session ≢ a.session) calls free w n
-      (sym (ap (λ (p : ℕ × ℕ). p.0) its.2) ∙ ap (λ (b : SessionTxn). b.session) (once_same (λ (b : SessionTxn). b.txn) s.sessions.active once its.0 a its.1 m same)) in
+  -- a transaction begins, of a session with no call that waits
+  pub waits_begun : (session : ℕ) → DoesNotWait s session → HasWaits calls (begun s session)
+  waits_begun session idle = record {
+    waiting = was.waiting;
+    kinds = was.kinds;
+    committing = was.committing;
+    asking = λ w m is. let its = was.asking w m is in (inr its.0, still w m ∙ its.1);
+    preparing = λ w global m is. let its = was.preparing w global m is in (its.0, still w m ∙ its.1);
+    ended = λ w r m is.
+        let its = was.ended w r m is in
+        let below = its.1 in (
+          (λ n. ⊎_elim (λ same. absurd (omega (arith, below, same))) (λ later. its.0 later) n),
+          omega (arith, below),
+          still w m ∙ its.2,
+        );
+    once = was.once;
+  }
+    where
+      still : (w : WaitingCall) → IsAmong w calls → (begun s session).sessions.seats w.session ≡ s.sessions.seats w.session
+      still w m =
+          ap (λ b. cond b (in_txn s.sessions.next_txn) (s.sessions.seats w.session))
+          (ne_eqb session w.session (λ same. idle (as_waiting w) (call_waits w m) (sym same)))
+
+  -- who waits for a lock is under way still if another leaves
+  pub still_asks : (a : SessionTxn) (w : WaitingCall) → IsAmong w calls → awaits_record w ≡ false → w.txn ≢ a.txn → IsAmong (caller_of w) (names_of (without_txn a.txn s.sessions.active))
+  still_asks a w n is other =
+      let its = map_among name_of (caller_of w) s.sessions.active (was.asking w n is).0 in
       subst (λ v. IsAmong v (names_of (without_txn a.txn s.sessions.active))) its.2
-      (among_map name_of its.0 (without_txn a.txn s.sessions.active) (member_stays a.txn its.0 s.sessions.active its.1 other))
+      (among_map name_of its.0 (without_txn a.txn s.sessions.active) (member_stays a.txn its.0 s.sessions.active its.1 (λ same. other (sym (ap (λ (x : ℕ × ℕ). x.1) its.2) ∙ same))))
+
+  -- .. as one of whose session no call waits
+  pub other_asks : (a : SessionTxn) → IsAmong a s.sessions.active → EachOnce (txns_of s.sessions.active) → All (λ w. w.session ≢ a.session) calls
+      → (w : WaitingCall) → IsAmong w calls → awaits_record w ≡ false → w.txn ≢ a.txn
+  other_asks a m once free w n is same =
+      let its = asker_of w n is in
+      among_all (λ (v : WaitingCall). v.session ≢ a.session) calls free w n
+      (sym its.2 ∙ ap (λ (b : SessionTxn). b.session) (once_same (λ (b : SessionTxn). b.txn) s.sessions.active once its.0 a its.1 m (its.3 ∙ same)))
+
+  pub fewer_active : (a : SessionTxn) (t : ℕ) → IsAmong t (txns_of (without_txn a.txn s.sessions.active)) → IsAmong t (txns_of s.sessions.active)
+  fewer_active a t m =
+      let b = map_among (λ (x : SessionTxn). x.txn) t (without_txn a.txn s.sessions.active) m in
+      subst (λ n. IsAmong n (txns_of s.sessions.active)) b.2
+      (among_map (λ (x : SessionTxn). x.txn) b.0 s.sessions.active (among_filtered (λ (x : SessionTxn). not (x.txn == a.txn)) b.0 s.sessions.active b.1).0)
 
   -- a commit waits
   pub waits_committed : (a : SessionTxn) → IsAmong a s.sessions.active → EachOnce (txns_of s.sessions.active) → All (λ w. w.session ≢ a.session) calls
       → HasWaits (calls ++ record { session = a.session; txn = a.txn; call = call.Commit; wait = Durable (next_number s); cycle = None } ∷ []) (committed s a)
   waits_committed a m once free = let it : WaitingCall = record { session = a.session; txn = a.txn; call = call.Commit; wait = Durable (next_number s); cycle = None } in record {
     waiting = ap (λ ws. decision_waiting a.session call.Commit (next_number s) ∷ ws) was.waiting ∙ sym (waitings-push calls it);
-    committing = λ f. ap (λ ns. name_of a ∷ ns) (was.committing f) ∙ sym (committers-pushed calls it (it ∷ []) refl);
-    asking = λ w n is. ⊎_elim (λ old. still_asks a m once free w old is)
-        (λ new. ⊎_elim (λ same. absurd (clash (ap is_commit same ∙ is))) (λ none. absurd none) new)
+    kinds = λ w n. ⊎_elim (λ old. was.kinds w old)
+        (λ new. ⊎_elim (λ same. subst (λ (v : WaitingCall). awaits_record v ≡ logs_decision v.call) same refl) (λ none. absurd none) new)
         (among_either w calls (it ∷ []) n);
+    committing = λ f. ap (λ ns. name_of a ∷ ns) (was.committing f) ∙ sym (committers-pushed calls it (it ∷ []) refl);
+    asking = λ w n is. ⊎_elim (λ old. (still_asks a w old is (other_asks a m once free w old is), (was.asking w old is).1))
+        (λ new. ⊎_elim (λ same. absurd (clash (ap awaits_record same ∙ is))) (λ none. absurd none) new)
+        (among_either w calls (it ∷ []) n);
+    preparing = λ w global n is. ⊎_elim (λ old. was.preparing w global old is)
+        (λ new. ⊎_elim (λ same. absurd (unlike global (ap (λ (v : WaitingCall). v.call) same ∙ is))) (λ none. absurd none) new)
+        (among_either w calls (it ∷ []) n);
+    ended = λ w r n is. ⊎_elim (λ old. let its = was.ended w r old is in ((λ k. its.0 (fewer_active a w.txn k)), its.1, its.2))
+        (λ new. ⊎_elim (λ same. absurd (clash_some r (ap as_resolved same ∙ is))) (λ none. absurd none) new)
+        (among_either w calls (it ∷ []) n);
+    once = subst (λ (rs : List ResolvedTxn). EachOnce (map (λ r. r.txn) rs)) (sym (resolved_still calls it refl)) was.once;
   }
     where
-      clash : true ≡ false → ⊥
-      clash e = cc
+      unlike : (global : List ℕ) → call.Commit ≡ call.Prepare global → ⊥
+      unlike global e = cc
 
-  taken_asks : (session : ℕ) (w : WaitingCall) → IsAmong w (filter (is_other session) calls) → is_commit w ≡ false → IsAmong (caller_of w) (names_of s.sessions.active)
-  taken_asks session w m is = was.asking w (among_filtered (is_other session) w calls m).0 is
+  -- ---- a call waits no more
 
-  -- a call that waited is refused, or goes on
-  pub waits_refused : (session : ℕ) → AreApart calls → (w : WaitingCall) → IsAmong w calls → w.session ≡ session → (s.failed ≡ false → is_commit w ≡ false)
-      → HasWaits (filter (is_other session) calls) (wait_refused s session)
-  waits_refused session apart w m own asked = record {
-    waiting = ap (without_waiting session) was.waiting ∙ waitings-taken session calls;
-    committing = λ f. was.committing f ∙ ap (λ (ws : List WaitingCall). reverse (map caller_of ws)) (commits_stay f);
-    asking = λ v n is. taken_asks session v n is;
+  -- the calls of others, of a state with the same names, of whose seats those of others stay
+  pub others_wait : (session : ℕ) (t : State) → t.waiting ≡ without_waiting session s.waiting
+      → (t.failed ≡ false → names_of t.sessions.committing ≡ committers_of (filter (is_other session) calls))
+      → names_of t.sessions.active ≡ names_of s.sessions.active → t.sessions.next_txn ≡ s.sessions.next_txn → ((n : ℕ) → n ≢ session → t.sessions.seats n ≡ s.sessions.seats n)
+      → ((w : WaitingCall) (global : List ℕ) → IsAmong w calls → w.session ≢ session → w.call ≡ call.Prepare global → IsAmong (record { txn = w.txn; global = global; answered = false }) t.sessions.prepared)
+      → HasWaits (filter (is_other session) calls) t
+  others_wait session t waiting committing names next seats prepared = record {
+    waiting = waiting ∙ ap (without_waiting session) was.waiting ∙ waitings-taken session calls;
+    kinds = λ w m. was.kinds w (old w m);
+    committing = committing;
+    asking = λ w m is. let its = was.asking w (old w m) is in (subst (IsAmong (caller_of w)) (sym names) its.0, seats w.session (other w m) ∙ its.1);
+    preparing = λ w global m is. (prepared w global (old w m) (other w m) is, seats w.session (other w m) ∙ (was.preparing w global (old w m) is).1);
+    ended = λ w r m is. let its = was.ended w r (old w m) is in ((λ n. its.0 (subst (IsAmong w.txn) numbers n)), subst (λ k. w.txn < k) (sym next) its.1, seats w.session (other w m) ∙ its.2);
+    once = once_taken (is_other session) calls was.once;
   }
     where
-      clash : true ≡ false → ⊥
-      clash e = cc
+      old : (w : WaitingCall) → IsAmong w (filter (is_other session) calls) → IsAmong w calls
+      old w m = (among_filtered (is_other session) w calls m).0
 
-      is_other_commit : s.failed ≡ false → (v : WaitingCall) → IsAmong v (commits_of calls) → is_other session v ≡ true
-      is_other_commit f v n =
-          let its = among_filtered is_commit v calls n in
-          ap not (ne_eqb v.session session (λ same. clash (sym its.1 ∙ ap is_commit (one_of_session calls apart v w its.0 m (same ∙ sym own)) ∙ asked f)))
+      other : (w : WaitingCall) → IsAmong w (filter (is_other session) calls) → w.session ≢ session
+      other w m same = clash (sym (among_filtered (is_other session) w calls m).1 ∙ own_is_not_other session w same)
 
-      commits_stay : s.failed ≡ false → commits_of calls ≡ commits_of (filter (is_other session) calls)
-      commits_stay f = sym (filter_all (is_other session) (commits_of calls) (is_other_commit f)) ∙ filter_both (is_other session) is_commit calls
+      numbers : txns_of t.sessions.active ≡ txns_of s.sessions.active
+      numbers = numbers_named t.sessions.active ∙ ap (map (λ (n : ℕ × ℕ). n.1)) names ∙ sym (numbers_named s.sessions.active)
+
+  module _ (session : ℕ) (apart : AreApart calls) (w : WaitingCall) (m : IsAmong w calls) (own : w.session ≡ session) where
+    others_commit : is_commit w ≡ false → commits_of calls ≡ commits_of (filter (is_other session) calls)
+    others_commit plain =
+        sym (filter_all (is_other session) (commits_of calls) (λ v n.
+        let its = among_filtered is_commit v calls n in
+        ap not (ne_eqb v.session session (λ same. clash (sym its.1 ∙ ap is_commit (one_of_session calls apart v w its.0 m (same ∙ sym own)) ∙ plain)))))
+        ∙ filter_both (is_other session) is_commit calls
+
+    -- the commits are the same if it is none
+    pub committers_stay : is_commit w ≡ false → s.failed ≡ false → names_of s.sessions.committing ≡ committers_of (filter (is_other session) calls)
+    committers_stay plain f = was.committing f ∙ ap (λ (ws : List WaitingCall). reverse (map caller_of ws)) (others_commit plain)
+
+    -- a call that waited is refused, or goes on
+    pub waits_refused : (s.failed ≡ false → awaits_record w ≡ false) → HasWaits (filter (is_other session) calls) (wait_refused s session)
+    waits_refused asked = others_wait session (wait_refused s session) refl
+        (λ f. committers_stay (or_left (is_commit w) (asks_prepare w.call || asks_resolve w.call) (sym (was.kinds w m) ∙ asked f)) f) refl refl (λ n other. refl)
+        (λ v global n other is. (was.preparing v global n is).0)
 
   -- a commit is answered
   pub waits_ended : (a : SessionTxn) → HasOwnSeats s.sessions → s.failed ≡ false → IsAmong a s.sessions.committing
       → HasWaits (filter (is_other a.session) calls) (commit_ended s a)
-  waits_ended a seats works m = record {
-    waiting = ap (without_waiting a.session) was.waiting ∙ waitings-taken a.session calls;
-    committing = λ f.
-        sym (filter-map name_of is_other_number s.sessions.committing)
-        ∙ filter_alike is_other_number (is_other_name a.session) (names_of s.sessions.committing) alike
-        ∙ ap (filter (is_other_name a.session)) (was.committing works)
-        ∙ committers-taken a.session calls;
-    asking = λ v n is. taken_asks a.session v n is;
-  }
+  waits_ended a seats works m = others_wait a.session (commit_ended s a) refl
+      (λ f.
+      sym (filter-map name_of is_other_number s.sessions.committing)
+      ∙ filter_alike is_other_number (is_other_name a.session) (names_of s.sessions.committing) alike
+      ∙ ap (filter (is_other_name a.session)) (was.committing works)
+      ∙ committers-taken a.session calls)
+      refl refl
+      (λ n other. ap (λ b. cond b free (s.sessions.seats n)) (ne_eqb a.session n (λ same. other (sym same))))
+      (λ v global n other is. (was.preparing v global n is).0)
     where
       is_other_number : ℕ × ℕ → Bool
       is_other_number n = not (n.1 == a.txn)
@@ -213,3 +422,20 @@ module _ (calls : List WaitingCall) (s : State) (was : HasWaits calls s) where
       alike n k =
           let its = map_among name_of n s.sessions.committing k in
           subst (λ v. is_other_number v ≡ is_other_name a.session v) its.2 (decided its.0 its.1 (its.0.session == a.session) refl)
+
+  -- an abort is answered, of whose session no call waits
+  pub waits_aborted : (a : SessionTxn) → IsAmong a s.sessions.active → EachOnce (txns_of s.sessions.active) → All (λ w. w.session ≢ a.session) calls → (logged : Bool) → HasWaits calls (abort_ended s a logged)
+  waits_aborted a m once free logged = record {
+    waiting = was.waiting;
+    kinds = was.kinds;
+    committing = was.committing;
+    asking = λ w n is. (still_asks a w n is (other_asks a m once free w n is), still w n ∙ (was.asking w n is).1);
+    preparing = λ w global n is. let its = was.preparing w global n is in (its.0, still w n ∙ its.1);
+    ended = λ w r n is. let its = was.ended w r n is in ((λ k. its.0 (fewer_active a w.txn k)), its.1, still w n ∙ its.2);
+    once = was.once;
+  }
+    where
+      still : (w : WaitingCall) → IsAmong w calls → (abort_ended s a logged).sessions.seats w.session ≡ s.sessions.seats w.session
+      still w n =
+          ap (λ b. cond b (record { txn = 0; prepared = false }) (s.sessions.seats w.session))
+          (ne_eqb a.session w.session (λ same. among_all (λ (v : WaitingCall). v.session ≢ a.session) calls free w n (sym same)))

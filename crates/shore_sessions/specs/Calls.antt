@@ -1,9 +1,12 @@
 -- Calls that wait, the oldest first, as the state has them: the newest first, and without their transactions.
-use Rattle.std.specs.Prelude.{◌==◌, ℕ, List, Bool, Some, true, false, filter, if◌then◌else◌, map, reverse}
+use Rattle.std.specs.Prelude.{◌==◌, ◌||◌, ℕ, List, Bool, Option, None, Some, true, false, filter, if◌then◌else◌, map, reverse}
+use Rattle.std.specs.List.{filter_map}
+use Rattle.shore_model.specs.declared.calls.Call.{Call}
+use Rattle.shore_model.specs.declared.calls.Call.TheVariants as call
 use Rattle.shore_model.specs.declared.step.Wait.{Wait}
 use Rattle.shore_model.specs.declared.step.Wait.TheVariants.{Durable, Lock}
 use Rattle.laws_calls.specs.States.{Waiting}
-use Rattle.laws_lives.specs.Sessions.{SessionTxn}
+use Rattle.laws_lives.specs.Sessions.{ResolvedTxn, SessionTxn}
 use Rattle.shore_sessions.specs.declared.waits.WaitingCall.{WaitingCall}
 
 abbrev pub as_waiting : WaitingCall → Waiting
@@ -12,17 +15,73 @@ as_waiting w = record { session = w.session; call = w.call; wait = w.wait; cycle
 abbrev pub as_waitings : List WaitingCall → List Waiting
 as_waitings calls = reverse (map as_waiting calls)
 
+-- ---- what a call waits for
+
 -- it waits for a force
 abbrev pub is_durable : Wait → Bool
 is_durable (Durable n) = true
 is_durable (Lock at) = false
 
+-- .. of its record; else for a lock
+abbrev pub awaits_record : WaitingCall → Bool
+awaits_record w = is_durable w.wait
+
+abbrev pub asks_commit : Call → Bool
+asks_commit call.Commit = true
+asks_commit _ = false
+
+abbrev pub asks_prepare : Call → Bool
+asks_prepare (call.Prepare global) = true
+asks_prepare _ = false
+
+abbrev pub asks_resolve : Call → Bool
+asks_resolve (call.Resolve global asked) = true
+asks_resolve _ = false
+
+-- the calls that log a decision's record, and are answered once it is durable
+abbrev pub logs_decision : Call → Bool
+logs_decision c = asks_commit c || (asks_prepare c || asks_resolve c)
+
+-- .. with which the transaction is decided: one that is prepared is not
+abbrev pub decides : Call → Bool
+decides c = asks_commit c || asks_resolve c
+
 -- it is a commit
 abbrev pub is_commit : WaitingCall → Bool
-is_commit w = is_durable w.wait
+is_commit w = asks_commit w.call
 
 abbrev pub commits_of : List WaitingCall → List WaitingCall
 commits_of calls = filter is_commit calls
+
+-- it is a commit or a resolve
+abbrev pub is_decided : WaitingCall → Bool
+is_decided w = decides w.call
+
+-- what a call resolves, by the number of the transaction
+abbrev pub resolved_as : ℕ → Call → Option ResolvedTxn
+resolved_as t (call.Resolve global asked) = Some record { txn = t; global = global; outcome = asked }
+resolved_as t call.Begin = None
+resolved_as t (call.Get id) = None
+resolved_as t (call.GetForUpdate id) = None
+resolved_as t (call.Insert store bytes) = None
+resolved_as t (call.Update id bytes) = None
+resolved_as t (call.Delete id) = None
+resolved_as t (call.Scan store) = None
+resolved_as t (call.Lock at mode) = None
+resolved_as t (call.TryLock at mode) = None
+resolved_as t call.Savepoint = None
+resolved_as t (call.BackTo index) = None
+resolved_as t call.Commit = None
+resolved_as t call.Abort = None
+resolved_as t (call.Prepare global) = None
+resolved_as t call.InDoubt = None
+
+abbrev pub as_resolved : WaitingCall → Option ResolvedTxn
+as_resolved w = resolved_as w.txn w.call
+
+-- what the resolves among the calls have decided
+abbrev pub resolved_by : List WaitingCall → List ResolvedTxn
+resolved_by calls = filter_map as_resolved calls
 
 -- the calls that wait, once that of a session is to be told this cycle
 abbrev pub cycle_noted : ℕ → List ℕ → List WaitingCall → List WaitingCall

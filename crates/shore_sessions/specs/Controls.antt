@@ -1,7 +1,13 @@
 -- What a control has.
-use Rattle.std.specs.Prelude.{◌≢◌, ℕ, List, All}
+use Rattle.std.specs.Prelude.{◌≡◌, ◌≢◌, ◌⊎◌, ℕ, List, Some, All}
+use Rattle.shore_model.specs.declared.calls.Call.TheVariants as call
+use Rattle.shore_model.specs.declared.calls.Outcome.{Outcome}
 use Rattle.shore_locks.specs.Tables.{Table}
+use Rattle.laws_lives.specs.Views.{IsAmong}
+use Rattle.shore_txn.specs.Transactions as table
+use Rattle.shore_txn.specs.Txns.{global_of}
 use Rattle.shore_txn.specs.declared.transactions.Transactions.{Transactions}
+use Rattle.shore_txn.specs.declared.txn.Txn.{Txn}
 use Rattle.shore_sessions.specs.declared.control.Control.{Control}
 use Rattle.shore_sessions.specs.declared.waits.WaitingCall.{WaitingCall}
 use Rattle.shore_sessions.specs.Waits.{HasCallRoom, calls_in}
@@ -25,3 +31,9 @@ HasNoWait session control = All (λ w. w.session ≢ session) (waits_in control)
 -- a call more that waits needs no memory
 abbrev pub HasWaitRoom : Control → Type 0
 HasWaitRoom control = HasCallRoom control.waits
+
+-- a transaction has this name: one of the table, or one that a resolve which waits has ended
+abbrev pub IsNameTaken : Control → List ℕ → Type 0
+IsNameTaken control global =
+    ((t : Txn) × IsAmong t (table.txns_in (txns_in control)) × (global_of t ≡ Some global))
+    ⊎ ((w : WaitingCall) × (asked : Outcome) × IsAmong w (waits_in control) × (w.call ≡ call.Resolve global asked))

@@ -1,5 +1,6 @@
 pub mod Calls
 pub mod Waits
 pub mod Controls
+pub mod Seated
 pub mod Standing
 pub mod Noting

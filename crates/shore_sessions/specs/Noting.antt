@@ -13,15 +13,16 @@ use Rattle.shore_cycles.specs.declared.victims.Victim.{Victim}
 use Rattle.laws_lives.specs.Sessions.{SessionTxn, doomed}
 use Rattle.laws_lives.specs.Views.{IsAmong}
 use Rattle.laws_calls.specs.CallSteps.{with_requests}
-use Rattle.laws_calls.specs.States.{DoesNotWait, State}
+use Rattle.laws_calls.specs.States.{DoesNotWait, HasSeat, State}
 use Rattle.laws_calls.specs.Victims.{with_cycle}
-use Rattle.shore_txn.specs.Transactions.{kept_in, next_in, room_in, undos_in}
+use Rattle.shore_txn.specs.Transactions.{AtSeat, kept_in, next_in, room_in, undos_in}
 use Rattle.shore_txn.specs.Transactions as table
-use Rattle.shore_txn.specs.Txns.{last_of}
+use Rattle.shore_txn.specs.Txns.{IsOf, last_of}
+use Rattle.shore_txn.specs.declared.seat.Seat.{Seat}
 use Rattle.shore_sessions.specs.declared.control.Control.{Control}
 use Rattle.shore_sessions.specs.Calls.{names_of}
 use Rattle.shore_sessions.specs.Controls.{HasWaitRoom, HasNoWait, locks_in, txns_in, waits_in}
-use Rattle.shore_sessions.specs.Standing.{HasTxns, HasWaits}
+use Rattle.shore_sessions.specs.Standing.{AreResolving, HasTxns, HasWaits}
 
 -- ---- one victim
 
@@ -29,9 +30,9 @@ use Rattle.shore_sessions.specs.Standing.{HasTxns, HasWaits}
 abbrev pub victim_noted : State → SessionTxn → List ℕ → State
 victim_noted s b cycle = record s { sessions = doomed s.sessions b; waiting = with_cycle b.session cycle s.waiting }
 
--- a victim's transaction under way: the caller's own, or that of a session with a call that waits
+-- a victim's transaction under way, which its session is in: the caller's own, or that of a session with a call that waits
 pub record IsNotable (session t : ℕ) (s : State) (v : Victim) (b : SessionTxn) : Type 0 where
-  pub active : IsAmong b s.sessions.active
+  pub seat : HasSeat s.sessions b
   pub number : b.txn ≡ v.txn
   pub own : b.txn ≡ t → b.session ≡ session
   pub waits : b.txn ≢ t → DoesNotWait s b.session → ⊥
@@ -52,15 +53,17 @@ told_cycle t told (v ∷ vs) = told_cycle t (if v.txn == t then Some v.cycle els
 pub record HasSessionsOf (control : Control) (s : State) : Type 0 where
   pub txns : HasTxns (txns_in control) s
   pub waits : HasWaits (waits_in control) s
+  pub resolving : AreResolving (txns_in control) (waits_in control) s
   pub works : s.failed ≡ false
   -- a session that is in a transaction under way has no commit that waits
-  pub apart : (a b : SessionTxn) → IsAmong a s.sessions.committing → IsAmong b s.sessions.active → b.session ≢ a.session
+  pub apart : (a b : SessionTxn) → IsAmong a s.sessions.committing → HasSeat s.sessions b → b.session ≢ a.session
 
 -- what victims leave as it was: the locks; whose the transactions are, their last records, what they may put back and what is reserved; who has no call that
 -- waits
 pub record KeepsOwners (old new : Control) : Type 0 where
   pub locks : locks_in new ≡ locks_in old
   pub names : names_of (undos_in (txns_in new)) ≡ names_of (undos_in (txns_in old))
+  pub own : (seat : Seat) (n : ℕ) → AtSeat seat (txns_in old) (IsOf n) → AtSeat seat (txns_in new) (IsOf n)
   pub lasts : map last_of (table.txns_in (txns_in new)) ≡ map last_of (table.txns_in (txns_in old))
   pub next : next_in (txns_in new) ≡ next_in (txns_in old)
   pub room : room_in (txns_in new) ≡ room_in (txns_in old)

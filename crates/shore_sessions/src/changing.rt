@@ -12,7 +12,7 @@ ghost use Rattle.laws_room.specs.LogRooms.{compensation_cost};
 ghost use Rattle.laws_lives.specs.Sessions.{SessionTxn};
 ghost use Rattle.laws_lives.specs.UndoLists.{nothing_to_undo};
 ghost use Rattle.laws_calls.specs.StateChanges.{begun};
-ghost use Rattle.laws_calls.specs.States.{IsOfSession, State, page_slots};
+ghost use Rattle.laws_calls.specs.States.{DoesNotWait, State, page_slots};
 ghost use Rattle.shore_txn.specs.ActiveTxns.{HasMore, IsBegun, OneBecomes};
 ghost use Rattle.shore_txn.specs.Transactions as table;
 ghost use Rattle.shore_txn.specs.Txns.{IsAfterChange, SameTxn};
@@ -26,7 +26,7 @@ use std::alloc::{AllocError, Global};
 
 impl Control {
     ghost use Rattle.shore_sessions.specs.Controls.{HasWaitRoom, HasNoWait, locks_in, txns_in, waits_in};
-    ghost use Rattle.shore_sessions.specs.Standing.{HasControl, changed};
+    ghost use Rattle.shore_sessions.specs.Standing.{HasControl, IsAt, changed};
 
     /// Begins a transaction of a session that has none, and reserves what its ending costs. If memory is short nothing has changed.
     pub fn begin(&mut self, alloc: Global, session: SessionId) -> Result<TxnId, AllocError>
@@ -41,18 +41,18 @@ impl Control {
         ensures claims { (p : PageId) → kept_in (txns_in self.new) p ≡ kept_in (txns_in self.old) p }
         ensures locks { locks_in self.new ≡ locks_in self.old }
         ensures waits { waits_in self.new ≡ waits_in self.old }
-        ensures stands { OnOk result ((s : State) → HasControl self.old s → HasControl self.new (begun s session)) }
+        ensures stands { OnOk result ((s : State) → HasControl self.old s → DoesNotWait s session → HasControl self.new (begun s session)) }
         ensures unchanged { OnErr result ((s : State) → HasControl self.old s → HasControl self.new s) }
     {
         self.txns.begin(alloc, session)
     }
 
-    /// Takes the memory for a change more of a session's transaction. If that fails nothing has changed but the memory.
+    /// Takes the memory for a change more of the transaction at a seat. If that fails nothing has changed but the memory.
     pub fn reserve_entry(&mut self, alloc: Global, seat: &Seat) -> Result<(), AllocError>
         requires seated { IsSeatIn seat.now (txns_in self.old) }
-        ensures memory { OnOk result (HasRoomToNote seat.now.session (txns_in self.new)) }
-        ensures idle { HasRoomToNote seat.now.session (txns_in self.old) → IsOk result }
-        ensures same { OneBecomes seat.now.session SameTxn (table.txns_in (txns_in self.old)) (table.txns_in (txns_in self.new)) }
+        ensures memory { OnOk result (HasRoomToNote seat.now.txn (txns_in self.new)) }
+        ensures idle { HasRoomToNote seat.now.txn (txns_in self.old) → IsOk result }
+        ensures same { OneBecomes seat.now.txn SameTxn (table.txns_in (txns_in self.old)) (table.txns_in (txns_in self.new)) }
         ensures undos { undos_in (txns_in self.new) ≡ undos_in (txns_in self.old) }
         ensures room { room_in (txns_in self.new) ≡ room_in (txns_in self.old) }
         ensures claims { (p : PageId) → kept_in (txns_in self.new) p ≡ kept_in (txns_in self.old) p }
@@ -63,21 +63,21 @@ impl Control {
         self.txns.reserve_entry(alloc, seat)
     }
 
-    /// A change of a session's transaction was logged. `logged` is what its record costs, and `undo` what that of its undo would.
+    /// A change of the transaction at a seat was logged. `logged` is what its record costs, and `undo` what that of its undo would.
     /// It stands for the state with another image at the id, if nobody else could put an image back there.
     pub fn note_change(&mut self, seat: &Seat, entry: UndoEntry, logged: u64, undo: u64)
         requires seated { IsSeatIn seat.now (txns_in self.old) }
-        requires memory { HasRoomToNote seat.now.session (txns_in self.old) }
+        requires memory { HasRoomToNote seat.now.txn (txns_in self.old) }
         requires short { image_len entry.before ≤ MAX_RECORD_BYTES }
         requires cost { undo ≡ compensation_cost entry.before }
         requires room { (room_in (txns_in self.old)).kept + (room_in (txns_in self.old)).reserved + logged + undo ≤ (room_in (txns_in self.old)).stream_bytes }
-        ensures noted { OneBecomes seat.now.session (λ old new. IsAfterChange old entry new) (table.txns_in (txns_in self.old)) (table.txns_in (txns_in self.new)) }
+        ensures noted { OneBecomes seat.now.txn (λ old new. IsAfterChange old entry new) (table.txns_in (txns_in self.old)) (table.txns_in (txns_in self.new)) }
         ensures reserved { (room_in (txns_in self.new)).reserved ≡ (room_in (txns_in self.old)).reserved + undo }
         ensures claimed { HasMore ((entry.id.slot, image_len entry.before) ∷ []) (kept_in (txns_in self.old) entry.id.page) (kept_in (txns_in self.new) entry.id.page) }
         ensures elsewhere { (p : PageId) → p ≢ entry.id.page → kept_in (txns_in self.new) p ≡ kept_in (txns_in self.old) p }
         ensures locks { locks_in self.new ≡ locks_in self.old }
         ensures waits { waits_in self.new ≡ waits_in self.old }
-        ensures stands { (s : State) (a : SessionTxn) (image : Image) (counts : SlotCounts) → HasControl self.old s → IsOfSession s seat.now.session a
+        ensures stands { (s : State) (a : SessionTxn) (image : Image) (counts : SlotCounts) → HasControl self.old s → IsAt seat.now s a
             → entry.lsn ≡ 1 + length s.log → entry.before ≡ get s.sessions.records entry.id → logged ≡ cost_of (Change entry.id entry.before image)
             → Claimed s.sessions.records s.sessions.active s.counts → NoOthers s.sessions.active a.txn entry.id → entry.claim ≡ claim_at (page_slots s entry.id.page) entry.id.slot
             → HasControl self.new (changed s a entry.id image counts) }

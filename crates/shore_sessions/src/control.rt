@@ -1,18 +1,22 @@
 //! Active transactions.
-ghost use Rattle.std.specs.Prelude.{◌≡◌, ◌≢◌, ◌+◌, ◌≤◌, ◌↔◌, [], ℕ, IfNone, IfOk, IfSome, IsTrue, false, length, true};
+ghost use Rattle.std.specs.Prelude.{◌≡◌, ◌≢◌, ◌+◌, ◌≤◌, ◌↔◌, [], ℕ, IfNone, IfOk, IfSome, IsTrue, List, false, filter, length, true};
 ghost use Rattle.std.specs.List.Sorted.{IsPermutation, IsSorted};
-ghost use Rattle.shore_types.specs.declared.layout.TheConstants.{GREATEST_CHECKPOINT, LONGEST_FRAME};
+ghost use Rattle.shore_model.specs.declared.calls.Call.TheVariants as call;
+ghost use Rattle.shore_model.specs.declared.calls.Outcome.{Outcome};
+ghost use Rattle.shore_types.specs.declared.layout.TheConstants.{GREATEST_CHECKPOINT, LONGEST_FRAME, MOST_MAX_LOCKS};
 ghost use Rattle.laws_lives.specs.OwnSeats.{HasOwnSeats};
 ghost use Rattle.laws_lives.specs.Sessions.{SessionTxn};
 ghost use Rattle.laws_lives.specs.Views.{IsAmong};
 ghost use Rattle.shore_locks.specs.Listing.{request_cmp};
 ghost use Rattle.shore_locks.specs.Tables.{is_waiting};
-ghost use Rattle.laws_calls.specs.CallSteps.{txn_count};
-ghost use Rattle.laws_calls.specs.States.{DoesNotWait, IsOfSession, State};
-ghost use Rattle.shore_txn.specs.Transactions.{HasNoTxnOf, IsSeatIn, next_in, room_in, undos_in};
+ghost use Rattle.laws_calls.specs.CallSteps.{HasEnded, IsPreparing, txn_count};
+ghost use Rattle.laws_calls.specs.States.{DoesNotWait, HasNoTxn, HasPrepared, IsOfSession, State};
+ghost use Rattle.shore_txn.specs.Transactions.{AtSeat, HasNoTxnOf, IsSeatIn, next_in, room_in, undos_in};
 ghost use Rattle.shore_txn.specs.Transactions as table;
-ghost use Rattle.shore_txn.specs.Txns.{as_session_txn};
-ghost use Rattle.shore_sessions.specs.Calls.{as_waiting, commits_of, is_commit};
+ghost use Rattle.shore_txn.specs.TxnStates.{is_in_doubt};
+ghost use Rattle.shore_txn.specs.Txns.{IsOf, as_session_txn, number_of, state_of};
+ghost use Rattle.shore_sessions.specs.Calls.{as_waiting, awaits_record, is_commit, is_decided, logs_decision};
+ghost use Rattle.shore_sessions.specs.Seated.{rolled_in, seat_as};
 
 use crate::waits::{WaitingCall, Waits};
 use shore_locks::LockTable;
@@ -26,22 +30,24 @@ use std::alloc::{AllocError, Global};
 pub struct Control {
     /// The transactions under way, and the room of the log.
     pub(crate) txns: Transactions,
-    /// The requests of locks, of those under way and of those whose commits wait.
+    /// The requests of locks, of those under way and of those whose commits wait: no more than a Prepare may list (`few_locks`).
     pub(crate) locks: LockTable,
-    /// The calls that wait: for a lock, or for the force of a commit.
+    /// The calls that wait: for a lock, or for the force of a commit, of a prepare or of a resolve.
     pub(crate) waits: Waits,
+    ghost few_locks: { locks.limit ≤ MOST_MAX_LOCKS },
 }
 
 impl Control {
     ghost use Rattle.shore_sessions.specs.Controls.{HasNoWait, locks_in, txns_in, waits_in};
     ghost use Rattle.shore_sessions.specs.Standing.{HasControl, HasTxns};
 
-    /// A control with no call that waits. It stands for each state with these locks whose sessions are in no transaction.
+    /// A control with no call that waits. It stands for each state with these locks in which nobody waits, and no resolve has ended a transaction.
     pub fn new(alloc: Global, txns: Transactions, locks: LockTable) -> Control
+        requires few { locks.limit ≤ MOST_MAX_LOCKS }
         ensures txns { txns_in result ≡ txns }
         ensures locks { locks_in result ≡ locks }
         ensures waits { waits_in result ≡ [] }
-        ensures stands { (s : State) → HasTxns txns s → s.sessions.committing ≡ [] → s.waiting ≡ [] → s.locks ≡ locks → HasControl result s }
+        ensures stands { (s : State) → HasTxns txns s → s.sessions.committing ≡ [] → IsPermutation s.sessions.resolving (rolled_in txns) → s.waiting ≡ [] → s.locks ≡ locks → HasControl result s }
     {
         Control {
             txns,
@@ -59,11 +65,14 @@ impl Control {
         &self.txns
     }
 
-    /// Where the transaction under way of a session is.
+    /// Where the transaction under way is that a session is in.
     pub fn seat(&self, session: SessionId) -> Option<Seat>
         ensures some { IfSome result (λ seat. IsSeatIn seat (txns_in self.now) × (seat.session ≡ session)) }
+        ensures own { IfSome result (λ seat. AtSeat seat (txns_in self.now) (IsOf session)) }
+        ensures of_some { IfSome result (λ seat. (s : State) → HasControl self.now s → AtSeat seat (txns_in self.now) (λ t. s.sessions.seats session ≡ seat_as t)) }
         ensures none { IfNone result (HasNoTxnOf session (txns_in self.now)) }
         ensures of_none { IfNone result ((s : State) → HasControl self.now s → (a : SessionTxn) → IsOfSession s session a → ⊥) }
+        ensures free { IfNone result ((s : State) → HasControl self.now s → HasOwnSeats s.sessions → s.failed ≡ false → DoesNotWait s session → HasNoTxn s session) }
     {
         self.txns.seat(session)
     }
@@ -73,18 +82,21 @@ impl Control {
         requires { IsSeatIn seat.now (txns_in self.now) }
         ensures among { IsAmong result.now (table.txns_in (txns_in self.now)) }
         ensures there { IsAmong (as_session_txn result.now) (undos_in (txns_in self.now)) }
-        ensures session { result.now.session ≡ seat.now.session }
-        ensures of_session { (s : State) → HasControl self.now s → HasOwnSeats s.sessions → IsOfSession s seat.now.session (as_session_txn result.now) }
+        ensures number { number_of result.now ≡ seat.now.txn }
+        ensures of_session { AtSeat seat.now (txns_in self.now) (IsOf seat.now.session) → is_in_doubt (state_of result.now) ≡ false
+            → (s : State) → HasControl self.now s → IsOfSession s seat.now.session (as_session_txn result.now) }
+        ensures prepared { AtSeat seat.now (txns_in self.now) (IsOf seat.now.session) → is_in_doubt (state_of result.now) ≡ true
+            → (s : State) → HasControl self.now s → HasPrepared s seat.now.session }
     {
         self.txns.txn(seat)
     }
 
-    /// How many transactions there are, with those whose commits wait.
+    /// How many transactions there are, with those whose commits or resolves wait.
     pub fn count(&self) -> usize
-        ensures number { result ≡ length (undos_in (txns_in self.now)) + length (commits_of (waits_in self.now)) }
+        ensures number { result ≡ length (undos_in (txns_in self.now)) + length (filter is_decided (waits_in self.now)) }
         ensures count { (s : State) → HasControl self.now s → s.failed ≡ false → result ≡ txn_count s }
     {
-        self.txns.count() + self.waits.commits()
+        self.txns.count() + self.waits.decided()
     }
 
     /// The number of the next transaction.
@@ -109,8 +121,12 @@ impl Control {
         ensures none { IfNone result (HasNoWait session self.now) }
         ensures waits { IfSome result (λ w. (s : State) → HasControl self.now s → IsAmong (as_waiting w.now) s.waiting) }
         ensures does_not { IfNone result ((s : State) → HasControl self.now s → DoesNotWait s session) }
-        ensures asks { IfSome result (λ w. is_commit w.now ≡ false → (s : State) → HasControl self.now s → HasOwnSeats s.sessions → (a : SessionTxn) × IsOfSession s session a × (a.txn ≡ w.now.txn)) }
+        ensures kinds { IfSome result (λ w. (s : State) → HasControl self.now s → awaits_record w.now ≡ logs_decision w.now.call) }
+        ensures asks { IfSome result (λ w. awaits_record w.now ≡ false → (s : State) → HasControl self.now s → (a : SessionTxn) × IsOfSession s session a × (a.txn ≡ w.now.txn)) }
         ensures commits { IfSome result (λ w. is_commit w.now ≡ true → (s : State) → HasControl self.now s → s.failed ≡ false → (a : SessionTxn) × IsAmong a s.sessions.committing × (a.session ≡ session) × (a.txn ≡ w.now.txn)) }
+        ensures prepares { IfSome result (λ w. (global : List ℕ) → w.now.call ≡ call.Prepare global → (s : State) → HasControl self.now s → IsPreparing s.sessions session w.now.txn global) }
+        ensures resolves { IfSome result (λ w. (global : List ℕ) (asked : Outcome) → w.now.call ≡ call.Resolve global asked → (s : State) → HasControl self.now s → s.failed ≡ false
+            → HasEnded s.sessions (record { txn = w.now.txn; global = global; outcome = asked })) }
     {
         self.waits.of(session)
     }

@@ -11,15 +11,15 @@ ghost use Rattle.shore_path.specs.Acquires.{IsReached};
 ghost use Rattle.shore_path.specs.declared.answers.Acquired.TheVariants as Acquired;
 ghost use Rattle.shore_path.specs.declared.answers.OnConflict.TheVariants as conflict;
 ghost use Rattle.laws_lives.specs.Sessions.{SessionTxn};
-ghost use Rattle.laws_lives.specs.Views.{IsAmong};
 ghost use Rattle.laws_calls.specs.CallSteps.{on_conflict_of};
 ghost use Rattle.laws_calls.specs.Events.{IsStateAfter};
 ghost use Rattle.laws_calls.specs.LockRounds.{LocksTo};
-ghost use Rattle.laws_calls.specs.States.{IsOfSession, State};
-ghost use Rattle.shore_txn.specs.Transactions.{IsSeatIn, kept_in, next_in, room_in, undos_in};
+ghost use Rattle.laws_calls.specs.States.{HasSeat, IsOfSession, State};
+ghost use Rattle.shore_txn.specs.Transactions.{AtSeat, IsSeatIn, kept_in, next_in, room_in, undos_in};
 ghost use Rattle.shore_txn.specs.Transactions as table;
-ghost use Rattle.shore_txn.specs.Txns.{last_of};
+ghost use Rattle.shore_txn.specs.Txns.{IsOf, last_of};
 ghost use Rattle.shore_sessions.specs.Calls.{names_of};
+ghost use Rattle.shore_sessions.specs.Seated.{rolled_in};
 ghost use Rattle.shore_sessions.specs.Noting as noting;
 
 use crate::control::Control;
@@ -58,6 +58,7 @@ impl Control {
         ensures quiet { ((at : Granule) → result ≢ Ok (Acquired.Waiting at)) → is_waiting txn (locks_in self.new).requests ≡ false }
         ensures plain { IfErr result IsOfNoDevice }
         ensures seated { IsSeatIn seat.now (txns_in self.new) }
+        ensures own { AtSeat seat.now (txns_in self.old) (IsOf seat.now.session) → AtSeat seat.now (txns_in self.new) (IsOf seat.now.session) }
         ensures names { names_of (undos_in (txns_in self.new)) ≡ names_of (undos_in (txns_in self.old)) }
         ensures lasts { map last_of (table.txns_in (txns_in self.new)) ≡ map last_of (table.txns_in (txns_in self.old)) }
         ensures next { next_in (txns_in self.new) ≡ next_in (txns_in self.old) }
@@ -91,6 +92,7 @@ impl Control {
         ensures quiet { ((at : Granule) → result ≢ Ok (Acquired.Waiting at)) → is_waiting txn (locks_in self.new).requests ≡ false }
         ensures refused { IfErr result RefusesToLock }
         ensures seated { IsSeatIn seat.now (txns_in self.new) }
+        ensures own { AtSeat seat.now (txns_in self.old) (IsOf seat.now.session) → AtSeat seat.now (txns_in self.new) (IsOf seat.now.session) }
         ensures names { names_of (undos_in (txns_in self.new)) ≡ names_of (undos_in (txns_in self.old)) }
         ensures lasts { map last_of (table.txns_in (txns_in self.new)) ≡ map last_of (table.txns_in (txns_in self.old)) }
         ensures next { next_in (txns_in self.new) ≡ next_in (txns_in self.old) }
@@ -160,16 +162,21 @@ impl Control {
         told
     }
 
-    // A session's transaction, if it has one, can only be rolled back from now on.
+    // A session's transaction, if it is in one that is not prepared, can only be rolled back from now on.
     fn doom(&mut self, session: SessionId)
         ensures waits { waits_in self.new ≡ waits_in self.old }
         ensures keeps { KeepsOwners self.old self.new }
-        ensures stands { (s : State) (b : SessionTxn) (cycle : List ℕ) → HasTxns (txns_in self.old) s → IsAmong b s.sessions.active → b.session ≡ session
+        ensures rolled { rolled_in (txns_in self.new) ≡ rolled_in (txns_in self.old) }
+        ensures stands { (s : State) (b : SessionTxn) (cycle : List ℕ) → HasTxns (txns_in self.old) s → HasSeat s.sessions b → b.session ≡ session
             → HasTxns (txns_in self.new) (victim_noted s b cycle) }
     {
-        if let Some(seat) = self.txns.seat(session) {
-            self.txns.doom(&seat);
+        let Some(seat) = self.txns.seat(session) else {
+            return;
+        };
+        if self.txns.txn(&seat).is_in_doubt() {
+            return;
         }
+        self.txns.doom(&seat);
     }
 }
 

@@ -22,7 +22,7 @@ use shore_types::{Lsn, SessionId};
 
 impl Control {
     ghost use Rattle.shore_sessions.specs.Controls.{HasWaitRoom, HasNoWait, locks_in, txns_in, waits_in};
-    ghost use Rattle.shore_sessions.specs.Standing.{HasControl};
+    ghost use Rattle.shore_sessions.specs.Standing.{HasControl, IsAt};
 
     /// The Commit of a session's transaction was logged under this number: its call waits for the force, and its locks stay. Answers its changes,
     /// the oldest first, whose claims go now.
@@ -30,13 +30,13 @@ impl Control {
         requires seated { IsSeatIn seat.now (txns_in self.old) }
         requires memory { HasWaitRoom self.old }
         requires free { HasNoWait seat.now.session self.old }
-        ensures left { OneLeaves seat.now.session result.items (table.txns_in (txns_in self.old)) (table.txns_in (txns_in self.new)) }
+        ensures left { OneLeaves seat.now.txn result.items (table.txns_in (txns_in self.old)) (table.txns_in (txns_in self.new)) }
         ensures claims { (p : PageId) → HasMore (claims_on p result.items) (kept_in (txns_in self.new) p) (kept_in (txns_in self.old) p) }
-        ensures waits { (a : SessionTxn) → IsAmong a (table.undos_in (txns_in self.old)) → a.session ≡ seat.now.session
-            → waits_in self.new ≡ waits_in self.old ++ record { session = seat.now.session; txn = a.txn; call = Call.Commit; wait = Wait.Durable number; cycle = None } ∷ [] }
+        ensures waits { waits_in self.new ≡ waits_in self.old ++ record { session = seat.now.session; txn = seat.now.txn; call = Call.Commit; wait = Wait.Durable number; cycle = None } ∷ [] }
         ensures locks { locks_in self.new ≡ locks_in self.old }
-        ensures undone { (s : State) (a : SessionTxn) → HasControl self.old s → IsOfSession s seat.now.session a → images_of result.items ≡ a.undo.images }
-        ensures stands { (s : State) (a : SessionTxn) → HasControl self.old s → IsOfSession s seat.now.session a → number ≡ 1 + length s.log → HasControl self.new (committed s a) }
+        ensures undone { (s : State) (a : SessionTxn) → HasControl self.old s → IsAt seat.now s a → images_of result.items ≡ a.undo.images }
+        ensures stands { (s : State) (a : SessionTxn) → HasControl self.old s → IsOfSession s seat.now.session a → a.txn ≡ seat.now.txn → number ≡ 1 + length s.log
+            → HasControl self.new (committed s a) }
     {
         let (txn, changes) = self.txns.note_commit(seat);
         self.waits.push(WaitingCall {

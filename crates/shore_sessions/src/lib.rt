@@ -6,6 +6,8 @@ mod control;
 mod deadlocks;
 mod ending;
 pub mod laws;
+mod preparing;
+mod resolving;
 mod rollbacks;
 mod waiting;
 mod waits;

@@ -14,7 +14,7 @@ ghost use Rattle.shore_path.specs.declared.answers.OnConflict.TheVariants.{Refus
 ghost use Rattle.laws_calls.specs.StateChanges.{wait_refused};
 ghost use Rattle.laws_calls.specs.CallSteps.{lock_waiting, with_requests};
 ghost use Rattle.laws_calls.specs.States.{DoesNotWait, IsOfSession, State};
-ghost use Rattle.shore_sessions.specs.Calls.{is_commit};
+ghost use Rattle.shore_sessions.specs.Calls.{awaits_record, logs_decision};
 ghost use Rattle.shore_sessions.specs.declared.waits.WaitingCall.{WaitingCall};
 
 use crate::control::Control;
@@ -90,7 +90,7 @@ impl Control {
         ensures txns { txns_in self.new ≡ txns_in self.old }
         ensures locks { locks_in self.new ≡ locks_in self.old }
         ensures waits { waits_in self.new ≡ waits_in self.old ++ record { session = session; txn = txn; call = call; wait = Wait.Lock granule; cycle = None } ∷ [] }
-        ensures stands { (s : State) (a : SessionTxn) → HasControl self.old s → IsOfSession s session a → a.txn ≡ txn
+        ensures stands { (s : State) (a : SessionTxn) → HasControl self.old s → IsOfSession s session a → a.txn ≡ txn → logs_decision call ≡ false
             → HasControl self.new (record s { waiting = lock_waiting a call granule ∷ s.waiting }) }
     {
         self.waits.push(WaitingCall {
@@ -102,7 +102,7 @@ impl Control {
         });
     }
 
-    /// The call of a session waits no more, and is handed over. A commit is taken so once a device has failed.
+    /// The call of a session waits no more, and is handed over. One that waits for its record is taken so once a device has failed.
     pub fn take_wait(&mut self, session: SessionId) -> Option<WaitingCall>
         ensures some { IfSome result (λ w. IsAmong w (waits_in self.old) × (w.session ≡ session)) }
         ensures none { IfNone result (HasNoWait session self.old × (waits_in self.new ≡ waits_in self.old)) }
@@ -111,7 +111,7 @@ impl Control {
         ensures memory { IsSome result → HasWaitRoom self.new }
         ensures txns { txns_in self.new ≡ txns_in self.old }
         ensures locks { locks_in self.new ≡ locks_in self.old }
-        ensures stands { IfSome result (λ w. (s : State) → HasControl self.old s → (s.failed ≡ false → is_commit w ≡ false) → HasControl self.new (wait_refused s session)) }
+        ensures stands { IfSome result (λ w. (s : State) → HasControl self.old s → (s.failed ≡ false → awaits_record w ≡ false) → HasControl self.new (wait_refused s session)) }
         ensures same { IfNone result ((s : State) → HasControl self.old s → DoesNotWait s session × HasControl self.new s) }
     {
         self.waits.take(session)

@@ -1,19 +1,20 @@
 //! The calls that wait.
-ghost use Rattle.std.specs.Prelude.{◌≡◌, ◌≢◌, ◌<◌, ◌≤◌, ◌^◌, ◌++◌, ◌∷◌, [], ℕ, All, AllPairs, IfNone, IfSome, IsOk, IsSome, OnOk, false, filter, length, not, slice_index_or, true, ◌==◌};
+ghost use Rattle.std.specs.Prelude.{◌≡◌, ◌≢◌, ◌<◌, ◌≤◌, ◌^◌, ◌++◌, ◌∷◌, [], ℕ, All, AllPairs, IfNone, IfSome, IsFalse, IsOk, IsSome, IsTrue, OnOk, false, filter, length, not, slice_index_or, true, ◌==◌};
+ghost use Rattle.shore_model.specs.declared.calls.Outcome.{Outcome};
 ghost use Rattle.laws_lives.specs.Views.{IsAmong};
-ghost use Rattle.shore_sessions.specs.Calls.{commits_of, cycle_noted, is_commit};
+ghost use Rattle.shore_sessions.specs.Calls.{awaits_record, cycle_noted, decides, is_decided};
 ghost use Rattle.shore_sessions.specs.declared.waits.WaitingCall.{WaitingCall};
 
 use shore_model::{Call, Wait};
-use shore_types::{Sequence, SessionId, TxnId};
+use shore_types::{GlobalId, Sequence, SessionId, TxnId};
 use std::alloc::{AllocError, Global};
 
-/// A call of a session's transaction that waits, and what for.
+/// A call of a session that waits, and what for.
 #[derive(Drop)]
 pub struct WaitingCall {
     /// The session that asked.
     pub session: SessionId,
-    /// The number of its transaction.
+    /// The number of its transaction, or of the one that it resolves.
     pub txn: TxnId,
     /// What it asked: a resume asks it again.
     pub call: Call,
@@ -63,26 +64,39 @@ impl Waits {
         None
     }
 
-    /// How many of them are commits.
-    pub(crate) fn commits(&self) -> usize
-        ensures count { result ≡ length (commits_of (calls_in self.now)) }
+    /// How many of them are of decided transactions: commits and resolves.
+    pub(crate) fn decided(&self) -> usize
+        ensures count { result ≡ length (filter is_decided (calls_in self.now)) }
         ensures few { result ≤ length (calls_in self.now) }
         ensures small { length (calls_in self.now) < 2 ^ 63 }
     {
         let mut count = 0;
         for call in &self.calls {
-            if matches!(call.wait, Wait::Durable(_)) {
+            if is_of_decided(&call.call) {
                 count += 1;
             }
         }
         count
     }
 
+    /// Whether one of them resolves the transaction that has this name.
+    pub(crate) fn resolves(&self, global: &GlobalId) -> bool
+        ensures some { IsTrue result → (w : WaitingCall) × (asked : Outcome) × IsAmong w (calls_in self.now) × (w.call ≡ Call.Resolve global.now asked) }
+        ensures none { IsFalse result → All (λ w. (asked : Outcome) → w.call ≢ Call.Resolve global.now asked) (calls_in self.now) }
+    {
+        for waiting in &self.calls {
+            if resolves_name(&waiting.call, global) {
+                return true;
+            }
+        }
+        false
+    }
+
     // The call with which a transaction waits for a lock: it has one at most.
     fn index_of_asker(&self, txn: TxnId) -> Option<usize>
         ensures some { IfSome result (λ i. (i < length (calls_in self.now)) × ((d : WaitingCall) → (slice_index_or (calls_in self.now) i d).txn ≡ txn)
-            × ((d : WaitingCall) → is_commit (slice_index_or (calls_in self.now) i d) ≡ false)) }
-        ensures none { IfNone result (All (λ w. w.txn ≡ txn → is_commit w ≡ true) (calls_in self.now)) }
+            × ((d : WaitingCall) → awaits_record (slice_index_or (calls_in self.now) i d) ≡ false)) }
+        ensures none { IfNone result (All (λ w. w.txn ≡ txn → awaits_record w ≡ true) (calls_in self.now)) }
     {
         for (index, call) in self.calls.iter().enumerate() {
             if call.txn == txn && matches!(call.wait, Wait::Lock(_)) {
@@ -95,8 +109,8 @@ impl Waits {
     /// The call with which a transaction waits for a lock is to be told this cycle. The answer is its session; None if no call of it waits for a lock.
     pub(crate) fn note_cycle(&mut self, txn: TxnId, cycle: Sequence<TxnId>) -> Option<SessionId>
         ensures noted { IfSome result (λ session. calls_in self.new ≡ cycle_noted session cycle (calls_in self.old)) }
-        ensures some { IfSome result (λ session. (w : WaitingCall) × IsAmong w (calls_in self.old) × (w.session ≡ session) × (w.txn ≡ txn) × (is_commit w ≡ false)) }
-        ensures none { IfNone result (All (λ w. w.txn ≡ txn → is_commit w ≡ true) (calls_in self.old)) }
+        ensures some { IfSome result (λ session. (w : WaitingCall) × IsAmong w (calls_in self.old) × (w.session ≡ session) × (w.txn ≡ txn) × (awaits_record w ≡ false)) }
+        ensures none { IfNone result (All (λ w. w.txn ≡ txn → awaits_record w ≡ true) (calls_in self.old)) }
         ensures same { IfNone result (calls_in self.new ≡ calls_in self.old) }
         ensures free { (session : ℕ) → HasNoCall session self.old → HasNoCall session self.new }
         ensures room { HasCallRoom self.old → HasCallRoom self.new }
@@ -136,5 +150,23 @@ impl Waits {
     {
         let index = self.index_of(session)?;
         Some(self.calls.remove(index))
+    }
+}
+
+// Whether a call is of a transaction that is decided: while a prepare waits, its own is under way.
+fn is_of_decided(call: &Call) -> bool
+    ensures { result ≡ decides call.now }
+{
+    matches!(call, Call::Commit | Call::Resolve(..))
+}
+
+// Whether a call resolves the transaction that has this name.
+fn resolves_name(call: &Call, global: &GlobalId) -> bool
+    ensures some { IsTrue result → (asked : Outcome) × (call.now ≡ Call.Resolve global.now asked) }
+    ensures none { IsFalse result → (asked : Outcome) → call.now ≢ Call.Resolve global.now asked }
+{
+    match call {
+        Call::Resolve(resolved, _) => *resolved == *global,
+        _ => false,
     }
 }

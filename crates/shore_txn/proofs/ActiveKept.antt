@@ -23,7 +23,7 @@ use Rattle.shore_txn.specs.declared.txn.Txn.{Txn}
 use Rattle.shore_txn.proofs.ClaimLemmas.{claims_append}
 use Rattle.shore_txn.proofs.KeptLemmas.{read_slots, told_reserved, told_there}
 
-claimed_join : (xs ys : List (ℕ × ℕ)) (slots : List Slot) → claimed_by (xs ++ ys) slots ≡ claimed_by xs (claimed_by ys slots)
+pub claimed_join : (xs ys : List (ℕ × ℕ)) (slots : List Slot) → claimed_by (xs ++ ys) slots ≡ claimed_by xs (claimed_by ys slots)
 claimed_join [] ys slots = refl
 claimed_join (c ∷ xs) ys slots = ap (λ (l : List Slot). with_change (raised c.1) l c.0) (claimed_join xs ys slots)
 

@@ -1,14 +1,16 @@
 -- The transaction at an index of the table, between older ones and newer ones.
-use Rattle.std.proofs.Common.{◌≡◌, ◌≢◌, inl, inr, ◌<◌, ℕ, zero, suc, List, [], ◌∷◌, ◌++◌, drop, length, map, set, take, reverse, Option, Some, refl, sym, ap, subst, ◌∙◌, arith}
+use Rattle.std.proofs.Common.{◌≡◌, inl, inr, ◌<◌, ℕ, zero, suc, List, [], ◌∷◌, ◌++◌, drop, length, map, set, take, reverse, Option, Some, refl, sym, ap, subst, ◌∙◌, arith}
 use Rattle.std.specs.List.{All, HoldsAt, slice_get, slice_index_or}
 use Rattle.std.specs.Option.{unwrap_or}
+use Rattle.std.proofs.Math.Seq.{get_or-append_seam}
 use Rattle.std.proofs.lemmas.List.{append_assoc, map-append, reverse-append, reverse-reverse}
 use Rattle.std.proofs.lemmas.Option.{get_or_from_slice_get, none-some, slice_get_cases}
+use Rattle.laws_lives.specs.Sessions as numbers
 use Rattle.laws_lives.specs.Sessions.{EachOnce, SessionTxn}
 use Rattle.laws_lives.specs.Views.{IsAmong}
 use Rattle.shore_txn.specs.ActiveTxns as active
-use Rattle.shore_txn.specs.ActiveTxns.{CanNote, session_txns, sessions_of, undos_of}
-use Rattle.shore_txn.specs.Txns.{as_session_txn}
+use Rattle.shore_txn.specs.ActiveTxns.{session_txns, undos_of}
+use Rattle.shore_txn.specs.Txns.{as_session_txn, number_of}
 use Rattle.shore_txn.specs.declared.active.ActiveTxn.{ActiveTxn}
 use Rattle.shore_txn.specs.declared.txn.Txn.{Txn}
 use Rattle.shore_txn.proofs.OneOfMany.{among_map, among_middle, among_parts, map_among, map_join, map_parts, once_apart}
@@ -71,7 +73,7 @@ module _ {items : List ActiveTxn} {index : ℕ} {a : ActiveTxn} (at : IsAt items
   pub session_txn_there : IsAmong (as_session_txn a.txn) (undos_of items)
   session_txn_there = among_map as_session_txn a.txn (active.txns_of items) txn_there
 
--- ---- a list in which no transaction is of a session
+-- ---- what holds of each transaction of a list
 
 among_reverse : {A : Type 0} (x : A) (xs : List A) → IsAmong x (reverse xs) → IsAmong x xs
 among_reverse x [] m = m
@@ -91,49 +93,54 @@ index_of x [] m = absurd m
 index_of x (y ∷ xs) (inl is) = (0, ap Some is, omega arith)
 index_of x (y ∷ xs) (inr m) = let rest = index_of x xs m in let inside = rest.2 in (suc rest.0, rest.1, omega (arith, inside))
 
-pub none_of : (items : List ActiveTxn) (session : ℕ) → All (λ a. a.txn.session ≢ session) items → (b : SessionTxn) → IsAmong b (undos_of items) → b.session ≢ session
-none_of items session none b m is =
-    let t = map_among as_session_txn b (active.txns_of items) m in
+-- a transaction of the list is at an index
+pub each_of : (P : Txn → Type 0) (items : List ActiveTxn) → All (λ a. P a.txn) items → (t : Txn) → IsAmong t (active.txns_of items) → P t
+each_of P items all t m =
     let txn : ActiveTxn → Txn = λ a. a.txn in
-    let a = map_among txn t.0 items (among_reverse t.0 (map txn items) t.1) in
+    let a = map_among txn t items (among_reverse t (map txn items) m) in
     let i = index_of a.0 items a.1 in
-    none i.0 a.0 i.2 (ap (λ (a : ActiveTxn). a.txn.session) (get_or_from_slice_get items i.0 a.0 a.0 i.1) ∙ ap (λ (t : Txn). t.session) a.2 ∙ ap (λ (b : SessionTxn). b.session) t.2 ∙ is)
+    subst P (ap txn (get_or_from_slice_get items i.0 a.0 a.0 i.1) ∙ a.2) (all i.0 a.0 i.2)
 
 -- one more, the newest
 pub txns_more : (old mid new : List ActiveTxn) (a : ActiveTxn) → new ≡ mid ++ a ∷ [] → mid ≡ old → active.txns_of new ≡ a.txn ∷ active.txns_of old
 txns_more old mid new a is same = ap active.txns_of is ∙ txns_parts mid [] a ∙ ap (λ l. a.txn ∷ active.txns_of l) same
+
+-- .. which is at the end
+pub read_last : (old mid new : List ActiveTxn) (a : ActiveTxn) (index : ℕ) → new ≡ mid ++ a ∷ [] → mid ≡ old → index ≡ length mid → slice_index_or new index a ≡ a
+read_last old mid new a index is same last = ap (λ items. slice_index_or items index a) is ∙ ap (λ n. slice_index_or (mid ++ a ∷ []) n a) last ∙ get_or-append_seam mid a [] a
 
 -- ---- the memory for a change more
 
 reverse_among : {A : Type 0} (x : A) (xs : List A) → IsAmong x xs → IsAmong x (reverse xs)
 reverse_among x xs m = among_reverse x (reverse xs) (subst (IsAmong x) (sym (reverse-reverse xs)) m)
 
-session_among : (t : Txn) (ts : List Txn) → IsAmong t ts → IsAmong t.session (sessions_of (session_txns ts))
-session_among t ts m = among_map (λ (a : SessionTxn). a.session) (as_session_txn t) (session_txns ts) (among_map as_session_txn t ts m)
+pub number_among : (t : Txn) (ts : List Txn) → IsAmong t ts → IsAmong (number_of t) (numbers.txns_of (session_txns ts))
+number_among t ts m = among_map (λ (a : SessionTxn). a.txn) (as_session_txn t) (session_txns ts) (among_map as_session_txn t ts m)
 
-module _ {items : List ActiveTxn} {index : ℕ} {a : ActiveTxn} (at : IsAt items index a) (once : EachOnce (sessions_of (undos_of items))) where
+module _ {items : List ActiveTxn} {index : ℕ} {a : ActiveTxn} (at : IsAt items index a) (once : EachOnce (numbers.txns_of (undos_of items))) where
   abbrev newer : List Txn
   newer = active.txns_of (drop (suc index) items)
 
   abbrev older : List Txn
   older = active.txns_of (take index items)
 
-  -- no other is of its session
-  others : (x : ActiveTxn) → IsAmong x (take index items ++ drop (suc index) items) → x.txn.session ≡ a.txn.session → ⊥
+  -- no other has its number
+  others : (x : ActiveTxn) → IsAmong x (take index items ++ drop (suc index) items) → number_of x.txn ≡ number_of a.txn → ⊥
   others x m same =
-      let session : SessionTxn → ℕ = λ a. a.session in
+      let number : SessionTxn → ℕ = λ a. a.txn in
       let txn : ActiveTxn → Txn = λ a. a.txn in
       let there : IsAmong x.txn (newer ++ older) =
       subst (IsAmong x.txn) (txns_join (take index items) (drop (suc index) items)) (reverse_among x.txn (map txn (take index items ++ drop (suc index) items)) (among_map txn x (take index items ++ drop (suc index) items) m)) in
-      let parts : sessions_of (undos_of items) ≡ sessions_of (session_txns newer) ++ a.txn.session ∷ sessions_of (session_txns older) =
-      ap (λ ts. sessions_of (session_txns ts)) at.txns ∙ ap sessions_of (map_parts as_session_txn newer older a.txn) ∙ map_parts session (session_txns newer) (session_txns older) (as_session_txn a.txn) in
-      let joined : sessions_of (session_txns (newer ++ older)) ≡ sessions_of (session_txns newer) ++ sessions_of (session_txns older) =
-      ap sessions_of (map_join as_session_txn newer older) ∙ map_join session (session_txns newer) (session_txns older) in
-      once_apart (sessions_of (session_txns newer)) (sessions_of (session_txns older)) a.txn.session (subst EachOnce parts once)
-      (subst (λ n. IsAmong n (sessions_of (session_txns newer) ++ sessions_of (session_txns older))) same (subst (IsAmong x.txn.session) joined (session_among x.txn (newer ++ older) there)))
+      let parts : numbers.txns_of (undos_of items) ≡ numbers.txns_of (session_txns newer) ++ number_of a.txn ∷ numbers.txns_of (session_txns older) =
+      ap (λ ts. numbers.txns_of (session_txns ts)) at.txns ∙ ap numbers.txns_of (map_parts as_session_txn newer older a.txn) ∙ map_parts number (session_txns newer) (session_txns older) (as_session_txn a.txn) in
+      let joined : numbers.txns_of (session_txns (newer ++ older)) ≡ numbers.txns_of (session_txns newer) ++ numbers.txns_of (session_txns older) =
+      ap numbers.txns_of (map_join as_session_txn newer older) ∙ map_join number (session_txns newer) (session_txns older) in
+      once_apart (numbers.txns_of (session_txns newer)) (numbers.txns_of (session_txns older)) (number_of a.txn) (subst EachOnce parts once)
+      (subst (λ n. IsAmong n (numbers.txns_of (session_txns newer) ++ numbers.txns_of (session_txns older))) same (subst (IsAmong (number_of x.txn)) joined (number_among x.txn (newer ++ older) there)))
 
-  pub room_at : (b : ActiveTxn) (who : ℕ) → a.txn.session ≡ who → CanNote b → (x : ActiveTxn) → IsAmong x (set items index b) → x.txn.session ≡ who → CanNote x
-  room_at b who its room x m same = elim (among_parts x b (take index items) (drop (suc index) items) (subst (IsAmong x) (at.put b) m)) [
-    | inl is ↦ subst CanNote is room
+  -- so what holds of a transaction at a number is of this one
+  pub room_at : (Room : ActiveTxn → Type 0) (b : ActiveTxn) (number : ℕ) → number_of a.txn ≡ number → Room b → (x : ActiveTxn) → IsAmong x (set items index b) → number_of x.txn ≡ number → Room x
+  room_at Room b number its room x m same = elim (among_parts x b (take index items) (drop (suc index) items) (subst (IsAmong x) (at.put b) m)) [
+    | inl is ↦ subst Room is room
     | inr other ↦ absurd (others x other (same ∙ sym its))
   ]

@@ -2,16 +2,11 @@
 use Rattle.std.proofs.Common.{◌≡◌, ◌≢◌, inl, inr, ◌++◌, ◌∷◌, ℕ, List, map, sym, ap, subst, ◌∙◌}
 use Rattle.laws_lives.specs.Sessions.{EachOnce, SessionTxn, txns_of}
 use Rattle.laws_lives.specs.Views.{IsAmong}
-use Rattle.shore_txn.specs.ActiveTxns.{OneBecomes, OneLeaves, session_txns, sessions_of}
+use Rattle.shore_txn.specs.ActiveTxns.{OneBecomes, OneLeaves, session_txns}
 use Rattle.shore_txn.specs.Txns.{as_session_txn, number_of}
 use Rattle.shore_txn.specs.declared.txn.Txn.{Txn}
 use Rattle.shore_txn.specs.declared.undo.UndoEntry.{UndoEntry}
 use Rattle.shore_txn.proofs.OneOfMany.{among_map, among_middle, among_more, among_parts, map_join, map_parts, once_apart}
-
--- the numbers and the sessions are each once
-pub record AreApart (ts : List Txn) : Type 0 where
-  pub numbers : EachOnce (txns_of (session_txns ts))
-  pub sessions : EachOnce (sessions_of (session_txns ts))
 
 -- another transaction has another value, if each comes once
 other_value : (f : SessionTxn → ℕ) (newer older : List Txn) (one t : Txn) → EachOnce (map f (session_txns (newer ++ one ∷ older))) → IsAmong t (newer ++ older) → f (as_session_txn t) ≢ f (as_session_txn one)
@@ -23,27 +18,21 @@ other_value f newer older one t once m same =
     once_apart (map f (session_txns newer)) (map f (session_txns older)) (f (as_session_txn one)) (subst EachOnce parts once)
     (subst (λ n. IsAmong n (map f (session_txns newer) ++ map f (session_txns older))) same (subst (IsAmong (f (as_session_txn t))) joined there))
 
-module _ (newer older : List Txn) (one : Txn) (apart : AreApart (newer ++ one ∷ older)) (t : Txn) (m : IsAmong t (newer ++ older)) where
-  other_number : number_of t ≢ number_of one
-  other_number = other_value (λ (a : SessionTxn). a.txn) newer older one t apart.numbers m
+module _ (newer older : List Txn) (one : Txn) (once : EachOnce (txns_of (session_txns (newer ++ one ∷ older)))) (t : Txn) (m : IsAmong t (newer ++ older)) where
+  pub other_number : number_of t ≢ number_of one
+  other_number = other_value (λ (a : SessionTxn). a.txn) newer older one t once m
 
-  other_session : t.session ≢ one.session
-  other_session = other_value (λ (a : SessionTxn). a.session) newer older one t apart.sessions m
-
-module _ (P Q : Txn → Type 0) {who : ℕ} {old new : List Txn} (apart : AreApart old) (each : (t : Txn) → IsAmong t old → P t) where
-  -- the others have other numbers and sessions
-  pub each_becomes : {Becomes : Txn → Txn → Type 0} (one : OneBecomes who Becomes old new) → ((t : Txn) → number_of t ≢ number_of one.before → t.session ≢ who → P t → Q t) → (P one.before → Q one.after)
-      → (t : Txn) → IsAmong t new → Q t
+module _ (P Q : Txn → Type 0) {number : ℕ} {old new : List Txn} (once : EachOnce (txns_of (session_txns old))) (each : (t : Txn) → IsAmong t old → P t) where
+  -- the others have other numbers
+  pub each_becomes : {Becomes : Txn → Txn → Type 0} (one : OneBecomes number Becomes old new) → ((t : Txn) → number_of t ≢ number → P t → Q t) → (P one.before → Q one.after) → (t : Txn) → IsAmong t new → Q t
   each_becomes one others itself t m = elim (among_parts t one.after one.newer one.older (subst (IsAmong t) one.is m)) [
     | inl is ↦ subst Q is (itself (each one.before (subst (IsAmong one.before) (sym one.was) (among_middle one.newer one.older one.before))))
-    | inr other ↦ others t (other_number one.newer one.older one.before (subst AreApart one.was apart) t other)
-        (λ same. other_session one.newer one.older one.before (subst AreApart one.was apart) t other (same ∙ sym one.session))
+    | inr other ↦ others t (λ same. other_number one.newer one.older one.before (subst (λ ts. EachOnce (txns_of (session_txns ts))) one.was once) t other (same ∙ sym one.txn))
         (each t (subst (IsAmong t) (sym one.was) (among_more t one.before one.newer one.older other)))
   ]
 
-  pub each_left : {changes : List UndoEntry} (one : OneLeaves who changes old new) → ((t : Txn) → number_of t ≢ number_of one.one → t.session ≢ who → P t → Q t) → (t : Txn) → IsAmong t new → Q t
+  pub each_left : {changes : List UndoEntry} (one : OneLeaves number changes old new) → ((t : Txn) → number_of t ≢ number → P t → Q t) → (t : Txn) → IsAmong t new → Q t
   each_left one others t m =
       let other = subst (IsAmong t) one.is m in
-      let was = subst AreApart one.was apart in
-      others t (other_number one.newer one.older one.one was t other) (λ same. other_session one.newer one.older one.one was t other (same ∙ sym one.session))
+      others t (λ same. other_number one.newer one.older one.one (subst (λ ts. EachOnce (txns_of (session_txns ts))) one.was once) t other (same ∙ sym one.txn))
       (each t (subst (IsAmong t) (sym one.was) (among_more t one.one one.newer one.older other)))

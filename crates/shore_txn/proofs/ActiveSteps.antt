@@ -1,107 +1,149 @@
 -- What begins, changes, savepoints, undos and endings leave of the transactions of a table.
-use Rattle.std.proofs.Common.{◌≡◌, ◌≢◌, ◌+◌, ◌<◌, ℕ, List, Option, None, Some, [], ◌∷◌, ◌++◌, suc, drop, length, set, take, refl, sym, ap, subst, ◌∙◌, arith}
+use Rattle.std.proofs.Common.{◌≡◌, ◌≢◌, ◌+◌, ◌<◌, ◌≤◌, cond, false, inl, inr, true, ℕ, List, Option, None, Some, [], ◌∷◌, ◌++◌, suc, drop, length, set, take, refl, sym, ap, subst, ◌∙◌, arith}
 use Rattle.std.specs.List.{AllByRecursion}
 use Rattle.std.proofs.lemmas.List.{append_assoc, append-nil, length-map, map-append}
 use Rattle.shore_types.specs.Images.{Image, image_len}
 use Rattle.shore_types.specs.declared.ids.PageId.{PageId}
 use Rattle.shore_types.specs.declared.ids.Rid.{Rid}
 use Rattle.shore_types.specs.declared.layout.TheConstants.{ENDING_COST}
-use Rattle.laws_room.specs.LogRooms.{compensation_cost, compensation_costs, owed, owed_by_all}
+use Rattle.laws_room.specs.LogRooms.{compensation_cost, compensation_costs}
 use Rattle.laws_lives.specs.Sessions.{EachOnce, SessionTxn, txns_of, with_undo, without_txn}
 use Rattle.laws_lives.specs.UndoLists.{UndoList, marks_kept, undo_rolled}
 use Rattle.laws_lives.specs.Views.{IsAmong}
 use Rattle.shore_txn.specs.ActiveTxns as active
-use Rattle.shore_txn.specs.ActiveTxns.{HasMore, OneBecomes, OneLeaves, all_changes, back_at, session_txns, sessions_of, with_entry, with_mark}
-use Rattle.shore_txn.specs.Txns.{IsAfterChange, IsAfterSavepoint, IsAfterUndo, IsBackAt, IsDoomed, SameTxn, as_session_txn, entries_of, marks_of, number_of, rolling_of, state_of}
+use Rattle.shore_txn.specs.ActiveTxns.{AreApart, HasMore, OneBecomes, OneLeaves, all_changes, back_at, session_txns, with_entry, with_mark}
+use Rattle.shore_txn.specs.TxnStates.{is_in_doubt, second_ending}
+use Rattle.shore_txn.specs.Txns.{IsAfterAnswer, IsAfterChange, IsAfterDecision, IsAfterPrepare, IsAfterSavepoint, IsAfterUndo, IsBackAt, IsDoomed, IsFoundPrepared, IsOf, SameTxn, as_session_txn, entries_of, marks_of, number_of, reserved_for, rolling_of, state_of}
 use Rattle.shore_txn.specs.UndoEntries.{claims_on, image_of, images_of}
 use Rattle.shore_txn.specs.declared.active.ActiveTxn.{ActiveTxn}
 use Rattle.shore_model.specs.declared.rollbacks.Rollback.{Rollback}
 use Rattle.shore_model.specs.declared.rollbacks.Rollback.TheVariants.{Whole}
 use Rattle.shore_txn.specs.declared.txn.Txn.{Txn}
+use Rattle.shore_txn.specs.declared.txn_state.TxnState.TheVariants as state
 use Rattle.shore_txn.specs.declared.undo.UndoEntry.{UndoEntry}
-use Rattle.shore_txn.proofs.ActiveLemmas.{IsAt, txns_join, txns_parts}
+use Rattle.shore_txn.proofs.ActiveLemmas.{IsAt, number_among, txns_join, txns_parts}
 use Rattle.shore_txn.proofs.ClaimLemmas.{claims_append, claims_other, claims_push}
-use Rattle.shore_txn.proofs.OneOfMany.{all_among, all_less, all_with, among_middle, map_among, map_join, map_parts, map_with, once_less, once_same, owed_parts, with_its, with_one, without_one}
+use Rattle.shore_txn.proofs.OneOfMany.{all_among, all_less, all_with, among_map, among_middle, among_more, among_parts, map_among, map_join, map_parts, map_with, once_less, once_same, with_its, with_one, without_one}
+use Rattle.shore_txn.proofs.Reserves.{first_reserved, reserved_for_all, reserved_parts}
 use Rattle.shore_txn.proofs.UndoLemmas.{costs_push}
 
 -- what holds of the transactions of a table
-pub record AreKept (undos : List SessionTxn) (reserved next : ℕ) : Type 0 where
-  pub sum : reserved ≡ owed_by_all undos
-  pub numbers : EachOnce (txns_of undos)
-  pub sessions : EachOnce (sessions_of undos)
-  pub below : AllByRecursion (λ a. a.txn < next) undos
+pub record AreKept (ts : List Txn) (reserved next : ℕ) : Type 0 where
+  pub sum : reserved ≡ reserved_for_all ts
+  pub numbers : EachOnce (txns_of (session_txns ts))
+  pub sessions : AreApart ts
+  pub below : AllByRecursion (λ a. a.txn < next) (session_txns ts)
 
 -- ---- one more
 
-rises : (undos : List SessionTxn) (next : ℕ) → AllByRecursion (λ a. a.txn < next) undos → AllByRecursion (λ a. a.txn < next + 1) undos
-rises [] next below = tt
-rises (a ∷ undos) next below = let less = below.0 in (omega (arith, less), rises undos next below.1)
+rises : (undos : List SessionTxn) (next later : ℕ) → next ≤ later → AllByRecursion (λ a. a.txn < next) undos → AllByRecursion (λ a. a.txn < later) undos
+rises [] next later on below = tt
+rises (a ∷ undos) next later on below = let less = below.0 in (omega (arith, less, on), rises undos next later on below.1)
 
-pub kept_begun : (undos : List SessionTxn) (reserved next : ℕ) (a : SessionTxn) → a.txn ≡ next → a.undo.images ≡ [] → ((b : SessionTxn) → IsAmong b undos → b.session ≢ a.session)
-    → AreKept undos reserved next → AreKept (a ∷ undos) (reserved + ENDING_COST) (next + 1)
-kept_begun undos reserved next a txn empty none was =
-    let nothing : owed a ≡ ENDING_COST = costs a.undo.images empty in
-    let sum = was.sum in record {
-      sum = omega (arith, sum, nothing);
-      numbers = (λ m. let b = map_among (λ (a : SessionTxn). a.txn) a.txn undos m in let less = all_among (λ (a : SessionTxn). a.txn < next) undos b.0 was.below b.1 in let same = b.2 in omega (arith, less, same, txn), was.numbers);
-      sessions = (λ m. let b = map_among (λ (a : SessionTxn). a.session) a.session undos m in none b.0 b.1 b.2, was.sessions);
-      below = (omega (arith, txn), rises undos next was.below);
+-- one that owes its ending alone, of a number that no other has, and of which no session is in another
+pub kept_more : (ts : List Txn) (reserved next later : ℕ) (t : Txn) → reserved_for t ≡ ENDING_COST → ((x : Txn) → IsAmong x ts → number_of x ≢ number_of t) → number_of t < later → next ≤ later
+    → ((n : ℕ) → IsOf n t → (x : Txn) → IsAmong x ts → IsOf n x → ⊥) → AreKept ts reserved next → AreKept (t ∷ ts) (reserved + ENDING_COST) later
+kept_more ts reserved next later t owes fresh less on none was =
+    let sum = was.sum in
+    let first = first_reserved t ts in record {
+      sum = omega (arith, sum, owes, first);
+      numbers = (
+        λ m.
+            let a = map_among (λ (a : SessionTxn). a.txn) (number_of t) (session_txns ts) m in
+            let x = map_among as_session_txn a.0 ts a.1 in
+            fresh x.0 x.1 (ap (λ (b : SessionTxn). b.txn) x.2 ∙ a.2),
+        was.numbers,
+      );
+      sessions = λ n x y mx my ix iy. apart n x y mx my ix iy;
+      below = (less, rises (session_txns ts) next later on was.below);
     }
   where
-    costs : (images : List (Rid × Image)) → images ≡ [] → ENDING_COST + compensation_costs images ≡ ENDING_COST
-    costs images none = ap (λ l. ENDING_COST + compensation_costs l) none
+    apart : (n : ℕ) (x y : Txn) → IsAmong x (t ∷ ts) → IsAmong y (t ∷ ts) → IsOf n x → IsOf n y → number_of x ≡ number_of y
+    apart n x y (inl is) (inl js) ix iy = ap number_of (sym is ∙ js)
+    apart n x y (inl is) (inr my) ix iy = absurd (none n (subst (IsOf n) (sym is) ix) y my iy)
+    apart n x y (inr mx) (inl js) ix iy = absurd (none n (subst (IsOf n) (sym js) iy) x mx ix)
+    apart n x y (inr mx) (inr my) ix iy = was.sessions n x y mx my ix iy
+
+-- a new number is below the next
+pub fresh_next : (ts : List Txn) (next : ℕ) → AllByRecursion (λ a. a.txn < next) (session_txns ts) → (x : Txn) → IsAmong x ts → number_of x ≢ next
+fresh_next ts next below x m same =
+    let less = all_among (λ (a : SessionTxn). a.txn < next) (session_txns ts) (as_session_txn x) below (among_map as_session_txn x ts m) in
+    absurd (omega (arith, less, same))
+
+-- there is one of a number
+pub one_at_number : (ts : List Txn) → EachOnce (txns_of (session_txns ts)) → (t u : Txn) → IsAmong t ts → IsAmong u ts → number_of t ≡ number_of u → t ≡ u
+one_at_number [] once t u m n same = absurd m
+one_at_number (x ∷ ts) once t u (inl is) (inl js) same = sym is ∙ js
+one_at_number (x ∷ ts) once t u (inl is) (inr n) same = absurd (once.0 (subst (λ k. IsAmong k (txns_of (session_txns ts))) (sym (ap number_of is ∙ same)) (number_among u ts n)))
+one_at_number (x ∷ ts) once t u (inr m) (inl js) same = absurd (once.0 (subst (λ k. IsAmong k (txns_of (session_txns ts))) (same ∙ sym (ap number_of js)) (number_among t ts m)))
+one_at_number (x ∷ ts) once t u (inr m) (inr n) same = one_at_number ts once.1 t u m n same
 
 -- ---- one changes
 
-module _ (newer older : List SessionTxn) (a : SessionTxn) where
-  pub kept_changed : (b : SessionTxn) (reserved next left : ℕ) → a.txn ≡ b.txn → a.session ≡ b.session → left + owed a ≡ reserved + owed b
-      → AreKept (newer ++ a ∷ older) reserved next → AreKept (newer ++ b ∷ older) left next
-  kept_changed b reserved next left txn session costs was =
-      let sum = was.sum in
-      let old = owed_parts newer older a in
-      let new = owed_parts newer older b in record {
-        sum = omega (arith, sum, old, new, costs);
-        numbers = subst EachOnce (map_with (λ (a : SessionTxn). a.txn) newer older a b txn) was.numbers;
-        sessions = subst EachOnce (map_with (λ (a : SessionTxn). a.session) newer older a b session) was.sessions;
-        below = all_with (λ (a : SessionTxn). a.txn < next) newer older a b (λ less. omega (arith, less, txn)) was.below;
-      }
+module _ (newer older : List Txn) (t : Txn) where
+  module _ (u : Txn) (number : number_of u ≡ number_of t) (still : (n : ℕ) → IsOf n u → IsOf n t) where
+    -- whoever is in one of the new list was in one of the same number
+    from : (n : ℕ) (x : Txn) → IsAmong x (newer ++ u ∷ older) → IsOf n x → (y : Txn) × IsAmong y (newer ++ t ∷ older) × IsOf n y × (number_of y ≡ number_of x)
+    from n x m its = elim (among_parts x u newer older m) [
+      | inl is ↦ (t, among_middle newer older t, still n (subst (IsOf n) (sym is) its), sym number ∙ ap number_of is)
+      | inr other ↦ (x, among_more x t newer older other, its, refl)
+    ]
 
-  pub kept_left : (reserved next left : ℕ) → left + owed a ≡ reserved → AreKept (newer ++ a ∷ older) reserved next → AreKept (newer ++ older) left next
+    pub kept_changed : (reserved next left : ℕ) → left + reserved_for t ≡ reserved + reserved_for u → AreKept (newer ++ t ∷ older) reserved next → AreKept (newer ++ u ∷ older) left next
+    kept_changed reserved next left costs was =
+        let sum = was.sum in
+        let old = reserved_parts newer older t in
+        let new = reserved_parts newer older u in record {
+          sum = omega (arith, sum, old, new, costs);
+          numbers = subst (λ us. EachOnce (txns_of us)) (sym (map_parts as_session_txn newer older u)) (subst EachOnce (map_with (λ (a : SessionTxn). a.txn) (session_txns newer) (session_txns older) (as_session_txn t) (as_session_txn u) (sym number))
+              (subst (λ us. EachOnce (txns_of us)) (map_parts as_session_txn newer older t) was.numbers));
+          sessions = λ n x y mx my ix iy.
+              let p = from n x mx ix in
+              let q = from n y my iy in
+              sym p.3 ∙ was.sessions n p.0 q.0 p.1 q.1 p.2 q.2 ∙ q.3;
+          below = subst (AllByRecursion (λ a. a.txn < next)) (sym (map_parts as_session_txn newer older u))
+              (all_with (λ (a : SessionTxn). a.txn < next) (session_txns newer) (session_txns older) (as_session_txn t) (as_session_txn u) (λ less. omega (arith, less, number))
+              (subst (AllByRecursion (λ a. a.txn < next)) (map_parts as_session_txn newer older t) was.below));
+        }
+
+  pub kept_left : (reserved next left : ℕ) → left + reserved_for t ≡ reserved → AreKept (newer ++ t ∷ older) reserved next → AreKept (newer ++ older) left next
   kept_left reserved next left less was =
       let sum = was.sum in
-      let old = owed_parts newer older a in record {
+      let old = reserved_parts newer older t in record {
         sum = omega (arith, sum, old, less);
-        numbers = subst EachOnce (sym (map_join (λ (a : SessionTxn). a.txn) newer older))
-            (once_less (txns_of newer) (txns_of older) a.txn (subst EachOnce (map_parts (λ (a : SessionTxn). a.txn) newer older a) was.numbers));
-        sessions = subst EachOnce (sym (map_join (λ (a : SessionTxn). a.session) newer older))
-            (once_less (sessions_of newer) (sessions_of older) a.session (subst EachOnce (map_parts (λ (a : SessionTxn). a.session) newer older a) was.sessions));
-        below = all_less (λ (a : SessionTxn). a.txn < next) newer older a was.below;
+        numbers = subst (λ us. EachOnce (txns_of us)) (sym (map_join as_session_txn newer older))
+            (subst EachOnce (sym (map_join (λ (a : SessionTxn). a.txn) (session_txns newer) (session_txns older)))
+            (once_less (txns_of (session_txns newer)) (txns_of (session_txns older)) (number_of t)
+            (subst EachOnce (map_parts (λ (a : SessionTxn). a.txn) (session_txns newer) (session_txns older) (as_session_txn t)) (subst (λ us. EachOnce (txns_of us)) (map_parts as_session_txn newer older t) was.numbers))));
+        sessions = λ n x y mx my ix iy. was.sessions n x y (among_more x t newer older mx) (among_more y t newer older my) ix iy;
+        below = subst (AllByRecursion (λ a. a.txn < next)) (sym (map_join as_session_txn newer older))
+            (all_less (λ (a : SessionTxn). a.txn < next) (session_txns newer) (session_txns older) (as_session_txn t) (subst (AllByRecursion (λ a. a.txn < next)) (map_parts as_session_txn newer older t) was.below));
       }
 
 -- ---- lists of transactions of which one becomes another, or leaves
 
-pub becomes_at : {items : List ActiveTxn} {index : ℕ} {a : ActiveTxn} → IsAt items index a → (b : ActiveTxn) (who : ℕ) (Becomes : Txn → Txn → Type 0) → a.txn.session ≡ who → Becomes a.txn b.txn
-    → OneBecomes who Becomes (active.txns_of items) (active.txns_of (set items index b))
-becomes_at {items} {index} {a} at b who Becomes its becomes = record {
+pub becomes_at : {items : List ActiveTxn} {index : ℕ} {a : ActiveTxn} → IsAt items index a → (b : ActiveTxn) (number : ℕ) (Becomes : Txn → Txn → Type 0) → number_of a.txn ≡ number → Becomes a.txn b.txn
+    → OneBecomes number Becomes (active.txns_of items) (active.txns_of (set items index b))
+becomes_at {items} {index} {a} at b number Becomes its becomes = record {
   newer = active.txns_of (drop (suc index) items);
   older = active.txns_of (take index items);
   before = a.txn;
   after = b.txn;
   was = at.txns;
   is = ap active.txns_of (at.put b) ∙ txns_parts (take index items) (drop (suc index) items) b;
-  session = its;
+  txn = its;
   becomes = becomes;
 }
 
-pub leaves_at : {items : List ActiveTxn} {index : ℕ} {a : ActiveTxn} → IsAt items index a → (rest : List ActiveTxn) (changes : List UndoEntry) (who : ℕ) → rest ≡ take index items ++ drop (suc index) items → a.txn.session ≡ who
-    → changes ≡ entries_of a.txn → OneLeaves who changes (active.txns_of items) (active.txns_of rest)
-leaves_at {items} {index} {a} at rest changes who is its all = record {
+pub leaves_at : {items : List ActiveTxn} {index : ℕ} {a : ActiveTxn} → IsAt items index a → (rest : List ActiveTxn) (changes : List UndoEntry) (number : ℕ) → rest ≡ take index items ++ drop (suc index) items → number_of a.txn ≡ number
+    → changes ≡ entries_of a.txn → OneLeaves number changes (active.txns_of items) (active.txns_of rest)
+leaves_at {items} {index} {a} at rest changes number is its all = record {
   newer = active.txns_of (drop (suc index) items);
   older = active.txns_of (take index items);
   one = a.txn;
   was = at.txns;
   is = ap active.txns_of is ∙ txns_join (take index items) (drop (suc index) items);
-  session = its;
+  txn = its;
   entries = all;
 }
 
@@ -117,7 +159,7 @@ claims_parts p newer older t =
     ap (claims_on p) (changes_parts newer older t) ∙ claims_append p (all_changes older) (entries_of t ++ all_changes newer)
     ∙ ap (λ l. claims_on p (all_changes older) ++ l) (claims_append p (entries_of t) (all_changes newer))
 
-module _ {who : ℕ} {Becomes : Txn → Txn → Type 0} {old new : List Txn} (one : OneBecomes who Becomes old new) where
+module _ {number : ℕ} {Becomes : Txn → Txn → Type 0} {old new : List Txn} (one : OneBecomes number Becomes old new) where
   abbrev before_as : SessionTxn
   before_as = as_session_txn one.before
 
@@ -130,11 +172,10 @@ module _ {who : ℕ} {Becomes : Txn → Txn → Type 0} {old new : List Txn} (on
   undos_are : session_txns new ≡ session_txns one.newer ++ after_as ∷ session_txns one.older
   undos_are = ap session_txns one.is ∙ map_parts as_session_txn one.newer one.older one.after
 
-  pub kept_with : (reserved next left : ℕ) → before_as.txn ≡ after_as.txn → before_as.session ≡ after_as.session → left + owed before_as ≡ reserved + owed after_as
-      → AreKept (session_txns old) reserved next → AreKept (session_txns new) left next
-  kept_with reserved next left txn session costs was =
-      subst (λ us. AreKept us left next) (sym undos_are)
-      (kept_changed (session_txns one.newer) (session_txns one.older) before_as after_as reserved next left txn session costs (subst (λ us. AreKept us reserved next) undos_were was))
+  pub kept_with : number_of one.after ≡ number_of one.before → ((n : ℕ) → IsOf n one.after → IsOf n one.before) → (reserved next left : ℕ) → left + reserved_for one.before ≡ reserved + reserved_for one.after
+      → AreKept old reserved next → AreKept new left next
+  kept_with txn still reserved next left costs was =
+      subst (λ ts. AreKept ts left next) (sym one.is) (kept_changed one.newer one.older one.before one.after txn still reserved next left costs (subst (λ ts. AreKept ts reserved next) one.was was))
 
   pub undos_same : after_as ≡ before_as → session_txns new ≡ session_txns old
   undos_same same = undos_are ∙ ap (λ a. session_txns one.newer ++ a ∷ session_txns one.older) same ∙ sym undos_were
@@ -148,16 +189,18 @@ module _ {who : ℕ} {Becomes : Txn → Txn → Type 0} {old new : List Txn} (on
   pub before_there : IsAmong before_as (session_txns old)
   before_there = subst (IsAmong before_as) (sym undos_were) (among_middle (session_txns one.newer) (session_txns one.older) before_as)
 
-  -- the session has no other
-  pub one_of : (a : SessionTxn) → EachOnce (sessions_of (session_txns old)) → IsAmong a (session_txns old) → a.session ≡ who → before_as ≡ a
-  one_of a once m its =
-      once_same (λ (a : SessionTxn). a.session) (session_txns old) once before_as a before_there m (one.session ∙ sym its)
+  pub before_among : IsAmong one.before old
+  before_among = subst (IsAmong one.before) (sym one.was) (among_middle one.newer one.older one.before)
+
+  -- no other has its number
+  pub one_of : (a : SessionTxn) → EachOnce (txns_of (session_txns old)) → IsAmong a (session_txns old) → a.txn ≡ number → before_as ≡ a
+  one_of a once m its = once_same (λ (a : SessionTxn). a.txn) (session_txns old) once before_as a before_there m (one.txn ∙ sym its)
 
   -- .. by what becomes of its undo list
-  pub undos_by : (f : UndoList → UndoList) → after_as ≡ with_its before_as (f before_as.undo) → EachOnce (txns_of (session_txns old)) → EachOnce (sessions_of (session_txns old))
-      → (a : SessionTxn) → IsAmong a (session_txns old) → a.session ≡ who → session_txns new ≡ with_undo a.txn (f a.undo) (session_txns old)
-  undos_by f is numbers sessions a m its =
-      subst (λ (b : SessionTxn). session_txns new ≡ with_undo b.txn (f b.undo) (session_txns old)) (one_of a sessions m its) (undos_with (f before_as.undo) is numbers)
+  pub undos_by : (f : UndoList → UndoList) → after_as ≡ with_its before_as (f before_as.undo) → EachOnce (txns_of (session_txns old)) → (a : SessionTxn) → IsAmong a (session_txns old) → a.txn ≡ number
+      → session_txns new ≡ with_undo a.txn (f a.undo) (session_txns old)
+  undos_by f is once a m its =
+      subst (λ (b : SessionTxn). session_txns new ≡ with_undo b.txn (f b.undo) (session_txns old)) (one_of a once m its) (undos_with (f before_as.undo) is once)
 
   pub claims_same : entries_of one.after ≡ entries_of one.before → (p : PageId) → claims_on p (all_changes new) ≡ claims_on p (all_changes old)
   claims_same same p =
@@ -190,7 +233,7 @@ module _ {who : ℕ} {Becomes : Txn → Txn → Type 0} {old new : List Txn} (on
         ∙ ap (λ es. front ++ (claims_on p es ++ back)) more ∙ ap (λ l. front ++ (l ++ back)) (claims_other p (entries_of one.before) e apart)
         ∙ sym (ap (λ ts. claims_on p (all_changes ts)) one.was ∙ claims_parts p one.newer one.older one.before)
 
-module _ {who : ℕ} {changes : List UndoEntry} {old new : List Txn} (one : OneLeaves who changes old new) where
+module _ {number : ℕ} {changes : List UndoEntry} {old new : List Txn} (one : OneLeaves number changes old new) where
   abbrev one_as : SessionTxn
   one_as = as_session_txn one.one
 
@@ -200,17 +243,17 @@ module _ {who : ℕ} {changes : List UndoEntry} {old new : List Txn} (one : OneL
   left_are : session_txns new ≡ session_txns one.newer ++ session_txns one.older
   left_are = ap session_txns one.is ∙ map_join as_session_txn one.newer one.older
 
-  pub kept_without : (reserved next left : ℕ) → left + (ENDING_COST + compensation_costs (images_of changes)) ≡ reserved → AreKept (session_txns old) reserved next → AreKept (session_txns new) left next
-  kept_without reserved next left less was =
-      let costs : compensation_costs (images_of changes) ≡ compensation_costs (images_of (entries_of one.one)) = ap (λ es. compensation_costs (images_of es)) one.entries in
-      subst (λ us. AreKept us left next) (sym left_are)
-      (kept_left (session_txns one.newer) (session_txns one.older) one_as reserved next left (omega (arith, less, costs)) (subst (λ us. AreKept us reserved next) left_were was))
+  pub left_among : IsAmong one.one old
+  left_among = subst (IsAmong one.one) (sym one.was) (among_middle one.newer one.older one.one)
 
-  pub undos_without : (a : SessionTxn) → EachOnce (txns_of (session_txns old)) → EachOnce (sessions_of (session_txns old)) → IsAmong a (session_txns old) → a.session ≡ who
-      → session_txns new ≡ without_txn a.txn (session_txns old)
-  undos_without a once sessions m its =
-      let same : one_as ≡ a = once_same (λ (a : SessionTxn). a.session) (session_txns old) sessions one_as a
-      (subst (IsAmong one_as) (sym left_were) (among_middle (session_txns one.newer) (session_txns one.older) one_as)) m (one.session ∙ sym its) in
+  pub kept_without : (reserved next left : ℕ) → left + reserved_for one.one ≡ reserved → AreKept old reserved next → AreKept new left next
+  kept_without reserved next left less was =
+      subst (λ ts. AreKept ts left next) (sym one.is) (kept_left one.newer one.older one.one reserved next left less (subst (λ ts. AreKept ts reserved next) one.was was))
+
+  pub undos_without : (a : SessionTxn) → EachOnce (txns_of (session_txns old)) → IsAmong a (session_txns old) → a.txn ≡ number → session_txns new ≡ without_txn a.txn (session_txns old)
+  undos_without a once m its =
+      let same : one_as ≡ a = once_same (λ (a : SessionTxn). a.txn) (session_txns old) once one_as a
+      (subst (IsAmong one_as) (sym left_were) (among_middle (session_txns one.newer) (session_txns one.older) one_as)) m (one.txn ∙ sym its) in
       subst (λ (b : SessionTxn). session_txns new ≡ without_txn b.txn (session_txns old)) same
       (left_are ∙ sym (ap (without_txn one_as.txn) left_were ∙ without_one one_as (session_txns one.older) (session_txns one.newer) (subst (λ us. EachOnce (txns_of us)) left_were once)))
 
@@ -233,17 +276,17 @@ no_entries (e ∷ es) is = absurd (apart is)
     apart : image_of e ∷ images_of es ≡ [] → ⊥
     apart clash = cc
 
-module _ {who : ℕ} {changes : List UndoEntry} {old new : List Txn} (one : OneLeaves who changes old new)
-    (empty : (a : SessionTxn) → IsAmong a (session_txns old) → a.session ≡ who → a.undo.images ≡ []) where
+module _ {number : ℕ} {changes : List UndoEntry} {old new : List Txn} (one : OneLeaves number changes old new)
+    (empty : (a : SessionTxn) → IsAmong a (session_txns old) → a.txn ≡ number → a.undo.images ≡ []) where
   pub none_changed : changes ≡ []
   none_changed =
       one.entries ∙ no_entries (entries_of one.one)
-      (empty (one_as one) (subst (IsAmong (one_as one)) (sym (left_were one)) (among_middle (session_txns one.newer) (session_txns one.older) (one_as one))) one.session)
+      (empty (one_as one) (subst (IsAmong (one_as one)) (sym (left_were one)) (among_middle (session_txns one.newer) (session_txns one.older) (one_as one))) one.txn)
 
-  pub leaves_empty : OneLeaves who [] old new
-  leaves_empty = subst (λ (es : List UndoEntry). OneLeaves who es old new) none_changed one
+  pub leaves_empty : OneLeaves number [] old new
+  leaves_empty = subst (λ (es : List UndoEntry). OneLeaves number es old new) none_changed one
 
-pub claims_kept : {who : ℕ} {old new : List Txn} → OneLeaves who [] old new → (p : PageId) → claims_on p (all_changes new) ≡ claims_on p (all_changes old)
+pub claims_kept : {number : ℕ} {old new : List Txn} → OneLeaves number [] old new → (p : PageId) → claims_on p (all_changes new) ≡ claims_on p (all_changes old)
 claims_kept one p = let has = claims_left one p in has.was ∙ sym has.is
 
 -- ---- a transaction as the sessions have it
@@ -294,46 +337,69 @@ module _ (t u : Txn) where
       session_as (undo_rolled (as_session_txn t).undo (as_session_txn t).undo.images Whole) after.txn after.session
       (undo_as (images_of (entries_of t)) [] (Some Whole) (ap images_of after.entries) after.marks (ap rolling_of after.state))
 
-  pub owed_more : (e : UndoEntry) → entries_of u ≡ entries_of t ++ e ∷ [] → owed (as_session_txn u) ≡ owed (as_session_txn t) + compensation_cost e.before
-  owed_more e more =
-      let costs = costs_push (entries_of t) e in
-      let is : compensation_costs (images_of (entries_of u)) ≡ compensation_costs (images_of (entries_of t ++ e ∷ [])) = ap (λ es. compensation_costs (images_of es)) more in
-      omega (arith, costs, is)
+  pub session_prepared : (name : List ℕ) (lsn : ℕ) → state_of t ≡ state.Active → IsAfterPrepare name lsn t u → as_session_txn u ≡ as_session_txn t
+  session_prepared name lsn active after =
+      session_as (as_session_txn t).undo after.txn after.session
+      (undo_as (images_of (entries_of t)) (marks_of t) (rolling_of (state_of t)) (ap images_of after.entries) after.marks (ap rolling_of after.state ∙ sym (ap rolling_of active)))
+
+  pub session_found : (name : List ℕ) (lsn : ℕ) → state_of t ≡ state.Active → IsFoundPrepared name lsn t u → as_session_txn u ≡ as_session_txn t
+  session_found name lsn active after =
+      session_as (as_session_txn t).undo after.txn after.session
+      (undo_as (images_of (entries_of t)) (marks_of t) (rolling_of (state_of t)) (ap images_of after.entries) after.marks (ap rolling_of after.state ∙ sym (ap rolling_of active)))
+
+  pub session_answered : state_of t ≡ state.Preparing → IsAfterAnswer t u → as_session_txn u ≡ as_session_txn t
+  session_answered preparing after =
+      session_as (as_session_txn t).undo after.txn after.session
+      (undo_as (images_of (entries_of t)) (marks_of t) (rolling_of (state_of t)) (ap images_of after.entries) after.marks (ap rolling_of after.state ∙ sym (ap rolling_of preparing)))
+
+  pub session_decided : (lsn : ℕ) → IsAfterDecision lsn t u → as_session_txn u ≡ with_its (as_session_txn t) (undo_rolled (as_session_txn t).undo (as_session_txn t).undo.images Whole)
+  session_decided lsn after =
+      session_as (undo_rolled (as_session_txn t).undo (as_session_txn t).undo.images Whole) after.txn after.session
+      (undo_as (images_of (entries_of t)) [] (Some Whole) (ap images_of after.entries) after.marks (ap rolling_of after.state))
+
+  pub costs_more : (e : UndoEntry) → entries_of u ≡ entries_of t ++ e ∷ [] → compensation_costs (images_of (entries_of u)) ≡ compensation_costs (images_of (entries_of t)) + compensation_cost e.before
+  costs_more e more = ap (λ es. compensation_costs (images_of es)) more ∙ costs_push (entries_of t) e
+
+  -- in whom a session is stays
+  pub still_of : u.is_seated ≡ t.is_seated → u.session ≡ t.session → (n : ℕ) → IsOf n u → IsOf n t
+  still_of seated session n its = (sym seated ∙ its.0, sym session ∙ its.1)
 
 -- ---- a change
 
-module _ {who : ℕ} {e : UndoEntry} {old new : List Txn} (one : OneBecomes who (λ t u. IsAfterChange t e u) old new) where
-  pub kept_noted : (reserved next : ℕ) → AreKept (session_txns old) reserved next → AreKept (session_txns new) (reserved + compensation_cost e.before) next
+module _ {number : ℕ} {e : UndoEntry} {old new : List Txn} (one : OneBecomes number (λ t u. IsAfterChange t e u) old new) where
+  pub kept_noted : (reserved next : ℕ) → AreKept old reserved next → AreKept new (reserved + compensation_cost e.before) next
   kept_noted reserved next was =
-      let more = owed_more one.before one.after e one.becomes.entries in
-      kept_with one reserved next (reserved + compensation_cost e.before) (sym one.becomes.txn) (sym one.becomes.session) (omega (arith, more)) was
+      let more = costs_more one.before one.after e one.becomes.entries in
+      let second : second_ending (state_of one.after) ≡ second_ending (state_of one.before) = ap second_ending one.becomes.state in
+      kept_with one one.becomes.txn (still_of one.before one.after one.becomes.name.seated one.becomes.session) reserved next (reserved + compensation_cost e.before) (omega (arith, more, second)) was
 
-  pub undos_noted : EachOnce (txns_of (session_txns old)) → EachOnce (sessions_of (session_txns old)) → (a : SessionTxn) → IsAmong a (session_txns old) → a.session ≡ who
-      → session_txns new ≡ with_undo a.txn (with_entry a.undo e) (session_txns old)
+  pub undos_noted : EachOnce (txns_of (session_txns old)) → (a : SessionTxn) → IsAmong a (session_txns old) → a.txn ≡ number → session_txns new ≡ with_undo a.txn (with_entry a.undo e) (session_txns old)
   undos_noted = undos_by one (λ undo. with_entry undo e) (session_changed one.before one.after e one.becomes)
 
 -- ---- its newest change is undone
 
 -- the other way round
-abbrev turned : {who : ℕ} {Becomes : Txn → Txn → Type 0} {old new : List Txn} (one : OneBecomes who Becomes old new) → one.after.session ≡ who → OneBecomes who (λ t u. Becomes u t) new old
-turned one its = record { newer = one.newer; older = one.older; before = one.after; after = one.before; was = one.is; is = one.was; session = its; becomes = one.becomes }
+abbrev turned : {number : ℕ} {Becomes : Txn → Txn → Type 0} {old new : List Txn} (one : OneBecomes number Becomes old new) → number_of one.after ≡ number → OneBecomes number (λ t u. Becomes u t) new old
+turned one its = record { newer = one.newer; older = one.older; before = one.after; after = one.before; was = one.is; is = one.was; txn = its; becomes = one.becomes }
 
-module _ {who lsn : ℕ} {rollback : Rollback} {e : UndoEntry} {old new : List Txn} (one : OneBecomes who (IsAfterUndo lsn rollback e) old new) where
-  abbrev back : OneBecomes who (λ t u. IsAfterUndo lsn rollback e u t) new old
-  back = turned one (one.becomes.session ∙ one.session)
+module _ {number lsn : ℕ} {rollback : Rollback} {e : UndoEntry} {old new : List Txn} (one : OneBecomes number (IsAfterUndo lsn rollback e) old new) where
+  abbrev back : OneBecomes number (λ t u. IsAfterUndo lsn rollback e u t) new old
+  back = turned one (one.becomes.txn ∙ one.txn)
 
-  pub kept_undone : (reserved next left : ℕ) → left + compensation_cost e.before ≡ reserved → AreKept (session_txns old) reserved next → AreKept (session_txns new) left next
-  kept_undone reserved next left less was =
-      let more = owed_more one.after one.before e one.becomes.entries in
-      kept_with one reserved next left (sym one.becomes.txn) (sym one.becomes.session) (omega (arith, more, less)) was
+  pub kept_undone : is_in_doubt (state_of one.before) ≡ false → (reserved next left : ℕ) → left + compensation_cost e.before ≡ reserved → AreKept old reserved next → AreKept new left next
+  kept_undone free reserved next left less was =
+      let more = costs_more one.after one.before e one.becomes.entries in
+      let none : second_ending (state_of one.before) ≡ 0 = ap (λ b. cond b ENDING_COST 0) free in
+      let now : second_ending (state_of one.after) ≡ 0 = ap second_ending one.becomes.state in
+      kept_with one one.becomes.txn (still_of one.before one.after one.becomes.name.seated one.becomes.session) reserved next left (omega (arith, more, less, none, now)) was
 
-  pub undos_undone : EachOnce (txns_of (session_txns old)) → EachOnce (sessions_of (session_txns old)) → (a : SessionTxn) → IsAmong a (session_txns old) → a.session ≡ who
+  pub undos_undone : EachOnce (txns_of (session_txns old)) → (a : SessionTxn) → IsAmong a (session_txns old) → a.txn ≡ number
       → (kept : List (Rid × Image)) × (a.undo.images ≡ kept ++ image_of e ∷ []) × (session_txns new ≡ with_undo a.txn (undo_rolled a.undo kept rollback) (session_txns old))
-  undos_undone numbers sessions a m its =
+  undos_undone once a m its =
       let kept = images_of (entries_of one.after) in (
         kept,
-        ap (λ (b : SessionTxn). b.undo.images) (sym (one_of one a sessions m its)) ∙ ap images_of one.becomes.entries ∙ map-append image_of (entries_of one.after) (e ∷ []),
-        undos_by one (λ undo. undo_rolled undo kept rollback) (session_undone one.before one.after lsn rollback e one.becomes) numbers sessions a m its,
+        ap (λ (b : SessionTxn). b.undo.images) (sym (one_of one a once m its)) ∙ ap images_of one.becomes.entries ∙ map-append image_of (entries_of one.after) (e ∷ []),
+        undos_by one (λ undo. undo_rolled undo kept rollback) (session_undone one.before one.after lsn rollback e one.becomes) once a m its,
       )
 
   pub claims_undone : HasMore ((e.id.slot, image_len e.before) ∷ []) (claims_on e.id.page (all_changes new)) (claims_on e.id.page (all_changes old))
@@ -347,33 +413,80 @@ module _ {who lsn : ℕ} {rollback : Rollback} {e : UndoEntry} {old new : List T
 pub record KeepsChanges (t u : Txn) : Type 0 where
   pub txn : number_of u ≡ number_of t
   pub session : u.session ≡ t.session
+  pub seated : u.is_seated ≡ t.is_seated
   pub entries : entries_of u ≡ entries_of t
+  pub second : second_ending (state_of u) ≡ second_ending (state_of t)
 
 pub same_keeps : (t u : Txn) → SameTxn t u → KeepsChanges t u
-same_keeps t u same = record { txn = same.txn; session = same.session; entries = same.entries }
+same_keeps t u same = record { txn = same.txn; session = same.session; seated = same.name.seated; entries = same.entries; second = ap second_ending same.state }
 
 pub savepoint_keeps : (t u : Txn) → IsAfterSavepoint t u → KeepsChanges t u
-savepoint_keeps t u after = record { txn = after.txn; session = after.session; entries = after.entries }
+savepoint_keeps t u after = record { txn = after.txn; session = after.session; seated = after.name.seated; entries = after.entries; second = ap second_ending after.state }
 
-pub back_keeps : (index : ℕ) (t u : Txn) → IsBackAt index t u → KeepsChanges t u
-back_keeps index t u after = record { txn = after.txn; session = after.session; entries = after.entries }
+nothing_second : (t : Txn) → is_in_doubt (state_of t) ≡ false → second_ending (state_of t) ≡ 0
+nothing_second t free = ap (λ b. cond b ENDING_COST 0) free
 
-pub doomed_keeps : (t u : Txn) → IsDoomed t u → KeepsChanges t u
-doomed_keeps t u after = record { txn = after.txn; session = after.session; entries = after.entries }
+pub back_keeps : (index : ℕ) (t u : Txn) → is_in_doubt (state_of t) ≡ false → IsBackAt index t u → KeepsChanges t u
+back_keeps index t u free after = record { txn = after.txn; session = after.session; seated = after.name.seated; entries = after.entries; second = ap second_ending after.state ∙ sym (nothing_second t free) }
 
-module _ {who : ℕ} {old new : List Txn} (one : OneBecomes who KeepsChanges old new) where
-  pub kept_still : (reserved next : ℕ) → AreKept (session_txns old) reserved next → AreKept (session_txns new) reserved next
+pub doomed_keeps : (t u : Txn) → is_in_doubt (state_of t) ≡ false → IsDoomed t u → KeepsChanges t u
+doomed_keeps t u free after = record { txn = after.txn; session = after.session; seated = after.name.seated; entries = after.entries; second = ap second_ending after.state ∙ sym (nothing_second t free) }
+
+second_of : (t : Txn) → is_in_doubt (state_of t) ≡ true → second_ending (state_of t) ≡ ENDING_COST
+second_of t doubt = ap (λ b. cond b ENDING_COST 0) doubt
+
+pub answered_keeps : (t u : Txn) → is_in_doubt (state_of t) ≡ true → IsAfterAnswer t u → KeepsChanges t u
+answered_keeps t u doubt after = record { txn = after.txn; session = after.session; seated = after.name.seated; entries = after.entries; second = ap second_ending after.state ∙ sym (second_of t doubt) }
+
+module _ {number : ℕ} {old new : List Txn} (one : OneBecomes number KeepsChanges old new) where
+  pub kept_still : (reserved next : ℕ) → AreKept old reserved next → AreKept new reserved next
   kept_still reserved next was =
-      let same : owed (as_session_txn one.after) ≡ owed (as_session_txn one.before) = ap (λ es. ENDING_COST + compensation_costs (images_of es)) one.becomes.entries in
-      kept_with one reserved next reserved (sym one.becomes.txn) (sym one.becomes.session) (omega (arith, same)) was
+      let costs : compensation_costs (images_of (entries_of one.after)) ≡ compensation_costs (images_of (entries_of one.before)) = ap (λ es. compensation_costs (images_of es)) one.becomes.entries in
+      let second = one.becomes.second in
+      kept_with one one.becomes.txn (still_of one.before one.after one.becomes.seated one.becomes.session) reserved next reserved (omega (arith, costs, second)) was
 
   pub claims_still : (p : PageId) → claims_on p (all_changes new) ≡ claims_on p (all_changes old)
   claims_still = claims_same one one.becomes.entries
 
-pub becomes_so : {who : ℕ} {B C : Txn → Txn → Type 0} {old new : List Txn} → ((t u : Txn) → B t u → C t u) → OneBecomes who B old new → OneBecomes who C old new
-becomes_so so one = record { newer = one.newer; older = one.older; before = one.before; after = one.after; was = one.was; is = one.is; session = one.session; becomes = so one.before one.after one.becomes }
+-- ---- it is prepared, or decided to be rolled back
 
-module _ {who : ℕ} {old new : List Txn} (one : OneBecomes who SameTxn old new) where
+module _ {number lsn : ℕ} {name : List ℕ} {old new : List Txn} (one : OneBecomes number (IsAfterPrepare name lsn) old new) (active : state_of one.before ≡ state.Active) where
+  pub kept_prepared : (reserved next : ℕ) → AreKept old reserved next → AreKept new (reserved + ENDING_COST) next
+  kept_prepared reserved next was =
+      let costs : compensation_costs (images_of (entries_of one.after)) ≡ compensation_costs (images_of (entries_of one.before)) = ap (λ es. compensation_costs (images_of es)) one.becomes.entries in
+      let none : second_ending (state_of one.before) ≡ 0 = ap second_ending active in
+      let now : second_ending (state_of one.after) ≡ ENDING_COST = ap second_ending one.becomes.state in
+      kept_with one one.becomes.txn (still_of one.before one.after one.becomes.seated one.becomes.session) reserved next (reserved + ENDING_COST) (omega (arith, costs, none, now)) was
+
+  pub undos_prepared : session_txns new ≡ session_txns old
+  undos_prepared = undos_same one (session_prepared one.before one.after name lsn active one.becomes)
+
+module _ {number lsn : ℕ} {name : List ℕ} {old new : List Txn} (one : OneBecomes number (IsFoundPrepared name lsn) old new) (active : state_of one.before ≡ state.Active) where
+  pub kept_found : (reserved next : ℕ) → AreKept old reserved next → AreKept new (reserved + ENDING_COST) next
+  kept_found reserved next was =
+      let costs : compensation_costs (images_of (entries_of one.after)) ≡ compensation_costs (images_of (entries_of one.before)) = ap (λ es. compensation_costs (images_of es)) one.becomes.entries in
+      let none : second_ending (state_of one.before) ≡ 0 = ap second_ending active in
+      let now : second_ending (state_of one.after) ≡ ENDING_COST = ap second_ending one.becomes.state in
+      kept_with one one.becomes.txn (still_of one.before one.after one.becomes.seated one.becomes.session) reserved next (reserved + ENDING_COST) (omega (arith, costs, none, now)) was
+
+  pub undos_found : session_txns new ≡ session_txns old
+  undos_found = undos_same one (session_found one.before one.after name lsn active one.becomes)
+
+module _ {number lsn : ℕ} {old new : List Txn} (one : OneBecomes number (IsAfterDecision lsn) old new) where
+  pub kept_decided : is_in_doubt (state_of one.before) ≡ true → (reserved next left : ℕ) → left + ENDING_COST ≡ reserved → AreKept old reserved next → AreKept new left next
+  kept_decided doubt reserved next left less was =
+      let costs : compensation_costs (images_of (entries_of one.after)) ≡ compensation_costs (images_of (entries_of one.before)) = ap (λ es. compensation_costs (images_of es)) one.becomes.entries in
+      let second = second_of one.before doubt in
+      let now : second_ending (state_of one.after) ≡ 0 = ap second_ending one.becomes.state in
+      kept_with one one.becomes.txn unseated reserved next left (omega (arith, costs, second, now, less)) was
+    where
+      unseated : (n : ℕ) → IsOf n one.after → IsOf n one.before
+      unseated n its = absurd (let clash : true ≡ false = sym its.0 ∙ one.becomes.seated in cc)
+
+pub becomes_so : {number : ℕ} {B C : Txn → Txn → Type 0} {old new : List Txn} → ((t u : Txn) → B t u → C t u) → OneBecomes number B old new → OneBecomes number C old new
+becomes_so so one = record { newer = one.newer; older = one.older; before = one.before; after = one.after; was = one.was; is = one.is; txn = one.txn; becomes = so one.before one.after one.becomes }
+
+module _ {number : ℕ} {old new : List Txn} (one : OneBecomes number SameTxn old new) where
   pub undos_stay : session_txns new ≡ session_txns old
   undos_stay = undos_same one (session_same one.before one.after one.becomes)
 

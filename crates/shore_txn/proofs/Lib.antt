@@ -3,10 +3,13 @@ pub mod ChainLemmas
 pub mod ClaimLemmas
 pub mod KeptLemmas
 pub mod OneOfMany
+pub mod Reserves
+pub mod DoubtsListed
 pub mod ActiveLemmas
 pub mod Seats
 pub mod ActiveSteps
 pub mod ActivePlaces
 pub mod ActiveKept
 pub mod ActiveOthers
+pub mod DoubtSteps
 pub mod Lending

@@ -1,8 +1,9 @@
 -- Transactions under way, as a list that has the newest first, and the places of their changes.
-use Rattle.std.specs.Prelude.{◌≡◌, ◌/◌, ◌%◌, ◌+◌, ◌++◌, ◌∷◌, [], ℕ, List, Option, None, Some, length, map, reverse, slice_get, take}
+use Rattle.std.specs.Prelude.{◌≡◌, ◌/◌, ◌%◌, ◌+◌, ◌++◌, ◌∷◌, [], ℕ, List, Option, None, Some, false, length, map, reverse, slice_get, take, true}
 use Rattle.std.specs.Coded.{×_prop, →_prop, Unit-prop}
 use Rattle.laws_lives.specs.Sessions.{EachOnce, SessionTxn}
 use Rattle.laws_lives.specs.UndoLists.{UndoList}
+use Rattle.laws_lives.specs.Views.{IsAmong}
 use Rattle.shore_txn.specs.declared.active.ActiveTxn.{ActiveTxn}
 use Rattle.shore_txn.specs.declared.claims.TheConstants.{OWN_PLACES}
 use Rattle.shore_txn.specs.declared.txn.Txn.{Txn}
@@ -10,7 +11,7 @@ use Rattle.shore_txn.specs.declared.txn_state.TxnState.TheVariants as state
 use Rattle.shore_txn.specs.declared.undo.UndoEntry.{UndoEntry}
 use Rattle.shore_txn.specs.Chains.{IsOfBucket}
 use Rattle.shore_txn.specs.Places.{HasLinkRoomIf, buckets_if}
-use Rattle.shore_txn.specs.Txns.{HasEntryRoom, as_session_txn, entries_of, last_of, marks_of, number_of, state_of}
+use Rattle.shore_txn.specs.Txns.{HasEntryRoom, IsOf, as_session_txn, decided_of, entries_of, global_of, last_of, marks_of, number_of, state_of}
 use Rattle.shore_txn.specs.UndoEntries.{image_of}
 
 -- the transactions of a list that has the oldest first: the newest first
@@ -24,8 +25,9 @@ session_txns ts = map as_session_txn ts
 abbrev pub undos_of : List ActiveTxn → List SessionTxn
 undos_of active = session_txns (txns_of active)
 
-abbrev pub sessions_of : List SessionTxn → List ℕ
-sessions_of undos = map (λ a. a.session) undos
+-- no session is in two of them
+abbrev pub AreApart : List Txn → Type 0
+AreApart ts = (n : ℕ) (t u : Txn) → IsAmong t ts → IsAmong u ts → IsOf n t → IsOf n u → number_of t ≡ number_of u
 
 -- that no element comes twice is a proposition
 pub EachOnce-prop : {A : Type 0} (xs : List A) → IsProp (EachOnce xs)
@@ -43,30 +45,45 @@ all_changes (t ∷ older) = all_changes older ++ entries_of t
 pub record IsBegun (number who : ℕ) (t : Txn) : Type 0 where
   pub txn : number_of t ≡ number
   pub session : t.session ≡ who
+  pub seated : t.is_seated ≡ true
   pub last : last_of t ≡ 0
   pub entries : entries_of t ≡ []
   pub marks : marks_of t ≡ []
   pub state : state_of t ≡ state.Active
+  pub global : global_of t ≡ None
+  pub decided : decided_of t ≡ 0
 
--- the session's transaction is another one then, and all others are as they were
-pub record OneBecomes (who : ℕ) (Becomes : Txn → Txn → Type 0) (old new : List Txn) : Type 0 where
+-- .. that an open has found: no session is in it
+pub record IsFound (number : ℕ) (t : Txn) : Type 0 where
+  pub txn : number_of t ≡ number
+  pub session : t.session ≡ 0
+  pub seated : t.is_seated ≡ false
+  pub last : last_of t ≡ 0
+  pub entries : entries_of t ≡ []
+  pub marks : marks_of t ≡ []
+  pub state : state_of t ≡ state.Active
+  pub global : global_of t ≡ None
+  pub decided : decided_of t ≡ 0
+
+-- the transaction of this number is another one then, and all others are as they were
+pub record OneBecomes (number : ℕ) (Becomes : Txn → Txn → Type 0) (old new : List Txn) : Type 0 where
   pub newer : List Txn
   pub older : List Txn
   pub before : Txn
   pub after : Txn
   pub was : old ≡ newer ++ before ∷ older
   pub is : new ≡ newer ++ after ∷ older
-  pub session : before.session ≡ who
+  pub txn : number_of before ≡ number
   pub becomes : Becomes before after
 
--- the session's transaction, with these changes, is taken out, and all others are as they were
-pub record OneLeaves (who : ℕ) (changes : List UndoEntry) (old new : List Txn) : Type 0 where
+-- the transaction of this number, with these changes, is taken out, and all others are as they were
+pub record OneLeaves (number : ℕ) (changes : List UndoEntry) (old new : List Txn) : Type 0 where
   pub newer : List Txn
   pub older : List Txn
   pub one : Txn
   pub was : old ≡ newer ++ one ∷ older
   pub is : new ≡ newer ++ older
-  pub session : one.session ≡ who
+  pub txn : number_of one ≡ number
   pub entries : changes ≡ entries_of one
 
 -- an undo list with one entry more

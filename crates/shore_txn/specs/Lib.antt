@@ -1,4 +1,5 @@
 pub mod UndoEntries
+pub mod TxnStates
 pub mod Txns
 pub mod Chains
 pub mod Places

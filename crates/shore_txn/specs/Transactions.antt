@@ -1,16 +1,16 @@
 -- What the table of transactions has.
-use Rattle.std.specs.Prelude.{◌≡◌, ◌≢◌, ◌<◌, ℕ, List, Some, reverse, slice_get, vec_capacity, vec_len}
+use Rattle.std.specs.Prelude.{◌≡◌, ◌<◌, ℕ, List, Some, map, reverse, slice_get, vec_capacity, vec_len}
 use Rattle.shore_types.specs.declared.ids.PageId.{PageId}
-use Rattle.laws_lives.specs.Sessions.{SessionTxn}
+use Rattle.laws_lives.specs.Sessions.{PreparedTxn, SessionTxn}
 use Rattle.laws_lives.specs.Views.{IsAmong}
 use Rattle.shore_txn.specs.declared.active.ActiveTxn.{ActiveTxn}
 use Rattle.shore_txn.specs.declared.log_room.LogRoom.{LogRoom}
 use Rattle.shore_txn.specs.declared.seat.Seat.{Seat}
 use Rattle.shore_txn.specs.declared.transactions.Transactions.{Transactions}
 use Rattle.shore_txn.specs.declared.txn.Txn.{Txn}
-use Rattle.shore_txn.specs.ActiveTxns.{CanNote, IsPlace, all_changes, changes_to, own_place, session_txns, sessions_of, txn_index, txns_of}
+use Rattle.shore_txn.specs.ActiveTxns.{CanNote, IsPlace, all_changes, changes_to, own_place, session_txns, txn_index, txns_of}
 use Rattle.shore_txn.specs.Chains.{bucket_of}
-use Rattle.shore_txn.specs.Txns.{HasMarkRoom}
+use Rattle.shore_txn.specs.Txns.{HasMarkRoom, IsOf, number_of, prepared_of}
 use Rattle.shore_txn.specs.UndoEntries.{claims_on}
 
 -- the transactions under way, the newest first
@@ -28,29 +28,37 @@ next_in table = table.next
 abbrev pub room_in : Transactions → LogRoom
 room_in table = table.room
 
--- no transaction of the session is under way
+-- those in doubt, the newest first
+abbrev pub prepared_in : Transactions → List PreparedTxn
+prepared_in table = prepared_of (txns_in table)
+
+-- the session is in no transaction
 abbrev pub HasNoTxnOf : ℕ → Transactions → Type 0
-HasNoTxnOf session table = (a : SessionTxn) → IsAmong a (undos_in table) → a.session ≢ session
+HasNoTxnOf session table = (t : Txn) → IsAmong t (txns_in table) → IsOf session t → ⊥
 
--- the sessions that have one, by the places of theirs: that of the oldest first
-abbrev pub sessions_in : Transactions → List ℕ
-sessions_in table = reverse (sessions_of (undos_in table))
+-- the numbers of the transactions by their places: that of the oldest first
+abbrev pub numbers_in : Transactions → List ℕ
+numbers_in table = reverse (map number_of (txns_in table))
 
--- at the seat's index is the transaction of its session
+-- at the seat's index is its transaction
 abbrev pub IsSeatIn : Seat → Transactions → Type 0
-IsSeatIn seat table = slice_get (sessions_in table) seat.index ≡ Some seat.session
+IsSeatIn seat table = slice_get (numbers_in table) seat.index ≡ Some seat.txn
+
+-- what holds of the transaction at a seat
+abbrev pub AtSeat : Seat → Transactions → (Txn → Type 0) → Type 0
+AtSeat seat table P = (t : Txn) → IsAmong t (txns_in table) → number_of t ≡ seat.txn → P t
 
 -- a transaction more needs no memory
 abbrev pub HasTxnRoom : Transactions → Type 0
 HasTxnRoom table = vec_len table.active < vec_capacity table.active
 
--- a change more of the session's transaction needs none
+-- a change more of the transaction of a number needs none
 abbrev pub HasRoomToNote : ℕ → Transactions → Type 0
-HasRoomToNote session table = (a : ActiveTxn) → IsAmong a table.active.items → a.txn.session ≡ session → CanNote a
+HasRoomToNote number table = (a : ActiveTxn) → IsAmong a table.active.items → number_of a.txn ≡ number → CanNote a
 
 -- nor does a savepoint more
 abbrev pub HasRoomToMark : ℕ → Transactions → Type 0
-HasRoomToMark session table = (a : ActiveTxn) → IsAmong a table.active.items → a.txn.session ≡ session → HasMarkRoom a.txn
+HasRoomToMark number table = (a : ActiveTxn) → IsAmong a table.active.items → number_of a.txn ≡ number → HasMarkRoom a.txn
 
 -- nothing of it is changed
 pub record IsUnchanged (old new : Transactions) : Type 0 where

@@ -1,11 +1,12 @@
 //! A transaction of the table, with the places of its changes.
-ghost use Rattle.std.specs.Prelude.{◌≡◌, ◌-◌, ◌+◌, ◌<◌, ◌≤◌, ◌++◌, ◌∷◌, [], List, IfOk, IsOk, IsSome, OnErr, OnOk, Some, get_or, length, option_to_list, slice_get, take};
-ghost use Rattle.shore_types.specs.declared.layout.TheConstants.{LAST_TXN, MAX_LOG_BYTES, MAX_RECORD_BYTES, MAX_SAVEPOINTS};
+ghost use Rattle.std.specs.Prelude.{◌≡◌, ◌-◌, ◌+◌, ◌<◌, ◌≤◌, ◌++◌, ◌∷◌, [], List, IfOk, IsOk, IsSome, OnErr, OnOk, Some, false, get_or, length, option_to_list, slice_get, take, true};
+ghost use Rattle.shore_types.specs.declared.layout.TheConstants.{ENDING_COST, LAST_TXN, MAX_LOG_BYTES, MAX_RECORD_BYTES, MAX_SAVEPOINTS};
 ghost use Rattle.shore_types.specs.Images.{image_len};
 ghost use Rattle.laws_room.specs.LogRooms.{compensation_cost};
 ghost use Rattle.shore_txn.specs.Chains.{bucket_of, newest_in, page_buckets};
 ghost use Rattle.shore_txn.specs.Places.{buckets_if};
-ghost use Rattle.shore_txn.specs.Txns.{HasMarkRoom, IsAfterChange, IsAfterSavepoint, IsAfterUndo, IsBackAt, IsDoomed, SameTxn, entries_of, marks_of};
+ghost use Rattle.shore_txn.specs.TxnStates.{is_in_doubt};
+ghost use Rattle.shore_txn.specs.Txns.{HasMarkRoom, IsAfterAnswer, IsAfterChange, IsAfterDecision, IsAfterPrepare, IsAfterSavepoint, IsAfterUndo, IsBackAt, IsDoomed, IsFoundPrepared, SameTxn, entries_of, marks_of, state_of};
 ghost use Rattle.shore_txn.specs.UndoEntries.{claims_on};
 ghost use Rattle.shore_txn.specs.declared.undo.UndoEntry.{UndoEntry};
 
@@ -13,8 +14,11 @@ use crate::chains::PageChains;
 use crate::txn::Txn;
 use crate::undo::UndoEntry;
 use shore_model::Rollback;
-use shore_types::{Lsn, PageId, SessionId, TxnId};
+use shore_types::{GlobalId, Lsn, PageId, SessionId, TxnId};
 use std::alloc::{AllocError, Global};
+
+/// The session of one that an open has found, which is in it no more.
+pub(crate) const NOBODY: SessionId = SessionId(0);
 
 /// A transaction under way. It has chains of its own from its first change on, so that a begin makes none.
 #[derive(Drop)]
@@ -27,7 +31,7 @@ pub(crate) struct ActiveTxn {
 }
 
 impl ActiveTxn {
-    ghost use Rattle.shore_txn.specs.ActiveTxns.{CanNote, IsBegun};
+    ghost use Rattle.shore_txn.specs.ActiveTxns.{CanNote, IsBegun, IsFound};
 
     /// A transaction that has logged nothing.
     pub(crate) fn new(alloc: Global, number: TxnId, session: SessionId) -> ActiveTxn
@@ -41,6 +45,17 @@ impl ActiveTxn {
         }
     }
 
+    /// A transaction that an open has found, with none of its changes yet: no session is in it.
+    pub(crate) fn found(alloc: Global, number: TxnId) -> ActiveTxn
+        requires some { 1 ≤ number }
+        requires below { number < LAST_TXN }
+        ensures { IsFound number result.txn }
+    {
+        let mut txn = Txn::new(alloc, number, NOBODY);
+        txn.unseat();
+        ActiveTxn { txn, chains: None }
+    }
+
     pub(crate) fn txn(&self) -> &Txn
         ensures { result.now ≡ self.now.txn }
     {
@@ -52,6 +67,7 @@ impl ActiveTxn {
         ensures room { OnOk result (CanNote self.new) }
         ensures idle { CanNote self.old → IsOk result }
         ensures same { SameTxn self.old.txn self.new.txn }
+        ensures reserved { self.new.txn.reserved ≡ self.old.txn.reserved }
     {
         self.make_chains(alloc)?;
         if let Some(chains) = &mut self.chains {
@@ -86,6 +102,25 @@ impl ActiveTxn {
         self.txn.note_change(entry, cost);
     }
 
+    /// A change that the log has of it, and its undo costs so much. If memory is short nothing is changed but the memory.
+    pub(crate) fn restore_change(
+        &mut self,
+        alloc: Global,
+        entry: UndoEntry,
+        cost: u64,
+    ) -> Result<(), AllocError>
+        requires short { image_len entry.before ≤ MAX_RECORD_BYTES }
+        requires cost { cost ≡ compensation_cost entry.before }
+        requires sum { self.old.txn.reserved + cost ≤ MAX_LOG_BYTES }
+        ensures noted { OnOk result (IsAfterChange self.old.txn entry self.new.txn) }
+        ensures idle { CanNote self.old → IsOk result }
+        ensures same { OnErr result (SameTxn self.old.txn self.new.txn) }
+    {
+        self.reserve_entry(alloc)?;
+        self.note_change(entry, cost);
+        Ok(())
+    }
+
     /// A savepoint more. Answers its index. If memory is short nothing has changed.
     pub(crate) fn savepoint(&mut self) -> Result<usize, AllocError>
         requires few { length (marks_of self.old.txn) < MAX_SAVEPOINTS }
@@ -100,6 +135,7 @@ impl ActiveTxn {
     /// Its newest change was put back in this rollback, and the Compensation, which costs so much, was logged under this number. Hands the change
     /// over. It takes no memory.
     pub(crate) fn note_compensation(&mut self, lsn: Lsn, rollback: Rollback, cost: u64) -> UndoEntry
+        requires free { is_in_doubt (state_of self.old.txn) ≡ false }
         requires some { 0 < length (entries_of self.old.txn) }
         requires cost { (kept : List UndoEntry) (e : UndoEntry) → entries_of self.old.txn ≡ kept ++ e ∷ [] → cost ≡ compensation_cost e.before }
         ensures { IsAfterUndo lsn rollback result self.old.txn self.new.txn }
@@ -112,6 +148,7 @@ impl ActiveTxn {
 
     /// It is back at the savepoint of this index: those behind it are gone.
     pub(crate) fn go_back(&mut self, index: usize)
+        requires free { is_in_doubt (state_of self.old.txn) ≡ false }
         ensures { IsBackAt index self.old.txn self.new.txn }
     {
         self.txn.go_back(index);
@@ -119,9 +156,45 @@ impl ActiveTxn {
 
     /// From now on it can only be rolled back, whole: its savepoints are gone. Nothing of it is put back yet.
     pub(crate) fn doom(&mut self)
+        requires free { is_in_doubt (state_of self.old.txn) ≡ false }
         ensures { IsDoomed self.old.txn self.new.txn }
     {
         self.txn.doom();
+    }
+
+    /// Its Prepare, which gives it this name, was logged under this number.
+    pub(crate) fn note_prepare(&mut self, global: GlobalId, number: Lsn)
+        requires free { is_in_doubt (state_of self.old.txn) ≡ false }
+        requires sum { self.old.txn.reserved + ENDING_COST ≤ MAX_LOG_BYTES }
+        ensures { IsAfterPrepare global number self.old.txn self.new.txn }
+    {
+        self.txn.note_prepare(global, number);
+    }
+
+    /// Its Prepare, which gives it this name, was found in the log under this number: it waits for its decision.
+    pub(crate) fn find_prepared(&mut self, global: GlobalId, number: Lsn)
+        requires free { is_in_doubt (state_of self.old.txn) ≡ false }
+        requires sum { self.old.txn.reserved + ENDING_COST ≤ MAX_LOG_BYTES }
+        ensures { IsFoundPrepared global number self.old.txn self.new.txn }
+    {
+        self.txn.note_prepare(global, number);
+        self.txn.note_answer();
+    }
+
+    /// Its prepare is answered.
+    pub(crate) fn note_answer(&mut self)
+        requires { is_in_doubt (state_of self.old.txn) ≡ true }
+        ensures { IsAfterAnswer self.old.txn self.new.txn }
+    {
+        self.txn.note_answer();
+    }
+
+    /// Its RollbackDecided was logged under this number.
+    pub(crate) fn note_rollback(&mut self, number: Lsn)
+        requires { is_in_doubt (state_of self.old.txn) ≡ true }
+        ensures { IsAfterDecision number self.old.txn self.new.txn }
+    {
+        self.txn.note_rollback(number);
     }
 
     /// The newest place of a page's bucket, 0 for none.

@@ -1,8 +1,9 @@
 //! Laws, as functions that do nothing: the transactions of a table are apart, and the claims that it tells are those of its undo lists, and bring
 //! back those of a page.
-ghost use Rattle.std.specs.Prelude.{◌≡◌, ◌<◌, ℕ, List, map};
+ghost use Rattle.std.specs.Prelude.{◌≡◌, ◌+◌, ◌*◌, ◌<◌, ℕ, List, length, map};
 ghost use Rattle.std.specs.List.{AllByRecursion};
 ghost use Rattle.shore_types.specs.declared.ids.PageId.{PageId};
+ghost use Rattle.shore_types.specs.declared.layout.TheConstants.{ENDING_COST};
 ghost use Rattle.shore_model.specs.Records.{Records};
 ghost use Rattle.shore_page.specs.Claims.{FitIn, claimed_by};
 ghost use Rattle.shore_page.specs.Slots.{Slot, settled};
@@ -12,17 +13,18 @@ ghost use Rattle.laws_room.specs.Settling.{let_go, reserved_for_all, settled_slo
 ghost use Rattle.laws_room.specs.LogRooms.{owed_by_all};
 ghost use Rattle.laws_lives.specs.Sessions.{EachOnce, SessionTxn, txns_of, without_txn};
 ghost use Rattle.laws_lives.specs.Views.{IsAmong};
-ghost use Rattle.shore_txn.specs.ActiveTxns.{sessions_of};
-ghost use Rattle.shore_txn.specs.Transactions.{kept_in, next_in, room_in, undos_in};
+ghost use Rattle.shore_txn.specs.ActiveTxns.{AreApart};
+ghost use Rattle.shore_txn.specs.Transactions.{kept_in, next_in, prepared_in, room_in, txns_in, undos_in};
 
 use crate::transactions::Transactions;
 
-/// Each transaction has a session of its own, and a number of its own below the next. What is reserved is what they owe.
+/// No session is in two transactions, and each has a number of its own below the next. What is reserved is what they owe, and for each in doubt a second
+/// ending.
 pub fn transactions_are_apart(table: &Transactions)
-    ensures sessions { EachOnce (sessions_of (undos_in table.now)) }
+    ensures sessions { AreApart (txns_in table.now) }
     ensures numbers { EachOnce (txns_of (undos_in table.now)) }
     ensures below { AllByRecursion (λ a. a.txn < next_in table.now) (undos_in table.now) }
-    ensures owed { (room_in table.now).reserved ≡ owed_by_all (undos_in table.now) }
+    ensures owed { (room_in table.now).reserved ≡ owed_by_all (undos_in table.now) + ENDING_COST * length (prepared_in table.now) }
 {}
 
 /// What a table tells of a page claims as much as a `Page::reserve` for each entry of its undo lists, in whatever order.

@@ -44,6 +44,27 @@ impl LogRoom {
         taken <= self.stream_bytes && need <= self.stream_bytes - taken
     }
 
+    /// Whether so much more leaves room for the longest frame: all that is asked for what an open has found.
+    pub fn holds(&self, cost: u64) -> bool
+        ensures { IsTrue result ↔ (self.now.kept + self.now.reserved + cost + LONGEST_FRAME ≤ self.now.stream_bytes) }
+    {
+        let taken = self.kept + self.reserved + LONGEST_FRAME;
+        taken <= self.stream_bytes && cost <= self.stream_bytes - taken
+    }
+
+    /// The room behind a record more, for which nothing was reserved. `None` if it leaves none for the longest frame.
+    pub fn with_record(&self, cost: u64) -> Option<LogRoom>
+        ensures some { IfSome result (λ room. (room.stream_bytes ≡ self.now.stream_bytes) × (room.kept ≡ self.now.kept + cost) × (room.reserved ≡ self.now.reserved)) }
+        ensures none { IsSome result ↔ (self.now.kept + self.now.reserved + cost + LONGEST_FRAME ≤ self.now.stream_bytes) }
+    {
+        if !self.holds(cost) {
+            return None;
+        }
+        let mut room = *self;
+        room.append(cost);
+        Some(room)
+    }
+
     /// Reserves room that was admitted.
     pub fn reserve(&mut self, cost: u64)
         requires { self.old.kept + self.old.reserved + cost ≤ self.old.stream_bytes }

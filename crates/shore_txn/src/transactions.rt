@@ -1,17 +1,18 @@
 //! The table of transactions of many sessions.
-ghost use Rattle.std.specs.Prelude.{◌≡◌, ◌≢◌, ◌+◌, ◌<◌, ◌≤◌, ◌↔◌, ◌∷◌, [], All, IfNone, IfOk, IfSome, IsOk, IsTrue, OnErr, OnOk, length};
+ghost use Rattle.std.specs.Prelude.{◌≡◌, ◌≢◌, ◌+◌, ◌*◌, ◌<◌, ◌≤◌, ◌↔◌, ◌∷◌, [], All, IfNone, IfOk, IfSome, IsOk, IsTrue, OnErr, OnOk, length};
 ghost use Rattle.std.proofs.Props.{props};
 ghost use Rattle.std.specs.List.{AllByRecursion, HoldsAt};
 ghost use Rattle.shore_types.specs.declared.ids.PageId.{PageId};
 ghost use Rattle.shore_types.specs.declared.layout.TheConstants.{ENDING_COST, GREATEST_CHECKPOINT, LAST_TXN, LONGEST_FRAME, MAX_RECORD_BYTES};
 ghost use Rattle.shore_types.specs.Images.{image_len};
-ghost use Rattle.laws_room.specs.LogRooms.{compensation_cost, compensation_costs, owed_by_all};
-ghost use Rattle.laws_lives.specs.Sessions.{EachOnce, SessionTxn, txns_of, with_undo, without_txn};
+ghost use Rattle.laws_room.specs.LogRooms.{compensation_cost, owed_by_all};
+ghost use Rattle.laws_lives.specs.Sessions.{EachOnce, SessionTxn, txns_of, with_undo, without_prepared, without_txn};
 ghost use Rattle.laws_lives.specs.UndoLists.{nothing_to_undo};
 ghost use Rattle.laws_lives.specs.Views.{IsAmong};
-ghost use Rattle.shore_txn.specs.ActiveTxns.{EachOnce-prop, HasMore, IsBegun, OneBecomes, OneLeaves, sessions_of, undos_of, with_entry};
-ghost use Rattle.shore_txn.specs.Txns.{IsAfterChange, SameTxn, as_session_txn, entries_of, number_of};
-ghost use Rattle.shore_txn.specs.UndoEntries.{claims_on, images_of};
+ghost use Rattle.shore_txn.specs.ActiveTxns as listed;
+ghost use Rattle.shore_txn.specs.ActiveTxns.{AreApart, EachOnce-prop, HasMore, IsBegun, OneBecomes, OneLeaves, undos_of, with_entry};
+ghost use Rattle.shore_txn.specs.Txns.{IsAfterChange, IsOf, SameTxn, as_session_txn, entries_of, number_of, prepared_of, reserved_for};
+ghost use Rattle.shore_txn.specs.UndoEntries.{claims_on};
 ghost use Rattle.shore_txn.specs.declared.txn.Txn.{Txn};
 
 use crate::active::ActiveTxn;
@@ -24,26 +25,26 @@ use shore_types::layout::{ENDING_COST, LAST_TXN};
 use shore_types::{SessionId, TxnId};
 use std::alloc::{AllocError, Global};
 
-/// The transactions under way, and the room of the log that they share with all records. A session has one at most.
+/// The transactions under way, and the room of the log that they share with all records. A session is in one at most.
 #[derive(Drop)]
 pub struct Transactions {
     /// The number of the next transaction: those under way have lower ones (`below`).
     next: u64,
-    /// The transactions under way, the oldest first: no two of a number (`numbers`) or of a session (`sessions`).
+    /// The transactions under way, the oldest first: no two of a number (`numbers`), and no session in two (`sessions`).
     pub(crate) active: Vec<ActiveTxn>,
     /// Where the transaction of a session may be among them.
     pub(crate) guesses: Guesses,
     /// The room of the log: what is reserved in it is what those under way owe (`sum`).
     pub(crate) room: LogRoom,
     ghost some: { 1 ≤ next },
-    ghost sum: { room.reserved ≡ owed_by_all (undos_of active.items) },
+    ghost sum: { room.reserved ≡ owed_by_all (undos_of active.items) + ENDING_COST * length (prepared_of (listed.txns_of active.items)) },
     ghost numbers: { EachOnce (txns_of (undos_of active.items)) } by { EachOnce-prop (txns_of (undos_of active.items)) },
-    ghost sessions: { EachOnce (sessions_of (undos_of active.items)) } by { EachOnce-prop (sessions_of (undos_of active.items)) },
+    ghost sessions: { AreApart (listed.txns_of active.items) },
     ghost below: { AllByRecursion (λ a. a.txn < next) (undos_of active.items) } by { Prim.hlevel props },
 }
 
 impl Transactions {
-    ghost use Rattle.shore_txn.specs.Transactions.{HasNoTxnOf, HasRoomToNote, HasTxnRoom, IsSeatIn, IsUnchanged, kept_in, next_in, room_in, txns_in, undos_in};
+    ghost use Rattle.shore_txn.specs.Transactions.{AtSeat, HasNoTxnOf, HasRoomToNote, HasTxnRoom, IsSeatIn, IsUnchanged, kept_in, next_in, prepared_in, room_in, txns_in, undos_in};
 
     /// A table with no transaction, whose next has this number.
     pub fn new(alloc: Global, room: LogRoom, next: u64) -> Transactions
@@ -61,13 +62,29 @@ impl Transactions {
         }
     }
 
-    /// Where the transaction under way of a session is.
+    /// Where the transaction is that a session is in.
     pub fn seat(&self, session: SessionId) -> Option<Seat>
         ensures some { IfSome result (λ seat. IsSeatIn seat self.now × (seat.session ≡ session)) }
+        ensures own { IfSome result (λ seat. AtSeat seat self.now (IsOf session)) }
         ensures none { IfNone result (HasNoTxnOf session self.now) }
     {
         let index = self.find(session)?;
-        Some(Seat { session, index })
+        Some(self.seat_at(session, index))
+    }
+
+    // The seat of a session that works on the transaction of an index.
+    pub(crate) fn seat_at(&self, session: SessionId, index: usize) -> Seat
+        requires { index < length self.now.active.items }
+        ensures seated { IsSeatIn result self.now }
+        ensures session { result.session ≡ session }
+        ensures index { result.index ≡ index }
+        ensures number { HoldsAt (λ a. number_of a.txn ≡ result.txn) self.now.active.items index }
+    {
+        Seat {
+            session,
+            txn: self.active[index].txn().id(),
+            index,
+        }
     }
 
     /// The transaction at a seat.
@@ -75,7 +92,7 @@ impl Transactions {
         requires { IsSeatIn seat.now self.now }
         ensures among { IsAmong result.now (txns_in self.now) }
         ensures there { IsAmong (as_session_txn result.now) (undos_in self.now) }
-        ensures session { result.now.session ≡ seat.now.session }
+        ensures number { number_of result.now ≡ seat.now.txn }
     {
         self.active[seat.index].txn()
     }
@@ -101,7 +118,24 @@ impl Transactions {
         self.room.admits(need)
     }
 
-    /// Begins a transaction of a session that has none, and reserves what its ending costs. If memory is short nothing has changed.
+    /// The room of the log.
+    pub fn room(&self) -> LogRoom
+        ensures { result ≡ room_in self.now }
+    {
+        self.room
+    }
+
+    /// Records were appended that no transaction of the table has logged: the room of the log is this one, in which as much is reserved.
+    pub fn set_room(&mut self, room: LogRoom)
+        requires reserved { room.reserved ≡ (room_in self.old).reserved }
+        ensures room { room_in self.new ≡ room }
+        ensures txns { txns_in self.new ≡ txns_in self.old }
+        ensures next { next_in self.new ≡ next_in self.old }
+    {
+        self.room = room;
+    }
+
+    /// Begins a transaction of a session that is in none, and reserves what its ending costs. If memory is short nothing has changed.
     pub fn begin(&mut self, alloc: Global, session: SessionId) -> Result<TxnId, AllocError>
         requires none { HasNoTxnOf session self.old }
         requires below { next_in self.old < LAST_TXN }
@@ -110,6 +144,7 @@ impl Transactions {
         ensures begun { OnOk result ((t : Txn) × (txns_in self.new ≡ t ∷ txns_in self.old) × IsBegun (next_in self.old) session t) }
         ensures undos { OnOk result (undos_in self.new ≡ record { session = session; txn = next_in self.old; undo = nothing_to_undo } ∷ undos_in self.old) }
         ensures claims { (p : PageId) → kept_in self.new p ≡ kept_in self.old p }
+        ensures doubts { prepared_in self.new ≡ prepared_in self.old }
         ensures next { OnOk result (next_in self.new ≡ next_in self.old + 1) }
         ensures reserved { OnOk result ((room_in self.new).reserved ≡ (room_in self.old).reserved + ENDING_COST) }
         ensures kept { (room_in self.new).kept ≡ (room_in self.old).kept }
@@ -127,31 +162,33 @@ impl Transactions {
         Ok(number)
     }
 
-    /// Takes the memory for a change more of a session's transaction. If that fails nothing has changed but the memory.
+    /// Takes the memory for a change more of the transaction at a seat. If that fails nothing has changed but the memory.
     pub fn reserve_entry(&mut self, alloc: Global, seat: &Seat) -> Result<(), AllocError>
         requires seated { IsSeatIn seat.now self.old }
-        ensures memory { OnOk result (HasRoomToNote seat.now.session self.new) }
-        ensures idle { HasRoomToNote seat.now.session self.old → IsOk result }
-        ensures same { OneBecomes seat.now.session SameTxn (txns_in self.old) (txns_in self.new) }
+        ensures memory { OnOk result (HasRoomToNote seat.now.txn self.new) }
+        ensures idle { HasRoomToNote seat.now.txn self.old → IsOk result }
+        ensures same { OneBecomes seat.now.txn SameTxn (txns_in self.old) (txns_in self.new) }
         ensures undos { undos_in self.new ≡ undos_in self.old }
         ensures claims { (p : PageId) → kept_in self.new p ≡ kept_in self.old p }
+        ensures doubts { prepared_in self.new ≡ prepared_in self.old }
         ensures next { next_in self.new ≡ next_in self.old }
         ensures room { room_in self.new ≡ room_in self.old }
     {
         self.active[seat.index].reserve_entry(alloc)
     }
 
-    /// A change of a session's transaction was logged. `logged` is what its record costs, and `undo` what that of its undo would.
+    /// A change of the transaction at a seat was logged. `logged` is what its record costs, and `undo` what that of its undo would.
     pub fn note_change(&mut self, seat: &Seat, entry: UndoEntry, logged: u64, undo: u64)
         requires seated { IsSeatIn seat.now self.old }
-        requires memory { HasRoomToNote seat.now.session self.old }
+        requires memory { HasRoomToNote seat.now.txn self.old }
         requires short { image_len entry.before ≤ MAX_RECORD_BYTES }
         requires cost { undo ≡ compensation_cost entry.before }
         requires room { (room_in self.old).kept + (room_in self.old).reserved + logged + undo ≤ (room_in self.old).stream_bytes }
-        ensures noted { OneBecomes seat.now.session (λ old new. IsAfterChange old entry new) (txns_in self.old) (txns_in self.new) }
-        ensures undos { (a : SessionTxn) → IsAmong a (undos_in self.old) → a.session ≡ seat.now.session → undos_in self.new ≡ with_undo a.txn (with_entry a.undo entry) (undos_in self.old) }
+        ensures noted { OneBecomes seat.now.txn (λ old new. IsAfterChange old entry new) (txns_in self.old) (txns_in self.new) }
+        ensures undos { (a : SessionTxn) → IsAmong a (undos_in self.old) → a.txn ≡ seat.now.txn → undos_in self.new ≡ with_undo a.txn (with_entry a.undo entry) (undos_in self.old) }
         ensures claimed { HasMore ((entry.id.slot, image_len entry.before) ∷ []) (kept_in self.old entry.id.page) (kept_in self.new entry.id.page) }
         ensures elsewhere { (p : PageId) → p ≢ entry.id.page → kept_in self.new p ≡ kept_in self.old p }
+        ensures doubts { prepared_in self.new ≡ prepared_in self.old }
         ensures next { next_in self.new ≡ next_in self.old }
         ensures reserved { (room_in self.new).reserved ≡ (room_in self.old).reserved + undo }
         ensures kept { (room_in self.new).kept ≡ (room_in self.old).kept + logged }
@@ -162,17 +199,18 @@ impl Transactions {
         self.room.reserve(undo);
     }
 
-    /// The Commit of a session's transaction was logged: what was reserved for it is free. Answers its number, and its changes, the oldest first,
+    /// The Commit of the transaction at a seat was logged: what was reserved for it is free. Answers its number, and its changes, the oldest first,
     /// whose claims go now.
     pub fn note_commit(&mut self, seat: &Seat) -> (TxnId, Vec<UndoEntry>)
         requires seated { IsSeatIn seat.now self.old }
-        ensures number { (a : SessionTxn) → IsAmong a (undos_in self.old) → a.session ≡ seat.now.session → result.0 ≡ a.txn }
-        ensures left { OneLeaves seat.now.session result.1.items (txns_in self.old) (txns_in self.new) }
-        ensures undos { (a : SessionTxn) → IsAmong a (undos_in self.old) → a.session ≡ seat.now.session → undos_in self.new ≡ without_txn a.txn (undos_in self.old) }
+        ensures number { result.0 ≡ seat.now.txn }
+        ensures left { OneLeaves seat.now.txn result.1.items (txns_in self.old) (txns_in self.new) }
+        ensures undos { (a : SessionTxn) → IsAmong a (undos_in self.old) → a.txn ≡ seat.now.txn → undos_in self.new ≡ without_txn a.txn (undos_in self.old) }
         ensures claims { (p : PageId) → HasMore (claims_on p result.1.items) (kept_in self.new p) (kept_in self.old p) }
+        ensures doubts { prepared_in self.new ≡ without_prepared seat.now.txn (prepared_in self.old) }
         ensures next { next_in self.new ≡ next_in self.old }
         ensures kept { (room_in self.new).kept ≡ (room_in self.old).kept + ENDING_COST }
-        ensures reserved { (room_in self.new).reserved + ENDING_COST + compensation_costs (images_of result.1.items) ≡ (room_in self.old).reserved }
+        ensures reserved { AtSeat seat.now self.old (λ t. (room_in self.new).reserved + reserved_for t ≡ (room_in self.old).reserved) }
         ensures stream { (room_in self.new).stream_bytes ≡ (room_in self.old).stream_bytes }
     {
         let decided = self.take_out(seat);
@@ -180,13 +218,14 @@ impl Transactions {
         (decided.txn().id(), decided.into_undo())
     }
 
-    // Takes a session's transaction out: what was reserved for it is free.
+    // Takes the transaction at a seat out: what was reserved for it is free.
     pub(crate) fn take_out(&mut self, seat: &Seat) -> ActiveTxn
         requires seated { IsSeatIn seat.now self.old }
-        ensures number { (a : SessionTxn) → IsAmong a (undos_in self.old) → a.session ≡ seat.now.session → number_of result.txn ≡ a.txn }
-        ensures left { OneLeaves seat.now.session (entries_of result.txn) (txns_in self.old) (txns_in self.new) }
+        ensures among { IsAmong result.txn (txns_in self.old) }
+        ensures number { number_of result.txn ≡ seat.now.txn }
+        ensures left { OneLeaves seat.now.txn (entries_of result.txn) (txns_in self.old) (txns_in self.new) }
         ensures next { next_in self.new ≡ next_in self.old }
-        ensures reserved { (room_in self.new).reserved + ENDING_COST + compensation_costs (images_of (entries_of result.txn)) ≡ (room_in self.old).reserved }
+        ensures reserved { (room_in self.new).reserved + reserved_for result.txn ≡ (room_in self.old).reserved }
         ensures kept { (room_in self.new).kept ≡ (room_in self.old).kept }
         ensures stream { (room_in self.new).stream_bytes ≡ (room_in self.old).stream_bytes }
     {
@@ -196,19 +235,19 @@ impl Transactions {
         one
     }
 
-    // Where a session's transaction is.
+    // Where the transaction is that a session is in.
     fn find(&self, session: SessionId) -> Option<usize>
-        ensures some { IfSome result (λ index. (index < length self.now.active.items) × HoldsAt (λ a. a.txn.session ≡ session) self.now.active.items index) }
-        ensures none { IfNone result (All (λ a. a.txn.session ≢ session) self.now.active.items) }
+        ensures some { IfSome result (λ index. (index < length self.now.active.items) × HoldsAt (λ a. IsOf session a.txn) self.now.active.items index) }
+        ensures none { IfNone result (All (λ a. IsOf session a.txn → ⊥) self.now.active.items) }
     {
         let guess = self.guesses.of(session);
         if let Some(active) = self.active.get(guess)
-            && active.txn().session() == session
+            && active.txn().is_of(session)
         {
             return Some(guess);
         }
         self.active
             .iter()
-            .position(|active| active.txn().session() == session)
+            .position(|active| active.txn().is_of(session))
     }
 }

@@ -1,9 +1,14 @@
 //! A transaction under way.
-ghost use Rattle.std.specs.Prelude.{◌≡◌, ◌+◌, ◌<◌, ◌≤◌, ◌++◌, ◌∷◌, [], List, IfNone, IfOk, IfSome, IsOk, OnErr, OnOk, Some, length, option_to_list, slice_get};
+ghost use Rattle.std.specs.Prelude.{◌≡◌, ◌↔◌, ◌+◌, ◌<◌, ◌≤◌, ◌++◌, ◌∷◌, [], List, IfNone, IfOk, IfSome, IsOk, IsTrue, MatchOption, None, OnErr, OnOk, Some, false, is_some, length, option_to_list, slice_get, true};
 ghost use Rattle.shore_types.specs.declared.layout.TheConstants.{ENDING_COST, LAST_TXN, MAX_LOG_BYTES, MAX_RECORD_BYTES, MAX_SAVEPOINTS};
 ghost use Rattle.shore_types.specs.Images.{image_len};
 ghost use Rattle.laws_room.specs.LogRooms.{compensation_cost, compensation_costs};
+ghost use Rattle.std.specs.Option.{option_map};
+ghost use Rattle.shore_model.specs.declared.rollbacks.Rollback.TheVariants.{Whole};
+ghost use Rattle.laws_lives.specs.Sessions.{PreparedTxn};
 ghost use Rattle.laws_lives.specs.UndoLists.{marks_kept};
+ghost use Rattle.shore_txn.specs.TxnStates as states;
+ghost use Rattle.shore_txn.specs.TxnStates.{second_ending};
 ghost use Rattle.shore_txn.specs.UndoEntries.{AreShort, claims_on, images_of, number_behind};
 ghost use Rattle.shore_txn.specs.declared.txn_state.TxnState.TheVariants as state;
 ghost use Rattle.shore_txn.specs.declared.undo.UndoEntry.{UndoEntry};
@@ -12,7 +17,7 @@ use crate::txn_state::TxnState;
 use crate::undo::UndoEntry;
 use shore_model::Rollback;
 use shore_types::layout::ENDING_COST;
-use shore_types::{Lsn, PageId, SessionId, TxnId};
+use shore_types::{GlobalId, Lsn, PageId, SessionId, TxnId};
 use smallvec::SmallVec;
 use std::alloc::{AllocError, Global};
 
@@ -24,8 +29,10 @@ type Marks = SmallVec<usize, 4>;
 pub struct Txn {
     /// Its number.
     txn: TxnId,
-    /// The session that began it.
+    /// The session that began it, 0 for one that an open has found in doubt.
     session: SessionId,
+    /// Whether that session is in it: not once a resolve has decided that it is rolled back, nor if an open has found it.
+    is_seated: bool,
     /// The number of its last record, 0 if it has logged none.
     last: Lsn,
     /// Its changes that are not undone, the oldest first.
@@ -34,17 +41,23 @@ pub struct Txn {
     marks: Marks,
     /// What it may do.
     state: TxnState,
-    /// What is reserved for its ending and for the undo of its changes (`owed`): each change adds to it, and each undo takes from it.
+    /// The name that its coordinator gave it, from its Prepare on.
+    global: Option<GlobalId>,
+    /// The number of its RollbackDecided, 0 if it has none.
+    decided: Lsn,
+    /// What is reserved for its ending and for the undo of its changes (`owed`): each change adds to it, and each undo takes from it. While it is in doubt
+    /// it has the cost of a second ending, that of a RollbackDecided.
     reserved: u64,
     ghost some: { 1 ≤ txn },
     ghost below: { txn < LAST_TXN },
-    ghost owed: { reserved ≡ ENDING_COST + compensation_costs (images_of undo.items) },
+    ghost owed: { reserved ≡ ENDING_COST + compensation_costs (images_of undo.items) + second_ending state },
+    ghost named: { states.is_in_doubt state ≡ true → is_some global ≡ true },
     ghost short: { AreShort undo.items },
     ghost few: { length marks.items ≤ MAX_SAVEPOINTS },
 }
 
 impl Txn {
-    ghost use Rattle.shore_txn.specs.Txns.{HasEntryRoom, HasMarkRoom, IsAfterChange, IsAfterSavepoint, IsAfterUndo, IsBackAt, IsDoomed, SameTxn, entries_of, last_of, marks_of, number_of, state_of};
+    ghost use Rattle.shore_txn.specs.Txns.{HasEntryRoom, HasMarkRoom, IsAfterAnswer, IsAfterChange, IsAfterDecision, IsAfterPrepare, IsAfterSavepoint, IsAfterUndo, IsBackAt, IsDoomed, IsFoundPrepared, IsOf, SameTxn, as_prepared, decided_of, entries_of, global_of, last_of, marks_of, number_of, reserved_for, state_of};
 
     /// A transaction that has logged nothing.
     pub fn new(alloc: Global, txn: TxnId, session: SessionId) -> Txn
@@ -52,19 +65,25 @@ impl Txn {
         requires below { txn < LAST_TXN }
         ensures txn { number_of result ≡ txn }
         ensures session { result.session ≡ session }
+        ensures seated { result.is_seated ≡ true }
         ensures last { last_of result ≡ 0 }
         ensures nothing { entries_of result ≡ [] }
         ensures marks { marks_of result ≡ [] }
         ensures state { state_of result ≡ state.Active }
+        ensures global { global_of result ≡ None }
+        ensures decided { decided_of result ≡ 0 }
         ensures reserved { result.reserved ≡ ENDING_COST }
     {
         Txn {
             txn,
             session,
+            is_seated: true,
             last: Lsn(0),
             undo: Vec::new(alloc),
             marks: SmallVec::new(alloc),
             state: TxnState::Active,
+            global: None,
+            decided: Lsn(0),
             reserved: ENDING_COST,
         }
     }
@@ -91,10 +110,10 @@ impl Txn {
         self.last
     }
 
-    /// What is reserved for its ending and its undo, in bytes of the log.
+    /// What is reserved for its endings and its undo, in bytes of the log.
     pub fn reserved(&self) -> u64
         ensures is { result ≡ self.now.reserved }
-        ensures sum { result ≡ ENDING_COST + compensation_costs (images_of (entries_of self.now)) }
+        ensures sum { result ≡ reserved_for self.now }
     {
         self.reserved
     }
@@ -201,6 +220,7 @@ impl Txn {
     /// Its newest change was put back in this rollback, and the Compensation, which costs so much, was logged under this number. Hands the change
     /// over. It takes no memory.
     pub fn note_compensation(&mut self, lsn: Lsn, rollback: Rollback, cost: u64) -> UndoEntry
+        requires free { states.is_in_doubt (state_of self.old) ≡ false }
         requires some { 0 < length (entries_of self.old) }
         requires cost { (kept : List UndoEntry) (e : UndoEntry) → entries_of self.old ≡ kept ++ e ∷ [] → cost ≡ compensation_cost e.before }
         ensures undone { IsAfterUndo lsn rollback result self.old self.new }
@@ -216,6 +236,7 @@ impl Txn {
 
     /// It is back at the savepoint of this index: those behind it are gone.
     pub fn go_back(&mut self, index: usize)
+        requires free { states.is_in_doubt (state_of self.old) ≡ false }
         ensures back { IsBackAt index self.old self.new }
         ensures reserved { self.new.reserved ≡ self.old.reserved }
     {
@@ -225,10 +246,103 @@ impl Txn {
 
     /// From now on it can only be rolled back, whole: its savepoints are gone. Nothing of it is put back yet.
     pub fn doom(&mut self)
+        requires { states.is_in_doubt (state_of self.old) ≡ false }
         ensures { IsDoomed self.old self.new }
     {
-        keep_marks(&mut self.marks, Rollback::Whole);
-        self.state = TxnState::RollingBack(Rollback::Whole);
+        self.state = doomed(&mut self.marks);
+    }
+
+    /// The name that its coordinator gave it.
+    pub fn global(&self) -> Option<&GlobalId>
+        ensures { MatchOption result (global_of self.now ≡ None) (λ name. global_of self.now ≡ Some name.now) }
+    {
+        self.global.as_ref()
+    }
+
+    /// Whether a session is in it.
+    pub fn is_of(&self, session: SessionId) -> bool
+        ensures { IsTrue result ↔ IsOf session self.now }
+    {
+        self.is_seated && self.session == session
+    }
+
+    /// The log has it, and no session is in it.
+    pub(crate) fn unseat(&mut self)
+        ensures { self.new ≡ record self.old { is_seated = false } }
+    {
+        self.is_seated = false;
+    }
+
+    /// Whether its coordinator gave it this name.
+    pub fn has_global(&self, global: &GlobalId) -> bool
+        ensures { IsTrue result ↔ (global_of self.now ≡ Some global.now) }
+    {
+        match &self.global {
+            Some(own) => *own == *global,
+            None => false,
+        }
+    }
+
+    /// Whether it has a Prepare, and no decision.
+    pub fn is_in_doubt(&self) -> bool
+        ensures { result ≡ states.is_in_doubt (state_of self.now) }
+    {
+        matches!(self.state, TxnState::Preparing | TxnState::Prepared)
+    }
+
+    /// Its name and its number, if it is in doubt.
+    pub fn doubt(&self, alloc: Global) -> Result<Option<(GlobalId, TxnId)>, AllocError>
+        ensures { IfOk result (λ found. found ≡ option_map (λ (p : PreparedTxn). (p.global, p.txn)) (as_prepared self.now)) }
+    {
+        if !self.is_in_doubt() {
+            return Ok(None);
+        }
+        let Some(global) = &self.global else {
+            return Ok(None);
+        };
+        Ok(Some((global.try_clone(alloc)?, self.txn)))
+    }
+
+    /// The number of its RollbackDecided, 0 if it has none.
+    pub fn decided(&self) -> Lsn
+        ensures { result ≡ decided_of self.now }
+    {
+        self.decided
+    }
+
+    /// Its Prepare, which gives it this name, was logged under this number.
+    pub fn note_prepare(&mut self, global: GlobalId, number: Lsn)
+        requires free { states.is_in_doubt (state_of self.old) ≡ false }
+        requires sum { self.old.reserved + ENDING_COST ≤ MAX_LOG_BYTES }
+        ensures noted { IsAfterPrepare global number self.old self.new }
+        ensures reserved { self.new.reserved ≡ self.old.reserved + ENDING_COST }
+    {
+        self.global = Some(global);
+        self.state = TxnState::Preparing;
+        self.reserved += ENDING_COST;
+        self.last = number;
+    }
+
+    /// Its prepare is answered: from now on it can be resolved.
+    pub fn note_answer(&mut self)
+        requires { states.is_in_doubt (state_of self.old) ≡ true }
+        ensures answered { IsAfterAnswer self.old self.new }
+        ensures reserved { self.new.reserved ≡ self.old.reserved }
+    {
+        self.state = TxnState::Prepared;
+    }
+
+    /// Its RollbackDecided was logged under this number, which was reserved for: it can only be rolled back, and no session is in it.
+    pub fn note_rollback(&mut self, number: Lsn)
+        requires { states.is_in_doubt (state_of self.old) ≡ true }
+        ensures decided { IsAfterDecision number self.old self.new }
+        ensures reserved { self.new.reserved + ENDING_COST ≡ self.old.reserved }
+    {
+        self.unseat();
+        self.state = doomed(&mut self.marks);
+        self.reserved -= ENDING_COST;
+        self.decided = number;
+        self.last = number;
     }
 
     /// Its changes, the oldest first, once it is decided.
@@ -237,6 +351,15 @@ impl Txn {
     {
         self.undo
     }
+}
+
+// What may be done from now on is a whole rollback: no savepoint is left.
+fn doomed(marks: &mut Marks) -> TxnState
+    ensures marks { marks.new.items ≡ [] }
+    ensures state { result ≡ state.RollingBack Whole }
+{
+    keep_marks(marks, Rollback::Whole);
+    TxnState::RollingBack(Rollback::Whole)
 }
 
 // The marks of the savepoints that a rollback keeps stay.

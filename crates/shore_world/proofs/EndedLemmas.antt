@@ -1,6 +1,6 @@
 -- What a process leaves that ends with no loss of power is among what a loss of power could have left.
 use Rattle.std.proofs.Common.{◌≡◌, ◌≤◌, inl, inr, ℕ, List, [], ◌∷◌, ◌++◌, sym, ◌∙◌, ap, subst, arith, length, length-append}
-use Rattle.shore_disk.specs.Device.{Call, History, IsLater, LeftAfter, LeftSince, Torn, left_since, may_leave, moment, noted, size, wrote}
+use Rattle.shore_disk.specs.Device.{Call, DeviceHistory, IsLater, LeftAfter, LeftSince, Torn, left_since, may_leave, moment, noted, size, wrote}
 use Rattle.shore_disk.specs.declared.device.Disk.{Ghosts}
 use Rattle.laws_images.specs.Moments.{IsLostAlong, Moment}
 use Rattle.laws_images.specs.StandsFor.{begun_on}
@@ -18,36 +18,36 @@ left_on first [] calls t c le left = now_since first calls t c left
 left_on first (call ∷ more) calls t c le left = inr (omega (arith, le, length-append more calls), left_on first more calls t c le left)
 
 -- what is left at some moment is left since an earlier one
-left_later : (t : ℕ) (mid new : History) → t ≤ moment mid → IsLater mid new → (c : List ℕ) → may_leave mid c → left_since new t c
-left_later t mid new le later c left = subst (λ (h : History). left_since h t c) (sym later.1) (left_on mid.first later.0 mid.calls t c le left)
+left_later : (t : ℕ) (mid new : DeviceHistory) → t ≤ moment mid → IsLater mid new → (c : List ℕ) → may_leave mid c → left_since new t c
+left_later t mid new le later c left = subst (λ (h : DeviceHistory). left_since h t c) (sym later.1) (left_on mid.first later.0 mid.calls t c le left)
 
-no_earlier : (old new : History) → IsLater old new → moment old ≤ moment new
-no_earlier old new later = omega (arith, ap (λ (h : History). length h.calls) later.1, length-append later.0 old.calls)
+no_earlier : (old new : DeviceHistory) → IsLater old new → moment old ≤ moment new
+no_earlier old new later = omega (arith, ap (λ (h : DeviceHistory). length h.calls) later.1, length-append later.0 old.calls)
 
-ended_left : (old new now : History) → IsEndedBetween old new now → (c : List ℕ) → may_leave now c → left_since new (moment old) c
+ended_left : (old new now : DeviceHistory) → IsEndedBetween old new now → (c : List ℕ) → may_leave now c → left_since new (moment old) c
 ended_left old new now (inl (since, on)) c left = left_later (moment old) now new (no_earlier old now since) on c left
 ended_left old new now (inr (before, at, bytes, torn, since, on, long, is)) c left =
     let earlier = no_earlier old before since in
-    let of_torn : may_leave (noted before (wrote at torn)) c = subst (λ (h : History). may_leave h c) is left in
+    let of_torn : may_leave (noted before (wrote at torn)) c = subst (λ (h : DeviceHistory). may_leave h c) is left in
     left_later (moment old) (noted before (wrote at bytes)) new (omega (arith, earlier)) on c (of_torn.0, of_torn.1, subst (λ n. Torn at n of_torn.0 c) long of_torn.2)
 
-as_long : (old new : History) → IsLater old new → size new ≡ size old
+as_long : (old new : DeviceHistory) → IsLater old new → size new ≡ size old
 as_long old new later = ap size later.1
 
-ended_long : (old new now : History) → IsEndedBetween old new now → size now ≡ size old
+ended_long : (old new now : DeviceHistory) → IsEndedBetween old new now → size now ≡ size old
 ended_long old new now (inl (since, on)) = as_long old now since
 ended_long old new now (inr (before, at, bytes, torn, since, on, long, is)) = ap size is ∙ as_long old before since
 
 -- ---- both
 
-module _ {L V : Type 0} {G : Ghosts L} {H : Ghosts V} (w : World L V G H) (log volume : History) where
+module _ {L V : Type 0} {G : Ghosts L} {H : Ghosts V} (w : World L V G H) (log volume : DeviceHistory) where
   ended_sizes : AreEnded w log volume → (size log ≡ size (history_in w)) × (size volume ≡ size (volume_history_in w))
   ended_sizes (inl now) = (ap size now.0, ap size now.1)
   ended_sizes (inr (inl (e, step, later, one, ended))) = (ended_long (history_in w) (history_in later) log ended.0, ended_long (volume_history_in w) (volume_history_in later) volume ended.1)
   ended_sizes (inr (inr (later, how, ended))) = (ended_long (history_in w) (history_in later) log ended.0, ended_long (volume_history_in w) (volume_history_in later) volume ended.1)
 
   ended_leaves : AreEnded w log volume → (c d : List ℕ) → may_leave log c → may_leave volume d → AreLeft w c d
-  ended_leaves (inl now) c d of_log of_volume = inl (subst (λ (h : History). may_leave h c) now.0 of_log, subst (λ (h : History). may_leave h d) now.1 of_volume)
+  ended_leaves (inl now) c d of_log of_volume = inl (subst (λ (h : DeviceHistory). may_leave h c) now.0 of_log, subst (λ (h : DeviceHistory). may_leave h d) now.1 of_volume)
   ended_leaves (inr (inl (e, step, later, one, ended))) c d of_log of_volume = inr (inl (
     e,
     step,
@@ -66,7 +66,7 @@ module _ {L V : Type 0} {G : Ghosts L} {H : Ghosts V} (w : World L V G H) (log v
 
 -- ---- an open
 
-ended_along : (first : Moment) (moments : List Moment) (log volume : History) → IsEndedAlong first moments log volume → (c d : List ℕ) → may_leave log c → may_leave volume d
+ended_along : (first : Moment) (moments : List Moment) (log volume : DeviceHistory) → IsEndedAlong first moments log volume → (c d : List ℕ) → may_leave log c → may_leave volume d
     → IsLostAlong first moments c d
 ended_along first [] log volume ended c d of_log of_volume =
     (ended_left first.log first.log log ended.0 c of_log, ended_left first.volume first.volume volume ended.1 d of_volume)
@@ -74,7 +74,7 @@ ended_along first (next ∷ later) log volume (inl here) c d of_log of_volume =
     inl (ended_left first.log next.log log here.0 c of_log, ended_left first.volume next.volume volume here.1 d of_volume)
 ended_along first (next ∷ later) log volume (inr on) c d of_log of_volume = inr (ended_along next later log volume on c d of_log of_volume)
 
-pub ended_in_open : (log volume log_now volume_now : History) → AreEndedInOpen log volume log_now volume_now → (c d : List ℕ) → may_leave log_now c → may_leave volume_now d
+pub ended_in_open : (log volume log_now volume_now : DeviceHistory) → AreEndedInOpen log volume log_now volume_now → (c d : List ℕ) → may_leave log_now c → may_leave volume_now d
     → LeftByOpen log volume c d
 ended_in_open log volume log_now volume_now ended c d of_log of_volume g rs pages stood = elim (ended g rs pages stood) [
   | inl (log_later, volume_later, log_before, volume_before, log_ended, volume_ended) ↦

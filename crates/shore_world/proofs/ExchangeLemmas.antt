@@ -1,5 +1,5 @@
 -- The calls and answers in a manager's history are those of its events.
-use Rattle.std.proofs.Common.{◌≡◌, ◌≢◌, ◌⊎◌, inl, inr, ⊎_elim, ℕ, List, [], ◌∷◌, ◌++◌, Bool, true, false, cond, Option, None, Some, refl, sym, ◌∙◌, ap, subst, append-nil}
+use Rattle.std.proofs.Common.{◌≡◌, ◌≢◌, ◌⊎◌, inl, inr, ⊎_elim, ℕ, List, [], ◌∷◌, ◌++◌, Bool, true, false, cond, Option, None, Some, Err, length, map, refl, sym, ◌∙◌, ap, subst, append-nil}
 use Rattle.std.specs.Prelude.{◌==◌}
 use Rattle.std.specs.List.{cons_option}
 use Rattle.std.proofs.lemmas.Bool.{eq-eqb, eqb-false, eqb-true, ne_eqb}
@@ -10,9 +10,10 @@ use Rattle.shore_disk.specs.declared.device.Disk.{Ghosts}
 use Rattle.shore_model.specs.declared.calls.Answer.{Answer}
 use Rattle.shore_model.specs.declared.calls.Answer.TheVariants as answer
 use Rattle.shore_model.specs.declared.calls.Call.{Call}
-use Rattle.shore_model.specs.declared.calls.Call.TheVariants as call
 use Rattle.shore_model.specs.declared.calls.Exchange.{Exchange}
+use Rattle.shore_model.specs.declared.histories.Decision.{Decision}
 use Rattle.shore_model.specs.declared.histories.Entry.{Entry}
+use Rattle.shore_model.specs.declared.histories.Entry.TheVariants.{Decided, Exchanged}
 use Rattle.shore_model.specs.declared.histories.Opening.{Opening}
 use Rattle.shore_model.specs.declared.log_records.LogRecord.{LogRecord}
 use Rattle.shore_model.specs.declared.step.Step.{Step}
@@ -21,12 +22,15 @@ use Rattle.shore_model.specs.declared.step.Wait.{Wait}
 use Rattle.shore_model.specs.declared.step.Wait.TheVariants.{Durable, Lock}
 use Rattle.shore_types.specs.declared.locking.Granule.{Granule}
 use Rattle.shore_cycles.specs.declared.victims.Victim.{Victim}
+use Rattle.laws_lives.specs.LogPrefixes.{decisions_in}
+use Rattle.laws_lives.specs.SessionSteps.{exchange}
 use Rattle.laws_lives.specs.Views.{IsAmong}
 use Rattle.laws_calls.proofs.LockWaits.{MayWait, call_waits_have, resume_waits_have}
 use Rattle.laws_calls.proofs.SettledEnds.{idle_in, settled_call_ends}
+use Rattle.laws_calls.specs.CallHistories.{txn_of}
 use Rattle.laws_calls.specs.CallSteps.{CallStep, ResumeStep}
 use Rattle.laws_calls.specs.Events.{Called, Forced, HasFailed, IsStateAfter, ManagerEvent, Resumed, EventMoves, call_waiting, entries_of, entries_of_resume, entries_of_waiting}
-use Rattle.laws_calls.specs.LockedStates.{entries_decided, entries_of_call, entries_of_resumed}
+use Rattle.laws_calls.specs.LockedStates.{decisions_made, entries_of_call, entries_of_resumed}
 use Rattle.laws_calls.specs.Settling.{SettledCall, SettledResume, Settles}
 use Rattle.laws_calls.specs.States.{DoesNotWait, State, Waiting}
 use Rattle.laws_runs.proofs.UnderWay.{step_under_way}
@@ -175,7 +179,7 @@ end_last ws s session c idle k w there = sym (last_there ws session w.session c 
 may_begin : (g : Geometry) (ws : Waited) (session : ℕ) (c : Call) → MayWait g (IsLastOf ((session, c) ∷ ws)) session c
 may_begin g ws session c = record {
   locks = λ at may. last_here ws session c;
-  commits = λ n is. last_here ws session c;
+  records = λ n. last_here ws session c;
 }
 
 -- a call of a session that waits changes nothing
@@ -231,11 +235,22 @@ waits_so session (x ∷ ws) w some = test (x.session == session) refl some (wait
 
 -- ---- one event
 
--- a decision is no answer
-decides_alone : (s : State) (session : ℕ) (c : Call) → exchanges_in (entries_decided s session c) ≡ []
-decides_alone s session call.Commit = refl
-decides_alone s session (call.Prepare global) = refl
-decides_alone s session _ = refl
+pub exchanges-append : (one two : List Entry) → exchanges_in (one ++ two) ≡ exchanges_in one ++ exchanges_in two
+exchanges-append [] two = refl
+exchanges-append (e ∷ one) two = by (exchange_in e) (exchanges-append one two)
+  where
+    by : (o : Option (ℕ × Exchange)) → exchanges_in (one ++ two) ≡ exchanges_in one ++ exchanges_in two
+        → cons_option o (exchanges_in (one ++ two)) ≡ cons_option o (exchanges_in one) ++ exchanges_in two
+    by None rest = rest
+    by (Some x) rest = ap (λ (l : Told). x ∷ l) rest
+
+-- decisions are no answers
+none_told : (ds : List Decision) → exchanges_in (map Decided ds) ≡ []
+none_told [] = refl
+none_told (d ∷ ds) = none_told ds
+
+decides_alone : (s new : State) → exchanges_in (decisions_made s new) ≡ []
+decides_alone s new = none_told (decisions_in (length s.log) new.log)
 
 module _ (g : Geometry) (o : Opening) (found : List LogRecord) (es : List Entry) (s : State) (k : IsStateAfter o found es s) (ws : Waited) (last : AreLast ws s) where
   begun : (session : ℕ) (c : Call) (step : Step) (new : State) → DoesNotWait s session → SettledCall g s session c step new → AreLast ((session, c) ∷ ws) new
@@ -264,12 +279,14 @@ module _ (g : Geometry) (o : Opening) (found : List LogRecord) (es : List Entry)
   event_last HasFailed new h = subst (AreLast ws) (sym h) last
 
   -- what it adds to the history tells what it told
-  call_told : (session : ℕ) (c : Call) (step : Step) → exchanges_in (entries_of_call s session c step) ≡ told_of session c step
-  call_told session c (Done answer) = refl
-  call_told session c (Refused f) = refl
-  call_told session c (Waits (Durable n)) = decides_alone s session c
-  call_told session c (Waits (Lock at)) = refl
-  call_told session c Nothing = refl
+  call_told : (session : ℕ) (c : Call) (step : Step) (new : State) → exchanges_in (entries_of_call s session c step new) ≡ told_of session c step
+  call_told session c (Done answer) new = refl
+  call_told session c (Refused f) new =
+      let told = Exchanged session (txn_of new.sessions session) (exchange c (Err f)) ∷ [] in
+      exchanges-append (decisions_made s new) told ∙ ap (λ (l : Told). l ++ exchanges_in told) (decides_alone s new)
+  call_told session c (Waits (Durable n)) new = decides_alone s new
+  call_told session c (Waits (Lock at)) new = refl
+  call_told session c Nothing new = refl
 
   resumed_told : (w : Waiting) (step : Step) → exchanges_in (entries_of_resumed s w step) ≡ told_of w.session w.call step
   resumed_told w (Done answer) = refl
@@ -306,22 +323,13 @@ module _ (g : Geometry) (o : Opening) (found : List LogRecord) (es : List Entry)
           let which : last_waited session ws ≡ Some w.call = ap (λ n. last_waited n ws) (sym is.1) ∙ last w is.0 in
           resumed_told w step ∙ ap (λ n. told_of n w.call step) is.1 ∙ ap (λ (o : Option Call). told_of_waiting session o step) (sym which)
 
-  pub event_told : (e : ManagerEvent) (new : State) → EventMoves g s e new → exchanges_in (entries_of s e) ≡ told_by_move ws e
-  event_told (Called session c step) new h = call_told session c step
+  pub event_told : (e : ManagerEvent) (new : State) → EventMoves g s e new → exchanges_in (entries_of s e new) ≡ told_by_move ws e
+  event_told (Called session c step) new h = call_told session c step new
   event_told (Resumed session step) new h = resume_told session step new h
   event_told (Forced n) new h = refl
   event_told HasFailed new h = refl
 
 -- ---- any number of them
-
-pub exchanges-append : (one two : List Entry) → exchanges_in (one ++ two) ≡ exchanges_in one ++ exchanges_in two
-exchanges-append [] two = refl
-exchanges-append (e ∷ one) two = by (exchange_in e) (exchanges-append one two)
-  where
-    by : (o : Option (ℕ × Exchange)) → exchanges_in (one ++ two) ≡ exchanges_in one ++ exchanges_in two
-        → cons_option o (exchanges_in (one ++ two)) ≡ cons_option o (exchanges_in one) ++ exchanges_in two
-    by None rest = rest
-    by (Some x) rest = ap (λ (l : Told). x ∷ l) rest
 
 -- what the events of a manager tell, and the calls that wait behind them
 pub record HasTold (ws : Waited) (moves : List ManagerEvent) (last : State) (made : List Entry) : Type 0 where
@@ -335,9 +343,9 @@ module _ (g : Geometry) (stream_bytes : ℕ) (o : Opening) (found : List LogReco
   have_told es ws m k are (Manage e works ∷ events) last made h =
       let new = h.0 in
       let next = step_under_way g stream_bytes o found es m (Manage e works) new k h.2 in
-      let rest = have_told (es ++ entries_of m.state e) (waited_behind_move ws e) new next (event_last g o found es m.state k.state ws are e new.state h.2.0) events last h.1 h.3 in
+      let rest = have_told (es ++ entries_of m.state e new.state) (waited_behind_move ws e) new next (event_last g o found es m.state k.state ws are e new.state h.2.0) events last h.1 h.3 in
       record {
-        told = ap exchanges_in h.4 ∙ exchanges-append (entries_of m.state e) h.1
+        told = ap exchanges_in h.4 ∙ exchanges-append (entries_of m.state e new.state) h.1
             ∙ ap (λ (l : Told). l ++ exchanges_in h.1) (event_told g o found es m.state k.state ws are e new.state h.2.0) ∙ ap (λ (l : Told). told_by_move ws e ++ l) rest.told;
         waits = rest.waits;
       }

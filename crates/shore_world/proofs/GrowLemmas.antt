@@ -2,7 +2,7 @@
 use Rattle.std.proofs.Common.{◌≡◌, ◌⊎◌, inl, inr, ⊎_elim, List, [], ◌∷◌, ◌++◌, ℕ, false, true, refl, sym, ap, subst, ◌∙◌}
 use Rattle.shore_types.specs.declared.layout.Geometry.{Geometry}
 use Rattle.shore_types.specs.declared.locking.Granule.{Granule}
-use Rattle.shore_model.specs.declared.calls.Answer.TheVariants.{Committed, Prepared}
+use Rattle.shore_model.specs.declared.calls.Answer.TheVariants.{Committed, Prepared, Resolved}
 use Rattle.shore_disk.specs.declared.device.Disk.{Ghosts}
 use Rattle.shore_model.specs.declared.calls.Answer.{Answer}
 use Rattle.shore_model.specs.declared.calls.Call.{Call}
@@ -16,7 +16,7 @@ use Rattle.shore_model.specs.declared.step.Wait.TheVariants.{Durable, Lock}
 use Rattle.laws_calls.proofs.AfterRefusals.{goes_leaves}
 use Rattle.laws_calls.proofs.LongerLogs.{further_on, settled_call_further, settled_resume_further}
 use Rattle.laws_calls.proofs.LockRounds.{same_failed}
-use Rattle.laws_calls.proofs.SessionInversions.{answered_from, waits_in}
+use Rattle.laws_calls.proofs.SessionInversions.{answered_from, waits_running}
 use Rattle.laws_calls.specs.StateChanges.{wait_refused, with_failure}
 use Rattle.laws_calls.specs.CallSteps.{AnswersBehind, CallGoesOn, ResumesWait, CallStep, ResumeStep, behind_lock}
 use Rattle.laws_calls.specs.Settling.{SettledCall, SettledResume, Settles, WaitsOn}
@@ -127,7 +127,7 @@ once_stays g s session c step new (inr (inr (inr (inr (inr (inr (inr outside))))
 
 -- a call that begins to wait for a lock runs
 once_runs : (g : Geometry) (s : State) (session : ℕ) (c : Call) (at : Granule) (new : State) → CallStep g s session c (Waits (Lock at)) new → s.failed ≡ false
-once_runs g s session c at new h = (waits_in g s new session c (Lock at) h).running
+once_runs g s session c at new h = (waits_running g s new session c (Lock at) h).0
 
 pub failed_call_stays : (g : Geometry) (s : State) (session : ℕ) (c : Call) (step : Step) (new : State) → SettledCall g s session c step new → s.failed ≡ true → new ≡ s
 failed_call_stays g s session c step new h fails = by h.rounds h.settles
@@ -140,7 +140,8 @@ failed_call_stays g s session c step new h fails = by h.rounds h.settles
 wait_keeps : (g : Geometry) (s : State) (w : Waiting) (wait : Wait) (step : Step) (new : State) → s.failed ≡ false → ResumesWait g s w wait step new → new.failed ≡ true → HasSameLog s new
 wait_keeps g s w (Durable n) step new running (inl still) failed = same_log_of s new s still.2 (refl, refl)
 wait_keeps g s w (Durable n) step new running (inr (inl answered)) failed = runs_on s new _ running answered.2.3 refl failed
-wait_keeps g s w (Durable n) step new running (inr (inr prepared)) failed = runs_on s new _ running prepared.2.4 refl failed
+wait_keeps g s w (Durable n) step new running (inr (inr (inl prepared))) failed = runs_on s new _ running prepared.2.4 refl failed
+wait_keeps g s w (Durable n) step new running (inr (inr (inr resolved))) failed = runs_on s new _ running resolved.2.3 refl failed
 wait_keeps g s w (Lock at) step new running moves failed =
     ⊎_elim (λ still. same_log_of s new s still.2 (refl, refl)) (λ goes. goes_keeps g (wait_refused s w.session) new running failed moves.0 w.call step goes.1) moves.2
 
@@ -167,10 +168,14 @@ wait_logs_nothing g s session at new (inr resumed) =
     prepared_or_lock : (at : Granule) → ◌≡◌ {A = Step} (Waits (Lock at)) (Done Prepared) → ⊥
     prepared_or_lock at e = cc
 
+    resolved_or_lock : (at : Granule) → ◌≡◌ {A = Step} (Waits (Lock at)) (Done Resolved) → ⊥
+    resolved_or_lock at e = cc
+
     waits_for : (w : Waiting) (wait : Wait) → ResumesWait g s w wait (Waits (Lock at)) new → HasSameLog s new
     waits_for w (Durable n) (inl still) = same_log_of s new s still.2 (refl, refl)
     waits_for w (Durable n) (inr (inl answered)) = absurd (durable_or_lock n at answered.1)
-    waits_for w (Durable n) (inr (inr prepared)) = absurd (prepared_or_lock at prepared.1)
+    waits_for w (Durable n) (inr (inr (inl prepared))) = absurd (prepared_or_lock at prepared.1)
+    waits_for w (Durable n) (inr (inr (inr resolved))) = absurd (resolved_or_lock at resolved.1)
     waits_for w (Lock on) h = ⊎_elim (λ still. same_log_of s new s still.2 (refl, refl)) (λ goes. same_log_of s new _ goes.1.5 (refl, refl)) h.2
 
 victims_log_nothing : (vs : List Victim) (s : State) (t : ℕ) (new : State) → TakesVictims s t vs new → HasSameLog s new

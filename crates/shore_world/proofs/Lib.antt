@@ -14,6 +14,8 @@ pub mod StayLemmas
 pub mod OpenLemmas
 pub mod StableLemmas
 pub mod AreaLemmas
+pub mod KeptDoubts
+pub mod RestoredBounds
 pub mod RestartRefusals
 pub mod ShownPages
 pub mod OpenPaths
@@ -21,6 +23,7 @@ pub mod OpenedLemmas
 pub mod RestartNames
 pub mod ExchangeLemmas
 pub mod PromiseLemmas
+pub mod PreparedLemmas
 pub mod StoodLemmas
 pub mod WorkLemmas
 pub mod EndedLemmas

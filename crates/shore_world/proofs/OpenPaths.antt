@@ -7,7 +7,7 @@ use Rattle.shore_types.specs.declared.faults.Device.TheVariants.{Volume}
 use Rattle.shore_types.specs.declared.faults.Fault.{Fault}
 use Rattle.shore_types.specs.declared.ids.PageId.{PageId}
 use Rattle.shore_types.specs.Layout.{HasPage}
-use Rattle.shore_disk.specs.Device.{Call, History, LeavesOnly, LeftAfter, LeftSince, Stands, may_leave, moment, seen, size}
+use Rattle.shore_disk.specs.Device.{Call, DeviceHistory, LeavesOnly, LeftAfter, LeftSince, Stands, may_leave, moment, seen, size}
 use Rattle.shore_disk.specs.declared.device.Disk.{Ghosts}
 use Rattle.shore_disk.proofs.Moments.{at_end, started, widened}
 use Rattle.shore_gate.specs.Label.{HoldsLabel}
@@ -43,7 +43,7 @@ use Rattle.shore_world.proofs.ShownPages.{found_over, shown_by, texts_told, told
 use Rattle.shore_restart.proofs.Paths.{path_on, step_log, step_volume}
 use Rattle.shore_world.specs.Opens.{OpenWay, OpensAlong}
 
-module _ (g : Geometry) (log volume : History) (rs : List LogRecord) (pages : LoggedPages) (log_behind volume_behind : History)
+module _ (g : Geometry) (log volume : DeviceHistory) (rs : List LogRecord) (pages : LoggedPages) (log_behind volume_behind : DeviceHistory)
     (barred : IsBehindBarrier log log_behind × IsBehindBarrier volume volume_behind) where
   abbrev pub way_of : (moments : List Moment) (last : Moment) → Path g (take LOG_FRONT_BYTES (seen log)) (take GATE_AT (seen volume)) (begun_on log_behind volume_behind rs pages) moments last
       → OpenWay g log volume rs pages
@@ -78,7 +78,7 @@ module _ (g : Geometry) (log_bytes volume_bytes : ℕ) (rs : List LogRecord) (pa
   volume_covered : (c : List ℕ) → c ≡ volume_image → ShowsLeft g front s c
   volume_covered c is = subst (ShowsLeft g front s) (sym is) (pages, (λ p. inl refl), stood.volume.shows)
 
-  pub have_fronts : (log volume : History) → size log ≡ log_bytes → size volume ≡ volume_bytes → seen log ≡ log_image → seen volume ≡ volume_image → HaveFronts g log volume
+  pub have_fronts : (log volume : DeviceHistory) → size log ≡ log_bytes → size volume ≡ volume_bytes → seen log ≡ log_image → seen volume ≡ volume_image → HaveFronts g log volume
   have_fronts log volume log_long volume_long log_read volume_read = (
     subst (λ n. HasFront g n (seen log)) (sym log_long) (subst (HasFront g log_bytes) (sym log_read) stood.log.front),
     subst (λ n. HoldsLabel Volume n (take 512 (seen volume)) (volume_label g)) (sym volume_long)
@@ -92,29 +92,29 @@ module _ (g : Geometry) (log_bytes volume_bytes : ℕ) (rs : List LogRecord) (pa
   pub texts_at : (h : Geometry) → h ≡ g → (p : PageId) → HasPage h p → IsPageText (texts (page_number h p)) p (pages p).number (told_images rs pages p)
   texts_at = texts_told g rs pages volume_image (record { shown = stood.volume.shows; as_of = stood.opened.as_of })
 
-  pub replay_at : (h : Geometry) → h ≡ g → (mid now : History) → LeavesOnly mid now (ShowsBehind h front texts) → LeavesOnly mid now (ShowsBehind g front texts)
+  pub replay_at : (h : Geometry) → h ≡ g → (mid now : DeviceHistory) → LeavesOnly mid now (ShowsBehind h front texts) → LeavesOnly mid now (ShowsBehind g front texts)
   replay_at h same mid now leaves = subst (λ (x : Geometry). LeavesOnly mid now (ShowsBehind x front texts)) same leaves
 
-  module _ (log volume : History) (log_stands : Stands log log_image) (volume_stands : Stands volume volume_image) where
+  module _ (log volume : DeviceHistory) (log_stands : Stands log log_image) (volume_stands : Stands volume volume_image) where
     abbrev pub first : Moment
     first = begun_on log volume rs pages
 
     -- a device that was only read leaves what it was opened with
-    pub log_read : (now : History) → now ≡ log → LeavesOnly log now (GivesPrefix log_front s)
-    log_read now same = subst (λ (h : History). LeavesOnly log h (GivesPrefix log_front s)) (sym same) (started log (GivesPrefix log_front s) (λ c left. log_covered c (log_stands.only c left)))
+    pub log_read : (now : DeviceHistory) → now ≡ log → LeavesOnly log now (GivesPrefix log_front s)
+    log_read now same = subst (λ (h : DeviceHistory). LeavesOnly log h (GivesPrefix log_front s)) (sym same) (started log (GivesPrefix log_front s) (λ c left. log_covered c (log_stands.only c left)))
 
-    pub volume_read : (now : History) → now ≡ volume → LeavesOnly volume now (ShowsLeft g front s)
-    volume_read now same = subst (λ (h : History). LeavesOnly volume h (ShowsLeft g front s)) (sym same) (started volume (ShowsLeft g front s) (λ c left. volume_covered c (volume_stands.only c left)))
+    pub volume_read : (now : DeviceHistory) → now ≡ volume → LeavesOnly volume now (ShowsLeft g front s)
+    volume_read now same = subst (λ (h : DeviceHistory). LeavesOnly volume h (ShowsLeft g front s)) (sym same) (started volume (ShowsLeft g front s) (λ c left. volume_covered c (volume_stands.only c left)))
 
     -- .. and so does a replay
-    pub volume_replayed : (now : History) → LeavesOnly volume now (ShowsBehind g front texts) → LeavesOnly volume now (ShowsLeft g front s)
+    pub volume_replayed : (now : DeviceHistory) → LeavesOnly volume now (ShowsBehind g front texts) → LeavesOnly volume now (ShowsLeft g front s)
     volume_replayed now replay = widened volume now (ShowsBehind g front texts) (ShowsLeft g front s) replay (λ c shows. (pages, (λ p. inl refl), (texts, shows, stood.volume.shows.2)))
 
     -- where both devices stand then
-    abbrev pub at : History → History → Moment
+    abbrev pub at : DeviceHistory → DeviceHistory → Moment
     at log_now volume_now = record { log = log_now; volume = volume_now; store = s }
 
-    pub way : (log_now volume_now : History) → LeavesOnly log log_now (GivesPrefix log_front s) → LeavesOnly volume volume_now (ShowsLeft g front s)
+    pub way : (log_now volume_now : DeviceHistory) → LeavesOnly log log_now (GivesPrefix log_front s) → LeavesOnly volume volume_now (ShowsLeft g front s)
         → Path g log_front front first (at log_now volume ∷ at log_now volume_now ∷ []) (at log_now volume_now)
     way log_now volume_now of_log of_volume =
         let log_covers = at_end log log_now (GivesPrefix log_front s) of_log in
@@ -124,7 +124,7 @@ module _ (g : Geometry) (log_bytes volume_bytes : ℕ) (rs : List LogRecord) (pa
         )
 
     -- .. and on from there
-    pub way_on : (log_now volume_now : History) → LeavesOnly log log_now (GivesPrefix log_front s) → LeavesOnly volume volume_now (ShowsLeft g front s)
+    pub way_on : (log_now volume_now : DeviceHistory) → LeavesOnly log log_now (GivesPrefix log_front s) → LeavesOnly volume volume_now (ShowsLeft g front s)
         → (moments : List Moment) (last : Moment) → Path g log_front front (at log_now volume_now) moments last
         → Path g log_front front first (at log_now volume ∷ at log_now volume_now ∷ moments) last
     way_on log_now volume_now of_log of_volume moments last on =
@@ -147,7 +147,7 @@ module _ (g : Geometry) (log_bytes volume_bytes : ℕ) (rs : List LogRecord) (pa
   restart_outside log heap is geometry long e f bad room page force memory on_page on_log =
       let list : records_of_log log ≡ rs = sym is.at_rest.records in
       let most = stood.log.long.1 in
-      refused_from_outside g (log_bytes - LOG_FRONT_BYTES) (length rs) (omega (arith, most)) rs stood.opened.roomy stood.opened.lawful e f
+      refused_from_outside g (log_bytes - LOG_FRONT_BYTES) (length rs) (omega (arith, most)) rs stood.opened.roomy stood.opened.lawful stood.opened.doubts e f
       (λ n at. subst (λ (l : List LogRecord). IsBadRecord g l n) list (subst (λ (x : Geometry). IsBadRecord x (records_of_log log) n) geometry (bad n at)))
       (λ at. subst (λ (l : List LogRecord). LacksRoom l (log_bytes - LOG_FRONT_BYTES)) list (subst (λ n. LacksRoom (records_of_log log) (n - LOG_FRONT_BYTES)) long (room at)))
       page force memory on_page on_log
@@ -169,8 +169,8 @@ lost_at_last g log_f front_f begun (next ∷ later) last path c d of_log of_volu
 
 -- ---- an open that was refused behind its barriers, before its restart
 
-module _ (g : Geometry) (log volume : History) (rs : List LogRecord) (pages : LoggedPages)
-    (stood : StandsFor g (size log) (size volume) rs pages (seen log) (seen volume)) (log_behind volume_behind : History)
+module _ (g : Geometry) (log volume : DeviceHistory) (rs : List LogRecord) (pages : LoggedPages)
+    (stood : StandsFor g (size log) (size volume) rs pages (seen log) (seen volume)) (log_behind volume_behind : DeviceHistory)
     (barred : IsBehindBarrier log log_behind × IsBehindBarrier volume volume_behind) where
   pub stopped : {L V : Type 0} (G : Ghosts L) (H : Ghosts V) (f : Fault) (log_now : L) (volume_now : V)
       → LeavesOnly log_behind (G.history log_now) (GivesPrefix (take LOG_FRONT_BYTES (seen log)) (found_state rs pages))

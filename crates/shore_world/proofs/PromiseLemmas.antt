@@ -1,31 +1,37 @@
 -- What a world that is a manager keeps, by the laws over plain data.
-use Rattle.std.proofs.Common.{◌≡◌, ◌<◌, ◌⊎◌, inl, inr, List, [], ◌∷◌, ◌++◌, ℕ, map, refl, sym, ap, subst, append-nil, ◌∙◌, arith}
+use Rattle.std.proofs.Common.{◌≡◌, ◌≢◌, ◌<◌, ◌⊎◌, inl, inr, ⊎_elim, List, [], ◌++◌, ℕ, length, map, refl, sym, ap, subst, append-nil, ◌∙◌, arith}
 use Rattle.std.proofs.lemmas.Bool.{true≢false}
 use Rattle.std.specs.List.{AllByRecursion}
 use Rattle.shore_types.specs.declared.layout.Geometry.{Geometry}
 use Rattle.shore_disk.specs.declared.device.Disk.{Ghosts}
 use Rattle.shore_model.specs.declared.calls.Call.{Call}
 use Rattle.shore_model.specs.declared.calls.Exchange.{Exchange}
+use Rattle.shore_model.specs.declared.histories.Decision.TheVariants.{Commit, RollBack}
 use Rattle.shore_model.specs.declared.histories.Entry.{Entry}
 use Rattle.shore_model.specs.declared.histories.Opening.{Opening}
 use Rattle.shore_model.specs.Locks.{Harmony, WellRooted}
 use Rattle.shore_model.specs.declared.log_records.LogRecord.{LogRecord}
 use Rattle.shore_model.specs.declared.step.Step.{Step}
-use Rattle.shore_model.specs.Histories.{IsHistory, Sound, free, session_state}
+use Rattle.shore_model.specs.Histories.{IsHistory, Sound, decisions, free, in_doubt, session_state, shown}
 use Rattle.shore_model.specs.declared.sessions.SessionState.{SessionState}
-use Rattle.shore_model.specs.Logs.{logged_writes}
+use Rattle.shore_model.specs.Logs.{logged_writes, records_told}
 use Rattle.shore_model.specs.Records.{overlays, scan_of}
 use Rattle.shore_model.specs.Requests.{HasNoCycle, held_by_all}
 use Rattle.shore_locks.specs.Tables.{Table}
 use Rattle.laws_lives.proofs.InPlace.{is_overlaid}
 use Rattle.laws_lives.proofs.LoggedInPlace.{stand_logged}
 use Rattle.laws_lives.specs.OwnSeats.{IsIn, seat_of}
-use Rattle.laws_lives.specs.Sessions.{IsFree, PreparedTxn, ResolvedTxn, SessionTxn, Sessions, in_doubt_of, in_prepared, in_txn, resolved_of, txns_of}
-use Rattle.laws_lives.specs.Soundness.{history_from, serial_after}
+use Rattle.laws_lives.specs.LogPrefixes.{decisions_in}
+use Rattle.laws_lives.specs.Sessions.{IsFree, PreparedTxn, ResolvedTxn, SessionTxn, Sessions, in_doubt_of, in_prepared, in_txn, pair_of, pairs_of, resolved_of, txns_of}
+use Rattle.laws_lives.specs.Soundness.{decided_txn, history_from, serial_after}
 use Rattle.laws_lives.specs.Views.{IsAmong}
 use Rattle.laws_lives.proofs.Lists.{among_map, mapped_one}
+use Rattle.laws_lives.proofs.Members.{txn_of_one}
+use Rattle.laws_lives.proofs.WholeSteps.{among_or_not}
 use Rattle.laws_calls.proofs.OwnCycles.{events_begin}
+use Rattle.laws_calls.proofs.RolledDecisions.{rolled_back_decided, rolled_uncommitted}
 use Rattle.laws_calls.proofs.Rooted.{stay_rooted}
+use Rattle.laws_calls.proofs.SessionTells.{all_shown}
 use Rattle.laws_calls.proofs.SettledThere.{events_there}
 use Rattle.laws_calls.specs.Events.{EventsMove, IsStateAfter, ManagerEvent}
 use Rattle.laws_runs.proofs.UnderWay.{plain_moves}
@@ -41,12 +47,6 @@ use Rattle.shore_world.specs.Worlds.{Between, EventStep, Runs, Steps, geometry_i
 use Rattle.shore_world.proofs.ExchangeLemmas.{Waited, event_tells, event_waits, have_told, runs_told, runs_wait, told_in, waited_in}
 use Rattle.shore_world.proofs.StoredLemmas.{HasRun, IsUpAt, moves_to, run_run, seen_of, up_safe}
 
--- who is among the numbers of transactions is one of them
-among_txns : (t : ℕ) (active : List SessionTxn) → IsAmong t (txns_of active) → (a : SessionTxn) × IsAmong a active × (a.txn ≡ t)
-among_txns t [] there = absurd there
-among_txns t (a ∷ active) (inl same) = (a, inl refl, same)
-among_txns t (a ∷ active) (inr later) = let rest = among_txns t active later in (rest.0, inr rest.1, rest.2)
-
 none_is : (t : ℕ) → 0 < t → 0 ≡ t → ⊥
 none_is t some is = omega arith
 
@@ -55,13 +55,14 @@ module _ {L V : Type 0} {G : Ghosts L} {H : Ghosts V} (w : World L V G H) (o : O
   same_requests : k.now.state.locks.requests ≡ requests_in w
   same_requests = ap (λ (t : Table). t.requests) k.at.is_in.beside.parts.stands.locks
 
+  pub held_now : k.now.state.sessions.held ≡ held_by_all (requests_in w)
+  held_now = k.under_way.state.sessions.locks.held ∙ ap held_by_all same_requests
+
   pub in_harmony : Harmony (held_by_all (requests_in w)) × WellRooted (held_by_all (requests_in w))
-  in_harmony =
-      let locks = k.under_way.state.sessions.locks in
-      let held : k.now.state.sessions.held ≡ held_by_all (requests_in w) = locks.held ∙ ap held_by_all same_requests in (
-        subst Harmony held k.under_way.state.sessions.sound.stand.harmony,
-        subst WellRooted held (stay_rooted o k.found es k.now.state k.under_way.state),
-      )
+  in_harmony = (
+    subst Harmony held_now k.under_way.state.sessions.sound.stand.harmony,
+    subst WellRooted held_now (stay_rooted o k.found es k.now.state k.under_way.state),
+  )
 
   pub on_no_cycle : HasNoCycle (requests_in w)
   on_no_cycle = subst HasNoCycle same_requests k.under_way.no_cycle
@@ -169,6 +170,13 @@ module _ {L V : Type 0} {G : Ghosts L} {H : Ghosts V} (w : World L V G H) (o : O
   pub sound_history : IsHistory (history_from o es) × Sound (history_from o es)
   sound_history = (k.under_way.state.sessions.agree.history, k.under_way.state.sessions.sound.sound)
 
+  -- its decisions are those of the records that its log has gained, and the log tells what they show
+  pub decided_records : decisions es ≡ decisions_in (length k.found) (list_in w)
+  decided_records = k.under_way.state.sessions.decides.all ∙ ap (decisions_in (length k.found)) k.at.is_in.beside.parts.log
+
+  pub told_is_shown : records_told (list_in w) ≡ shown (history_from o es) (decisions es)
+  told_is_shown = ap records_told (sym k.at.is_in.beside.parts.log) ∙ all_shown o k.found es k.now.state k.under_way.state
+
   -- ---- its records
 
   abbrev pub under_way_of : List ℕ
@@ -187,26 +195,60 @@ module _ {L V : Type 0} {G : Ghosts L} {H : Ghosts V} (w : World L V G H) (o : O
       ∙ ap (λ (l : List LogRecord). overlays (serial_after o es) (map (logged_writes l) (txns_of s.sessions.active))) same_log
       )
 
-  -- nobody has prepared as yet, so nobody is in doubt or decided by a resolve
-  all_free : (t : ℕ) → IsFree k.now.state.sessions t
-  all_free t =
-      let none = k.at.is_in.beside.parts.stands.txns.unprepared in (
-        λ doubt. absurd (subst (IsAmong t) (ap (map (λ (p : PreparedTxn). p.txn)) none.prepared) doubt),
-        λ resolved. absurd (subst (IsAmong t) (ap (map (λ (r : ResolvedTxn). r.txn)) none.resolving) resolved),
-      )
+  abbrev pub sessions_now : Sessions
+  sessions_now = k.now.state.sessions
 
-  -- each of these is one that a session is in, and not decided
-  pub each_unended : AreUnended es under_way_of
-  each_unended t there =
-      let s = k.now.state.sessions in
-      let free = all_free t in
-      let a = among_txns t s.active there in (
+  -- ---- those in doubt
+
+  pub in_doubt_now : pairs_of sessions_now.prepared ≡ in_doubt o.in_doubt (decisions es)
+  in_doubt_now = sym k.under_way.state.sessions.agree.in_doubt
+
+  -- they are under way
+  pub doubts_under_way : (t : ℕ) (global : List ℕ) → IsAmong (t, global) (in_doubt o.in_doubt (decisions es)) → IsAmong t under_way_of
+  doubts_under_way t global there =
+      let p = mapped_one pair_of (t, global) sessions_now.prepared (subst (IsAmong (t, global)) (sym in_doubt_now) there) in
+      k.under_way.state.sessions.agree.under_way t
+      (subst (λ (n : ℕ). IsAmong n (in_doubt_of sessions_now)) (ap (λ (q : ℕ × List ℕ). q.0) p.2) (among_map (λ (x : PreparedTxn). x.txn) p.0 sessions_now.prepared p.1))
+
+  -- ---- those that have not ended
+
+  -- one that a session is in
+  unended_own : (t : ℕ) → IsAmong t under_way_of → IsFree sessions_now t
+      → (session : ℕ) × (session_state session free es ≡ in_txn t) × AllByRecursion (λ d. decided_txn d ≢ t) (decisions es)
+  unended_own t there free =
+      let a = txn_of_one t sessions_now.active there in (
         a.0.session,
         k.under_way.state.sessions.agree.seats a.0.session
             ∙ k.under_way.state.sessions.seats.own a.0.session t
-            (inl (subst (λ (n : ℕ). IsAmong (a.0.session, n) (map seat_of s.active)) a.2 (among_map seat_of a.0 s.active a.1), free.0, free.1)),
+            (inl (subst (λ (n : ℕ). IsAmong (a.0.session, n) (map seat_of sessions_now.active)) a.2 (among_map seat_of a.0 sessions_now.active a.1), free.0, free.1)),
         k.under_way.state.sessions.sound.undecided t there free,
       )
+
+  -- one in doubt
+  unended_doubt : (t : ℕ) → IsAmong t (in_doubt_of sessions_now) → (global : List ℕ) × IsAmong (t, global) (in_doubt o.in_doubt (decisions es))
+  unended_doubt t there =
+      let p = mapped_one (λ (x : PreparedTxn). x.txn) t sessions_now.prepared there in
+      (p.0.global, subst (λ (n : ℕ). IsAmong (n, p.0.global) (in_doubt o.in_doubt (decisions es))) p.2 (subst (IsAmong (pair_of p.0)) in_doubt_now (among_map pair_of p.0 sessions_now.prepared p.1)))
+
+  -- one that a resolve rolls back
+  unended_rolled : (t : ℕ) → IsAmong t under_way_of → IsAmong t (resolved_of sessions_now) → IsAmong (RollBack t) (decisions es) × (IsAmong (Commit t) (decisions es) → ⊥)
+  unended_rolled t there resolved =
+      let r = mapped_one (λ (x : ResolvedTxn). x.txn) t sessions_now.resolving resolved in
+      let active = subst (λ (n : ℕ). IsAmong n under_way_of) (sym r.2) there in
+      let now = k.under_way.state.sessions in
+      subst (λ (n : ℕ). IsAmong (RollBack n) (decisions es) × (IsAmong (Commit n) (decisions es) → ⊥)) r.2 (
+        subst (IsAmong (RollBack r.0.txn)) (sym now.decides.all) (rolled_back_decided o k.found es k.now.state now r.0 r.1 active),
+        rolled_uncommitted o k.found es k.now.state now r.0 r.1 active,
+      )
+
+  pub each_unended : AreUnended o es under_way_of
+  each_unended t there = ⊎_elim
+      (λ doubt. inr (inl (unended_doubt t doubt)))
+      (λ sure. ⊎_elim
+      (λ resolved. inr (inr (unended_rolled t there resolved)))
+      (λ unresolved. inl (unended_own t there (sure, unresolved)))
+      (among_or_not t (resolved_of sessions_now)))
+      (among_or_not t (in_doubt_of sessions_now))
 
   -- whoever is in a transaction by the history is in one that is under way, or whose commit is
   same_txn : (t u : ℕ) → in_txn t ≡ in_txn u → u ≡ t
@@ -216,9 +258,6 @@ module _ {L V : Type 0} {G : Ghosts L} {H : Ghosts V} (w : World L V G H) (o : O
   txn_seated session t xs there =
       let a = mapped_one seat_of (session, t) xs there in
       subst (λ (n : ℕ). IsAmong n (txns_of xs)) (ap (λ (p : ℕ × ℕ). p.1) a.2) (among_map (λ (b : SessionTxn). b.txn) a.0 xs a.1)
-
-  abbrev pub sessions_now : Sessions
-  sessions_now = k.now.state.sessions
 
   pub each_there : (session t : ℕ) → session_state session free es ≡ in_txn t → 0 < t
       → IsAmong t under_way_of ⊎ IsAmong t (txns_of sessions_now.committing)

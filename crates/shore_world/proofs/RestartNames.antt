@@ -6,7 +6,7 @@ use Rattle.shore_types.specs.declared.faults.Fault.TheVariants as fault
 use Rattle.shore_types.specs.declared.layout.Geometry.{Geometry}
 use Rattle.shore_types.specs.declared.layout.TheConstants.{LOG_FRONT_BYTES}
 use Rattle.shore_gate.specs.Checks.{IsFromOutside}
-use Rattle.shore_disk.specs.Device.{History, seen}
+use Rattle.shore_disk.specs.Device.{DeviceHistory, seen}
 use Rattle.shore_disk.specs.declared.device.Disk.{Ghosts}
 use Rattle.shore_dwrite.specs.Settled as settled_device
 use Rattle.shore_dwrite.specs.Shown.{Shows}
@@ -22,7 +22,7 @@ use Rattle.shore_restart.specs.declared.errors.RestartError.{RestartError}
 use Rattle.shore_restart.specs.declared.errors.RestartError.TheVariants as error
 use Rattle.shore_restart.specs.Held.{IsHeld, IsPageFault}
 use Rattle.shore_restart.specs.Quiet.{StaysQuiet}
-use Rattle.shore_analysis.specs.Meant.{AreMeant}
+use Rattle.shore_restart.specs.Doubts.{IsTaken}
 use Rattle.shore_restart.specs.Turns.{LacksRoom}
 use Rattle.shore_world.specs.Refusals.{IsNamedFor, NamesAnchor, NamesPage, NamesRecord}
 
@@ -52,10 +52,10 @@ settled_left log_front old new e n is quiet all = elim quiet.quiet [
     no_record n is = cc
 
 -- by the error, and by the fault that it is told as
-pub names_of : (g : Geometry) (rs : List LogRecord) (stream_bytes anchor : ℕ) (volume left : History) (pages : ℕ → List ℕ) → Shows g (seen volume) pages → (e : RestartError) (f : Fault) → (IsFromOutside f → ⊥)
+pub names_of : (g : Geometry) (rs : List LogRecord) (stream_bytes anchor : ℕ) (volume left : DeviceHistory) (pages : ℕ → List ℕ) → Shows g (seen volume) pages → (e : RestartError) (f : Fault) → (IsFromOutside f → ⊥)
     → (e ≡ error.NoRoom → LacksRoom rs stream_bytes) → ((n : ℕ) → e ≡ error.BadRecord n → (0 < n) × (n ≤ length rs)) → ((h : Fault) → e ≡ error.Page h → IsPageFault g pages (length rs) h)
     → ((h : Fault) → e ≡ error.Log h → h ≡ fault.Device) → ((n : ℕ) → e ≡ error.BadRecord n → IsNamedFor g rs volume n)
-    → ((e ≡ error.NoRoom) ⊎ ((h : Fault) × (e ≡ error.Page h)) → AreMeant g rs)
+    → ((e ≡ error.NoRoom) ⊎ ((h : Fault) × (e ≡ error.Page h)) → IsTaken g rs)
     → (e ≡ error.Memory → f ≡ fault.Memory) → (e ≡ error.NoRoom → f ≡ fault.Damaged device.Log anchor)
     → ((n : ℕ) → e ≡ error.BadRecord n → (f ≡ fault.Device) ⊎ ((offset : ℕ) × (f ≡ fault.Damaged device.Log offset) × (0 < n → n ≤ length rs → IsFrameOf LOG_FRONT_BYTES (seen left) n offset)))
     → ((h : Fault) → e ≡ error.Page h → f ≡ h) → ((h : Fault) → e ≡ error.Log h → f ≡ h)

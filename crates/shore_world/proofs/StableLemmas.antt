@@ -1,7 +1,7 @@
 -- A page device that was made over a volume, and what a replay of it leaves.
 use Rattle.std.proofs.Common.{◌≡◌, ℕ, List, IsTrue, take, refl, sym, subst}
 use Rattle.shore_types.specs.declared.layout.Geometry.{Geometry}
-use Rattle.shore_disk.specs.Device.{History, LeavesOnly, Stands}
+use Rattle.shore_disk.specs.Device.{DeviceHistory, LeavesOnly, Stands}
 use Rattle.shore_disk.specs.declared.device.Disk.{Ghosts}
 use Rattle.shore_dwrite.specs.Settled.{IsStable, device_of, geometry_of}
 use Rattle.shore_dwrite.specs.Shown.{Shows, ShowsBehind}
@@ -21,7 +21,7 @@ module _ {D : Type 0} {G : Ghosts D} (volume : D) (dev : PageDev D G) (g : Geome
   }
 
   -- .. and so is what a replay leaves at any moment
-  pub shown_on : (later : History) → LeavesOnly (G.history (device_of dev)) later (ShowsBehind (geometry_of dev) (take GATE_AT image) texts)
+  pub shown_on : (later : DeviceHistory) → LeavesOnly (G.history (device_of dev)) later (ShowsBehind (geometry_of dev) (take GATE_AT image) texts)
       → LeavesOnly (G.history volume) later (ShowsBehind g (take GATE_AT image) texts)
   shown_on later leaves =
       subst (λ (d : D). LeavesOnly (G.history d) later (ShowsBehind g (take GATE_AT image) texts)) same

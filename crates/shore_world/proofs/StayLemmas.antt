@@ -1,16 +1,15 @@
 -- Stays of the power on two devices are stays over plain data.
-use Rattle.std.proofs.Common.{◌≡◌, ◌⊎◌, ⊎_elim, ℕ, ◌-◌, List, [], ◌∷◌, ◌++◌, refl, sym, ◌∙◌, ap, subst, map, take, append_assoc, append-nil}
+use Rattle.std.proofs.Common.{◌≡◌, ◌⊎◌, ⊎_elim, ℕ, ◌-◌, List, [], ◌∷◌, ◌++◌, refl, sym, ◌∙◌, ap, subst, take, append_assoc, append-nil}
 use Rattle.std.specs.Prelude.{All}
 use Rattle.std.specs.FinMap.{empty}
 use Rattle.std.specs.List.{AllByRecursion}
 use Rattle.std.proofs.lemmas.List.Elements.{recursion_from_All}
 use Rattle.shore_types.specs.declared.layout.Geometry.{Geometry}
 use Rattle.shore_types.specs.declared.layout.TheConstants.{LOG_FRONT_BYTES}
-use Rattle.shore_disk.specs.Device.{History, may_leave, seen, size}
+use Rattle.shore_disk.specs.Device.{DeviceHistory, may_leave, seen, size}
 use Rattle.shore_disk.specs.declared.device.Disk.{Ghosts}
 use Rattle.shore_disk.proofs.Moments.{seen_left}
 use Rattle.shore_dwrite.specs.declared.places.TheConstants.{GATE_AT}
-use Rattle.shore_model.specs.declared.histories.InDoubt.{InDoubt}
 use Rattle.shore_model.specs.declared.histories.Opening.{Opening}
 use Rattle.shore_model.specs.declared.log_records.LogRecord.{LogRecord}
 use Rattle.shore_model.specs.Histories.{shown}
@@ -19,15 +18,13 @@ use Rattle.shore_model.specs.Locks.{Harmony, WellRooted}
 use Rattle.shore_model.specs.Logs.{records_told}
 use Rattle.shore_model.specs.Records.{scan_of}
 use Rattle.shore_model.specs.Requests.{held_by_all}
-use Rattle.shore_locks.specs.Tables.{Table}
 use Rattle.laws_lives.specs.Pages.{LoggedPages, empty_page}
 use Rattle.laws_lives.specs.Recovery.{RecoveryEvent}
 use Rattle.laws_lives.specs.Views.{IsAmong}
 use Rattle.laws_lives.proofs.Openings.{open_shows_found}
 use Rattle.laws_lives.proofs.LifeSteps.{format_opens, found_is_shown}
-use Rattle.laws_lives.specs.Doubts.{AreRestored, IsOpeningOf}
-use Rattle.laws_lives.specs.Sessions.{pairs_of}
-use Rattle.laws_lives.specs.Soundness.{found_in_doubt, history_from, opening_with}
+use Rattle.laws_lives.specs.Doubts.{IsOpeningOf}
+use Rattle.laws_lives.specs.Soundness.{history_from, opening_with}
 use Rattle.laws_lives.specs.Stretches.{opening_after}
 use Rattle.laws_runs.specs.StoredRuns.{IsOpenedOver, StoredRun, StoredState, span_of_run, spans_of_runs}
 use Rattle.laws_runs.specs.RoomyStates.{IsOpenedFrom}
@@ -50,7 +47,7 @@ use Rattle.shore_world.specs.Exchanges.{AreLast}
 use Rattle.shore_world.specs.Lives.{DumpsShow, HaveLived}
 use Rattle.shore_world.specs.Managers.{AreFound, AreRunsOf, AreStays, IsManager, IsRunOf, Manager, NoForceIsFull, Stay, Tried, Up}
 use Rattle.shore_world.specs.Promises.{HasInDoubt, IsManagerOf}
-use Rattle.shore_world.specs.Worlds.{list_in, requests_in, stream_bytes_in}
+use Rattle.shore_world.specs.Worlds.{requests_in, stream_bytes_in}
 use Rattle.shore_world.specs.Opens.{HasOpened, IsOpenedAt, LeftByOpen, OpenWay}
 use Rattle.shore_world.proofs.PromiseLemmas.{in_harmony}
 use Rattle.shore_world.proofs.ExchangeLemmas.{HasTold, have_told, runs_told, told_in}
@@ -116,7 +113,7 @@ runs_behind_up before (stored.Cut c ∷ over) r = runs_behind_up (before ++ work
 runs_behind_up before (stored.Up q ∷ over) r = ap (λ (l : List StoredRun). record q { restart = before ++ q.restart } ∷ l) (runs_behind_up [] over r)
 
 module _ {L V : Type 0} {G : Ghosts L} {H : Ghosts V} where
-  tried_adds_none : (stays : List (Stay L V G H)) (runs : List StoredRun) (log volume : History) → AreRunsOf stays runs → AreRunsOf (stays ++ Tried log volume ∷ []) runs
+  tried_adds_none : (stays : List (Stay L V G H)) (runs : List StoredRun) (log volume : DeviceHistory) → AreRunsOf stays runs → AreRunsOf (stays ++ Tried log volume ∷ []) runs
   tried_adds_none [] [] log volume are = tt
   tried_adds_none [] (run ∷ runs) log volume are = absurd are
   tried_adds_none (Tried l v ∷ stays) runs log volume are = tried_adds_none stays runs log volume are
@@ -145,7 +142,7 @@ module _ {L V : Type 0} {G : Ghosts L} {H : Ghosts V} where
   }
 
 -- what is read of devices of these lengths stands for what it stands for of devices of their own
-pub at_its_lengths : (g : Geometry) (log_bytes volume_bytes : ℕ) (log volume : History) → (size log ≡ log_bytes) × (size volume ≡ volume_bytes) → (rs : List LogRecord)
+pub at_its_lengths : (g : Geometry) (log_bytes volume_bytes : ℕ) (log volume : DeviceHistory) → (size log ≡ log_bytes) × (size volume ≡ volume_bytes) → (rs : List LogRecord)
     (pages : LoggedPages) (c d : List ℕ) → StandsFor g log_bytes volume_bytes rs pages c d → StandsFor g (size log) (size volume) rs pages c d
 at_its_lengths g log_bytes volume_bytes log volume lengths rs pages c d stood =
     subst (λ n. StandsFor g n (size volume) rs pages c d) (sym lengths.0) (subst (λ n. StandsFor g log_bytes n rs pages c d) (sym lengths.1) stood)
@@ -153,7 +150,7 @@ at_its_lengths g log_bytes volume_bytes log volume lengths rs pages c d stood =
 module _ {L V : Type 0} {G : Ghosts L} {H : Ghosts V} (g : Geometry) (log_bytes volume_bytes : ℕ) where
   -- ---- a world that was opened
 
-  module _ (rs : List LogRecord) (pages : LoggedPages) (log volume : History) (lengths : (size log ≡ log_bytes) × (size volume ≡ volume_bytes))
+  module _ (rs : List LogRecord) (pages : LoggedPages) (log volume : DeviceHistory) (lengths : (size log ≡ log_bytes) × (size volume ≡ volume_bytes))
       (stood : StandsFor g log_bytes volume_bytes rs pages (seen log) (seen volume)) (w : World L V G H) (opens : HasOpened w g log volume rs pages) where
     abbrev pub log_front : List ℕ
     log_front = take LOG_FRONT_BYTES (seen log)
@@ -182,21 +179,21 @@ module _ {L V : Type 0} {G : Ghosts L} {H : Ghosts V} (g : Geometry) (log_bytes 
     abbrev pub first : StoredState
     first = record { state = opened.first; store = last.store }
 
-    pub from : IsOpenedFrom (log_bytes - LOG_FRONT_BYTES) last.store.log opened.first
-    from = subst (λ n. IsOpenedFrom n last.store.log opened.first) as_long opened.from
+    pub from : IsOpenedFrom g (log_bytes - LOG_FRONT_BYTES) last.store.log opened.first
+    from = subst (λ n. IsOpenedFrom g n last.store.log opened.first) as_long opened.from
 
     pub up_at : (o : Opening) → IsOpeningOf rs o → IsUpAt g (log_bytes - LOG_FRONT_BYTES) o rs log_front front [] w first
     up_at o opening = record {
       disk = opened.disk;
       at = opened.at;
       geometry = opened.geometry;
-      long = ap (λ (h : History). size h - LOG_FRONT_BYTES) opened.histories.0 ∙ as_long;
+      long = ap (λ (h : DeviceHistory). size h - LOG_FRONT_BYTES) opened.histories.0 ∙ as_long;
       under_way = opens_under_way g (log_bytes - LOG_FRONT_BYTES) o (found_state rs pages) (found_may_be_found g (log_bytes - LOG_FRONT_BYTES) rs pages stood.opened) opening stood.opened.roomy
           reached.works last.store opened.first reached.restarts opened.redone opened.no_losers (opened.over o opening) from;
     }
 
   -- no call waits in a world that was opened
-  pub none_waiting : {w : World L V G H} {log volume : History} {rs : List LogRecord} {pages : LoggedPages} (opens : HasOpened w g log volume rs pages) → AreLast [] opens.opened.first
+  pub none_waiting : {w : World L V G H} {log volume : DeviceHistory} {rs : List LogRecord} {pages : LoggedPages} (opens : HasOpened w g log volume rs pages) → AreLast [] opens.opened.first
   none_waiting {rs = rs} opens w there = absurd (subst (IsAmong w) (opens.opened.over (logged_opening rs) (opening_logged rs)).waiting there)
 
   -- ---- one manager
@@ -305,7 +302,7 @@ module _ {L V : Type 0} {G : Ghosts L} {H : Ghosts V} (g : Geometry) (log_bytes 
     stands = formatted_stand g log_bytes volume_bytes c d formatted;
   }
 
-  module _ (before : List (Stay L V G H)) (left : List ℕ → List ℕ → Type 0) (has : EachHasStayed before left) (log volume : History)
+  module _ (before : List (Stay L V G H)) (left : List ℕ → List ℕ → Type 0) (has : EachHasStayed before left) (log volume : DeviceHistory)
       (found : AreFound log_bytes volume_bytes left log volume) where
     -- what is read is among what may be left
     pub as_read : HaveStayed before (seen log) (seen volume)
@@ -368,7 +365,7 @@ module _ {L V : Type 0} {G : Ghosts L} {H : Ghosts V} (g : Geometry) (log_bytes 
         stands = one.stands;
       }
 
-  stays_have : (before : List (Stay L V G H)) (left : List ℕ → List ℕ → Type 0) → EachHasStayed before left → (stays : List (Stay L V G H)) (log_last volume_last : History)
+  stays_have : (before : List (Stay L V G H)) (left : List ℕ → List ℕ → Type 0) → EachHasStayed before left → (stays : List (Stay L V G H)) (log_last volume_last : DeviceHistory)
       → AreStays log_bytes volume_bytes left stays log_last volume_last
       → EachHasStayed (before ++ stays) (λ c d. may_leave log_last c × may_leave volume_last d) × ((size log_last ≡ log_bytes) × (size volume_last ≡ volume_bytes))
   stays_have before left has [] log_last volume_last found = (
@@ -385,7 +382,7 @@ module _ {L V : Type 0} {G : Ghosts L} {H : Ghosts V} (g : Geometry) (log_bytes 
       (stays_have (before ++ Up m ∷ []) (AreLeft m.ended) (manager_has before left has m are.0 are.1) stays log_last volume_last are.2)
 
   -- from a format to the devices that are found in the end
-  pub have_stayed : (stays : List (Stay L V G H)) (log_last volume_last : History) → AreStays log_bytes volume_bytes (AreFormatted g log_bytes volume_bytes) stays log_last volume_last
+  pub have_stayed : (stays : List (Stay L V G H)) (log_last volume_last : DeviceHistory) → AreStays log_bytes volume_bytes (AreFormatted g log_bytes volume_bytes) stays log_last volume_last
       → EachHasStayed stays (λ c d. may_leave log_last c × may_leave volume_last d) × ((size log_last ≡ log_bytes) × (size volume_last ≡ volume_bytes))
   have_stayed stays log_last volume_last are = stays_have [] (AreFormatted g log_bytes volume_bytes) formatted_has stays log_last volume_last are
 
@@ -423,12 +420,7 @@ module _ {L V : Type 0} {G : Ghosts L} {H : Ghosts V} (g : Geometry) (log_bytes 
 
 -- ---- what an open at the end shows
 
--- the global ids of those that are found in doubt
-pairs_found : (ds : List InDoubt) → pairs_of (map found_in_doubt ds) ≡ map (λ (d : InDoubt). (d.txn, d.global)) ds
-pairs_found [] = refl
-pairs_found (d ∷ ds) = ap (λ (ps : List (ℕ × List ℕ)). (d.txn, d.global) ∷ ps) (pairs_found ds)
-
-module _ {L V : Type 0} {G : Ghosts L} {H : Ghosts V} (g : Geometry) (o : Opening) (rs : List LogRecord) (pages : LoggedPages) (opening : IsOpeningOf rs o) (log volume : History)
+module _ {L V : Type 0} {G : Ghosts L} {H : Ghosts V} (g : Geometry) (o : Opening) (rs : List LogRecord) (pages : LoggedPages) (opening : IsOpeningOf rs o) (log volume : DeviceHistory)
     (stood : StandsFor g (size log) (size volume) rs pages (seen log) (seen volume)) (w : World L V G H) (opens : HasOpened w g log volume rs pages) where
   abbrev now : StoredState
   now = record { state = opens.opened.first; store = opens.way.last.store }
@@ -454,17 +446,15 @@ module _ {L V : Type 0} {G : Ghosts L} {H : Ghosts V} (g : Geometry) (o : Openin
     under_way = subst (λ (x : Geometry). IsUnderWay x (stream_bytes_in w) o rs [] now) (sym up.geometry) (subst (λ n. IsUnderWay g n o rs [] now) (sym up.long) up.under_way);
   }
 
-  opened_in_doubt : HasInDoubt w o now.state
-  opened_in_doubt =
-      let same_log : opens.way.last.store.log ≡ list_in w = over.stored.log ∙ opens.opened.at.is_in.beside.parts.log in
-      let held : now.state.sessions.held ≡ held_by_all (requests_in w) = over.locks.held ∙ ap (λ (t : Table). held_by_all t.requests) opens.opened.at.is_in.beside.parts.stands.locks in
-      record {
-        prepared = ap pairs_of over.sessions.prepared ∙ pairs_found o.in_doubt;
-        active = over.sessions.active;
-        locks = subst (AreRestored (list_in w)) held (subst (λ (l : List LogRecord). AreRestored l now.state.sessions.held) same_log over.sessions.locks);
-      }
+  opened_in_doubt : HasInDoubt w o rs now.state
+  opened_in_doubt = record {
+    prepared = over.sessions.prepared;
+    active = over.sessions.active;
+    locks = opens.opened.doubts.locks.restored;
+    nobody_waits = opens.opened.doubts.locks.nobody_waits;
+  }
 
-  pub opened_so : (k : IsManagerOf w o [] []) × HasInDoubt w o k.now.state
+  pub opened_so : (k : IsManagerOf w o [] []) × HasInDoubt w o rs k.now.state
   unfolding opened_manager
   opened_so = (opened_manager, opened_in_doubt)
 

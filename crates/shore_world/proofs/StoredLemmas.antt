@@ -4,7 +4,7 @@ use Rattle.std.specs.List.{AllByRecursion}
 use Rattle.shore_types.specs.declared.faults.Fault.{Fault}
 use Rattle.shore_types.specs.declared.layout.Geometry.{Geometry}
 use Rattle.shore_types.specs.declared.layout.TheConstants.{LOG_FRONT_BYTES, LONGEST_FRAME}
-use Rattle.shore_disk.specs.Device.{History, size}
+use Rattle.shore_disk.specs.Device.{DeviceHistory, size}
 use Rattle.shore_disk.specs.declared.device.Disk.{Ghosts}
 use Rattle.shore_model.specs.declared.calls.Answer.TheVariants.{Staged, Forced}
 use Rattle.shore_model.specs.declared.histories.Entry.{Entry}
@@ -119,7 +119,7 @@ module _ {L V : Type 0} {G : Ghosts L} {H : Ghosts V} (g : Geometry) (stream_byt
       })
 
   still_long : (old new : World L V G H) → LeavesAtAnyMoment old new → SurvivesCrashes old log_front → stream_bytes_in new ≡ stream_bytes_in old
-  still_long old new moment k = ap (λ (h : History). size h - LOG_FRONT_BYTES) (moment.log log_front k).later.1
+  still_long old new moment k = ap (λ (h : DeviceHistory). size h - LOG_FRONT_BYTES) (moment.log log_front k).later.1
 
   module _ (es : List Entry) (old : World L V G H) (m : StoredState) (up : IsUpAt es old m) where
     abbrev one_run : (new : World L V G H) → geometry_in new ≡ geometry_in old → LeavesAtAnyMoment old new → (later : State) (comes : WorldComesTo new log_front front m.store later)
@@ -127,8 +127,14 @@ module _ {L V : Type 0} {G : Ghosts L} {H : Ghosts V} (g : Geometry) (stream_byt
     one_run new geometry moment later comes moves is = record {
       events = is.stored ∷ [];
       last = record { state = later; store = comes.after };
-      made = entries_made m is.stored;
-      stored = (record { state = later; store = comes.after }, [], is.steps, (refl, refl), sym (append-nil (entries_made m is.stored)));
+      made = entries_made m is.stored (record { state = later; store = comes.after });
+      stored = (
+        record { state = later; store = comes.after },
+        [],
+        is.steps,
+        (refl, refl),
+        sym (append-nil (entries_made m is.stored (record { state = later; store = comes.after }))),
+      );
       same = is.same;
       up = record {
         disk = comes.left;

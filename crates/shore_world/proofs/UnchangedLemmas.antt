@@ -2,7 +2,7 @@
 use Rattle.std.proofs.Common.{◌≡◌, ◌++◌, ℕ, List, Bool, true, false, IsTrue, refl, sym, ◌∙◌, ap, subst}
 use Rattle.std.specs.Prelude.{◌↔◌}
 use Rattle.shore_types.specs.declared.layout.Geometry.{Geometry}
-use Rattle.shore_disk.specs.Device.{History, may_leave}
+use Rattle.shore_disk.specs.Device.{DeviceHistory, may_leave}
 use Rattle.shore_disk.specs.declared.device.Disk.{Ghosts}
 use Rattle.shore_log.specs.Settled.{records_of_log}
 use Rattle.shore_log.specs.declared.device.LogDev.{LogDev}
@@ -35,7 +35,7 @@ module _ {L V : Type 0} {G : Ghosts L} {H : Ghosts V} where
           is_in = is_in front disk s at.is_in;
           over = over disk s store at.over;
           log = kept_as_before old new list durable (ap G.history device) (λ run. sym failed ∙ run) log_front (ready log_front) at.log;
-          volume = λ c may. subst (λ (g : Geometry). ShowsLeft g front store c) (sym geometry) (at.volume c (subst (λ (h : History). may_leave h c) volume may));
+          volume = λ c may. subst (λ (g : Geometry). ShowsLeft g front store c) (sym geometry) (at.volume c (subst (λ (h : DeviceHistory). may_leave h c) volume may));
         };
         device = device;
         pool = pool;

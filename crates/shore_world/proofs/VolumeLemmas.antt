@@ -1,7 +1,7 @@
 -- What a world comes to that was at a state and a store, by what was done to its volume.
 use Rattle.std.proofs.Common.{◌≡◌, ◌⊎◌, inl, inr, ℕ, ◌≤◌, List, [], ◌∷◌, Bool, true, false, IsTrue, length, refl, sym, ◌∙◌, ap, subst, arith}
 use Rattle.shore_types.specs.declared.layout.Geometry.{Geometry}
-use Rattle.shore_disk.specs.Device.{History, LeavesOnly, may_leave}
+use Rattle.shore_disk.specs.Device.{DeviceHistory, LeavesOnly, may_leave}
 use Rattle.shore_disk.specs.declared.device.Disk.{Ghosts}
 use Rattle.shore_disk.proofs.Moments.{at_end, started, widened}
 use Rattle.shore_heap.specs.Heaps as heaps
@@ -55,7 +55,7 @@ module _ {L V : Type 0} {G : Ghosts L} {H : Ghosts V} where
   pub volume_still : (old new : World L V G H) → volume_history_in new ≡ volume_history_in old → (log_front front : List ℕ) (disk : ℕ → List ℕ) (s : State) (store : RecoveryState)
       → IsAt old log_front front disk s store → LeavesOnly (volume_history_in old) (volume_history_in new) (ShowsLeft (geometry_in old) front store)
   volume_still old new same log_front front disk s store at =
-      subst (λ (h : History). LeavesOnly (volume_history_in old) h (ShowsLeft (geometry_in old) front store)) (sym same)
+      subst (λ (h : DeviceHistory). LeavesOnly (volume_history_in old) h (ShowsLeft (geometry_in old) front store)) (sym same)
       (started (volume_history_in old) (ShowsLeft (geometry_in old) front store) at.volume)
 
   -- one that pages may have been written back to, if it had not failed
@@ -75,7 +75,7 @@ module _ {L V : Type 0} {G : Ghosts L} {H : Ghosts V} where
   pub log_still : (old new : World L V G H) → history_in new ≡ history_in old → (log_front : List ℕ) → SurvivesCrashes old log_front
       → LeavesOnly (history_in old) (history_in new) (GivesPrefixOf log_front (durable_in old) (list_in old))
   log_still old new same log_front k =
-      subst (λ (h : History). LeavesOnly (history_in old) h (GivesPrefixOf log_front (durable_in old) (list_in old))) (sym same)
+      subst (λ (h : DeviceHistory). LeavesOnly (history_in old) h (GivesPrefixOf log_front (durable_in old) (list_in old))) (sym same)
       (started (history_in old) (GivesPrefixOf log_front (durable_in old) (list_in old)) k.images)
 
   -- neither device
@@ -105,7 +105,7 @@ module _ {L V : Type 0} {G : Ghosts L} {H : Ghosts V} where
       over = over;
       log = kept;
       volume = λ c may. shows_left (geometry_in new) front store after log covers c
-          (subst (λ (g : Geometry). ShowsLeft g front store c) (sym geometry) (at.volume c (subst (λ (h : History). may_leave h c) same may)));
+          (subst (λ (g : Geometry). ShowsLeft g front store c) (sym geometry) (at.volume c (subst (λ (h : DeviceHistory). may_leave h c) same may)));
     };
   }
 

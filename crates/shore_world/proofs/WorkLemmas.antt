@@ -74,7 +74,8 @@ waits_again : (g : Geometry) (s new : State) (session : ℕ) (at : Granule) (w :
     → ResumesWait g s w wait (Waits (Lock at)) new → HasWaitingCall new session
 waits_again g s new session at w there of (Durable n) (inl h) = let clash = h.1 in absurd cc
 waits_again g s new session at w there of (Durable n) (inr (inl h)) = let clash = h.1 in absurd cc
-waits_again g s new session at w there of (Durable n) (inr (inr h)) = let clash = h.1 in absurd cc
+waits_again g s new session at w there of (Durable n) (inr (inr (inl h))) = let clash = h.1 in absurd cc
+waits_again g s new session at w there of (Durable n) (inr (inr (inr h))) = let clash = h.1 in absurd cc
 waits_again g s new session at w there of (Lock was) h = ⊎_elim
     (λ still. (w, subst (λ (x : State). IsAmong w x.waiting) (sym still.2) there, of))
     (λ goes. subst (λ (x : State). HasWaitingCall x session) (sym goes.1.5) (lock_waiting h.0 w.call goes.1.1, inl refl, h.1.1 ∙ of))

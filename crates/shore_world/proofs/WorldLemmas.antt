@@ -2,7 +2,7 @@
 use Rattle.std.proofs.Common.{◌≡◌, ◌≢◌, ◌⊎◌, inl, inr, ℕ, ◌+◌, ◌-◌, ◌≤◌, List, [], ◌++◌, length, take, drop, Bool, true, false, Option, Some, None, IsTrue, refl, sym, ◌∙◌, ap, subst, arith, length-append, length-drop, append-nil}
 use Rattle.std.specs.Prelude.{◌↔◌, IsSome, IsSomeAnd}
 use Rattle.std.proofs.lemmas.List.{take-append-le, length-take, length-take-le}
-use Rattle.shore_disk.specs.Device.{History, may_leave, LeavesOnly}
+use Rattle.shore_disk.specs.Device.{DeviceHistory, may_leave, LeavesOnly}
 use Rattle.shore_disk.specs.declared.device.Disk.{Ghosts}
 use Rattle.shore_disk.proofs.Moments.{widened, at_end}
 use Rattle.shore_model.specs.declared.log_records.LogRecord.{LogRecord}
@@ -150,7 +150,7 @@ module _ {L V : Type 0} {G : Ghosts L} {H : Ghosts V} where
       record {
         images = λ c left. subst (λ n. GivesPrefixOf front n (list_in new) c) (sym g.durable)
             (subst (λ (l : List LogRecord). GivesPrefixOf front (durable_in old) l c) (sym g.list)
-            (longer front (durable_in old) (list_in old) g.more c (k.images c (subst (λ (h : History). may_leave h c) same left))));
+            (longer front (durable_in old) (list_in old) g.more c (k.images c (subst (λ (h : DeviceHistory). may_leave h c) same left))));
         ready = λ running. ready front (k.ready (g.running running));
       }
 
@@ -291,7 +291,7 @@ module _ {L V : Type 0} {G : Ghosts L} {H : Ghosts V} where
   pub kept_as_before : (old new : World L V G H) → list_in new ≡ list_in old → durable_in new ≡ durable_in old → history_in new ≡ history_in old
       → (failed_in new ≡ false → failed_in old ≡ false) → (front : List ℕ) → (IsReady old front → IsReady new front) → SurvivesCrashes old front → SurvivesCrashes new front
   kept_as_before old new list durable same running front ready k = record {
-    images = λ c left. as_before old new front c list durable (k.images c (subst (λ (h : History). may_leave h c) same left));
+    images = λ c left. as_before old new front c list durable (k.images c (subst (λ (h : DeviceHistory). may_leave h c) same left));
     ready = λ run. ready (k.ready (running run));
   }
 

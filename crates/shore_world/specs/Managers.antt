@@ -3,7 +3,7 @@
 use Rattle.std.specs.Prelude.{◌≡◌, ◌≢◌, ℕ, List, [], ◌∷◌, All}
 use Rattle.shore_types.specs.declared.faults.Fault.TheVariants.{LogFull}
 use Rattle.shore_types.specs.declared.layout.Geometry.{Geometry}
-use Rattle.shore_disk.specs.Device.{History, may_leave, seen, size}
+use Rattle.shore_disk.specs.Device.{DeviceHistory, may_leave, seen, size}
 use Rattle.shore_disk.specs.declared.device.Disk.{Ghosts}
 use Rattle.shore_model.specs.declared.log_records.LogRecord.{LogRecord}
 use Rattle.laws_lives.specs.Pages.{LoggedPages}
@@ -34,8 +34,8 @@ NoForceIsFull (e ∷ es) [] = ⊥
 -- One manager on a pair: it is opened on devices with these calls behind them and makes these events, which are these moves of the manager over plain
 -- data.
 pub record Manager (L V : Type 0) (G : Ghosts L) (H : Ghosts V) : Type 0 where
-  pub log : History
-  pub volume : History
+  pub log : DeviceHistory
+  pub volume : DeviceHistory
   pub opened : World L V G H
   pub events : List Event
   pub steps : List Step
@@ -51,19 +51,19 @@ pub record IsManager {L V : Type 0} {G : Ghosts L} {H : Ghosts V} (m : Manager L
 
 -- `Tried`: an open that came to no manager, of devices with these calls behind them; `Up`: a manager
 pub data Stay (L V : Type 0) (G : Ghosts L) (H : Ghosts V) : Type 0 where
-  Tried : History → History → Stay L V G H
+  Tried : DeviceHistory → DeviceHistory → Stay L V G H
   Up : Manager L V G H → Stay L V G H
 
 -- ---- one after another
 
 -- What the next open finds: devices of these lengths, a crash of which leaves only such pairs of images as the stay before could leave together at some
 -- moment. So it is if the power was lost then, and they hold one such pair; if the process ended then; and if the stay ended and handed the devices back.
-pub record AreFound (log_bytes volume_bytes : ℕ) (left : List ℕ → List ℕ → Type 0) (log volume : History) : Type 0 where
+pub record AreFound (log_bytes volume_bytes : ℕ) (left : List ℕ → List ℕ → Type 0) (log volume : DeviceHistory) : Type 0 where
   pub lengths : (size log ≡ log_bytes) × (size volume ≡ volume_bytes)
   pub among : (log_image volume_image : List ℕ) → may_leave log log_image → may_leave volume volume_image → left log_image volume_image
 
 -- From devices of which at first these pairs of images may be left, to those that are found in the end.
-abbrev pub AreStays : {L V : Type 0} {G : Ghosts L} {H : Ghosts V} → ℕ → ℕ → (List ℕ → List ℕ → Type 0) → List (Stay L V G H) → History → History → Type 0
+abbrev pub AreStays : {L V : Type 0} {G : Ghosts L} {H : Ghosts V} → ℕ → ℕ → (List ℕ → List ℕ → Type 0) → List (Stay L V G H) → DeviceHistory → DeviceHistory → Type 0
 AreStays log_bytes volume_bytes left [] log_last volume_last = AreFound log_bytes volume_bytes left log_last volume_last
 AreStays log_bytes volume_bytes left (Tried log volume ∷ stays) log_last volume_last =
     AreFound log_bytes volume_bytes left log volume × AreStays log_bytes volume_bytes (LeftByOpen log volume) stays log_last volume_last

@@ -1,17 +1,15 @@
 -- What an open says of its way, if what is read of its devices stands for a log: past both barriers, and from moment to moment, by steps of a restart, to
 -- the world that it answers.
-use Rattle.std.specs.Prelude.{◌≡◌, ◌⊎◌, ◌-◌, ◌≤◌, ℕ, List, [], ◌∷◌, Result, Ok, Err, length, take}
+use Rattle.std.specs.Prelude.{◌≡◌, ◌⊎◌, ◌-◌, List, [], ◌∷◌, ℕ, Result, Ok, Err, length, take}
 use Rattle.shore_types.specs.declared.faults.Fault.{Fault}
 use Rattle.shore_types.specs.declared.layout.Geometry.{Geometry}
 use Rattle.shore_types.specs.declared.layout.TheConstants.{LOG_FRONT_BYTES}
-use Rattle.shore_disk.specs.Device.{History, may_leave, seen, size}
+use Rattle.shore_disk.specs.Device.{DeviceHistory, may_leave, seen, size}
 use Rattle.shore_disk.specs.declared.device.Disk.{Ghosts}
 use Rattle.shore_fronts.specs.Barriers.{IsBeforeBarrier, IsBehindBarrier}
 use Rattle.shore_dwrite.specs.declared.places.TheConstants.{GATE_AT}
 use Rattle.shore_model.specs.declared.histories.Opening.{Opening}
 use Rattle.shore_model.specs.declared.log_records.LogRecord.{LogRecord}
-use Rattle.shore_analysis.specs.declared.analysis.Tables.{Tables}
-use Rattle.shore_analysis.specs.Tables.{AreTables}
 use Rattle.laws_lives.specs.Doubts.{IsOpeningOf}
 use Rattle.laws_lives.specs.Pages.{LoggedPages}
 use Rattle.laws_lives.specs.Undo.{HasNoLosers}
@@ -20,7 +18,8 @@ use Rattle.laws_runs.specs.RoomyStates.{IsOpenedFrom}
 use Rattle.laws_calls.specs.States.{State}
 use Rattle.laws_images.specs.Moments.{IsLostAlong, Moment, Path}
 use Rattle.laws_images.specs.StandsFor.{StandsFor, begun_on}
-use Rattle.shore_restart.specs.declared.passes.Report.{Report}
+use Rattle.shore_core.specs.Cores.{control_of}
+use Rattle.shore_restart.specs.GivenBack.{HasDoubtsBack}
 use Rattle.shore_restart.specs.Turns.{IsUndoneSoFar}
 use Rattle.shore_world.specs.declared.world.World.{World}
 use Rattle.shore_world.specs.Crashes.{IsEndedBetween}
@@ -29,9 +28,9 @@ use Rattle.shore_world.specs.Worlds.{IsAt, geometry_in, history_in, volume_histo
 -- ---- the way
 
 -- From devices with these calls behind them, of which a log and pages are read: both pass their barriers, and from there it goes by steps of a restart.
-pub record OpenWay (g : Geometry) (log volume : History) (rs : List LogRecord) (pages : LoggedPages) : Type 0 where
-  pub log_behind : History
-  pub volume_behind : History
+pub record OpenWay (g : Geometry) (log volume : DeviceHistory) (rs : List LogRecord) (pages : LoggedPages) : Type 0 where
+  pub log_behind : DeviceHistory
+  pub volume_behind : DeviceHistory
   pub barriers : IsBehindBarrier log log_behind × IsBehindBarrier volume volume_behind
   pub moments : List Moment
   pub last : Moment
@@ -39,30 +38,31 @@ pub record OpenWay (g : Geometry) (log volume : History) (rs : List LogRecord) (
 
 -- What a crash may leave of two devices at some moment of an open of them, or behind one that was refused, if what is read of them stands for a log and
 -- pages: what they could have left before the call, until both barriers have answered; and from then on what is lost on the way.
-abbrev pub LeftByOpen : History → History → List ℕ → List ℕ → Type 0
+abbrev pub LeftByOpen : DeviceHistory → DeviceHistory → List ℕ → List ℕ → Type 0
 LeftByOpen log volume log_left volume_left =
     (g : Geometry) (rs : List LogRecord) (pages : LoggedPages) → StandsFor g (size log) (size volume) rs pages (seen log) (seen volume)
     → (may_leave log log_left × may_leave volume volume_left)
     ⊎ ((way : OpenWay g log volume rs pages) × IsLostAlong (begun_on way.log_behind way.volume_behind rs pages) way.moments log_left volume_left)
 
 -- The process of an open ends on the way between two of these moments, with no loss of power.
-abbrev pub IsEndedAlong : Moment → List Moment → History → History → Type 0
+abbrev pub IsEndedAlong : Moment → List Moment → DeviceHistory → DeviceHistory → Type 0
 IsEndedAlong first [] log volume = IsEndedBetween first.log first.log log × IsEndedBetween first.volume first.volume volume
 IsEndedAlong first (next ∷ later) log volume =
     (IsEndedBetween first.log next.log log × IsEndedBetween first.volume next.volume volume) ⊎ IsEndedAlong next later log volume
 
 -- .. before both barriers have answered, or on the way from there, if what is read of the devices stands for a log and pages
-abbrev pub AreEndedInOpen : History → History → History → History → Type 0
+abbrev pub AreEndedInOpen : DeviceHistory → DeviceHistory → DeviceHistory → DeviceHistory → Type 0
 AreEndedInOpen log volume log_now volume_now =
     (g : Geometry) (rs : List LogRecord) (pages : LoggedPages) → StandsFor g (size log) (size volume) rs pages (seen log) (seen volume)
-    → ((log_later : History) × (volume_later : History) × IsBeforeBarrier log log_later × IsBeforeBarrier volume volume_later
+    → ((log_later : DeviceHistory) × (volume_later : DeviceHistory) × IsBeforeBarrier log log_later × IsBeforeBarrier volume volume_later
     × IsEndedBetween log log_later log_now × IsEndedBetween volume volume_later volume_now)
     ⊎ ((way : OpenWay g log volume rs pages) × IsEndedAlong (begun_on way.log_behind way.volume_behind rs pages) way.moments log_now volume_now)
 
 -- ---- its end
 
 -- The world is what a restart of this log has made of its last moment: all is redone, nobody is left to be undone, and it opens as the log that was found
--- says, with those in doubt whom it has. Nobody asks for a lock, and there may be as many requests as the geometry says.
+-- says. Those in doubt whom that has are under way, each with its undo list and its name, and in no session; they hold their locks, nobody has another or waits for
+-- one, and no call waits. There may be as many requests as the geometry says.
 pub record IsOpenedAt {L V : Type 0} {G : Ghosts L} {H : Ghosts V} (w : World L V G H) (g : Geometry) (log_front front : List ℕ) (found : List LogRecord) (last : Moment) : Type 0 where
   pub geometry : geometry_in w ≡ g
   pub histories : (history_in w ≡ last.log) × (volume_history_in w ≡ last.volume)
@@ -72,27 +72,19 @@ pub record IsOpenedAt {L V : Type 0} {G : Ghosts L} {H : Ghosts V} (w : World L 
   pub disk : ℕ → List ℕ
   pub at : IsAt w log_front front disk first last.store
   pub over : (o : Opening) → IsOpeningOf found o → IsOpenedOver o last.store first
-  pub from : IsOpenedFrom (size last.log - LOG_FRONT_BYTES) last.store.log first
-  pub locks : first.locks ≡ record { limit = g.max_locks; requests = [] }
+  pub from : IsOpenedFrom g (size last.log - LOG_FRONT_BYTES) last.store.log first
+  pub doubts : HasDoubtsBack g.max_locks found (control_of w.core)
 
 -- The world is there at the end of the way, on which the losers have taken their turns in their order.
-pub record HasOpened {L V : Type 0} {G : Ghosts L} {H : Ghosts V} (w : World L V G H) (g : Geometry) (log volume : History) (rs : List LogRecord) (pages : LoggedPages) : Type 0 where
+pub record HasOpened {L V : Type 0} {G : Ghosts L} {H : Ghosts V} (w : World L V G H) (g : Geometry) (log volume : DeviceHistory) (rs : List LogRecord) (pages : LoggedPages) : Type 0 where
   pub way : OpenWay g log volume rs pages
   pub opened : IsOpenedAt w g (take LOG_FRONT_BYTES (seen log)) (take GATE_AT (seen volume)) rs way.last
   pub undone : IsUndoneSoFar rs way.last.store.log
 
 -- What an open comes to: a world at the end of its way; or it is refused, and hands the devices back before both barriers have answered, or from where its
 -- way has led.
-abbrev pub OpensAlong : {L V : Type 0} {G : Ghosts L} {H : Ghosts V} → Result (World L V G H) (Fault × L × V) → Geometry → History → History → List LogRecord → LoggedPages → Type 0
+abbrev pub OpensAlong : {L V : Type 0} {G : Ghosts L} {H : Ghosts V} → Result (World L V G H) (Fault × L × V) → Geometry → DeviceHistory → DeviceHistory → List LogRecord → LoggedPages → Type 0
 OpensAlong (Ok w) g log volume rs pages = HasOpened w g log volume rs pages
 OpensAlong {G = G} {H = H} (Err refused) g log volume rs pages =
     (IsBeforeBarrier log (G.history refused.1) × IsBeforeBarrier volume (H.history refused.2))
     ⊎ ((way : OpenWay g log volume rs pages) × (way.last.log ≡ G.history refused.1) × (way.last.volume ≡ H.history refused.2))
-
--- What a restart tells of a log that it found: how many records it has, how many of them pages lacked, and how many transactions it had to end.
-pub record IsReportOf (found : List LogRecord) (report : Report) : Type 0 where
-  pub read : report.read ≡ length found
-  pub redone : report.redone ≤ report.read
-  pub tables : Tables
-  pub analysed : AreTables found tables
-  pub undone : report.undone ≡ length tables.txns

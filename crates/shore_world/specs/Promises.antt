@@ -5,19 +5,21 @@ use Rattle.shore_types.specs.declared.faults.Fault.TheVariants.{Deadlock, Device
 use Rattle.shore_disk.specs.declared.device.Disk.{Ghosts}
 use Rattle.shore_model.specs.declared.calls.Answer.TheVariants.{Flushed, Forced, Staged}
 use Rattle.shore_model.specs.declared.calls.Call.{Call}
+use Rattle.shore_model.specs.declared.histories.Decision.TheVariants.{Commit, RollBack}
 use Rattle.shore_model.specs.declared.histories.Entry.{Entry}
 use Rattle.shore_model.specs.declared.histories.Opening.{Opening}
 use Rattle.shore_model.specs.declared.log_records.LogRecord.{LogRecord}
 use Rattle.shore_model.specs.declared.step.Step.{Step}
 use Rattle.shore_model.specs.declared.step.Step.TheVariants.{Done, Nothing, Refused}
+use Rattle.shore_path.specs.Restoring.{NobodyWaits}
 use Rattle.shore_flush.specs.Flushes.{Flushes, NoneDue}
 use Rattle.shore_heap.specs.Heaps.{pool_of}
 use Rattle.shore_core.specs.Cores.{heap_of}
 use Rattle.laws_lives.specs.Doubts.{AreRestored, IsOpeningOf}
-use Rattle.laws_lives.specs.Sessions.{in_txn, pairs_of, txns_of}
-use Rattle.laws_lives.specs.Soundness.{decided_txn}
+use Rattle.laws_lives.specs.Sessions.{in_txn, txns_of}
+use Rattle.laws_lives.specs.Soundness.{decided_txn, found_in_doubt}
 use Rattle.laws_lives.specs.Views.{IsAmong}
-use Rattle.shore_model.specs.Histories.{decisions, free, session_state}
+use Rattle.shore_model.specs.Histories.{decisions, free, in_doubt, session_state}
 use Rattle.shore_model.specs.Requests.{held_by_all}
 use Rattle.laws_runs.specs.SoundStores.{IsUnderWay}
 use Rattle.laws_runs.specs.StoredRuns.{StoredState}
@@ -49,16 +51,21 @@ pub record IsManagerOf {L V : Type 0} {G : Ghosts L} {H : Ghosts V} (w : World L
   pub there : AllWaitThere now.state
   pub firsts : AllBeginWithTheirs now.state
 
--- Those whom the opening has in doubt, and nobody else, are in doubt and under way in the state. Locks are held on the granules that their Prepares name, with
--- the intentions above these, and no others.
-pub record HasInDoubt {L V : Type 0} {G : Ghosts L} {H : Ghosts V} (w : World L V G H) (o : Opening) (s : State) : Type 0 where
-  pub prepared : pairs_of s.sessions.prepared ≡ map (λ d. (d.txn, d.global)) o.in_doubt
+-- Those whom the opening has in doubt, and nobody else, are in doubt and under way in the state, each under its name and to be resolved. They hold EX on the granules
+-- that their Prepares name in the log that was found, and IX above these. Nobody holds anything else, and nobody waits for a lock.
+pub record HasInDoubt {L V : Type 0} {G : Ghosts L} {H : Ghosts V} (w : World L V G H) (o : Opening) (found : List LogRecord) (s : State) : Type 0 where
+  pub prepared : s.sessions.prepared ≡ map found_in_doubt o.in_doubt
   pub active : txns_of s.sessions.active ≡ map (λ d. d.txn) o.in_doubt
-  pub locks : AreRestored (list_in w) (held_by_all (requests_in w))
+  pub locks : AreRestored found (held_by_all (requests_in w))
+  pub nobody_waits : NobodyWaits (requests_in w)
 
--- each of these transactions is not ended: a session is in it, and it is not decided
-abbrev pub AreUnended : List Entry → List ℕ → Type 0
-AreUnended es ts = (t : ℕ) → IsAmong t ts → (session : ℕ) × (session_state session free es ≡ in_txn t) × AllByRecursion (λ d. decided_txn d ≢ t) (decisions es)
+-- Each of these transactions is not ended: a session is in it, and it is not decided; or it is in doubt, prepared and not decided further; or it was, and it is
+-- decided that it is rolled back.
+abbrev pub AreUnended : Opening → List Entry → List ℕ → Type 0
+AreUnended o es ts = (t : ℕ) → IsAmong t ts →
+    ((session : ℕ) × (session_state session free es ≡ in_txn t) × AllByRecursion (λ d. decided_txn d ≢ t) (decisions es))
+    ⊎ ((global : List ℕ) × IsAmong (t, global) (in_doubt o.in_doubt (decisions es)))
+    ⊎ (IsAmong (RollBack t) (decisions es) × (IsAmong (Commit t) (decisions es) → ⊥))
 
 -- The world is in this state, as far as it can be seen: its lock requests, its log, what of it is durable, whether a device has failed, and what dumps show.
 pub record IsStateOf {L V : Type 0} {G : Ghosts L} {H : Ghosts V} (w : World L V G H) (s : State) : Type 0 where

@@ -7,7 +7,7 @@ use Rattle.shore_types.specs.Layout.{HasPage}
 use Rattle.shore_types.specs.declared.ids.PageId.{PageId}
 use Rattle.shore_types.specs.declared.layout.Geometry.{Geometry}
 use Rattle.shore_types.specs.declared.layout.TheConstants.{LOG_FRONT_BYTES}
-use Rattle.shore_disk.specs.Device.{History, seen, size}
+use Rattle.shore_disk.specs.Device.{DeviceHistory, seen, size}
 use Rattle.shore_gate.specs.Anchor.{offset_of}
 use Rattle.shore_gate.specs.declared.gates.TheConstants.{OPEN}
 use Rattle.shore_model.specs.declared.log_records.LogRecord.{LogRecord}
@@ -20,7 +20,7 @@ use Rattle.shore_dwrite.specs.declared.places.TheConstants.{GATE_AT}
 use Rattle.shore_fronts.specs.Pairs.{HaveFronts, RefusesFronts}
 use Rattle.laws_lives.specs.Pages.{AreAsOfOwnNumbers, LoggedPages}
 use Rattle.laws_heaps.specs.LoggedHeaps.{LeavesStore}
-use Rattle.shore_analysis.specs.Meant.{AreMeant, IsFirstUnmeant}
+use Rattle.shore_restart.specs.Doubts.{IsRefusedBy, IsTaken}
 use Rattle.shore_restart.specs.Turns.{IsMisfit, LacksRoom}
 use Rattle.laws_images.specs.StandsFor.{StandsFor}
 
@@ -29,28 +29,29 @@ pub record ShowsLogged (g : Geometry) (rs : List LogRecord) (pages : LoggedPages
   pub shown : LeavesStore rs g (take GATE_AT image) pages image
   pub as_of : AreAsOfOwnNumbers rs pages
 
--- Why record n is named: it is the first that does not mean what it has to; or all do, and over pages as the log speaks of them it does not fit its page,
--- or what its undo brings back does not, behind the records of undo so far.
-abbrev pub IsNamedFor : Geometry → List LogRecord → History → ℕ → Type 0
-IsNamedFor g rs volume n = IsFirstUnmeant g rs n ⊎ (AreMeant g rs × ((pages : LoggedPages) → ShowsLogged g rs pages (seen volume) → IsMisfit rs n))
+-- Why record n is named: it is the first that does not mean what it has to; or all do, and it is the Prepare of the first in doubt that cannot hold what is its
+-- beside those before it; or they all can, and over pages as the log speaks of them it does not fit its page, or what its undo brings back does not, behind the
+-- records of undo so far, or behind all of them what the rollback of one in doubt may bring back.
+abbrev pub IsNamedFor : Geometry → List LogRecord → DeviceHistory → ℕ → Type 0
+IsNamedFor g rs volume n = IsRefusedBy g rs n ⊎ (IsTaken g rs × ((pages : LoggedPages) → ShowsLogged g rs pages (seen volume) → IsMisfit rs n))
 
 -- by such a record of the log: its frame is at the offset, on the log device as it is handed back
-abbrev pub NamesRecord : Geometry → List LogRecord → History → History → Fault → Type 0
+abbrev pub NamesRecord : Geometry → List LogRecord → DeviceHistory → DeviceHistory → Fault → Type 0
 NamesRecord g rs volume left fault = (n : ℕ) × (offset : ℕ) × (0 < n) × (n ≤ length rs) × (fault ≡ Damaged Log offset) × IsFrameOf LOG_FRONT_BYTES (seen left) n offset
     × IsNamedFor g rs volume n
 
--- by the anchor that counts: all records mean what they have to, and the log lacks room for itself or for the records of undo
+-- by the anchor that counts: a restart may work on the log, which lacks room for itself and what those in doubt have reserved, or for the records of undo besides
 abbrev pub NamesAnchor : Geometry → List LogRecord → ℕ → ℕ → Fault → Type 0
-NamesAnchor g rs stream_bytes anchor fault = (fault ≡ Damaged Log anchor) × AreMeant g rs × LacksRoom rs stream_bytes
+NamesAnchor g rs stream_bytes anchor fault = (fault ≡ Damaged Log anchor) × IsTaken g rs × LacksRoom rs stream_bytes
 
--- by a page: all records mean what they have to, and what the volume shows as that is no text of it with a number up to the log's last
-abbrev pub NamesPage : Geometry → List LogRecord → History → Fault → Type 0
-NamesPage g rs volume fault = AreMeant g rs × (pages : ℕ → List ℕ) × Shows g (seen volume) pages
+-- by a page: a restart may work on the log, and what the volume shows as that is no text of it with a number up to the log's last
+abbrev pub NamesPage : Geometry → List LogRecord → DeviceHistory → Fault → Type 0
+NamesPage g rs volume fault = IsTaken g rs × (pages : ℕ → List ℕ) × Shows g (seen volume) pages
     × ((id : PageId) × HasPage g id × (fault ≡ Damaged Volume (page_offset (page_number g id))) × HasNoPage (pages (page_number g id)) id (length rs))
 
 -- The frames give a log, and no restart may be handed it with what the volume shows: the devices stand for no log and pages. It is told by a
 -- record, by the anchor or by a page.
-pub record RefusesRestart (g : Geometry) (anchor : ℕ) (log volume left : History) (fault : Fault) : Type 0 where
+pub record RefusesRestart (g : Geometry) (anchor : ℕ) (log volume left : DeviceHistory) (fault : Fault) : Type 0 where
   pub rs : List LogRecord
   pub gives : Gives rs (seen log)
   pub none : (rs : List LogRecord) (pages : LoggedPages) → StandsFor g (size log) (size volume) rs pages (seen log) (seen volume) → ⊥
@@ -59,7 +60,7 @@ pub record RefusesRestart (g : Geometry) (anchor : ℕ) (log volume left : Histo
 -- By the first check of the fronts that is not passed; if all are, by the first byte of the log where neither a closed gate nor a frame stands; if
 -- there is none, by an open double-write area that is not in order; and if it is, or is shut, by the restart, and only if the devices stand for nothing.
 -- The log device that is handed back is left with these calls.
-abbrev pub RefusesOpen : History → History → History → Fault → Type 0
+abbrev pub RefusesOpen : DeviceHistory → DeviceHistory → DeviceHistory → Fault → Type 0
 RefusesOpen log volume left fault =
     RefusesFronts log volume fault
     ⊎ ((g : Geometry) × (have : HaveFronts g log volume) × (((offset : ℕ) × (fault ≡ Damaged Log offset) × IsBadAt LOG_FRONT_BYTES (seen log) offset)

@@ -5,7 +5,7 @@ use Rattle.shore_types.specs.declared.faults.Fault.TheVariants.{Device, Failed, 
 use Rattle.shore_types.specs.declared.ids.Rid.{Rid}
 use Rattle.shore_types.specs.declared.layout.Geometry.{Geometry}
 use Rattle.shore_types.specs.declared.layout.TheConstants.{LOG_FRONT_BYTES, LONGEST_FRAME}
-use Rattle.shore_disk.specs.Device.{History, size, may_leave, LeavesOnly}
+use Rattle.shore_disk.specs.Device.{DeviceHistory, size, may_leave, LeavesOnly}
 use Rattle.shore_disk.specs.declared.device.Disk.{Ghosts}
 use Rattle.shore_model.specs.declared.calls.Answer.TheVariants.{Staged, Forced}
 use Rattle.shore_model.specs.declared.log_records.LogRecord.{LogRecord}
@@ -69,11 +69,11 @@ module _ {L V : Type 0} {G : Ghosts L} {H : Ghosts V} where
   report_in w = w.report
 
   -- the calls of its log device
-  abbrev pub history_in : World L V G H → History
+  abbrev pub history_in : World L V G H → DeviceHistory
   history_in w = G.history w.log.device
 
   -- and those of its volume
-  abbrev pub volume_history_in : World L V G H → History
+  abbrev pub volume_history_in : World L V G H → DeviceHistory
   volume_history_in w = cores.history_of w.core
 
   -- It is in this state of the manager over plain data, on a volume with these texts of its pages behind this front.

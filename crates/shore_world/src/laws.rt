@@ -3,7 +3,7 @@ ghost use Rattle.std.specs.Prelude.{◌≡◌, ◌-◌, ◌++◌, ℕ, List, [],
 ghost use Rattle.shore_types.specs.declared.faults.Fault.{Fault};
 ghost use Rattle.shore_types.specs.declared.layout.Geometry.{Geometry};
 ghost use Rattle.shore_types.specs.declared.layout.TheConstants.{LOG_FRONT_BYTES};
-ghost use Rattle.shore_disk.specs.Device.{History, Stands, may_leave, seen, size};
+ghost use Rattle.shore_disk.specs.Device.{DeviceHistory, Stands, may_leave, seen, size};
 ghost use Rattle.shore_model.specs.declared.histories.Entry.{Entry};
 ghost use Rattle.shore_model.specs.declared.histories.Opening.{Opening};
 ghost use Rattle.shore_model.specs.declared.log_records.LogRecord.{LogRecord};
@@ -52,16 +52,16 @@ pub fn runs_are_stored_runs<L: Disk, V: Disk>()
 /// way showed the records of its life so far, on which what came behind it goes on, and gave those in doubt back; and the log that it found is a prefix of
 /// every later one: nothing that an open has shown is taken back.
 /// If the pair is opened then (`shown`), the world is a manager that begins with what this log tells: dumps of it, store by store, are these records, with the
-/// changes of those in doubt in place. Those are in doubt, and nobody else; they hold the locks that their Prepares name, and the locks that are held are in
-/// harmony and well rooted.
+/// changes of those in doubt in place. Those are in doubt, and nobody else, each under its name and to be resolved. They hold EX on the granules that their Prepares
+/// name in this log, and IX above these, and nobody holds anything else or waits. The locks that are held are in harmony and well rooted.
 pub fn committed_work_survives_every_crash<L: Disk, V: Disk>()
-    ensures left { (g : Geometry) (log_bytes volume_bytes : ℕ) (stays : List (Stay L V L.Disk V.Disk)) (log volume : History) (log_image volume_image : List ℕ) →
+    ensures left { (g : Geometry) (log_bytes volume_bytes : ℕ) (stays : List (Stay L V L.Disk V.Disk)) (log volume : DeviceHistory) (log_image volume_image : List ℕ) →
         AreStays log_bytes volume_bytes (AreFormatted g log_bytes volume_bytes) stays log volume → may_leave log log_image → may_leave volume volume_image →
         (rs : List LogRecord) × (pages : LoggedPages) × (o : Opening) × StandsFor g log_bytes volume_bytes rs pages log_image volume_image × HaveLived g stays o rs pages }
-    ensures shown { (g : Geometry) (log_bytes volume_bytes : ℕ) (stays : List (Stay L V L.Disk V.Disk)) (log volume : History) (w : World L V L.Disk V.Disk) →
+    ensures shown { (g : Geometry) (log_bytes volume_bytes : ℕ) (stays : List (Stay L V L.Disk V.Disk)) (log volume : DeviceHistory) (w : World L V L.Disk V.Disk) →
         AreStays log_bytes volume_bytes (AreFormatted g log_bytes volume_bytes) stays log volume →
         ((rs : List LogRecord) (pages : LoggedPages) → StandsFor g (size log) (size volume) rs pages (seen log) (seen volume) → HasOpened w g log volume rs pages) →
-        (rs : List LogRecord) × (pages : LoggedPages) × (o : Opening) × HaveLived g stays o rs pages × ((k : IsManagerOf w o [] []) × HasInDoubt w o k.now.state)
+        (rs : List LogRecord) × (pages : LoggedPages) × (o : Opening) × HaveLived g stays o rs pages × ((k : IsManagerOf w o [] []) × HasInDoubt w o rs k.now.state)
         × DumpsShow w (records_told rs) × (records_told rs ≡ shown (history_from o []) []) × Harmony (held_by_all (requests_in w)) × WellRooted (held_by_all (requests_in w)) }
 {}
 
@@ -70,18 +70,18 @@ pub fn committed_work_survives_every_crash<L: Disk, V: Disk>()
 /// open that is refused (`refused`); or the process ends, in the midst of an event, of a dump (`ended`) or of an open (`ended_in_open`): then writes that no sync
 /// has covered are still there, and one may be there in part.
 pub fn pairs_are_found_again<L: Disk, V: Disk>()
-    ensures crash { (w : World L V L.Disk V.Disk) (log volume : History) (log_image volume_image : List ℕ) → AreLeft w log_image volume_image → Stands log log_image →
+    ensures crash { (w : World L V L.Disk V.Disk) (log volume : DeviceHistory) (log_image volume_image : List ℕ) → AreLeft w log_image volume_image → Stands log log_image →
         Stands volume volume_image → AreFound (size log) (size volume) (AreLeft w) log volume }
-    ensures cut { (log volume log_now volume_now : History) (log_image volume_image : List ℕ) → LeftByOpen log volume log_image volume_image → Stands log_now log_image →
+    ensures cut { (log volume log_now volume_now : DeviceHistory) (log_image volume_image : List ℕ) → LeftByOpen log volume log_image volume_image → Stands log_now log_image →
         Stands volume_now volume_image → AreFound (size log_now) (size volume_now) (LeftByOpen log volume) log_now volume_now }
     ensures closed { (w : World L V L.Disk V.Disk) → AreFound (size (history_in w)) (size (volume_history_in w)) (AreLeft w) (history_in w) (volume_history_in w) }
-    ensures refused { (log volume log_now volume_now : History) (fault : Fault) (l : L) (v : V) → L.Disk.history l ≡ log_now → V.Disk.history v ≡ volume_now →
+    ensures refused { (log volume log_now volume_now : DeviceHistory) (fault : Fault) (l : L) (v : V) → L.Disk.history l ≡ log_now → V.Disk.history v ≡ volume_now →
         ((g : Geometry) (rs : List LogRecord) (pages : LoggedPages) → StandsFor g (size log) (size volume) rs pages (seen log) (seen volume) →
         OpensAlong {G = L.Disk} {H = V.Disk} (Err (fault, l, v)) g log volume rs pages) →
         (log_image volume_image : List ℕ) → may_leave log_now log_image → may_leave volume_now volume_image → LeftByOpen log volume log_image volume_image }
-    ensures ended { (w : World L V L.Disk V.Disk) (log volume : History) → AreEnded w log volume →
+    ensures ended { (w : World L V L.Disk V.Disk) (log volume : DeviceHistory) → AreEnded w log volume →
         AreFound (size (history_in w)) (size (volume_history_in w)) (AreLeft w) log volume }
-    ensures ended_in_open { (log volume log_now volume_now : History) → AreEndedInOpen log volume log_now volume_now →
+    ensures ended_in_open { (log volume log_now volume_now : DeviceHistory) → AreEndedInOpen log volume log_now volume_now →
         AreFound (size log_now) (size volume_now) (LeftByOpen log volume) log_now volume_now }
 {}
 

@@ -1,27 +1,36 @@
 //! What is promised of a world without a loss of power, event by event, in the words of a history, its records and its locks. Each law is stated as the
 //! contract of an empty function. `IsManagerOf` has all that is hidden: an open makes such a world (`committed_work_survives_every_crash`), and each run
 //! of one makes another (`runs_are_histories`).
-ghost use Rattle.std.specs.Prelude.{◌≡◌, ◌≢◌, ◌↔◌, ◌⊎◌, ◌+◌, ◌<◌, ◌∷◌, ◌++◌, ℕ, List, [], All, IsTrue, None, Some, length, map};
+ghost use Rattle.std.specs.Cmp.Lexicographic.{slice_cmp};
+ghost use Rattle.std.specs.FinMap.{is_sorted};
+ghost use Rattle.std.specs.List.Sorted.{IsStrictlySortedBy};
+ghost use Rattle.std.specs.Ordering.{nat_cmp};
+ghost use Rattle.std.specs.Prelude.{◌≡◌, ◌≢◌, ◌↔◌, ◌⊎◌, ◌<◌, ◌≤◌, ◌∷◌, ◌++◌, ℕ, List, [], All, IsTrue, None, Some, length, map};
 ghost use Rattle.shore_types.specs.declared.faults.Device.{Device};
 ghost use Rattle.shore_types.specs.declared.faults.Fault.{Fault};
 ghost use Rattle.shore_types.specs.declared.faults.Fault.TheVariants as fault;
+ghost use Rattle.shore_types.specs.Locking.{granule_cmp};
 ghost use Rattle.shore_types.specs.declared.locking.Granule.{Granule};
 ghost use Rattle.shore_model.specs.Calls.{IsServed};
-ghost use Rattle.shore_model.specs.Histories.{IsHistory, Sound, free, session_state};
+ghost use Rattle.shore_model.specs.Histories.{IsHistory, Sound, decisions, free, in_doubt, session_state, shown};
 ghost use Rattle.shore_model.specs.Locks.{Harmony, WellRooted};
-ghost use Rattle.shore_model.specs.Logs.{logged_writes};
+ghost use Rattle.shore_model.specs.Logs.{logged_writes, records_told};
 ghost use Rattle.shore_model.specs.Records.{overlays};
 ghost use Rattle.shore_model.specs.Requests.{HasNoCycle, held_by_all};
-ghost use Rattle.shore_model.specs.declared.calls.Answer.TheVariants.{Aborted, Committed};
-ghost use Rattle.shore_model.specs.declared.calls.Call.TheVariants.{Abort, Commit};
+ghost use Rattle.shore_model.specs.declared.calls.Answer.TheVariants.{Aborted, AreInDoubt, Committed};
+ghost use Rattle.shore_model.specs.declared.calls.Call.TheVariants.{Abort, InDoubt, Prepare};
 ghost use Rattle.shore_model.specs.declared.calls.Call.{Call};
 ghost use Rattle.shore_model.specs.declared.histories.Entry.{Entry};
 ghost use Rattle.shore_model.specs.declared.histories.Opening.{Opening};
+ghost use Rattle.shore_model.specs.declared.log_records.Payload.TheVariants as logged;
 ghost use Rattle.shore_model.specs.declared.rollbacks.Rollback.{Rollback};
 ghost use Rattle.shore_model.specs.declared.step.Step.TheVariants.{Done, Nothing, Refused, Waits};
 ghost use Rattle.shore_model.specs.declared.step.Step.{Step};
 ghost use Rattle.shore_model.specs.declared.step.Wait.TheVariants.{Durable, Lock};
 ghost use Rattle.shore_locks.specs.Grants.{released};
+ghost use Rattle.laws_lives.specs.LogPrefixes.{decisions_in};
+ghost use Rattle.laws_lives.specs.Logged.{and_record};
+ghost use Rattle.laws_lives.specs.SessionSteps.{AreExclusive};
 ghost use Rattle.laws_lives.specs.Sessions.{SessionTxn, in_txn, txns_of};
 ghost use Rattle.laws_lives.specs.Soundness.{history_from, serial_after};
 ghost use Rattle.laws_lives.specs.Views.{IsAmong};
@@ -30,7 +39,7 @@ ghost use Rattle.laws_calls.specs.Causes.{EarnsRefusal};
 ghost use Rattle.laws_calls.specs.Events.{ManagerEvent};
 ghost use Rattle.laws_calls.specs.LockChanges.{ChangesLocks};
 ghost use Rattle.laws_calls.specs.Midway.{AsksAgainIn, AsksIn, HasItsWait, Interlude, Intervene, IsItsCycle, IsMidway, but_doomed, cycles_among, victims_among};
-ghost use Rattle.laws_calls.specs.Shapes.{IsLackOfRoom, rollback_of};
+ghost use Rattle.laws_calls.specs.Shapes.{IsLackOfRoom, IsNoRefusal, ResolvesTxn, WaitsForItsRecord, rollback_of};
 ghost use Rattle.laws_calls.specs.States.{DoesNotWait, IsOfSession, State, Waiting};
 ghost use Rattle.laws_calls.specs.Victims.{TellsVictim};
 ghost use Rattle.shore_world.specs.declared.event.Event.TheVariants as event;
@@ -40,7 +49,7 @@ ghost use Rattle.shore_world.specs.Events.{IsServedEvent};
 ghost use Rattle.shore_world.specs.Exchanges.{exchanges_in, exchanges_of, waited_after};
 ghost use Rattle.shore_world.specs.Lives.{DumpsShow};
 ghost use Rattle.shore_world.specs.Promises.{AreUnended, FlushesIfAny, GoesOnAs, HasFailedStep, HasStood, IsManagerOf, IsRefusedStep, IsStateOf, IsToldByItsFirst, OpensIfAny, StagesIfAny};
-ghost use Rattle.laws_calls.specs.SessionWaits.{HasTheFirst};
+ghost use Rattle.laws_calls.specs.SessionWaits.{HasTheFirst, IsDecisionWait};
 ghost use Rattle.shore_world.specs.Worlds.{IsUnchanged, Runs, Steps, durable_in, failed_in, geometry_in, list_in, requests_in};
 
 use shore_disk::Disk;
@@ -60,26 +69,57 @@ pub fn locks_are_in_harmony<L: Disk, V: Disk>()
     ensures no_cycle { (w : World L V L.Disk V.Disk) (o : Opening) (es : List Entry) (ws : List (ℕ × Call)) → IsManagerOf w o es ws → HasNoCycle (requests_in w) }
 {}
 
-/// Sound history: what was called and answered is a history, and each transaction that has committed was answered as it might have been alone, on the serial
-/// records before it.
+/// Sound history: what was called and answered is a history, and each transaction that has committed or prepared was answered as it might have been alone, on the
+/// serial records before its turn. Its decisions are those of the records that the log has gained since the open, in their order: commits, prepares, and rollbacks
+/// of prepared ones.
 pub fn histories_are_sound<L: Disk, V: Disk>()
-    ensures { (w : World L V L.Disk V.Disk) (o : Opening) (es : List Entry) (ws : List (ℕ × Call)) → IsManagerOf w o es ws →
+    ensures sound { (w : World L V L.Disk V.Disk) (o : Opening) (es : List Entry) (ws : List (ℕ × Call)) → IsManagerOf w o es ws →
         IsHistory (history_from o es) × Sound (history_from o es) }
+    ensures decided { (w : World L V L.Disk V.Disk) (o : Opening) (es : List Entry) (ws : List (ℕ × Call)) → (k : IsManagerOf w o es ws) →
+        decisions es ≡ decisions_in (length k.found) (list_in w) }
+{}
+
+/// A prepare that waits has appended its record, which lists, rising, all granules that its transaction holds in EX, and no others.
+pub fn prepares_list_what_is_held<L: Disk, V: Disk>()
+    ensures { (w new : World L V L.Disk V.Disk) (o : Opening) (es : List Entry) (ws : List (ℕ × Call)) (session n : ℕ) (global : List ℕ) → (k : IsManagerOf w o es ws) →
+        Steps w (event.Call session (Prepare global)) (Waits (Durable n)) new → (a : SessionTxn) × IsOfSession k.now.state session a × ((granules : List Granule)
+        × (list_in new ≡ and_record a.txn (list_in w) (logged.Prepare global granules)) × AreExclusive (held_by_all (requests_in w)) a.txn granules
+        × IsStrictlySortedBy granule_cmp granules) }
+{}
+
+/// Who is in doubt is told to whoever asks: those, and nobody else, whom the history has prepared and not decided further, its opening's too, rising by the bytes of their
+/// global ids.
+pub fn those_in_doubt_are_listed<L: Disk, V: Disk>()
+    ensures each { (w new : World L V L.Disk V.Disk) (o : Opening) (es : List Entry) (ws : List (ℕ × Call)) (session t : ℕ) (global : List ℕ) (pairs : List (List ℕ × ℕ)) →
+        IsManagerOf w o es ws → Steps w (event.Call session InDoubt) (Done (AreInDoubt pairs)) new → IsAmong (global, t) pairs → IsAmong (t, global) (in_doubt o.in_doubt (decisions es)) }
+    ensures all { (w new : World L V L.Disk V.Disk) (o : Opening) (es : List Entry) (ws : List (ℕ × Call)) (session t : ℕ) (global : List ℕ) (pairs : List (List ℕ × ℕ)) →
+        IsManagerOf w o es ws → Steps w (event.Call session InDoubt) (Done (AreInDoubt pairs)) new → IsAmong (t, global) (in_doubt o.in_doubt (decisions es)) → IsAmong (global, t) pairs }
+    ensures rising { (w new : World L V L.Disk V.Disk) (o : Opening) (es : List Entry) (ws : List (ℕ × Call)) (session : ℕ) (pairs : List (List ℕ × ℕ)) →
+        IsManagerOf w o es ws → Steps w (event.Call session InDoubt) (Done (AreInDoubt pairs)) new → IsTrue (is_sorted (slice_cmp nat_cmp) pairs) }
+{}
+
+/// The log tells what is shown: the serial records of all decisions, with what those in doubt have written over them.
+pub fn the_log_tells_what_is_shown<L: Disk, V: Disk>()
+    ensures { (w : World L V L.Disk V.Disk) (o : Opening) (es : List Entry) (ws : List (ℕ × Call)) → IsManagerOf w o es ws →
+        records_told (list_in w) ≡ shown (history_from o es) (decisions es) }
 {}
 
 /// Records in place: a dump shows the serial records, overlaid with what each transaction under way has logged last at each id. That is what it has written,
-/// unless a rollback of it is under way. None of these is decided, and whoever is in a transaction by the history is in one of these, or its commit is.
+/// unless a rollback of it is under way. Each of these is undecided, in doubt, or one whose rollback a resolve has decided. Whoever is in a transaction by the
+/// history is in one of these, or its commit is, and all in doubt are among them.
 pub fn records_are_in_place<L: Disk, V: Disk>()
     ensures shown { (w : World L V L.Disk V.Disk) (o : Opening) (es : List Entry) (ws : List (ℕ × Call)) → (k : IsManagerOf w o es ws) →
         DumpsShow w (overlays (serial_after o es) (map (logged_writes (list_in w)) (txns_of k.now.state.sessions.active))) }
     ensures unended { (w : World L V L.Disk V.Disk) (o : Opening) (es : List Entry) (ws : List (ℕ × Call)) → (k : IsManagerOf w o es ws) →
-        AreUnended es (txns_of k.now.state.sessions.active) }
+        AreUnended o es (txns_of k.now.state.sessions.active) }
     ensures all { (w : World L V L.Disk V.Disk) (o : Opening) (es : List Entry) (ws : List (ℕ × Call)) (session t : ℕ) → (k : IsManagerOf w o es ws) →
         session_state session free es ≡ in_txn t → 0 < t →
         IsAmong t (txns_of k.now.state.sessions.active) ⊎ IsAmong t (txns_of k.now.state.sessions.committing) }
+    ensures doubts { (w : World L V L.Disk V.Disk) (o : Opening) (es : List Entry) (ws : List (ℕ × Call)) (t : ℕ) (global : List ℕ) → (k : IsManagerOf w o es ws) →
+        IsAmong (t, global) (in_doubt o.in_doubt (decisions es)) → IsAmong t (txns_of k.now.state.sessions.active) }
 {}
 
-/// Undo is never refused: neither an abort nor a way back is refused by `StoreFull`, `LogFull`, `LockTableFull` or as a victim.
+/// Undo is never refused: neither an abort nor a way back nor a resolve to abort is refused by `StoreFull`, `LogFull`, `LockTableFull` or as a victim.
 pub fn undo_is_never_refused<L: Disk, V: Disk>()
     ensures { (w new : World L V L.Disk V.Disk) (o : Opening) (es : List Entry) (ws : List (ℕ × Call)) (session : ℕ) (c : Call) (r : Rollback) (f : Fault) →
         IsManagerOf w o es ws → IsServed c → Steps w (event.Call session c) (Refused f) new → rollback_of c ≡ Some r → IsLackOfRoom f → ⊥ }
@@ -145,8 +185,8 @@ pub fn refused_calls_change_locks_and_victims_alone<L: Disk, V: Disk>()
         failed_in new ≡ failed_in w }
 {}
 
-/// Waits are true: who waits for a lock has a request that waits at that very granule. Only a commit waits for a record: for its own, the last of the log,
-/// which is not durable then; and as it is resumed it waits on only as long as that is so.
+/// Waits are true: who waits for a lock has a request that waits at that very granule. Only a commit, a prepare and a resolve wait for a record: for that of their
+/// decision, which the log has, and which is not durable then; and as they are resumed they wait on only as long as that is so.
 pub fn waits_are_true<L: Disk, V: Disk>()
     ensures lock { (w new : World L V L.Disk V.Disk) (o : Opening) (es : List Entry) (ws : List (ℕ × Call)) (session : ℕ) (c : Call) (at : Granule) →
         IsManagerOf w o es ws → IsServed c → Steps w (event.Call session c) (Waits (Lock at)) new →
@@ -155,19 +195,21 @@ pub fn waits_are_true<L: Disk, V: Disk>()
         IsManagerOf w o es ws → Steps w (event.Resume session) (Waits (Lock at)) new →
         (on : GoesOnAs new o es ws (event.Resume session) (Waits (Lock at))) × HasItsWait on.manager.now.state session at }
     ensures record_of { (w new : World L V L.Disk V.Disk) (o : Opening) (es : List Entry) (ws : List (ℕ × Call)) (session n : ℕ) (c : Call) →
-        IsManagerOf w o es ws → IsServed c → Steps w (event.Call session c) (Waits (Durable n)) new →
-        (c ≡ Commit) × (n ≡ 1 + length (list_in w)) × (durable_in new < n) }
+        (k : IsManagerOf w o es ws) → IsServed c → Steps w (event.Call session c) (Waits (Durable n)) new → (on : GoesOnAs new o es ws (event.Call session c) (Waits (Durable n)))
+        × WaitsForItsRecord k.now.state session c n on.manager.now.state × (durable_in new < n) × (n ≤ length (list_in new)) }
     ensures record_on { (w new : World L V L.Disk V.Disk) (o : Opening) (es : List Entry) (ws : List (ℕ × Call)) (session n : ℕ) →
         (k : IsManagerOf w o es ws) → Steps w (event.Resume session) (Waits (Durable n)) new →
-        (waited : Waiting) × IsAmong waited k.now.state.waiting × (waited.session ≡ session) × (waited.wait ≡ Durable n) × (durable_in w < n) }
+        (waited : Waiting) × IsAmong waited k.now.state.waiting × (waited.session ≡ session) × (waited.wait ≡ Durable n)
+        × IsDecisionWait (length k.found) k.now.state waited × (durable_in w < n) }
 {}
 
-/// Locks only as asked: by a call the requests stay; or an abort is answered, and all of its transaction's go; or they change as the call asks, whatever victims
-/// were taken on the way (`ChangesLocks`). So it is by a resume, for the call that waited; or a commit is answered, and all of its transaction's go.
+/// Locks only as asked: by a call the requests stay; or an abort is answered, or a resolve decided and carried out, and all of its transaction's go; or they change as
+/// the call asks, whatever victims were taken on the way (`ChangesLocks`). So it is by a resume, for the call that waited; or a commit is answered, and all of its transaction's go.
 pub fn locks_change_only_as_asked<L: Disk, V: Disk>()
     ensures call { (w new : World L V L.Disk V.Disk) (o : Opening) (es : List Entry) (ws : List (ℕ × Call)) (session : ℕ) (c : Call) (step : Step) →
         (k : IsManagerOf w o es ws) → IsServed c → Steps w (event.Call session c) step new → (requests_in new ≡ requests_in w)
-        ⊎ (((c ≡ Abort) × (step ≡ Done Aborted) × ((a : SessionTxn) × IsOfSession k.now.state session a × (requests_in new ≡ released a.txn (requests_in w))))
+        ⊎ ((((c ≡ Abort) × (step ≡ Done Aborted) × ((a : SessionTxn) × IsOfSession k.now.state session a × (requests_in new ≡ released a.txn (requests_in w))))
+        ⊎ ((a : SessionTxn) × ResolvesTxn k.now.state c a × IsNoRefusal step × (requests_in new ≡ released a.txn (requests_in w))))
         ⊎ ((a : SessionTxn) × IsOfSession k.now.state session a × ((between : List Interlude)
         × ((between ≡ []) ⊎ ((mid : State) × IsMidway (geometry_in w) k.now.state session c between mid))
         × ChangesLocks (requests_in w) a.txn c (cycles_among between) (requests_in new)))) }

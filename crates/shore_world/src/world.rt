@@ -41,9 +41,10 @@ pub struct World<L: Disk, V: Disk> {
 
 impl<L: Disk, V: Disk> World<L, V> {
     ghost use Rattle.shore_world.specs.Worlds.{IsDumpOf, IsInState, IsOverStore, EventMovesWorld, HasForced, HasStaged, HasFailedToRead, IsLike, IsUnchanged, Steps, Runs, HasForceRoom, IsIdle, durable_in, failed_in, frames_in, geometry_in, list_in, report_in, requests_in, fault_in, log_in, volume_in};
-    ghost use Rattle.shore_world.specs.Opens.{IsReportOf, OpensAlong};
+    ghost use Rattle.shore_world.specs.Opens.{OpensAlong};
     ghost use Rattle.shore_frames.specs.Frames.{Gives};
-    ghost use Rattle.shore_analysis.specs.Meant.{AreMeant};
+    ghost use Rattle.shore_restart.specs.Doubts.{IsTaken};
+    ghost use Rattle.shore_restart.specs.Reports.{IsReportOf};
     ghost use Rattle.shore_world.specs.Refusals.{RefusesOpen};
     ghost use Rattle.shore_restart.specs.Missing.{missing_on};
     ghost use Rattle.laws_images.specs.StandsFor.{StandsFor};
@@ -61,7 +62,7 @@ impl<L: Disk, V: Disk> World<L, V> {
     ghost use Rattle.shore_core.specs.Cores.{volume_of};
 
     /// Opens the manager of a formatted pair: a barrier on both devices, the labels, that they are of one pair, the anchors, the frames of the log, the
-    /// double-write area, and then a restart: the records of the log that pages lack are redone, the losers are undone by records of their own, and these
+    /// double-write area, and then a restart: those in doubt get their locks back, the records of the log that pages lack are redone, the losers are undone by records of their own, and these
     /// are forced. There are so many frames for pages. Refused by `NotFormatted`, `WrongVersion`, `WrongPair` or `Damaged` with the device and the
     /// offset if the pair is not in order, by `Device` if one failed, by `Memory` if an allocation failed. The devices are handed back, and may be
     /// opened again: what was made durable until then stays, and the next open goes on with it.
@@ -93,8 +94,9 @@ impl<L: Disk, V: Disk> World<L, V> {
             → IfOk result (λ w. (report_in w).redone ≡ missing_on rs pages) }
         ensures frames { IfOk result (λ w. frames_in w ≡ frames) }
 
-        // What is opened was in order: the frames give the log, each record of it means what it has to, and the volume shows pages.
-        ensures in_order { IsTrue (L.is_honest log) → IsTrue (V.is_honest volume) → IfOk result (λ w. ((rs : List LogRecord) × Gives rs (seen (L.history log)) × AreMeant (geometry_in w) rs)
+        // What is opened was in order: the frames give the log, each record of it means what it has to, those in doubt can hold what is theirs beside each other, and the
+        // volume shows pages.
+        ensures in_order { IsTrue (L.is_honest log) → IsTrue (V.is_honest volume) → IfOk result (λ w. ((rs : List LogRecord) × Gives rs (seen (L.history log)) × IsTaken (geometry_in w) rs)
             × ((pages : ℕ → List ℕ) × Shows (geometry_in w) (seen (V.history volume)) pages)) }
 
         // What is refused goes by the checks in their order. What stands for a log and pages is opened, unless a device or an allocation fails.

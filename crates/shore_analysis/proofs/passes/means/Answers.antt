@@ -1,36 +1,24 @@
-use Rattle.std.proofs.Common.{◌≡◌, [], sym, ap, subst, ◌∙◌}
+use Rattle.std.proofs.Common.{◌≡◌, not, sym, ap, subst, ◌∙◌}
 use Rattle.std.proofs.lemmas.Bool.{eqb-true, eq-eqb}
-use Rattle.shore_model.specs.Logs.{unanswered, undo_next_of}
-use Rattle.shore_analysis.specs.Meant.{Means, MeansChange, MeansCompensation}
-use Rattle.laws_lives.proofs.UndoChains.{unanswered_chain}
-use Rattle.shore_analysis.proofs.Answered.{none_next}
-use Rattle.shore_analysis.proofs.MeantLogs.{all_unprepared}
+use Rattle.shore_model.specs.Logs.{MayEnd, undo_next_of}
+use Rattle.shore_analysis.specs.declared.progress.Progress.{Progress}
+use Rattle.shore_analysis.specs.Meant.{Means}
+use Rattle.shore_analysis.specs.Passes.{is_doubtful}
+use Rattle.shore_analysis.proofs.Progresses.{nothing_next, told, undoable_told}
 use Rattle.shore_analysis.proofs.passes.means.Goals as goal
 
-pub returns-in-Change : goal.returns-in-Change
-returns-in-Change c t is =
-    let says = ap (Means c.args.geometry.now c.args.before.now t) c.in-Change.is in (
-      λ h. subst (λ P. P) (sym says) (c.has_slot.ensures.0 h, all_unprepared c.args.geometry.now c.args.before.now c.requires t),
-      λ m. let change : MeansChange c.args.geometry.now c.args.before.now t c.in-Change.id = subst (λ P. P) says m in c.has_slot.ensures.1 change.0,
-    )
-
-pub returns-then-has_slot : goal.returns-then-has_slot
-returns-then-has_slot c t is =
-    let says = ap (Means c.args.geometry.now c.args.before.now t) c.in-Compensation.is in
-    let answer = c.is_answer.ensures c.args.geometry.now t c.requires is in
-    let slot = c.has_slot-in-Compensation.ensures.0 c.if-has_slot.true in (
-      λ h. subst (λ P. P) (sym says) (slot, answer.0 h),
+pub returns-then-not-is_doubtful : goal.returns-then-not-is_doubtful
+returns-then-not-is_doubtful c t some is =
+    let before = c.args.before.now in
+    let p = c.args.progress.now in
+    let tells = told t before p is in
+    let says = ap (Means c.args.geometry.now before t) c.in-End.is in
+    let n = c.progress.inside.0.1.0.0 in
+    let newest : n ≡ p.newest = ap (λ (q : Progress). q.newest) c.progress.view_is in
+    let doubtful = ap (λ (q : Progress). is_doubtful q.phase) (sym c.progress.view_is) ∙ sym c.is_doubtful.ensures ∙ c.if-not-is_doubtful.true in
+    let undoable = sym (undoable_told t before p tells) ∙ ap not doubtful in (
+      λ h. subst (λ P. P) (sym says) (undoable, nothing_next t before p tells (sym newest ∙ eqb-true n 0 h)),
       λ m.
-          let compensation : MeansCompensation c.args.geometry.now c.args.before.now t c.in-Compensation.id c.in-Compensation.after c.in-Compensation.undo_next = subst (λ P. P) says m in
-          answer.1 compensation.1,
-    )
-
-pub returns-in-End : goal.returns-in-End
-returns-in-End c t is =
-    let says = ap (Means c.args.geometry.now c.args.before.now t) c.in-End.is in
-    let before = c.args.before.now in (
-      λ h. subst (λ P. P) (sym says) (none_next before t (unanswered t before) (unanswered_chain before t) (sym is ∙ sym c.newest.view_is ∙ eqb-true c.newest.inside.0 0 h)),
-      λ m.
-          let none : unanswered t before ≡ [] = subst (λ P. P) says m in
-          eq-eqb c.newest.inside.0 0 (c.newest.view_is ∙ is ∙ ap undo_next_of none),
+          let may : MayEnd before t = subst (λ P. P) says m in
+          eq-eqb n 0 (newest ∙ tells.newest ∙ ap undo_next_of may.1),
     )

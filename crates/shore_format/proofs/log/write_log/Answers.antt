@@ -1,5 +1,5 @@
 use Rattle.std.proofs.Common.{◌≡◌, ℕ, List, ◌∷◌, ◌++◌, IsTrue, length, drop, subst, sym, ap, ◌∙◌, arith}
-use Rattle.shore_disk.specs.Device.{History, Stands, overwritten, seen}
+use Rattle.shore_disk.specs.Device.{DeviceHistory, Stands, overwritten, seen}
 use Rattle.shore_disk.proofs.Moments.{started}
 use Rattle.shore_gate.proofs.WidthLemmas.{length-label_bytes}
 use Rattle.shore_types.specs.declared.faults.Device.TheVariants.{Log}
@@ -30,7 +30,7 @@ pub returns-clause-stands : goal.returns-clause-stands
 returns-clause-stands g c honest rest stands =
     let label = label_bytes Log c.args.label.now in
     let behind = c.deref.result.now in
-    let seen_now = ap (λ (h : History). seen h) (c.in_ok-write_label.ensures.written honest) ∙ ap (λ (i : List ℕ). overwritten i 1 label) stands.read in
+    let seen_now = ap (λ (h : DeviceHistory). seen h) (c.in_ok-write_label.ensures.written honest) ∙ ap (λ (i : List ℕ). overwritten i 1 label) stands.read in
     let is : behind ≡ behind_label = c.deref.ensures.value ∙ c.in_ok-rest.ensures.text in
     subst (Stands (g.D.Disk.history c.write_synced.new.disk))
     (ap (λ (i : List ℕ). overwritten i 512 behind) seen_now

@@ -1,6 +1,6 @@
 use Rattle.std.proofs.Common.{◌≡◌, ◌≤◌, ◌+◌, ◌*◌, ◌∷◌, [], ℕ, List, IsTrue, length, drop, sym, ◌∙◌, ap, subst, arith}
 use Rattle.shore_types.specs.declared.faults.Device.TheVariants.{Volume}
-use Rattle.shore_disk.specs.Device.{History, Stands, overwritten, seen}
+use Rattle.shore_disk.specs.Device.{DeviceHistory, Stands, overwritten, seen}
 use Rattle.shore_dwrite.proofs.Moves.{sync_more, synced_stands}
 use Rattle.shore_gate.specs.declared.gates.TheConstants.{CLOSED}
 use Rattle.shore_gate.specs.declared.labels.Label.{Label}
@@ -55,8 +55,8 @@ returns-clause-stands g c honest rest stands =
     let four = subst IsTrue (sym c.write_pages.ensures.honest) three in
     let long : 1 + length rest ≡ 270336 + 8192 * _ = omega (arith, ap (λ (l : List ℕ). length l) stands.read, g.met.D.Disk.keeps_length c.args.volume.now honest, c.requires.size) in
     let labelled : seen (g.D.Disk.history c.write_label.new.disk) ≡ overwritten (CLOSED ∷ rest) 1 label =
-    ap (λ (h : History). seen h) (c.in_ok-write_label.ensures.written honest) ∙ ap (λ (i : List ℕ). overwritten i 1 (label_bytes Volume c.args.label.now)) stands.read ∙ ap (λ (l : Label). overwritten (CLOSED ∷ rest) 1 (label_bytes Volume l)) c.requires.label in
-    let gated : seen (g.D.Disk.history c.write_at.new.self) ≡ overwritten (overwritten (CLOSED ∷ rest) 1 label) 4096 (CLOSED ∷ []) = ap (λ (h : History). seen h) (c.in_ok-write_at.ensures.written two) ∙ ap (λ (i : List ℕ). overwritten i 4096 (CLOSED ∷ [])) labelled in
+    ap (λ (h : DeviceHistory). seen h) (c.in_ok-write_label.ensures.written honest) ∙ ap (λ (i : List ℕ). overwritten i 1 (label_bytes Volume c.args.label.now)) stands.read ∙ ap (λ (l : Label). overwritten (CLOSED ∷ rest) 1 (label_bytes Volume l)) c.requires.label in
+    let gated : seen (g.D.Disk.history c.write_at.new.self) ≡ overwritten (overwritten (CLOSED ∷ rest) 1 label) 4096 (CLOSED ∷ []) = ap (λ (h : DeviceHistory). seen h) (c.in_ok-write_at.ensures.written two) ∙ ap (λ (i : List ℕ). overwritten i 4096 (CLOSED ∷ [])) labelled in
     let pages = c.in_ok-write_pages.ensures.pages three in
     let image = seen (g.D.Disk.history c.write_pages.new.volume) in (
       drop 1 image,

@@ -1,5 +1,5 @@
 use Rattle.std.proofs.Common.{Bool, IsTrue, sym, subst, ◌∙◌, arith}
-use Rattle.shore_disk.specs.Device.{History, seen}
+use Rattle.shore_disk.specs.Device.{DeviceHistory, seen}
 use Rattle.shore_frames.specs.Offsets.{HeadAt}
 use Rattle.shore_frames.proofs.StreamLemmas.{kept}
 use Rattle.shore_frames.proofs.WalkLemmas.{head_inside, one_on, too_far, at_end}
@@ -18,7 +18,7 @@ returns-then-head-number-clause-found g c honest groups rest are parts end_is so
     let image = seen (g.D.Disk.history c.args.device.now) in
     let at = c.loop-at.at in
     let there = subst (λ (b : Bool). IsTrue b) (sym inv.honest) honest in
-    let head = subst (λ (k : History). HeadAt (seen k) at c.in-Some.head) (inv.same honest) (rw c.in-Some.is at (c.in_ok-head.ensures.head there)) in
+    let head = subst (λ (k : DeviceHistory). HeadAt (seen k) at c.in-Some.head) (inv.same honest) (rw c.in-Some.is at (c.in_ok-head.ensures.head there)) in
     too_far c.args.from image groups rest are parts c.args.number at c.loop-at.found (inv.walk honest groups rest are parts end_is)
     c.in-Some.head.len c.in-Some.head.first (omega arith) (omega arith) (omega (arith, end_is)) (omega (arith, end_is, c.loop-at-test.true)) head (omega (arith, c.if-head-number.true)) some
 
@@ -34,7 +34,7 @@ loop-at-preserved g c =
       count = c.in_ok-head.ensures.cause.unreported (λ e. cc) ∙ inv.count;
       walk = λ honest groups rest are parts end_is.
           let there = subst (λ (b : Bool). IsTrue b) (sym inv.honest) honest in
-          let head = subst (λ (k : History). HeadAt (seen k) at c.in-Some.head) (inv.same honest) (rw c.in-Some.is at (c.in_ok-head.ensures.head there)) in
+          let head = subst (λ (k : DeviceHistory). HeadAt (seen k) at c.in-Some.head) (inv.same honest) (rw c.in-Some.is at (c.in_ok-head.ensures.head there)) in
           one_on c.args.from image groups rest are parts c.args.number at c.loop-at.found (inv.walk honest groups rest are parts end_is)
           c.in-Some.head.len c.in-Some.head.first _ (omega arith) (omega arith) (omega (arith, end_is)) (omega (arith, end_is, c.loop-at-test.true)) head (omega (arith, c.if-head-number.false)) (omega arith);
     }

@@ -1,5 +1,5 @@
 use Rattle.std.proofs.Common.{◌≡◌, ◌+◌, ◌++◌, Bool, IsTrue, length, drop, sym, subst, arith}
-use Rattle.shore_disk.specs.Device.{History, seen}
+use Rattle.shore_disk.specs.Device.{DeviceHistory, seen}
 use Rattle.shore_frames.proofs.OffsetLemmas.{piece, head_fits, none_short, body_is}
 use Rattle.shore_frames.proofs.ReadLemmas.{not_both}
 use Rattle.shore_frames.proofs.reading.read_body.Goals as goal
@@ -22,6 +22,6 @@ returns-clause-body g c honest =
     let head = rw c.in-Some.is at (c.in_ok-head.ensures.head honest) in
     let facts = c.fits.ensures.0 c.if-not-fits.false in
     let read = c.in_ok-body.ensures.read (subst (λ (b : Bool). IsTrue b) (sym c.read_head.ensures.honest) honest) in
-    let there = subst (λ (k : History). drop (c.args.at + 13) (seen k) ≡ body ++ drop (c.args.at + 13 + length body) (seen k)) (c.read_head.ensures.same honest)
+    let there = subst (λ (k : DeviceHistory). drop (c.args.at + 13) (seen k) ≡ body ++ drop (c.args.at + 13 + length body) (seen k)) (c.read_head.ensures.same honest)
     (piece (seen (g.D.Disk.history c.read_head.new.device)) body (c.args.at + 1 + 12) h.len (c.args.at + 13) (c.args.at + 13 + length body) read (omega arith) (omega (arith, c.in_ok-body.ensures.len))) in
     body_is (seen (g.D.Disk.history c.args.device.now)) body c.args.at h.len h.first c.args.number head facts.0 c.in_ok-body.ensures.len there

@@ -1,5 +1,5 @@
 use Rattle.std.proofs.Common.{◌≡◌, ◌≤◌, ◌+◌, ◌++◌, ◌∷◌, [], Bool, IsTrue, List, length, refl, sym, subst, ap, ◌∙◌, arith, length-append}
-use Rattle.shore_disk.specs.Device.{History, seen}
+use Rattle.shore_disk.specs.Device.{DeviceHistory, seen}
 use Rattle.shore_model.specs.declared.log_records.LogRecord.{LogRecord}
 use Rattle.shore_frames.specs.Frames.{AreNumbered, IsGroup, joined}
 use Rattle.shore_frames.specs.Offsets.{GateAt, IsFrameAt, HasNoFrame, IsBadAt}
@@ -51,10 +51,10 @@ returns-in_default-clause-undamaged g c honest short gs frames =
     let r = inv.read honest in
     let honest_there = subst (λ (b : Bool). IsTrue b) (sym inv.honest) honest in
     let honest_then = subst (λ (b : Bool). IsTrue b) (sym c.is_gate_open.ensures.honest) honest_there in
-    let gate = subst (λ (k : History). GateAt (seen k) at c.in_ok-is_gate_open.field-0) (inv.same honest) (c.in_ok-is_gate_open.ensures.gate honest_there) in
+    let gate = subst (λ (k : DeviceHistory). GateAt (seen k) at c.in_ok-is_gate_open.field-0) (inv.same honest) (c.in_ok-is_gate_open.ensures.gate honest_there) in
     let number : c.len.result + 1 ≡ length c.loop-records.records.items + 1 = omega arith in
     let same = c.is_gate_open.ensures.same honest_there ∙ inv.same honest in
-    let none = subst (λ (k : History). length (seen k) ≤ c.args.device_bytes → HasNoFrame (seen k) at (c.len.result + 1)) same (λ s. c.in_ok-group.ensures.none honest_then s (cc c.in_default.is)) short in
+    let none = subst (λ (k : DeviceHistory). length (seen k) ≤ c.args.device_bytes → HasNoFrame (seen k) at (c.len.result + 1)) same (λ s. c.in_ok-group.ensures.none honest_then s (cc c.in_default.is)) short in
     absurd (stuck_only c.args.from image r.0 (length c.loop-records.records.items + 1) at r.1 c.in_ok-is_gate_open.field-0 gate c.if-branch.true (subst (HasNoFrame image at) number none) gs frames)
 
 pub returns-in_default-clause-damaged : goal.returns-in_default-clause-damaged
@@ -65,10 +65,10 @@ returns-in_default-clause-damaged g c honest short offset is =
     let r = inv.read honest in
     let honest_there = subst (λ (b : Bool). IsTrue b) (sym inv.honest) honest in
     let honest_then = subst (λ (b : Bool). IsTrue b) (sym c.is_gate_open.ensures.honest) honest_there in
-    let gate = subst (λ (k : History). GateAt (seen k) at c.in_ok-is_gate_open.field-0) (inv.same honest) (c.in_ok-is_gate_open.ensures.gate honest_there) in
+    let gate = subst (λ (k : DeviceHistory). GateAt (seen k) at c.in_ok-is_gate_open.field-0) (inv.same honest) (c.in_ok-is_gate_open.ensures.gate honest_there) in
     let number : c.len.result + 1 ≡ length c.loop-records.records.items + 1 = omega arith in
     let same = c.is_gate_open.ensures.same honest_there ∙ inv.same honest in
-    let none = subst (λ (k : History). length (seen k) ≤ c.args.device_bytes → HasNoFrame (seen k) at (c.len.result + 1)) same (λ s. c.in_ok-group.ensures.none honest_then s (cc c.in_default.is)) short in
+    let none = subst (λ (k : DeviceHistory). length (seen k) ≤ c.args.device_bytes → HasNoFrame (seen k) at (c.len.result + 1)) same (λ s. c.in_ok-group.ensures.none honest_then s (cc c.in_default.is)) short in
     subst (IsBadAt c.args.from image) (damaged_at c.damaged.result at offset c.damaged.ensures is)
     (stuck c.args.from image r.0 (length c.loop-records.records.items + 1) at r.1 c.in_ok-is_gate_open.field-0 gate c.if-branch.true (subst (HasNoFrame image at) number none))
 
@@ -77,7 +77,7 @@ returns-clause-found g c honest =
     let inv = c.loop-records.invariant in
     let at = c.loop-records.at in
     let r = inv.read honest in
-    let gate = subst (λ (k : History). GateAt (seen k) at c.in_ok-is_gate_open.field-0) (inv.same honest) (c.in_ok-is_gate_open.ensures.gate (subst (λ (b : Bool). IsTrue b) (sym inv.honest) honest)) in
+    let gate = subst (λ (k : DeviceHistory). GateAt (seen k) at c.in_ok-is_gate_open.field-0) (inv.same honest) (c.in_ok-is_gate_open.ensures.gate (subst (λ (b : Bool). IsTrue b) (sym inv.honest) honest)) in
     (r.0, ended c.args.from (seen (g.D.Disk.history c.args.device.now)) r.0 (length c.loop-records.records.items + 1) at r.1 c.in_ok-is_gate_open.field-0 gate c.if-branch.false, r.2, r.1.offset_is)
 
 pub returns-clause-only : goal.returns-clause-only
@@ -85,7 +85,7 @@ returns-clause-only g c honest gs frames =
     let inv = c.loop-records.invariant in
     let at = c.loop-records.at in
     let r = inv.read honest in
-    let gate = subst (λ (k : History). GateAt (seen k) at c.in_ok-is_gate_open.field-0) (inv.same honest) (c.in_ok-is_gate_open.ensures.gate (subst (λ (b : Bool). IsTrue b) (sym inv.honest) honest)) in
+    let gate = subst (λ (k : DeviceHistory). GateAt (seen k) at c.in_ok-is_gate_open.field-0) (inv.same honest) (c.in_ok-is_gate_open.ensures.gate (subst (λ (b : Bool). IsTrue b) (sym inv.honest) honest)) in
     r.2 ∙ ap joined (ended_only c.args.from (seen (g.D.Disk.history c.args.device.now)) r.0 (length c.loop-records.records.items + 1) at r.1 c.in_ok-is_gate_open.field-0 gate c.if-branch.false gs frames)
 
 pub loop-records-preserved : goal.loop-records-preserved
@@ -115,8 +115,8 @@ loop-records-preserved g c =
           let r = inv.read honest in
           let honest_there = subst (λ (b : Bool). IsTrue b) (sym inv.honest) honest in
           let honest_then = subst (λ (b : Bool). IsTrue b) (sym c.is_gate_open.ensures.honest) honest_there in
-          let gate = subst (λ (k : History). GateAt (seen k) at c.in_ok-is_gate_open.field-0) (inv.same honest) (c.in_ok-is_gate_open.ensures.gate honest_there) in
-          let frame = subst (λ (k : History). IsFrameAt (seen k) at (c.len.result + 1) group) (c.is_gate_open.ensures.same honest_there ∙ inv.same honest) (rw c.in-Some.is at (c.in_ok-group.ensures.frame honest_then)) in (
+          let gate = subst (λ (k : DeviceHistory). GateAt (seen k) at c.in_ok-is_gate_open.field-0) (inv.same honest) (c.in_ok-is_gate_open.ensures.gate honest_there) in
+          let frame = subst (λ (k : DeviceHistory). IsFrameAt (seen k) at (c.len.result + 1) group) (c.is_gate_open.ensures.same honest_there ∙ inv.same honest) (rw c.in-Some.is at (c.in_ok-group.ensures.frame honest_then)) in (
             r.0 ++ group ∷ [],
             frame_on c.args.from image r.0 (length old + 1) at r.1 c.in_ok-is_gate_open.field-0 gate c.if-branch.true _ _ group (omega arith) is_group (subst (λ n. IsFrameAt image at n group) number frame) (omega (arith, long)) (omega (arith, found.1)),
             all ∙ ap (λ (l : List LogRecord). l ++ group) r.2 ∙ sym (joined-push r.0 group),

@@ -1,6 +1,6 @@
 use Rattle.std.proofs.Common.{◌≡◌, ◌≤◌, ℕ, List, length}
 use Rattle.shore_types.specs.declared.layout.Geometry.{Geometry}
-use Rattle.shore_disk.specs.Device.{History, may_leave}
+use Rattle.shore_disk.specs.Device.{DeviceHistory, may_leave}
 use Rattle.shore_log.specs.Settled.{records_of_log, stable, waiting}
 use Rattle.laws_lives.specs.Recovery.{RecoveryState}
 use Rattle.laws_images.specs.Moments.{ShowsLeft}
@@ -11,7 +11,7 @@ use Rattle.shore_restart.proofs.forcing.force.Given as goal
 
 abbrev pub invariant-loop : goal.invariant-loop
 invariant-loop g l = record {
-  so_far : (log_front : List ℕ) (s : RecoveryState) → IsAtRest log_front l.initial.log s → (geometry : Geometry) (front : List ℕ) (h : History)
+  so_far : (log_front : List ℕ) (s : RecoveryState) → IsAtRest log_front l.initial.log s → (geometry : Geometry) (front : List ℕ) (h : DeviceHistory)
       → ((c : List ℕ) → may_leave h c → ShowsLeft geometry front s c) → SoFar geometry log_front front h l.initial.log l.log s;
   quiet : (log_front : List ℕ) → IsQuiet log_front l.initial.log → IsQuiet log_front l.log × (length (stable l.initial.log) ≤ length (stable l.log));
   records : records_of_log l.log ≡ records_of_log l.initial.log;

@@ -27,7 +27,7 @@ returns-in-Err-clause-fetches g c front disk s stands low =
 
 pub returns-in-Err-clause-device : goal.returns-in-Err-clause-device
 returns-in-Err-clause-device g c front disk s stands low h is =
-    refused_page front disk c.args.heap.now s c.args.page c.args.ends.now c.in-Err.fault h c.page_error.result stands c.requires low
+    refused_page disk c.args.heap.now s c.args.page c.args.ends.now c.in-Err.fault h c.page_error.result stands.store stands.recoverable c.requires low
     (c.in-Err.ensures.refused front disk stands.shows.holds) c.page_error.ensures is
 
 pub returns-in-Err-clause-earned : goal.returns-in-Err-clause-earned

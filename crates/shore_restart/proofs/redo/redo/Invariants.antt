@@ -1,5 +1,5 @@
 use Rattle.std.proofs.Common.{◌≡◌, ◌≤◌, ℕ, List, length}
-use Rattle.shore_disk.specs.Device.{History, may_leave}
+use Rattle.shore_disk.specs.Device.{DeviceHistory, may_leave}
 use Rattle.shore_heap.specs.Heaps.{faults_of}
 use Rattle.laws_lives.specs.Recovery.{RecoveryState}
 use Rattle.laws_images.specs.Moments.{GivesPrefix}
@@ -11,7 +11,7 @@ use Rattle.shore_restart.proofs.redo.redo.Given as goal
 abbrev pub invariant-loop-index : goal.invariant-loop-index
 invariant-loop-index g l = record {
   so_far : (front : List ℕ) (disk : ℕ → List ℕ) (s : RecoveryState) → Stands front disk l.initial.heap s → s.log ≡ l.log → s.durable ≡ length s.log → s.redone ≡ 0
-      → (h : History) (log_front : List ℕ) → ((c : List ℕ) → may_leave h c → GivesPrefix log_front s c) → SoFar h log_front front l.initial.heap l.heap s l.index;
+      → (h : DeviceHistory) (log_front : List ℕ) → ((c : List ℕ) → may_leave h c → GivesPrefix log_front s c) → SoFar h log_front front l.initial.heap l.heap s l.index;
   now : (front : List ℕ) (disk : ℕ → List ℕ) (s : RecoveryState) → Stands front disk l.initial.heap s → s.log ≡ l.log → s.durable ≡ length s.log → s.redone ≡ 0 → Now front l.heap s l.index l.redone;
   any_pages : (front : List ℕ) (disk : ℕ → List ℕ) → IsHeld front disk l.initial.heap (length l.log) → StaysHeld front disk l.initial.heap l.heap (length l.log) (length l.log);
   volume : SameVolume l.initial.heap l.heap;

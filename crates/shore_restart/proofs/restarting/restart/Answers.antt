@@ -1,4 +1,5 @@
-use Rattle.std.proofs.Common.{Err, arith, refl, sym, ap, subst, ◌∙◌, length}
+use Rattle.std.proofs.Common.{◌+◌, ◌≤◌, ℕ, Err, arith, refl, sym, ap, subst, ◌∙◌, length}
+use Rattle.shore_types.specs.declared.layout.TheConstants.{LAST_OPENED}
 use Rattle.shore_heap.specs.declared.heap.Heap.{Heap}
 use Rattle.shore_heap.specs.Heaps.{geometry_of}
 use Rattle.shore_model.specs.Logs.{Lawful}
@@ -6,14 +7,29 @@ use Rattle.laws_lives.specs.Undo.{HasNoLosers}
 use Rattle.shore_log.specs.Settled.{records_of_log}
 use Rattle.laws_images.specs.Moments.{Path}
 use Rattle.shore_restart.specs.Standing.{log_history, moment_of, stream_bytes_of}
-use Rattle.shore_restart.proofs.Opens.{opens_in}
+use Rattle.shore_sessions.specs.Controls.{txns_in}
+use Rattle.shore_txn.specs.Transactions.{room_in}
+use Rattle.shore_txn.specs.Txns.{last_of}
+use Rattle.shore_restart.proofs.Opens.{are_earlier, numbers_left, opens_in}
 use Rattle.shore_restart.proofs.QuietLogs.{quiet_beside, quiet_err, quiet_of}
 use Rattle.shore_restart.proofs.restarting.restart.Goals as goal
+
+pub over-requires-clause-earlier : goal.over-requires-clause-earlier
+over-requires-clause-earlier g c t among =
+    subst (λ (n : ℕ). last_of t ≤ n) (sym (ap length c.records.ensures.log))
+    (are_earlier (geometry_of c.args.heap) (records_of_log c.args.log.now) (records_of_log c.run_passes.new.log) c.in-Ok.ensures.undone c.in-Ok.ensures.taken.0 (geometry_of c.args.heap).max_locks
+    c.in-Ok.field-0.control c.in-Ok.ensures.doubts t among)
+
+pub over-requires-clause-few : goal.over-requires-clause-few
+over-requires-clause-few g c =
+    subst (λ (n : ℕ). n + 1 + (room_in (txns_in c.in-Ok.field-0.control)).reserved ≤ LAST_OPENED) (sym (ap length c.records.ensures.log))
+    (numbers_left (records_of_log c.run_passes.new.log) c.in-Ok.field-0.control (stream_bytes_of c.run_passes.new.log) c.in-Ok.ensures.room)
 
 pub returns-in-Ok-clause-restarts : goal.returns-in-Ok-clause-restarts
 returns-in-Ok-clause-restarts g c log_front front disk s found =
     let m = c.in-Ok.ensures.moves log_front front disk s found in
     let new = c.run_passes.new.log in
+    let tables = c.in-Ok.ensures.report.undone in
     record {
       ready = m.later;
       moments = m.moments;
@@ -21,19 +37,20 @@ returns-in-Ok-clause-restarts g c log_front front disk s found =
           (moment_of (log_history new) heap m.later)) (sym c.over.ensures.heap) m.path;
       opens = λ lawful.
           let was : Lawful (records_of_log c.args.log.now) = subst Lawful found.at_rest.records lawful in
-          let ready = m.done.2 in
+          let ready = m.done.1 in
           let quiet = c.in-Ok.ensures.done was in
           let same = ready.at_rest.records in (
             ready.redone,
             subst HasNoLosers (sym same) quiet,
-            m.done.0,
+            ready.durable,
             ready.at_rest,
-            m.done.1,
-            opens_in c.over.result c.run_passes.new.heap c.in-Ok.field-0.control front m.done.1 (records_of_log c.args.log.now) (records_of_log new) (stream_bytes_of new) m.later
-                (geometry_of c.args.heap) c.in-Ok.ensures.taken same was c.in-Ok.ensures.undone quiet ready.redone ready.stands (geometry_of c.args.heap).max_locks c.in-Ok.ensures.idle c.in-Ok.ensures.next c.in-Ok.ensures.room
-                (λ st log durable running control shows. c.over.ensures.state front m.done.1 st
+            m.done.0,
+            opens_in c.over.result c.run_passes.new.heap c.in-Ok.field-0.control front m.done.0 (records_of_log c.args.log.now) (records_of_log new) (stream_bytes_of new) m.later
+                (geometry_of c.args.heap) c.in-Ok.ensures.taken.0 same was c.in-Ok.ensures.undone quiet ready.redone c.in-Ok.ensures.none ready.stands (geometry_of c.args.heap).max_locks
+                c.in-Ok.ensures.doubts c.in-Ok.ensures.next c.in-Ok.ensures.room tables.0.txns tables.1.txns
+                (λ st log durable running control shows. c.over.ensures.state front m.done.0 st
                 (ap length (log ∙ same ∙ sym c.records.ensures.log)) (durable ∙ ready.at_rest.durable ∙ sym c.durable.ensures ∙ sym c.number-durable.ensures) running control shows)
-                (c.over.ensures.over m.done.1),
+                (c.over.ensures.over m.done.0),
           );
     }
 

@@ -24,4 +24,5 @@ returns-in-None-split_once-clause-asks c =
     let parts = c.in-Some in
     let cut = cuts_at 32 text c.split_once.result c.split_once.ensures.cases (omega arith) parts.word parts.rest parts.is in
     let lacks = lacks_at 32 parts.rest.now c.split_once-in-Some.result c.split_once-in-Some.ensures.cases (omega arith) c.in-None-split_once.is in
-    two_words AskCall AskCall-spaceless text parts.word.now parts.rest.now cut.0 cut.1 lacks c.call_with_one.result c.call_with_one.ensures.asks
+    on_ok _ (Reads (InWords AskCall text)) (two_words AskCall AskCall-spaceless text parts.word.now parts.rest.now cut.0 cut.1 lacks)
+    c.call_with_a_word.result c.call_with_a_word.ensures.asks

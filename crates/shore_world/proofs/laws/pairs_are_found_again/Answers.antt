@@ -1,6 +1,6 @@
 use Rattle.std.proofs.Common.{inl, inr, ⊎_elim, List, ℕ, refl, sym, subst}
 use Rattle.shore_disk.proofs.Moments.{at_end}
-use Rattle.shore_disk.specs.Device.{History, may_leave}
+use Rattle.shore_disk.specs.Device.{DeviceHistory, may_leave}
 use Rattle.shore_world.specs.Crashes.{AreLeft}
 use Rattle.shore_world.specs.Opens.{LeftByOpen}
 use Rattle.shore_world.proofs.EndedLemmas.{ended_found, ended_in_open}
@@ -26,13 +26,13 @@ returns-clause-closed c d w = record { lengths = (refl, refl); among = λ i j ma
 
 pub returns-clause-refused : goal.returns-clause-refused
 returns-clause-refused c d log volume log_now volume_now fault l v log_is volume_is along i j may_log may_volume g rs pages stood =
-    let log_may = subst (λ (h : History). may_leave h i) (sym log_is) may_log in
-    let volume_may = subst (λ (h : History). may_leave h j) (sym volume_is) may_volume in
+    let log_may = subst (λ (h : DeviceHistory). may_leave h i) (sym log_is) may_log in
+    let volume_may = subst (λ (h : DeviceHistory). may_leave h j) (sym volume_is) may_volume in
     ⊎_elim
     (λ early. inl (at_end log (c.L.Disk.history l) (may_leave log) early.0 i log_may, at_end volume (c.V.Disk.history v) (may_leave volume) early.1 j volume_may))
     (λ went. inr (
       went.0,
-      lost_at_last g _ _ _ went.0.moments went.0.last went.0.path i j (subst (λ (h : History). may_leave h i) (sym went.1) log_may) (subst (λ (h : History). may_leave h j) (sym went.2) volume_may),
+      lost_at_last g _ _ _ went.0.moments went.0.last went.0.path i j (subst (λ (h : DeviceHistory). may_leave h i) (sym went.1) log_may) (subst (λ (h : DeviceHistory). may_leave h j) (sym went.2) volume_may),
     ))
     (along g rs pages stood)
 

@@ -11,6 +11,7 @@ use Rattle.laws_lives.specs.Sessions.{SessionTxn}
 use Rattle.laws_lives.specs.Views.{IsAmong}
 use Rattle.laws_calls.specs.LockChanges.{ChangesLocks}
 use Rattle.laws_calls.specs.Midway.{Interlude, Intervene, IsMidway, cycles_among}
+use Rattle.laws_calls.specs.Shapes.{IsNoRefusal, ResolvesTxn}
 use Rattle.laws_calls.specs.States.{IsOfSession, State, Waiting}
 use Rattle.laws_calls.proofs.SettledLocks.{settled_call_locks, settled_resume_locks}
 use Rattle.shore_world.specs.declared.event.Event.TheVariants as event
@@ -23,7 +24,8 @@ use Rattle.shore_world.proofs.promises.locks_change_only_as_asked.Goals as goal
 abbrev ByCall : Geometry → State → ℕ → Call → Step → List Request → List Request → Type 0
 ByCall g s session c step old new =
     (new ≡ old)
-    ⊎ (((c ≡ Abort) × (step ≡ Done Aborted) × ((a : SessionTxn) × IsOfSession s session a × (new ≡ released a.txn old)))
+    ⊎ ((((c ≡ Abort) × (step ≡ Done Aborted) × ((a : SessionTxn) × IsOfSession s session a × (new ≡ released a.txn old)))
+    ⊎ ((a : SessionTxn) × ResolvesTxn s c a × IsNoRefusal step × (new ≡ released a.txn old)))
     ⊎ ((a : SessionTxn) × IsOfSession s session a × ((between : List Interlude) × ((between ≡ []) ⊎ ((mid : State) × IsMidway g s session c between mid))
     × ChangesLocks old a.txn c (cycles_among between) new)))
 

@@ -1,8 +1,8 @@
-use Rattle.std.proofs.Common.{◌+◌, ◌<◌, List, ℕ, ap, length, subst, ◌++◌, ◌∙◌}
+use Rattle.std.proofs.Common.{◌<◌, ◌≤◌, List, ℕ, length, subst, ◌++◌}
 use Rattle.shore_model.specs.declared.log_records.LogRecord.{LogRecord}
 use Rattle.shore_model.specs.declared.step.Step.TheVariants.{Waits}
 use Rattle.shore_model.specs.declared.step.Wait.TheVariants.{Durable, Lock}
-use Rattle.laws_calls.proofs.SettledThere.{settled_call_waits_at, settled_commit_waits, settled_resume_waits_at, settled_resume_waits_on}
+use Rattle.laws_calls.proofs.SettledThere.{settled_call_waits_at, settled_record_waits, settled_resume_waits_at, settled_resume_waits_on}
 use Rattle.shore_world.specs.declared.event.Event.TheVariants as event
 use Rattle.shore_world.specs.Exchanges.{waited_behind}
 use Rattle.shore_world.specs.Worlds.{geometry_in}
@@ -23,11 +23,11 @@ pub returns-clause-record_of : goal.returns-clause-record_of
 returns-clause-record_of c d w new o es ws session n call k served one =
     let went = stepped w o es ws k (event.Call session call) (Waits (Durable n)) new served one in
     let later = seen new o (es ++ went.on.made) (waited_behind ws (event.Call session call) (Waits (Durable n))) went.on.manager in
-    let waits = settled_commit_waits (geometry_in w) o k.found es k.now.state (after w o es ws k) session n went.on.manager.now.state call went.moves in
-    (waits.0, waits.1 ∙ ap (λ (l : List LogRecord). 1 + length l) (seen w o es ws k).log, subst (λ (m : ℕ). m < n) later.durable waits.2)
+    let waits = settled_record_waits (geometry_in w) o k.found es k.now.state (after w o es ws k) session n went.on.manager.now.state call went.moves in
+    (went.on, waits.0, subst (λ (m : ℕ). m < n) later.durable waits.1, subst (λ (l : List LogRecord). n ≤ length l) later.log waits.2)
 
 pub returns-clause-record_on : goal.returns-clause-record_on
 returns-clause-record_on c d w new o es ws session n k one =
     let went = stepped w o es ws k (event.Resume session) (Waits (Durable n)) new tt one in
     let on = settled_resume_waits_on (geometry_in w) o k.found es k.now.state (after w o es ws k) session n went.on.manager.now.state went.moves in
-    (on.waited, on.there, on.of, on.lock, subst (λ (m : ℕ). m < n) (seen w o es ws k).durable on.above)
+    (on.waited, on.there, on.of, on.lock, on.commit, subst (λ (m : ℕ). m < n) (seen w o es ws k).durable on.above)

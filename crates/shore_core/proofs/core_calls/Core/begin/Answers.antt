@@ -1,4 +1,4 @@
-use Rattle.std.proofs.Common.{inl, inr, refl, sym, ap, subst, ◌∙◌, arith}
+use Rattle.std.proofs.Common.{inl, inr, refl, sym, ap, ◌∙◌, arith}
 use Rattle.shore_types.specs.declared.faults.Fault.TheVariants as fault
 use Rattle.shore_types.specs.declared.layout.TheConstants.{ENDING_COST}
 use Rattle.shore_model.specs.declared.calls.Answer.TheVariants.{Began}
@@ -8,11 +8,10 @@ use Rattle.laws_lives.specs.UndoLists.{nothing_to_undo}
 use Rattle.laws_calls.specs.StateChanges.{begun}
 use Rattle.laws_calls.specs.States.{State, page_slots}
 use Rattle.shore_heap.proofs.Showing.{shows_same}
-use Rattle.laws_lives.specs.Views.{IsAmong}
-use Rattle.shore_sessions.proofs.WaitSteps.{in_none}
+use Rattle.shore_core.proofs.Opening.{in_none}
 use Rattle.shore_sessions.specs.Controls.{txns_in}
 use Rattle.shore_txn.specs.Transactions.{kept_in}
-use Rattle.shore_core.specs.Cores.{control_of, durable_of, first_of, has_failed, txns_of, waiting_of, waits_of}
+use Rattle.shore_core.specs.Cores.{control_of, durable_of, first_of, has_failed, txns_of, waiting_of}
 use Rattle.shore_core.proofs.Begun.{begun_earlier, begun_reserved}
 use Rattle.shore_core.proofs.Coming.{comes_same, over_as, pages_told}
 use Rattle.shore_core.proofs.Tables.{has_no_room, has_room, parts_moved}
@@ -25,7 +24,7 @@ pub returns-then-count-ge-MAX_TRANSACTIONS-clause-replied : goal.returns-then-co
 returns-then-count-ge-MAX_TRANSACTIONS-clause-replied g c running front disk before s store is safe over idle =
     let old = c.args.self.now in
     let works = is.beside.parts.failed_is ∙ running in
-    let none = in_none (waits_of old) s is.beside.parts.stands.waits safe.after.sessions.seats is.beside.parts.stands.txns.unprepared c.args.session works idle (λ a m. c.requires a (subst (IsAmong a) is.beside.parts.stands.txns.active m)) in
+    let none = in_none (control_of old) s is.beside.parts.stands safe.after.sessions.seats c.args.session works idle c.requires in
     let count = c.count.ensures.count s is.beside.parts.stands works in
     record {
       later = s;
@@ -37,7 +36,7 @@ pub returns-then-not-admits-clause-replied : goal.returns-then-not-admits-clause
 returns-then-not-admits-clause-replied g c running front disk before s store is safe over idle =
     let old = c.args.self.now in
     let works = is.beside.parts.failed_is ∙ running in
-    let none = in_none (waits_of old) s is.beside.parts.stands.waits safe.after.sessions.seats is.beside.parts.stands.txns.unprepared c.args.session works idle (λ a m. c.requires a (subst (IsAmong a) is.beside.parts.stands.txns.active m)) in
+    let none = in_none (control_of old) s is.beside.parts.stands safe.after.sessions.seats c.args.session works idle c.requires in
     let count = c.count.ensures.count s is.beside.parts.stands works in
     elim c.then-not-admits.branch [
       | then-not-admits-via-then-not-admits w ↦ record {
@@ -83,7 +82,7 @@ pub invariant_of-self : goal.invariant_of-self
 invariant_of-self g c =
     let old = c.args.self.now in
     let ensures = c.begin.ensures in
-    let reserved = begun_reserved (txns_of old) (txns_in c.begin.new.self) c.args.session c.begin.result ensures.begun ensures.refused in
+    let reserved = begun_reserved (txns_of old) (txns_in c.begin.new.self) c.args.session c.begin.result ensures.listed ensures.refused in
     let admits = c.if-not-admits.ensures.0 refl in
     record {
       some_number = old.some_number;
@@ -107,10 +106,10 @@ pub returns-clause-replied : goal.returns-clause-replied
 returns-clause-replied g c running front disk before s store is safe over idle =
     let old = c.args.self.now in
     let works = is.beside.parts.failed_is ∙ running in
-    let none = in_none (waits_of old) s is.beside.parts.stands.waits safe.after.sessions.seats is.beside.parts.stands.txns.unprepared c.args.session works idle (λ a m. c.requires a (subst (IsAmong a) is.beside.parts.stands.txns.active m)) in
+    let none = in_none (control_of old) s is.beside.parts.stands safe.after.sessions.seats c.args.session works idle c.requires in
     let count = c.count.ensures.count s is.beside.parts.stands works in
     let later : State = begun s c.args.session in
-    let parts = parts_moved (control_of old) c.begin.new.self (waiting_of old) (durable_of old) (has_failed old) before s later is.beside.parts (c.in_ok-txn.ensures.stands s is.beside.parts.stands) refl refl refl in
+    let parts = parts_moved (control_of old) c.begin.new.self (waiting_of old) (durable_of old) (has_failed old) before s later is.beside.parts (c.in_ok-txn.ensures.stands s is.beside.parts.stands idle) refl refl refl in
     record {
       later = later;
       replies = inr (inr (inr (inl (

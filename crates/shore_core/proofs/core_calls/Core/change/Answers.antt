@@ -26,7 +26,7 @@ use Rattle.shore_txn.specs.Txns.{as_session_txn}
 use Rattle.shore_txn.proofs.OneOfMany.{once_same}
 use Rattle.shore_sessions.specs.Controls.{txns_in}
 use Rattle.shore_sessions.specs.Standing.{IsLogged, changed}
-use Rattle.shore_core.specs.Cores.{durable_of, first_of, geometry_of, has_failed, txns_of, waiting_of}
+use Rattle.shore_core.specs.Cores.{control_of, durable_of, first_of, geometry_of, has_failed, txns_of, waiting_of}
 use Rattle.shore_core.specs.Parts.{HasParts}
 use Rattle.shore_core.proofs.Changed.{changes_none, claim_told, costs_are, earlier_changed, earlier_same, grown, grows, held_still, image_short, pages_changed, same_geometry, some_is}
 use Rattle.shore_core.proofs.Coming.{comes_appended, comes_same, over_as, pages_told}
@@ -34,6 +34,7 @@ use Rattle.shore_core.proofs.Safe.{alone_in}
 use Rattle.shore_core.proofs.Tables.{each_among, has_no_room, has_room, next_is, parts_logged, parts_moved, some_and}
 use Rattle.shore_core.proofs.Taking.{framed_is, image_shown, true_false}
 use Rattle.shore_core.proofs.Serving.{device_alone, nothing_called}
+use Rattle.shore_sessions.proofs.ControlSteps.{own_number}
 use Rattle.shore_core.proofs.core_calls.Core.change.Goals as goal
 
 pub returns-then-not-admits-clause-changed : goal.returns-then-not-admits-clause-changed
@@ -160,8 +161,9 @@ returns-clause-changed g c running front disk before s store is safe over a of l
     let cost = costs_are s.sessions.records id c.args.before image c.change_cost-logged.result c.compensation_cost-undo.result logged (c.compensation_cost-undo.ensures.cost id c.args.before 0 (sym c.len_of-3.ensures)) found in
     let own = c.txn-own.result.now in
     let stands = is.beside.parts.stands in
+    let at_seat = own_number (control_of old) c.args.seat.now c.requires.seated c.requires.own s stands a of in
     let own_is : as_session_txn own ≡ a =
-    once_same (λ (b : SessionTxn). b.session) _ (txns_of old).sessions (as_session_txn own) a c.txn-own.ensures.there (subst (IsAmong a) stands.txns.active of.0.0) (c.txn-own.ensures.session ∙ sym of.1) in
+    once_same (λ (b : SessionTxn). b.txn) _ (txns_of old).numbers (as_session_txn own) a c.txn-own.ensures.there (subst (IsAmong a) stands.txns.active of.0.0) (c.txn-own.ensures.number ∙ sym at_seat) in
     let txn_is : c.id-txn.result ≡ a.txn = c.id-txn.ensures.number ∙ ap (λ (b : SessionTxn). b.txn) own_is in
     let previous_is : c.last-previous.result ≡ previous_of a.txn s.log =
     c.last-previous.ensures ∙ (each_among (IsLogged s.log) _ stands.txns.each own c.txn-own.ensures.among).last ∙ ap (λ (b : SessionTxn). previous_of b.txn s.log) own_is in
@@ -173,7 +175,7 @@ returns-clause-changed g c running front disk before s store is safe over a of l
     let number : c.in-Ok.lsn ≡ 1 + length s.log = c.in-Ok.ensures.number ∙ sym (next_is old.control (waiting_of old) (durable_of old) (has_failed old) before s is.beside.parts (first_of old) is.beside.first 0) in
     let alone = alone_in (geometry_of old) s safe a.txn id (subst (λ (t : Table). IsReached t.requests a.txn (Record id) EX) (sym stands.locks) locked) in
     let later = changed s a id image (grown s.counts id) in
-    let has = c.note_change.ensures.stands s a image (grown s.counts id) (c.reserve_entry.ensures.stands s stands) of number before_is
+    let has = c.note_change.ensures.stands s a image (grown s.counts id) (c.reserve_entry.ensures.stands s stands) (of.0.0, at_seat) number before_is
     (logged ∙ ap (λ (b : Image). cost_of (Change id b image)) (sym c.in_ok-copy_of.ensures)) safe.roomy.pages alone (c.claim.ensures (kept_in (txns_of old)) front disk (page_slots s) shows) in
     let parts = parts_logged old.control new (waiting_of old) (durable_of old) (has_failed old) before s later r is.beside.parts has refl refl refl in
     let image_is = c.bytes_of.ensures ∙ c.in_ok-image.ensures in

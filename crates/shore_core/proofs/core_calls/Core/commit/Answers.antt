@@ -41,8 +41,8 @@ use Rattle.shore_core.proofs.core_calls.Core.commit.Goals as goal
 
 pub returns-in_err-txn-clause-replied : goal.returns-in_err-txn-clause-replied
 returns-in_err-txn-clause-replied g c ready front disk before s store is safe over waits_not =
-    replied_not_open c.args.self.now front disk before s store c.args.seat.now.session call.Commit c.from_residual.result c.in_err-txn.field-0.0 is over safe.after.sessions.seats inner_commit
-    (is.beside.parts.failed_is ∙ ready) waits_not c.from_residual.ensures.1 c.in_err-txn.ensures.refused
+    replied_not_open c.args.self.now front disk before s store c.args.seat.now.session call.Commit c.from_residual.result c.in_err-txn.field-0.0 is over inner_commit
+    (is.beside.parts.failed_is ∙ ready) waits_not c.from_residual.ensures.1 (c.in_err-txn.ensures.not_open s is.beside.parts.stands)
 
 pub loop-change-init : goal.loop-change-init
 loop-change-init g c =
@@ -122,7 +122,7 @@ pub invariant_of-self-2 : goal.invariant_of-self-2
 invariant_of-self-2 g c =
     let old = c.args.self.now in
     let new = txns_in c.commit-changes.new.self in
-    let left = subst (λ x. OneLeaves c.args.seat.now.session c.commit-changes.result.items (table.txns_in x) (table.txns_in new)) c.reserve_wait.ensures.txns c.commit-changes.ensures.left in
+    let left = subst (λ x. OneLeaves c.args.seat.now.txn c.commit-changes.result.items (table.txns_in x) (table.txns_in new)) c.reserve_wait.ensures.txns c.commit-changes.ensures.left in
     let r : LogRecord = record { txn = c.id.result; previous = c.last.result; payload = Commit } in
     let next : first_of old + length (waiting_of old) + 1 ≡ g.T.Tail.first c.push.new.self + length (g.T.Tail.records c.push.new.self) =
     let long = length-append (waiting_of old) (r ∷ []) in let more = ap length c.in-Ok.ensures.added in omega (arith, long, more, c.in-Ok.ensures.first) in
@@ -145,11 +145,12 @@ returns-clause-replied g c ready front disk before s store is safe over waits_no
     let es = c.commit-changes.result.items in
     let was = is.beside.parts.stands in
     let mid = c.reserve_wait.ensures.stands s was in
-    let its = c.in_ok-txn.ensures.of_session s was safe.after.sessions.seats in
+    let its = c.in_ok-txn.ensures.of_session s was in
+    let at_seat = c.in_ok-txn.ensures.some.1 in
     let works = is.beside.parts.failed_is ∙ ready in
     let number = c.in-Ok.ensures.number ∙ sym (next_is (control_of old) (waiting_of old) (durable_of old) (has_failed old) before s is.beside.parts (first_of old) is.beside.first 0) in
     let later = committed s a in
-    let stands = commit.stands s a mid its number in
+    let stands = commit.stands s a mid its at_seat number in
     let r : LogRecord = record { txn = a.txn; previous = previous_of a.txn s.log; payload = Commit } in
     let last = each_among (IsLogged s.log) (table.txns_in (txns_of old)) was.txns.each t c.in_ok-txn.ensures.some.0 in
     let added : g.T.Tail.records c.push.new.self ≡ waiting_of old ++ r ∷ [] =
@@ -160,7 +161,7 @@ returns-clause-replied g c ready front disk before s store is safe over waits_no
     let out : undos_in (txns_in c.commit-changes.new.self) ≡ without_txn a.txn (undos_in (txns_of old)) = sym stands.txns.active ∙ ap (without_txn a.txn) was.txns.active in
     let more : (p : PageId) → HasMore (claims_on p es) (kept_in (txns_in c.commit-changes.new.self) p) (kept_in (txns_of old) p) =
     λ p. subst (λ x. HasMore (claims_on p es) (kept_in (txns_in c.commit-changes.new.self) p) (kept_in x p)) c.reserve_wait.ensures.txns (commit.claims p) in
-    let undone = commit.undone s a mid its in
+    let undone = commit.undone s a mid (its.0.0, at_seat) in
     let older = table.txns_in (txns_of old) in
     let those = table.txns_in (txns_in c.commit-changes.new.self) in
     let all : take c.loop-change.change-index c.deref-change-items.result.now ≡ es = take-whole c.deref-change-items.result.now c.loop-change.change-index c.loop-change-test.false ∙ c.deref-change-items.ensures.value in
@@ -192,7 +193,7 @@ returns-clause-replied g c ready front disk before s store is safe over waits_no
 
 pub returns-in_err-txn-clause-serves : goal.returns-in_err-txn-clause-serves
 returns-in_err-txn-clause-serves g c =
-    refused_still _ _ _ _ _ _ c.from_residual.ensures.1 refl refl refl refl (not_open_aside c.args.self.now c.args.seat.now.session _ c.in_err-txn.ensures.refused)
+    refused_still _ _ _ _ _ _ c.from_residual.ensures.1 refl refl refl refl (not_open_aside _ c.in_err-txn.ensures.refused)
 
 pub returns-in_err-reserve_wait-clause-serves : goal.returns-in_err-reserve_wait-clause-serves
 returns-in_err-reserve_wait-clause-serves g c = refused_still _ _ _ _ _ fault.Memory c.from_residual-in_err-reserve_wait.ensures.1 refl refl refl refl tt

@@ -5,8 +5,9 @@ use Rattle.shore_model.specs.declared.calls.Call.TheVariants as call
 use Rattle.shore_path.specs.Acquires.{IsReached}
 use Rattle.shore_heap.specs.Heaps.{frame_of}
 use Rattle.laws_calls.specs.CallSteps.{Finds}
-use Rattle.shore_sessions.specs.Controls.{locks_in}
+use Rattle.shore_sessions.specs.Controls.{locks_in, txns_in}
 use Rattle.shore_sessions.specs.Standing.{changed}
+use Rattle.shore_core.specs.Callers.{IsOfCaller}
 use Rattle.shore_core.specs.Cores.{IsSafe, geometry_of}
 use Rattle.shore_core.proofs.Coming.{comes_then}
 use Rattle.shore_core.proofs.Refusing.{delete_fault, delete_unlogged, gone_fits, map_some}
@@ -20,6 +21,9 @@ returns-in_err-find-clause-served g c running front disk before s store is safe 
     served_as old _ front before s store a (call.Delete c.args.id) c.from_residual.result _ c.from_residual.ensures.1
     (delete_fault (geometry_of old) s a c.args.id _ (c.in_err-find.ensures.refused running front disk before s store is safe over))
     (c.in_err-find.ensures.stays front disk before s store is safe over)
+
+pub change-requires-clause-own : goal.change-requires-clause-own
+change-requires-clause-own g c = subst (λ k. IsOfCaller c.args.seat.now (txns_in k)) (sym c.in_ok-find.ensures.reads.control) c.requires.own
 
 pub change-requires-clause-found : goal.change-requires-clause-found
 change-requires-clause-found g c =

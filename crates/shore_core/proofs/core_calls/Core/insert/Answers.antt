@@ -19,6 +19,7 @@ use Rattle.laws_calls.specs.StateChanges.{after_refusal}
 use Rattle.laws_calls.specs.CallSteps.{behind_place, place_outcome, with_requests}
 use Rattle.shore_sessions.specs.Controls.{locks_in, txns_in}
 use Rattle.shore_sessions.specs.Standing.{HasControl, changed}
+use Rattle.shore_core.specs.Callers.{IsOfCaller}
 use Rattle.shore_core.specs.Cores.{IsSafe, geometry_of, locks_of}
 use Rattle.shore_core.specs.Replies.{IsServedBehind, can_lock}
 use Rattle.shore_core.proofs.Coming.{comes_then}
@@ -79,6 +80,9 @@ change-requires-clause-found g c =
 pub change-requires-clause-seated : goal.change-requires-clause-seated
 change-requires-clause-seated g c = subst (IsSeatIn c.args.seat.now) (sym (c.in_ok-lock_place.ensures.only.txns ∙ ap txns_in c.in_ok-place.ensures.reads.control)) c.requires.seated
 
+pub change-requires-clause-own : goal.change-requires-clause-own
+change-requires-clause-own g c = subst (IsOfCaller c.args.seat.now) (sym (c.in_ok-lock_place.ensures.only.txns ∙ ap txns_in c.in_ok-place.ensures.reads.control)) c.requires.own
+
 pub returns-in_err-change-clause-served : goal.returns-in_err-change-clause-served
 returns-in_err-change-clause-served g c running front disk before s plain is safe over a of number =
     let old = c.args.self.now in
@@ -93,7 +97,7 @@ returns-in_err-change-clause-served g c running front disk before s plain is saf
     let stands = λ (has : HasControl mid.control s). subst (λ t. HasControl locked.control (with_requests s (acquired Refuse s.locks t (Record id) EX).requests)) (sym number) (c.lock_place.ensures.stands s has) in
     let there = comes_locked mid locked same front before s plain (place_outcome s a id).requests stands comes in
     let quiet = subst (λ (l : Table). is_waiting a.txn l.requests ≡ false) (sym is.beside.parts.stands.locks) (subst (λ t. is_waiting t (locks_of old).requests ≡ false) (sym number) c.requires.quiet) in
-    let safe_there = subst (λ it. IsSafe it (behind_place s a id)) (sym ((locks_keep mid locked same).volume.geometry ∙ reads.volume.geometry)) (safe_behind_place (geometry_of old) s safe a of.0 quiet id (never_waits _ (Ok tt) done)) in
+    let safe_there = subst (λ it. IsSafe it (behind_place s a id)) (sym ((locks_keep mid locked same).volume.geometry ∙ reads.volume.geometry)) (safe_behind_place (geometry_of old) s safe a of.0 quiet id c.in_ok-place.ensures.there (never_waits _ (Ok tt) done)) in
     let reached = subst (λ (l : Table). IsReached l.requests a.txn (Record id) EX) (stands comes.is_in.beside.parts.stands).locks (place_reached (geometry_of old) s safe a of.0 quiet id done) in
     let h = c.in_err-change.ensures.changed (same.failed ∙ reads.failed ∙ running) front there.left before (behind_place s a id) there.after there.is_in safe_there there.over a of reached in
     served_behind_place old c.change.new.self front before s plain a c.args.store c.args.bytes id c.from_residual-in_err-change.result _ c.from_residual-in_err-change.ensures.1
@@ -114,7 +118,7 @@ returns-clause-served g c running front disk before s plain is safe over a of nu
     let stands = λ (has : HasControl mid.control s). subst (λ t. HasControl locked.control (with_requests s (acquired Refuse s.locks t (Record id) EX).requests)) (sym number) (c.lock_place.ensures.stands s has) in
     let there = comes_locked mid locked same front before s plain (place_outcome s a id).requests stands comes in
     let quiet = subst (λ (l : Table). is_waiting a.txn l.requests ≡ false) (sym is.beside.parts.stands.locks) (subst (λ t. is_waiting t (locks_of old).requests ≡ false) (sym number) c.requires.quiet) in
-    let safe_there = subst (λ it. IsSafe it (behind_place s a id)) (sym ((locks_keep mid locked same).volume.geometry ∙ reads.volume.geometry)) (safe_behind_place (geometry_of old) s safe a of.0 quiet id (never_waits _ (Ok tt) done)) in
+    let safe_there = subst (λ it. IsSafe it (behind_place s a id)) (sym ((locks_keep mid locked same).volume.geometry ∙ reads.volume.geometry)) (safe_behind_place (geometry_of old) s safe a of.0 quiet id c.in_ok-place.ensures.there (never_waits _ (Ok tt) done)) in
     let reached = subst (λ (l : Table). IsReached l.requests a.txn (Record id) EX) (stands comes.is_in.beside.parts.stands).locks (place_reached (geometry_of old) s safe a of.0 quiet id done) in
     let h = c.in_ok-change.ensures.changed (same.failed ∙ reads.failed ∙ running) front there.left before (behind_place s a id) there.after there.is_in safe_there there.over a of reached in
     let later = changed (behind_place s a id) a id (Some c.args.bytes) h.0 in

@@ -1,4 +1,4 @@
-use Rattle.std.proofs.Common.{◌≡◌, IsSomeAnd, IsTrue, is_some, inl, inr, ◌+◌, ◌++◌, ◌∷◌, [], length, length-append, refl, sym, ap, subst, ◌∙◌, arith}
+use Rattle.std.proofs.Common.{◌≡◌, IsSomeAnd, IsTrue, is_some, inl, inr, false, ◌+◌, ◌++◌, ◌∷◌, [], length, length-append, refl, sym, ap, subst, ◌∙◌, arith}
 use Rattle.shore_dwrite.specs.Volumes.{page_number}
 use Rattle.shore_types.specs.Images.{Image, image_len}
 use Rattle.shore_types.specs.Layout.{HasPage}
@@ -19,6 +19,8 @@ use Rattle.laws_calls.specs.States.{page_slots}
 use Rattle.laws_heaps.specs.LoggedHeaps.{IsMade}
 use Rattle.laws_heaps.proofs.Made.{appended_is}
 use Rattle.shore_txn.specs.Transactions.{kept_in}
+use Rattle.shore_txn.specs.TxnStates.{is_in_doubt}
+use Rattle.shore_txn.specs.Txns.{state_of}
 use Rattle.shore_txn.specs.UndoEntries.{image_of}
 use Rattle.shore_txn.proofs.Seats.{seat_becomes}
 use Rattle.shore_sessions.specs.Controls.{txns_in}
@@ -32,6 +34,7 @@ use Rattle.shore_core.proofs.Leaving.{comes_lacking}
 use Rattle.shore_core.proofs.Tables.{each_among, next_is, parts_logged, some_and}
 use Rattle.shore_core.proofs.Undoing.{earlier_undone, next_cost, next_earlier, next_image, next_record, next_some, next_text, next_undone, pages_undone, slot_there}
 use Rattle.shore_core.proofs.Serving.{device_alone, nothing_called}
+use Rattle.shore_core.proofs.Callers.{at_becomes}
 use Rattle.shore_core.proofs.core_calls.Core.log_undo.Goals as goal
 
 pub push-requires-clause-text : goal.push-requires-clause-text
@@ -39,12 +42,12 @@ push-requires-clause-text g c =
     let old = c.args.self.now in
     let next = c.requires.next in
     let fits = some_and _ (frame_of old.heap c.args.undo.id.page) c.requires.fits in
-    next_text (txns_of old) c.args.seat.now.session c.args.undo.id c.args.undo.bytes c.args.undo.cost c.args.undo.logged next
+    next_text (txns_of old) c.args.seat.now.txn c.args.undo.id c.args.undo.bytes c.args.undo.cost c.args.undo.logged next
     (record { store = omega arith; page = omega arith; slot = omega (arith, fits.2.there) })
     (omega (arith, old.earlier next.own next.among, old.numbers))
 
 pub push-requires-clause-previous : goal.push-requires-clause-previous
-push-requires-clause-previous g c = next_earlier (txns_of c.args.self.now) c.args.seat.now.session c.args.undo.id c.args.undo.bytes c.args.undo.cost c.args.undo.logged c.requires.next _ c.args.self.now.earlier
+push-requires-clause-previous g c = next_earlier (txns_of c.args.self.now) c.args.seat.now.txn c.args.undo.id c.args.undo.bytes c.args.undo.cost c.args.undo.logged c.requires.next _ c.args.self.now.earlier
 
 pub invariant_of-self : goal.invariant_of-self
 invariant_of-self g c =
@@ -66,20 +69,20 @@ returns-in-Err-clause-put_back g c running front disk before s store is safe ove
 
 pub note_compensation-undone-requires-clause-some : goal.note_compensation-undone-requires-clause-some
 note_compensation-undone-requires-clause-some g c a among is none =
-    next_some (txns_of c.args.self.now) c.args.seat.now.session c.args.undo.id c.args.undo.bytes c.args.undo.cost c.args.undo.logged c.requires.next a among is none
+    next_some (txns_of c.args.self.now) c.args.seat.now.txn c.args.undo.id c.args.undo.bytes c.args.undo.cost c.args.undo.logged c.requires.next a among is none
 
 pub note_compensation-undone-requires-clause-cost : goal.note_compensation-undone-requires-clause-cost
 note_compensation-undone-requires-clause-cost g c a kept e among is images =
-    next_cost (txns_of c.args.self.now) c.args.seat.now.session c.args.undo.id c.args.undo.bytes c.args.undo.cost c.args.undo.logged c.requires.next a kept e among is images
+    next_cost (txns_of c.args.self.now) c.args.seat.now.txn c.args.undo.id c.args.undo.bytes c.args.undo.cost c.args.undo.logged c.requires.next a kept e among is images
 
 pub change-requires-clause-there : goal.change-requires-clause-there
 change-requires-clause-there g c =
-    let same = next_undone (txns_of c.args.self.now) c.args.seat.now.session c.args.undo.id c.args.undo.bytes c.args.undo.cost c.args.undo.logged c.requires.next (txns_in c.note_compensation-undone.new.self) _ _ _ c.note_compensation-undone.ensures.undone in
+    let same = next_undone (txns_of c.args.self.now) c.args.seat.now.txn c.args.undo.id c.args.undo.bytes c.args.undo.cost c.args.undo.logged c.requires.next (txns_in c.note_compensation-undone.new.self) _ _ _ c.note_compensation-undone.ensures.undone in
     subst (λ (r : Rid). HasPage (geometry_of c.args.self.now) r.page) (c.requires.next.id_is ∙ ap (λ (x : Rid × Image). x.0) same) c.requires.there
 
 pub change-requires-clause-fits : goal.change-requires-clause-fits
 change-requires-clause-fits g c =
-    let same = next_undone (txns_of c.args.self.now) c.args.seat.now.session c.args.undo.id c.args.undo.bytes c.args.undo.cost c.args.undo.logged c.requires.next (txns_in c.note_compensation-undone.new.self) _ _ _ c.note_compensation-undone.ensures.undone in
+    let same = next_undone (txns_of c.args.self.now) c.args.seat.now.txn c.args.undo.id c.args.undo.bytes c.args.undo.cost c.args.undo.logged c.requires.next (txns_in c.note_compensation-undone.new.self) _ _ _ c.note_compensation-undone.ensures.undone in
     subst (λ (i : Image). IsSomeAnd (frame_of c.args.self.now.heap c.note_compensation-undone.result.id.page) (λ f. Fits f.page.slots c.note_compensation-undone.result.id.slot (image_len i))) (sym c.bytes_of.ensures)
     (subst (λ (x : Rid × Image). IsSomeAnd (frame_of c.args.self.now.heap x.0.page) (λ f. Fits f.page.slots x.0.slot (image_len x.1))) same
     (subst (λ n. IsSomeAnd (frame_of c.args.self.now.heap c.requires.next.entry.id.page) (λ f. Fits f.page.slots c.requires.next.entry.id.slot n)) c.requires.next.bytes_is
@@ -87,7 +90,7 @@ change-requires-clause-fits g c =
 
 pub release_to-requires-clause-there : goal.release_to-requires-clause-there
 release_to-requires-clause-there g c =
-    let same = next_undone (txns_of c.args.self.now) c.args.seat.now.session c.args.undo.id c.args.undo.bytes c.args.undo.cost c.args.undo.logged c.requires.next (txns_in c.note_compensation-undone.new.self) _ _ _ c.note_compensation-undone.ensures.undone in
+    let same = next_undone (txns_of c.args.self.now) c.args.seat.now.txn c.args.undo.id c.args.undo.bytes c.args.undo.cost c.args.undo.logged c.requires.next (txns_in c.note_compensation-undone.new.self) _ _ _ c.note_compensation-undone.ensures.undone in
     subst (λ it. HasPage it c.note_compensation-undone.result.id.page) (sym (same_geometry c.change.new.self c.args.self.now.heap c.change.ensures.device))
     (subst (λ (r : Rid). HasPage (geometry_of c.args.self.now) r.page) (c.requires.next.id_is ∙ ap (λ (x : Rid × Image). x.0) same) c.requires.there)
 
@@ -95,7 +98,7 @@ pub release_to-requires-clause-slot : goal.release_to-requires-clause-slot
 release_to-requires-clause-slot g c =
     let old = c.args.self.now.heap in
     let undone = c.note_compensation-undone.result in
-    let same = next_undone (txns_of c.args.self.now) c.args.seat.now.session c.args.undo.id c.args.undo.bytes c.args.undo.cost c.args.undo.logged c.requires.next (txns_in c.note_compensation-undone.new.self) _ _ _ c.note_compensation-undone.ensures.undone in
+    let same = next_undone (txns_of c.args.self.now) c.args.seat.now.txn c.args.undo.id c.args.undo.bytes c.args.undo.cost c.args.undo.logged c.requires.next (txns_in c.note_compensation-undone.new.self) _ _ _ c.note_compensation-undone.ensures.undone in
     let at = ap (λ it. frame_at c.change.new.self (page_number it undone.id.page)) (same_geometry c.change.new.self old c.change.ensures.device) ∙ c.change.ensures.frames.0 in
     slot_there c.in-Ok.lsn undone.id.slot _ (frame_of old undone.id.page) (frame_of c.change.new.self undone.id.page) at
     (subst (λ (r : Rid). IsTrue (is_some (frame_of old r.page))) (c.requires.next.id_is ∙ ap (λ (x : Rid × Image). x.0) same) (some_is _ (frame_of old c.args.undo.id.page) c.requires.fits))
@@ -122,15 +125,15 @@ returns-clause-put_back g c running front disk before s store is safe over a kep
     let works = is.beside.parts.failed_is ∙ running in
     let stands = is.beside.parts.stands in
     let next = c.requires.next in
-    let among = subst (IsAmong a) stands.txns.active of.0.0 in
-    let entry_is = next_image (txns_of old) c.args.seat.now.session c.args.undo.id c.args.undo.bytes c.args.undo.cost c.args.undo.logged next a kept e among of.1 images in
-    let same : image_of undone ≡ e = sym (next_undone (txns_of old) c.args.seat.now.session c.args.undo.id c.args.undo.bytes c.args.undo.cost c.args.undo.logged next (txns_in new) _ _ _ c.note_compensation-undone.ensures.undone) ∙ entry_is in
+    let among = subst (IsAmong a) stands.txns.active of.0 in
+    let entry_is = next_image (txns_of old) c.args.seat.now.txn c.args.undo.id c.args.undo.bytes c.args.undo.cost c.args.undo.logged next a kept e among of.1 images in
+    let same : image_of undone ≡ e = sym (next_undone (txns_of old) c.args.seat.now.txn c.args.undo.id c.args.undo.bytes c.args.undo.cost c.args.undo.logged next (txns_in new) _ _ _ c.note_compensation-undone.ensures.undone) ∙ entry_is in
     let id_is : c.args.undo.id ≡ e.0 = next.id_is ∙ ap (λ (x : Rid × Image). x.0) entry_is in
     let its : a.undo.images ≡ kept ++ image_of undone ∷ [] = images ∙ ap (λ (x : Rid × Image). kept ++ x ∷ []) (sym same) in
     let number : c.in-Ok.lsn ≡ 1 + length s.log = c.in-Ok.ensures.number ∙ sym (next_is old.control (waiting_of old) (durable_of old) (has_failed old) before s is.beside.parts (first_of old) is.beside.first 0) in
     let later = put_back s a kept (e ∷ []) c.args.rollback in
     let r : LogRecord = record { txn = a.txn; previous = previous_of a.txn s.log; payload = Compensation e.0 e.1 (next_to_undo a.txn s.log) } in
-    let r_is : c.args.undo.logged ≡ r = next_record (txns_of old) c.args.seat.now.session c.args.undo.id c.args.undo.bytes c.args.undo.cost c.args.undo.logged next s.log a kept e (each_among (IsLogged s.log) _ stands.txns.each next.own next.among) among of.1 images in
+    let r_is : c.args.undo.logged ≡ r = next_record (txns_of old) c.args.seat.now.txn c.args.undo.id c.args.undo.bytes c.args.undo.cost c.args.undo.logged next s.log a kept e (each_among (IsLogged s.log) _ stands.txns.each next.own next.among) among of.1 images in
     let has : HasControl new later = subst (λ (x : Rid × Image). HasControl new (put_back s a kept (x ∷ []) c.args.rollback)) same (c.note_compensation-undone.ensures.stands s a kept stands of its number) in
     let parts = parts_logged old.control new (waiting_of old) (durable_of old) (has_failed old) before s later r is.beside.parts has refl refl refl in
     let there : HasPage (geometry_of old) e.0.page = subst (λ (x : Rid). HasPage (geometry_of old) x.page) id_is c.requires.there in
@@ -142,7 +145,7 @@ returns-clause-put_back g c running front disk before s store is safe over a kep
     let shown = subst (λ n. Shows K c.release_to.new.self front disk (with_slots (with_slots (page_slots s) undone.id.page (λ l. with_image l undone.id.slot undone.before)) undone.id.page (λ l. with_change (lowered n) l undone.id.slot))) claim_is
     (subst (λ (i : Image). Shows K c.release_to.new.self front disk (with_slots (with_slots (page_slots s) undone.id.page (λ l. with_image l undone.id.slot i)) undone.id.page (λ l. with_change (lowered c.from.result) l undone.id.slot))) image_is lowered_there) in
     let at_e = subst (λ (x : Rid × Image). Shows K c.release_to.new.self front disk (with_slots (with_slots (page_slots s) x.0.page (λ l. with_image l x.0.slot x.1)) x.0.page (λ l. with_change (lowered (claim_before kept x)) l x.0.slot))) same shown in
-    let pages = pages_undone c.release_to.new.self K front disk s a kept e c.args.rollback safe.roomy.pages of.0.0 images at_e in
+    let pages = pages_undone c.release_to.new.self K front disk s a kept e c.args.rollback safe.roomy.pages of.0 images at_e in
     let held = held_still _ c.release_to.new.self old.heap c.args.undo.id.page (c.release_to.ensures.device ∙ c.change.ensures.device) (λ k. c.release_to.ensures.held k ∙ c.change.ensures.held k) c.requires.fits in
     let told = claim_told c.release_to.new.self (txns_of old) (txns_in new) undone.id.page front disk (page_slots later)
     (subst (λ (x : Rid). IsTrue (is_some (frame_of c.release_to.new.self x.page))) (id_is ∙ sym (ap (λ (x : Rid × Image). x.0) same)) held) c.note_compensation-undone.ensures.elsewhere pages in
@@ -182,7 +185,12 @@ returns-in-Err-clause-longer g c =
 
 pub returns-clause-seated : goal.returns-clause-seated
 returns-clause-seated g c =
-    seat_becomes (txns_of c.args.self.now) (txns_in c.note_compensation-undone.new.self) c.args.seat.now (λ before after becomes. becomes.session) c.note_compensation-undone.ensures.undone c.requires.seated
+    seat_becomes (txns_of c.args.self.now) (txns_in c.note_compensation-undone.new.self) c.args.seat.now (λ before after becomes. becomes.txn) c.note_compensation-undone.ensures.undone c.requires.seated
+
+pub returns-clause-unprepared : goal.returns-clause-unprepared
+returns-clause-unprepared g c =
+    let one = c.note_compensation-undone.ensures.undone in
+    at_becomes (txns_of c.args.self.now) (txns_in c.note_compensation-undone.new.self) c.args.seat.now one one.becomes.txn (λ t. is_in_doubt (state_of t) ≡ false) (ap is_in_doubt one.becomes.state)
 
 pub returns-clause-no_call : goal.returns-clause-no_call
 returns-clause-no_call g c = device_alone _ _ (c.release_to.ensures.device ∙ c.change.ensures.device) refl c.push.ensures.first refl

@@ -61,13 +61,13 @@ returns-then-self-clause-step g c front disk before s store is safe over =
 pub returns-in-Durable-clause-step : goal.returns-in-Durable-clause-step
 returns-in-Durable-clause-step g c front disk before s store is safe over =
     let w = c.in-Some.waiting.now in
-    c.resume_commit.ensures.step c.if-self.false front disk before s store is safe over (as_waiting w) (c.in-Some.ensures.waits s is.beside.parts.stands) c.in-Some.ensures.some.1 c.in-Durable.is
+    c.resume_durable.ensures.step c.if-self.false front disk before s store is safe over w c.in-Some.ensures.some.0 c.in-Some.ensures.some.1 c.in-Durable.is c.awaited_by-awaited.ensures
 
 pub returns-in-Lock-clause-step : goal.returns-in-Lock-clause-step
 returns-in-Lock-clause-step g c front disk before s store is safe over =
     let w = c.in-Some.waiting.now in
     let was = is.beside.parts.stands in
-    let its = c.in-Some.ensures.asks (asks_lock w _ c.in-Lock.is) s was safe.after.sessions.seats in
+    let its = c.in-Some.ensures.asks (asks_lock w _ c.in-Lock.is) s was in
     c.resume_call.ensures.step c.if-self.false front disk before s store is safe over (as_waiting w) (c.in-Some.ensures.waits s was) c.in-Some.ensures.some.1 c.in-Lock.is its.0 its.1 its.2
 
 pub returns-in_default-clause-serves : goal.returns-in_default-clause-serves
@@ -81,7 +81,7 @@ returns-in-Lock-clause-serves g c = c.resume_call.ensures.serves
 
 pub returns-in-Durable-clause-serves : goal.returns-in-Durable-clause-serves
 returns-in-Durable-clause-serves g c =
-    serves_alone _ _ _ _ _ c.resume_commit.ensures.no_call (subst (λ (r : Result (Unit {0}) Fault). IfErr r IsAside) (sym c.resume_commit.ensures.plain) tt)
+    serves_alone _ _ _ _ _ c.resume_durable.ensures.no_call (subst (λ (r : Result (Unit {0}) Fault). IfErr r IsAside) (sym c.resume_durable.ensures.plain) tt)
 
 pub returns-then-self-clause-none : goal.returns-then-self-clause-none
 returns-then-self-clause-none g c none = absurd (none c.in-Some.waiting.now c.in-Some.ensures.some.0 c.in-Some.ensures.some.1)

@@ -14,14 +14,16 @@ use Rattle.shore_model.specs.declared.step.Step.TheVariants.{Waits}
 use Rattle.shore_model.specs.declared.step.Wait.{Wait}
 use Rattle.shore_model.specs.declared.step.Wait.TheVariants.{Lock}
 use Rattle.shore_txn.specs.Transactions as table
-use Rattle.shore_txn.specs.Transactions.{IsSeatIn, kept_in, room_in}
+use Rattle.shore_txn.specs.Transactions.{AtSeat, IsSeatIn, kept_in, room_in}
 use Rattle.shore_txn.specs.declared.transactions.Transactions.{Transactions}
 use Rattle.shore_sessions.proofs.WaitSteps.{call_waits}
 use Rattle.shore_sessions.specs.Calls.{as_waiting}
 use Rattle.shore_sessions.specs.Controls.{HasNoWait}
 use Rattle.shore_txn.specs.Txns as txns
+use Rattle.shore_txn.specs.Txns.{IsOf}
 use Rattle.shore_txn.specs.declared.txn.Txn.{Txn}
-use Rattle.shore_core.specs.Cores.{first_of, geometry_of, locks_of, waiting_of, waits_of}
+use Rattle.shore_core.specs.Callers.{IsOfCaller}
+use Rattle.shore_core.specs.Cores.{first_of, geometry_of, locks_of, txns_of, waiting_of, waits_of}
 use Rattle.shore_core.specs.Replies.{ReadsWaiting, Serves}
 use Rattle.shore_core.proofs.Coming.{comes_same, over_as}
 use Rattle.shore_core.proofs.Going.{asked_resumes, asks_lock, blocked_spared, lock_waits, none_of, safe_woken}
@@ -73,6 +75,10 @@ returns-in_default-clause-step g c running front disk before s store is safe ove
 
 pub take_locks-requires-clause-seated : goal.take_locks-requires-clause-seated
 take_locks-requires-clause-seated g c = subst (IsSeatIn c.in-Some.seat) (sym c.take_wait.ensures.txns) c.in-Some.ensures.some.0
+
+pub take_locks-requires-clause-own : goal.take_locks-requires-clause-own
+take_locks-requires-clause-own g c =
+    subst (IsOfCaller c.in-Some.seat) (sym c.take_wait.ensures.txns) (subst (λ n. AtSeat c.in-Some.seat (txns_of c.args.self.now) (IsOf n)) (sym c.in-Some.ensures.some.1) c.in-Some.ensures.own)
 
 pub take_locks-requires-clause-free : goal.take_locks-requires-clause-free
 take_locks-requires-clause-free g c = subst (λ n. HasNoWait n c.take_wait.new.self) (sym c.in-Some.ensures.some.1) c.take_wait.ensures.free

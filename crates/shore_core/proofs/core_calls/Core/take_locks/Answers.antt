@@ -17,9 +17,11 @@ use Rattle.shore_txn.specs.Transactions.{kept_in, room_in}
 use Rattle.shore_txn.specs.Txns.{last_of}
 use Rattle.shore_txn.specs.declared.transactions.Transactions.{Transactions}
 use Rattle.shore_txn.specs.declared.txn.Txn.{Txn}
+use Rattle.shore_core.specs.Callers.{IsOfCaller}
 use Rattle.shore_core.specs.Cores.{control_of, first_of, geometry_of, txns_of, waiting_of}
 use Rattle.shore_core.specs.Replies.{as_step, once_noted}
 use Rattle.shore_core.proofs.Acquiring.{asked_blocked, asked_early, asked_lacks, asked_waits, done_waits_not, idle_of, lasts_below, same_some, served_at_once}
+use Rattle.shore_core.proofs.Asking.{asks_no_decision}
 use Rattle.shore_core.proofs.Coming.{comes_same, over_as}
 use Rattle.shore_core.proofs.Leaving.{comes_lacking}
 use Rattle.shore_core.proofs.Moving.{comes_moved, goes_served, in_moved}
@@ -100,6 +102,9 @@ behind_locks-requires-clause-reached g c lock asks =
     let asked : Asked = record { granule = c.in-Some.asked.granule; mode = c.in-Some.asked.mode } in
     subst (λ (it : Asked). IsReached (locks_in c.lock.new.self).requests c.args.txn it.granule it.mode) (same_some asked lock (c.in-Some.ensures ∙ asks)) (c.in_ok-acquired.ensures.reached (ap Ok c.in-Done.is))
 
+pub behind_locks-requires-clause-own : goal.behind_locks-requires-clause-own
+behind_locks-requires-clause-own g c = c.lock.ensures.own (subst (IsOfCaller c.args.seat.now) (sym c.reserve_wait.ensures.txns) c.requires.own)
+
 pub behind_locks-requires-clause-quiet : goal.behind_locks-requires-clause-quiet
 behind_locks-requires-clause-quiet g c = c.in_ok-acquired.ensures.quiet (λ at waits. done_waits_not at (sym (ap Ok c.in-Done.is) ∙ waits))
 
@@ -167,7 +172,7 @@ returns-in-Waiting-clause-asked g c asks running front disk before s store is sa
     let later : State = record locked.0 { waiting = lock_waiting a call at ∷ locked.0.waiting } in
     asked_waits old _ front before s store a call may at later
     (lock_waits (geometry_of old) safe.opening safe.found safe.entries a call lock (sym c.in-Some.ensures) may whole s at_first at locked.0 waits)
-    (comes_moved old _ front disk before s later store refl refl refl refl refl (λ p. ap (λ (t : Transactions). kept_in t p) c.wait.ensures.txns ∙ c.lock.ensures.claims p ∙ ap (λ (t : Transactions). kept_in t p) c.reserve_wait.ensures.txns) (c.wait.ensures.stands locked.0 a locked.2 (active, its.1) number) same.log same.durable same.failed same.slots is over)
+    (comes_moved old _ front disk before s later store refl refl refl refl refl (λ p. ap (λ (t : Transactions). kept_in t p) c.wait.ensures.txns ∙ c.lock.ensures.claims p ∙ ap (λ (t : Transactions). kept_in t p) c.reserve_wait.ensures.txns) (c.wait.ensures.stands locked.0 a locked.2 (active, its.1) number (asks_no_decision call asks)) same.log same.durable same.failed same.slots is over)
 
 pub returns-in_err-check-clause-serves : goal.returns-in_err-check-clause-serves
 returns-in_err-check-clause-serves g c = refused_still _ _ _ _ _ _ c.from_residual.ensures.1 refl refl refl refl (early_aside c.geometry.result.now c.args.call c.in_err-check.field-0.0 c.in_err-check.ensures.refused)

@@ -9,7 +9,7 @@ use Rattle.shore_core.proofs.core_calls.Core.undo_of.Goals as goal
 pub returns-in_default-clause-none : goal.returns-in_default-clause-none
 returns-in_default-clause-none g c a among is =
     let t = c.txn-own.result.now in
-    none_of (txns_of c.args.self.now) t c.txn-own.ensures.there a among (is ∙ sym c.txn-own.ensures.session) c.in_default.ensures.none
+    none_of (txns_of c.args.self.now) t c.txn-own.ensures.there a among (is ∙ sym c.txn-own.ensures.number) c.in_default.ensures.none
 
 pub compensation_cost-requires : goal.compensation_cost-requires
 compensation_cost-requires g c =
@@ -24,7 +24,7 @@ returns-clause-some g c =
       own = own;
       among = c.txn-own.ensures.among;
       there = c.txn-own.ensures.there;
-      session = c.txn-own.ensures.session;
+      number = c.txn-own.ensures.number;
       some = omega (arith, c.id.ensures.some, c.id.ensures.number);
       below = omega (arith, c.id.ensures.below, c.id.ensures.number);
       behind = omega (arith, c.undo_next.ensures, c.undo_next.type_inv);

@@ -8,8 +8,9 @@ use Rattle.shore_heap.specs.Heaps.{frame_of}
 use Rattle.shore_txn.specs.Transactions.{kept_in}
 use Rattle.laws_calls.specs.CallSteps.{Finds}
 use Rattle.laws_calls.specs.States.{page_slots}
-use Rattle.shore_sessions.specs.Controls.{locks_in}
+use Rattle.shore_sessions.specs.Controls.{locks_in, txns_in}
 use Rattle.shore_sessions.specs.Standing.{changed}
+use Rattle.shore_core.specs.Callers.{IsOfCaller}
 use Rattle.shore_core.specs.Cores.{IsSafe, geometry_of, txns_of}
 use Rattle.shore_core.proofs.Coming.{comes_then}
 use Rattle.shore_core.proofs.Refusing.{both_some, map_some, update_fault, update_unlogged}
@@ -42,6 +43,9 @@ returns-then-not-fits-clause-served g c running front disk before s store is saf
       );
       comes = inr comes;
     }
+
+pub change-requires-clause-own : goal.change-requires-clause-own
+change-requires-clause-own g c = subst (λ k. IsOfCaller c.args.seat.now (txns_in k)) (sym c.in_ok-find.ensures.reads.control) c.requires.own
 
 pub change-requires-clause-found : goal.change-requires-clause-found
 change-requires-clause-found g c =

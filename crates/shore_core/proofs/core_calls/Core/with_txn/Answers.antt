@@ -12,8 +12,8 @@ use Rattle.shore_core.proofs.core_calls.Core.with_txn.Goals as goal
 pub returns-in_err-own-clause-replied : goal.returns-in_err-own-clause-replied
 returns-in_err-own-clause-replied g c asks running front disk before s store is safe over idle =
     refused_calls c.args.self.now _ front before s store c.args.seat.now.session c.args.call c.from_residual.result c.in_err-own.field-0.0 c.from_residual.ensures.1
-    (replied_not_open c.args.self.now front disk before s store c.args.seat.now.session c.args.call c.from_residual.result c.in_err-own.field-0.0 is over safe.after.sessions.seats (inner_asks c.args.call asks)
-    (is.beside.parts.failed_is ∙ running) idle c.from_residual.ensures.1 c.in_err-own.ensures.refused)
+    (replied_not_open c.args.self.now front disk before s store c.args.seat.now.session c.args.call c.from_residual.result c.in_err-own.field-0.0 is over (inner_asks c.args.call asks)
+    (is.beside.parts.failed_is ∙ running) idle c.from_residual.ensures.1 (c.in_err-own.ensures.not_open s is.beside.parts.stands))
 
 pub returns-then-is_waiting-clause-replied : goal.returns-then-is_waiting-clause-replied
 returns-then-is_waiting-clause-replied g c asks running front disk before s store is safe over idle =
@@ -21,7 +21,7 @@ returns-then-is_waiting-clause-replied g c asks running front disk before s stor
     let works = is.beside.parts.failed_is ∙ running in
     let stands = is.beside.parts.stands in
     let a = as_session_txn c.in_ok-own.own.now in
-    let its = c.in_ok-own.ensures.of_session s stands safe.after.sessions.seats in
+    let its = c.in_ok-own.ensures.of_session s stands in
     let quiet : is_waiting a.txn s.locks.requests ≡ false = safe.after.sessions.locks.waits works a its.0.0 (λ w m spared same. idle w m (same ∙ its.1)) in
     let asked : true ≡ is_waiting a.txn s.locks.requests =
     c.if-is_waiting.ensures ∙ ap (λ t. is_waiting t (locks_of old).requests) c.id-txn.ensures.number ∙ ap (λ (table : Table). is_waiting a.txn table.requests) (sym stands.locks) in
@@ -32,13 +32,13 @@ returns-clause-replied g c asks running front disk before s store is safe over i
     let old = c.args.self.now in
     let works = is.beside.parts.failed_is ∙ running in
     let a = as_session_txn c.in_ok-own.own.now in
-    let its = c.in_ok-own.ensures.of_session s is.beside.parts.stands safe.after.sessions.seats in
+    let its = c.in_ok-own.ensures.of_session s is.beside.parts.stands in
     asked_calls old _ front before s store a _ c.args.seat.now.session c.args.call works idle its c.in_ok-own.ensures.whole
     (c.take_locks.ensures.asked asks running front disk before s store is safe over a its (sym c.id-txn.ensures.number) c.in_ok-own.ensures.whole)
 
 pub returns-in_err-own-clause-serves : goal.returns-in_err-own-clause-serves
 returns-in_err-own-clause-serves g c =
-    refused_still _ _ _ _ _ _ c.from_residual.ensures.1 refl refl refl refl (not_open_aside c.args.self.now c.args.seat.now.session _ c.in_err-own.ensures.refused)
+    refused_still _ _ _ _ _ _ c.from_residual.ensures.1 refl refl refl refl (not_open_aside _ c.in_err-own.ensures.refused)
 
 pub returns-then-is_waiting-clause-serves : goal.returns-then-is_waiting-clause-serves
 returns-then-is_waiting-clause-serves g c = call_still _ _ _ _ _ refl refl refl refl tt tt

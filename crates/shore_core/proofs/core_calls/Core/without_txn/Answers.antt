@@ -17,7 +17,7 @@ pub returns-in_default-clause-replied : goal.returns-in_default-clause-replied
 returns-in_default-clause-replied g c running front disk before s store is safe over idle =
     let old = c.args.self.now in
     refused_calls old _ front before s store c.args.session c.args.call.now _ fault.NoTransaction refl
-    (replied_none old front disk before s store c.args.session c.args.call.now is over safe.after.sessions.seats (needs_txn c.args.call.now c.requires.served c.in_default.not-Begin) (is.beside.parts.failed_is ∙ running) idle c.requires.none)
+    (replied_none old front disk before s store c.args.session c.args.call.now is over safe.after.sessions.seats (needs_txn c.args.call.now c.requires.own c.in_default.not-Begin) (is.beside.parts.failed_is ∙ running) idle c.requires.none)
 
 pub returns-in-Begin-clause-serves : goal.returns-in-Begin-clause-serves
 returns-in-Begin-clause-serves g c =

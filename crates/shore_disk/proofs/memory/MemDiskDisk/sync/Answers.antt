@@ -1,5 +1,5 @@
 use Rattle.std.proofs.Common.{◌≡◌, None, sym, ◌∙◌, ap, subst, length, length-append, All, ◌∷◌, [], ◌≤◌, arith, List}
-use Rattle.shore_disk.specs.Device.{History, seen, synced, noted, size}
+use Rattle.shore_disk.specs.Device.{DeviceHistory, seen, synced, noted, size}
 use Rattle.shore_disk.specs.declared.memory.Pick.TheVariants.{Old, Noise}
 use Rattle.shore_disk.specs.declared.memory.Place.{Place}
 use Rattle.shore_disk.specs.Memory.{history_in, picked_after, laid, with_noise, end_of}
@@ -16,8 +16,8 @@ invariant_of-self c =
     record {
       begun = omega (arith, ap length c.and-self.ensures, length-append d.past.items ((None, d.bytes) ∷ []));
       seen = d.seen ∙ ap seen (sym is);
-      lost = stable ∙ d.seen ∙ ap (λ (h : History). picked_after Old h.first h.calls) (sym is);
-      noise = ap (with_noise c.pick_image.new.stable.items) nothing ∙ stable ∙ d.seen ∙ ap (λ (h : History). picked_after Noise h.first h.calls) (sym is);
+      lost = stable ∙ d.seen ∙ ap (λ (h : DeviceHistory). picked_after Old h.first h.calls) (sym is);
+      noise = ap (with_noise c.pick_image.new.stable.items) nothing ∙ stable ∙ d.seen ∙ ap (λ (h : DeviceHistory). picked_after Noise h.first h.calls) (sym is);
       differ = ap (laid d.bytes.items c.pick_image.new.stable.items) nothing ∙ stable;
       as_long = d.as_long ∙ ap size (sym is);
       room = ap length stable;

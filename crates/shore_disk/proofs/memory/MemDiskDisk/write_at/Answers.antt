@@ -1,6 +1,6 @@
 use Rattle.std.proofs.Common.{◌≡◌, Some, sym, ◌∙◌, rules, ap, subst, length, length-append, replicate, All, ℕ, ◌≤◌, ◌∷◌, [], ◌++◌, arith, List}
 use Rattle.std.proofs.lemmas.List.Elements.{All-push}
-use Rattle.shore_disk.specs.Device.{History, seen, wrote, noted, overwritten, size}
+use Rattle.shore_disk.specs.Device.{DeviceHistory, seen, wrote, noted, overwritten, size}
 use Rattle.shore_disk.specs.declared.memory.Pick.TheVariants.{Old, Noise}
 use Rattle.shore_disk.specs.declared.memory.Place.{Place}
 use Rattle.shore_disk.specs.Memory.{history_in, picked_after, laid, with_noise, end_of}
@@ -21,10 +21,10 @@ invariant_of-self-2 c =
     record {
       begun = omega (arith, ap length c.and-self.ensures, length-append d.past.items ((Some p, c.overwrite.new.image) ∷ []));
       seen = after ∙ ap (λ (l : List ℕ). overwritten l c.args.at new) d.seen ∙ ap seen (sym is);
-      lost = d.lost ∙ ap (λ (h : History). picked_after Old h.first h.calls) (sym is);
+      lost = d.lost ∙ ap (λ (h : DeviceHistory). picked_after Old h.first h.calls) (sym is);
       noise = ap (with_noise d.stable.items) places ∙ with_noise-push d.stable.items d.unsynced.items p
           ∙ ap (λ (l : List ℕ). overwritten l c.args.at (replicate (length new) 90)) d.noise
-          ∙ ap (λ (h : History). picked_after Noise h.first h.calls) (sym is);
+          ∙ ap (λ (h : DeviceHistory). picked_after Noise h.first h.calls) (sym is);
       differ = ap (laid c.overwrite.new.image.items d.stable.items) places ∙ ap (λ (l : List ℕ). laid l d.stable.items (d.unsynced.items ++ p ∷ [])) after
           ∙ laid_wrote d.bytes.items d.stable.items new c.args.at d.unsynced.items (omega arith) d.room d.within d.differ ∙ sym after;
       as_long = long ∙ d.as_long ∙ ap size (sym is);

@@ -1,5 +1,5 @@
 use Rattle.std.proofs.Common.{◌≡◌, ◌+◌, ◌*◌, inl, inr, [], ◌∷◌, ℕ, List, true, false, IsTrue, length, take, drop, refl, sym, ap, subst, ◌∙◌, arith}
-use Rattle.shore_disk.specs.Device.{History, overwritten, LeavesOnly, Stands}
+use Rattle.shore_disk.specs.Device.{DeviceHistory, overwritten, LeavesOnly, Stands}
 use Rattle.shore_gate.specs.declared.gates.TheConstants.{OPEN, CLOSED}
 use Rattle.shore_types.specs.declared.layout.Geometry.{Geometry}
 use Rattle.shore_gate.specs.Checks.{IsFromOutside}
@@ -17,7 +17,7 @@ returns-in_err-read_at-clause-any_moment g c front pages s =
     let start = g.D.Disk.history old.device in
     let shown : ShowsBehind old.geometry front pages s.image = (s.front_is, s.shows) in
     let one = c.read_at.ensures.same s.honest in
-    subst (λ (h : History). LeavesOnly start h (ShowsBehind old.geometry front pages)) (sym (one)) (stands_still start s.image (ShowsBehind old.geometry front pages) s.stands shown)
+    subst (λ (h : DeviceHistory). LeavesOnly start h (ShowsBehind old.geometry front pages)) (sym (one)) (stands_still start s.image (ShowsBehind old.geometry front pages) s.stands shown)
 
 pub returns-then-not-is_open-clause-any_moment : goal.returns-then-not-is_open-clause-any_moment
 returns-then-not-is_open-clause-any_moment g c front pages s =
@@ -25,7 +25,7 @@ returns-then-not-is_open-clause-any_moment g c front pages s =
     let start = g.D.Disk.history old.device in
     let shown : ShowsBehind old.geometry front pages s.image = (s.front_is, s.shows) in
     let one = c.read_at.ensures.same s.honest in
-    subst (λ (h : History). LeavesOnly start h (ShowsBehind old.geometry front pages)) (sym (one)) (stands_still start s.image (ShowsBehind old.geometry front pages) s.stands shown)
+    subst (λ (h : DeviceHistory). LeavesOnly start h (ShowsBehind old.geometry front pages)) (sym (one)) (stands_still start s.image (ShowsBehind old.geometry front pages) s.stands shown)
 
 pub returns-in_err-images-clause-any_moment : goal.returns-in_err-images-clause-any_moment
 returns-in_err-images-clause-any_moment g c front pages s =
@@ -34,9 +34,9 @@ returns-in_err-images-clause-any_moment g c front pages s =
     let shown : ShowsBehind old.geometry front pages s.image = (s.front_is, s.shows) in
     let one = c.read_at.ensures.same s.honest in
     let honest_one : IsTrue (g.D.Disk.is_honest c.read_at.new.self) = subst IsTrue (sym c.read_at.ensures.honest) s.honest in
-    let stands_one : Stands (g.D.Disk.history c.read_at.new.self) s.image = subst (λ (h : History). Stands h s.image) (sym one) s.stands in
+    let stands_one : Stands (g.D.Disk.history c.read_at.new.self) s.image = subst (λ (h : DeviceHistory). Stands h s.image) (sym one) s.stands in
     let two : g.D.Disk.history c.read_area.new.self.device ≡ start = c.read_area.ensures.same honest_one ∙ one in
-    subst (λ (h : History). LeavesOnly start h (ShowsBehind old.geometry front pages)) (sym (two)) (stands_still start s.image (ShowsBehind old.geometry front pages) s.stands shown)
+    subst (λ (h : DeviceHistory). LeavesOnly start h (ShowsBehind old.geometry front pages)) (sym (two)) (stands_still start s.image (ShowsBehind old.geometry front pages) s.stands shown)
 
 pub returns-in_err-write_in_place-clause-any_moment : goal.returns-in_err-write_in_place-clause-any_moment
 returns-in_err-write_in_place-clause-any_moment g c front pages s =
@@ -48,7 +48,7 @@ returns-in_err-write_in_place-clause-any_moment g c front pages s =
     let opened : part 4096 1 s.image ≡ OPEN ∷ [] = gate ∙ gate_read c.read_at.new.out c.read_at.auto.out ∙ ap (λ (b : ℕ). b ∷ []) (c.is_open.ensures.0 c.if-not-is_open.false) in
     let area = area_of old.geometry s.image pages s.shows opened in
     let honest_one : IsTrue (g.D.Disk.is_honest c.read_at.new.self) = subst IsTrue (sym c.read_at.ensures.honest) s.honest in
-    let stands_one : Stands (g.D.Disk.history c.read_at.new.self) s.image = subst (λ (h : History). Stands h s.image) (sym one) s.stands in
+    let stands_one : Stands (g.D.Disk.history c.read_at.new.self) s.image = subst (λ (h : DeviceHistory). Stands h s.image) (sym one) s.stands in
     let two : g.D.Disk.history c.read_area.new.self.device ≡ start = c.read_area.ensures.same honest_one ∙ one in
     let images = c.in_ok-images.images in
     let numbers = images.numbers.items in
@@ -56,10 +56,10 @@ returns-in_err-write_in_place-clause-any_moment g c front pages s =
     let batch = c.in_ok-images.ensures.batch in
     let read = c.in_ok-images.ensures.found s.image honest_one stands_one in
     let honest_two : IsTrue (g.D.Disk.is_honest c.read_area.new.self.device) = subst IsTrue (sym c.read_area.ensures.honest) honest_one in
-    let stands_two : Stands (g.D.Disk.history c.read_area.new.self.device) s.image = subst (λ (h : History). Stands h s.image) (sym two) s.stands in
+    let stands_two : Stands (g.D.Disk.history c.read_area.new.self.device) s.image = subst (λ (h : DeviceHistory). Stands h s.image) (sym two) s.stands in
     let length_is : length s.image ≡ 270336 + 8192 * page_count old.geometry = sym (ap length s.stands.read) ∙ g.met.D.Disk.keeps_length old.device s.honest ∙ old.as_long in
     let moments : LeavesOnly start (g.D.Disk.history c.write_in_place.new.self.device) (DiffersInPages numbers s.image) =
-    subst (λ (h : History). LeavesOnly h (g.D.Disk.history c.write_in_place.new.self.device) (DiffersInPages numbers s.image)) two (c.write_in_place.ensures.any_moment s.image honest_two stands_two) in
+    subst (λ (h : DeviceHistory). LeavesOnly h (g.D.Disk.history c.write_in_place.new.self.device) (DiffersInPages numbers s.image)) two (c.write_in_place.ensures.any_moment s.image honest_two stands_two) in
     let three = while_replayed old.geometry front pages numbers texts batch images.as_many start s.image s.front_is (omega arith) read area.0 area.1 area.2 _ moments in
     three
 
@@ -73,7 +73,7 @@ returns-in_err-close_gate-clause-any_moment g c front pages s =
     let opened : part 4096 1 s.image ≡ OPEN ∷ [] = gate ∙ gate_read c.read_at.new.out c.read_at.auto.out ∙ ap (λ (b : ℕ). b ∷ []) (c.is_open.ensures.0 c.if-not-is_open.false) in
     let area = area_of old.geometry s.image pages s.shows opened in
     let honest_one : IsTrue (g.D.Disk.is_honest c.read_at.new.self) = subst IsTrue (sym c.read_at.ensures.honest) s.honest in
-    let stands_one : Stands (g.D.Disk.history c.read_at.new.self) s.image = subst (λ (h : History). Stands h s.image) (sym one) s.stands in
+    let stands_one : Stands (g.D.Disk.history c.read_at.new.self) s.image = subst (λ (h : DeviceHistory). Stands h s.image) (sym one) s.stands in
     let two : g.D.Disk.history c.read_area.new.self.device ≡ start = c.read_area.ensures.same honest_one ∙ one in
     let images = c.in_ok-images.images in
     let numbers = images.numbers.items in
@@ -81,10 +81,10 @@ returns-in_err-close_gate-clause-any_moment g c front pages s =
     let batch = c.in_ok-images.ensures.batch in
     let read = c.in_ok-images.ensures.found s.image honest_one stands_one in
     let honest_two : IsTrue (g.D.Disk.is_honest c.read_area.new.self.device) = subst IsTrue (sym c.read_area.ensures.honest) honest_one in
-    let stands_two : Stands (g.D.Disk.history c.read_area.new.self.device) s.image = subst (λ (h : History). Stands h s.image) (sym two) s.stands in
+    let stands_two : Stands (g.D.Disk.history c.read_area.new.self.device) s.image = subst (λ (h : DeviceHistory). Stands h s.image) (sym two) s.stands in
     let length_is : length s.image ≡ 270336 + 8192 * page_count old.geometry = sym (ap length s.stands.read) ∙ g.met.D.Disk.keeps_length old.device s.honest ∙ old.as_long in
     let moments : LeavesOnly start (g.D.Disk.history c.write_in_place.new.self.device) (DiffersInPages numbers s.image) =
-    subst (λ (h : History). LeavesOnly h (g.D.Disk.history c.write_in_place.new.self.device) (DiffersInPages numbers s.image)) two (c.write_in_place.ensures.any_moment s.image honest_two stands_two) in
+    subst (λ (h : DeviceHistory). LeavesOnly h (g.D.Disk.history c.write_in_place.new.self.device) (DiffersInPages numbers s.image)) two (c.write_in_place.ensures.any_moment s.image honest_two stands_two) in
     let three = while_replayed old.geometry front pages numbers texts batch images.as_many start s.image s.front_is (omega arith) read area.0 area.1 area.2 _ moments in
     let placed = c.in_ok-write_in_place.ensures.done s.image honest_two stands_two in
     let honest_three : IsTrue (g.D.Disk.is_honest c.write_in_place.new.self.device) = subst IsTrue (sym c.write_in_place.ensures.honest) honest_two in
@@ -101,7 +101,7 @@ returns-clause-any_moment g c front pages s =
     let opened : part 4096 1 s.image ≡ OPEN ∷ [] = gate ∙ gate_read c.read_at.new.out c.read_at.auto.out ∙ ap (λ (b : ℕ). b ∷ []) (c.is_open.ensures.0 c.if-not-is_open.false) in
     let area = area_of old.geometry s.image pages s.shows opened in
     let honest_one : IsTrue (g.D.Disk.is_honest c.read_at.new.self) = subst IsTrue (sym c.read_at.ensures.honest) s.honest in
-    let stands_one : Stands (g.D.Disk.history c.read_at.new.self) s.image = subst (λ (h : History). Stands h s.image) (sym one) s.stands in
+    let stands_one : Stands (g.D.Disk.history c.read_at.new.self) s.image = subst (λ (h : DeviceHistory). Stands h s.image) (sym one) s.stands in
     let two : g.D.Disk.history c.read_area.new.self.device ≡ start = c.read_area.ensures.same honest_one ∙ one in
     let images = c.in_ok-images.images in
     let numbers = images.numbers.items in
@@ -109,10 +109,10 @@ returns-clause-any_moment g c front pages s =
     let batch = c.in_ok-images.ensures.batch in
     let read = c.in_ok-images.ensures.found s.image honest_one stands_one in
     let honest_two : IsTrue (g.D.Disk.is_honest c.read_area.new.self.device) = subst IsTrue (sym c.read_area.ensures.honest) honest_one in
-    let stands_two : Stands (g.D.Disk.history c.read_area.new.self.device) s.image = subst (λ (h : History). Stands h s.image) (sym two) s.stands in
+    let stands_two : Stands (g.D.Disk.history c.read_area.new.self.device) s.image = subst (λ (h : DeviceHistory). Stands h s.image) (sym two) s.stands in
     let length_is : length s.image ≡ 270336 + 8192 * page_count old.geometry = sym (ap length s.stands.read) ∙ g.met.D.Disk.keeps_length old.device s.honest ∙ old.as_long in
     let moments : LeavesOnly start (g.D.Disk.history c.write_in_place.new.self.device) (DiffersInPages numbers s.image) =
-    subst (λ (h : History). LeavesOnly h (g.D.Disk.history c.write_in_place.new.self.device) (DiffersInPages numbers s.image)) two (c.write_in_place.ensures.any_moment s.image honest_two stands_two) in
+    subst (λ (h : DeviceHistory). LeavesOnly h (g.D.Disk.history c.write_in_place.new.self.device) (DiffersInPages numbers s.image)) two (c.write_in_place.ensures.any_moment s.image honest_two stands_two) in
     let three = while_replayed old.geometry front pages numbers texts batch images.as_many start s.image s.front_is (omega arith) read area.0 area.1 area.2 _ moments in
     let placed = c.in_ok-write_in_place.ensures.done s.image honest_two stands_two in
     let honest_three : IsTrue (g.D.Disk.is_honest c.write_in_place.new.self.device) = subst IsTrue (sym c.write_in_place.ensures.honest) honest_two in
@@ -130,7 +130,7 @@ returns-then-not-is_open-clause-replayed g c front pages s =
     record {
       honest = subst IsTrue (sym c.read_at.ensures.honest) s.honest;
       image = s.image;
-      stands = subst (λ (h : History). Stands h s.image) (sym one) s.stands;
+      stands = subst (λ (h : DeviceHistory). Stands h s.image) (sym one) s.stands;
       front_is = s.front_is;
       shut = shut;
       in_place = shut_in_place old.geometry s.image pages s.shows shut;
@@ -146,7 +146,7 @@ returns-clause-replayed g c front pages s =
     let opened : part 4096 1 s.image ≡ OPEN ∷ [] = gate ∙ gate_read c.read_at.new.out c.read_at.auto.out ∙ ap (λ (b : ℕ). b ∷ []) (c.is_open.ensures.0 c.if-not-is_open.false) in
     let area = area_of old.geometry s.image pages s.shows opened in
     let honest_one : IsTrue (g.D.Disk.is_honest c.read_at.new.self) = subst IsTrue (sym c.read_at.ensures.honest) s.honest in
-    let stands_one : Stands (g.D.Disk.history c.read_at.new.self) s.image = subst (λ (h : History). Stands h s.image) (sym one) s.stands in
+    let stands_one : Stands (g.D.Disk.history c.read_at.new.self) s.image = subst (λ (h : DeviceHistory). Stands h s.image) (sym one) s.stands in
     let two : g.D.Disk.history c.read_area.new.self.device ≡ start = c.read_area.ensures.same honest_one ∙ one in
     let images = c.in_ok-images.images in
     let numbers = images.numbers.items in
@@ -154,10 +154,10 @@ returns-clause-replayed g c front pages s =
     let batch = c.in_ok-images.ensures.batch in
     let read = c.in_ok-images.ensures.found s.image honest_one stands_one in
     let honest_two : IsTrue (g.D.Disk.is_honest c.read_area.new.self.device) = subst IsTrue (sym c.read_area.ensures.honest) honest_one in
-    let stands_two : Stands (g.D.Disk.history c.read_area.new.self.device) s.image = subst (λ (h : History). Stands h s.image) (sym two) s.stands in
+    let stands_two : Stands (g.D.Disk.history c.read_area.new.self.device) s.image = subst (λ (h : DeviceHistory). Stands h s.image) (sym two) s.stands in
     let length_is : length s.image ≡ 270336 + 8192 * page_count old.geometry = sym (ap length s.stands.read) ∙ g.met.D.Disk.keeps_length old.device s.honest ∙ old.as_long in
     let moments : LeavesOnly start (g.D.Disk.history c.write_in_place.new.self.device) (DiffersInPages numbers s.image) =
-    subst (λ (h : History). LeavesOnly h (g.D.Disk.history c.write_in_place.new.self.device) (DiffersInPages numbers s.image)) two (c.write_in_place.ensures.any_moment s.image honest_two stands_two) in
+    subst (λ (h : DeviceHistory). LeavesOnly h (g.D.Disk.history c.write_in_place.new.self.device) (DiffersInPages numbers s.image)) two (c.write_in_place.ensures.any_moment s.image honest_two stands_two) in
     let three = while_replayed old.geometry front pages numbers texts batch images.as_many start s.image s.front_is (omega arith) read area.0 area.1 area.2 _ moments in
     let placed = c.in_ok-write_in_place.ensures.done s.image honest_two stands_two in
     let honest_three : IsTrue (g.D.Disk.is_honest c.write_in_place.new.self.device) = subst IsTrue (sym c.write_in_place.ensures.honest) honest_two in
@@ -184,7 +184,7 @@ returns-clause-in_order g c image honest stands =
     let gate : part 4096 1 image ≡ c.read_at.new.out = sym (c.in_ok-read_at.ensures.read honest ∙ ap (λ (l : List ℕ). take 1 (drop 4096 l)) stands.read) in
     let opened : part 4096 1 image ≡ OPEN ∷ [] = gate ∙ gate_read c.read_at.new.out c.read_at.auto.out ∙ ap (λ (b : ℕ). b ∷ []) (c.is_open.ensures.0 c.if-not-is_open.false) in
     let honest_one : IsTrue (g.D.Disk.is_honest c.read_at.new.self) = subst IsTrue (sym c.read_at.ensures.honest) honest in
-    let stands_one : Stands (g.D.Disk.history c.read_at.new.self) image = subst (λ (h : History). Stands h image) (sym (c.read_at.ensures.same honest)) stands in
+    let stands_one : Stands (g.D.Disk.history c.read_at.new.self) image = subst (λ (h : DeviceHistory). Stands h image) (sym (c.read_at.ensures.same honest)) stands in
     let images = c.in_ok-images.images in
     let numbers = images.numbers.items in
     let texts = images.bytes.items in
@@ -197,7 +197,7 @@ returns-in_err-images-clause-refused g c image honest stands =
     let gate : part 4096 1 image ≡ c.read_at.new.out = sym (c.in_ok-read_at.ensures.read honest ∙ ap (λ (l : List ℕ). take 1 (drop 4096 l)) stands.read) in
     let opened : part 4096 1 image ≡ OPEN ∷ [] = gate ∙ gate_read c.read_at.new.out c.read_at.auto.out ∙ ap (λ (b : ℕ). b ∷ []) (c.is_open.ensures.0 c.if-not-is_open.false) in
     let honest_one : IsTrue (g.D.Disk.is_honest c.read_at.new.self) = subst IsTrue (sym c.read_at.ensures.honest) honest in
-    let stands_one : Stands (g.D.Disk.history c.read_at.new.self) image = subst (λ (h : History). Stands h image) (sym (c.read_at.ensures.same honest)) stands in
+    let stands_one : Stands (g.D.Disk.history c.read_at.new.self) image = subst (λ (h : DeviceHistory). Stands h image) (sym (c.read_at.ensures.same honest)) stands in
     if_err c.from_residual-in_err-images.result c.from_residual-in_err-images.ensures.1 (λ fault is. elim (c.in_err-images.ensures.refused image honest_one stands_one) [
       | inl outside ↦ inl (subst IsFromOutside (sym is) outside)
       | inr refuses ↦ inr (opened, subst (RefusesArea c.args.self.now.geometry image) (sym is) refuses)

@@ -1,11 +1,11 @@
 use Rattle.std.proofs.Common.{inl, inr, refl, sym, ap, subst, ◌∙◌}
-use Rattle.shore_disk.specs.Device.{History, LeavesOnly, size}
+use Rattle.shore_disk.specs.Device.{DeviceHistory, LeavesOnly, size}
 use Rattle.shore_dwrite.proofs.Moves.{if_err}
 use Rattle.shore_pool.specs.Pools as pools
 use Rattle.shore_pool.proofs.Same.{pages_stay}
 use Rattle.shore_pool.proofs.Steps.{alike, force_from}
 use Rattle.shore_heap.specs.Heaps.{LeavesPages, claims_in, faults_of, history_of}
-use Rattle.shore_heap.proofs.Fetched.{came_by, clean_by, dirty_of, faults_by, forced_of, geometry_by, history_by, honest_by, kept_of, moment_of, number_is, others_by, there_before, wrote_of}
+use Rattle.shore_heap.proofs.Fetched.{as_read, came_by, clean_by, dirty_of, faults_by, forced_of, geometry_by, history_by, honest_by, kept_of, moment_of, number_is, others_by, there_before, wrote_of}
 use Rattle.shore_heap.proofs.Going.{hands_on, ok_cause, ok_same}
 use Rattle.shore_heap.proofs.heap.Heap.fetch.Goals as goal
 
@@ -92,7 +92,7 @@ returns-in-Read-clause-reads g c =
       wrote = λ front disk holds.
           let w = c.in_ok-fetch.ensures.kept front disk holds in
           wrote_of old mid c.args.ends.now.durable new front disk w (c.keep_claims.ensures.kept front w.left w.holds);
-      any_moment = λ front disk holds. subst (λ (h : History). LeavesOnly (history_of old) h (LeavesPages old c.args.ends.now.durable front disk)) (sym (history_by new mid device))
+      any_moment = λ front disk holds. subst (λ (h : DeviceHistory). LeavesOnly (history_of old) h (LeavesPages old c.args.ends.now.durable front disk)) (sym (history_by new mid device))
           (moment_of old mid c.args.ends.now.durable (pools.history_of mid) front disk (c.fetch.ensures.any_moment front disk holds));
       dirty = λ front disk holds.
           let read = c.in_ok-fetch.ensures.read front disk holds c.in-Read.is in
@@ -108,3 +108,22 @@ returns-in-Read-clause-reads g c =
       limit = c.keep_claims.ensures.limit ∙ c.fetch.ensures.limit;
       cause = ok_cause _ (faults_of old) (faults_of new) (faults_by new mid device ∙ ok_same _ (faults_of old) (pools.faults_of mid) c.in_ok-fetch.ensures.cause);
     }
+
+pub returns-in_err-fetch-clause-others : goal.returns-in_err-fetch-clause-others
+returns-in_err-fetch-clause-others g c k apart = c.in_err-fetch.ensures.stay k
+
+pub returns-in-Held-clause-others : goal.returns-in-Held-clause-others
+returns-in-Held-clause-others g c k apart = inl (c.in_ok-fetch.ensures.all c.in-Held.is k)
+
+pub returns-in-Held-clause-asked : goal.returns-in-Held-clause-asked
+returns-in-Held-clause-asked g c front disk holds = inl (c.in_ok-fetch.ensures.held c.in-Held.is).0
+
+pub returns-in-Read-clause-others : goal.returns-in-Read-clause-others
+returns-in-Read-clause-others g c =
+    let id = c.args.page in
+    others_by c.args.self.now c.fetch.new.self c.keep_claims.new.self id (number_is c.fetch.new.self id c.fetch.ensures.geometry) c.fetch.ensures.others c.keep_claims.ensures.others
+
+pub returns-in-Read-clause-asked : goal.returns-in-Read-clause-asked
+returns-in-Read-clause-asked g c front disk holds =
+    let read = c.in_ok-fetch.ensures.read front disk holds c.in-Read.is in
+    inr (read.0, as_read c.args.page c.args.ends.now.last (claims_in g.C.Claims c.args.claims.now c.args.page) _ _ read.1 c.keep_claims.ensures.fitting)

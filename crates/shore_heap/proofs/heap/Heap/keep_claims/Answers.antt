@@ -39,6 +39,6 @@ loop-place-preserved-in-Some g c =
       so_far = (
         (c.in-Some.slot, c.in-Some.bytes) ∷ was.so_far.0,
         told_on (g.C.Claims.kept c.args.claims.now id) older (from c.loop-place.place) was.so_far.0 (Some (c.in-Some.slot, c.in-Some.bytes)) told was.so_far.1,
-        keeps_one id was.so_far.0 c.in-Some.slot c.in-Some.bytes c.args.self.now c.loop-place.self c.keep.new.self was.so_far.2 kept.device kept.limit kept.bounds kept.here kept.dirt kept.others kept.kept,
+        keeps_one id was.so_far.0 c.in-Some.slot c.in-Some.bytes c.args.self.now c.loop-place.self c.keep.new.self was.so_far.2 kept.device kept.limit kept.bounds kept.here kept.either kept.dirt kept.others kept.kept,
       );
     }

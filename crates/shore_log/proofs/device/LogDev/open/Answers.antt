@@ -1,6 +1,6 @@
 use Rattle.std.proofs.Common.{Bool, IsTrue, List, ℕ, drop, subst, sym, ◌∙◌, arith}
 use Rattle.std.proofs.lemmas.List.{take_all}
-use Rattle.shore_disk.specs.Device.{History, Stands, seen}
+use Rattle.shore_disk.specs.Device.{DeviceHistory, Stands, seen}
 use Rattle.shore_frames.specs.Frames.{Frames}
 use Rattle.shore_log.proofs.ForceLemmas.{settled_from}
 use Rattle.shore_frames.proofs.StreamLemmas.{frames_some}
@@ -29,7 +29,7 @@ returns-in-Ok-clause-settled g c honest image stands =
     let some = frames_some 4096 image found.0 frames in
     settled_from _ image found.0
     (subst (λ (b : Bool). IsTrue b) (sym c.read_stream.ensures.honest) honest)
-    (subst (λ (h : History). Stands h image) (sym (c.read_stream.ensures.same honest)) stands)
+    (subst (λ (h : DeviceHistory). Stands h image) (sym (c.read_stream.ensures.same honest)) stands)
     (omega (arith, some)) frames (omega (arith, found.3)) (take_all _ c.in-Ok.field-0.records.items (omega arith) ∙ found.2)
 
 pub returns-in-Ok-clause-found : goal.returns-in-Ok-clause-found

@@ -1,5 +1,5 @@
 use Rattle.std.proofs.Common.{◌≡◌, ◌⊎◌, ℕ, List, Option, None, inl, inr, sym, ap, subst, ◌∙◌}
-use Rattle.shore_disk.specs.Device.{History, LeavesOnly}
+use Rattle.shore_disk.specs.Device.{DeviceHistory, LeavesOnly}
 use Rattle.shore_types.specs.declared.faults.Device.TheVariants as Device
 use Rattle.shore_types.specs.declared.faults.Fault.{Fault}
 use Rattle.shore_types.specs.declared.layout.Geometry.{Geometry}
@@ -104,7 +104,7 @@ returns-in_err-read-clause-any_moment g c front disk holds =
     let old = c.args.self.now in
     let same = alike (maps.frame_at old.frames) (maps.frame_at c.touch.new.self) c.touch.ensures.same in
     let w = c.in_ok-make_room.ensures.kept front disk (record { settled = holds.settled; written = subst (λ (a : ℕ → Option Frame). AreWritten a disk) (sym same) holds.written }) in
-    subst (λ (h : History). LeavesOnly (history_of old) h (LeavesPages old c.args.ends.now.durable front disk)) (sym (c.read.ensures.history front w.left w.holds))
+    subst (λ (h : DeviceHistory). LeavesOnly (history_of old) h (LeavesPages old c.args.ends.now.durable front disk)) (sym (c.read.ensures.history front w.left w.holds))
     (subst (λ (a : ℕ → Option Frame). LeavesOnly (history_of old) (history_of c.make_room.new.self) (Leaves (settled_device.geometry_of old.device) a c.args.ends.now.durable front disk)) same (c.make_room.ensures.any_moment front disk (record { settled = holds.settled; written = subst (λ (a : ℕ → Option Frame). AreWritten a disk) (sym same) holds.written })))
 
 pub returns-clause-read : goal.returns-clause-read
@@ -127,7 +127,7 @@ returns-clause-any_moment g c front disk holds =
     let old = c.args.self.now in
     let same = alike (maps.frame_at old.frames) (maps.frame_at c.touch.new.self) c.touch.ensures.same in
     let w = c.in_ok-make_room.ensures.kept front disk (record { settled = holds.settled; written = subst (λ (a : ℕ → Option Frame). AreWritten a disk) (sym same) holds.written }) in
-    subst (λ (h : History). LeavesOnly (history_of old) h (LeavesPages old c.args.ends.now.durable front disk)) (sym (c.read.ensures.history front w.left w.holds))
+    subst (λ (h : DeviceHistory). LeavesOnly (history_of old) h (LeavesPages old c.args.ends.now.durable front disk)) (sym (c.read.ensures.history front w.left w.holds))
     (subst (λ (a : ℕ → Option Frame). LeavesOnly (history_of old) (history_of c.make_room.new.self) (Leaves (settled_device.geometry_of old.device) a c.args.ends.now.durable front disk)) same (c.make_room.ensures.any_moment front disk (record { settled = holds.settled; written = subst (λ (a : ℕ → Option Frame). AreWritten a disk) (sym same) holds.written })))
 
 pub returns-in_err-make_room-clause-unmoved : goal.returns-in_err-make_room-clause-unmoved
@@ -153,11 +153,11 @@ returns-in_err-read-clause-writes g c front disk holds =
     let old = c.args.self.now in
     let same = alike (maps.frame_at old.frames) (maps.frame_at c.touch.new.self) c.touch.ensures.same in
     let w = c.in_ok-make_room.ensures.kept front disk (record { settled = holds.settled; written = subst (λ (a : ℕ → Option Frame). AreWritten a disk) (sym same) holds.written }) in
-    subst (λ (h : History). (h ≡ history_of old) ⊎ maps.AllDirty old.frames) (sym (c.read.ensures.history front w.left w.holds)) (writes_from (maps.frame_at old.frames) (maps.frame_at c.touch.new.self) (history_of old) (history_of c.make_room.new.self) same c.make_room.ensures.writes)
+    subst (λ (h : DeviceHistory). (h ≡ history_of old) ⊎ maps.AllDirty old.frames) (sym (c.read.ensures.history front w.left w.holds)) (writes_from (maps.frame_at old.frames) (maps.frame_at c.touch.new.self) (history_of old) (history_of c.make_room.new.self) same c.make_room.ensures.writes)
 
 pub returns-clause-writes : goal.returns-clause-writes
 returns-clause-writes g c front disk holds =
     let old = c.args.self.now in
     let same = alike (maps.frame_at old.frames) (maps.frame_at c.touch.new.self) c.touch.ensures.same in
     let w = c.in_ok-make_room.ensures.kept front disk (record { settled = holds.settled; written = subst (λ (a : ℕ → Option Frame). AreWritten a disk) (sym same) holds.written }) in
-    subst (λ (h : History). (h ≡ history_of old) ⊎ maps.AllDirty old.frames) (sym (c.read.ensures.history front w.left w.holds)) (writes_from (maps.frame_at old.frames) (maps.frame_at c.touch.new.self) (history_of old) (history_of c.make_room.new.self) same c.make_room.ensures.writes)
+    subst (λ (h : DeviceHistory). (h ≡ history_of old) ⊎ maps.AllDirty old.frames) (sym (c.read.ensures.history front w.left w.holds)) (writes_from (maps.frame_at old.frames) (maps.frame_at c.touch.new.self) (history_of old) (history_of c.make_room.new.self) same c.make_room.ensures.writes)

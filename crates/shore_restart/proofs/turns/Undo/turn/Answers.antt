@@ -9,7 +9,7 @@ use Rattle.laws_lives.specs.Undo.{HasNoLosers, IsLoser, undo_record}
 use Rattle.shore_restart.specs.declared.errors.RestartError.{RestartError}
 use Rattle.shore_restart.specs.declared.errors.RestartError.TheVariants.{Memory, NoRoom}
 use Rattle.shore_restart.specs.Standing.{RestartMoves, stream_bytes_of}
-use Rattle.shore_restart.proofs.LogTurns.{if_none, no_some, turn_cannot, turn_fits, turn_kept, turn_lacks_room, turn_loser, turn_of, turn_previous, turn_record, turn_says, turn_takes, turn_there}
+use Rattle.shore_restart.proofs.LogTurns.{if_none, no_some, turn_cannot, turn_fits, turn_kept, turn_lacks_room, turn_loser, turn_of, turn_previous, turn_record, turn_reserved, turn_says, turn_takes, turn_there}
 use Rattle.shore_restart.proofs.PageErrors.{err_with}
 use Rattle.shore_restart.proofs.Turning.{moves_none, turn_stops, turned}
 use Rattle.shore_restart.proofs.HeldPages.{held_err, held_here, held_other, one_longer}
@@ -62,7 +62,7 @@ returns-in_default-room_with-clause-no_room g c is =
     let turn = turn_of (geometry_of c.args.heap.now) log bytes c.args.self.now c.requires c.records.result.now c.records.ensures.log c.in_ok-logged.field-0 r c.in-Some.is
     c.in_ok-logged.ensures.loser c.in_ok-logged.ensures.turn c.in_ok-logged.ensures.undoes in
     turn_lacks_room (geometry_of c.args.heap.now) log bytes c.args.self.now c.requires r turn
-    (λ leaves. no_some c.room_with.result c.in_default-room_with.is ((c.room_with.ensures.none log bytes c.requires.room (ap length c.records-2.ensures.log)).1 leaves))
+    (λ leaves. no_some c.room_with.result c.in_default-room_with.is ((c.room_with.ensures.none log bytes c.requires.room (ap length c.records-2.ensures.log) (turn_reserved (geometry_of c.args.heap.now) log bytes c.args.self.now c.requires r turn)).1 leaves))
 
 -- ---- the record is appended
 
@@ -148,7 +148,7 @@ returns-clause-undo g c =
     c.append.ensures.volume.geometry (c.take.ensures.taken ∙ ap (λ (rs : List LogRecord). rs ++ r ∷ []) c.append.ensures.same)
     (ap (λ (device : g.row.L.Denot). size (g.L.Disk.history device) - LOG_FRONT_BYTES) c.take.ensures.device ∙ ap (λ (long : ℕ). long - LOG_FRONT_BYTES) c.append.ensures.log.size)
     (c.note_logged.ensures.losers log c.requires.losers turn.loser turn.is (ap (λ (rs : List LogRecord). length rs + 1) c.records-2.ensures.log))
-    (c.in-Some-room_with.ensures.some log bytes c.requires.room (ap length c.records-2.ensures.log))
+    (c.in-Some-room_with.ensures.some log bytes c.requires.room (ap length c.records-2.ensures.log) (turn_reserved (geometry_of c.args.heap.now) log bytes c.args.self.now c.requires r turn))
 
 pub returns-clause-moves : goal.returns-clause-moves
 returns-clause-moves g c log_front front disk s ready =

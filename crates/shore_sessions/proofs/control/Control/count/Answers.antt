@@ -1,6 +1,7 @@
 use Rattle.std.proofs.Common.{arith}
 use Rattle.shore_txn.specs.Transactions.{undos_in}
 use Rattle.shore_txn.proofs.OneOfMany.{count_owed}
+use Rattle.shore_sessions.proofs.Counting.{count_is}
 use Rattle.shore_sessions.proofs.control.Control.count.Goals as goal
 
 -- each transaction owes its ending, for which the log has room
@@ -8,4 +9,9 @@ pub overflow_add-result : goal.overflow_add-result
 overflow_add-result c =
     let txns = c.args.self.now.txns in
     let owed = count_owed (undos_in txns) in
-    omega (arith, owed, txns.sum, txns.room.within, txns.room.short, c.count.ensures, c.commits.ensures.few, c.commits.ensures.small)
+    omega (arith, owed, txns.sum, txns.room.within, txns.room.short, c.count.ensures, c.decided.ensures.few, c.decided.ensures.small)
+
+pub returns-clause-count : goal.returns-clause-count
+returns-clause-count c s was works =
+    let is = count_is c.args.self.now s was works in
+    omega (arith, is, c.count.ensures, c.decided.ensures.count)

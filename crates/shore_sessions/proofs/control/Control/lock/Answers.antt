@@ -3,6 +3,8 @@ use Rattle.shore_path.specs.Walks.{Outcome, acquired}
 use Rattle.shore_path.specs.declared.answers.OnConflict.TheVariants as conflict
 use Rattle.laws_locks.specs.CallLocks.{Asked}
 use Rattle.laws_calls.specs.CallSteps.{behind_lock, lock_outcome, on_conflict_of, with_requests}
+use Rattle.shore_txn.specs.Transactions.{AtSeat}
+use Rattle.shore_txn.specs.Txns.{IsOf}
 use Rattle.shore_sessions.specs.Controls.{locks_in}
 use Rattle.shore_sessions.specs.Standing.{HasControl}
 use Rattle.shore_sessions.proofs.TriedLocks.{tried_to}
@@ -24,3 +26,6 @@ returns-in-Refuse-clause-locks c s o found es a call was state works its number 
 pub returns-in-Wait-clause-locks : goal.returns-in-Wait-clause-locks
 returns-in-Wait-clause-locks c s o found es a call was state works its number waits =
     c.lock_or_wait.ensures.locks s o found es a call was state works its number (waits ∙ c.in-Wait.is)
+
+pub returns-in-Refuse-clause-own : goal.returns-in-Refuse-clause-own
+returns-in-Refuse-clause-own c own = subst (λ txns. AtSeat c.args.seat.now txns (IsOf c.args.seat.now.session)) (sym c.acquire.ensures.txns) own

@@ -1,6 +1,7 @@
-use Rattle.std.proofs.Common.{◌≡◌, None, sym, ap, subst, ◌∙◌, false}
+use Rattle.std.proofs.Common.{◌≡◌, ◌≤◌, None, sym, ap, subst, ◌∙◌, false}
 use Rattle.std.specs.Prelude.{Ok, Err, All, IfErr, ◌≢◌}
 use Rattle.std.proofs.lemmas.Result.{err_from_is_err_and}
+use Rattle.shore_types.specs.declared.layout.TheConstants.{MOST_MAX_LOCKS}
 use Rattle.shore_locks.specs.Tables.{Table, is_waiting}
 use Rattle.shore_path.specs.Acquires.{IsReached}
 use Rattle.shore_path.specs.declared.answers.Acquired.TheVariants as acquire
@@ -8,7 +9,8 @@ use Rattle.shore_deadlock.specs.Locking.{Settles}
 use Rattle.shore_deadlock.proofs.LetWaits.{lets_wait, waits_then}
 use Rattle.laws_locks.specs.CallLocks.{Asked}
 use Rattle.laws_calls.specs.LockRounds.{LocksTo}
-use Rattle.shore_txn.specs.Transactions.{undos_in}
+use Rattle.shore_txn.specs.Transactions.{AtSeat, undos_in}
+use Rattle.shore_txn.specs.Txns.{IsOf}
 use Rattle.shore_sessions.specs.Calls.{names_of}
 use Rattle.shore_sessions.specs.Controls.{locks_in, txns_in, waits_in}
 use Rattle.shore_sessions.specs.Noting.{AreNoted, RefusesToLock, answer_of, told_cycle}
@@ -48,6 +50,13 @@ settle-answer-requires c = record {
       (c.in_ok-acquire.ensures.answer, c.acquire.ensures.locks) c.in-Waiting.field-0 (ap Ok c.in-Waiting.is));
 }
 
+pub invariant_of-self : goal.invariant_of-self
+invariant_of-self c =
+    let settles = c.settle-answer.ensures.settles (locks_in c.args.self.now)
+    (lets_wait (locks_in c.args.self.now) c.args.txn c.args.granule c.args.mode (Ok c.in_ok-acquire.field-0) c.acquire.new.self.locks c.tables_are_orderly.ensures c.requires.quiet
+    (c.in_ok-acquire.ensures.answer, c.acquire.ensures.locks) c.in-Waiting.field-0 (ap Ok c.in-Waiting.is)) in
+    record { few_locks = subst (λ n. n ≤ MOST_MAX_LOCKS) (sym settles.limit) c.args.self.now.few_locks }
+
 settled : (c : After-answer_of)
     → Settles (locks_in c.args.self.now) c.settle-answer.new.table c.args.txn c.args.granule c.args.mode c.settle-answer.result.answer c.settle-answer.result.victims.items
 settled c =
@@ -59,6 +68,16 @@ pub returns-in-Waiting-clause-seated : goal.returns-in-Waiting-clause-seated
 returns-in-Waiting-clause-seated c =
     seat_named c.args.seat.now (txns_in c.args.self.now) (txns_in c.note_victims-told.new.self)
     (c.note_victims-told.ensures.keeps.names ∙ ap (λ txns. names_of (undos_in txns)) c.acquire.ensures.txns) c.requires.seated
+
+pub returns-in_err-acquire-clause-own : goal.returns-in_err-acquire-clause-own
+returns-in_err-acquire-clause-own c own = subst (λ txns. AtSeat c.args.seat.now txns (IsOf c.args.seat.now.session)) (sym c.acquire.ensures.txns) own
+
+pub returns-in-Done-clause-own : goal.returns-in-Done-clause-own
+returns-in-Done-clause-own c own = subst (λ txns. AtSeat c.args.seat.now txns (IsOf c.args.seat.now.session)) (sym c.acquire.ensures.txns) own
+
+pub returns-in-Waiting-clause-own : goal.returns-in-Waiting-clause-own
+returns-in-Waiting-clause-own c own =
+    c.note_victims-told.ensures.keeps.own c.args.seat.now c.args.seat.now.session (subst (λ txns. AtSeat c.args.seat.now txns (IsOf c.args.seat.now.session)) (sym c.acquire.ensures.txns) own)
 
 pub returns-in-Waiting-clause-reached : goal.returns-in-Waiting-clause-reached
 returns-in-Waiting-clause-reached c done =
@@ -84,7 +103,7 @@ returns-in-Waiting-clause-locks c s o found es a call was state works its number
     let victims = c.settle-answer.result.victims.items in
     let asked : Asked = record { granule = c.args.granule; mode = c.args.mode } in
     let idle = free_waits_not (waits_in control) s was.waits c.args.seat.now.session c.requires.free in
-    let start : IsStart a call asked may_wait s = starts o found es s state was.txns.unprepared works a call asked may_wait its.0.0
+    let start : IsStart a call asked may_wait s = starts o found es s state works a call asked may_wait its.0
     (subst (λ (x : Table). is_waiting a.txn x.requests ≡ false) (sym was.locks) (subst (λ t. is_waiting t (locks_in control).requests ≡ false) (sym number) c.requires.quiet))
     (λ w m same. idle w m (same ∙ its.1)) in
     let settles : Settles s.locks c.settle-answer.new.table a.txn c.args.granule c.args.mode answer victims =
@@ -95,9 +114,9 @@ returns-in-Waiting-clause-locks c s o found es a call was state works its number
     ap (λ t. answer_of answer (told_cycle t None victims)) number ∙ ap (answer_of answer) (sym c.note_victims-told.ensures.told) ∙ sym c.answer_of.ensures in
     let noted : AreNoted c.args.seat.now.session c.args.txn s victims comes.new =
     subst (λ t. AreNoted c.args.seat.now.session t s victims comes.new) number (subst (λ n. AreNoted n a.txn s victims comes.new) its.1 comes.noted) in
-    let stands = c.note_victims-told.ensures.stands s comes.new (stands_for o found es s state was.txns.unprepared works control _ was.txns was.waits c.acquire.ensures.txns c.acquire.ensures.waits)
+    let stands = c.note_victims-told.ensures.stands s comes.new (stands_for o found es s state works control _ was.txns was.waits was.resolving c.acquire.ensures.txns c.acquire.ensures.waits)
     (subst (All (λ (w : WaitingCall). w.session ≢ c.args.seat.now.session)) (sym c.acquire.ensures.waits) c.requires.free) noted in (
       comes.new,
       subst (λ answered. LocksTo s a call asked answered comes.new) told comes.locks_to,
-      record { txns = stands.txns; waits = stands.waits; locks = comes.locks ∙ sym c.note_victims-told.ensures.keeps.locks },
+      record { txns = stands.txns; waits = stands.waits; resolving = stands.resolving; locks = comes.locks ∙ sym c.note_victims-told.ensures.keeps.locks },
     )

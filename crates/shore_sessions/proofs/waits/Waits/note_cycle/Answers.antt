@@ -1,6 +1,6 @@
 use Rattle.std.proofs.Common.{refl, set, subst, sym, ap, ◌∙◌}
 use Rattle.laws_lives.specs.Views.{IsAmong}
-use Rattle.shore_sessions.specs.Calls.{is_commit}
+use Rattle.shore_sessions.specs.Calls.{awaits_record}
 use Rattle.shore_sessions.specs.Waits.{calls_in}
 use Rattle.shore_sessions.specs.declared.waits.WaitingCall.{WaitingCall}
 use Rattle.shore_sessions.proofs.NotedCalls.{read_same, set_noted, told}
@@ -27,5 +27,5 @@ returns-clause-some c =
       subst (λ (w : WaitingCall). IsAmong w calls) (sym c.index.ensures) (among_at calls i found at.0),
       refl,
       ap (λ (w : WaitingCall). w.txn) c.index.ensures ∙ at.1 found,
-      ap is_commit c.index.ensures ∙ at.2 found,
+      ap awaits_record c.index.ensures ∙ at.2 found,
     )

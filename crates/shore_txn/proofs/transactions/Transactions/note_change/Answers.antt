@@ -1,11 +1,13 @@
+use Rattle.shore_txn.proofs.DoubtSteps.{doubt_kept, doubts_same}
 use Rattle.std.proofs.Common.{◌≡◌, refl, ap, sym, subst, ◌∙◌, arith}
-use Rattle.laws_room.specs.LogRooms.{owed}
-use Rattle.shore_txn.specs.ActiveTxns.{CanNote, undos_of}
-use Rattle.shore_txn.specs.Txns.{IsAfterChange, as_session_txn}
+use Rattle.shore_txn.specs.ActiveTxns.{CanNote}
+use Rattle.shore_txn.specs.Transactions.{txns_in}
+use Rattle.shore_txn.specs.Txns.{IsAfterChange, number_of, reserved_for}
 use Rattle.shore_txn.specs.declared.active.ActiveTxn.{ActiveTxn}
-use Rattle.shore_txn.proofs.ActiveLemmas.{active_there, read_at, session_txn_there}
-use Rattle.shore_txn.proofs.ActiveSteps.{AreKept, becomes_at, claims_elsewhere, claims_noted, kept_noted, undos_noted}
-use Rattle.shore_txn.proofs.OneOfMany.{owed_among}
+use Rattle.shore_txn.proofs.ActiveLemmas.{active_there, read_at, txn_there}
+use Rattle.shore_txn.proofs.ActiveSteps.{becomes_at, claims_elsewhere, claims_noted, kept_noted, undos_noted}
+use Rattle.shore_txn.proofs.Lending.{kept_in}
+use Rattle.shore_txn.proofs.Reserves.{reserved_among}
 use Rattle.shore_txn.proofs.Seats.{seat_inside, seat_one}
 use Rattle.shore_txn.proofs.transactions.Transactions.note_change.Goals as goal
 
@@ -25,8 +27,8 @@ note_change-requires-clause-sum c =
     let one = seat_one old c.args.seat.now c.requires.seated in
     let it : c.index_mut.result.now ≡ one.0 = c.index_mut.ensures.value ∙ read_at one.1 c.index_mut.result.now in
     let its : c.index_mut.result.now.txn.reserved ≡ one.0.txn.reserved = ap (λ (a : ActiveTxn). a.txn.reserved) it in
-    let owes : one.0.txn.reserved ≡ owed (as_session_txn one.0.txn) = one.0.txn.owed in
-    let least = owed_among (as_session_txn one.0.txn) (undos_of old.active.items) (session_txn_there one.1) in
+    let owes : one.0.txn.reserved ≡ reserved_for one.0.txn = one.0.txn.owed in
+    let least = reserved_among one.0.txn (txns_in old) (txn_there one.1) in
     omega (arith, its, owes, least, old.sum, c.requires.room, old.room.short)
 
 pub invariant_of-self : goal.invariant_of-self
@@ -35,8 +37,8 @@ invariant_of-self c =
     let one = seat_one old c.args.seat.now c.requires.seated in
     let it : c.index_mut.result.now ≡ one.0 = c.index_mut.ensures.value ∙ read_at one.1 c.index_mut.result.now in
     let after = subst (λ (a : ActiveTxn). IsAfterChange a.txn c.args.entry c.note_change.new.self.txn) it c.note_change.ensures in
-    let was : AreKept (undos_of old.active.items) old.room.reserved old.next = record { sum = old.sum; numbers = old.numbers; sessions = old.sessions; below = old.below } in
-    let now = kept_noted (becomes_at one.1 c.note_change.new.self one.0.txn.session (λ t u. IsAfterChange t c.args.entry u) refl after) old.room.reserved old.next was in
+    let was = kept_in old in
+    let now = kept_noted (becomes_at one.1 c.note_change.new.self (number_of one.0.txn) (λ t u. IsAfterChange t c.args.entry u) refl after) old.room.reserved old.next was in
     record { some = old.some; sum = omega (arith, now.sum, c.reserve.ensures.reserved, c.append.ensures.others.0, c.requires.cost); numbers = now.numbers; sessions = now.sessions; below = now.below }
 
 pub returns-clause-noted : goal.returns-clause-noted
@@ -44,15 +46,18 @@ returns-clause-noted c =
     let old = c.args.self.now in
     let one = seat_one old c.args.seat.now c.requires.seated in
     let it : c.index_mut.result.now ≡ one.0 = c.index_mut.ensures.value ∙ read_at one.1 c.index_mut.result.now in
-    becomes_at one.1 c.note_change.new.self c.args.seat.now.session (λ t u. IsAfterChange t c.args.entry u)
+    becomes_at one.1 c.note_change.new.self c.args.seat.now.txn (λ t u. IsAfterChange t c.args.entry u)
     one.2
     (subst (λ (a : ActiveTxn). IsAfterChange a.txn c.args.entry c.note_change.new.self.txn) it c.note_change.ensures)
 
 pub returns-clause-undos : goal.returns-clause-undos
-returns-clause-undos c = undos_noted (returns-clause-noted c) c.args.self.now.numbers c.args.self.now.sessions
+returns-clause-undos c = undos_noted (returns-clause-noted c) c.args.self.now.numbers
 
 pub returns-clause-claimed : goal.returns-clause-claimed
 returns-clause-claimed c = let noted = returns-clause-noted c in claims_noted noted c.args.entry noted.becomes.entries
 
 pub returns-clause-elsewhere : goal.returns-clause-elsewhere
 returns-clause-elsewhere c = let noted = returns-clause-noted c in claims_elsewhere noted c.args.entry noted.becomes.entries
+
+pub returns-clause-doubts : goal.returns-clause-doubts
+returns-clause-doubts c = let noted = returns-clause-noted c in doubts_same noted (doubt_kept noted.before noted.after noted.becomes.txn noted.becomes.name noted.becomes.state)

@@ -1,3 +1,4 @@
+use Rattle.shore_txn.proofs.DoubtSteps.{doubt_kept, doubts_same}
 use Rattle.std.proofs.Common.{◌≡◌, ℕ, Ok, Err, Result, length, sym, subst, ap, ◌∙◌, set}
 use Rattle.std.specs.Prelude.{IfOk, OnErr, OnOk}
 use Rattle.std.specs.declared.alloc.AllocError.{AllocError}
@@ -6,11 +7,11 @@ use Rattle.laws_lives.specs.Views.{IsAmong}
 use Rattle.shore_txn.specs.ActiveTxns as active
 use Rattle.shore_txn.specs.ActiveTxns.{OneBecomes, undos_of, with_mark}
 use Rattle.shore_txn.specs.Transactions.{txns_in, undos_in}
-use Rattle.shore_txn.specs.Txns.{HasMarkRoom, IsAfterSavepoint, SameTxn, as_session_txn, marks_of}
+use Rattle.shore_txn.specs.Txns.{HasMarkRoom, IsAfterSavepoint, SameTxn, as_session_txn, marks_of, as_prepared}
 use Rattle.shore_txn.specs.declared.active.ActiveTxn.{ActiveTxn}
 use Rattle.shore_txn.proofs.ActiveLemmas.{active_there, read_at}
 use Rattle.shore_txn.proofs.ActiveSteps.{KeepsChanges, claims_still, kept_still, same_keeps, savepoint_keeps, session_marked, undos_by, undos_stay}
-use Rattle.shore_txn.proofs.Lending.{kept_in, lent_becomes, lent_session, lent_there}
+use Rattle.shore_txn.proofs.Lending.{kept_in, lent_becomes, lent_number, lent_there}
 use Rattle.shore_txn.proofs.OneOfMany.{once_same}
 use Rattle.shore_txn.proofs.Seats.{seat_inside, seat_one}
 use Rattle.shore_txn.proofs.transactions.Transactions.savepoint.Goals as goal
@@ -23,7 +24,7 @@ savepoint-requires c =
     let old = c.args.self.now in
     let few = c.requires.few (as_session_txn c.index_mut.result.now.txn)
     (lent_there old c.args.seat.now c.requires.seated c.index_mut.result.now c.index_mut.ensures.value)
-    (lent_session old c.args.seat.now c.requires.seated c.index_mut.result.now c.index_mut.ensures.value) in
+    (lent_number old c.args.seat.now c.requires.seated c.index_mut.result.now c.index_mut.ensures.value) in
     record { few = few }
 
 -- whether it is set or not
@@ -43,7 +44,7 @@ pub returns-clause-set : goal.returns-clause-set
 returns-clause-set c = each c.savepoint.result c.savepoint.ensures.set
   where
     each : (r : Result ℕ AllocError) → OnOk r (IsAfterSavepoint c.index_mut.result.now.txn c.savepoint.new.self.txn)
-        → OnOk r (OneBecomes c.args.seat.now.session IsAfterSavepoint (txns_in c.args.self.now) (active.txns_of (set c.args.self.now.active.items c.args.seat.now.index c.savepoint.new.self)))
+        → OnOk r (OneBecomes c.args.seat.now.txn IsAfterSavepoint (txns_in c.args.self.now) (active.txns_of (set c.args.self.now.active.items c.args.seat.now.index c.savepoint.new.self)))
     each (Ok index) set = lent_becomes c.args.self.now c.args.seat.now c.requires.seated c.index_mut.result.now c.index_mut.ensures.value
         c.savepoint.new.self IsAfterSavepoint set
     each (Err e) none = none
@@ -52,7 +53,7 @@ pub returns-clause-same : goal.returns-clause-same
 returns-clause-same c = each c.savepoint.result c.savepoint.ensures.same
   where
     each : (r : Result ℕ AllocError) → OnErr r (SameTxn c.index_mut.result.now.txn c.savepoint.new.self.txn)
-        → OnErr r (OneBecomes c.args.seat.now.session SameTxn (txns_in c.args.self.now) (active.txns_of (set c.args.self.now.active.items c.args.seat.now.index c.savepoint.new.self)))
+        → OnErr r (OneBecomes c.args.seat.now.txn SameTxn (txns_in c.args.self.now) (active.txns_of (set c.args.self.now.active.items c.args.seat.now.index c.savepoint.new.self)))
     each (Err e) same = lent_becomes c.args.self.now c.args.seat.now c.requires.seated c.index_mut.result.now c.index_mut.ensures.value
         c.savepoint.new.self SameTxn same
     each (Ok index) none = none
@@ -63,31 +64,31 @@ returns-clause-index c = each c.savepoint.result c.savepoint.ensures.index
     lent : SessionTxn
     lent = as_session_txn c.index_mut.result.now.txn
 
-    is_lent : (a : SessionTxn) → IsAmong a (undos_in c.args.self.now) → a.session ≡ c.args.seat.now.session → lent ≡ a
+    is_lent : (a : SessionTxn) → IsAmong a (undos_in c.args.self.now) → a.txn ≡ c.args.seat.now.txn → lent ≡ a
     is_lent a m its =
         let old = c.args.self.now in
-        once_same (λ (b : SessionTxn). b.session) (undos_in old) old.sessions lent a
+        once_same (λ (b : SessionTxn). b.txn) (undos_in old) old.numbers lent a
         (lent_there old c.args.seat.now c.requires.seated c.index_mut.result.now c.index_mut.ensures.value) m
-        (lent_session old c.args.seat.now c.requires.seated c.index_mut.result.now c.index_mut.ensures.value ∙ sym its)
+        (lent_number old c.args.seat.now c.requires.seated c.index_mut.result.now c.index_mut.ensures.value ∙ sym its)
 
     each : (r : Result ℕ AllocError) → IfOk r (λ index. index ≡ length (marks_of c.index_mut.result.now.txn))
-        → IfOk r (λ index. (a : SessionTxn) → IsAmong a (undos_in c.args.self.now) → a.session ≡ c.args.seat.now.session → index ≡ length a.undo.marks)
+        → IfOk r (λ index. (a : SessionTxn) → IsAmong a (undos_in c.args.self.now) → a.txn ≡ c.args.seat.now.txn → index ≡ length a.undo.marks)
     each (Ok index) is = λ a m its. is ∙ ap (λ (b : SessionTxn). length b.undo.marks) (is_lent a m its)
     each (Err e) none = none
 
 pub returns-clause-undos : goal.returns-clause-undos
 returns-clause-undos c = each c.savepoint.result (returns-clause-set c)
   where
-    each : (r : Result ℕ AllocError) → OnOk r (OneBecomes c.args.seat.now.session IsAfterSavepoint (txns_in c.args.self.now) (active.txns_of (set c.args.self.now.active.items c.args.seat.now.index c.savepoint.new.self)))
-        → OnOk r ((a : SessionTxn) → IsAmong a (undos_in c.args.self.now) → a.session ≡ c.args.seat.now.session
+    each : (r : Result ℕ AllocError) → OnOk r (OneBecomes c.args.seat.now.txn IsAfterSavepoint (txns_in c.args.self.now) (active.txns_of (set c.args.self.now.active.items c.args.seat.now.index c.savepoint.new.self)))
+        → OnOk r ((a : SessionTxn) → IsAmong a (undos_in c.args.self.now) → a.txn ≡ c.args.seat.now.txn
         → undos_of (set c.args.self.now.active.items c.args.seat.now.index c.savepoint.new.self) ≡ with_undo a.txn (with_mark a.undo) (undos_in c.args.self.now))
-    each (Ok index) one = undos_by one with_mark (session_marked one.before one.after one.becomes) c.args.self.now.numbers c.args.self.now.sessions
+    each (Ok index) one = undos_by one with_mark (session_marked one.before one.after one.becomes) c.args.self.now.numbers
     each (Err e) none = none
 
 pub returns-clause-unchanged : goal.returns-clause-unchanged
 returns-clause-unchanged c = each c.savepoint.result (returns-clause-same c)
   where
-    each : (r : Result ℕ AllocError) → OnErr r (OneBecomes c.args.seat.now.session SameTxn (txns_in c.args.self.now) (active.txns_of (set c.args.self.now.active.items c.args.seat.now.index c.savepoint.new.self)))
+    each : (r : Result ℕ AllocError) → OnErr r (OneBecomes c.args.seat.now.txn SameTxn (txns_in c.args.self.now) (active.txns_of (set c.args.self.now.active.items c.args.seat.now.index c.savepoint.new.self)))
         → OnErr r (undos_of (set c.args.self.now.active.items c.args.seat.now.index c.savepoint.new.self) ≡ undos_in c.args.self.now)
     each (Err e) one = undos_stay one
     each (Ok index) none = none
@@ -102,3 +103,14 @@ returns-clause-idle c room =
     let one = seat_one c.args.self.now c.args.seat.now c.requires.seated in
     let it : c.index_mut.result.now ≡ one.0 = c.index_mut.ensures.value ∙ read_at one.1 c.index_mut.result.now in
     c.savepoint.ensures.idle (subst (λ (a : ActiveTxn). HasMarkRoom a.txn) (sym it) (room one.0 (active_there one.1) one.2))
+
+same_doubt : (r : Result ℕ AllocError) (t u : _) → OnOk r (IsAfterSavepoint t u) → OnErr r (SameTxn t u) → as_prepared u ≡ as_prepared t
+same_doubt (Ok index) t u set same = doubt_kept t u set.txn set.name set.state
+same_doubt (Err e) t u set same = doubt_kept t u same.txn same.name same.state
+
+pub returns-clause-doubts : goal.returns-clause-doubts
+returns-clause-doubts c =
+    let one = lent_becomes c.args.self.now c.args.seat.now c.requires.seated c.index_mut.result.now c.index_mut.ensures.value
+    c.savepoint.new.self (λ t u. as_prepared u ≡ as_prepared t)
+    (same_doubt c.savepoint.result c.index_mut.result.now.txn c.savepoint.new.self.txn c.savepoint.ensures.set c.savepoint.ensures.same) in
+    doubts_same one one.becomes

@@ -1,7 +1,8 @@
-use Rattle.std.proofs.Common.{◌≤◌, List, ap, subst, arith}
-use Rattle.shore_types.specs.declared.layout.TheConstants.{MAX_RECORD_BYTES}
+use Rattle.std.proofs.Common.{◌≡◌, ◌≤◌, List, ap, cond, subst, arith}
+use Rattle.shore_types.specs.declared.layout.TheConstants.{ENDING_COST, MAX_RECORD_BYTES}
 use Rattle.shore_types.specs.Images.{image_len}
 use Rattle.laws_room.specs.LogRooms.{compensation_costs}
+use Rattle.shore_txn.specs.TxnStates.{second_ending}
 use Rattle.shore_txn.specs.UndoEntries.{AreShort, images_of}
 use Rattle.shore_txn.specs.declared.undo.UndoEntry.{UndoEntry}
 use Rattle.shore_txn.proofs.UndoLemmas.{all_front, costs_push}
@@ -27,7 +28,8 @@ invariant_of-self-clause-owed c =
     let all = ap (λ (es : List UndoEntry). compensation_costs (images_of es)) items in
     let cost = c.requires.cost left undone items in
     let owed = c.args.self.now.owed in
-    omega (arith, costs, all, cost, owed)
+    let none : second_ending c.args.self.now.state ≡ 0 = ap (λ b. cond b ENDING_COST 0) c.requires.free in
+    omega (arith, costs, all, cost, owed, none)
 
 pub invariant_of-self-clause-short : goal.invariant_of-self-clause-short
 invariant_of-self-clause-short c =

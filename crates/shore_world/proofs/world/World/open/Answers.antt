@@ -1,9 +1,8 @@
-use Rattle.std.proofs.Common.{◌≡◌, ◌-◌, ◌∷◌, [], inl, inr, ℕ, List, Err, arith, IsTrue, length, take, refl, sym, ◌∙◌, ap, subst}
+use Rattle.std.proofs.Common.{◌≡◌, ◌-◌, ◌∷◌, inl, inr, ℕ, List, Err, arith, IsTrue, length, take, refl, sym, ◌∙◌, ap, subst}
+use Rattle.shore_types.specs.Layout.{LocksInLimits}
 use Rattle.shore_types.specs.declared.layout.Geometry.{Geometry}
-use Rattle.shore_disk.specs.Device.{History, seen, size}
+use Rattle.shore_disk.specs.Device.{DeviceHistory, seen, size}
 use Rattle.shore_dwrite.specs.Checks.{RefusesArea}
-use Rattle.shore_analysis.specs.Meant.{AreMeant, IsFirstUnmeant}
-use Rattle.shore_analysis.specs.Tables.{AreTables}
 use Rattle.shore_dwrite.specs.Settled as pages_of
 use Rattle.shore_dwrite.specs.Shown.{Shows}
 use Rattle.shore_fronts.specs.Causes.{HasCauseOfPair}
@@ -14,10 +13,11 @@ use Rattle.shore_log.specs.declared.device.LogDev.{LogDev}
 use Rattle.shore_model.specs.declared.log_records.LogRecord.{LogRecord}
 use Rattle.shore_restart.specs.Opened.{OpensIn}
 use Rattle.shore_restart.specs.Standing.{stream_bytes_of}
-use Rattle.shore_core.specs.Cores.{heap_of}
+use Rattle.shore_core.specs.Cores.{control_of, heap_of}
 use Rattle.laws_images.specs.Moments.{Moment, Path}
 use Rattle.laws_images.specs.StandsFor.{begun_on}
 use Rattle.laws_runs.specs.SoundStores.{found_state}
+use Rattle.laws_runs.proofs.Prefixes.{whole_roomy}
 use Rattle.shore_world.specs.OpenedVolumes as volumes
 use Rattle.shore_world.specs.declared.world.World.{World}
 use Rattle.shore_frames.specs.Offsets.{IsBadAt, IsFrameOf}
@@ -26,6 +26,9 @@ use Rattle.shore_types.specs.declared.faults.Fault.TheVariants.{Damaged}
 use Rattle.shore_gate.specs.Anchor.{offset_of}
 use Rattle.shore_dwrite.specs.Shown.{Shows}
 use Rattle.shore_restart.proofs.BadNumbers.{one_number}
+use Rattle.shore_restart.specs.Doubts.{IsRefusedBy, IsTaken}
+use Rattle.shore_restart.specs.GivenBack.{HasDoubtsBack}
+use Rattle.shore_restart.specs.Reports.{IsReportOf}
 use Rattle.shore_restart.specs.Held.{IsPageFault}
 use Rattle.shore_restart.specs.Turns.{IsUndoneSoFar, LacksRoom}
 use Rattle.shore_world.proofs.RestartNames.{names_of, settled_left}
@@ -36,6 +39,9 @@ use Rattle.shore_world.proofs.OpenedLemmas.{opened_along}
 use Rattle.shore_world.proofs.RestartRefusals.{bad_misfit}
 use Rattle.shore_world.proofs.ShownPages.{found_over, shown_by, texts_shown, texts_told, told_images}
 use Rattle.shore_world.proofs.world.World.open.Goals as goal
+
+pub restart-requires : goal.restart-requires
+restart-requires g c = record { limits = subst LocksInLimits (sym (c.in-Ok-open_volume.ensures.geometry ∙ c.in-Ok.ensures.limits.1)) c.in-Ok.ensures.limits.0.1 }
 
 pub returns-in-Err-clause-refused : goal.returns-in-Err-clause-refused
 returns-in-Err-clause-refused g c honest of_volume =
@@ -187,10 +193,12 @@ returns-in-Ok-restart-clause-along g c of_log of_volume geometry rs pages stood 
     let opens = went.opens stood.opened.lawful in
     record {
       way = way_of geometry log volume rs pages log_behind volume_behind (log_barred, volume_barred) moments end path;
-      opened = opened_along _ geometry (take 4096 log_image) (take 4096 volume_image) (begun_on log_behind volume_behind rs pages) moments went.ready is.stands.recoverable (omega arith) path
+      opened = opened_along _ geometry (take 4096 log_image) (take 4096 volume_image) (size log - 4096) (begun_on log_behind volume_behind rs pages) moments went.ready is.stands.recoverable (omega arith) path
           (c.in-Ok-restart.ensures.volume.geometry ∙ heap_at) opens.0 opens.1 opens.3 opens.4
           (subst (λ (l : List LogRecord). OpensIn c.in-Ok-restart.core (take 4096 volume_image) opens.4 l (records_of_log c.restart.new.log) (stream_bytes_of c.restart.new.log) went.ready) list opens.5)
-          (c.in-Ok-restart.ensures.locks ∙ ap (λ (x : Geometry). record { limit = x.max_locks; requests = [] }) heap_at);
+          (subst (λ (l : List LogRecord). HasDoubtsBack geometry.max_locks l (control_of c.in-Ok-restart.core)) list
+          (subst (λ (x : Geometry). HasDoubtsBack x.max_locks (records_of_log dev) (control_of c.in-Ok-restart.core)) heap_at c.in-Ok-restart.ensures.doubts))
+          (whole_roomy geometry (size log - 4096) (length rs) rs stood.opened.roomy);
       undone = subst (IsUndoneSoFar rs) (sym opens.3.records) (subst (λ (l : List LogRecord). IsUndoneSoFar l (records_of_log c.restart.new.log)) list c.in-Ok-restart.ensures.undone);
     }
 
@@ -199,14 +207,7 @@ returns-in-Ok-restart-clause-report g c of_log rs gives =
     let log_later = subst IsTrue (sym c.read_fronts.ensures.honest.0) of_log in
     let same : seen (g.L.Disk.history c.read_fronts.new.log) ≡ seen (g.L.Disk.history c.args.log) = (c.in-Ok.ensures.log_behind of_log).stands.read in
     let list : records_of_log c.in-Ok-open.log ≡ rs = c.in-Ok-open.ensures.only log_later rs (subst (Gives rs) (sym same) gives) in
-    let told = c.in-Ok-restart.ensures.report in
-    record {
-      read = told.0 ∙ ap length list;
-      redone = told.1;
-      tables = told.2.0;
-      analysed = subst (λ (l : List LogRecord). AreTables l told.2.0) list told.2.1;
-      undone = told.2.2;
-    }
+    subst (λ (l : List LogRecord). IsReportOf l c.in-Ok-restart.report) list c.in-Ok-restart.ensures.report
 
 pub returns-in-Ok-restart-clause-redone : goal.returns-in-Ok-restart-clause-redone
 returns-in-Ok-restart-clause-redone g c of_log of_volume geometry rs pages stood =
@@ -249,7 +250,7 @@ returns-in-Ok-restart-clause-in_order g c of_log of_volume =
       (
         records_of_log c.in-Ok-open.log,
         subst (Gives (records_of_log c.in-Ok-open.log)) same (c.in-Ok-open.ensures.found log_later),
-        subst (λ (x : Geometry). AreMeant x (records_of_log c.in-Ok-open.log)) (sym c.in-Ok-restart.ensures.volume.geometry) c.in-Ok-restart.ensures.taken,
+        subst (λ (x : Geometry). IsTaken x (records_of_log c.in-Ok-open.log)) (sym c.in-Ok-restart.ensures.volume.geometry) c.in-Ok-restart.ensures.taken,
       ),
       (shown.0, subst (λ (x : Geometry). Shows x (seen (g.V.Disk.history c.args.volume)) shown.0) (sym at) shown.1),
     )
@@ -359,9 +360,9 @@ returns-in-Err-restart-clause-refused g c of_log of_volume = elim (outside_or_no
               (λ is. subst (λ (n : ℕ). LacksRoom rs (n - 4096)) (c.in-Ok-open.ensures.size ∙ c.read_fronts.ensures.size.0) (e.no_room is)) e.bad_number
               (λ h is. subst (λ (x : Geometry). IsPageFault x shown.0 (length rs) h) heap_at (e.any_pages (take 4096 volume_image) shown.0 is_held h is)) quiet.named
               (λ n is. elim (e.meant (λ memory. let clash = sym memory ∙ is in cc)) [
-                | inr unmeant ↦ inl (subst (λ (k : ℕ). IsFirstUnmeant geometry rs k) (one_number unmeant.0 n (sym unmeant.1 ∙ is)) (subst (λ (x : Geometry). IsFirstUnmeant x rs unmeant.0) heap_at unmeant.2))
+                | inr refused ↦ inl (subst (λ (k : ℕ). IsRefusedBy geometry rs k) (one_number refused.0 n (sym refused.1 ∙ is)) (subst (λ (x : Geometry). IsRefusedBy x rs refused.0) heap_at refused.2))
                 | inl meant ↦ inr (
-                  subst (λ (x : Geometry). AreMeant x rs) heap_at meant,
+                  subst (λ (x : Geometry). IsTaken x rs) heap_at meant,
                   λ pages logged.
                       let shows = c.in-Ok-open_volume.ensures.shows later volume_image (texts_shown geometry rs pages volume_image logged) (λ p. (pages p).number) (told_images rs pages) held
                       (shown_by geometry rs pages volume_image logged c.in-Ok.fronts.of_pages at) (texts_told geometry rs pages volume_image logged c.in-Ok.fronts.of_pages at) in
@@ -372,12 +373,12 @@ returns-in-Err-restart-clause-refused g c of_log of_volume = elim (outside_or_no
                 )
               ]) (λ other. elim other [
                 | inl no_room ↦ elim (e.meant (λ memory. let clash = sym memory ∙ no_room in cc)) [
-                  | inl meant ↦ subst (λ (x : Geometry). AreMeant x rs) heap_at meant
-                  | inr unmeant ↦ let clash = sym no_room ∙ unmeant.1 in absurd cc
+                  | inl meant ↦ subst (λ (x : Geometry). IsTaken x rs) heap_at meant
+                  | inr refused ↦ let clash = sym no_room ∙ refused.1 in absurd cc
                 ]
                 | inr page ↦ elim (e.meant (λ memory. let clash = sym memory ∙ page.1 in cc)) [
-                  | inl meant ↦ subst (λ (x : Geometry). AreMeant x rs) heap_at meant
-                  | inr unmeant ↦ let clash = sym page.1 ∙ unmeant.1 in absurd cc
+                  | inl meant ↦ subst (λ (x : Geometry). IsTaken x rs) heap_at meant
+                  | inr refused ↦ let clash = sym page.1 ∙ refused.1 in absurd cc
                 ]
               ])
               f.memory (λ is. f.room is ∙ ap (λ (n : ℕ). Damaged DeviceLog n) front.1)
@@ -388,7 +389,7 @@ returns-in-Err-restart-clause-refused g c of_log of_volume = elim (outside_or_no
                   told,
                   λ some most.
                       let left = settled_left (take 4096 log_image) dev c.restart.new.log c.in-Err-restart.error n is quiet none.1 in
-                      subst (λ (h : History). IsFrameOf 4096 (seen h) n offset) (sym (ap g.L.Disk.history c.into_device-in-Err-restart-2.ensures ∙ f.still left.0.honest)) (frame (take 4096 log_image) left.0 some (left.1 most)),
+                      subst (λ (h : DeviceHistory). IsFrameOf 4096 (seen h) n offset) (sym (ap g.L.Disk.history c.into_device-in-Err-restart-2.ensures ∙ f.still left.0.honest)) (frame (take 4096 log_image) left.0 some (left.1 most)),
                 )
               ]) (λ h is. (f.page h is).0) (λ h is. (f.force h is).0);
         })),

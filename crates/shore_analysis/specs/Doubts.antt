@@ -1,0 +1,13 @@
+-- What a log says of those in doubt, under the numbers of their Prepares.
+use Rattle.std.specs.Prelude.{◌==◌, ◌-◌, ℕ, List, Option, None, if◌then◌else◌, option_and_then, option_map, slice_get}
+use Rattle.shore_types.specs.declared.locking.Granule.{Granule}
+use Rattle.shore_model.specs.declared.log_records.LogRecord.{LogRecord}
+use Rattle.laws_lives.specs.Doubts.{LoggedDoubt, doubt_of}
+
+-- what the record of this number says, if it is a Prepare
+abbrev pub doubt_at : List LogRecord → ℕ → Option LoggedDoubt
+doubt_at log n = if n == 0 then None else option_and_then doubt_of (slice_get log (n - 1))
+
+-- its global id and its granules
+abbrev pub said_at : List LogRecord → ℕ → Option (List ℕ × List Granule)
+said_at log n = option_map (λ d. (d.global, d.granules)) (doubt_at log n)

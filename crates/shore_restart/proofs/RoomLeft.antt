@@ -1,0 +1,75 @@
+-- What a restart works with by the log that was found: the entries of those in doubt, and the room with what they have reserved.
+use Rattle.std.proofs.Common.{◌≡◌, ◌↔◌, ◌+◌, ◌<◌, ◌≤◌, inl, ℕ, List, [], ◌∷◌, Bool, true, false, cond, Option, None, ap, ◌∙◌, length, map, arith}
+use Rattle.std.specs.Prelude.{IsPermutation, IsSome, filter}
+use Rattle.std.specs.List.{AllByRecursion}
+use Rattle.std.proofs.lemmas.List.{length-map}
+use Rattle.std.proofs.lemmas.List.Elements.{All-from_recursion, recursion_from_All}
+use Rattle.std.proofs.lemmas.List.Sorted.{All-permutation}
+use Rattle.shore_types.specs.declared.layout.TheConstants.{LONGEST_FRAME}
+use Rattle.shore_model.specs.declared.log_records.LogRecord.{LogRecord}
+use Rattle.shore_model.specs.declared.log_records.LogTxn.{LogTxn}
+use Rattle.shore_model.specs.Logs.{HasNumbers, IsEntry, in_doubt_in, is_prepared}
+use Rattle.laws_lives.specs.Doubts.{LoggedDoubt, doubts_in}
+use Rattle.laws_lives.proofs.DoubtRecords.{doubt_txns}
+use Rattle.laws_calls.specs.States.{cost_of_log}
+use Rattle.shore_analysis.specs.Tables.{AreTables}
+use Rattle.shore_analysis.specs.declared.analysis.Tables.{Tables}
+use Rattle.shore_txn.specs.declared.log_room.LogRoom.{LogRoom}
+use Rattle.shore_restart.specs.Doubts.{AreEntriesOfDoubts, reserved_told}
+use Rattle.shore_restart.specs.Room.{HasSums, IsRoomBehind, LeavesRoomBeside}
+use Rattle.shore_restart.specs.Turns.{LacksRoom}
+use Rattle.shore_restart.proofs.LogTurns.{no_some}
+
+-- ---- entries
+
+picked_numbers : (log : List LogRecord) (p : LogTxn → Bool) (es : List LogTxn) → AllByRecursion (IsEntry log) es → AllByRecursion (HasNumbers log) (filter p es)
+picked_numbers log p [] entries = tt
+picked_numbers log p (e ∷ es) entries = by (p e) (picked_numbers log p es entries.1)
+  where
+    by : (b : Bool) → AllByRecursion (HasNumbers log) (filter p es) → AllByRecursion (HasNumbers log) (cond b (e ∷ filter p es) (filter p es))
+    by true rest = (entries.0.1, rest)
+    by false rest = rest
+
+pub are_entries : (log : List LogRecord) (tables : Tables) (found : List LogTxn) → AreTables log tables → IsPermutation (filter (λ e. is_prepared e.state) tables.txns) found → map (λ e. e.txn) found ≡ in_doubt_in log
+    → AreEntriesOfDoubts log found
+are_entries log tables found are moved order =
+    let picked = filter (λ (e : LogTxn). is_prepared e.state) tables.txns in
+    record {
+      order = order;
+      numbers = recursion_from_All (HasNumbers log) found (All-permutation (HasNumbers log) picked found moved
+          (All-from_recursion (HasNumbers log) picked (picked_numbers log (λ e. is_prepared e.state) tables.txns (recursion_from_All (IsEntry log) tables.txns are.txns.each))));
+    }
+
+pub as_many_doubts : (log : List LogRecord) (found : List LogTxn) → map (λ e. e.txn) found ≡ in_doubt_in log → length found ≡ length (doubts_in log)
+as_many_doubts log found order =
+    let same = ap length (order ∙ doubt_txns log) in
+    omega (arith, same, length-map found (λ (e : LogTxn). e.txn), length-map (doubts_in log) (λ (d : LoggedDoubt). d.txn))
+
+-- ---- room
+
+module _ (log : List LogRecord) (stream_bytes : ℕ) where
+  -- the log alone leaves none
+  pub none_left : (o : Option LogRoom) → o ≡ None → (IsSome o ↔ LeavesRoomBeside 0 log stream_bytes) → LacksRoom log stream_bytes
+  none_left o none leaves_if =
+      inl (λ leaves. no_some o none (leaves_if.1 (record { frame = let frame = leaves.frame in omega (arith, frame); numbers = leaves.numbers; short = leaves.short })))
+
+  module _ (room : LogRoom) (sums : HasSums stream_bytes (cost_of_log log) 0 room) where
+    -- .. none for what is reserved
+    pub none_reserved : room.stream_bytes < room.kept + reserved_told log + LONGEST_FRAME → LacksRoom log stream_bytes
+    none_reserved less =
+        let stream = sums.stream in
+        let kept = sums.kept_is in
+        inl (λ leaves. let frame = leaves.frame in omega (arith, less, stream, kept, frame))
+
+    -- .. or it leaves that
+    pub room_reserved : (full : LogRoom) → LeavesRoomBeside 0 log stream_bytes → HasSums room.stream_bytes room.kept (reserved_told log) full → room.kept + reserved_told log + LONGEST_FRAME ≤ room.stream_bytes
+        → IsRoomBehind log stream_bytes full
+    room_reserved full leaves has holds =
+        let stream = sums.stream in
+        let kept = sums.kept_is in
+        record {
+          leaves = record { frame = omega (arith, holds, stream, kept); numbers = leaves.numbers; short = leaves.short };
+          stream = has.stream ∙ sums.stream;
+          kept = has.kept_is ∙ sums.kept_is;
+          reserved = has.reserved_is;
+        }

@@ -1,0 +1,7 @@
+use Rattle.std.proofs.Common.{refl}
+use Rattle.shore_sessions.proofs.ResolveWaits.{control_resolved}
+use Rattle.shore_sessions.proofs.control.Control.end_resolve.Goals as goal
+
+pub returns-clause-stands : goal.returns-clause-stands
+returns-clause-stands c s w r was works m own is =
+    control_resolved c.args.self.now _ s c.args.session w r was works c.args.self.now.waits.once m own is refl refl c.take.ensures.left

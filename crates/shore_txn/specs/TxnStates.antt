@@ -1,0 +1,16 @@
+-- What the state of a transaction says of its decision.
+use Rattle.std.specs.Prelude.{ℕ, Bool, false, true, if◌then◌else◌}
+use Rattle.shore_types.specs.declared.layout.TheConstants.{ENDING_COST}
+use Rattle.shore_txn.specs.declared.txn_state.TxnState.{TxnState}
+use Rattle.shore_txn.specs.declared.txn_state.TxnState.TheVariants.{Active, Prepared, Preparing, RollingBack}
+
+-- it has a Prepare, and no decision
+abbrev pub is_in_doubt : TxnState → Bool
+is_in_doubt Active = false
+is_in_doubt (RollingBack rollback) = false
+is_in_doubt Preparing = true
+is_in_doubt Prepared = true
+
+-- a second ending, that of a Rollback decided, is reserved for as long as it is in doubt
+abbrev pub second_ending : TxnState → ℕ
+second_ending state = if is_in_doubt state then ENDING_COST else 0
