@@ -10,10 +10,11 @@ LETTERS = {"log": b"\x4c", "volume": b"\x56"}
 ANCHORS_AT, STREAM_AT = (1_024, 2_048), 4_096
 GATE_AT, TABLE_AT, IMAGES_AT, PAGES_AT = 4_096, 4_100, 8_192, 270_336
 PAGE, MOST_SLOTS, MOST_OF_A_BATCH, LONGEST_FRAME = 8_192, 2_042, 32, 65_549
-CHANGE, COMPENSATION, COMMIT, END = 1, 2, 3, 4
+CHANGE, COMPENSATION, COMMIT, END, PREPARE, ROLLBACK_DECIDED = 1, 2, 3, 4, 5, 6
+MOST_OF_A_NAME, MOST_GRANULES = 64, 4_096
 
 Geometry = collections.namedtuple("Geometry", "pair log_bytes locks stores")
-Record = collections.namedtuple("Record", "kind txn previous at before after following")
+Record = collections.namedtuple("Record", "kind txn previous at before after following name granules", defaults=[None] * 2)
 
 
 # What is written.
@@ -52,6 +53,16 @@ def change(txn, previous, at, before, after):
 
 def compensation(txn, previous, at, after, following):
     return record(COMPENSATION, txn, previous, rid(at) + image(after) + number(8, following))
+
+
+def granule(text):
+    """The bytes of a granule: its level, and its ids, 0 below it."""
+    ids = [] if text == "v" else text.split(".")
+    return number(1, len(ids)) + rid(".".join([*ids, "0", "0", "0"][:3]))
+
+
+def prepare(txn, previous, name, granules):
+    return record(PREPARE, txn, previous, number(1, len(name)) + name + number(4, len(granules)) + b"".join(map(granule, granules)))
 
 
 def frame(first, records):
@@ -176,6 +187,21 @@ class Text:
         demand(len(content or b"") <= 4_000, f"an image has {len(content or b'')} bytes")
         return content
 
+    def granule(self):
+        level, ids = self.number(1), (self.number(4), self.number(4), self.number(2))
+        demand(level <= 3 and not any(ids[level:]), f"a granule has the level {level} and the ids {ids}")
+        return (level, *ids)
+
+    def prepare(self):
+        length = self.number(1)
+        name = self.take(length)
+        demand(1 <= length <= MOST_OF_A_NAME, f"a global id has {length} bytes")
+        count = self.number(4)
+        demand(count <= MOST_GRANULES, f"a Prepare has {count} granules")
+        granules = [self.granule() for _ in range(count)]
+        demand(all(a < b for a, b in zip(granules, granules[1:])), "the granules of a Prepare do not rise")
+        return name, granules
+
     def record(self):
         kind, txn, previous = self.number(1), self.number(8), self.number(8)
         payload = Text(self.take(self.number(4)))
@@ -183,11 +209,12 @@ class Text:
         before = payload.image() if kind == CHANGE else None
         after = payload.image() if at else None
         following = payload.number(8) if kind == COMPENSATION else None
-        demand(CHANGE <= kind <= END, f"a record has the kind {kind}")
+        name, granules = payload.prepare() if kind == PREPARE else (None, None)
+        demand(CHANGE <= kind <= ROLLBACK_DECIDED, f"a record has the kind {kind}")
         demand(txn > 0, "a record has the transaction 0")
         demand(not payload.rest, f"{len(payload.rest)} bytes of a record's payload belong to nothing")
         demand(kind != CHANGE or before is not None or after is not None, "a Change has no image")
-        return Record(kind, txn, previous, at, before, after, following)
+        return Record(kind, txn, previous, at, before, after, following, name, granules)
 
 
 def read_frame(log, at, first):
@@ -251,34 +278,47 @@ class Opening:
         self.log, self.volume, self.shown = log, volume, {}
         # The records that are done again, by their numbers, and the numbers of the changes that are undone, by their transactions.
         self.redone, self.undone = [], {}
+        # Those in doubt, in the order of their Prepares, and the locks that are given back to them: by granule and transaction.
+        self.doubts, self.locks = [], {}
         try:
             self.open()
             self.lines = ["opened", *self.dumped()]
+            has_failed = any(it.startswith("fault") for it in self.lines)
+            self.lines_of_doubts = ["1: fault 24 Failed", "fault 24 Failed"] if has_failed else self.told_in_doubt()
         except Refused as refusal:
             self.lines, self.why = [f"open fault {refusal}", "fault 24 Failed"], refusal.why
+            self.lines_of_doubts = ["1: fault 24 Failed", "fault 24 Failed"]
 
     def open(self):
         of_log = read_label("log", self.log)
         if of_log != read_label("volume", self.volume):
             raise Refused("30 WrongPair")
-        self.stores = of_log[2]
+        _, self.most_locks, self.stores = of_log
         self.places = places_of(self.stores)
         anchor_at = read_anchors(self.log)
         self.records, self.end = read_frames(self.log)
         self.replay()
         self.last, self.unanswered = {}, collections.defaultdict(list)
+        # The number of the Prepare of each transaction that has one, and those that have a RollbackDecided.
+        self.prepared, self.decided = {}, set()
         for count, (at, read) in enumerate(self.records, 1):
-            if not self.is_meant(read):
+            if not self.is_meant(count, read):
                 raise damaged("log", at, f"record {count} does not go with those before it, or with the volume")
             self.note(count, read)
-        # Each record takes of the room what it would in a frame of its own.
-        if self.end - STREAM_AT + 13 * (len(self.records) - len({at for at, _ in self.records})) + LONGEST_FRAME > len(self.log) - STREAM_AT:
+        self.doubts = sorted((it for it in self.prepared if it not in self.decided and self.last[it] > 0), key=self.prepared.get)
+        for index, txn in enumerate(self.doubts):
+            self.give_back_locks(txn, [self.prepare_of(it).name for it in self.doubts[:index]])
+        # Each record takes of the room what it would in a frame of its own; and for each in doubt its undo is reserved for, and two records more.
+        reserved = sum(68 + sum(52 + self.cost_of_image(self.records[it - 1][1].before) for it in self.unanswered[txn]) for txn in self.doubts)
+        kept = self.end - STREAM_AT + 13 * (len(self.records) - len({at for at, _ in self.records}))
+        if kept + reserved + LONGEST_FRAME > len(self.log) - STREAM_AT:
             raise damaged("log", anchor_at, "the records leave no room for the longest frame")
         for count, (at, read) in enumerate(self.records, 1):
             if read.at and self.page(read.at)[0] < count:
                 self.put(count, at, read)
                 self.redone.append(count)
         self.undo()
+        self.keep_claims()
 
     def replay(self):
         """Lays the images of an open area into place."""
@@ -307,11 +347,36 @@ class Opening:
         except NoText as why:
             raise damaged("volume", offset, str(why)) from None
 
-    def is_meant(self, read):
+    @staticmethod
+    def cost_of_image(content):
+        return 1 if content is None else 3 + len(content)
+
+    def prepare_of(self, txn):
+        return self.records[self.prepared[txn] - 1][1]
+
+    def has(self, granule):
+        """Whether the volume has a granule."""
+        level, store, index, slot = granule
+        return level == 0 or store < len(self.stores) and (level == 1 or index < self.stores[store] and (level == 2 or slot < MOST_SLOTS))
+
+    def is_covered(self, at, granules):
+        """Whether a record is one of these granules, or lies in one."""
+        return any(it in granules for it in [(3, *at), (2, *at[:2], 0), (1, at[0], 0, 0), (0, 0, 0, 0)])
+
+    def is_meant(self, count, read):
         """Whether a record means what it has to, behind those that were noted."""
         if read.txn >= 2**62 or read.previous != self.last.get(read.txn, 0):
             return False
         if read.at and (read.at[:2] not in self.places or read.at[2] >= MOST_SLOTS):
+            return False
+        is_prepared, is_decided = read.txn in self.prepared, read.txn in self.decided
+        if read.kind == PREPARE:
+            changed = [it.at for _, it in self.records[: count - 1] if it.txn == read.txn and it.kind == CHANGE]
+            return not is_prepared and all(map(self.has, read.granules)) and all(self.is_covered(it, set(read.granules)) for it in changed)
+        if read.kind == ROLLBACK_DECIDED:
+            return is_prepared and not is_decided
+        # Behind a Prepare comes a decision, and behind one to roll back only that.
+        if is_prepared and read.kind not in ((COMPENSATION, END) if is_decided else (COMMIT,)):
             return False
         changes = self.unanswered[read.txn]
         if read.kind == COMPENSATION:
@@ -326,6 +391,47 @@ class Opening:
             self.unanswered[read.txn].append(count)
         elif read.kind == COMPENSATION:
             self.unanswered[read.txn].pop()
+        elif read.kind == PREPARE:
+            self.prepared[read.txn] = count
+        elif read.kind == ROLLBACK_DECIDED:
+            self.decided.add(read.txn)
+
+    def give_back_locks(self, txn, names):
+        """EX on each granule of a Prepare, and IX above it; or that Prepare is refused."""
+        at, read = self.records[self.prepared[txn] - 1]
+        if read.name in names:
+            raise damaged("log", at, f"two in doubt have the global id {read.name.hex()}")
+        for level, *ids in read.granules:
+            for above in range(level + 1):
+                granule = (above, *ids[:above], *[0] * (3 - above))
+                modes = self.locks.setdefault(granule, {})
+                mode = "EX" if above == level or modes.get(txn) == "EX" else "IX"
+                if any("EX" in (mode, held) for other, held in modes.items() if other != txn):
+                    raise damaged("log", at, f"two in doubt cannot both hold {granule}")
+                modes[txn] = mode
+        if sum(map(len, self.locks.values())) > self.most_locks:
+            raise damaged("log", at, f"those in doubt need more than {self.most_locks} lock nodes")
+
+    def keep_claims(self):
+        """Each page keeps what those in doubt may put back, and has to have the room."""
+        claims = collections.defaultdict(int)
+        for number_of_change in (it for txn in self.doubts for it in self.unanswered[txn]):
+            at, read = self.records[number_of_change - 1]
+            slots = self.page(read.at)[1]
+            least = [max(len(it or b""), claims[*read.at[:2], slot]) for slot, it in enumerate(slots)]
+            slot, wanted = read.at[2], len(read.before or b"")
+            if slot >= len(slots) or wanted - least[slot] > PAGE - 24 - 4 * len(slots) - sum(least):
+                raise damaged("log", at, f"what record {number_of_change} put away has no room on its page")
+            claims[read.at] = max(claims[read.at], wanted)
+
+    def told_in_doubt(self):
+        """What 'indoubt' of session 1 and 'locks' print."""
+        names = sorted((self.prepare_of(txn).name, txn) for txn in self.doubts)
+        lines = [f"1: indoubt {len(names)}", *(f"{name.hex()} {txn}" for name, txn in names)]
+        held = [(granule, txn, mode) for granule, modes in self.locks.items() for txn, mode in modes.items()]
+        for (level, *ids), txn, mode in sorted(held):
+            lines.append(f"{'.'.join(map(str, ids[:level])) or 'v'} {txn} {mode}")
+        return lines if held else [*lines, "no locks"]
 
     def page(self, at):
         """The number and the slots of a page, as it is in memory."""
@@ -350,7 +456,7 @@ class Opening:
 
     def undo(self):
         """Undoes the one loser that the logs of this script have at most, and puts the records of that behind the others."""
-        losers = [txn for txn, last in self.last.items() if last > 0]
+        losers = [txn for txn, last in self.last.items() if last > 0 and txn not in self.doubts]
         texts = []
         self.undone = {txn: self.unanswered[txn][::-1] for txn in losers}
         for txn in losers:

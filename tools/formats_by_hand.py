@@ -1,5 +1,5 @@
 """What scripts have to leave in both files, worked by hand: the rows of tools/check-formats."""
-from formats import COMMIT, END, OPEN, Geometry, anchor, change, compensation, frame, label, page, record, volume_file
+from formats import COMMIT, END, OPEN, ROLLBACK_DECIDED, Geometry, anchor, change, compensation, frame, label, page, prepare, record, volume_file
 
 # Bytes worked by hand, on which what is made above is tried first.
 TWO_STORES = Geometry(7, 135_168, 1_024, [2, 3])
@@ -16,6 +16,13 @@ BY_HAND = [
     (compensation(258, 5, "3.2.1", None, 0), "02 0201000000000000 0500000000000000 13000000 03000000 02000000 0100 00 0000000000000000"),
     (record(COMMIT, 1, 1), "03 0100000000000000 0100000000000000 00000000"),
     (record(END, 258, 6), "04 0201000000000000 0600000000000000 00000000"),
+    (prepare(1, 1, b"g1", ["0.0.0"]), "05 0100000000000000 0100000000000000 12000000 02 6731 01000000 03 00000000 00000000 0000"),
+    (
+        prepare(258, 7, b"\0", ["v", "2", "3.1", "3.2.1"]),
+        "05 0201000000000000 0700000000000000 32000000 01 00 04000000"
+        "00 00000000 00000000 0000 01 02000000 00000000 0000 02 03000000 01000000 0000 03 03000000 02000000 0100",
+    ),
+    (record(ROLLBACK_DECIDED, 258, 8), "06 0201000000000000 0800000000000000 00000000"),
     (frame(3, [record(COMMIT, 1, 1)]), "a5 15000000 0300000000000000 03 0100000000000000 0100000000000000 00000000"),
     (page((0, 0))[:24], "00000000 00000000 0000000000000000 0000 0020 00000000"),
     (page((3, 2), 7, [(24, 1), (25, 2)], [(24, b"\xaa\xbb\xcc")])[:28], "03000000 02000000 0700000000000000 0200 f81f 00000000 aabbcc 00"),
@@ -163,6 +170,32 @@ KINDS_FRAMES = [
     ],
 ]
 
+# One that is prepared and rolled back, one that is prepared with nothing and committed, and one that stays in doubt.
+DOUBTS = """1 begin -> 1: began 1
+1 insert 0 aa -> 1: at 0.0.0
+1 commit -> 1: committed
+1 begin -> 1: began 2
+1 update 0.0.0 bbcc -> 1: ok
+1 insert 1 dd -> 1: at 1.0.0
+1 lock 1.1 EX -> 1: ok
+1 prepare 6731 -> 1: prepared
+2 begin -> 2: began 3
+2 prepare 00 -> 2: prepared
+3 resolve 6731 abort -> 3: resolved
+3 resolve 00 commit -> 3: resolved
+4 begin -> 4: began 4
+4 insert 1 ee -> 4: at 1.0.0
+4 prepare 6731 -> 4: prepared
+"""
+DOUBTS_FRAMES = [
+    [change(1, 0, "0.0.0", None, b"\xaa"), record(COMMIT, 1, 1)],
+    [change(2, 0, "0.0.0", b"\xaa", b"\xbb\xcc"), change(2, 3, "1.0.0", None, b"\xdd"), prepare(2, 4, b"g1", ["1.1", "0.0.0", "1.0.0"])],
+    [prepare(3, 0, b"\0", [])],
+    [record(ROLLBACK_DECIDED, 2, 5), compensation(2, 7, "1.0.0", None, 3), compensation(2, 8, "0.0.0", b"\xaa", 0), record(END, 2, 9)],
+    [record(COMMIT, 3, 6)],
+    [change(4, 0, "1.0.0", None, b"\xee"), prepare(4, 12, b"g1", ["1.0.0"])],
+]
+
 # Two pages in one batch, and then one alone: the second image stays in the area.
 PAIR = "1 begin -> 1: began 1\n1 insert 0 aa -> 1: at 0.0.0\n1 insert 1 bb -> 1: at 1.0.0\n1 commit -> 1: committed\nflush -> flushed 2\n"
 PAIR_FRAME = [change(1, 0, "0.0.0", None, b"\xaa"), change(1, 1, "1.0.0", None, b"\xbb"), record(COMMIT, 1, 2)]
@@ -196,6 +229,7 @@ WRITTEN = [
     ("records moved together", SMALL, MOVED, MOVED_FRAMES, {0: MOVED_PAGE}, [0], [MOVED_PAGE]),
     ("records moved together for a new slot", SMALL, MOVED + NEW_SLOT, MOVED_FRAMES + NEW_SLOT_FRAMES, {0: NEW_SLOT_PAGE}, [0], [NEW_SLOT_PAGE]),
     ("each kind of record", SMALL, KINDS, KINDS_FRAMES, {}, [], []),
+    ("prepared transactions", SMALL, DOUBTS, DOUBTS_FRAMES, {}, [], []),
     ("two pages", SMALL, PAIR, [PAIR_FRAME], {0: PAIR_PAGES[0], 1: PAIR_PAGES[1]}, [0, 1], PAIR_PAGES),
     ("two pages and then one", SMALL, PAIR + ONE, [PAIR_FRAME, ONE_FRAME], {0: PAIR_PAGES[0], 1: ONE_PAGE}, [1], [ONE_PAGE, PAIR_PAGES[1]]),
     ("33 pages", MANY, BATCHES, [BATCHES_FRAME], dict(enumerate(BATCHES_PAGES)), [32], [BATCHES_PAGES[32], *BATCHES_PAGES[1:32]]),

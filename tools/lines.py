@@ -29,6 +29,8 @@ WORDS = {
     "GRANULE": (lambda it: it == "v" or any(are_numbers(it, count) for count in (1, 2, 3)), "v (the volume), STORE, STORE.PAGE or STORE.PAGE.SLOT"),
     "MODE": (lambda it: it in MODES, f"one of {', '.join(MODES)}"),
     "BYTES": (are_bytes, "pairs of the digits 0 to 9 and a to f, HH*N for N times one byte, or - for none"),
+    "GLOBAL": (lambda it: bool(re.fullmatch("([0-9a-f]{2})+", it)), "a global id: pairs of the digits 0 to 9 and a to f"),
+    "OUTCOME": (lambda it: it in ("commit", "abort"), "commit or abort"),
     "N": (lambda it: is_number(it, 2**64 - 1), "a number, such as 0"),
     "DEVICE": (lambda it: it in ("log", "volume"), "log or volume"),
     "PICK": (lambda it: it in ("old", "new", "noise"), "old, new or noise"),
@@ -49,6 +51,9 @@ CALLS = [
     ("back N", "puts back what was changed since savepoint N"),
     ("commit", "ends the transaction; its changes are durable once this is answered"),
     ("abort", "ends the transaction; its changes are put back"),
+    ("prepare GLOBAL", "makes it durable and undecided, by a name of its coordinator's"),
+    ("resolve GLOBAL OUTCOME", "decides one that is prepared, from any session in no other"),
+    ("indoubt", "those that are prepared and undecided"),
 ]
 OTHERS = [
     ("dump", "every record in place"),

@@ -1,4 +1,5 @@
 """A pair of files, and transactions on it until its program is killed: for check-kills and check-power. What fails says so by an exit."""
+import collections
 import random
 import threading
 
@@ -8,6 +9,8 @@ LONGEST_RUN = 0.3
 # More pages than frames, so that pages are written back to make room for others.
 STORES = 12
 SETTINGS = f'devices = "files"\nlog_path = "log"\nvolume_path = "volume"\nlog_bytes = 300000\nstores = {[1] * STORES}\npool = 8\n'
+# The session that resolves, and how many are in doubt at once.
+RESOLVER, MOST_IN_DOUBT = 901, 4
 
 
 class Failure(Exception):
@@ -31,11 +34,13 @@ class Pair:
         return run.end().split("\n")[:-1]
 
     def dump(self, is_anew=False):
-        """What an open shows: each record by its id."""
-        lines = self.output(is_anew, ["dump"])
+        """What an open shows: each record by its id, and the names of those in doubt."""
+        lines = self.output(is_anew, ["1 indoubt", "dump"])
         if not lines or any("fault" in line for line in lines):
             raise Failure(f"the pair is not opened: {lines}")
-        return {} if lines == ["empty"] else dict(line.split(" ") for line in lines)
+        count = int(lines[0].removeprefix("1: indoubt "))
+        names, records = lines[1 : count + 1], lines[count + 1 :]
+        return {} if records == ["empty"] else dict(line.split(" ") for line in records), [name.split(" ")[0] for name in names]
 
 
 def kill_later(run, seconds):
@@ -51,59 +56,122 @@ def write_back(run):
             raise Failure(f"{line} was refused")
 
 
+# What is committed, and for each one in doubt, by its name, what it has written: none for what it took away.
+State = collections.namedtuple("State", "records doubts")
+
+
+def overlaid(records, writes):
+    """The records with these written over them."""
+    return {key: found for key, found in {**records, **writes}.items() if found is not None}
+
+
+def shown(state):
+    """What a dump shows of a state, and who is in doubt in it."""
+    if state is None:
+        return None
+    records = state.records
+    for writes in state.doubts.values():
+        records = overlaid(records, writes)
+    return records, sorted(state.doubts)
+
+
 class Stream:
-    """Transactions, and what they come to."""
+    """Transactions, some of which are prepared, and what they come to."""
 
     def __init__(self, seed):
         self.chance = random.Random(seed)
         self.is_full = False
         self.number = 0
-        self.start({})
+        self.state = self.next = None
+        self.start(({}, []))
 
-    def start(self, records):
-        self.committed = dict(records)
-        self.asked = None
+    @property
+    def committed(self):
+        """What an open has to show, unless it shows what was asked and not acknowledged."""
+        return shown(self.state)
+
+    @property
+    def asked(self):
+        return shown(self.next)
+
+    def start(self, found):
+        """An open has shown this: it is one of both, or a pair made anew."""
+        known = [state for state in (self.state, self.next) if shown(state) == found]
+        self.state, self.next = known[0] if known else State(found[0], {}), None
+        self.session = 1
 
     def new_bytes(self):
         self.number += 1
         return f"{self.number:08x}" * self.chance.randint(1, 20)
 
-    def change(self, run, records):
-        """One change, and its answer. Records that were acknowledged are changed as often as new ones come."""
-        kind = self.chance.choice(["insert", "insert", "update", "delete"]) if records else "insert"
-        if kind == "insert":
-            found = self.new_bytes()
-            said = run.ask(f"1 insert {self.chance.randrange(STORES)} {found}")
-            key = said.removeprefix("1: at ")
-        else:
-            key = self.chance.choice(sorted(records))
-            found = self.new_bytes() if kind == "update" else ""
-            said = run.ask(f"1 {kind} {key} {found}".rstrip())
+    def change(self, run, writes):
+        """One change, and its answer. Records that were acknowledged are changed as often as new ones come; none of those that one in doubt has locked."""
+        locked = {key for others in self.state.doubts.values() for key in others}
+        records = overlaid(self.state.records, writes)
+        free = sorted(set(records) - locked)
+        kind = self.chance.choice(["insert", "insert", "update", "delete"]) if free else "insert"
+        found = None if kind == "delete" else self.new_bytes()
+        key = self.chance.choice(free) if kind != "insert" else str(self.chance.randrange(STORES))
+        said = run.ask(f"{self.session} {kind} {key} {found or ''}".rstrip())
         if "fault" in said:
             self.is_full = self.is_full or "LogFull" in said
-        elif kind == "delete":
-            del records[key]
+            if kind != "insert":
+                # The record stays locked, as if it was written as it is.
+                writes[key] = records[key]
         else:
-            records[key] = found
+            writes[said.removeprefix(f"{self.session}: at ") if kind == "insert" else key] = found
+
+    def demand(self, run, line, wanted):
+        said = run.ask(line)
+        if said != wanted:
+            raise Failure(f"{line!r} was answered by {said!r}")
+
+    def decide(self, run):
+        """A resolve of one in doubt, from the session of another transaction or of none."""
+        name = self.chance.choice(sorted(self.state.doubts))
+        others = {key: writes for key, writes in self.state.doubts.items() if key != name}
+        is_commit = self.chance.random() < 0.5
+        records = overlaid(self.state.records, self.state.doubts[name]) if is_commit else self.state.records
+        self.next = State(records, others)
+        self.demand(run, f"{RESOLVER} resolve {name} {'commit' if is_commit else 'abort'}", f"{RESOLVER}: resolved")
+        self.state, self.next = self.next, None
+        return 1
+
+    def prepare(self, run, writes):
+        """The session stays in its transaction until that is decided, so another one goes on."""
+        name = f"{self.chance.randrange(2**16):04x}{self.number:08x}"
+        self.next = State(self.state.records, {**self.state.doubts, name: writes})
+        said = run.ask(f"{self.session} prepare {name}")
+        if "LogFull" in said:
+            self.is_full, self.next = True, None
+            self.demand(run, f"{self.session} abort", f"{self.session}: aborted")
+            return 0
+        if said != f"{self.session}: prepared":
+            raise Failure(f"a prepare was answered by {said!r}")
+        self.state, self.next = self.next, None
+        self.session = self.session % (RESOLVER - 1) + 1
+        return 1
 
     def transaction(self, run):
-        """One transaction. Answers whether it was acknowledged."""
-        if "LogFull" in run.ask("1 begin"):
+        """One transaction, behind a resolve of another at times. Answers how many decisions were acknowledged."""
+        count = self.decide(run) if self.state.doubts and self.chance.random() < 0.4 else 0
+        if "LogFull" in run.ask(f"{self.session} begin"):
             self.is_full = True
-            return False
-        records = dict(self.committed)
+            return count
+        writes = {}
         for _ in range(self.chance.randint(1, 8)):
-            self.change(run, records)
+            self.change(run, writes)
             if self.chance.random() < 0.2:
                 write_back(run)
-        self.asked = records
-        if run.ask("1 commit") != "1: committed":
-            raise Failure("a commit was refused")
-        self.committed, self.asked = records, None
-        return True
+        if len(self.state.doubts) < MOST_IN_DOUBT and self.chance.random() < 0.3:
+            return count + self.prepare(run, writes)
+        self.next = State(overlaid(self.state.records, writes), self.state.doubts)
+        self.demand(run, f"{self.session} commit", f"{self.session}: committed")
+        self.state, self.next = self.next, None
+        return count + 1
 
     def run_until_killed(self, pair):
-        """Answers how many commits were acknowledged."""
+        """Answers how many decisions were acknowledged."""
         run = pair.run()
         timer = kill_later(run, self.chance.uniform(0, LONGEST_RUN))
         count = 0

@@ -2,17 +2,17 @@
 ghost use Rattle.std.specs.Prelude.{◌≤◌};
 
 use crate::manager::{FRAMES, LAST_SESSION, Manager, Pair, SESSION, new_manager, opened};
-use crate::waiting;
+use crate::{preparing, waiting};
 use bench_parts::host::Host;
 use bench_parts::layout::STORE;
 use bench_parts::records::record_of;
 use shore_disk::Pick;
-use shore_model::Call;
+use shore_model::{Call, Outcome};
 use shore_types::{Granule, Mode, SessionId};
 use std::io;
 
 /// All works with a manager in memory, by their names.
-pub const WORKS: [(&str, Work); 17] = [
+pub const WORKS: [(&str, Work); 23] = [
     ("call_get", Work::Call(Kind::Get, 1_000, None)),
     (
         "call_get_beside",
@@ -39,6 +39,27 @@ pub const WORKS: [(&str, Work); 17] = [
     ("call_commit", Work::Call(Kind::Nothing, 0, None)),
     ("call_abort", Work::Abort),
     ("call_open", Work::Open),
+    ("call_open_in_doubt", Work::OpenInDoubt),
+    (
+        "call_ended",
+        Work::Preparing(preparing::Work::Ended(Outcome::Commit)),
+    ),
+    (
+        "call_prepared",
+        Work::Preparing(preparing::Work::Prepared(Outcome::Commit)),
+    ),
+    (
+        "call_rolled_back",
+        Work::Preparing(preparing::Work::Prepared(Outcome::Abort)),
+    ),
+    (
+        "call_in_doubt_64",
+        Work::Preparing(preparing::Work::InDoubt(64)),
+    ),
+    (
+        "call_in_doubt_256",
+        Work::Preparing(preparing::Work::InDoubt(256)),
+    ),
     ("call_let_through", Work::Waiting(waiting::Work::LetThrough)),
     ("call_wait", Work::Waiting(waiting::Work::Wait)),
     ("call_victims", Work::Waiting(waiting::Work::Victims)),
@@ -73,6 +94,10 @@ pub enum Work {
     Abort,
     /// An open of what a crash left of one transaction with so many inserts as there are rounds: a round is a record.
     Open,
+    /// An open of what a crash left of as many prepared transactions as there are rounds, and 256 at most: a round is one with forty inserts.
+    OpenInDoubt,
+    /// What is measured of a round of transactions of one update, or of those in doubt.
+    Preparing(preparing::Work),
     /// What is measured of a round of sessions that wait for one another.
     Waiting(waiting::Work),
 }
@@ -143,6 +168,11 @@ fn prepare(manager: &mut Manager, work: Work, rounds: u64) -> bool {
                 is_ready &= manager.has_answered(SessionId(number), lock);
             }
         }
+        Work::OpenInDoubt => {
+            let sessions = u32::try_from(rounds).unwrap_or(LAST_SESSION);
+            is_ready &= preparing::prepare_each(manager, sessions, preparing::CHANGES_OF_EACH);
+        }
+        Work::Preparing(work) => is_ready &= preparing::prepare(manager, work),
         Work::Waiting(work) => is_ready &= waiting::prepare(manager, work),
     }
     is_ready
@@ -154,7 +184,10 @@ pub fn measured(host: &Host, work: Work, rounds: u64) -> (u64, u64) {
     let (pages, records) = match work {
         Work::Call(Kind::Scan, records, _) => (16, records),
         Work::Call(_, records, _) => (4_096, records),
-        Work::Abort => (4_096, 1_000),
+        Work::Abort | Work::Preparing(preparing::Work::Ended(_) | preparing::Work::Prepared(_)) => {
+            (4_096, 1_000)
+        }
+        Work::Preparing(preparing::Work::InDoubt(_)) | Work::OpenInDoubt => (4_096, 0),
         Work::Open => (4_096, rounds),
         Work::Waiting(_) => (16, 2),
     };
@@ -167,12 +200,14 @@ pub fn measured(host: &Host, work: Work, rounds: u64) -> (u64, u64) {
         _ if !is_ready => (0, 0),
         Work::Call(kind, _, _) => measured_rounds(host, &mut manager, kind, rounds),
         Work::Abort => measured_abort(host, &mut manager, rounds),
+        Work::Preparing(work) => preparing::measured(host, &mut manager, work, rounds),
         Work::Waiting(work) => waiting::measured(host, &mut manager, work, rounds),
-        Work::Open => (0, 0),
+        Work::Open | Work::OpenInDoubt => (0, 0),
     };
     let pair = manager.into_devices();
     match work {
         Work::Open => measured_open(host, pair, rounds),
+        Work::OpenInDoubt => measured_open_in_doubt(host, pair, rounds),
         _ => measured,
     }
 }
@@ -220,4 +255,20 @@ fn measured_open(host: &Host, pair: Pair, rounds: u64) -> (u64, u64) {
         Ok(records) => (nanos, records.len() as u64),
         Err(_) => (nanos, 0),
     }
+}
+
+// The same, with how many are in doubt.
+fn measured_open_in_doubt(host: &Host, pair: Pair, rounds: u64) -> (u64, u64) {
+    let (mut log, mut volume) = pair;
+    log.crash(Pick::Old);
+    volume.crash(Pick::Old);
+    let start = host.nanos();
+    let opened = opened(host.alloc(), (log, volume), FRAMES);
+    let nanos = host.nanos_of_a_round(start, rounds);
+    let Ok(manager) = opened else {
+        return (nanos, 0);
+    };
+    let in_doubt = manager.world.report().in_doubt;
+    manager.into_devices();
+    (nanos, in_doubt)
 }

@@ -6,6 +6,7 @@
 mod calls;
 mod files;
 mod manager;
+mod preparing;
 mod waiting;
 
 use bench_parts::host::Host;

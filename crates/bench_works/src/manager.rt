@@ -83,6 +83,11 @@ impl Manager {
         Box::into_inner(world).into_devices()
     }
 
+    /// What gives it memory.
+    pub fn alloc(&self) -> Global {
+        self.alloc
+    }
+
     /// The records in place.
     pub fn records(&mut self) -> Result<Pairs, Fault> {
         self.world.dump(self.alloc, STORE)
@@ -121,8 +126,13 @@ impl Manager {
 
     /// An insert of the session that is measured.
     pub fn insert(&mut self) -> Result<bool, Fault> {
+        self.insert_of(SESSION)
+    }
+
+    /// An insert of a session.
+    pub fn insert_of(&mut self, session: SessionId) -> Result<bool, Fault> {
         let call = Call::Insert(STORE, hundred_bytes(self.alloc)?);
-        self.ask(SESSION, call)
+        self.ask(session, call)
     }
 
     /// A session's update of one of the first thousand records.

@@ -8,8 +8,10 @@ mod chances;
 mod crashes;
 mod cuts;
 mod deadlocks;
+mod decided;
 mod devices;
 mod doings;
+mod doubts;
 mod failures;
 mod interleaved;
 mod judged_locks;
@@ -18,12 +20,15 @@ mod lives;
 mod lock_lists;
 mod log_copies;
 mod losses;
+mod prepared_lists;
+mod prepared_together;
+mod prepares;
 mod rollbacks;
 mod short_histories;
 mod together;
 mod trouble;
 
-use doings::{DELETE, Doing, INSERT, Turn};
+use doings::{DELETE, Doing, EACH, INSERT, Turn};
 use failures::check_failures;
 use lists::{Counts, Plan, check_lists};
 use shore_disk::Pick;
@@ -124,6 +129,7 @@ fn on_an_empty_log(rt: HostRuntime) -> Result<(), Fail> {
             name: "on an empty log",
             is_on_a_record: false,
             before: &[],
+            each: &EACH,
             longest: LONGEST,
             cut_behind: 2,
             wanted: Counts {
@@ -143,6 +149,7 @@ fn in_a_transaction(rt: HostRuntime) -> Result<(), Fail> {
             name: "in a transaction",
             is_on_a_record: true,
             before: &A_TRANSACTION,
+            each: &EACH,
             longest: LONGEST,
             cut_behind: 2,
             wanted: Counts {
@@ -162,6 +169,7 @@ fn with_a_commit_under_way(rt: HostRuntime) -> Result<(), Fail> {
             name: "with a commit under way",
             is_on_a_record: true,
             before: &A_COMMIT_UNDER_WAY,
+            each: &EACH,
             longest: LONGEST,
             cut_behind: 2,
             wanted: Counts {
@@ -181,6 +189,7 @@ fn with_a_change_written_back(rt: HostRuntime) -> Result<(), Fail> {
             name: "with a change written back",
             is_on_a_record: true,
             before: &A_CHANGE_WRITTEN_BACK,
+            each: &EACH,
             longest: LONGEST,
             cut_behind: 2,
             wanted: Counts {
@@ -200,6 +209,7 @@ fn with_changes_in_all_frames(rt: HostRuntime) -> Result<(), Fail> {
             name: "with changes in all frames",
             is_on_a_record: false,
             before: &CHANGES_IN_ALL_FRAMES,
+            each: &EACH,
             longest: LONGEST,
             cut_behind: 1,
             wanted: Counts {
@@ -219,6 +229,7 @@ fn with_a_victim_to_tell(rt: HostRuntime) -> Result<(), Fail> {
             name: "with a victim to tell",
             is_on_a_record: true,
             before: &A_VICTIM_TO_TELL,
+            each: &EACH,
             longest: 1,
             cut_behind: 1,
             wanted: Counts {
@@ -238,6 +249,7 @@ fn with_an_abort_begun(rt: HostRuntime) -> Result<(), Fail> {
             name: "with an abort begun",
             is_on_a_record: false,
             before: &AN_ABORT_BEGUN,
+            each: &EACH,
             longest: 2,
             cut_behind: 1,
             wanted: Counts {

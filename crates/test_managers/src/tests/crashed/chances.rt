@@ -1,7 +1,8 @@
 //! Choices that look like chance, from a seed.
 use super::devices::{Calls, NO_FUSES};
-use super::doings::{Depth, Doing, Place, STORES};
+use super::doings::{Depth, Doing, Name, Place, STORES};
 use shore_disk::Pick;
+use shore_model::Outcome;
 use shore_types::Mode;
 
 /// Where the choices come from. Each seed has its own.
@@ -118,6 +119,45 @@ impl Chance {
             21 | 22 => Doing::ForceOpen,
             23 => Doing::FlushStep,
             _ => self.saving(),
+        }
+    }
+
+    /// What a session does about prepared transactions in its turn, if anything: most prepare in a transaction, and decide in none or in one that is prepared.
+    pub(super) fn doing_about_prepared(
+        &mut self,
+        is_in_transaction: bool,
+        is_prepared: bool,
+    ) -> Option<Doing> {
+        let seldom = match (is_in_transaction, is_prepared) {
+            (_, true) => 2,
+            (true, false) => 9,
+            (false, false) => 3,
+        };
+        if self.below(seldom) > 0 {
+            return None;
+        }
+        let prepares = is_in_transaction && !is_prepared;
+        Some(match self.below(12) {
+            0 => Doing::InDoubt,
+            1 => Doing::Resolve(self.name(), self.outcome()),
+            2 => Doing::Prepare(self.name()),
+            _ if prepares => Doing::Prepare(self.name()),
+            _ => Doing::Resolve(self.name(), self.outcome()),
+        })
+    }
+
+    // One of a few, of which seldom none is no name.
+    fn name(&mut self) -> Name {
+        match self.below(25) {
+            0 => None,
+            number => Some(u8::try_from(number % 6).unwrap_or(0)),
+        }
+    }
+
+    fn outcome(&mut self) -> Outcome {
+        match self.below(2) {
+            0 => Outcome::Commit,
+            _ => Outcome::Abort,
         }
     }
 

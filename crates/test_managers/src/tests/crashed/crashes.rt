@@ -1,17 +1,19 @@
 //! What a crash leaves of a manager, judged by the slow functions alone.
 use super::devices::{Devices, Manager, NO_FUSES, cut_off};
 use super::doings::{ONE_COMMIT, STORES};
+use super::doubts::{check_given_back, opening_of};
 use super::lives::{Ground, Life, Pair, Past, live};
 use super::log_copies::copy_of_log;
+use super::short_histories::decision_of;
 use super::trouble::{Trouble, require, require_all};
 use shore_disk::Pick;
-use shore_model::{Decision, Entry, LogRecord, Opening, Payload, RidMap};
-use shore_types::{Bytes, Fault, Pairs, Sequence, StoreId};
+use shore_model::{Decision, LogRecord, Payload, RidMap};
+use shore_types::{Bytes, Fault, Pairs, StoreId};
 use slow_histories::decisions::is_kept;
 use slow_histories::replays::{serial_records, shown_records};
 use slow_logs::lawful_logs::is_lawful;
 use slow_logs::recovered_records::records_told;
-use slow_logs::transaction_records::is_over;
+use slow_logs::transaction_records::{is_in_doubt, is_over};
 use std::alloc::{AllocError, Global};
 
 /// Opens what a loss of power has left of the devices, and checks what is there.
@@ -49,8 +51,11 @@ fn check_opened(
         report.read as usize,
         report.undone,
     )?;
-    let is_shown = are_in_place(alloc, world, &told.opening.records)?;
+    let in_doubt = told.opening.in_doubt.as_slice().len() as u64;
+    require(report.in_doubt == in_doubt, "not so many in doubt")?;
+    let is_shown = are_in_place(alloc, world, &told.shown)?;
     require(is_shown, "the dump was refused")?;
+    check_given_back(alloc, world, &told.found, &told.opening)?;
     Ok(told)
 }
 
@@ -64,15 +69,13 @@ fn check_log(
     undone: u64,
 ) -> Result<Ground, Trouble> {
     check_found(alloc, past, found, read, undone)?;
-    let records = records_told(alloc, found)?;
-    check_kept(alloc, ground, past, found, &records)?;
+    let shown = records_told(alloc, found)?;
+    let opening = opening_of(alloc, found)?;
+    check_kept(alloc, ground, past, found, &opening.records, &shown)?;
     let found = copy_of_log(alloc, found, &[])?;
-    let opening = Opening {
-        records,
-        in_doubt: Sequence::new(alloc),
-    };
     Ok(Ground {
         opening,
+        shown,
         found,
         read,
     })
@@ -113,42 +116,34 @@ fn count_undone(records: &[LogRecord]) -> Result<u64, Trouble> {
     Ok(undone)
 }
 
-// Each transaction is over.
+// Each transaction is over, or in doubt.
 fn are_over(records: &[LogRecord]) -> bool {
     for logged in records {
-        if !is_over(records, logged.txn) {
+        if !is_over(records, logged.txn) && !is_in_doubt(records, logged.txn) {
             return false;
         }
     }
     true
 }
 
-// The decisions are kept ones, and the records are those that they come to: these are the Commits that the list has gained.
+// The decisions are kept ones, and the records are those that they come to: these are the decisions whose records the list has gained.
 fn check_kept(
     alloc: Global,
     ground: &Ground,
     past: &Past,
     found: &[LogRecord],
+    committed: &RidMap<Bytes>,
     shown: &RidMap<Bytes>,
 ) -> Result<(), Trouble> {
     let Some(gained) = found.get(ground.found.len()..) else {
         return Err(Trouble("a record of before is gone"));
     };
-    let kept = commits_in(alloc, gained)?;
-    check_decisions(alloc, &ground.opening, past.history.entries(), &kept, shown)
-}
-
-fn check_decisions(
-    alloc: Global,
-    opening: &Opening,
-    entries: &[Entry],
-    kept: &[Decision],
-    shown: &RidMap<Bytes>,
-) -> Result<(), Trouble> {
-    require(is_kept(alloc, entries, kept)?, "not kept")?;
-    let serial = serial_records(alloc, opening, entries, kept)?;
-    require_same(alloc, shown, &serial, "not the serial records")?;
-    let all = shown_records(alloc, opening, entries, kept)?;
+    let kept = decisions_in(alloc, gained)?;
+    let entries = past.history.entries();
+    require(is_kept(alloc, entries, &kept)?, "not kept")?;
+    let serial = serial_records(alloc, &ground.opening, entries, &kept)?;
+    require_same(alloc, committed, &serial, "not the serial records")?;
+    let all = shown_records(alloc, &ground.opening, entries, &kept)?;
     require_same(alloc, shown, &all, "not what is shown")
 }
 
@@ -219,11 +214,11 @@ pub(super) fn check_commit(
 }
 
 // The decisions that records have.
-fn commits_in(alloc: Global, records: &[LogRecord]) -> Result<Vec<Decision>, AllocError> {
+fn decisions_in(alloc: Global, records: &[LogRecord]) -> Result<Vec<Decision>, AllocError> {
     let mut found = Vec::new(alloc);
     for logged in records {
-        if logged.payload.is_commit() {
-            found.push(Decision::Commit(logged.txn))?;
+        if let Some(decision) = decision_of(alloc, logged)? {
+            found.push(decision)?;
         }
     }
     Ok(found)

@@ -1,6 +1,7 @@
 //! Restarts that are cut off.
 use super::crashes::{are_in_place, check_crash};
 use super::devices::{Calls, Devices, Manager, NO_FUSES, cut_off};
+use super::doubts::check_given_back;
 use super::lives::{Ground, Pair, Past};
 use super::trouble::{Trouble, require};
 use shore_disk::Pick;
@@ -75,6 +76,7 @@ fn require_restarted(alloc: Global, world: &mut Manager, wanted: &Ground) -> Res
         waiting.is_empty() && found.len() == wanted.found.len() && found.starts_with(&wanted.found),
         "another log behind a restart that was cut off",
     )?;
-    let is_shown = are_in_place(alloc, world, &wanted.opening.records)?;
-    require(is_shown, "the dump was refused")
+    let is_shown = are_in_place(alloc, world, &wanted.shown)?;
+    require(is_shown, "the dump was refused")?;
+    check_given_back(alloc, world, &wanted.found, &wanted.opening)
 }

@@ -190,6 +190,7 @@ impl Victims {
         }
         let is_refused = match asking.doing {
             Doing::ForceStage | Doing::ForceOpen | Doing::FlushStep | Doing::Resume => true,
+            Doing::InDoubt => true,
             _ => is_refused(asking, tally),
         };
         require_all(&[
@@ -239,7 +240,8 @@ impl Victims {
         found: &[TxnId],
         tally: &mut Deadlocks,
     ) -> Result<(), Trouble> {
-        let must_abort = matches!(asking.step, Step::Refused(Fault::MustAbort));
+        let decides = matches!(asking.doing, Doing::Resolve(_, _));
+        let must_abort = !decides && matches!(asking.step, Step::Refused(Fault::MustAbort));
         require(!must_abort, "MustAbort comes to one that may do more")?;
         let Some(lock) = asking.lock() else {
             return require(
@@ -457,7 +459,7 @@ fn is_refused(asking: &Asking<'_>, tally: &mut Deadlocks) -> bool {
         return false;
     };
     match fault {
-        Fault::AlreadyActive => matches!(asking.doing, Doing::Begin),
+        Fault::AlreadyActive => matches!(asking.doing, Doing::Begin | Doing::Resolve(_, _)),
         Fault::MustAbort => {
             add(&mut tally.refused);
             !matches!(asking.doing, Doing::Abort)

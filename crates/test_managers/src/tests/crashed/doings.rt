@@ -4,8 +4,8 @@ ghost use Rattle.shore_model.specs.Calls.{IsServed};
 ghost use Rattle.shore_world.specs.Events.{IsServedEvent};
 
 use super::lock_lists::Lock;
-use shore_model::Call;
-use shore_types::{Bytes, Granule, Mode, PageId, Rid, Sequence, SessionId, StoreId};
+use shore_model::{Call, Outcome};
+use shore_types::{Bytes, GlobalId, Granule, Mode, PageId, Rid, Sequence, SessionId, StoreId};
 use shore_world::Event;
 use std::alloc::{AllocError, Global};
 
@@ -20,6 +20,9 @@ pub(super) type Place = (u32, u32, u16);
 
 /// A granule at a place, by how far it is from the root: 0 for the volume, 1 for the store, 2 for the page, and 3 for the record.
 pub(super) type Depth = u32;
+
+/// A global id of one byte, or one of none, which no prepare takes.
+pub(super) type Name = Option<u8>;
 
 /// What happens to a manager next.
 #[derive(Clone, Copy)]
@@ -42,6 +45,11 @@ pub(super) enum Doing {
     BackTo(usize),
     Commit,
     Abort,
+    /// A prepare by a name.
+    Prepare(Name),
+    /// The decision on the transaction of a name.
+    Resolve(Name, Outcome),
+    InDoubt,
     ForceStage,
     ForceOpen,
     Resume,
@@ -93,6 +101,11 @@ impl Doing {
             Doing::Abort => Some(Call::Abort),
             Doing::Savepoint => Some(Call::Savepoint),
             Doing::BackTo(index) => Some(Call::BackTo(index)),
+            Doing::Prepare(name) => Some(Call::Prepare(global_id(alloc, name)?)),
+            Doing::Resolve(name, outcome) => {
+                Some(Call::Resolve(global_id(alloc, name)?, outcome))
+            }
+            Doing::InDoubt => Some(Call::InDoubt),
             Doing::InsertOf(store, byte, count) => {
                 Some(Call::Insert(StoreId(store), filled(alloc, byte, count)?))
             }
@@ -151,6 +164,15 @@ impl Doing {
             _ => Event::Resume(session),
         })
     }
+}
+
+/// The global id of a name.
+pub(super) fn global_id(alloc: Global, name: Name) -> Result<GlobalId, AllocError> {
+    let mut id = Sequence::new(alloc);
+    if let Some(byte) = name {
+        id.push(byte)?;
+    }
+    Ok(id)
 }
 
 fn filled(alloc: Global, byte: u8, count: usize) -> Result<Bytes, AllocError> {

@@ -74,7 +74,7 @@ fn make_run(
             });
         }
     };
-    let made = make_each(alloc, &mut world, &mut history, turns);
+    let made = make_each(alloc, ground, &mut world, &mut history, turns);
     let (handed_over, waiting) = world.records();
     let durable = world.durable();
     let past = past_of(alloc, ground, history, handed_over, waiting, durable);

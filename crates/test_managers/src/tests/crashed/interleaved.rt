@@ -2,6 +2,7 @@
 use super::chances::Chance;
 use super::crashes::are_in_place;
 use super::deadlocks::{Asking, Deadlocks, NO_DEADLOCKS, Victims};
+use super::decided::{Deciding, NO_PREPARES, Prepares, is_rolling_back};
 use super::devices::{Manager, NO_FUSES, cut_off};
 use super::doings::Doing;
 use super::judged_locks::{check_asked, check_locks, waits_at, would_wait};
@@ -11,9 +12,10 @@ use super::losses::{NOTHING_YET, Tally, check_dump, check_loss};
 use super::rollbacks::{check_appended, records_put_back};
 use super::short_histories::ShortHistory;
 use super::trouble::{Trouble, require};
-use shore_model::{Answer, Request};
+use shore_model::{Answer, LogRecord, Opening, Request};
 use shore_types::{Fault, Lsn, SessionId, TxnId};
 use shore_world::{Step, Wait};
+use slow_histories::decisions::{decisions, has_prepared};
 use std::alloc::{AllocError, Global};
 
 // A pair is made anew behind so many crashes.
@@ -30,6 +32,7 @@ pub(super) struct Meetings {
     /// Tries that somebody was in the way of.
     pub(super) blocked: u64,
     pub(super) deadlocks: Deadlocks,
+    pub(super) prepares: Prepares,
 }
 
 impl Meetings {
@@ -47,7 +50,15 @@ pub(super) const NO_MEETINGS: Meetings = Meetings {
     answered_behind: 0,
     blocked: 0,
     deadlocks: NO_DEADLOCKS,
+    prepares: NO_PREPARES,
 };
+
+/// So many sessions, which may prepare their transactions, or do not.
+#[derive(Clone, Copy)]
+struct Party {
+    sessions: u32,
+    prepares: bool,
+}
 
 // The sessions of a manager, as they are seen from outside.
 #[derive(Drop)]
@@ -67,24 +78,29 @@ struct Turn {
     doing: Doing,
 }
 
-// What a manager tells behind an event.
+// What a manager tells behind an event, the records before it, and what it has appended.
 #[derive(Clone, Copy)]
 struct Told<'a> {
     step: &'a Step,
+    handed_over: &'a [LogRecord],
+    waiting: &'a [LogRecord],
+    appended: &'a [LogRecord],
     durable: Lsn,
     has_failed: bool,
 }
 
-/// A pair is formatted, and then is opened, worked with by one to eight sessions and crashed a few times.
+/// A pair is formatted, and then is opened, worked with by one to eight sessions and crashed a few times. They may prepare, or do not.
 pub(super) fn check_meetings(
     alloc: Global,
     chance: &mut Chance,
+    prepares: bool,
     tally: &mut Meetings,
 ) -> Result<(), Trouble> {
     let mut pair = formatted(alloc)?;
     let sessions = chance.below(8).saturating_add(1);
+    let party = Party { sessions, prepares };
     for _ in 0..LIVES_OF_A_PAIR {
-        pair = check_life(alloc, &pair, sessions, chance, tally)?;
+        pair = check_life(alloc, &pair, party, chance, tally)?;
     }
     Ok(())
 }
@@ -93,24 +109,27 @@ pub(super) fn check_meetings(
 fn check_life(
     alloc: Global,
     pair: &Pair,
-    sessions: u32,
+    party: Party,
     chance: &mut Chance,
     tally: &mut Meetings,
 ) -> Result<Pair, Trouble> {
-    let mut life = live_together(alloc, pair, sessions, chance, tally)?;
-    check_loss(alloc, &pair.ground, &mut life, chance, &mut tally.all)
+    let mut life = live_together(alloc, pair, party, chance, tally)?;
+    let left = check_loss(alloc, &pair.ground, &mut life, chance, &mut tally.all)?;
+    let (before, now) = (&pair.ground.opening, &left.ground.opening);
+    tally.prepares.count_open(before, now);
+    Ok(left)
 }
 
 // A manager from its open to the loss of power, which soon comes behind a failure.
 fn live_together(
     alloc: Global,
     pair: &Pair,
-    sessions: u32,
+    party: Party,
     chance: &mut Chance,
     tally: &mut Meetings,
 ) -> Result<Life, Trouble> {
     let mut world = pair.devices.copy(alloc)?.open(alloc)?;
-    let past = meet(alloc, &pair.ground, &mut world, sessions, chance, tally);
+    let past = meet(alloc, &pair.ground, &mut world, party, chance, tally);
     let (devices, passed) = cut_off(world, NO_FUSES);
     Ok(Life {
         past: past?,
@@ -123,16 +142,16 @@ fn meet(
     alloc: Global,
     ground: &Ground,
     world: &mut Manager,
-    sessions: u32,
+    party: Party,
     chance: &mut Chance,
     tally: &mut Meetings,
 ) -> Result<Past, Trouble> {
     let mut meeting = Meeting {
         history: ShortHistory::new(alloc),
-        requests: Vec::new(alloc),
+        requests: world.nodes(alloc)?,
         victims: Victims::new(alloc),
     };
-    meeting.go_on_by_chance(alloc, ground, world, sessions, chance, tally)?;
+    meeting.go_on_by_chance(alloc, ground, world, party, chance, tally)?;
     let (handed_over, waiting) = world.records();
     let history = meeting.history;
     past_of(
@@ -151,12 +170,12 @@ impl Meeting {
         alloc: Global,
         ground: &Ground,
         world: &mut Manager,
-        sessions: u32,
+        party: Party,
         chance: &mut Chance,
         tally: &mut Meetings,
     ) -> Result<(), Trouble> {
         for _ in 0..chance.below(140) {
-            self.make_one(alloc, ground, world, sessions, chance, tally)?;
+            self.make_one(alloc, ground, world, party, chance, tally)?;
             if world.has_failed() && chance.below(4) == 0 {
                 break;
             }
@@ -176,7 +195,7 @@ impl Meeting {
         alloc: Global,
         ground: &Ground,
         world: &mut Manager,
-        sessions: u32,
+        party: Party,
         chance: &mut Chance,
         tally: &mut Meetings,
     ) -> Result<(), Trouble> {
@@ -185,11 +204,12 @@ impl Meeting {
             1 => world.set_volume_fuse(u64::from(chance.below(40))),
             2 | 3 | 4 => check_dump(alloc, world, &mut tally.all)?,
             _ => {
-                let session = self.session_by_chance(sessions, chance);
+                let session = self.session_by_chance(party.sessions, chance);
                 let savepoints = self.savepoints(alloc, session)?;
-                let turn = self.turn(session, savepoints, chance);
+                let about = self.about_prepared(session, party, chance);
+                let turn = self.turn(session, savepoints, about, chance);
                 if self.go_on(alloc, ground, world, &turn, tally)? {
-                    let records = records_put_back(alloc, ground, &self.history, sessions)?;
+                    let records = records_put_back(alloc, ground, &self.history, party.sessions)?;
                     are_in_place(alloc, world, &records)?;
                 }
             }
@@ -205,14 +225,35 @@ impl Meeting {
         }
     }
 
-    // What a session does in its turn.
-    fn turn(&self, session: SessionId, savepoints: u32, chance: &mut Chance) -> Turn {
+    // What a session that waits for nothing does about prepared transactions, if anything.
+    fn about_prepared(
+        &self,
+        session: SessionId,
+        party: Party,
+        chance: &mut Chance,
+    ) -> Option<Doing> {
+        if !party.prepares || self.history.waiting(session).is_some() {
+            return None;
+        }
+        let is_in_transaction = self.history.txn(session).0 > 0;
+        chance.doing_about_prepared(is_in_transaction, self.history.is_prepared(session))
+    }
+
+    // What a session does in its turn: this, if there is something.
+    fn turn(
+        &self,
+        session: SessionId,
+        savepoints: u32,
+        about: Option<Doing>,
+        chance: &mut Chance,
+    ) -> Turn {
         let txn = self.history.txn(session);
         let waited = self.history.waiting(session);
-        let doing = match waited {
-            Some(_) => chance.doing_of_waiter(),
-            None if self.victims.is_told(txn) => chance.doing_of_victim(savepoints),
-            None => chance.doing_of_session(txn.0 > 0, savepoints),
+        let doing = match (about, waited) {
+            (Some(doing), _) => doing,
+            (None, Some(_)) => chance.doing_of_waiter(),
+            (None, None) if self.victims.is_told(txn) => chance.doing_of_victim(savepoints),
+            (None, None) => chance.doing_of_session(txn.0 > 0, savepoints),
         };
         Turn {
             session,
@@ -241,14 +282,21 @@ impl Meeting {
         turn: &Turn,
         tally: &mut Meetings,
     ) -> Result<bool, Trouble> {
+        let opening = &ground.opening;
         let (_, waiting) = world.records();
         let waited = waiting.len();
         let step = world.step(alloc, turn.doing.event(alloc, turn.session)?);
-        let judged = self.judge(alloc, world, turn, waited, &step, tally);
-        let ends_rollback = matches!(step, Step::Done(Answer::WentBack | Answer::Aborted));
-        self.history.note(alloc, turn.session, turn.doing, step)?;
+        let judged = self.judge(alloc, opening, world, turn, waited, &step, tally);
+        let (handed_over, waiting) = world.records();
+        let appended = waiting.get(waited..).unwrap_or(&[]);
+        let has_ended = ends_one(appended)
+            || matches!(step, Step::Done(Answer::WentBack | Answer::Aborted));
+        let ends_rollback = has_ended && !is_rolling_back(handed_over, waiting);
+        self.history.note_decisions(alloc, appended)?;
+        self.history
+            .note(alloc, opening, turn.session, turn.doing, step)?;
         judged?;
-        self.history.check(alloc, &ground.opening)?;
+        self.history.check(alloc, opening)?;
         Ok(ends_rollback)
     }
 
@@ -256,6 +304,7 @@ impl Meeting {
     fn judge(
         &mut self,
         alloc: Global,
+        opening: &Opening,
         world: &Manager,
         turn: &Turn,
         waited: usize,
@@ -269,13 +318,66 @@ impl Meeting {
         let requests = self.in_order(alloc, &world.nodes(alloc)?)?;
         let told = Told {
             step,
+            handed_over,
+            waiting: waiting.get(..waited).unwrap_or(&[]),
+            appended: waiting.get(waited..).unwrap_or(&[]),
             durable: world.durable(),
             has_failed: world.has_failed(),
         };
-        let judged = self.judge_locks(alloc, turn, &requests, &told, tally);
+        self.judge_prepared(alloc, opening, turn, &told, &mut tally.prepares)?;
+        let judged = self.judge_locks(alloc, opening, turn, &requests, &told, tally);
         self.requests = requests;
         count(turn, step, tally);
         judged
+    }
+
+    // What an event has to do with prepared transactions.
+    fn judge_prepared(
+        &self,
+        alloc: Global,
+        opening: &Opening,
+        turn: &Turn,
+        told: &Told<'_>,
+        tally: &mut Prepares,
+    ) -> Result<(), Trouble> {
+        let deciding = Deciding {
+            opening,
+            history: &self.history,
+            session: turn.session,
+            txn: turn.txn,
+            waited: turn.waited,
+            doing: turn.doing,
+            is_victim: self.victims.is_told(turn.txn),
+            locks: &self.requests,
+            handed_over: told.handed_over,
+            waiting: told.waiting,
+            appended: told.appended,
+            step: told.step,
+            has_failed: told.has_failed,
+        };
+        deciding.judge(alloc, tally)
+    }
+
+    // Those whose locks an event lets go: a transaction at the answer to its commit or abort, and one that is prepared as its Commit or End is appended.
+    fn over(
+        &self,
+        alloc: Global,
+        opening: &Opening,
+        turn: &Turn,
+        told: &Told<'_>,
+    ) -> Result<Vec<TxnId>, AllocError> {
+        let mut over = Vec::new(alloc);
+        if matches!(told.step, Step::Done(Answer::Committed | Answer::Aborted)) {
+            over.push(turn.txn)?;
+        }
+        let made = decisions(alloc, self.history.entries())?;
+        for logged in told.appended {
+            let is_last = logged.payload.is_commit() || logged.payload.is_end();
+            if is_last && has_prepared(opening, made.as_slice(), logged.txn) {
+                over.push(logged.txn)?;
+            }
+        }
+        Ok(over)
     }
 
     // The requests of the table, in the order in which they came.
@@ -288,6 +390,7 @@ impl Meeting {
     fn judge_locks(
         &mut self,
         alloc: Global,
+        opening: &Opening,
         turn: &Turn,
         requests: &[Request],
         told: &Told<'_>,
@@ -307,8 +410,8 @@ impl Meeting {
         let victims = asking.taken_back(alloc)?;
         self.victims
             .judge(alloc, &asking, &victims, &mut tally.deadlocks)?;
-        let is_over = matches!(told.step, Step::Done(Answer::Committed | Answer::Aborted));
-        check_asked(&self.requests, requests, turn.txn, is_over, &victims)
+        let over = self.over(alloc, opening, turn, told)?;
+        check_asked(&self.requests, requests, turn.txn, &over, &victims)
     }
 
     // A wait is for a request that waits, or for a record that is not durable. Only who waits is Busy, a savepoint is refused only if it is not there, and a
@@ -372,7 +475,17 @@ fn count(turn: &Turn, step: &Step, tally: &mut Meetings) {
 // The turn goes on with a call that waited for a lock.
 fn goes_on(turn: &Turn) -> bool {
     match turn.waited {
-        Some(Doing::Commit) | None => false,
+        Some(Doing::Commit | Doing::Prepare(_) | Doing::Resolve(_, _)) | None => false,
         Some(_) => matches!(turn.doing, Doing::Resume),
     }
+}
+
+// An End is among these records.
+fn ends_one(records: &[LogRecord]) -> bool {
+    for logged in records {
+        if logged.payload.is_end() {
+            return true;
+        }
+    }
+    false
 }

@@ -18,12 +18,12 @@ pub(super) fn check_locks(alloc: Global, requests: &[Request]) -> Result<(), Tro
 }
 
 /// Only this transaction may have asked: of others each request is as it was, or was granted, or was taken back if it is a victim's. Its own locks stay, and
-/// are not weaker, unless it is over: then they all go.
+/// are not weaker. All of those that are over go.
 pub(super) fn check_asked(
     old: &[Request],
     new: &[Request],
     txn: TxnId,
-    is_over: bool,
+    over: &[TxnId],
     victims: &[TxnId],
 ) -> Result<(), Trouble> {
     for request in new {
@@ -31,11 +31,14 @@ pub(super) fn check_asked(
         let was = request_of(old, request.txn, &request.granule);
         let is_explained = is_own || may_become(was, request, victims.contains(&request.txn));
         require(is_explained, "a lock that nobody asked for")?;
-        require(!is_own || !is_over, "a lock of a transaction that is over")?;
+        require(
+            !over.contains(&request.txn),
+            "a lock of a transaction that is over",
+        )?;
     }
     for request in old {
         let now = request_of(new, request.txn, &request.granule);
-        let goes = request.txn == txn && is_over;
+        let goes = over.contains(&request.txn);
         let is_taken_back = request.held.is_none() && victims.contains(&request.txn);
         require(
             goes || is_taken_back || is_kept(request, now),

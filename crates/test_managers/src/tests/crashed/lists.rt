@@ -2,7 +2,7 @@
 use super::crashes::{check_commit, check_crash};
 use super::cuts::check_cuts;
 use super::devices::{Calls, NO_FUSES};
-use super::doings::{EACH, Turn};
+use super::doings::{Doing, Turn};
 use super::lives::{Life, Pair, formatted, live};
 use super::trouble::Trouble;
 use shore_disk::Pick;
@@ -36,6 +36,8 @@ pub(super) struct Plan {
     pub(super) is_on_a_record: bool,
     /// What is done on it first.
     pub(super) before: &'static [Turn],
+    /// What lists are made of.
+    pub(super) each: &'static [Doing; 11],
     /// Lists have up to so many events.
     pub(super) longest: u32,
     /// Restarts are cut off behind lists of up to so many events.
@@ -76,11 +78,16 @@ fn pair_of(alloc: Global, plan: &Plan) -> Result<Pair, Trouble> {
 }
 
 // So many events.
-fn list_of(alloc: Global, length: u32, number: u32) -> Result<List, AllocError> {
+fn list_of(
+    alloc: Global,
+    each: &[Doing; 11],
+    length: u32,
+    number: u32,
+) -> Result<List, AllocError> {
     let mut turns = Vec::new(alloc);
     let mut digits = number;
     for _ in 0..length {
-        turns.push((1, EACH[(digits % 11) as usize]))?;
+        turns.push((1, each[(digits % 11) as usize]))?;
         digits /= 11;
     }
     Ok(List { number, turns })
@@ -95,7 +102,7 @@ fn check_list(
     number: u32,
     counts: &mut Counts,
 ) -> Result<(), Fail> {
-    let list = list_of(alloc, length, number)?;
+    let list = list_of(alloc, plan.each, length, number)?;
     let passed = check_picks(alloc, plan, pair, &list, NO_FUSES, counts)?;
     for calls in 0..=passed.log {
         let fuses = Calls {

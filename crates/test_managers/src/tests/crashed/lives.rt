@@ -6,7 +6,7 @@ use super::short_histories::ShortHistory;
 use super::trouble::Trouble;
 use shore_disk::MemDisk;
 use shore_model::{LogRecord, Opening, RidMap};
-use shore_types::{Geometry, Lsn, Sequence, SessionId};
+use shore_types::{Bytes, Geometry, Lsn, Sequence, SessionId};
 use shore_world::format;
 use slow_histories::decisions::acknowledged;
 use std::alloc::Global;
@@ -15,6 +15,8 @@ use std::alloc::Global;
 #[derive(Drop)]
 pub(super) struct Ground {
     pub(super) opening: Opening,
+    /// The records in place: with what those in doubt have written.
+    pub(super) shown: RidMap<Bytes>,
     /// The log at the end of the open.
     pub(super) found: Vec<LogRecord>,
     /// How many of its records the restart read; those behind are its own.
@@ -46,6 +48,7 @@ pub(super) fn formatted(alloc: Global) -> Result<Pair, Trouble> {
     };
     let ground = Ground {
         opening,
+        shown: RidMap::new(alloc),
         found: Vec::new(alloc),
         read: 0,
     };
@@ -129,10 +132,10 @@ fn make_behind(
     fuses: Calls,
 ) -> Result<Past, Trouble> {
     let mut history = ShortHistory::new(alloc);
-    make_each(alloc, world, &mut history, before)?;
+    make_each(alloc, ground, world, &mut history, before)?;
     world.set_log_fuse(fuses.log);
     world.set_volume_fuse(fuses.volume);
-    make_each(alloc, world, &mut history, turns)?;
+    make_each(alloc, ground, world, &mut history, turns)?;
     let (handed_over, waiting) = world.records();
     past_of(
         alloc,
@@ -147,6 +150,7 @@ fn make_behind(
 /// Makes the events, and notes what each comes to.
 pub(super) fn make_each(
     alloc: Global,
+    ground: &Ground,
     world: &mut Manager,
     history: &mut ShortHistory,
     turns: &[Turn],
@@ -154,8 +158,11 @@ pub(super) fn make_each(
     for turn in turns {
         let (number, doing) = *turn;
         let session = SessionId(number);
+        let waited = world.records().1.len();
         let step = world.step(alloc, doing.event(alloc, session)?);
-        history.note(alloc, session, doing, step)?;
+        let (_, waiting) = world.records();
+        history.note_decisions(alloc, waiting.get(waited..).unwrap_or(&[]))?;
+        history.note(alloc, &ground.opening, session, doing, step)?;
     }
     Ok(())
 }

@@ -49,6 +49,11 @@ fn copy_of(alloc: Global, payload: &Payload) -> Result<Payload, Trouble> {
         }),
         Payload::Commit => Ok(Payload::Commit),
         Payload::End => Ok(Payload::End),
+        Payload::Prepare { global, granules } => Ok(Payload::Prepare {
+            global: global.try_clone(alloc)?,
+            granules: granules.try_clone(alloc)?,
+        }),
+        Payload::RollbackDecided => Ok(Payload::RollbackDecided),
         _ => Err(Trouble("a record that is not written as yet")),
     }
 }

@@ -7,7 +7,7 @@ use shore_model::{Answer, LogRecord, Payload, RidMap};
 use shore_types::{Bytes, Fault, SessionId, TxnId};
 use shore_world::Step;
 use slow_histories::decisions::decisions;
-use slow_histories::replays::{serial_records, writes_of_txn};
+use slow_histories::replays::{shown_records, writes_of_txn};
 use std::alloc::{AllocError, Global};
 
 // What is to come up often has come up so many times.
@@ -82,7 +82,7 @@ pub(super) fn check_appended(
     Ok(appended.len())
 }
 
-/// What the commits that are decided come to, overlaid with what each session's transaction has written: behind a rollback this is in place.
+/// What the commits that are decided come to, overlaid with what those in doubt and each session's transaction have written: behind a rollback this is in place.
 pub(super) fn records_put_back(
     alloc: Global,
     ground: &Ground,
@@ -91,7 +91,7 @@ pub(super) fn records_put_back(
 ) -> Result<RidMap<Bytes>, AllocError> {
     let entries = history.entries();
     let decided = decisions(alloc, entries)?;
-    let mut records = serial_records(alloc, &ground.opening, entries, decided.as_slice())?;
+    let mut records = shown_records(alloc, &ground.opening, entries, decided.as_slice())?;
     for number in 1..=sessions {
         let txn = history.txn(SessionId(number));
         let writes = writes_of_txn(alloc, &ground.opening, entries, txn)?;

@@ -1,11 +1,12 @@
 //! The history of a manager, noted as plain data from what its sessions asked and were answered.
 use super::doings::Doing;
 use super::trouble::{Trouble, require};
-use shore_model::{Answer, Decision, Entry, Exchange, Opening};
-use shore_types::{Fault, SessionId, TxnId};
-use shore_world::{Step, Wait};
+use shore_model::{Answer, Call, Decision, Entry, Exchange, LogRecord, Opening, Payload};
+use shore_types::{Fault, GlobalId, SessionId, TxnId};
+use shore_world::Step;
+use slow_histories::decisions::{all_prepared, decisions};
 use slow_histories::progress::{enter, start};
-use slow_histories::sessions::{is_history, session_state_after};
+use slow_histories::sessions::{is_history, last_under, session_state_after};
 use slow_histories::turns::is_sound;
 use std::alloc::{AllocError, Global};
 
@@ -51,6 +52,23 @@ impl ShortHistory {
         session_state_after(session, &self.entries).txn
     }
 
+    /// The transaction of a session is prepared.
+    pub(super) fn is_prepared(&self, session: SessionId) -> bool {
+        session_state_after(session, &self.entries).prepared
+    }
+
+    /// The transaction that was prepared last under a global id.
+    pub(super) fn under(
+        &self,
+        alloc: Global,
+        opening: &Opening,
+        global: &GlobalId,
+    ) -> Result<Option<TxnId>, AllocError> {
+        let made = decisions(alloc, &self.entries)?;
+        let pairs = all_prepared(alloc, opening, made.as_slice())?;
+        Ok(last_under(global, pairs.as_slice()))
+    }
+
     /// How many savepoints a transaction has.
     pub(super) fn savepoints(&self, alloc: Global, txn: TxnId) -> Result<u32, AllocError> {
         let mut progress = start(alloc);
@@ -60,18 +78,33 @@ impl ShortHistory {
         Ok(u32::try_from(progress.saved.as_slice().len()).unwrap_or(u32::MAX))
     }
 
-    /// Notes what a session did and what it came to. A force and a flush add nothing.
+    /// Notes the decisions of the records that an event has appended.
+    pub(super) fn note_decisions(
+        &mut self,
+        alloc: Global,
+        appended: &[LogRecord],
+    ) -> Result<(), AllocError> {
+        for logged in appended {
+            if let Some(decision) = decision_of(alloc, logged)? {
+                self.entries.push(Entry::Decided(decision))?;
+            }
+        }
+        Ok(())
+    }
+
+    /// Notes what a session did and what it came to, behind its decisions. A force and a flush add nothing.
     pub(super) fn note(
         &mut self,
         alloc: Global,
+        opening: &Opening,
         session: SessionId,
         doing: Doing,
         step: Step,
     ) -> Result<(), Trouble> {
         match step {
-            Step::Done(answer) => self.note_reply(alloc, session, doing, Ok(answer)),
-            Step::Refused(fault) => self.note_reply(alloc, session, doing, Err(fault)),
-            Step::Waits(wait) => self.note_wait(session, doing, wait),
+            Step::Done(answer) => self.note_reply(alloc, opening, session, doing, Ok(answer)),
+            Step::Refused(fault) => self.note_reply(alloc, opening, session, doing, Err(fault)),
+            Step::Waits(_) => self.note_wait(session, doing),
             Step::Nothing => require(self.may_be_idle(session, doing), "a call came to nothing"),
         }
     }
@@ -80,6 +113,7 @@ impl ShortHistory {
     fn note_reply(
         &mut self,
         alloc: Global,
+        opening: &Opening,
         session: SessionId,
         doing: Doing,
         reply: Result<Answer, Fault>,
@@ -93,10 +127,7 @@ impl ShortHistory {
         let Some(call) = asked.call(alloc)? else {
             return require(!resumes, "a resume with no call");
         };
-        let txn = match &reply {
-            Ok(Answer::Began(txn)) => *txn,
-            _ => self.txn(session),
-        };
+        let txn = self.txn_of(alloc, opening, session, &call, &reply)?;
         if resumes {
             self.set_waiting(session, None);
         }
@@ -108,14 +139,28 @@ impl ShortHistory {
         Ok(())
     }
 
-    // The decision of a commit that waits. A call that waits for a lock adds nothing, nor does one that waits on.
-    fn note_wait(&mut self, session: SessionId, doing: Doing, wait: Wait) -> Result<(), Trouble> {
+    // The transaction that a call is made in, or the one that it begins or decides.
+    fn txn_of(
+        &self,
+        alloc: Global,
+        opening: &Opening,
+        session: SessionId,
+        call: &Call,
+        reply: &Result<Answer, Fault>,
+    ) -> Result<TxnId, AllocError> {
+        match (call, reply) {
+            (_, Ok(Answer::Began(txn))) => Ok(*txn),
+            (Call::Resolve(global, _), Ok(_)) => {
+                Ok(self.under(alloc, opening, global)?.unwrap_or(TxnId(0)))
+            }
+            _ => Ok(self.txn(session)),
+        }
+    }
+
+    // A call that waits adds nothing.
+    fn note_wait(&mut self, session: SessionId, doing: Doing) -> Result<(), Trouble> {
         if matches!(doing, Doing::Resume) {
             return require(self.waiting(session).is_some(), "a resume with no call");
-        }
-        if matches!(wait, Wait::Durable(_)) {
-            let txn = self.txn(session);
-            self.entries.push(Entry::Decided(Decision::Commit(txn)))?;
         }
         self.set_waiting(session, Some(doing));
         Ok(())
@@ -134,5 +179,20 @@ impl ShortHistory {
         if let Some(waiting) = self.waiting.get_mut(session.0 as usize) {
             *waiting = call;
         }
+    }
+}
+
+/// The decision that a record is of.
+pub(super) fn decision_of(
+    alloc: Global,
+    logged: &LogRecord,
+) -> Result<Option<Decision>, AllocError> {
+    match &logged.payload {
+        Payload::Commit => Ok(Some(Decision::Commit(logged.txn))),
+        Payload::RollbackDecided => Ok(Some(Decision::RollBack(logged.txn))),
+        Payload::Prepare { global, .. } => {
+            Ok(Some(Decision::Prepare(logged.txn, global.try_clone(alloc)?)))
+        }
+        _ => Ok(None),
     }
 }

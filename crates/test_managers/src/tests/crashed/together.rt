@@ -25,7 +25,7 @@ fn meet_often(alloc: Global, seed: u64, tally: &mut Meetings) -> Result<(), Fail
         if tally.all.events >= EVENTS_TOGETHER {
             break;
         }
-        if let Err(trouble) = check_meetings(alloc, &mut chance, tally) {
+        if let Err(trouble) = check_meetings(alloc, &mut chance, false, tally) {
             let events = tally.all.events;
             return Err(Fail::new(format_args!("{trouble:?}: seed {seed}, behind {events} events")));
         }

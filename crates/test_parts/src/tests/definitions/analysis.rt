@@ -79,10 +79,53 @@ unmeant: 1 0 change 0.2.0 - aa
 unmeant: 1 0 change 1.1.0 - aa
 unmeant: 1 0 change 2.0.0 - aa
 
+run: prepared_transactions
+1 0 change 0.0.0 - aa; 1 1 change 0.0.1 - bb; 1 2 compensation 0.0.1 1 -
+unmeant: 1 3 rollback_decided
+unmeant: 1 3 prepare g1
+# A change that was put back counts too.
+unmeant: 1 3 prepare g1 0.0.0
+unmeant: 1 3 prepare g1 0.0.0 0.0.2
+unmeant: 1 3 prepare g1 1
+unmeant: 1 3 prepare g1 0.0 2.0
+unmeant: 1 3 prepare g1 0.0 0.2
+unmeant: 1 3 prepare g1 0.0 0.1.2042
+unmeant: 1 3 prepare g1 0.0.1 0.0.0
+unmeant: 1 3 prepare g1 0.0.0 0.0.0 0.0.1
+unmeant: 1 3 prepare g1 0.0.0 0.0
+meant: 1 3 prepare g1 0.0 0.1.2041
+meant: 1 3 prepare g1 0
+meant: 1 3 prepare g1 v
+meant: 2 0 prepare g1
+1 3 prepare g1 0.0.0 0.0.1
+gives: 2 1 1 prepared 1 4 1 4 0.0 1
+meant: 1 4 commit
+meant: 1 4 rollback_decided
+unmeant: 1 4 change 0.0.0 aa bb
+unmeant: 1 4 compensation 0.0.0 0 -
+unmeant: 1 4 end
+unmeant: 1 4 prepare g2 0.0.0 0.0.1
+1 4 rollback_decided
+gives: 2 1 1 rolling_back 1 5 1 4 0.0 1
+unmeant: 1 5 commit
+unmeant: 1 5 end
+unmeant: 1 5 change 0.0.0 aa bb
+unmeant: 1 5 rollback_decided
+unmeant: 1 5 prepare g2 0.0.0 0.0.1
+1 5 compensation 0.0.0 0 -
+gives: 2 1 1 rolling_back 1 6 0 4 0.0 1
+unmeant: 1 6 commit
+meant: 1 6 end
+
+run: a_prepared_transaction_with_nothing_to_undo
+1 0 prepare g1; 2 0 prepare g1
+gives: 3 2 1 prepared 1 1 0 1 2 prepared 2 2 0 2
+unmeant: 1 1 end
+1 1 rollback_decided
+meant: 1 3 end
+
 run: kinds_that_are_not_served
 1 0 change 0.0.0 - aa
-unmeant: 1 1 prepare g1 0.0.0
-unmeant: 1 1 rollback_decided
 unmeant: 0 0 checkpoint_begin
 unmeant: 0 0 checkpoint_end 1 2 0
 unmeant: 0 0 anchor 1 1
