@@ -22,26 +22,24 @@ use Rattle.laws_locks.specs.CallLocks.{Asked}
 use Rattle.laws_room.specs.Claims.{SlotCounts}
 use Rattle.laws_lives.proofs.Ids.{put_here}
 use Rattle.laws_lives.proofs.Lists.{length-push}
-use Rattle.laws_lives.proofs.Members.{among_without}
-use Rattle.laws_lives.specs.Sessions.{SessionTxn, in_txn}
+use Rattle.laws_lives.proofs.Members.{txn_without}
+use Rattle.laws_lives.specs.Sessions.{SessionTxn, in_txn, txns_of}
 use Rattle.laws_lives.specs.UndoLists.{nothing_to_undo}
 use Rattle.laws_lives.specs.Views.{IsAmong}
-use Rattle.shore_model.specs.declared.step.Step.TheVariants.{Done, Waits}
-use Rattle.shore_model.specs.declared.step.Wait.{Wait}
+use Rattle.shore_model.specs.declared.step.Step.TheVariants.{Done, Refused}
 use Rattle.laws_calls.proofs.Decided.{both_ways}
-use Rattle.laws_calls.proofs.SessionInversions.{AnsweredIn, IsLockless, answered_in, begun_in, waits_of, no_waits_refused}
+use Rattle.laws_calls.proofs.SessionInversions.{AnsweredIn, IsLockless, answered_in, begun_in, committed_in}
 use Rattle.laws_calls.proofs.Sessions.{one_txn}
 use Rattle.laws_calls.proofs.WrongAnswers.{Took, took}
-use Rattle.laws_calls.proofs.WrongResumes.{ends}
-use Rattle.laws_calls.specs.StateChanges.{answered, committed}
-use Rattle.laws_calls.specs.CallSteps.{CallStep, ResumeStep, behind_lock, NeedsTxn, InnerStep}
+use Rattle.laws_calls.specs.StateChanges.{answered}
+use Rattle.laws_calls.specs.CallSteps.{CallStep, behind_lock, NeedsTxn, InnerStep}
 use Rattle.laws_calls.specs.LockedStates.{IsSessionsState}
 use Rattle.laws_calls.specs.States.{HasNoTxn, IsOfSession, State}
 use Rattle.std.specs.Prelude.{◌==◌}
 use Rattle.std.proofs.lemmas.Bool.{eq-eqb}
 use Rattle.shore_model.specs.Histories.{free}
-use Rattle.shore_types.specs.declared.faults.Fault.TheVariants as fault
-use Rattle.laws_calls.specs.Events.{IsStateAfter}
+use Rattle.shore_types.specs.declared.faults.Fault.{Fault}
+use Rattle.laws_calls.proofs.Outside.{not_outside}
 
 module _ (g : Geometry) (s new : State) (session : ℕ) where
   abbrev Answered : Call → Answer → Type 0
@@ -171,28 +169,43 @@ module _ (g : Geometry) (s new : State) (session : ℕ) where
 
 -- ---- commits
 
-module _ (g : Geometry) (o : Opening) (found : List LogRecord) (es : List Entry) (s new : State) (k : IsSessionsState o found es s) (session : ℕ) where
-  -- whose commit waits is under way no more
-  pub waits_under_way : (wait : Wait) → CallStep g s session call.Commit (Waits wait) new → (a : SessionTxn) → IsOfSession new session a → ⊥
-  waits_under_way wait h a mem = let t = waits_of g s new session call.Commit wait tt h in gone t.0 t.1 (subst (λ (n : State). IsOfSession n session a) (by t.0 t.2) mem)
-    where
-      gone : (b : SessionTxn) → IsOfSession s session b → IsOfSession (committed s b) session a → ⊥
-      gone b of now =
-          let was = among_without b.txn a s.sessions.active now.0.0 in
-          was.1 (one_txn s.sessions a b now.0.1 of.0.1 (now.1 ∙ sym of.1))
+module _ (g : Geometry) (o : Opening) (found : List LogRecord) (es : List Entry) (s new : State) (k : IsSessionsState o found es s) (session : ℕ) (answer : Answer)
+    (h : CallStep g s session call.Commit (Done answer) new) where
+  -- whose commit is answered is under way no more
+  pub under_way_no_more : (a : SessionTxn) → IsOfSession s session a → IsAmong a.txn (txns_of new.sessions.active) → ⊥
+  under_way_no_more a of among =
+      let t = committed_in g s new session answer h in
+      let same : t.0.txn ≡ a.txn = one_txn s.sessions t.0 a t.1.0.1 of.0.1 (t.1.1 ∙ sym of.1) in
+      (txn_without t.0.txn a.txn s.sessions.active (subst (λ (x : State). IsAmong a.txn (txns_of x.sessions.active)) t.3.1 among)).1 (sym same)
 
-      by : (b : SessionTxn) → InnerStep g s b call.Commit (Waits wait) new → new ≡ committed s b
-      by b (inl x) = absurd (no_waits_refused wait fault.MustAbort x.2)
-      by b (inr (inl (whole, inl x))) = absurd x.1
-      by b (inr (inl (whole, inr (inl x)))) = absurd x.0
-      by b (inr (inl (whole, inr (inr (inl x))))) = x.1.1
-      by b (inr (inl (whole, inr (inr (inr (inl x)))))) = absurd x.1
-      by b (inr (inl (whole, inr (inr (inr (inr x)))))) = let clash = x.1 in absurd cc
-      by b (inr (inr (inl x))) = absurd x.3
-      by b (inr (inr (inr x))) = absurd x.1
+  -- .. and its session is in no transaction
+  pub answered_in_none : HasNoTxn new session
+  answered_in_none =
+      let t = committed_in g s new session answer h in
+      ap (λ (n : State). n.sessions.seats session) t.3.1
+      ∙ ap (λ b. cond b free (s.sessions.seats session)) (eq-eqb t.0.session session t.1.1)
 
--- once it is answered its session is in no transaction
-pub answered_in_none : (g : Geometry) (o : Opening) (found : List LogRecord) (es : List Entry) (s new : State) → IsStateAfter o found es s → (session : ℕ) → (a : SessionTxn) → IsAmong a s.sessions.committing → a.session ≡ session → (answer : Answer) → ResumeStep g s session (Done answer) new → HasNoTxn new session
-answered_in_none g o found es s new k session a mem of answer h =
-    ap (λ (n : State). n.sessions.seats session) (ends g o found es s new k session a mem of answer h)
-    ∙ ap (λ b. cond b free (s.sessions.seats session)) (eq-eqb a.session session of)
+-- a commit that is refused changes nothing
+module _ (g : Geometry) (s new : State) (session : ℕ) (f : Fault) where
+  inner_refused : (a : SessionTxn) → InnerStep g s a call.Commit (Refused f) new → new ≡ s
+  inner_refused a (inl x) = x.3
+  inner_refused a (inr (inl (whole, inl x))) = absurd x.1
+  inner_refused a (inr (inl (whole, inr (inl x)))) = absurd x.0
+  inner_refused a (inr (inl (whole, inr (inr (inl x))))) = absurd x.1
+  inner_refused a (inr (inl (whole, inr (inr (inr (inl x)))))) = let clash = x.0 in absurd cc
+  inner_refused a (inr (inl (whole, inr (inr (inr (inr x)))))) = let clash = x.1 in absurd cc
+  inner_refused a (inr (inr (inl x))) = let clash = x.1 in absurd cc
+  inner_refused a (inr (inr (inr x))) = let clash = x.0 in absurd cc
+
+  commit_refused : CallStep g s session call.Commit (Refused f) new → new ≡ s
+  commit_refused (inl h) = h.1
+  commit_refused (inr (inl h)) = h.2
+  commit_refused (inr (inr (inl h))) = h.3
+  commit_refused (inr (inr (inr (inl h)))) = let clash = h.2 in absurd cc
+  commit_refused (inr (inr (inr (inr (inl h))))) = h.5
+  commit_refused (inr (inr (inr (inr (inr (inl h)))))) = inner_refused h.2.0 h.2.2
+  commit_refused (inr (inr (inr (inr (inr (inr (inl h))))))) = h.5
+  commit_refused (inr (inr (inr (inr (inr (inr (inr h))))))) = absurd (not_outside s session call.Commit (Refused f) new tt h.2)
+
+  pub refused_commit_keeps : CallStep g s session call.Commit (Refused f) new → (new.locks ≡ s.locks) × (new.sessions.held ≡ s.sessions.held)
+  refused_commit_keeps h = let same = commit_refused h in (ap (λ (x : State). x.locks) same, ap (λ (x : State). x.sessions.held) same)

@@ -10,7 +10,7 @@ use Rattle.shore_types.specs.declared.locking.Granule.TheVariants as granule
 use Rattle.shore_types.specs.declared.locking.Mode.{Mode}
 use Rattle.shore_types.specs.declared.locking.Mode.TheVariants.{EX}
 use Rattle.shore_model.specs.declared.calls.Answer.{Answer}
-use Rattle.shore_model.specs.declared.calls.Answer.TheVariants.{Aborted, Committed, Prepared}
+use Rattle.shore_model.specs.declared.calls.Answer.TheVariants.{Prepared}
 use Rattle.shore_model.specs.declared.calls.Call.{Call}
 use Rattle.shore_model.specs.declared.calls.Call.TheVariants as call
 use Rattle.shore_model.specs.declared.histories.Entry.{Entry}
@@ -26,15 +26,14 @@ use Rattle.laws_locks.proofs.Held.{gone_of}
 use Rattle.laws_locks.specs.CallLocks.{Asked, lock_asked_by}
 use Rattle.shore_model.specs.declared.rollbacks.Rollback.TheVariants.{Whole}
 use Rattle.laws_lives.specs.Sessions.{SessionTxn}
-use Rattle.laws_lives.specs.Views.{IsAmong}
 use Rattle.shore_model.specs.declared.step.Step.{Step}
 use Rattle.shore_model.specs.declared.step.Step.TheVariants.{Done, Nothing, Refused, Waits}
 use Rattle.shore_model.specs.declared.step.Wait.{Wait}
 use Rattle.shore_model.specs.declared.step.Wait.TheVariants.{Durable, Lock}
 use Rattle.laws_calls.proofs.GoingOn.{never_waiting}
-use Rattle.laws_calls.proofs.Sessions.{its_txn, committed_seat}
+use Rattle.laws_calls.proofs.Sessions.{its_txn}
 use Rattle.laws_calls.proofs.RollingLeaves.{back_table, interrupted_table, savepoint_table}
-use Rattle.laws_calls.proofs.SessionInversions.{aborted_in}
+use Rattle.laws_calls.proofs.SessionInversions.{aborted_in, committed_in}
 use Rattle.laws_calls.proofs.SessionResumes.{woken}
 use Rattle.laws_calls.proofs.TakenLocks.{leaves, locked_state}
 use Rattle.laws_calls.specs.CallHistories.{txn_of}
@@ -45,7 +44,7 @@ use Rattle.laws_calls.specs.LockedStates.{IsSessionsState}
 use Rattle.laws_calls.specs.Events.{IsStateAfter}
 use Rattle.laws_calls.specs.States.{HasSeat, IsOfSession, State, Waiting}
 use Rattle.laws_calls.proofs.PrepareSteps.{prepare_locks}
-use Rattle.laws_calls.specs.Shapes.{ResolvesTxn, IsNoRefusal}
+use Rattle.laws_calls.specs.Shapes.{ResolvesTxn, IsNoRefusal, EndsAtOnce}
 use Rattle.laws_calls.proofs.ResolveLeaves.{resolve_locks}
 use Rattle.laws_calls.proofs.Outside.{outside_or}
 
@@ -183,22 +182,16 @@ begin_keeps_locks s session (Waits wait) new h = absurd h
 begin_keeps_locks s session (Refused f) new h = ap (λ (x : State). x.locks) h.1
 begin_keeps_locks s session Nothing new h = absurd h
 
-pub commit_keeps_locks : (s : State) (a : SessionTxn) (step : Step) (new : State) → CommitStep s a step new → new.locks ≡ s.locks
-commit_keeps_locks s a (Waits wait) new h = ap (λ (x : State). x.locks) h.1
-commit_keeps_locks s a (Done answer) new h = absurd h
-commit_keeps_locks s a (Refused f) new h = absurd h
-commit_keeps_locks s a Nothing new h = absurd h
-
 -- nothing, or as the session's transaction asks
 abbrev pub ChangesAsAsked : State → ℕ → Call → State → Type 0
 ChangesAsAsked s session c new =
     (new.locks.requests ≡ s.locks.requests) ⊎ ((a : SessionTxn) × IsOfSession s session a × TakesAsAsked s.locks.requests a.txn c new.locks.requests)
 
--- .. or with an abort's answer all of its transaction go
+-- .. or with a commit's or an abort's answer all of its transaction go
 abbrev pub ChangesByCall : State → ℕ → Call → Step → State → Type 0
 ChangesByCall s session c step new =
     ChangesAsAsked s session c new
-    ⊎ (((c ≡ call.Abort) × (step ≡ Done Aborted) × ((a : SessionTxn) × IsOfSession s session a × (new.locks.requests ≡ released a.txn s.locks.requests)))
+    ⊎ ((EndsAtOnce s c step × ((a : SessionTxn) × IsOfSession s session a × (new.locks.requests ≡ released a.txn s.locks.requests)))
     ⊎ ((a : SessionTxn) × ResolvesTxn s c a × IsNoRefusal step × (new.locks.requests ≡ released a.txn s.locks.requests)))
 
 no_change : (s : State) (session : ℕ) (c : Call) (new : State) → new.locks ≡ s.locks → ChangesAsAsked s session c new
@@ -211,14 +204,20 @@ module _ (g : Geometry) (o : Opening) (found : List LogRecord) (es : List Entry)
   inner_changes session a mem quiet c step new (inr (inl (whole, inl h))) = inl (no_change s session c new (ap (λ (x : State). x.locks) h.3))
   inner_changes session a mem quiet c step new (inr (inl (whole, inr (inl h)))) =
       inl (⊎_elim (λ same. inl same) (λ taken. inr (a, mem, taken)) (on_changes g o found es session a mem.1 s k.sessions mem.0 quiet c step new h.1))
-  inner_changes session a mem quiet c step new (inr (inl (whole, inr (inr (inl h))))) = inl (no_change s session c new (commit_keeps_locks s a step new h.1))
+  inner_changes session a mem quiet c step new (inr (inl (whole, inr (inr (inl h))))) = commit_changes step h.1
+    where
+      commit_changes : (step : Step) → CommitStep s a step new → ChangesByCall s session c step new
+      commit_changes (Done answer) x = inr (inl (inr (h.0, ap Done x.0), (a, mem, ap (λ (y : State). y.locks.requests) x.1)))
+      commit_changes (Refused f) x = absurd x
+      commit_changes (Waits wait) x = absurd x
+      commit_changes Nothing x = absurd x
   inner_changes session a mem quiet c step new (inr (inl (whole, inr (inr (inr (inl h)))))) = inl (no_change s session c new (savepoint_table s a step new h.1).locks)
   inner_changes session a mem quiet c step new (inr (inl (whole, inr (inr (inr (inr h)))))) = inl (no_change s session c new (prepare_locks s a h.0 step new h.2))
   inner_changes session a mem quiet c step new (inr (inr (inl h))) = inl (no_change s session c new (back_table s a h.0 step new h.3).locks)
   inner_changes session a mem quiet c step new (inr (inr (inr h))) = abort_changes step h.1
     where
       abort_changes : (step : Step) → AbortStep s a step new → ChangesByCall s session c step new
-      abort_changes (Done answer) x = inr (inl (h.0, ap Done x.0, (a, mem, ap (λ (y : State). y.locks.requests) x.1)))
+      abort_changes (Done answer) x = inr (inl (inl (h.0, ap Done x.0), (a, mem, ap (λ (y : State). y.locks.requests) x.1)))
       abort_changes (Refused f) x = inl (no_change s session c new (interrupted_table s a Whole f new x).locks)
       abort_changes (Waits wait) x = absurd x
       abort_changes Nothing x = absurd x
@@ -244,10 +243,22 @@ module _ (g : Geometry) (o : Opening) (found : List LogRecord) (es : List Entry)
       let mem = h.2.1 in
       inner_changes session h.2.0 mem (k.sessions.locks.waits h.0 h.2.0 mem.0.0 (λ w m spared same. h.1 w m (same ∙ mem.1))) c step new h.2.2
 
-  -- a Commit that goes last takes and gives no lock
-  pub commit_keeps : (session : ℕ) (step : Step) (new : State) → CallStep g s session call.Commit step new → new.locks.requests ≡ s.locks.requests
-  commit_keeps session step new h =
-      ⊎_elim (⊎_elim (λ same. same) (λ taken. let clash = taken.2.1 in absurd cc)) (⊎_elim (λ abort. let clash = abort.0 in absurd cc) (λ resolve. let clash = resolve.1.2 in absurd cc)) (call_changes session call.Commit step new h)
+  -- a commit that is refused takes and gives no lock
+  pub commit_keeps : (session : ℕ) (f : Fault) (new : State) → CallStep g s session call.Commit (Refused f) new → new.locks.requests ≡ s.locks.requests
+  commit_keeps session f new h =
+      ⊎_elim (⊎_elim (λ same. same) (λ taken. let clash = taken.2.1 in absurd cc))
+      (⊎_elim (λ ends. ⊎_elim (λ abort. let clash = abort.0 in absurd cc) (λ commit. let clash = commit.1 in absurd cc) ends.0) (λ resolve. let clash = resolve.1.2 in absurd cc))
+      (call_changes session call.Commit (Refused f) new h)
+
+  -- once it is answered, its transaction has no lock
+  pub commit_gone : (session : ℕ) (answer : Answer) (new : State) → CallStep g s session call.Commit (Done answer) new
+      → (new.locks.requests ≡ released (txn_of s.sessions session) s.locks.requests) × All (λ h. h.txn ≢ txn_of s.sessions session) new.sessions.held
+  commit_gone session answer new h =
+      let t = committed_in g s new session answer h in
+      let its = sym (its_txn s.sessions t.0 session t.1.0.1 t.1.1) in
+      subst (λ n. (new.locks.requests ≡ released n s.locks.requests) × All (λ h. h.txn ≢ n) new.sessions.held) its
+      (subst (λ (x : State). (x.locks.requests ≡ released t.0.txn s.locks.requests) × All (λ h. h.txn ≢ t.0.txn) x.sessions.held) (sym t.3.1)
+      (refl, gone_of s.locks.requests t.0.txn k.sessions.locks.orderly))
 
   -- once an abort is answered, its transaction has no lock
   pub abort_gone : (session : ℕ) (answer : Answer) (new : State) → CallStep g s session call.Abort (Done answer) new
@@ -261,53 +272,27 @@ module _ (g : Geometry) (o : Opening) (found : List LogRecord) (es : List Entry)
 
   -- ---- going on
 
-  -- as its call asks, or with a commit's answer all of it goes
-  abbrev pub ChangesOn : Waiting → Step → State → Type 0
-  ChangesOn w step new =
-      ChangesAsAsked s w.session w.call new
-      ⊎ ((step ≡ Done Committed) × ((a : SessionTxn) × IsAmong a s.sessions.committing × (a.session ≡ w.session) × (new.locks.requests ≡ released a.txn s.locks.requests)))
-
-  wait_changes : (w : Waiting) (wait : Wait) (step : Step) (new : State) → ResumesWait g s w wait step new → ChangesOn w step new
-  wait_changes w (Durable n) step new (inl h) = inl (no_change s w.session w.call new (ap (λ (x : State). x.locks) h.2))
-  wait_changes w (Durable n) step new (inr (inl h)) = inr (h.1, (h.2.0, h.2.1, h.2.2, ap (λ (x : State). x.locks.requests) h.2.3))
-  wait_changes w (Durable n) step new (inr (inr (inl h))) = inl (no_change s w.session w.call new (ap (λ (x : State). x.locks) h.2.4))
-  wait_changes w (Durable n) step new (inr (inr (inr h))) = inl (no_change s w.session w.call new (ap (λ (x : State). x.locks) h.2.3))
+  wait_changes : (w : Waiting) (wait : Wait) (step : Step) (new : State) → ResumesWait g s w wait step new → ChangesAsAsked s w.session w.call new
+  wait_changes w (Durable n) step new (inl h) = no_change s w.session w.call new (ap (λ (x : State). x.locks) h.2)
+  wait_changes w (Durable n) step new (inr (inl h)) = no_change s w.session w.call new (ap (λ (x : State). x.locks) h.2.4)
+  wait_changes w (Durable n) step new (inr (inr h)) = no_change s w.session w.call new (ap (λ (x : State). x.locks) h.2.3)
   wait_changes w (Lock at) step new h = ⊎_elim
-      (λ still. inl (no_change s w.session w.call new (ap (λ (x : State). x.locks) still.2)))
+      (λ still. no_change s w.session w.call new (ap (λ (x : State). x.locks) still.2))
       (λ free.
-      inl (⊎_elim (λ same. inl same) (λ taken. inr (h.0, h.1, taken))
-      (on_changes g o found es w.session h.0 h.1.1 (wait_refused s w.session) (woken g o found es s k.sessions h.0 w.session h.1 free.0) h.1.0 free.0 w.call step new free.1)))
+      ⊎_elim (λ same. inl same) (λ taken. inr (h.0, h.1, taken))
+      (on_changes g o found es w.session h.0 h.1.1 (wait_refused s w.session) (woken g o found es s k.sessions h.0 w.session h.1 free.0) h.1.0 free.0 w.call step new free.1))
       h.2
 
-  pub resume_changes : (w : Waiting) (step : Step) (new : State) → ResumesCall g s w step new → ChangesOn w step new
-  resume_changes w step new (inl h) = inl (no_change s w.session w.call new (ap (λ (x : State). x.locks) h.2))
+  pub resume_changes : (w : Waiting) (step : Step) (new : State) → ResumesCall g s w step new → ChangesAsAsked s w.session w.call new
+  resume_changes w step new (inl h) = no_change s w.session w.call new (ap (λ (x : State). x.locks) h.2)
   resume_changes w step new (inr h) = wait_changes w w.wait step new h.1
-
-  -- once a commit is answered, its transaction has no lock
-  told_in : (w : Waiting) (wait : Wait) (n : ℕ) (new : State) → wait ≡ Durable n → ResumesWait g s w wait (Done Committed) new
-      → (new.locks.requests ≡ released (txn_of s.sessions w.session) s.locks.requests) × All (λ h. h.txn ≢ txn_of s.sessions w.session) new.sessions.held
-  told_in w (Durable m) n new is (inl h) = let clash = h.1 in absurd cc
-  told_in w (Durable m) n new is (inr (inl h)) =
-      let a = h.2.0 in
-      let its = sym (its_txn s.sessions a w.session (committed_seat k.sessions a h.2.1) h.2.2) in
-      subst (λ t. (new.locks.requests ≡ released t s.locks.requests) × All (λ h. h.txn ≢ t) new.sessions.held) its
-      (subst (λ (x : State). (x.locks.requests ≡ released a.txn s.locks.requests) × All (λ h. h.txn ≢ a.txn) x.sessions.held) (sym h.2.3)
-      (refl, gone_of s.locks.requests a.txn k.sessions.locks.orderly))
-  told_in w (Durable m) n new is (inr (inr (inl h))) = let clash = h.1 in absurd cc
-  told_in w (Durable m) n new is (inr (inr (inr h))) = let clash = h.1 in absurd cc
-  told_in w (Lock at) n new is h = absurd cc
-
-  pub told_gone : (w : Waiting) (n : ℕ) (new : State) → w.wait ≡ Durable n → ResumesCall g s w (Done Committed) new
-      → (new.locks.requests ≡ released (txn_of s.sessions w.session) s.locks.requests) × All (λ h. h.txn ≢ txn_of s.sessions w.session) new.sessions.held
-  told_gone w n new is h = ⊎_elim (λ failed. let clash = failed.1 in absurd cc) (λ on. told_in w w.wait n new is on.1) h
 
 -- the answer of a prepare leaves all locks
 prepare_told_in : (g : Geometry) (s : State) (w : Waiting) (wait : Wait) (n : ℕ) (new : State) → wait ≡ Durable n → ResumesWait g s w wait (Done Prepared) new
     → (new.locks.requests ≡ s.locks.requests) × (new.sessions.held ≡ s.sessions.held)
 prepare_told_in g s w (Durable m) n new is (inl h) = let clash = h.1 in absurd cc
-prepare_told_in g s w (Durable m) n new is (inr (inl h)) = let clash = h.1 in absurd cc
-prepare_told_in g s w (Durable m) n new is (inr (inr (inl h))) = (ap (λ (x : State). x.locks.requests) h.2.4, ap (λ (x : State). x.sessions.held) h.2.4)
-prepare_told_in g s w (Durable m) n new is (inr (inr (inr h))) = (ap (λ (x : State). x.locks.requests) h.2.3, ap (λ (x : State). x.sessions.held) h.2.3)
+prepare_told_in g s w (Durable m) n new is (inr (inl h)) = (ap (λ (x : State). x.locks.requests) h.2.4, ap (λ (x : State). x.sessions.held) h.2.4)
+prepare_told_in g s w (Durable m) n new is (inr (inr h)) = (ap (λ (x : State). x.locks.requests) h.2.3, ap (λ (x : State). x.sessions.held) h.2.3)
 prepare_told_in g s w (Lock at) n new is h = absurd cc
 
 pub prepare_leaves_locks : (g : Geometry) (s : State) (w : Waiting) (n : ℕ) (new : State) → w.wait ≡ Durable n → ResumesCall g s w (Done Prepared) new

@@ -16,7 +16,6 @@ use Rattle.laws_calls.specs.States.{DoesNotWait, HasSeat, State, Waiting, withou
 
 -- Those who waited stand as they did. Of the resolved transactions that are under way no more, none is new, unless it is this resolve's own.
 pub record CarriesWaits (Own : ResolvedTxn → Type 0) (s new : State) : Type 0 where
-  pub committing : new.sessions.committing ≡ s.sessions.committing
   pub failed : new.failed ≡ s.failed
   pub doubts : (p : PreparedTxn) → IsAmong p new.sessions.prepared → IsAmong p s.sessions.prepared
   pub doubts_on : (p : PreparedTxn) → IsAmong p s.sessions.prepared → p.answered ≡ false → IsAmong p new.sessions.prepared
@@ -37,7 +36,7 @@ module _ (base : ℕ) (Own : ResolvedTxn → Type 0) (s new : State) (k : WaitsO
   carried : (w : Waiting) → ((r : ResolvedTxn) → HasEnded s.sessions r → w.call ≡ call.Resolve r.global r.outcome → HasEnded new.sessions r)
       → IsDecisionWait base s w ⊎ IsLockWait s w → IsDecisionWait base new w ⊎ IsLockWait new w
   carried w ended (inl c) =
-      inl (decision_wait_on base s new w (λ a m of. subst (IsAmong a) (sym h.committing) m) (λ t global p. still_prepares w.session t global p)
+      inl (decision_wait_on base s new w (λ t global p. still_prepares w.session t global p)
       (λ r was is out. (ended r was is, λ t above e. out t above (h.outside w.session t above e))) h.on c)
   carried w ended (inr l) =
       inr (record { txn = l.txn; active = h.under_way l.txn l.active; of = l.of; whole = l.whole; at = l.at; is = l.is; lock = l.lock; asked = l.asked })
@@ -52,9 +51,6 @@ module _ (base : ℕ) (Own : ResolvedTxn → Type 0) (s new : State) (k : WaitsO
   carried_same same ended own = record {
     each = λ w m. carried w (λ r was is. ended r was) (k.each w (subst (IsAmong w) same m));
     once = λ v w m n is. k.once v w (subst (IsAmong v) same m) (subst (IsAmong w) same n) is;
-    all = λ runs a m.
-        let was = k.all (running runs) a (subst (IsAmong a) h.committing m) in
-        (was.0, subst (IsAmong (decision_waiting a.session call.Commit was.0)) (sym same) was.1);
     prepares = λ runs p m e.
         let was = k.prepares (running runs) p (h.doubts p m) e in
         (was.0, was.1, subst (IsAmong (decision_waiting was.0 (call.Prepare p.global) was.1)) (sym same) was.2, h.doubt_seats p was.0 m was.3);
@@ -75,9 +71,6 @@ module _ (base : ℕ) (Own : ResolvedTxn → Type 0) (s new : State) (k : WaitsO
     carried_own same ended is_own its free = record {
       each = λ w m. ⊎_elim (λ first. inl (subst (IsDecisionWait base new) first its)) (λ older. carried w (λ r was is. ended r was) (k.each w older)) (now w m);
       once = λ v w m l is. one_more session s v w x refl idle k.once (now v m) (now w l) is;
-      all = λ runs a m.
-          let was = k.all (running runs) a (subst (IsAmong a) h.committing m) in
-          (was.0, back (decision_waiting a.session call.Commit was.0) (inr was.1));
       prepares = λ runs p m e.
           let was = k.prepares (running runs) p (h.doubts p m) e in
           (was.0, was.1, back (decision_waiting was.0 (call.Prepare p.global) was.1) (inr was.2), h.doubt_seats p was.0 m was.3);
@@ -125,10 +118,6 @@ module _ (base : ℕ) (Own : ResolvedTxn → Type 0) (s new : State) (k : WaitsO
           (λ mine. absurd (on.1 (ap (λ (u : Waiting). u.session) (k.resolve_once v w own.global r.outcome own.outcome on.0 there (is ∙ ap (λ (q : ResolvedTxn). call.Resolve q.global r.outcome) mine) asks))))
           (λ still. still) (ended r was)) (k.each v on.0);
       once = λ u v m n is. k.once u v (waits_on w.session u s.waiting (now u m)).0 (waits_on w.session v s.waiting (now v n)).0 is;
-      all = λ runs a m.
-          let was = k.all (running runs) a (subst (IsAmong a) h.committing m) in
-          let v = decision_waiting a.session call.Commit was.0 in
-          (was.0, back v (stays v was.1 (λ is e. let clash : call.Commit ≡ call.Resolve own.global own.outcome = e ∙ asks in cc)));
       prepares = λ runs p m e.
           let was = k.prepares (running runs) p (h.doubts p m) e in
           let v = decision_waiting was.0 (call.Prepare p.global) was.1 in

@@ -8,43 +8,43 @@ use Rattle.std.proofs.lemmas.List.Elements.{Contains-append_cases, filter_map-ap
 use Rattle.shore_types.specs.declared.layout.Geometry.{Geometry}
 use Rattle.shore_model.specs.declared.calls.Call.{Call}
 use Rattle.shore_model.specs.declared.calls.Call.TheVariants as call
-use Rattle.shore_model.specs.declared.calls.Answer.TheVariants.{Aborted, Committed, Prepared, Resolved}
+use Rattle.shore_model.specs.declared.calls.Answer.TheVariants.{Aborted, Prepared, Resolved}
 use Rattle.shore_model.specs.declared.histories.Decision.{Decision}
 use Rattle.shore_model.specs.declared.histories.Decision.TheVariants as decision
 use Rattle.shore_model.specs.declared.histories.Entry.{Entry}
 use Rattle.shore_model.specs.declared.histories.Opening.{Opening}
-use Rattle.shore_model.specs.declared.histories.Entry.TheVariants.{Decided, Exchanged}
+use Rattle.shore_model.specs.declared.histories.Entry.TheVariants.{Exchanged}
 use Rattle.shore_model.specs.declared.log_records.LogRecord.{LogRecord}
 use Rattle.shore_model.specs.Records.{Records}
 use Rattle.shore_model.specs.Requests.{held_by_all}
 use Rattle.shore_locks.specs.Grants.{released}
 use Rattle.laws_locks.proofs.Held.{released_moves}
-use Rattle.laws_lives.proofs.Members.{txn_of_one}
+use Rattle.laws_lives.proofs.Members.{txn_without}
 use Rattle.laws_lives.specs.LogPrefixes.{decisions_in, IsDecidedIn, decision_in, decision_asked}
 use Rattle.shore_model.specs.declared.rollbacks.Rollback.TheVariants.{Whole}
 use Rattle.laws_lives.specs.LogTells.{AreLogged}
 use Rattle.laws_lives.specs.Logged.{and_compensations, and_rollback}
-use Rattle.laws_lives.specs.SessionSteps.{AnswerAbort, AnswerCommit, AppendCommit, MoveLocks, SessionEvent, StepsTo, entries_by, exchange, AnswerPrepare, AppendPrepare, AnswerResolve}
-use Rattle.laws_lives.specs.Sessions.{SessionTxn, Sessions, txns_of, with_undo, without_txn, seated}
+use Rattle.laws_lives.specs.SessionSteps.{AnswerAbort, AppendCommit, MoveLocks, SessionEvent, StepsTo, entries_by, exchange, AnswerPrepare, AppendPrepare, AnswerResolve}
+use Rattle.laws_lives.specs.Sessions.{SessionTxn, Sessions, with_undo, without_txn, seated, without_locks}
 use Rattle.laws_lives.specs.UndoLists.{rolled_back, undo_rolled}
 use Rattle.laws_lives.specs.Views.{IsAmong}
 use Rattle.shore_model.specs.declared.step.Step.{Step}
-use Rattle.laws_calls.proofs.Links.{ComesBy, Goes, GoesBy, IsDurable, IsLike, answer_goes, commit_goes, locks_go, quietly_comes, with_answer, with_commit, with_prepare_told, prepare_told_goes}
+use Rattle.laws_calls.proofs.Links.{ComesBy, Goes, GoesBy, IsDurable, IsLike, commit_goes, locks_go, quietly_comes, with_commit, with_prepare_told, prepare_told_goes, TellsNoTicket, no_tickets}
 use Rattle.laws_calls.proofs.RefusalTells.{same_entry}
 use Rattle.laws_calls.proofs.RollbackLinks.{abort_goes, all_put_backs, put_backs, with_abort}
 use Rattle.laws_calls.proofs.RollingCalls.{backs_go, ends_under_way}
 use Rattle.laws_calls.proofs.RollingPassages.{Aborts}
 use Rattle.laws_calls.proofs.Unwinding.{its_list, list_gone, rollback_ends, with_list}
-use Rattle.laws_calls.proofs.SessionStates.{answer_is_durable, its_wait, no_wait, waits_whole, prepare_is_durable}
-use Rattle.laws_calls.proofs.Sessions.{AreSessionsAfter, event_keeps, its_txn, above_none, commit_seats, committed_seat, own_of, parted}
-use Rattle.laws_calls.proofs.StepPassages.{CallPasses, Commits, IsAnswered, ResumePasses, resume_passes, IsPrepareTold, Prepares}
+use Rattle.laws_calls.proofs.SessionStates.{its_wait, no_wait, waits_whole, prepare_is_durable}
+use Rattle.laws_calls.proofs.Sessions.{AreSessionsAfter, event_keeps, its_txn, above_none, commit_seats, own_of}
+use Rattle.laws_calls.proofs.StepPassages.{CallPasses, Commits, ResumePasses, resume_passes, IsPrepareTold, Prepares}
 use Rattle.laws_calls.specs.CallHistories.{txn_of}
 use Rattle.laws_calls.specs.Events.{IsStateAfter, entries_of_resume, entries_of_waiting}
 use Rattle.laws_calls.specs.StateChanges.{wait_refused}
-use Rattle.laws_calls.specs.CallSteps.{ResumesCall, ResumeStep, aborted, commit_ended, with_requests}
+use Rattle.laws_calls.specs.CallSteps.{ResumesCall, ResumeStep, aborted, with_requests}
 use Rattle.laws_calls.specs.Rollbacks.{put_back}
 use Rattle.laws_calls.specs.LockedStates.{entries_of_resumed}
-use Rattle.laws_calls.specs.States.{HasSeat, State, Waiting}
+use Rattle.laws_calls.specs.States.{HasSeat, State, Waiting, next_number}
 use Rattle.shore_model.specs.declared.sessions.SessionState.{SessionState}
 use Rattle.laws_calls.specs.Prepares.{granules_in_ex}
 use Rattle.laws_calls.proofs.PrepareSteps.{with_prepare, prepare_goes}
@@ -94,21 +94,39 @@ like_itself s = record { sessions = refl; log = refl; counts = refl; stream = re
 
 -- nothing happens to the sessions
 pub nothing_comes : (g : Geometry) (s new : State) → IsLike s new → ComesBy g s new []
-nothing_comes g s new like = record { start = s; before = like_itself s; events = []; durable = tt; mid = s; goes = (refl, refl); after = like }
+nothing_comes g s new like = record { start = s; before = like_itself s; events = []; durable = tt; tickets = tt; mid = s; goes = (refl, refl); after = like }
 
 module _ (g : Geometry) (o : Opening) (found : List LogRecord) (es : List Entry) (s : State) (k : IsStateAfter o found es s) where
   commit_comes : (session : ℕ) (new : State) (made : List Entry) → Commits s session new made → ComesBy g s new made
   commit_comes session new made h =
       let a = h.txn in
-      subst (ComesBy g s new) (ap (λ t. Decided (decision.Commit t) ∷ []) (sym (its_txn s.sessions a session h.of.0.1 h.of.1)) ∙ sym h.entries)
-      (record {
+      let n = next_number s in
+      let own = own_of k.sessions a h.of.0 in
+      let appended = with_commit g s a in
+      let mid = with_requests appended (released a.txn s.locks.requests) in
+      subst (ComesBy g s new) (sym h.entries) (record {
         start = s;
         before = like_itself s;
-        events = AppendCommit a ∷ [];
-        durable = (tt, tt);
-        mid = with_commit g s a;
-        goes = (with_commit g s a, [], commit_goes g s a (own_of k.sessions a h.of.0) h.whole (commit_seats k.sessions.agree k.sessions.seats a (own_of k.sessions a h.of.0).2.0), (refl, refl), refl);
-        after = subst (IsLike (with_commit g s a)) (sym h.is) (record { sessions = refl; log = refl; counts = refl; stream = refl });
+        events = AppendCommit a n ∷ MoveLocks (held_by_all (released a.txn s.locks.requests)) ∷ [];
+        durable = (tt, (tt, tt));
+        tickets = (omega arith, (tt, tt));
+        mid = mid;
+        goes = (
+          appended,
+          [],
+          commit_goes g s a own h.whole (commit_seats k.sessions.agree k.sessions.seats a n own.2.0),
+          (
+            mid,
+            [],
+            locks_go g appended (released a.txn s.locks.requests)
+                (released_moves appended.sessions s.locks.requests a.txn (ap (without_locks a.txn) k.sessions.locks.held) k.sessions.locks.orderly k.sessions.locks.rooted k.sessions.locks.below
+                (λ among. (txn_without a.txn a.txn s.sessions.active among).1 refl)),
+            (refl, refl),
+            refl,
+          ),
+          refl,
+        );
+        after = subst (IsLike mid) (sym h.is) (record { sessions = refl; log = refl; counts = refl; stream = refl });
       })
 
   prepare_call_comes : (session : ℕ) (new : State) (made : List Entry) → Prepares s session new made → ComesBy g s new made
@@ -120,6 +138,7 @@ module _ (g : Geometry) (o : Opening) (found : List LogRecord) (es : List Entry)
         before = like_itself s;
         events = AppendPrepare a h.global (granules_in_ex s a) ∷ [];
         durable = (tt, tt);
+        tickets = (tt, tt);
         mid = mid;
         goes = (mid, [], prepare_goes g o found es s k.sessions a h.of.0 h.whole h.global h.unused h.may, (refl, refl), refl);
         after = subst (IsLike mid) (sym h.is) (record { sessions = refl; log = refl; counts = refl; stream = refl });
@@ -137,11 +156,14 @@ module _ (g : Geometry) (o : Opening) (found : List LogRecord) (es : List Entry)
 
     unlocking : StepsTo (with_abort s a).sessions unlocks_all unlocked.sessions
     unlocking =
-        released_moves (with_abort s a).sessions s.locks.requests a.txn k.sessions.locks.held k.sessions.locks.orderly k.sessions.locks.rooted k.sessions.locks.below
+        released_moves (with_abort s a).sessions s.locks.requests a.txn (ap (without_locks a.txn) k.sessions.locks.held) k.sessions.locks.orderly k.sessions.locks.rooted k.sessions.locks.below
         (ends_under_way g o found es session a of s k.sessions mem)
 
     abbrev left_by : Records → List SessionTxn → List LogRecord → State
-    left_by R xs log = record s { sessions = record (seated s.sessions (entries_by s.sessions (AnswerAbort a)) s.sessions) { records = R; active = xs }; log = log }
+    left_by R xs log = record s {
+      sessions = record (seated s.sessions (entries_by s.sessions (AnswerAbort a)) s.sessions) { records = R; active = xs; held = without_locks a.txn s.sessions.held };
+      log = log;
+    }
 
     abbrev abort_entry : Entry
     abort_entry = Exchanged a.session a.txn (exchange call.Abort (Ok Aborted))
@@ -157,12 +179,13 @@ module _ (g : Geometry) (o : Opening) (found : List LogRecord) (es : List Entry)
       ap (λ n. Exchanged n a.txn (exchange call.Abort (Ok Aborted)) ∷ []) (sym session_is) ∙ ap (λ t. Exchanged b.session t (exchange call.Abort (Ok Aborted)) ∷ []) (sym txn_is),
     )
 
-    aborting : (events : List SessionEvent) → AllByRecursion (IsDurable s) events → GoesBy g s events unlocked (abort_entry ∷ []) → ComesBy g s (aborted s a) (abort_entry ∷ [])
-    aborting events durable goes = record {
+    aborting : (events : List SessionEvent) → AllByRecursion (IsDurable s) events → AllByRecursion TellsNoTicket events → GoesBy g s events unlocked (abort_entry ∷ []) → ComesBy g s (aborted s a) (abort_entry ∷ [])
+    aborting events durable none goes = record {
       start = s;
       before = like_itself s;
       events = events;
       durable = durable;
+      tickets = no_tickets s.durable s.log events none;
       mid = unlocked;
       goes = goes;
       after = record { sessions = refl; log = refl; counts = refl; stream = refl };
@@ -170,7 +193,7 @@ module _ (g : Geometry) (o : Opening) (found : List LogRecord) (es : List Entry)
 
     -- nothing is to be put back
     aborts_at_once : a.undo.images ≡ [] → ComesBy g s (aborted s a) (abort_entry ∷ [])
-    aborts_at_once none = aborting (AnswerAbort a ∷ unlocks_all ∷ []) (tt, (tt, tt)) (then_unlocks s a refl refl refl (abort_goes g s a (own_of k.sessions a mem) none))
+    aborts_at_once none = aborting (AnswerAbort a ∷ unlocks_all ∷ []) (tt, (tt, tt)) (tt, (tt, tt)) (then_unlocks s a refl refl refl (abort_goes g s a (own_of k.sessions a mem) none))
 
     aborts_in_steps : (e : Rid × Image) (others : List (Rid × Image)) → a.undo.images ≡ e ∷ others → ComesBy g s (aborted s a) (abort_entry ∷ [])
     aborts_in_steps e others images =
@@ -186,6 +209,7 @@ module _ (g : Geometry) (o : Opening) (found : List LogRecord) (es : List Entry)
         ∙ ap (λ (x : List (Rid × Image)). left_by (rolled_back s.sessions.records x) (without_txn a.txn s.sessions.active) (and_rollback a.txn s.log a.undo.images)) (sym images) in
         aborting (put_backs a [] e others Whole (AnswerAbort its ∷ unlocks_all ∷ []))
         (all_put_backs (IsDurable s) a (λ undo kept e r. tt) [] e others Whole (AnswerAbort its ∷ unlocks_all ∷ []) (tt, (tt, tt)))
+        (all_put_backs TellsNoTicket a (λ undo kept e r. tt) [] e others Whole (AnswerAbort its ∷ unlocks_all ∷ []) (tt, (tt, tt)))
         (backs_go g o found es session a of s k.sessions mem Whole tt [] e others images (omega arith) (AnswerAbort its ∷ unlocks_all ∷ []) unlocked (abort_entry ∷ [])
         (then_unlocks unwound its refl refl same (abort_goes g unwound its (let own = own_of k.sessions a mem in (its_list a undo s.sessions.active own.0, own.1, own.2)) refl)))
 
@@ -207,47 +231,6 @@ module _ (g : Geometry) (o : Opening) (found : List LogRecord) (es : List Entry)
   passed_comes session c step new (inr (inr (inl abort))) = abort_comes session new (entries_told s session c step) abort
   passed_comes session c step new (inr (inr (inr prep))) = prepare_call_comes session new (entries_told s session c step) prep
 
-  module _ (w : Waiting) (there : IsAmong w s.waiting) (new : State) (made : List Entry) (h : IsAnswered s w.session w.wait new made) where
-    abbrev a : SessionTxn
-    a = h.txn
-
-    under_way_no_more : IsAmong a.txn (txns_of s.sessions.active) → ⊥
-    under_way_no_more among = let b = txn_of_one a.txn s.sessions.active among in parted k.sessions b.0 a b.1 h.committing b.2
-
-    unlocks : StepsTo (with_answer g s a).sessions (MoveLocks (held_by_all (released a.txn s.locks.requests))) (commit_ended s a).sessions
-    unlocks =
-        released_moves (with_answer g s a).sessions s.locks.requests a.txn k.sessions.locks.held k.sessions.locks.orderly k.sessions.locks.rooted k.sessions.locks.below under_way_no_more
-
-    abbrev answered : State
-    answered = with_answer g s a
-
-    its_number : txn_of s.sessions w.session ≡ a.txn
-    its_number = its_txn s.sessions a w.session (committed_seat k.sessions a h.committing) h.of
-
-    answer_comes : ComesBy g s new made
-    answer_comes =
-        subst (ComesBy g s new)
-        (ap (λ e. e ∷ []) (same_entry a.session w.session a.txn (txn_of s.sessions w.session) (exchange call.Commit (Ok Committed)) h.of (sym its_number)) ∙ sym h.entries)
-        (record {
-          start = s;
-          before = like_itself s;
-          events = AnswerCommit a ∷ MoveLocks (held_by_all (released a.txn s.locks.requests)) ∷ [];
-          durable = (
-            subst (λ t. IsDecidedIn (take s.durable s.log) (decision.Commit t)) its_number
-                (is_decided (length found) (decision.Commit (txn_of s.sessions w.session)) (take s.durable s.log) (answer_is_durable o found es s k w there h.number h.waits h.durable a h.committing h.of)),
-            (tt, tt),
-          );
-          mid = with_requests answered (released a.txn s.locks.requests);
-          goes = (
-            answered,
-            [],
-            answer_goes g s a h.committing (committed_seat k.sessions a h.committing),
-            (with_requests answered (released a.txn s.locks.requests), [], locks_go g answered (released a.txn s.locks.requests) unlocks, (refl, refl), refl),
-            refl,
-          );
-          after = subst (IsLike (with_requests answered (released a.txn s.locks.requests))) (sym h.is) (record { sessions = refl; log = refl; counts = refl; stream = refl });
-        })
-
   prepare_comes : (w : Waiting) → IsAmong w s.waiting → (new : State) (made : List Entry) → IsPrepareTold s w.session w.wait w.call new made → ComesBy g s new made
   prepare_comes w m new made h =
       let number : txn_of s.sessions w.session ≡ h.txn = ap (λ (p : SessionState). p.txn) h.preparing.1 in
@@ -261,6 +244,7 @@ module _ (g : Geometry) (o : Opening) (found : List LogRecord) (es : List Entry)
               (prepare_is_durable o found es s k w m h.number h.waits h.durable h.txn h.global h.preparing h.asks),
           tt,
         );
+        tickets = (tt, tt);
         mid = told;
         goes = (told, [], prepare_told_goes g s w.session h.txn h.global h.preparing, (refl, refl), refl);
         after = subst (IsLike told) (sym h.is) (record { sessions = refl; log = refl; counts = refl; stream = refl });
@@ -282,6 +266,7 @@ module _ (g : Geometry) (o : Opening) (found : List LogRecord) (es : List Entry)
               (its_decision o found es s k w m h.number h.waits h.durable r h.ended h.asks (decision_resolved r) (resolved_is_asked r.txn r.global r.outcome)),
           tt,
         );
+        tickets = (tt, tt);
         mid = told;
         goes = (told, [], told_goes g s w.session r h.ended, (refl, refl), refl);
         after = subst (IsLike told) (sym h.is) (record { sessions = refl; log = refl; counts = refl; stream = refl });
@@ -294,9 +279,8 @@ module _ (g : Geometry) (o : Opening) (found : List LogRecord) (es : List Entry)
       by (inl same) = subst (ComesBy g s new) (sym same.1) (nothing_comes g s new (subst (IsLike s) (sym same.0) (like_itself s)))
       by (inr (inl on)) =
           quietly_comes g w.session s (wait_refused s w.session) new (entries_of_resumed s w step) (record { sessions = refl; log = refl; counts = refl; stream = refl }) on.on
-      by (inr (inr (inl told))) = answer_comes w m new (entries_of_resumed s w step) told
-      by (inr (inr (inr (inl told)))) = prepare_comes w m new (entries_of_resumed s w step) told
-      by (inr (inr (inr (inr told)))) = resolve_told_comes w m new (entries_of_resumed s w step) told
+      by (inr (inr (inl told))) = prepare_comes w m new (entries_of_resumed s w step) told
+      by (inr (inr (inr told))) = resolve_told_comes w m new (entries_of_resumed s w step) told
 
   pub session_resume_comes : (session : ℕ) (step : Step) (new : State) → ResumeStep g s session step new → ComesBy g s new (entries_of_resume s session step)
   session_resume_comes session step new (inl h) =

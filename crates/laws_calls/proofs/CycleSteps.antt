@@ -28,14 +28,14 @@ use Rattle.shore_model.specs.declared.step.Step.{Step}
 use Rattle.shore_model.specs.declared.step.Step.TheVariants.{Done, Nothing, Refused, Waits}
 use Rattle.shore_model.specs.declared.step.Wait.{Wait}
 use Rattle.shore_model.specs.declared.step.Wait.TheVariants.{Durable, Lock}
-use Rattle.laws_calls.proofs.AskedLocks.{begin_keeps_locks, commit_keeps_locks, refused_locks}
+use Rattle.laws_calls.proofs.AskedLocks.{begin_keeps_locks, refused_locks}
 use Rattle.laws_calls.proofs.GoingOn.{never_waiting, refused_not_waiting}
 use Rattle.laws_calls.proofs.RollingLeaves.{back_table, interrupted_table, savepoint_table}
 use Rattle.laws_calls.proofs.SessionResumes.{woken}
 use Rattle.laws_calls.proofs.Sessions.{its_txn}
 use Rattle.laws_calls.proofs.TakenLocks.{leaves, locked_state}
 use Rattle.laws_calls.specs.CallHistories.{txn_of}
-use Rattle.laws_calls.specs.CallSteps.{AbortStep, AnswersBehind, CallStep, CallGoesOn, HasLocked, InnerStep, RefusesBehind, ResumeStep, ResumesCall, ResumesWait, behind_place, lock_outcome, on_conflict_of, place_outcome, OutsideStep}
+use Rattle.laws_calls.specs.CallSteps.{AbortStep, AnswersBehind, CallStep, CallGoesOn, HasLocked, InnerStep, RefusesBehind, ResumeStep, ResumesCall, ResumesWait, behind_place, lock_outcome, on_conflict_of, place_outcome, OutsideStep, CommitStep}
 use Rattle.laws_calls.specs.LockedStates.{IsSessionsState}
 use Rattle.laws_calls.specs.Settling.{WaitsForNoLock}
 use Rattle.laws_calls.specs.StateChanges.{wait_refused}
@@ -147,13 +147,19 @@ module _ (g : Geometry) (o : Opening) (found : List LogRecord) (es : List Entry)
   abort_free a (Waits wait) new h = absurd h
   abort_free a Nothing new h = absurd h
 
+  commit_free : (a : SessionTxn) (step : Step) (new : State) → CommitStep s a step new → HasNoCycle new.locks.requests
+  commit_free a (Done answer) new h = subst (λ (x : State). HasNoCycle x.locks.requests) (sym h.1) (release_keeps_free s.locks.requests a.txn k.locks.orderly none)
+  commit_free a (Refused f) new h = absurd h
+  commit_free a (Waits wait) new h = absurd h
+  commit_free a Nothing new h = absurd h
+
   inner_closes : (a : SessionTxn) → HasSeat s.sessions a → is_waiting a.txn s.locks.requests ≡ false → (c : Call) (step : Step) (new : State) → InnerStep g s a c step new
       → ClosesAtMost a.txn step new
   inner_closes a mem quiet c step new (inl h) = no_cycle_at_all a.txn step new (none_as_before s new (ap (λ (x : State). x.locks) h.3) none)
   inner_closes a mem quiet c step new (inr (inl (whole, inl h))) = no_cycle_at_all a.txn step new (none_as_before s new (ap (λ (x : State). x.locks) h.3) none)
   inner_closes a mem quiet c step new (inr (inl (whole, inr (inl h)))) =
       goes_closes o found es a g s (record { state = k; active = mem; quiet = quiet; none = none }) c step new h.1
-  inner_closes a mem quiet c step new (inr (inl (whole, inr (inr (inl h))))) = no_cycle_at_all a.txn step new (none_as_before s new (commit_keeps_locks s a step new h.1) none)
+  inner_closes a mem quiet c step new (inr (inl (whole, inr (inr (inl h))))) = no_cycle_at_all a.txn step new (commit_free a step new h.1)
   inner_closes a mem quiet c step new (inr (inl (whole, inr (inr (inr (inl h)))))) = no_cycle_at_all a.txn step new (none_as_before s new (savepoint_table s a step new h.1).locks none)
   inner_closes a mem quiet c step new (inr (inl (whole, inr (inr (inr (inr h)))))) = no_cycle_at_all a.txn step new (none_as_before s new (prepare_locks s a h.0 step new h.2) none)
   inner_closes a mem quiet c step new (inr (inr (inl h))) = no_cycle_at_all a.txn step new (none_as_before s new (back_table s a h.0 step new h.3).locks none)
@@ -189,10 +195,8 @@ module _ (g : Geometry) (o : Opening) (found : List LogRecord) (es : List Entry)
 
   wait_closes : (w : Waiting) (wait : Wait) (step : Step) (new : State) → ResumesWait g s w wait step new → ClosesAtMost (txn_of s.sessions w.session) step new
   wait_closes w (Durable n) step new (inl h) = no_cycle_at_all _ step new (none_as_before s new (ap (λ (x : State). x.locks) h.2) none)
-  wait_closes w (Durable n) step new (inr (inl h)) =
-      no_cycle_at_all _ step new (subst (λ (x : State). HasNoCycle x.locks.requests) (sym h.2.3) (release_keeps_free s.locks.requests h.2.0.txn k.locks.orderly none))
-  wait_closes w (Durable n) step new (inr (inr (inl h))) = no_cycle_at_all _ step new (none_as_before s new (ap (λ (x : State). x.locks) h.2.4) none)
-  wait_closes w (Durable n) step new (inr (inr (inr h))) = no_cycle_at_all _ step new (none_as_before s new (ap (λ (x : State). x.locks) h.2.3) none)
+  wait_closes w (Durable n) step new (inr (inl h)) = no_cycle_at_all _ step new (none_as_before s new (ap (λ (x : State). x.locks) h.2.4) none)
+  wait_closes w (Durable n) step new (inr (inr h)) = no_cycle_at_all _ step new (none_as_before s new (ap (λ (x : State). x.locks) h.2.3) none)
   wait_closes w (Lock at) step new h = ⊎_elim
       (λ still. no_cycle_at_all _ step new (none_as_before s new (ap (λ (x : State). x.locks) still.2) none))
       (λ free.

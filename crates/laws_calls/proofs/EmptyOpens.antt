@@ -37,7 +37,6 @@ empty_is_opened stream_bytes = record {
   on = record {
     records = λ id. get-empty rid_cmp id ∙ sym (ap (λ (image : Option Image). unwrap_or image None) (get_id [] id));
     seats = λ n. refl;
-    committing = refl;
     resolving = refl;
     prepared = refl;
     active = refl;
@@ -48,7 +47,7 @@ empty_is_opened stream_bytes = record {
     lawful = format_may_be_found.lawful;
     doubts = format_may_be_found.doubts;
     opening = format_opens;
-    no_losers = λ t id changes over. let clash = changes in absurd cc;
+    no_losers = λ t loser. let known = loser.known in omega arith;
     below = tt;
   };
   log = refl;

@@ -210,8 +210,7 @@ module _ (g : Geometry) (o : Opening) (found : List LogRecord) (es : List Entry)
   freed : (w : Waiting) (wait : Wait) (new : State) → IsAmong w s.waiting → w.session ≡ session → ResumesWait g s w wait (Done Resolved) new → Frees new
   freed w (Durable n) new m its (inl h) = let clash = h.1 in absurd cc
   freed w (Durable n) new m its (inr (inl h)) = let clash = h.1 in absurd cc
-  freed w (Durable n) new m its (inr (inr (inl h))) = let clash = h.1 in absurd cc
-  freed w (Durable n) new m its (inr (inr (inr (le, same, (r, ended, asked, is))))) =
+  freed w (Durable n) new m its (inr (inr (le, same, (r, ended, asked, is)))) =
       let gone = unused_without g o found es s k session r.global r.outcome r new.sessions ended.0 refl (λ doubt. ended.1 (k.sessions.agree.under_way r.txn doubt))
       (ap (λ (x : State). x.sessions.prepared) is) (ap (λ (x : State). x.sessions.resolving) is) in (
         w,

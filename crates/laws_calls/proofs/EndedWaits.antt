@@ -46,9 +46,8 @@ module _ (g : Geometry) (s new : State) (session : ℕ) where
 
   answered_on : (w : Waiting) → w.session ≡ session → (wait : Wait) (answer : Answer) → ResumesWait g s w wait (Done answer) new → DoesNotWait new session
   answered_on w of (Durable n) answer (inl h) = let clash = h.1 in absurd cc
-  answered_on w of (Durable n) answer (inr (inl h)) = no_more h.2.0.session (h.2.2 ∙ of) (ap (λ (s : State). s.waiting) h.2.3)
-  answered_on w of (Durable n) answer (inr (inr (inl h))) = no_more w.session of (ap (λ (s : State). s.waiting) h.2.4)
-  answered_on w of (Durable n) answer (inr (inr (inr h))) = no_more w.session of (ap (λ (s : State). s.waiting) h.2.3)
+  answered_on w of (Durable n) answer (inr (inl h)) = no_more w.session of (ap (λ (s : State). s.waiting) h.2.4)
+  answered_on w of (Durable n) answer (inr (inr h)) = no_more w.session of (ap (λ (s : State). s.waiting) h.2.3)
   answered_on w of (Lock at) answer h =
       ⊎_elim
       (λ still. let clash = still.1 in absurd cc)
@@ -64,8 +63,7 @@ module _ (g : Geometry) (s new : State) (session : ℕ) where
   refused_on : (w : Waiting) → w.session ≡ session → (wait : Wait) (f : Fault) → ResumesWait g s w wait (Refused f) new → DoesNotWait new session
   refused_on w of (Durable n) f (inl h) = let clash = h.1 in absurd cc
   refused_on w of (Durable n) f (inr (inl h)) = let clash = h.1 in absurd cc
-  refused_on w of (Durable n) f (inr (inr (inl h))) = let clash = h.1 in absurd cc
-  refused_on w of (Durable n) f (inr (inr (inr h))) = let clash = h.1 in absurd cc
+  refused_on w of (Durable n) f (inr (inr h)) = let clash = h.1 in absurd cc
   refused_on w of (Lock at) f h =
       ⊎_elim
       (λ still. let clash = still.1 in absurd cc)

@@ -17,4 +17,4 @@ pub quietly_few : (g : Geometry) (session : ℕ) (s new : State) (made : List En
 quietly_few g session s new made h few =
     let like = left_like session h.mid new h.left in
     let mid = by_few g s h.events h.mid made h.goes few in
-    subst (λ (n : Sessions). length n.active + length n.committing + length (ended_among n.active n.resolving) ≤ MAX_TRANSACTIONS) (sym like.sessions) mid
+    subst (λ (n : Sessions). length n.active + length (ended_among n.active n.resolving) ≤ MAX_TRANSACTIONS) (sym like.sessions) mid

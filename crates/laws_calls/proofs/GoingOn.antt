@@ -45,7 +45,7 @@ use Rattle.laws_calls.specs.StateChanges.{IsPageFault, after_refusal, answered}
 use Rattle.laws_calls.specs.CallSteps.{AnswersBehind, CallGoesOn, LacksMemory, RefusesBehind, RefusesRead, behind_lock, behind_place, lock_outcome, lock_waiting, on_conflict_of, place_outcome}
 use Rattle.laws_calls.specs.LockedStates.{IsSessionsState}
 use Rattle.laws_calls.specs.States.{HasSeat, State}
-use Rattle.laws_calls.proofs.Told.{entries_told}
+use Rattle.laws_calls.proofs.Told.{entries_told, asks_decides_nothing}
 
 -- calls that ask for a lock are made within a transaction
 pub asking_is_inner : (c : Call) (lock : Asked) → lock_asked_by c ≡ Some lock → IsInnerCall c
@@ -244,7 +244,9 @@ module _ (g : Geometry) (o : Opening) (found : List LogRecord) (es : List Entry)
         h.2
 
     pub goes_on_kept : (c : Call) (step : Step) (new : State) → CallGoesOn g s a c step new → IsSessionsState o found (es ++ entries_told s session c step) new
-    goes_on_kept c (Done answer) new h = answers_kept c h.1.0 h.1.1 h.1.2 answer new (subst (λ (l : State). AnswersBehind g l a c answer new) h.1.3 h.2)
+    goes_on_kept c (Done answer) new h =
+        subst (λ ds. IsSessionsState o found (es ++ (ds ++ answer_entry s c answer ∷ [])) new) (sym (asks_decides_nothing (txn_of s.sessions session) c h.1.0 h.1.1))
+        (answers_kept c h.1.0 h.1.1 h.1.2 answer new (subst (λ (l : State). AnswersBehind g l a c answer new) h.1.3 h.2))
     goes_on_kept c (Waits wait) new h =
         subst (λ w. IsSessionsState o found (es ++ entries_told s session c (Waits w)) new) (sym h.4)
         (subst (IsSessionsState o found (es ++ [])) (sym h.5)

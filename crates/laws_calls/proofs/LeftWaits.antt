@@ -12,7 +12,7 @@ use Rattle.shore_model.specs.declared.calls.Call.TheVariants as call
 use Rattle.shore_model.specs.declared.histories.Entry.{Entry}
 use Rattle.shore_model.specs.Records.{Records}
 use Rattle.laws_lives.proofs.Members.{txns_with}
-use Rattle.laws_lives.specs.SessionSteps.{AnswerAbort, AnswerCommit, AppendCommit, BeginTxn, Doom, GiveReply, MoveLocks, PutBack, RefuseCall, SessionEvent, AnswerInDoubt, AnswerPrepare, AnswerResolve, AppendPrepare, AppendResolve, AppendRollback, EndRollback, entries_by}
+use Rattle.laws_lives.specs.SessionSteps.{AnswerAbort, Ask, AppendCommit, BeginTxn, Doom, GiveReply, MoveLocks, PutBack, RefuseCall, SessionEvent, AnswerInDoubt, AnswerPrepare, AnswerResolve, AppendPrepare, AppendResolve, AppendRollback, EndRollback, entries_by}
 use Rattle.laws_lives.specs.Sessions.{SessionTxn, Sessions, with_undo, IsInNoTxn, in_txn, reply_given, seated, txn_begun, in_prepared, ResolvedTxn, txns_of}
 use Rattle.laws_lives.specs.UndoLists.{MayGiveReply, UndoList, undo_after, undo_rolled}
 use Rattle.laws_lives.specs.Views.{IsAmong}
@@ -42,7 +42,6 @@ StaysIn s a n = (b : SessionTxn) × HasSeat n b × (b.session ≡ a.session) × 
 
 pub record LeavesWaits (s new : State) : Type 0 where
   pub waiting : new.waiting ≡ s.waiting
-  pub committing : new.sessions.committing ≡ s.sessions.committing
   pub prepared : new.sessions.prepared ≡ s.sessions.prepared
   pub seats : (n t : ℕ) → s.sessions.seats n ≡ in_prepared t → new.sessions.seats n ≡ in_prepared t
   pub active : (a : SessionTxn) → HasSeat s.sessions a → StaysIn s a new.sessions
@@ -55,25 +54,24 @@ pub record LeavesWaits (s new : State) : Type 0 where
   pub running : new.failed ≡ false → s.failed ≡ false
 
 -- what is not answered stays so
-pub unanswered_on : (s new : Sessions) (session : ℕ) (c : Call) (d : Decision) → ((a : SessionTxn) → IsAmong a s.committing → a.session ≡ session → IsAmong a new.committing)
+pub unanswered_on : (s new : Sessions) (session : ℕ) (c : Call) (d : Decision)
     → ((t : ℕ) (global : List ℕ) → IsPreparing s session t global → IsPreparing new session t global)
     → ((r : ResolvedTxn) → HasEnded s r → c ≡ call.Resolve r.global r.outcome → IsNotUnderWay s session → HasEnded new r × IsNotUnderWay new session)
     → IsUnanswered s session c d → IsUnanswered new session c d
-unanswered_on s new session c d commits prepares resolves (inl h) = inl (h.0, commits h.0 h.1 h.2, h.2, h.3, h.4)
-unanswered_on s new session c d commits prepares resolves (inr (inl h)) = inr (inl (h.0, h.1, prepares h.0 h.1 h.2, h.3, h.4))
-unanswered_on s new session c d commits prepares resolves (inr (inr h)) = let on = resolves h.0 h.1 h.2 h.4 in inr (inr (h.0, on.0, h.2, h.3, on.1))
+unanswered_on s new session c d prepares resolves (inl h) = inl (h.0, h.1, prepares h.0 h.1 h.2, h.3, h.4)
+unanswered_on s new session c d prepares resolves (inr h) = let on = resolves h.0 h.1 h.2 h.4 in inr (h.0, on.0, h.2, h.3, on.1)
 
-pub decision_wait_on : (base : ℕ) (s new : State) (w : Waiting) → ((a : SessionTxn) → IsAmong a s.sessions.committing → a.session ≡ w.session → IsAmong a new.sessions.committing)
+pub decision_wait_on : (base : ℕ) (s new : State) (w : Waiting)
     → ((t : ℕ) (global : List ℕ) → IsPreparing s.sessions w.session t global → IsPreparing new.sessions w.session t global)
     → ((r : ResolvedTxn) → HasEnded s.sessions r → w.call ≡ call.Resolve r.global r.outcome → IsNotUnderWay s.sessions w.session → HasEnded new.sessions r × IsNotUnderWay new.sessions w.session)
     → IsPrefix s.log new.log → IsDecisionWait base s w → IsDecisionWait base new w
-decision_wait_on base s new w commits prepares resolves on h =
+decision_wait_on base s new w prepares resolves on h =
     let still = still_there base h.number s.log new.log h.decision on h.there h.decided in
     record {
       number = h.number;
       decision = h.decision;
       is = h.is;
-      unanswered = unanswered_on s.sessions new.sessions w.session w.call h.decision commits prepares resolves h.unanswered;
+      unanswered = unanswered_on s.sessions new.sessions w.session w.call h.decision prepares resolves h.unanswered;
       some = h.some;
       there = still.0;
       decided = still.1;
@@ -98,7 +96,7 @@ waits_left base s new older h k = record {
   each = λ w m.
       let was = subst (IsAmong w) h.waiting m in
       ⊎_elim
-      (λ c. inl (decision_wait_on base s new w (λ a mem of. subst (IsAmong a) (sym h.committing) mem)
+      (λ c. inl (decision_wait_on base s new w
       (λ t global p. (subst (IsAmong (record { txn = t; global = global; answered = false })) (sym h.prepared) p.0, h.seats w.session t p.1))
       (λ r ended is out. ((subst (IsAmong r) (sym h.resolving) ended.0, λ active. ended.1 (h.older r.txn (older r ended.0) active)), still_outside s new w.session (h.outside w was) out))
       h.on c))
@@ -108,9 +106,6 @@ waits_left base s new older h k = record {
       (were.0, were.1, subst (IsAmong (decision_waiting were.0 (call.Resolve r.global r.outcome) were.1)) (sym h.waiting) were.2);
   resolve_once = λ v w global x y m n first second. k.resolve_once v w global x y (subst (IsAmong v) h.waiting m) (subst (IsAmong w) h.waiting n) first second;
   once = λ v w m n same. k.once v w (subst (IsAmong v) h.waiting m) (subst (IsAmong w) h.waiting n) same;
-  all = λ running a m.
-      let was = k.all (h.running running) a (subst (IsAmong a) h.committing m) in
-      (was.0, subst (IsAmong (decision_waiting a.session call.Commit was.0)) (sym h.waiting) was.1);
   prepares = λ running p m e.
       let was = k.prepares (h.running running) p (subst (IsAmong p) h.prepared m) e in
       (was.0, was.1, subst (IsAmong (decision_waiting was.0 (call.Prepare p.global) was.1)) (sym h.waiting) was.2, h.seats was.0 p.txn was.3);
@@ -130,24 +125,6 @@ module _ (g : Geometry) (s new : State) where
   pub goes_on_log : (e : SessionEvent) → Goes g s e new → IsPrefix s.log new.log
   goes_on_log e h = writes_on g s new h.writes
 
-  same_committing : (e : SessionEvent) → (start : State) → IsQuiet start e → Goes g s e new → new.sessions.committing ≡ s.sessions.committing
-  same_committing (MoveLocks held) start quiet h = ap (λ (n : Sessions). n.committing) h.moves.3
-  same_committing (BeginTxn session) start quiet h = ap (λ (n : Sessions). n.committing) h.moves.1
-  same_committing (GiveReply a c reply) start quiet h = ap (λ (n : Sessions). n.committing) h.moves.4
-  same_committing (PutBack a kept e r) start quiet h = ap (λ (n : Sessions). n.committing) h.moves.4
-  same_committing (RefuseCall session t c f) start quiet h = ap (λ (n : Sessions). n.committing) h.moves.2
-  same_committing (Doom a) start quiet h = absurd quiet
-  same_committing (AppendCommit a) start quiet h = absurd quiet
-  same_committing (AnswerAbort a) start quiet h = absurd quiet
-  same_committing (AnswerCommit a) start quiet h = absurd quiet
-  same_committing (AppendPrepare a global granules) start quiet h = absurd quiet
-  same_committing (AnswerPrepare session t global) start quiet h = absurd quiet
-  same_committing (AppendResolve a global) start quiet h = absurd quiet
-  same_committing (AppendRollback a global) start quiet h = absurd quiet
-  same_committing (EndRollback a) start quiet h = absurd quiet
-  same_committing (AnswerResolve session r) start quiet h = absurd quiet
-  same_committing (AnswerInDoubt session t pairs) start quiet h = ap (λ (n : Sessions). n.committing) h.moves.2
-
   same_resolving : (e : SessionEvent) → (start : State) → IsQuiet start e → Goes g s e new → new.sessions.resolving ≡ s.sessions.resolving
   same_resolving (MoveLocks held) start quiet h = ap (λ (n : Sessions). n.resolving) h.moves.3
   same_resolving (BeginTxn session) start quiet h = ap (λ (n : Sessions). n.resolving) h.moves.1
@@ -156,9 +133,9 @@ module _ (g : Geometry) (s new : State) where
   same_resolving (RefuseCall session t c f) start quiet h = ap (λ (n : Sessions). n.resolving) h.moves.2
   same_resolving (AnswerInDoubt session t pairs) start quiet h = ap (λ (n : Sessions). n.resolving) h.moves.2
   same_resolving (Doom a) start quiet h = absurd quiet
-  same_resolving (AppendCommit a) start quiet h = absurd quiet
+  same_resolving (AppendCommit a ticket) start quiet h = absurd quiet
   same_resolving (AnswerAbort a) start quiet h = absurd quiet
-  same_resolving (AnswerCommit a) start quiet h = absurd quiet
+  same_resolving (Ask ticket answer) start quiet h = absurd quiet
   same_resolving (AppendPrepare a global granules) start quiet h = absurd quiet
   same_resolving (AnswerPrepare session t global) start quiet h = absurd quiet
   same_resolving (AppendResolve a global) start quiet h = absurd quiet
@@ -184,9 +161,9 @@ module _ (g : Geometry) (s new : State) where
   quiet_txns (RefuseCall session t c f) start quiet h = all_same _ h.moves.2 refl refl
   quiet_txns (AnswerInDoubt session t pairs) start quiet h = all_same _ h.moves.2 refl refl
   quiet_txns (Doom a) start quiet h = absurd quiet
-  quiet_txns (AppendCommit a) start quiet h = absurd quiet
+  quiet_txns (AppendCommit a ticket) start quiet h = absurd quiet
   quiet_txns (AnswerAbort a) start quiet h = absurd quiet
-  quiet_txns (AnswerCommit a) start quiet h = absurd quiet
+  quiet_txns (Ask ticket answer) start quiet h = absurd quiet
   quiet_txns (AppendPrepare a global granules) start quiet h = absurd quiet
   quiet_txns (AnswerPrepare session t global) start quiet h = absurd quiet
   quiet_txns (AppendResolve a global) start quiet h = absurd quiet
@@ -206,9 +183,9 @@ module _ (g : Geometry) (s new : State) where
   outside_seats (RefuseCall session u c f) start quiet h w m t is = sym (ap (λ (x : Sessions). x.seats w.session) (h.moves.2 ∙ sym (refused_seats s.sessions session u c f))) ∙ is
   outside_seats (AnswerInDoubt session u pairs) start quiet h w m t is = sym (ap (λ (x : Sessions). x.seats w.session) (h.moves.2 ∙ sym (listing_seats s.sessions session u pairs))) ∙ is
   outside_seats (Doom a) start quiet h w m t is = absurd quiet
-  outside_seats (AppendCommit a) start quiet h w m t is = absurd quiet
+  outside_seats (AppendCommit a ticket) start quiet h w m t is = absurd quiet
   outside_seats (AnswerAbort a) start quiet h w m t is = absurd quiet
-  outside_seats (AnswerCommit a) start quiet h w m t is = absurd quiet
+  outside_seats (Ask ticket answer) start quiet h w m t is = absurd quiet
   outside_seats (AppendPrepare a global granules) start quiet h w m t is = absurd quiet
   outside_seats (AnswerPrepare session u global) start quiet h w m t is = absurd quiet
   outside_seats (AppendResolve a global) start quiet h w m t is = absurd quiet
@@ -223,9 +200,9 @@ module _ (g : Geometry) (s new : State) where
   same_prepared (PutBack a kept e r) start quiet h = ap (λ (n : Sessions). n.prepared) h.moves.4
   same_prepared (RefuseCall session t c f) start quiet h = ap (λ (n : Sessions). n.prepared) h.moves.2
   same_prepared (Doom a) start quiet h = absurd quiet
-  same_prepared (AppendCommit a) start quiet h = absurd quiet
+  same_prepared (AppendCommit a ticket) start quiet h = absurd quiet
   same_prepared (AnswerAbort a) start quiet h = absurd quiet
-  same_prepared (AnswerCommit a) start quiet h = absurd quiet
+  same_prepared (Ask ticket answer) start quiet h = absurd quiet
   same_prepared (AppendPrepare a global granules) start quiet h = absurd quiet
   same_prepared (AnswerPrepare session t global) start quiet h = absurd quiet
   same_prepared (AppendResolve a global) start quiet h = absurd quiet
@@ -247,9 +224,9 @@ module _ (g : Geometry) (s new : State) where
   prepared_seats (PutBack a kept e r) start quiet h n t is = ap (λ (x : Sessions). x.seats n) h.moves.4 ∙ is
   prepared_seats (RefuseCall session u c f) start quiet h n t is = ap (λ (x : Sessions). x.seats n) (h.moves.2 ∙ sym (refused_seats s.sessions session u c f)) ∙ is
   prepared_seats (Doom a) start quiet h n t is = absurd quiet
-  prepared_seats (AppendCommit a) start quiet h n t is = absurd quiet
+  prepared_seats (AppendCommit a ticket) start quiet h n t is = absurd quiet
   prepared_seats (AnswerAbort a) start quiet h n t is = absurd quiet
-  prepared_seats (AnswerCommit a) start quiet h n t is = absurd quiet
+  prepared_seats (Ask ticket answer) start quiet h n t is = absurd quiet
   prepared_seats (AppendPrepare a global granules) start quiet h n t is = absurd quiet
   prepared_seats (AnswerPrepare session u global) start quiet h n t is = absurd quiet
   prepared_seats (AppendResolve a global) start quiet h n t is = absurd quiet
@@ -310,9 +287,9 @@ module _ (g : Geometry) (start s new : State) where
       (relisted_in start a b.txn (undo_rolled b.undo kept r) s.sessions k (λ its waits. absurd (quiet a waits.0 m waits.1 waits.2 its)))
   still_under_way (RefuseCall session t c f) quiet h a m k = subst (StaysIn start a) (refused_seats s.sessions session t c f ∙ sym h.moves.2) k
   still_under_way (Doom a) quiet h b m k = absurd quiet
-  still_under_way (AppendCommit a) quiet h b m k = absurd quiet
+  still_under_way (AppendCommit a ticket) quiet h b m k = absurd quiet
   still_under_way (AnswerAbort a) quiet h b m k = absurd quiet
-  still_under_way (AnswerCommit a) quiet h b m k = absurd quiet
+  still_under_way (Ask ticket answer) quiet h b m k = absurd quiet
   still_under_way (AppendPrepare a global granules) quiet h b m k = absurd quiet
   still_under_way (AnswerPrepare session t global) quiet h b m k = absurd quiet
   still_under_way (AppendResolve a global) quiet h b m k = absurd quiet
@@ -324,7 +301,6 @@ module _ (g : Geometry) (start s new : State) where
   goes_leaves : (e : SessionEvent) → IsQuiet start e → Goes g s e new → LeavesWaits start s → LeavesWaits start new
   goes_leaves e quiet h k = record {
     waiting = h.waiting ∙ k.waiting;
-    committing = same_committing g s new e start quiet h ∙ k.committing;
     prepared = same_prepared g s new e start quiet h ∙ k.prepared;
     seats = λ n t is. prepared_seats g s new e start quiet h n t (k.seats n t is);
     active = λ a m. still_under_way e quiet h a m (k.active a m);
@@ -343,7 +319,7 @@ module _ (g : Geometry) (start s new : State) where
   }
 
 pub leaves_all : (s : State) → LeavesWaits s s
-leaves_all s = record { waiting = refl; committing = refl; prepared = refl; seats = λ n t is. is; active = λ a m. (a, m, refl, refl, λ waits whole. whole); resolving = refl; txns = λ t m. m; older = λ t less m. m; next = omega arith; outside = λ w m t is. is; on = whole_prefix s.log; running = λ running. running }
+leaves_all s = record { waiting = refl; prepared = refl; seats = λ n t is. is; active = λ a m. (a, m, refl, refl, λ waits whole. whole); resolving = refl; txns = λ t m. m; older = λ t less m. m; next = omega arith; outside = λ w m t is. is; on = whole_prefix s.log; running = λ running. running }
 
 pub by_leaves : (g : Geometry) (start s : State) (events : List SessionEvent) (new : State) (made : List Entry) → AllByRecursion (IsQuiet start) events → GoesBy g s events new made
     → LeavesWaits start s → LeavesWaits start new

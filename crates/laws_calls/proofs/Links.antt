@@ -1,5 +1,5 @@
 -- What a step of a manager is to its sessions: their events one after another, each with what it leaves of log, slots and room.
-use Rattle.std.proofs.Common.{◌≡◌, ◌≢◌, ◌⊎◌, inl, inr, ◌++◌, ◌∷◌, ◌+◌, ◌<◌, ◌≤◌, ℕ, List, [], Bool, true, false, cond, None, Some, Err, refl, sym, ap, subst, ◌∙◌, append-nil, arith, length, map, take}
+use Rattle.std.proofs.Common.{◌≡◌, ◌≢◌, ◌⊎◌, inl, inr, ◌++◌, ◌∷◌, ◌+◌, ◌<◌, ◌≤◌, ℕ, List, [], Bool, true, false, cond, None, Some, Ok, Err, refl, sym, ap, subst, ◌∙◌, append-nil, arith, length, map, take}
 use Rattle.std.specs.Prelude.{◌==◌, ◌||◌, IsSome, not}
 use Rattle.std.specs.FinMap.{get}
 use Rattle.std.specs.List.{AllByRecursion, list_any}
@@ -14,8 +14,11 @@ use Rattle.shore_types.specs.declared.ids.Rid.{Rid}
 use Rattle.shore_types.specs.declared.layout.Geometry.{Geometry}
 use Rattle.shore_types.specs.declared.layout.TheConstants.{LAST_TXN, MAX_TRANSACTIONS}
 use Rattle.shore_types.specs.declared.locking.Granule.{Granule}
+use Rattle.shore_model.specs.declared.calls.Answer.TheVariants.{Committed}
 use Rattle.shore_model.specs.declared.calls.Call.{Call}
+use Rattle.shore_model.specs.declared.calls.Call.TheVariants as call
 use Rattle.shore_model.specs.declared.histories.Entry.{Entry}
+use Rattle.shore_model.specs.declared.histories.Entry.TheVariants.{Exchanged}
 use Rattle.shore_model.specs.declared.log_records.Payload.{Payload}
 use Rattle.shore_model.specs.declared.log_records.Payload.TheVariants as payload
 use Rattle.shore_model.specs.declared.requests.Request.{Request}
@@ -28,17 +31,18 @@ use Rattle.laws_room.specs.Events.{EventFits}
 use Rattle.laws_room.specs.LogRooms.{EventAdmits, LogRoom, RoomAfter, begun_room, ended_room, owed}
 use Rattle.laws_lives.proofs.Lists.{length-push}
 use Rattle.laws_lives.specs.Logged.{and_record, log_after}
-use Rattle.laws_lives.specs.SessionSteps.{AnswerAbort, AnswerCommit, AnswerInDoubt, AnswerPrepare, AnswerResolve, AppendCommit, AppendPrepare, AppendResolve, AppendRollback, BeginTxn, Doom, EndRollback, GiveReply, IsOwn, MoveLocks, PutBack, RefuseCall, SessionEvent, StepsTo, entries_by}
-use Rattle.laws_lives.specs.Sessions.{ResolvedTxn, SessionTxn, commit_answered, commit_appended, in_txn, seated, with_undo, without_txn, prepare_answered}
+use Rattle.laws_lives.specs.SessionSteps.{AnswerAbort, Ask, AnswerInDoubt, AnswerPrepare, AnswerResolve, AppendCommit, AppendPrepare, AppendResolve, AppendRollback, BeginTxn, Doom, EndRollback, GiveReply, IsOwn, MoveLocks, PutBack, RefuseCall, SessionEvent, StepsTo, entries_by, exchange}
+use Rattle.laws_lives.specs.Sessions.{ResolvedTxn, SessionTxn, commit_appended, seated, with_undo, without_txn, prepare_answered}
 use Rattle.laws_lives.specs.UndoLists.{UndoList, nothing_to_undo}
 use Rattle.laws_lives.specs.Views.{IsAmong}
 use Rattle.laws_calls.proofs.Rooms.{cost_pushed}
 use Rattle.laws_calls.specs.StateChanges.{FitsAt, begun, with_failure}
 use Rattle.laws_calls.specs.CallSteps.{ended_among, lock_waiting, txn_count, with_requests, IsPreparing}
-use Rattle.laws_calls.specs.States.{DoesNotWait, HasNoTxn, HasSeat, MayBegin, State, Waiting, cost_of_log, log_room}
+use Rattle.laws_calls.specs.States.{DoesNotWait, HasNoTxn, HasSeat, MayBegin, State, Waiting, cost_of_log, log_room, next_number}
 use Rattle.laws_lives.specs.LogPrefixes.{IsDecidedIn}
 use Rattle.shore_model.specs.declared.histories.Decision.TheVariants as decision
-use Rattle.laws_lives.specs.ManagerSteps.{decision_resolved}
+use Rattle.laws_lives.specs.ManagerSteps.{TellsTicket, decision_resolved}
+use Rattle.shore_model.specs.declared.log_records.LogRecord.{LogRecord}
 
 -- ---- how many transactions there are
 
@@ -271,11 +275,15 @@ module _ (g : Geometry) (s : State) where
   }
 
   module _ (a : SessionTxn) where
+    -- a commit with its answer, before its locks go from the table
     abbrev pub with_commit : State
-    with_commit = record s { sessions = commit_appended s.sessions a; log = and_record a.txn s.log payload.Commit }
+    with_commit = record s {
+      sessions = seated s.sessions (Exchanged a.session a.txn (exchange call.Commit (Ok (Committed (next_number s)))) ∷ []) (commit_appended s.sessions a);
+      log = and_record a.txn s.log payload.Commit;
+    }
 
-    pub commit_goes : IsOwn s.sessions a → a.undo.rolling ≡ None → commit_appended s.sessions a ≡ seated s.sessions (entries_by s.sessions (AppendCommit a)) (commit_appended s.sessions a)
-        → Goes g s (AppendCommit a) with_commit
+    pub commit_goes : IsOwn s.sessions a → a.undo.rolling ≡ None → with_commit.sessions ≡ seated s.sessions (entries_by s.sessions (AppendCommit a (next_number s))) (commit_appended s.sessions a)
+        → Goes g s (AppendCommit a (next_number s)) with_commit
     commit_goes own whole seats = record {
       moves = (own, whole, seats);
       log = refl;
@@ -300,24 +308,22 @@ module _ (g : Geometry) (s : State) where
       numbers = λ most. most;
     }
 
-    abbrev pub with_answer : State
-    with_answer = record s { sessions = seated s.sessions (entries_by s.sessions (AnswerCommit a)) (commit_answered s.sessions a) }
-
-    pub answer_goes : IsAmong a s.sessions.committing → s.sessions.seats a.session ≡ in_txn a.txn → Goes g s (AnswerCommit a) with_answer
-    answer_goes mem seat = record {
-      moves = ((mem, seat), refl);
-      log = refl;
-      durable = refl;
-      stream = refl;
-      waiting = refl;
-      failed = refl;
-      fits = refl;
-      admits = tt;
-      room = same_room s with_answer (AnswerCommit a) refl refl refl;
-      writes = inl (refl, refl);
-      few = λ few. let shorter = no_longer_without a.txn s.sessions.committing in omega (arith, few, shorter);
-      numbers = λ most. most;
-    }
+-- a ticket is asked for
+pub ask_goes : (g : Geometry) (s : State) (ticket : ℕ) (answer : Bool) → Goes g s (Ask ticket answer) s
+ask_goes g s ticket answer = record {
+  moves = refl;
+  log = refl;
+  durable = refl;
+  stream = refl;
+  waiting = refl;
+  failed = refl;
+  fits = refl;
+  admits = tt;
+  room = same_room s s (Ask ticket answer) refl refl refl;
+  writes = inl (refl, refl);
+  few = λ few. few;
+  numbers = λ most. most;
+}
 
 -- a prepare is answered
 abbrev pub with_prepare_told : State → ℕ → ℕ → List ℕ → State
@@ -356,11 +362,11 @@ pub record IsLike (s t : State) : Type 0 where
 
 -- what is answered of a decision has its record among the durable ones
 abbrev pub IsDurable : State → SessionEvent → Type 0
-IsDurable s (AnswerCommit a) = IsDecidedIn (take s.durable s.log) (decision.Commit a.txn)
+IsDurable s (Ask ticket answer) = Unit {0}
 IsDurable s (MoveLocks held) = Unit {0}
 IsDurable s (BeginTxn session) = Unit {0}
 IsDurable s (GiveReply a c reply) = Unit {0}
-IsDurable s (AppendCommit a) = Unit {0}
+IsDurable s (AppendCommit a ticket) = Unit {0}
 IsDurable s (PutBack a kept e r) = Unit {0}
 IsDurable s (Doom a) = Unit {0}
 IsDurable s (AnswerAbort a) = Unit {0}
@@ -373,12 +379,24 @@ IsDurable s (EndRollback a) = Unit {0}
 IsDurable s (AnswerResolve session r) = IsDecidedIn (take s.durable s.log) (decision_resolved r)
 IsDurable s (AnswerInDoubt session t pairs) = Unit {0}
 
+-- the event tells of no ticket
+abbrev pub TellsNoTicket : SessionEvent → Type 0
+TellsNoTicket (AppendCommit a ticket) = ⊥
+TellsNoTicket (Ask ticket answer) = ⊥
+TellsNoTicket _ = Unit {0}
+
+-- what tells of tickets is the first of the events, and true where so many records of this log are durable
+abbrev pub TellTickets : ℕ → List LogRecord → List SessionEvent → Type 0
+TellTickets durable log [] = Unit {0}
+TellTickets durable log (e ∷ events) = TellsTicket durable log e × AllByRecursion TellsNoTicket events
+
 -- a step, but for the calls that wait: events of the sessions lead from one state to the other
 pub record ComesBy (g : Geometry) (s new : State) (made : List Entry) : Type 0 where
   pub start : State
   pub before : IsLike s start
   pub events : List SessionEvent
   pub durable : AllByRecursion (IsDurable s) events
+  pub tickets : TellTickets s.durable s.log events
   pub mid : State
   pub goes : GoesBy g start events mid made
   pub after : IsLike mid new
@@ -393,9 +411,9 @@ IsQuiet s (GiveReply a c reply) = Unit {0}
 IsQuiet s (RefuseCall session t c f) = Unit {0}
 IsQuiet s (PutBack a kept e r) = (b : SessionTxn) (w : Waiting) → HasSeat s.sessions b → IsAmong w s.waiting → b.session ≡ w.session → b.txn ≢ a.txn
 IsQuiet s (Doom a) = ⊥
-IsQuiet s (AppendCommit a) = ⊥
+IsQuiet s (AppendCommit a ticket) = ⊥
 IsQuiet s (AnswerAbort a) = ⊥
-IsQuiet s (AnswerCommit a) = ⊥
+IsQuiet s (Ask ticket answer) = ⊥
 IsQuiet s (AppendPrepare a global granules) = ⊥
 IsQuiet s (AnswerPrepare session t global) = ⊥
 IsQuiet s (AppendResolve a global) = ⊥
@@ -449,17 +467,17 @@ left_like session mid new (inl same) = subst (IsLike mid) (sym same) (record { s
 left_like session mid new (inr (inl failed)) = subst (IsLike mid) (sym failed) (record { sessions = refl; log = refl; counts = refl; stream = refl })
 left_like session mid new (inr (inr waits)) = subst (IsLike mid) (sym waits.is) (record { sessions = refl; log = refl; counts = refl; stream = refl })
 
--- no commit is answered
+-- no decision is answered
 pub none_to_answer : (s start : State) (events : List SessionEvent) → AllByRecursion (IsQuiet start) events → AllByRecursion (IsDurable s) events
 none_to_answer s start [] quiet = tt
 none_to_answer s start (e ∷ events) quiet = (none e quiet.0, none_to_answer s start events quiet.1)
   where
     none : (e : SessionEvent) → IsQuiet start e → IsDurable s e
-    none (AnswerCommit a) quiet = absurd quiet
+    none (Ask ticket answer) quiet = tt
     none (MoveLocks held) quiet = tt
     none (BeginTxn session) quiet = tt
     none (GiveReply a c reply) quiet = tt
-    none (AppendCommit a) quiet = tt
+    none (AppendCommit a ticket) quiet = tt
     none (PutBack a kept e r) quiet = tt
     none (Doom a) quiet = tt
     none (AnswerAbort a) quiet = tt
@@ -472,6 +490,25 @@ none_to_answer s start (e ∷ events) quiet = (none e quiet.0, none_to_answer s 
     none (AnswerResolve session r) quiet = absurd quiet
     none (AnswerInDoubt session t pairs) quiet = tt
 
+-- events that tell of none
+pub no_tickets : (durable : ℕ) (log : List LogRecord) (events : List SessionEvent) → AllByRecursion TellsNoTicket events → TellTickets durable log events
+no_tickets durable log [] none = tt
+no_tickets durable log (e ∷ events) none = (tells_none e none.0, none.1)
+  where
+    tells_none : (e : SessionEvent) → TellsNoTicket e → TellsTicket durable log e
+    tells_none (AppendCommit a ticket) none = absurd none
+    tells_none (Ask ticket answer) none = absurd none
+    tells_none _ none = tt
+
+pub quiet_tickets : (start : State) (events : List SessionEvent) → AllByRecursion (IsQuiet start) events → AllByRecursion TellsNoTicket events
+quiet_tickets start [] quiet = tt
+quiet_tickets start (e ∷ events) quiet = (none e quiet.0, quiet_tickets start events quiet.1)
+  where
+    none : (e : SessionEvent) → IsQuiet start e → TellsNoTicket e
+    none (AppendCommit a ticket) quiet = absurd quiet
+    none (Ask ticket answer) quiet = absurd quiet
+    none _ quiet = tt
+
 pub quietly_comes : (g : Geometry) (session : ℕ) (s start new : State) (made : List Entry) → IsLike s start → GoesQuietly g session start new made → ComesBy g s new made
 quietly_comes g session s start new made before h = record {
   start = start;
@@ -481,4 +518,5 @@ quietly_comes g session s start new made before h = record {
   mid = h.mid;
   goes = h.goes;
   after = left_like session h.mid new h.left;
+  tickets = no_tickets s.durable s.log h.events (quiet_tickets start h.events h.quiet);
 }

@@ -119,7 +119,7 @@ module _ (g : Geometry) (o : Opening) (found : List LogRecord) (es : List Entry)
     after = record {
       sessions = woken g o found es s k.sessions a a.session (mem, refl) quiet;
       waits = woken_waits o found es s k.sessions k.waits a.session (λ works. no_record_awaited o found es s k.sessions k.waits a mem);
-      forced = record { least = k.forced.least; most = k.forced.most; acknowledged_kept = k.forced.acknowledged_kept };
+      forced = record { least = k.forced.least; most = k.forced.most; acknowledged_kept = k.forced.acknowledged_kept; tickets = k.forced.tickets };
       few = k.few;
     };
     active = mem;

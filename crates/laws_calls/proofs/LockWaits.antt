@@ -21,7 +21,7 @@ use Rattle.laws_calls.proofs.AfterRefusals.{goes_leaves}
 use Rattle.laws_calls.proofs.EndedWaits.{answers_wait}
 use Rattle.laws_calls.proofs.SessionInversions.{answered_from, durable_no_lock}
 use Rattle.laws_calls.specs.CallHistories.{IsOpened}
-use Rattle.laws_calls.specs.Events.{Called, Forced, HasFailed, ManagerEvent, Resumed, EventMoves, EventsMove}
+use Rattle.laws_calls.specs.Events.{Called, Forced, HasFailed, ManagerEvent, Resumed, EventMoves, EventsMove, TicketAsked}
 use Rattle.laws_calls.specs.StateChanges.{decision_waiting, wait_refused}
 use Rattle.laws_calls.specs.CallSteps.{AbortStep, BeginStep, CommitStep, CallGoesOn, InnerStep, MayAsk, ResumesWait, CallStep, ResumeStep, behind_lock, lock_waiting, OutsideStep}
 use Rattle.laws_calls.specs.Settling.{SettledCall, SettledResume, Settles}
@@ -100,11 +100,11 @@ module _ (g : Geometry) (P : ℕ → Call → Wait → Type 0) (moves : (session
   begins s new session (Waits wait) h = absurd h
   begins s new session Nothing h = absurd h
 
-  commits : (s new : State) (a : SessionTxn) → ((n : ℕ) → P a.session call.Commit (Durable n)) → (step : Step) → CommitStep s a step new → WaitsHave P s → WaitsHave P new
-  commits s new a may (Waits wait) h = and_one s new (decision_waiting a.session call.Commit (next_number s)) (ap (λ (s : State). s.waiting) h.1) (may (next_number s))
-  commits s new a may (Done answer) h = absurd h
-  commits s new a may (Refused f) h = absurd h
-  commits s new a may Nothing h = absurd h
+  commits : (s new : State) (a : SessionTxn) → (step : Step) → CommitStep s a step new → WaitsHave P s → WaitsHave P new
+  commits s new a (Done answer) h = as_before s new (ap (λ (s : State). s.waiting) h.1)
+  commits s new a (Waits wait) h = absurd h
+  commits s new a (Refused f) h = absurd h
+  commits s new a Nothing h = absurd h
 
   prepares : (s new : State) (a : SessionTxn) (global : List ℕ) → ((n : ℕ) → P a.session (call.Prepare global) (Durable n)) → (step : Step) → PrepareStep s a global step new → WaitsHave P s
       → WaitsHave P new
@@ -123,7 +123,7 @@ module _ (g : Geometry) (P : ℕ → Call → Wait → Type 0) (moves : (session
   inner s new a c may step (inl h) = as_before s new (ap (λ (s : State). s.waiting) h.3)
   inner s new a c may step (inr (inl (whole, inl h))) = as_before s new (ap (λ (s : State). s.waiting) h.3)
   inner s new a c may step (inr (inl (whole, inr (inl h)))) = goes_on s new a c (λ at. may.locks at h.0) step h.1
-  inner s new a c may step (inr (inl (whole, inr (inr (inl h))))) = commits s new a (λ n. subst (λ (x : Call). P a.session x (Durable n)) h.0 (may.records n)) step h.1
+  inner s new a c may step (inr (inl (whole, inr (inr (inl h))))) = commits s new a step h.1
   inner s new a c may step (inr (inl (whole, inr (inr (inr (inl h)))))) = as_before s new (savepoint_table s a step new h.1).waiting
   inner s new a c may step (inr (inl (whole, inr (inr (inr (inr h)))))) = prepares s new a h.0 (λ n. subst (λ (x : Call). P a.session x (Durable n)) h.1 (may.records n)) step h.2
   inner s new a c may step (inr (inr (inl h))) = as_before s new (back_table s a h.0 step new h.3).waiting
@@ -152,9 +152,8 @@ module _ (g : Geometry) (P : ℕ → Call → Wait → Type 0) (moves : (session
   resumed : (s new : State) (w : Waiting) → IsAmong w s.waiting → (wait : Wait) → w.wait ≡ wait → (step : Step) → ResumesWait g s w wait step new
       → WaitsHave P s → WaitsHave P new
   resumed s new w there (Durable n) is step (inl h) k = as_before s new (ap (λ (s : State). s.waiting) h.2) k
-  resumed s new w there (Durable n) is step (inr (inl h)) k = but_one s new h.2.0.session (ap (λ (s : State). s.waiting) h.2.3) k
-  resumed s new w there (Durable n) is step (inr (inr (inl h))) k = but_one s new w.session (ap (λ (s : State). s.waiting) h.2.4) k
-  resumed s new w there (Durable n) is step (inr (inr (inr h))) k = but_one s new w.session (ap (λ (s : State). s.waiting) h.2.3) k
+  resumed s new w there (Durable n) is step (inr (inl h)) k = but_one s new w.session (ap (λ (s : State). s.waiting) h.2.4) k
+  resumed s new w there (Durable n) is step (inr (inr h)) k = but_one s new w.session (ap (λ (s : State). s.waiting) h.2.3) k
   resumed s new w there (Lock at) is step h k =
       ⊎_elim
       (λ still. as_before s new (ap (λ (s : State). s.waiting) still.2) k)
@@ -211,12 +210,14 @@ module _ (g : Geometry) (P : ℕ → Call → Wait → Type 0) (moves : (session
   MayWaitIn (Resumed session step) = Unit {0}
   MayWaitIn (Forced n) = Unit {0}
   MayWaitIn HasFailed = Unit {0}
+  MayWaitIn (TicketAsked ticket answer) = Unit {0}
 
   pub event_waits_on : (s new : State) (e : ManagerEvent) → MayWaitIn e → EventMoves g s e new → WaitsHave P s → WaitsHave P new
   event_waits_on s new (Called session c step) may h k = call_waits_have s new session c may step h.1 k
   event_waits_on s new (Resumed session step) may h k = resume_waits_have s new session step h k
   event_waits_on s new (Forced n) may h k = as_before s new (ap (λ (s : State). s.waiting) h.2) k
   event_waits_on s new HasFailed may h k = as_before s new (ap (λ (s : State). s.waiting) h) k
+  event_waits_on s new (TicketAsked ticket answer) may h k = as_before s new (ap (λ (s : State). s.waiting) h.1) k
 
 -- ---- a call that waits for a lock was not to be refused before it asked
 
@@ -235,6 +236,7 @@ module _ (g : Geometry) where
   may_in (Resumed session step) = tt
   may_in (Forced n) = tt
   may_in HasFailed = tt
+  may_in (TicketAsked ticket answer) = tt
 
   pub waits_may_ask : (s last : State) (events : List ManagerEvent) → EventsMove g s events last → LockWaitsMayAsk g s → LockWaitsMayAsk g last
   waits_may_ask s last [] h k = subst (LockWaitsMayAsk g) (sym h) k

@@ -44,15 +44,16 @@ use Rattle.laws_calls.proofs.SessionCalls.{session_call_kept}
 use Rattle.laws_calls.proofs.SessionInversions.{AnsweredFrom, IsLockless, answered_from, answered_in}
 use Rattle.laws_calls.proofs.RollingLeaves.{LeavesTable, back_table, interrupted_table, savepoint_table}
 use Rattle.laws_calls.proofs.Sessions.{one_txn, in_one, seat_apart}
-use Rattle.laws_calls.specs.StateChanges.{after_refusal, answered, committed, with_failure}
-use Rattle.laws_calls.specs.CallSteps.{AbortStep, AnswersBehind, BeginStep, CommitStep, CallGoesOn, InnerStep, LacksMemory, RefusesBehind, CallStep, aborted, behind_lock, behind_place, lock_outcome, on_conflict_of, place_outcome, NeedsTxn}
+use Rattle.laws_calls.specs.StateChanges.{after_refusal, answered, with_failure}
+use Rattle.laws_calls.specs.CallSteps.{AbortStep, AnswersBehind, BeginStep, CommitStep, CallGoesOn, InnerStep, LacksMemory, RefusesBehind, CallStep, behind_lock, behind_place, lock_outcome, on_conflict_of, place_outcome, NeedsTxn}
 use Rattle.laws_calls.specs.LockedStates.{IsSessionsState}
 use Rattle.laws_calls.specs.States.{DoesNotWait, IsOfSession, State}
 use Rattle.laws_calls.proofs.Outside.{Resolving, outside_or}
 use Rattle.laws_calls.specs.Prepares.{PrepareStep, granules_in_ex, prepared}
-use Rattle.laws_calls.specs.Shapes.{ResolvesNone}
+use Rattle.laws_calls.specs.Shapes.{ResolvesNone, EndsAtOnce}
 use Rattle.laws_calls.specs.Resolves.{MayResolve}
 use Rattle.laws_calls.proofs.Told.{entries_told}
+use Rattle.shore_model.specs.Requests.{held_by_all}
 
 -- ---- the same locks
 
@@ -170,12 +171,6 @@ module _ (g : Geometry) (o : Opening) (found : List LogRecord) (es : List Entry)
   begin_kept (Refused f) h = as_before h.1
   begin_kept Nothing h = absurd h
 
-  commit_kept : (a : SessionTxn) (step : Step) → CommitStep s a step new → NoLockWeaker s new
-  commit_kept a (Waits wait) h = still s new s (same_locks new (committed s a) h.1) (λ u at m enough. enough)
-  commit_kept a (Done answer) h = absurd h
-  commit_kept a (Refused f) h = absurd h
-  commit_kept a Nothing h = absurd h
-
   prepare_kept : (a : SessionTxn) (global : List ℕ) (step : Step) → PrepareStep s a global step new → NoLockWeaker s new
   prepare_kept a global (Waits wait) h = still s new s (same_locks new (prepared s a global (granules_in_ex s a)) h.4) (λ u at m enough. enough)
   prepare_kept a global (Refused f) h = as_before h.1
@@ -185,30 +180,36 @@ module _ (g : Geometry) (o : Opening) (found : List LogRecord) (es : List Entry)
   table_kept : LeavesTable s new → NoLockWeaker s new
   table_kept h = still s new s (h.locks, h.held) (λ u at m enough. enough)
 
-  -- an abort is answered
-  record GoesAll (step : Step) : Type 0 where
+  -- a commit or an abort is answered
+  record GoesAll (c : Call) (step : Step) : Type 0 where
     txn : SessionTxn
     of : IsOfSession s session txn
-    answered : step ≡ Done Aborted
-    is : new ≡ aborted s txn
+    answered : EndsAtOnce s c step
+    held : new.sessions.held ≡ held_by_all (released txn.txn s.locks.requests)
 
-  abort_kept : (a : SessionTxn) → IsOfSession s session a → (step : Step) → AbortStep s a step new → NoLockWeaker s new ⊎ GoesAll step
-  abort_kept a of (Done answer) h = inr (record { txn = a; of = of; answered = ap Done h.0; is = h.1 })
-  abort_kept a of (Refused f) h = inl (table_kept (interrupted_table s a Whole f new h))
-  abort_kept a of (Waits wait) h = absurd h
-  abort_kept a of Nothing h = absurd h
+  abort_kept : (a : SessionTxn) → IsOfSession s session a → (c : Call) → c ≡ call.Abort → (step : Step) → AbortStep s a step new → NoLockWeaker s new ⊎ GoesAll c step
+  abort_kept a of c is (Done answer) h = inr (record { txn = a; of = of; answered = inl (is, ap Done h.0); held = ap (λ (x : State). x.sessions.held) h.1 })
+  abort_kept a of c is (Refused f) h = inl (table_kept (interrupted_table s a Whole f new h))
+  abort_kept a of c is (Waits wait) h = absurd h
+  abort_kept a of c is Nothing h = absurd h
 
-  inner_kept : (a : SessionTxn) → IsOfSession s session a → s.failed ≡ false → DoesNotWait s session → (c : Call) (step : Step) → InnerStep g s a c step new → NoLockWeaker s new ⊎ GoesAll step
+  commit_kept : (a : SessionTxn) → IsOfSession s session a → (c : Call) → c ≡ call.Commit → (step : Step) → CommitStep s a step new → NoLockWeaker s new ⊎ GoesAll c step
+  commit_kept a of c is (Done answer) h = inr (record { txn = a; of = of; answered = inr (is, ap Done h.0); held = ap (λ (x : State). x.sessions.held) h.1 })
+  commit_kept a of c is (Waits wait) h = absurd h
+  commit_kept a of c is (Refused f) h = absurd h
+  commit_kept a of c is Nothing h = absurd h
+
+  inner_kept : (a : SessionTxn) → IsOfSession s session a → s.failed ≡ false → DoesNotWait s session → (c : Call) (step : Step) → InnerStep g s a c step new → NoLockWeaker s new ⊎ GoesAll c step
   inner_kept a of running idle c step (inl h) = inl (as_before h.3)
   inner_kept a of running idle c step (inr (inl (whole, inl h))) = inl (as_before h.3)
   inner_kept a of running idle c step (inr (inl (whole, inr (inl h)))) = inl (going_on_kept g s a (may_ask_in a of running idle) new c step h.1)
-  inner_kept a of running idle c step (inr (inl (whole, inr (inr (inl h))))) = inl (commit_kept a step h.1)
+  inner_kept a of running idle c step (inr (inl (whole, inr (inr (inl h))))) = commit_kept a of c h.0 step h.1
   inner_kept a of running idle c step (inr (inl (whole, inr (inr (inr (inl h)))))) = inl (table_kept (savepoint_table s a step new h.1))
   inner_kept a of running idle c step (inr (inl (whole, inr (inr (inr (inr h)))))) = inl (prepare_kept a h.0 step h.2)
   inner_kept a of running idle c step (inr (inr (inl h))) = inl (table_kept (back_table s a h.0 step new h.3))
-  inner_kept a of running idle c step (inr (inr (inr h))) = abort_kept a of step h.1
+  inner_kept a of running idle c step (inr (inr (inr h))) = abort_kept a of c h.0 step h.1
 
-  call_kept : (c : Call) (step : Step) → (Resolving s session c step new → ⊥) → CallStep g s session c step new → NoLockWeaker s new ⊎ GoesAll step
+  call_kept : (c : Call) (step : Step) → (Resolving s session c step new → ⊥) → CallStep g s session c step new → NoLockWeaker s new ⊎ GoesAll c step
   call_kept c step none (inl h) = inl (as_before h.1)
   call_kept c step none (inr (inl h)) = inl (as_before h.2)
   call_kept c step none (inr (inr (inl h))) = inl (as_before h.3)
@@ -229,16 +230,18 @@ module _ (g : Geometry) (o : Opening) (found : List LogRecord) (es : List Entry)
   kept_or : (c : Call) (step : Step) → (Resolving s session c step new → ⊥) → CallStep g s session c step new → IsSessionsState o found (es ++ entries_told s session c step) new
   kept_or c step none h = ⊎_elim (λ kept. kept) (λ r. absurd (none r.0)) (session_call_kept g o found es s k session c step new h)
 
-  pub call_keeps_locks : (c : Call) (step : Step) → step ≢ Done Aborted → ResolvesNone c → CallStep g s session c step new → (u : ℕ) → KeepsLocks s.sessions.held new.sessions.held u
-  call_keeps_locks c step other none h =
-      ⊎_elim (λ kept. locks_kept (kept_or c step (λ r. none r.global r.asked r.is) h) kept) (λ all. absurd (other all.answered)) (call_kept c step (λ r. none r.global r.asked r.is) h)
+  pub call_keeps_locks : (c : Call) (step : Step) → step ≢ Done Aborted → (c ≡ call.Commit → (answer : Answer) → step ≢ Done answer) → ResolvesNone c → CallStep g s session c step new → (u : ℕ)
+      → KeepsLocks s.sessions.held new.sessions.held u
+  call_keeps_locks c step other no_commit none h =
+      ⊎_elim (λ kept. locks_kept (kept_or c step (λ r. none r.global r.asked r.is) h) kept)
+      (λ all. absurd (⊎_elim (λ aborts. other aborts.1) (λ commits. no_commit commits.0 _ commits.1) all.answered)) (call_kept c step (λ r. none r.global r.asked r.is) h)
 
-  -- what an abort that is answered leaves of the locks of others
-  others_of_aborted : (a : SessionTxn) → new ≡ aborted s a → (u : ℕ) → u ≢ a.txn → KeepsLocks s.sessions.held new.sessions.held u
-  others_of_aborted a is u other m at held =
+  -- what one that has ended leaves of the locks of others
+  others_of_ended : (a : SessionTxn) → new.sessions.held ≡ held_by_all (released a.txn s.locks.requests) → (u : ℕ) → u ≢ a.txn → KeepsLocks s.sessions.held new.sessions.held u
+  others_of_ended a is u other m at held =
       let was = holder_from_lock u at m s.locks.requests (subst (λ (l : List Hold). HoldsAtLeast l u m at) k.locks.held held) in
       let enough = weaker_released a.txn s.locks.requests k.locks.orderly u at m other (enough_of u at m s.locks.requests k.locks.orderly.one_each was) in
-      subst (λ (s : State). HoldsAtLeast s.sessions.held u m at) (sym is)
+      subst (λ (l : List Hold). HoldsAtLeast l u m at) (sym is)
       (lock_from_holder u at m (released a.txn s.locks.requests) (holder_of u at m (released a.txn s.locks.requests) enough))
 
   -- a session that is in a transaction resolves none
@@ -251,7 +254,7 @@ module _ (g : Geometry) (o : Opening) (found : List LogRecord) (es : List Entry)
   others_keep_locks c step a of h u other =
       ⊎_elim
       (λ kept. locks_kept (kept_or c step (λ r. not_both a of r.global r.may) h) kept u)
-      (λ all. others_of_aborted all.txn all.is u (λ same. other (same ∙ one_txn s.sessions all.txn a all.of.0.1 of.0.1 (all.of.1 ∙ sym of.1))))
+      (λ all. others_of_ended all.txn all.held u (λ same. other (same ∙ one_txn s.sessions all.txn a all.of.0.1 of.0.1 (all.of.1 ∙ sym of.1))))
       (call_kept c step (λ r. not_both a of r.global r.may) h)
 
   -- ---- an answer has the locks that it needs
@@ -308,6 +311,7 @@ module _ (g : Geometry) (o : Opening) (found : List LogRecord) (es : List Entry)
   lockless_or_not : (c : Call) → ((held : List Hold) (t : ℕ) (answer : Answer) → HasLocksFor held t c answer) ⊎ (IsLockless c → ⊥)
   lockless_or_not call.Savepoint = inl (λ held t answer. tt)
   lockless_or_not (call.BackTo n) = inl (λ held t answer. tt)
+  lockless_or_not call.Commit = inl (λ held t answer. tt)
   lockless_or_not call.Abort = inl (λ held t answer. tt)
   lockless_or_not (call.Prepare global) = inl (λ held t answer. tt)
   lockless_or_not _ = inr (λ none. none)

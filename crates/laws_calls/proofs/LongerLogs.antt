@@ -20,7 +20,7 @@ use Rattle.shore_model.specs.declared.step.Wait.TheVariants.{Durable, Lock}
 use Rattle.shore_model.specs.declared.step.Step.{Step}
 use Rattle.shore_model.specs.declared.step.Step.TheVariants.{Done, Nothing, Refused, Waits}
 use Rattle.laws_calls.specs.CallHistories.{IsPrefix}
-use Rattle.laws_calls.specs.Events.{Called, Forced, HasFailed, ManagerEvent, Resumed, EventMoves}
+use Rattle.laws_calls.specs.Events.{Called, Forced, HasFailed, ManagerEvent, Resumed, EventMoves, TicketAsked}
 use Rattle.laws_calls.specs.StateChanges.{after_refusal, answered, wait_refused}
 use Rattle.laws_calls.specs.Rollbacks.{BackToStep, IsInterrupted, IsUnwound, SavepointStep}
 use Rattle.laws_calls.specs.CallSteps.{AbortStep, AnswersBehind, BeginStep, CommitStep, CallGoesOn, InnerStep, OpenStep, RefusesBehind, ResumesCall, ResumesWait, CallStep, ResumeStep, behind_place, OutsideStep}
@@ -116,8 +116,8 @@ begin_further s session (Refused f) new h = same_further s new h.1
 begin_further s session Nothing new h = absurd h
 
 commit_further : (s : State) (a : SessionTxn) (step : Step) (new : State) → CommitStep s a step new → GoesFurther s new
-commit_further s a (Done answer) new h = absurd h
-commit_further s a (Waits wait) new h = subst (GoesFurther s) (sym h.1) (record { durable = refl; on = (_ ∷ [], refl) })
+commit_further s a (Done answer) new h = subst (GoesFurther s) (sym h.1) (record { durable = refl; on = (_ ∷ [], refl) })
+commit_further s a (Waits wait) new h = absurd h
 commit_further s a (Refused f) new h = absurd h
 commit_further s a Nothing new h = absurd h
 
@@ -214,9 +214,8 @@ from_wait s session new h = record { durable = h.durable; on = h.on }
 
 wait_further : (g : Geometry) (s : State) (w : Waiting) (wait : Wait) (step : Step) (new : State) → ResumesWait g s w wait step new → GoesFurther s new
 wait_further g s w (Durable n) step new (inl h) = same_further s new h.2
-wait_further g s w (Durable n) step new (inr (inl h)) = subst (GoesFurther s) (sym h.2.3) (record { durable = refl; on = ([], sym (append-nil _)) })
-wait_further g s w (Durable n) step new (inr (inr (inr h))) = subst (GoesFurther s) (sym h.2.3) (record { durable = refl; on = ([], sym (append-nil _)) })
-wait_further g s w (Durable n) step new (inr (inr (inl h))) = subst (GoesFurther s) (sym h.2.4) (record { durable = refl; on = ([], sym (append-nil _)) })
+wait_further g s w (Durable n) step new (inr (inr h)) = subst (GoesFurther s) (sym h.2.3) (record { durable = refl; on = ([], sym (append-nil _)) })
+wait_further g s w (Durable n) step new (inr (inl h)) = subst (GoesFurther s) (sym h.2.4) (record { durable = refl; on = ([], sym (append-nil _)) })
 wait_further g s w (Lock at) step new h = ⊎_elim
     (λ still. same_further s new still.2)
     (λ free. from_wait s w.session new (goes_further g h.0 (wait_refused s w.session) w.call step new free.1))
@@ -275,3 +274,4 @@ session_event_goes_on g s new (Called session c step) h = further_on s new (sett
 session_event_goes_on g s new (Resumed session step) h = further_on s new (settled_resume_further g s session step new h)
 session_event_goes_on g s new (Forced n) h = ([], ap (λ (x : State). x.log) h.2 ∙ sym (append-nil s.log))
 session_event_goes_on g s new HasFailed h = ([], ap (λ (x : State). x.log) h ∙ sym (append-nil s.log))
+session_event_goes_on g s new (TicketAsked ticket answer) h = ([], ap (λ (x : State). x.log) h.1 ∙ sym (append-nil s.log))

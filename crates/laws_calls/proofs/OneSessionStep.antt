@@ -27,11 +27,11 @@ use Rattle.laws_calls.proofs.Decided.{both_ways}
 use Rattle.laws_calls.proofs.OneBehind.{AreOne, Comparable, StepsBehind, left_no_memory, one_behind, right_no_memory}
 use Rattle.laws_calls.proofs.Rows.{none_fails, one_fails}
 use Rattle.laws_calls.proofs.SessionInversions.{same_lock}
-use Rattle.laws_calls.proofs.Sessions.{one_txn, committed_seat, not_prepared, one_member, in_one}
+use Rattle.laws_calls.proofs.Sessions.{one_txn, not_prepared, one_member, in_one}
 use Rattle.laws_calls.specs.Rollbacks.{BackToStep, SavepointStep}
 use Rattle.laws_calls.specs.Shapes.{rollback_of}
 use Rattle.laws_calls.specs.StateChanges.{answered, wait_refused}
-use Rattle.laws_calls.specs.CallSteps.{AbortStep, AnswersBehind, BeginStep, CommitStep, CallGoesOn, InnerStep, MayAsk, OpenStep, RefusesBehind, RefusesEarly, ResumesCall, ResumesWait, CallStep, ResumeStep, behind_lock, commit_ended, lock_outcome, lock_waiting, InDoubtStep, NeedsTxn, OutsideStep, prepare_ended, HasEnded, IsPreparing}
+use Rattle.laws_calls.specs.CallSteps.{AbortStep, AnswersBehind, BeginStep, CommitStep, CallGoesOn, InnerStep, MayAsk, OpenStep, RefusesBehind, RefusesEarly, ResumesCall, ResumesWait, CallStep, ResumeStep, behind_lock, lock_outcome, lock_waiting, InDoubtStep, NeedsTxn, OutsideStep, prepare_ended, HasEnded, IsPreparing}
 use Rattle.laws_calls.specs.Events.{IsStateAfter}
 use Rattle.laws_calls.specs.States.{DoesNotWait, HasNoTxn, IsOfSession, State, Waiting, HasPrepared}
 use Rattle.shore_model.specs.declared.sessions.SessionState.{SessionState}
@@ -43,7 +43,7 @@ use Rattle.shore_model.specs.declared.calls.Outcome.{Outcome}
 use Rattle.laws_calls.specs.Resolves.{ResolveStep, resolve_ended}
 use Rattle.laws_calls.proofs.ResolveLists.{one_resolved}
 use Rattle.laws_calls.proofs.UnderGlobal.{one_global, used_resolved}
-use Rattle.shore_model.specs.declared.calls.Answer.TheVariants.{Committed, Prepared, Resolved}
+use Rattle.shore_model.specs.declared.calls.Answer.TheVariants.{Prepared, Resolved}
 use Rattle.laws_calls.proofs.EarlyTests.{early_tests, early_fails, may_pass, one_begin}
 
 -- ---- behind what the lock table makes of a call's lock
@@ -83,11 +83,11 @@ module _ (g : Geometry) (s : State) (a : SessionTxn) (c : Call) where
 
 module _ (g : Geometry) (s : State) where
   one_commit : (a : SessionTxn) (x y : Step) (new later : State) → CommitStep s a x new → CommitStep s a y later → AreOne x y new later
-  one_commit a (Waits v) (Waits w) new later h k = (ap Waits (h.0 ∙ sym k.0), h.1 ∙ sym k.1)
-  one_commit a (Waits v) (Done y) new later h k = absurd k
-  one_commit a (Waits v) (Refused f) new later h k = absurd k
-  one_commit a (Waits v) Nothing new later h k = absurd k
-  one_commit a (Done x) y new later h k = absurd h
+  one_commit a (Done x) (Done y) new later h k = (ap Done (h.0 ∙ sym k.0), h.1 ∙ sym k.1)
+  one_commit a (Done x) (Waits w) new later h k = absurd k
+  one_commit a (Done x) (Refused f) new later h k = absurd k
+  one_commit a (Done x) Nothing new later h k = absurd k
+  one_commit a (Waits v) y new later h k = absurd h
   one_commit a (Refused e) y new later h k = absurd h
   one_commit a Nothing y new later h k = absurd h
 
@@ -384,12 +384,6 @@ module _ (g : Geometry) (o : Opening) (found : List LogRecord) (es : List Entry)
   -- ---- resumes
 
   module _ (w : Waiting) where
-    one_ended : (a b : SessionTxn) → IsAmong a s.sessions.committing → IsAmong b s.sessions.committing → a.session ≡ w.session → b.session ≡ w.session
-        → commit_ended s a ≡ commit_ended s b
-    one_ended a b m n of by =
-        ap (λ (t : ℕ). commit_ended s (record { session = a.session; txn = t; undo = b.undo })) (one_txn s.sessions a b (committed_seat k.sessions a m) (committed_seat k.sessions b n) (of ∙ sym by))
-        ∙ ap (λ (t : ℕ). commit_ended s (record { session = t; txn = b.txn; undo = b.undo })) (of ∙ sym by)
-
     -- going on with the call that waits for a lock
     abbrev LockGoes : SessionTxn → Granule → Step → State → Type 0
     LockGoes a at step new =
@@ -405,16 +399,14 @@ module _ (g : Geometry) (o : Opening) (found : List LogRecord) (es : List Entry)
     -- what is answered is durable
     abbrev Answered : ℕ → Step → State → Type 0
     Answered n step new =
-        ((n ≤ s.durable) × (step ≡ Done Committed) × ((a : SessionTxn) × IsAmong a s.sessions.committing × (a.session ≡ w.session) × (new ≡ commit_ended s a)) × (w.call ≡ call.Commit))
-        ⊎ ((n ≤ s.durable) × (step ≡ Done Prepared)
+        ((n ≤ s.durable) × (step ≡ Done Prepared)
         × ((t : ℕ) × (global : List ℕ) × IsPreparing s.sessions w.session t global × (w.call ≡ call.Prepare global) × (new ≡ prepare_ended s w.session t global)))
         ⊎ ((n ≤ s.durable) × (step ≡ Done Resolved)
         × ((r : ResolvedTxn) × HasEnded s.sessions r × (w.call ≡ call.Resolve r.global r.outcome) × (new ≡ resolve_ended s w.session r)))
 
     answered_durable : (n : ℕ) (step : Step) (new : State) → Answered n step new → n ≤ s.durable
     answered_durable n step new (inl h) = h.0
-    answered_durable n step new (inr (inl h)) = h.0
-    answered_durable n step new (inr (inr h)) = h.0
+    answered_durable n step new (inr h) = h.0
 
     same_resolved : (r q : ResolvedTxn) → IsAmong r s.sessions.resolving → IsAmong q s.sessions.resolving → call.Resolve r.global r.outcome ≡ call.Resolve q.global q.outcome → r ≡ q
     same_resolved r q m n e =
@@ -428,13 +420,9 @@ module _ (g : Geometry) (o : Opening) (found : List LogRecord) (es : List Entry)
     one_wait (Durable n) x y new later both (inl h) (inl j) = (h.1 ∙ sym j.1, h.2 ∙ sym j.2)
     one_wait (Durable n) x y new later both (inl h) (inr j) = let less = h.0 in let le = answered_durable n y later j in absurd (omega (arith, less, le))
     one_wait (Durable n) x y new later both (inr h) (inl j) = let less = j.0 in let le = answered_durable n x new h in absurd (omega (arith, less, le))
-    one_wait (Durable n) x y new later both (inr (inl h)) (inr (inr (inl j))) = let clash : call.Commit ≡ call.Prepare j.2.1 = sym h.3 ∙ j.2.3 in absurd cc
-    one_wait (Durable n) x y new later both (inr (inr (inl h))) (inr (inl j)) = let clash : call.Commit ≡ call.Prepare h.2.1 = sym j.3 ∙ h.2.3 in absurd cc
-    one_wait (Durable n) x y new later both (inr (inl h)) (inr (inr (inr j))) = let clash : call.Commit ≡ call.Resolve j.2.0.global j.2.0.outcome = sym h.3 ∙ j.2.2 in absurd cc
-    one_wait (Durable n) x y new later both (inr (inr (inr h))) (inr (inl j)) = let clash : call.Commit ≡ call.Resolve h.2.0.global h.2.0.outcome = sym j.3 ∙ h.2.2 in absurd cc
-    one_wait (Durable n) x y new later both (inr (inr (inl h))) (inr (inr (inr j))) = let clash : call.Prepare h.2.1 ≡ call.Resolve j.2.0.global j.2.0.outcome = sym h.2.3 ∙ j.2.2 in absurd cc
-    one_wait (Durable n) x y new later both (inr (inr (inr h))) (inr (inr (inl j))) = let clash : call.Prepare j.2.1 ≡ call.Resolve h.2.0.global h.2.0.outcome = sym j.2.3 ∙ h.2.2 in absurd cc
-    one_wait (Durable n) x y new later both (inr (inr (inl h))) (inr (inr (inl j))) =
+    one_wait (Durable n) x y new later both (inr (inl h)) (inr (inr j)) = let clash : call.Prepare h.2.1 ≡ call.Resolve j.2.0.global j.2.0.outcome = sym h.2.3 ∙ j.2.2 in absurd cc
+    one_wait (Durable n) x y new later both (inr (inr h)) (inr (inl j)) = let clash : call.Prepare j.2.1 ≡ call.Resolve h.2.0.global h.2.0.outcome = sym j.2.3 ∙ h.2.2 in absurd cc
+    one_wait (Durable n) x y new later both (inr (inl h)) (inr (inl j)) =
         (h.1 ∙ sym j.1, h.2.4 ∙ ap (λ (t : ℕ). prepare_ended s w.session t h.2.1) (same_doubt (sym h.2.2.1 ∙ j.2.2.1)) ∙ ap (prepare_ended s w.session j.2.0) (same_name (sym h.2.3 ∙ j.2.3)) ∙ sym j.2.4)
       where
         same_doubt : in_prepared h.2.0 ≡ in_prepared j.2.0 → h.2.0 ≡ j.2.0
@@ -442,10 +430,8 @@ module _ (g : Geometry) (o : Opening) (found : List LogRecord) (es : List Entry)
 
         same_name : call.Prepare h.2.1 ≡ call.Prepare j.2.1 → h.2.1 ≡ j.2.1
         same_name e = cc
-    one_wait (Durable n) x y new later both (inr (inr (inr h))) (inr (inr (inr j))) =
+    one_wait (Durable n) x y new later both (inr (inr h)) (inr (inr j)) =
         (h.1 ∙ sym j.1, h.2.3 ∙ ap (resolve_ended s w.session) (same_resolved h.2.0 j.2.0 h.2.1.0 j.2.1.0 (sym h.2.2 ∙ j.2.2)) ∙ sym j.2.3)
-    one_wait (Durable n) x y new later both (inr (inl h)) (inr (inl j)) =
-        (h.1 ∙ sym j.1, h.2.3 ∙ one_ended h.2.0 j.2.0 h.2.1 j.2.1 h.2.2 j.2.2 ∙ sym j.2.3)
     one_wait (Lock at) x y new later both h j =
         one_lock h.0 at x y new later both h.2 (subst (λ (a : SessionTxn). LockGoes a at y later) (same_txn w.session j.0 h.0 j.1 h.1) j.2)
 

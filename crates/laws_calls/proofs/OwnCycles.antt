@@ -1,6 +1,6 @@
 -- A cycle that a session is to be told begins with the transaction under way of the session: each step keeps that.
 use Rattle.std.proofs.Common.{◌≡◌, ◌⊎◌, inl, inr, ⊎_elim, ◌++◌, ℕ, List, [], ◌∷◌, Some, None, refl, sym, ap, subst, ◌∙◌}
-use Rattle.std.specs.Prelude.{◌==◌, slice_get}
+use Rattle.std.specs.Prelude.{◌==◌}
 use Rattle.std.proofs.lemmas.Bool.{cases_Bool, eqb-false, eqb-true}
 use Rattle.shore_types.specs.declared.faults.Fault.TheVariants.{Deadlock, Memory}
 use Rattle.shore_types.specs.declared.layout.Geometry.{Geometry}
@@ -25,11 +25,11 @@ use Rattle.laws_calls.proofs.SettledStates.{session_event_stays}
 use Rattle.laws_calls.proofs.ToldCycles.{WasWaiting, is_as_it_was, is_to_tell, was_waiting}
 use Rattle.laws_calls.proofs.ToldLater.{WereToBeTold, call_told, goes_told, without_told}
 use Rattle.laws_calls.proofs.VictimSteps.{victim_seat}
-use Rattle.laws_calls.proofs.WaitsThere.{call_were, freed_were, goes_were}
+use Rattle.laws_calls.proofs.WaitsThere.{call_were, goes_were}
 use Rattle.laws_calls.proofs.WereUnderWay.{AllWereUnderWay, told_seat, was_in, was_it, was_with}
 use Rattle.laws_calls.specs.CallHistories.{IsOpened, txn_of}
-use Rattle.laws_calls.specs.CallSteps.{CallStep, ResumeStep, ResumesWait, commit_ended, prepare_ended, with_requests}
-use Rattle.laws_calls.specs.Events.{Called, EventMoves, EventsMove, Forced, HasFailed, IsStateAfter, ManagerEvent, Resumed, entries_of}
+use Rattle.laws_calls.specs.CallSteps.{CallStep, ResumeStep, ResumesWait, prepare_ended, with_requests}
+use Rattle.laws_calls.specs.Events.{Called, EventMoves, EventsMove, Forced, HasFailed, IsStateAfter, ManagerEvent, Resumed, entries_of, TicketAsked}
 use Rattle.laws_calls.specs.Midway.{EndsFrom, Interlude, Intervene, Intervenes, Takes, WaitsAnew}
 use Rattle.laws_calls.specs.Resolves.{resolve_ended}
 use Rattle.laws_calls.specs.SessionWaits.{AllBeginWithTheirs, BeginsWithIts, HasTheFirst}
@@ -96,10 +96,8 @@ module _ (g : Geometry) (o : Opening) (found : List LogRecord) (es : List Entry)
 
   wait_begins : (w : Waiting) → (wait : Wait) → ResumesWait g s w wait step new → AllBeginWithTheirs new
   wait_begins w (Durable n) (inl h) = same_begins h.2
-  wait_begins w (Durable n) (inr (inl h)) = subst AllBeginWithTheirs (sym h.2.3)
-      (all_begin s (commit_ended s h.2.0) (without_told s (commit_ended s h.2.0) h.2.0.session refl) (freed_were s h.2.0) was)
-  wait_begins w (Durable n) (inr (inr (inl h))) = subst AllBeginWithTheirs (sym h.2.4) (prepared_begins w.session h.2.0 h.2.1)
-  wait_begins w (Durable n) (inr (inr (inr h))) = subst AllBeginWithTheirs (sym h.2.3)
+  wait_begins w (Durable n) (inr (inl h)) = subst AllBeginWithTheirs (sym h.2.4) (prepared_begins w.session h.2.0 h.2.1)
+  wait_begins w (Durable n) (inr (inr h)) = subst AllBeginWithTheirs (sym h.2.3)
       (all_begin s (resolve_ended s w.session h.2.0) (without_told s (resolve_ended s w.session h.2.0) w.session refl)
       (λ b m. was_it s b (m.0, sym (told_seat s.sessions.seats w.session b.session) ∙ m.1, m.2)) was)
   wait_begins w (Lock at) h = ⊎_elim
@@ -198,6 +196,7 @@ module _ (g : Geometry) (o : Opening) (found : List LogRecord) (es : List Entry)
   event_begins new (Resumed session step) was h = settled_resume_begins session step new was h
   event_begins new (Forced n) was h = subst AllBeginWithTheirs (sym h.2) was
   event_begins new HasFailed was h = subst AllBeginWithTheirs (sym h) was
+  event_begins new (TicketAsked ticket answer) was h = subst AllBeginWithTheirs (sym h.1) was
 
   -- .. and there is one
   pub has_the_first : AllBeginWithTheirs s → (w : Waiting) → IsAmong w s.waiting → (cycle : List ℕ) → w.cycle ≡ Some cycle → HasTheFirst s w.session cycle

@@ -1,5 +1,5 @@
 -- A call of a transaction from its locks on: which events of the sessions it is.
-use Rattle.std.proofs.Common.{◌≡◌, ◌≢◌, inl, inr, ⊎_elim, ◌∷◌, ℕ, List, [], false, None, Some, Ok, Err, refl, sym, ap, subst, ◌∙◌, length}
+use Rattle.std.proofs.Common.{◌≡◌, ◌≢◌, inl, inr, ⊎_elim, ◌∷◌, ℕ, List, [], false, None, Some, Ok, Err, refl, sym, ap, subst, ◌∙◌, length, ◌++◌}
 use Rattle.std.specs.Prelude.{IsSomeAnd}
 use Rattle.std.specs.FinMap.{get}
 use Rattle.shore_types.specs.declared.faults.Fault.{Fault}
@@ -43,7 +43,7 @@ use Rattle.laws_calls.specs.StateChanges.{after_refusal, answered}
 use Rattle.laws_calls.specs.CallSteps.{AnswersBehind, CallGoesOn, LacksMemory, RefusesBehind, RefusesRead, behind_lock, behind_place, lock_outcome, on_conflict_of, place_outcome}
 use Rattle.laws_calls.specs.LockedStates.{IsSessionsState}
 use Rattle.laws_calls.specs.States.{DoesNotWait, HasSeat, State}
-use Rattle.laws_calls.proofs.Told.{entries_told}
+use Rattle.laws_calls.proofs.Told.{entries_told, asks_decides_nothing}
 
 pub refused_left : (session : ℕ) (s : State) (f : Fault) → IsLeft session s (after_refusal f s)
 refused_left session s fault.Device = inr (inl refl)
@@ -250,8 +250,9 @@ module _ (g : Geometry) (o : Opening) (found : List LogRecord) (es : List Entry)
 
       pub goes_on_passes : DoesNotWait s session → (c : Call) (step : Step) (new : State) → CallGoesOn g s a c step new → Passes s new (entries_told s session c step)
       goes_on_passes idle c (Done answer) new h =
-          lock_first c h.1.0 new (answer_entry s c answer ∷ [])
-          (answers_pass c h.1.0 h.1.1 h.1.2 answer new (subst (λ (l : State). AnswersBehind g l a c answer new) h.1.3 h.2))
+          subst (λ ds. Passes s new (ds ++ answer_entry s c answer ∷ [])) (sym (asks_decides_nothing (txn_of s.sessions session) c h.1.0 h.1.1))
+          (lock_first c h.1.0 new (answer_entry s c answer ∷ [])
+          (answers_pass c h.1.0 h.1.1 h.1.2 answer new (subst (λ (l : State). AnswersBehind g l a c answer new) h.1.3 h.2)))
       goes_on_passes idle c (Waits wait) new h =
           subst (λ w. Passes s new (entries_told s session c (Waits w))) (sym h.4)
           (lock_first c h.0 new []

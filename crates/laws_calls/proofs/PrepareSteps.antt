@@ -165,7 +165,7 @@ module _ (g : Geometry) (o : Opening) (found : List LogRecord) (es : List Entry)
           number = next_number s;
           decision = decision.Prepare a.txn global;
           is = refl;
-          unanswered = inr (inl (a.txn, global, (its_doubt, seat), refl, refl));
+          unanswered = inl (a.txn, global, (its_doubt, seat), refl, refl);
           some = omega arith;
           there = omega (arith, longer);
           decided = in_log;
@@ -173,7 +173,7 @@ module _ (g : Geometry) (o : Opening) (found : List LogRecord) (es : List Entry)
 
     other_waits : (w : Waiting) → IsAmong w s.waiting → IsDecisionWait (length found) s w ⊎ IsLockWait s w → IsDecisionWait (length found) its_new w ⊎ IsLockWait its_new w
     other_waits w m (inl c) =
-        inl (decision_wait_on (length found) s its_new w (λ b there of. there)
+        inl (decision_wait_on (length found) s its_new w
         (λ t name p. (among_left (record { txn = t; global = name; answered = false }) s.sessions.prepared (doubt ∷ []) p.0, prepared_before a.txn t (s.sessions.seats w.session) p.1))
         (λ r ended is out. (ended, λ t above e. out t above (seat_unprepared a.txn t (s.sessions.seats w.session) e))) (prepare_record ∷ [], refl) c)
     other_waits w m (inr l) =
@@ -184,7 +184,6 @@ module _ (g : Geometry) (o : Opening) (found : List LogRecord) (es : List Entry)
     prepare_waits_on = record {
       each = λ w m. ⊎_elim (λ same. inl (subst (IsDecisionWait (length found) its_new) same own_wait)) (λ older. other_waits w older (waiting.each w older)) m;
       once = λ v w m n same. one_more a.session s v w (decision_waiting a.session (call.Prepare global) (next_number s)) refl idle waiting.once m n same;
-      all = λ running b m. let was = waiting.all running b m in (was.0, inr was.1);
       resolves = λ running r ended. let was = waiting.resolves running r ended in (was.0, was.1, inr was.2);
       resolve_once = resolve_more (decision_waiting a.session (call.Prepare global) (next_number s)) s.waiting (λ name x e. let clash : call.Prepare global ≡ call.Resolve name x = e in cc) waiting.resolve_once;
       prepares = λ running p m e. ⊎_elim

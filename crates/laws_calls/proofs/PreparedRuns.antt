@@ -70,7 +70,7 @@ module _ (g : Geometry) (stream_bytes : ℕ) (bytes : List ℕ) (store : HasStor
     decision_waiting 1 (call.Prepare short_name) 2,
     inl refl,
     refl,
-    inr (refl, inr (inr (inl (omega arith, refl, (1, short_name, (inl refl, refl), refl, refl)))), refl),
+    inr (refl, inr (inl (omega arith, refl, (1, short_name, (inl refl, refl), refl, refl))), refl),
   )) tt
 
   -- ---- resolved to commit
@@ -105,7 +105,7 @@ module _ (g : Geometry) (stream_bytes : ℕ) (bytes : List ℕ) (store : HasStor
     decision_waiting 2 (call.Resolve short_name outcome.Commit) 3,
     inl refl,
     refl,
-    inr (refl, inr (inr (inr (omega arith, refl, (committed, (inl refl, λ m. m), refl, refl)))), refl),
+    inr (refl, inr (inr (omega arith, refl, (committed, (inl refl, λ m. m), refl, refl))), refl),
   )) tt
 
   pub commit_comes_through : ResolvesThrough g stream_bytes bytes outcome.Commit (Some bytes) (decision.Commit 1)
@@ -172,7 +172,7 @@ module _ (g : Geometry) (stream_bytes : ℕ) (bytes : List ℕ) (store : HasStor
     decision_waiting 2 (call.Resolve short_name outcome.Abort) 3,
     inl refl,
     refl,
-    inr (refl, inr (inr (inr (omega arith, refl, (rolled_back, (inl refl, λ m. m), refl, refl)))), refl),
+    inr (refl, inr (inr (omega arith, refl, (rolled_back, (inl refl, λ m. m), refl, refl))), refl),
   )) tt
 
   pub abort_comes_through : ResolvesThrough g stream_bytes bytes outcome.Abort None (decision.RollBack 1)

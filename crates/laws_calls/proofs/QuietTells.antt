@@ -4,13 +4,13 @@ use Rattle.std.specs.List.{AllByRecursion}
 use Rattle.shore_types.specs.declared.layout.Geometry.{Geometry}
 use Rattle.shore_model.specs.declared.histories.Entry.{Entry}
 use Rattle.shore_model.specs.declared.histories.Opening.{Opening}
-use Rattle.shore_model.specs.declared.histories.Entry.TheVariants.{Decided, Exchanged}
+use Rattle.shore_model.specs.declared.histories.Entry.TheVariants.{Decided, Exchanged, Asked}
 use Rattle.shore_model.specs.declared.log_records.LogRecord.{LogRecord}
 use Rattle.shore_model.specs.Histories.{serial}
 use Rattle.laws_lives.proofs.LogDecisions.{event_midst}
 use Rattle.laws_lives.specs.LogPrefixes.{DecidesNothing, LogDecides, TellsItsDecisions}
 use Rattle.laws_lives.specs.LogTells.{records_committed}
-use Rattle.laws_lives.specs.SessionSteps.{AnswerAbort, AnswerCommit, AppendCommit, BeginTxn, Doom, GiveReply, MoveLocks, PutBack, RefuseCall, SessionEvent, entries_by, AnswerInDoubt, AnswerPrepare, AnswerResolve, AppendPrepare, AppendResolve, AppendRollback, EndRollback}
+use Rattle.laws_lives.specs.SessionSteps.{AnswerAbort, Ask, AppendCommit, BeginTxn, Doom, GiveReply, MoveLocks, PutBack, RefuseCall, SessionEvent, entries_by, AnswerInDoubt, AnswerPrepare, AnswerResolve, AppendPrepare, AppendResolve, AppendRollback, EndRollback}
 use Rattle.laws_lives.specs.Soundness.{serial_after, written_by}
 use Rattle.laws_calls.proofs.Comings.{goes_keeps}
 use Rattle.laws_calls.proofs.Links.{Goes, GoesBy, GoesQuietly, IsQuiet, left_like}
@@ -27,6 +27,7 @@ whole_told base o es log d =
 abbrev IsDecided : Entry → Type 0
 IsDecided (Decided d) = Unit {0}
 IsDecided (Exchanged n t x) = ⊥
+IsDecided (Asked ticket answer) = ⊥
 
 quiet_decides_nothing : (start : State) (e : SessionEvent) → IsQuiet start e → DecidesNothing e
 quiet_decides_nothing start (MoveLocks held) quiet = tt
@@ -35,9 +36,9 @@ quiet_decides_nothing start (GiveReply a c reply) quiet = tt
 quiet_decides_nothing start (RefuseCall session t c f) quiet = tt
 quiet_decides_nothing start (PutBack a kept e r) quiet = tt
 quiet_decides_nothing start (Doom a) quiet = absurd quiet
-quiet_decides_nothing start (AppendCommit a) quiet = absurd quiet
+quiet_decides_nothing start (AppendCommit a ticket) quiet = absurd quiet
 quiet_decides_nothing start (AnswerAbort a) quiet = absurd quiet
-quiet_decides_nothing start (AnswerCommit a) quiet = absurd quiet
+quiet_decides_nothing start (Ask ticket answer) quiet = absurd quiet
 quiet_decides_nothing start (AppendPrepare a global granules) quiet = absurd quiet
 quiet_decides_nothing start (AnswerPrepare session t global) quiet = absurd quiet
 quiet_decides_nothing start (AppendResolve a global) quiet = absurd quiet

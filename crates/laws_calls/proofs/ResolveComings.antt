@@ -25,11 +25,11 @@ use Rattle.shore_locks.specs.Grants.{released}
 use Rattle.laws_locks.proofs.Held.{released_moves}
 use Rattle.laws_lives.proofs.Members.{txn_without}
 use Rattle.laws_lives.specs.Logged.{and_compensations, and_record}
-use Rattle.laws_lives.specs.SessionSteps.{AnswerResolve, AppendResolve, AppendRollback, EndRollback, MoveLocks, SessionEvent, exchange}
-use Rattle.laws_lives.specs.Sessions.{SessionTxn, without_txn}
-use Rattle.laws_lives.specs.UndoLists.{undo_rolled, rolled_back}
+use Rattle.laws_lives.specs.SessionSteps.{AnswerResolve, AppendResolve, AppendRollback, EndRollback, MoveLocks, SessionEvent, exchange, PutBack}
+use Rattle.laws_lives.specs.Sessions.{SessionTxn, without_txn, without_locks}
+use Rattle.laws_lives.specs.UndoLists.{undo_rolled, rolled_back, UndoList}
 use Rattle.laws_calls.proofs.Comings.{is_decided, like_itself}
-use Rattle.laws_calls.proofs.Links.{ComesBy, Goes, GoesBy, IsDurable, IsLike, left_like, locks_go, none_to_answer}
+use Rattle.laws_calls.proofs.Links.{ComesBy, Goes, GoesBy, IsDurable, IsLike, left_like, locks_go, none_to_answer, TellsNoTicket, no_tickets, quiet_tickets}
 use Rattle.laws_calls.proofs.ResolveLinks.{end_goes, resolve_goes, rollback_goes, told_goes, with_commit_resolved, with_end}
 use Rattle.laws_calls.proofs.ResolveEnds.{no_seat, rolled_logged, rolled_resolved}
 use Rattle.laws_calls.proofs.ResolveStates.{not_resolved, whole}
@@ -44,6 +44,7 @@ use Rattle.laws_calls.specs.CallSteps.{with_requests}
 use Rattle.laws_calls.specs.Rollbacks.{put_back}
 use Rattle.laws_calls.specs.States.{DoesNotWait, State}
 use Rattle.laws_calls.proofs.Elements.{in_longer}
+use Rattle.shore_model.specs.declared.rollbacks.Rollback.{Rollback}
 
 -- ---- a rollback ends
 
@@ -67,7 +68,7 @@ module _ (g : Geometry) (o : Opening) (found : List LogRecord) (es : List Entry)
 
   unlocking : Goes g (with_end s a) unlocks done
   unlocking = locks_go g (with_end s a) (released a.txn s.locks.requests)
-      (released_moves (with_end s a).sessions s.locks.requests a.txn k.sessions.locks.held k.sessions.locks.orderly k.sessions.locks.rooted k.sessions.locks.below
+      (released_moves (with_end s a).sessions s.locks.requests a.txn (ap (without_locks a.txn) k.sessions.locks.held) k.sessions.locks.orderly k.sessions.locks.rooted k.sessions.locks.below
       (λ among. (txn_without a.txn a.txn s.sessions.active among).1 refl))
 
   -- behind the End the locks go, and then these
@@ -84,7 +85,7 @@ module _ (g : Geometry) (o : Opening) (found : List LogRecord) (es : List Entry)
       let its = with_list a undo in
       let unwound = put_back s a [] (e ∷ others) Whole in
       let ended : List (Rid × Image) → List SessionTxn → State = λ xs active. record s {
-        sessions = record s.sessions { records = rolled_back s.sessions.records xs; active = active };
+        sessions = record s.sessions { records = rolled_back s.sessions.records xs; active = active; held = without_locks a.txn s.sessions.held };
         log = and_record a.txn (and_compensations a.txn s.log xs) payload.End;
       } in
       let same : with_end unwound its ≡ with_end s a =
@@ -97,13 +98,22 @@ module _ (g : Geometry) (o : Opening) (found : List LogRecord) (es : List Entry)
   pub ending_goes : (later : List SessionEvent) (new : State) (made : List Entry) → GoesBy g done later new made → GoesBy g s (ending_events s a later) new made
   ending_goes later new made rest = ends_by a.undo.images refl later new made rest
 
+  -- what holds of such events, and of those behind them, holds of all
+  ending_all : (P : SessionEvent → Type 0) → ((undo : UndoList) (kept : List (Rid × Image)) (e : Rid × Image) (r : Rollback) → P (PutBack (with_list a undo) kept e r)) → ((b : SessionTxn) → P (EndRollback b))
+      → P unlocks → (later : List SessionEvent) → AllByRecursion P later → AllByRecursion P (ending_events s a later)
+  ending_all P backs ends moves later all = by a.undo.images
+    where
+      by : (xs : List (Rid × Image)) → AllByRecursion P (ending_by s a xs later)
+      by [] = (ends a, (moves, all))
+      by (e ∷ others) = all_put_backs P a backs [] e others Whole (EndRollback (with_list a (undo_rolled a.undo [] Whole)) ∷ unlocks ∷ later) (ends _, (moves, all))
+
   -- none of them but those behind it answers a decision
   pub ending_durable : (at : State) (later : List SessionEvent) → AllByRecursion (IsDurable at) later → AllByRecursion (IsDurable at) (ending_events s a later)
-  ending_durable at later all = by a.undo.images
-    where
-      by : (xs : List (Rid × Image)) → AllByRecursion (IsDurable at) (ending_by s a xs later)
-      by [] = (tt, (tt, all))
-      by (e ∷ others) = all_put_backs (IsDurable at) a (λ undo kept e r. tt) [] e others Whole (EndRollback (with_list a (undo_rolled a.undo [] Whole)) ∷ unlocks ∷ later) (tt, (tt, all))
+  ending_durable at later all = ending_all (IsDurable at) (λ undo kept e r. tt) (λ b. tt) tt later all
+
+  -- .. or tells of a ticket
+  pub ending_tells_none : (later : List SessionEvent) → AllByRecursion TellsNoTicket later → AllByRecursion TellsNoTicket (ending_events s a later)
+  ending_tells_none later all = ending_all TellsNoTicket (λ undo kept e r. tt) (λ b. tt) tt later all
 
 -- ---- a resolve
 
@@ -119,6 +129,7 @@ module _ (g : Geometry) (o : Opening) (found : List LogRecord) (es : List Entry)
         before = like_itself s;
         events = AppendResolve a global ∷ MoveLocks (held_by_all (released a.txn s.locks.requests)) ∷ [];
         durable = (tt, (tt, tt));
+        tickets = (tt, (tt, tt));
         mid = mid;
         goes = (
           appended,
@@ -128,7 +139,7 @@ module _ (g : Geometry) (o : Opening) (found : List LogRecord) (es : List Entry)
             mid,
             [],
             locks_go g appended (released a.txn s.locks.requests)
-                (released_moves appended.sessions s.locks.requests a.txn k.sessions.locks.held k.sessions.locks.orderly k.sessions.locks.rooted k.sessions.locks.below
+                (released_moves appended.sessions s.locks.requests a.txn (ap (without_locks a.txn) k.sessions.locks.held) k.sessions.locks.orderly k.sessions.locks.rooted k.sessions.locks.below
                 (λ among. (txn_without a.txn a.txn s.sessions.active among).1 refl)),
             (refl, refl),
             refl,
@@ -152,6 +163,10 @@ module _ (g : Geometry) (o : Opening) (found : List LogRecord) (es : List Entry)
   deciding_durable b d (inl h) later all = (tt, all)
   deciding_durable b d (inr h) later all = all
 
+  deciding_tells_none : (b : SessionTxn) (d : State) (by : DecidesRollback s global b d) (later : List SessionEvent) → AllByRecursion TellsNoTicket later → AllByRecursion TellsNoTicket (deciding b d by later)
+  deciding_tells_none b d (inl h) later all = (tt, all)
+  deciding_tells_none b d (inr h) later all = all
+
   waits_comes : (wait : Wait) (new : State) → AbortsResolve s session global (Waits wait) new → ComesBy g s new (entries_of_call s session (call.Resolve global outcome.Abort) (Waits wait) new)
   waits_comes wait new h =
       let d = has_decided g o found es s k session global h.0 h.1 h.2 in
@@ -161,6 +176,8 @@ module _ (g : Geometry) (o : Opening) (found : List LogRecord) (es : List Entry)
         before = like_itself s;
         events = deciding h.0 h.1 h.2 (ending_events h.1 h.0 []);
         durable = deciding_durable h.0 h.1 h.2 (ending_events h.1 h.0 []) (ending_durable g o found (es ++ map Decided (made_by s global h.0 h.1 h.2)) h.1 d.stays h.0 global d.rolls s [] tt);
+        tickets = no_tickets s.durable s.log (deciding h.0 h.1 h.2 (ending_events h.1 h.0 [])) (deciding_tells_none h.0 h.1 h.2 (ending_events h.1 h.0 [])
+            (ending_tells_none g o found (es ++ map Decided (made_by s global h.0 h.1 h.2)) h.1 d.stays h.0 global d.rolls [] tt));
         mid = mid;
         goes = decided_goes h.0 h.1 h.2 (ending_events h.1 h.0 []) mid [] (ending_goes g o found (es ++ map Decided (made_by s global h.0 h.1 h.2)) h.1 d.stays h.0 global d.rolls [] mid [] (refl, refl));
         after = subst (IsLike mid) (sym h.3.2) (record { sessions = refl; log = refl; counts = refl; stream = refl });
@@ -176,6 +193,7 @@ module _ (g : Geometry) (o : Opening) (found : List LogRecord) (es : List Entry)
         before = like_itself s;
         events = deciding h.0 h.1 h.2 stops.events;
         durable = deciding_durable h.0 h.1 h.2 stops.events (none_to_answer s h.1 stops.events stops.quiet);
+        tickets = no_tickets s.durable s.log (deciding h.0 h.1 h.2 stops.events) (deciding_tells_none h.0 h.1 h.2 stops.events (quiet_tickets h.1 stops.events stops.quiet));
         mid = stops.mid;
         goes = decided_goes h.0 h.1 h.2 stops.events stops.mid _ stops.goes;
         after = left_like session stops.mid new stops.left;
@@ -198,6 +216,7 @@ module _ (g : Geometry) (o : Opening) (found : List LogRecord) (es : List Entry)
               (in_longer (length found) (rollback_number b.txn s.log) s.durable s.log (decision.RollBack b.txn) (durable_place g o found es s k session global may idle answer new h) n.decided),
           tt,
         );
+        tickets = no_tickets s.durable s.log (ending_events s b (AnswerResolve session r ∷ [])) (ending_tells_none g o found es s k b global rolls (AnswerResolve session r ∷ []) (tt, tt));
         mid = mid;
         goes = ending_goes g o found es s k b global rolls (AnswerResolve session r ∷ []) mid (Exchanged session b.txn (exchange (call.Resolve global outcome.Abort) (Ok Resolved)) ∷ [])
             (mid, [], told_goes g ended session r (rolls.1, λ among. (txn_without b.txn b.txn s.sessions.active among).1 refl), (refl, refl), refl);

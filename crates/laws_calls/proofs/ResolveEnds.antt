@@ -1,5 +1,5 @@
 -- The end of a rollback that a resolve has decided, and the answer of a resolve, each leave a state of a manager.
-use Rattle.std.proofs.Common.{◌≡◌, ◌≢◌, ◌⊎◌, inl, inr, ⊎_elim, ◌++◌, ◌∷◌, ◌<◌, ◌≤◌, ℕ, List, [], true, false, cond, Ok, refl, sym, ap, subst, ◌∙◌, append-nil, arith, length, take, Some}
+use Rattle.std.proofs.Common.{◌≡◌, ◌≢◌, ◌⊎◌, inl, inr, ⊎_elim, ◌++◌, ◌∷◌, ◌<◌, ◌≤◌, ℕ, List, [], true, false, cond, Ok, refl, sym, ap, subst, ◌∙◌, append-nil, arith, length, take}
 use Rattle.std.specs.Prelude.{◌==◌, Contains}
 use Rattle.shore_types.specs.declared.layout.TheConstants.{MAX_TRANSACTIONS}
 use Rattle.shore_model.specs.declared.calls.Answer.TheVariants.{Resolved}
@@ -21,7 +21,7 @@ use Rattle.laws_lives.proofs.Lists.{among_map}
 use Rattle.laws_lives.proofs.Members.{among_without, member_stays, txn_among, txn_without}
 use Rattle.laws_lives.specs.LogPrefixes.{decision_asked, decisions_in}
 use Rattle.laws_lives.specs.SessionSteps.{AnswerResolve, EndRollback, MoveLocks, exchange}
-use Rattle.laws_lives.specs.Sessions.{ResolvedTxn, SessionTxn, Sessions, in_doubt_of, in_txn, resolved_of, rollback_ended, txns_of, in_use}
+use Rattle.laws_lives.specs.Sessions.{ResolvedTxn, SessionTxn, Sessions, in_doubt_of, in_txn, resolved_of, rollback_ended, txns_of, in_use, without_locks}
 use Rattle.laws_lives.specs.Views.{IsAmong}
 use Rattle.laws_calls.proofs.Acknowledged.{acknowledges_one}
 use Rattle.laws_calls.proofs.CarriedWaits.{CarriesWaits, carried_less, carried_own, carried_same}
@@ -51,6 +51,8 @@ use Rattle.laws_calls.proofs.Prefixes.{whole_prefix}
 use Rattle.shore_model.specs.declared.histories.Decision.{Decision}
 use Rattle.laws_calls.proofs.LongerLogs.{done_further}
 use Rattle.laws_calls.proofs.ResolveStates.{resolves_none, txn_stays}
+use Rattle.laws_lives.proofs.Tickets.{none_more}
+use Rattle.std.specs.List.{cons_option}
 
 -- ---- a rollback ends
 
@@ -94,7 +96,7 @@ module _ (o : Opening) (found : List LogRecord) (es : List Entry) (s : State) (k
       subst (λ es. AreSessionsAfter (length found) o es done.sessions done.log) (append-nil (es ++ []) ∙ append-nil es)
       (event_keeps (length found) o (es ++ []) ended done.sessions (MoveLocks (held_by_all (released a.txn s.locks.requests))) done.log
       (event_keeps (length found) o es s.sessions ended (EndRollback a) s.log (sessions_of o found es s k.sessions) ((rolls.0, rolled_logged.1), rolled_resolved, refl))
-      (released_moves ended s.locks.requests a.txn k.sessions.locks.held k.sessions.locks.orderly k.sessions.locks.rooted k.sessions.locks.below no_more_rolled))
+      (released_moves ended s.locks.requests a.txn (ap (without_locks a.txn) k.sessions.locks.held) k.sessions.locks.orderly k.sessions.locks.rooted k.sessions.locks.below no_more_rolled))
 
   done_seat : (b : SessionTxn) → HasSeat s.sessions b → HasSeat done.sessions b
   done_seat b mine = (member_stays a.txn b s.sessions.active mine.0 (no_seat b mine), mine.1, mine.2)
@@ -133,7 +135,6 @@ module _ (o : Opening) (found : List LogRecord) (es : List Entry) (s : State) (k
 
     awaits_carries : CarriesWaits (λ r. r ≡ rolled_own) s awaits
     awaits_carries = record {
-      committing = refl;
       failed = refl;
       doubts = λ p m. m;
       doubts_on = λ p m e. m;
@@ -151,7 +152,7 @@ module _ (o : Opening) (found : List LogRecord) (es : List Entry) (s : State) (k
           number = n;
           decision = decision.RollBack a.txn;
           is = refl;
-          unanswered = inr (inr (rolled_own, (rolls.1, no_more_rolled), refl, refl, out));
+          unanswered = inr (rolled_own, (rolls.1, no_more_rolled), refl, refl, out);
           some = some;
           there = still.0;
           decided = still.1;
@@ -193,7 +194,6 @@ module _ (o : Opening) (found : List LogRecord) (es : List Entry) (s : State) (k
 
       answered_carries : CarriesWaits (λ r. ⊥) s answered_now
       answered_carries = record {
-        committing = refl;
         failed = refl;
         doubts = λ p m. m;
         doubts_on = λ p m e. m;
@@ -231,6 +231,7 @@ module _ (o : Opening) (found : List LogRecord) (es : List Entry) (s : State) (k
               acknowledged_kept =
                   acknowledges_one (Contains (decisions_in (length found) (take s.durable answered_now.log))) es carried.acknowledged_kept told (decision.RollBack a.txn) refl
                   (still_there (length found) s.durable s.log answered_now.log (decision.RollBack a.txn) on k.forced.most (in_longer (length found) n s.durable s.log (decision.RollBack a.txn) durable logged)).1;
+              tickets = none_more (length found) answered_now.log es carried.tickets told refl;
             };
         few = let fewer = ended_answered a.txn done.sessions.active s.sessions.resolving in let few = done_few in omega (arith, few, fewer);
       }
@@ -265,8 +266,6 @@ module _ (o : Opening) (found : List LogRecord) (es : List Entry) (s : State) (k
       by : IsDecisionWait (length found) s w ⊎ IsLockWait s w → Contains (decisions_in (length found) (take s.durable s.log)) d
       by (inr l) = absurd (asks_no_resolve w.call l.lock l.asked r.global r.outcome asks)
       by (inl c) = ⊎_elim
-          (λ h. let clash : call.Commit ≡ call.Resolve r.global r.outcome = sym h.3 ∙ asks in absurd cc)
-          (⊎_elim
           (λ h. let clash : call.Prepare h.1 ≡ call.Resolve r.global r.outcome = sym h.3 ∙ asks in absurd cc)
           (λ h.
           let names = same_name h.0.outcome r.outcome h.0.global r.global (sym h.2 ∙ asks) in
@@ -275,19 +274,18 @@ module _ (o : Opening) (found : List LogRecord) (es : List Entry) (s : State) (k
           let number : n ≡ c.number = ap number_of (sym waits_for) ∙ ap (λ (v : Waiting). number_of v.wait) c.is in
           let decided : c.decision ≡ d = h.3 ∙ ap (λ t. decision_asked t h.0.outcome) one ∙ ap (decision_asked r.txn) names.1 ∙ sym is in
           subst (Contains (decisions_in (length found) (take s.durable s.log))) decided
-          (in_longer (length found) c.number s.durable s.log c.decision (subst (λ x. x ≤ s.durable) number durable) c.decided)))
+          (in_longer (length found) c.number s.durable s.log c.decision (subst (λ x. x ≤ s.durable) number durable) c.decided))
           c.unanswered
 
-  acknowledges : acknowledged_by its_told ≡ Some (decision_asked r.txn r.outcome)
+  acknowledges : acknowledged_by es its_told ≡ decision_asked r.txn r.outcome ∷ []
   acknowledges = by r.outcome
     where
-      by : (x : Outcome) → decision_asked_by r.txn (call.Resolve r.global x) ≡ Some (decision_asked r.txn x)
+      by : (x : Outcome) → cons_option (decision_asked_by r.txn (call.Resolve r.global x)) [] ≡ decision_asked r.txn x ∷ []
       by outcome.Commit = refl
       by outcome.Abort = refl
 
   resumed_carries : CarriesWaits (λ q. ⊥) s resumed
   resumed_carries = record {
-    committing = refl;
     failed = refl;
     doubts = λ p m. m;
     doubts_on = λ p m e. m;
@@ -331,6 +329,7 @@ module _ (o : Opening) (found : List LogRecord) (es : List Entry) (s : State) (k
       acknowledged_kept =
           acknowledges_one (Contains (decisions_in (length found) (take s.durable s.log))) es k.forced.acknowledged_kept its_told (decision_asked r.txn r.outcome) acknowledges
           (its_decision (decision_asked r.txn r.outcome) refl);
+      tickets = none_more (length found) s.log es k.forced.tickets its_told refl;
     };
     few = let fewer = ended_answered r.txn s.sessions.active s.sessions.resolving in let few = k.few in omega (arith, few, fewer);
   }

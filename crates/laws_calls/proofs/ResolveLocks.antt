@@ -59,8 +59,7 @@ resolve_leaves_locks g s w n new is h = ⊎_elim (λ failed. let clash = failed.
     by : (wait : Wait) → wait ≡ Durable n → ResumesWait g s w wait (Done Resolved) new → (new.locks.requests ≡ s.locks.requests) × (new.sessions.held ≡ s.sessions.held)
     by (Durable m) same (inl x) = let clash = x.1 in absurd cc
     by (Durable m) same (inr (inl x)) = let clash = x.1 in absurd cc
-    by (Durable m) same (inr (inr (inl x))) = let clash = x.1 in absurd cc
-    by (Durable m) same (inr (inr (inr x))) = (ap (λ (y : State). y.locks.requests) x.2.3, ap (λ (y : State). y.sessions.held) x.2.3)
+    by (Durable m) same (inr (inr x)) = (ap (λ (y : State). y.locks.requests) x.2.3, ap (λ (y : State). y.sessions.held) x.2.3)
     by (Lock at) same x = absurd cc
 
 -- ---- not refused

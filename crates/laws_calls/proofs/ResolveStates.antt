@@ -23,7 +23,7 @@ use Rattle.laws_lives.proofs.LogPrefixes.{decisions_more}
 use Rattle.laws_lives.proofs.Members.{among_with, among_without, member_stays, txn_among, txn_without, txns_with}
 use Rattle.laws_lives.specs.LogPrefixes.{decisions_in}
 use Rattle.laws_lives.specs.SessionSteps.{AppendResolve, AppendRollback, MoveLocks, entries_by}
-use Rattle.laws_lives.specs.Sessions.{PreparedTxn, ResolvedTxn, SessionTxn, Sessions, in_doubt_of, in_prepared, in_txn, resolve_appended, resolved_of, seated, txns_of, without_txn, EachOnce, in_use}
+use Rattle.laws_lives.specs.Sessions.{PreparedTxn, ResolvedTxn, SessionTxn, Sessions, in_doubt_of, in_prepared, in_txn, resolve_appended, resolved_of, seated, txns_of, without_txn, EachOnce, in_use, without_locks}
 use Rattle.laws_lives.specs.UndoLists.{UndoList, undo_rolled}
 use Rattle.laws_lives.specs.Views.{IsAmong}
 use Rattle.laws_calls.proofs.CarriedWaits.{CarriesWaits, carried_own, carried_same}
@@ -82,10 +82,8 @@ pub resolves_none : (o : Opening) (found : List LogRecord) (es : List Entry) (s 
     → IsAmong t (txns_of s.sessions.active) → (w : Waiting) (y : Outcome) → IsAmong w s.waiting → w.call ≢ call.Resolve global y
 resolves_none o found es s k t global used active w y m is = ⊎_elim
     (λ c. ⊎_elim
-    (λ h. let clash : call.Commit ≡ call.Resolve global y = sym h.3 ∙ is in cc)
-    (⊎_elim
     (λ h. let clash : call.Prepare h.1 ≡ call.Resolve global y = sym h.3 ∙ is in cc)
-    (λ h. h.1.1 (subst (λ u. IsAmong u (txns_of s.sessions.active)) (sym (one h.0 h.1.0 (sym h.2 ∙ is))) active)))
+    (λ h. h.1.1 (subst (λ u. IsAmong u (txns_of s.sessions.active)) (sym (one h.0 h.1.0 (sym h.2 ∙ is))) active))
     c.unanswered)
     (λ l. asks_no_resolve w.call l.lock l.asked global y is)
     (k.waits.each w m)
@@ -158,7 +156,6 @@ module _ (o : Opening) (found : List LogRecord) (es : List Entry) (s : State) (k
 
   back_carries : CarriesWaits (λ r. ⊥) s back
   back_carries = record {
-    committing = refl;
     failed = refl;
     doubts = λ p m. (kept_but (λ (q : PreparedTxn). q.txn) a.txn p s.sessions.prepared m).0;
     doubts_on = λ p m e. left_but (λ (q : PreparedTxn). q.txn) a.txn p s.sessions.prepared m (other_doubt p m e);
@@ -179,7 +176,7 @@ module _ (o : Opening) (found : List LogRecord) (es : List Entry) (s : State) (k
     waits = carried_same (length found) (λ r. ⊥) s back k.waits back_carries refl
         (λ r was. (inr was.0, λ m. was.1 (subst (IsAmong r.txn) (txns_with a.txn back_undo s.sessions.active) m)))
         (λ r now own. absurd own);
-    forced = forced_grown (length found) es (Decided (decision.RollBack a.txn)) s back refl (_ ∷ [], refl) refl k.forced;
+    forced = forced_grown (length found) es (Decided (decision.RollBack a.txn)) s back refl (_ ∷ [], refl) refl refl k.forced;
     few =
         let few = k.few in
         let long = ap length (txns_with a.txn back_undo s.sessions.active) in
@@ -213,7 +210,7 @@ module _ (o : Opening) (found : List LogRecord) (es : List Entry) (s : State) (k
         then_quiet (length found) o es (Decided (decision.Commit a.txn) ∷ []) gone.sessions gone.log
         (event_keeps (length found) o (es ++ Decided (decision.Commit a.txn) ∷ []) appended gone.sessions (MoveLocks (held_by_all (released a.txn s.locks.requests))) gone.log
         (event_keeps (length found) o es s.sessions appended (AppendResolve a global) s.log (sessions_of o found es s k.sessions) (can.0, whole, can.1, refl))
-        (released_moves appended s.locks.requests a.txn k.sessions.locks.held k.sessions.locks.orderly k.sessions.locks.rooted k.sessions.locks.below no_more))
+        (released_moves appended s.locks.requests a.txn (ap (without_locks a.txn) k.sessions.locks.held) k.sessions.locks.orderly k.sessions.locks.rooted k.sessions.locks.below no_more))
 
     gone_seat : (b : SessionTxn) → HasSeat s.sessions b → HasSeat gone.sessions b
     gone_seat b mine = (member_stays a.txn b s.sessions.active mine.0 (not_own b mine), stays_undecided a.txn b.txn (s.sessions.seats b.session) mine.1, mine.2)
@@ -234,7 +231,6 @@ module _ (o : Opening) (found : List LogRecord) (es : List Entry) (s : State) (k
 
     gone_carries : CarriesWaits (λ r. r ≡ its_own) s gone
     gone_carries = record {
-      committing = refl;
       failed = refl;
       doubts = λ p m. (kept_but (λ (q : PreparedTxn). q.txn) a.txn p s.sessions.prepared m).0;
       doubts_on = λ p m e. left_but (λ (q : PreparedTxn). q.txn) a.txn p s.sessions.prepared m (other_doubt p m e);
@@ -257,7 +253,7 @@ module _ (o : Opening) (found : List LogRecord) (es : List Entry) (s : State) (k
             number = next_number s;
             decision = decision.Commit a.txn;
             is = refl;
-            unanswered = inr (inr (its_own, (inl refl, no_more), refl, refl, λ t above is. out t above (was_before a.txn t (s.sessions.seats session) above is)));
+            unanswered = inr (its_own, (inl refl, no_more), refl, refl, λ t above is. out t above (was_before a.txn t (s.sessions.seats session) above is));
             some = omega arith;
             there = omega (arith, longer);
             decided =
@@ -273,7 +269,7 @@ module _ (o : Opening) (found : List LogRecord) (es : List Entry) (s : State) (k
         sessions = state_of o found es s k.sessions (es ++ Decided (decision.Commit a.txn) ∷ []) gone gone_sessions gone_locks;
         waits = carried_own (length found) (λ r. r ≡ its_own) s gone k.waits gone_carries session its_own (next_number s) idle refl
             (λ r was. (inr was.0, λ m. was.1 (txn_without a.txn r.txn s.sessions.active m).0)) (λ r is. is) own_wait free_global;
-        forced = forced_grown (length found) es (Decided (decision.Commit a.txn)) s gone refl (_ ∷ [], refl) refl k.forced;
+        forced = forced_grown (length found) es (Decided (decision.Commit a.txn)) s gone refl (_ ∷ [], refl) refl refl k.forced;
         few =
             let few = k.few in
             let shorter = shorter_without a s.sessions.active can.0 in

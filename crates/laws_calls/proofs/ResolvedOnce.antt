@@ -3,7 +3,7 @@ use Rattle.std.proofs.Common.{◌≡◌, ⊎_elim, inl, inr, ℕ, List, [], ◌�
 use Rattle.std.specs.Prelude.{◌==◌, not, map}
 use Rattle.laws_lives.proofs.Lists.{among_map}
 use Rattle.laws_lives.proofs.Members.{txn_among}
-use Rattle.laws_lives.specs.SessionSteps.{AnswerAbort, AnswerCommit, AnswerInDoubt, AnswerPrepare, AnswerResolve, AppendCommit, AppendPrepare, AppendResolve, AppendRollback, BeginTxn, Doom, EndRollback, GiveReply, MoveLocks, PutBack, RefuseCall, SessionEvent, StepsTo}
+use Rattle.laws_lives.specs.SessionSteps.{AnswerAbort, Ask, AnswerInDoubt, AnswerPrepare, AnswerResolve, AppendCommit, AppendPrepare, AppendResolve, AppendRollback, BeginTxn, Doom, EndRollback, GiveReply, MoveLocks, PutBack, RefuseCall, SessionEvent, StepsTo}
 use Rattle.laws_lives.specs.Sessions.{EachOnce, PreparedTxn, ResolvedTxn, Sessions, in_doubt_of, resolved_of, txns_of, without_resolved}
 use Rattle.laws_lives.specs.Views.{IsAmong}
 
@@ -32,11 +32,11 @@ module _ (old new : Sessions) (apart : (t : ℕ) → IsAmong t (txns_of old.acti
   event_once (MoveLocks held) m = same (ap (λ (n : Sessions). n.resolving) m.3)
   event_once (BeginTxn session) m = same (ap (λ (n : Sessions). n.resolving) m.1)
   event_once (GiveReply a c reply) m = same (ap (λ (n : Sessions). n.resolving) m.4)
-  event_once (AppendCommit a) m = same (ap (λ (n : Sessions). n.resolving) m.2)
+  event_once (AppendCommit a ticket) m = same (ap (λ (n : Sessions). n.resolving) m.2)
   event_once (PutBack a kept e r) m = same (ap (λ (n : Sessions). n.resolving) m.4)
   event_once (Doom a) m = same (ap (λ (n : Sessions). n.resolving) m.1)
   event_once (AnswerAbort a) m = same (ap (λ (n : Sessions). n.resolving) m.1)
-  event_once (AnswerCommit a) m = same (ap (λ (n : Sessions). n.resolving) m.1)
+  event_once (Ask ticket answer) m = same (ap (λ (n : Sessions). n.resolving) m)
   event_once (RefuseCall session t c fault) m = same (ap (λ (n : Sessions). n.resolving) m.2)
   event_once (AppendPrepare a global granules) m = same (ap (λ (n : Sessions). n.resolving) m.4)
   event_once (AnswerPrepare session t global) m = same (ap (λ (n : Sessions). n.resolving) m.2)

@@ -31,16 +31,15 @@ use Rattle.laws_lives.proofs.Ids.{put_here}
 use Rattle.shore_model.specs.declared.rollbacks.Rollback.TheVariants.{Whole}
 use Rattle.laws_lives.specs.Sessions.{SessionTxn}
 use Rattle.laws_lives.specs.UndoLists.{nothing_to_undo, undo_rolled, with_before_image}
-use Rattle.laws_calls.proofs.SettledAtOnce.{at_once, resumed_at_once}
-use Rattle.shore_model.specs.declared.step.Step.TheVariants.{Done, Refused, Waits}
-use Rattle.shore_model.specs.declared.step.Wait.TheVariants.{Durable}
+use Rattle.laws_calls.proofs.SettledAtOnce.{at_once}
+use Rattle.shore_model.specs.declared.step.Step.TheVariants.{Done, Refused}
 use Rattle.laws_calls.proofs.Unwinding.{with_list}
 use Rattle.laws_calls.specs.CallHistories.{IsOpened}
-use Rattle.laws_calls.specs.CallSteps.{IsPlaceOf, aborted, behind_lock, behind_place, commit_ended}
-use Rattle.laws_calls.specs.Events.{Called, Forced, Resumed, EventMoves, MovesMaking}
+use Rattle.laws_calls.specs.CallSteps.{IsPlaceOf, aborted, behind_lock, behind_place}
+use Rattle.laws_calls.specs.Events.{Called, Forced, EventMoves, MovesMaking, TicketAsked}
 use Rattle.laws_calls.specs.Rollbacks.{TakesCall, put_back}
 use Rattle.laws_calls.specs.Shapes.{store_lock, store_locked}
-use Rattle.laws_calls.specs.StateChanges.{FitsAt, MayChange, answered, decision_waiting, committed, with_durable, begun}
+use Rattle.laws_calls.specs.StateChanges.{FitsAt, MayChange, answered, committed, with_durable, begun}
 use Rattle.laws_calls.specs.States.{State}
 use Rattle.laws_calls.specs.WorkedRollbacks.{abort_twice, back_and_commit}
 use Rattle.laws_calls.specs.WorkedRun.{first_id, first_page, opened_empty}
@@ -231,9 +230,6 @@ module _ (g : Geometry) (stream_bytes : ℕ) (bytes : List ℕ) (store : HasStor
     abbrev forced : State
     forced = with_durable 4 committing
 
-    abbrev ended : State
-    ended = commit_ended forced one_back
-
     saves : EventMoves g inserted (Called 1 call.Savepoint (Done (Saved 0))) saved
     saves = (tt, at_once g inserted 1 call.Savepoint (Done (Saved 0)) saved (inr (inr (inr (inr (inr (inl (refl, λ w m. absurd m, (one_changed, ((inl refl, refl, omega arith), refl), inr (inl (refl, inr (inr (inr (inl (refl, (omega arith, refl, refl))))))))))))))) tt)
 
@@ -294,20 +290,20 @@ module _ (g : Geometry) (stream_bytes : ℕ) (bytes : List ℕ) (store : HasStor
     goes_back : EventMoves g updated (Called 1 (call.BackTo 0) (Done WentBack)) back
     goes_back = (tt, at_once g updated 1 (call.BackTo 0) (Done WentBack) back (inr (inr (inr (inr (inr (inl (refl, λ w m. absurd m, (one_updated, ((inl refl, refl, omega arith), refl), inr (inr (inl (0, refl, inl refl, (omega arith, refl, refl)))))))))))) tt)
 
-    commits : EventMoves g back (Called 1 call.Commit (Waits (Durable 4))) committing
-    commits = (tt, at_once g back 1 call.Commit (Waits (Durable 4)) committing (inr (inr (inr (inr (inr (inl (refl, λ w m. absurd m, (one_back, ((inl refl, refl, omega arith), refl), inr (inl (refl, inr (inr (inl (refl, (refl, refl)))))))))))))) tt)
+    commits : EventMoves g back (Called 1 call.Commit (Done (Committed 4))) committing
+    commits = (tt, at_once g back 1 call.Commit (Done (Committed 4)) committing (inr (inr (inr (inr (inr (inl (refl, λ w m. absurd m, (one_back, ((inl refl, refl, omega arith), refl), inr (inl (refl, inr (inr (inl (refl, (refl, refl)))))))))))))) tt)
 
     forces : EventMoves g committing (Forced 4) forced
     forces = (omega arith, omega arith, refl)
 
-    answers : EventMoves g forced (Resumed 1 (Done Committed)) ended
-    answers = resumed_at_once g forced 1 (Done Committed) ended (inr (decision_waiting 1 call.Commit 4, inl refl, refl, inr (refl, inr (inl (omega arith, refl, (one_back, inl refl, refl, refl), refl)), refl))) tt
+    told : EventMoves g forced (TicketAsked 4 true) forced
+    told = (((λ e. omega arith), (λ le. refl)), refl)
 
     pub goes_back_and_commits : (last : State) × (made : List Entry) × IsOpened (opening_with empty) [] (opened_empty stream_bytes)
         × MovesMaking g (opened_empty stream_bytes) (back_and_commit bytes more) last made
         × (get last.sessions.records first_id ≡ Some bytes) × (acknowledged made ≡ decision.Commit 1 ∷ [])
     goes_back_and_commits = (
-      ended,
+      forced,
       _,
       is_opened,
       (
@@ -318,7 +314,7 @@ module _ (g : Geometry) (stream_bytes : ℕ) (bytes : List ℕ) (store : HasStor
           inserted,
           _,
           inserts,
-          (saved, _, saves, (updated, _, updates, (back, _, goes_back, (committing, _, commits, (forced, _, forces, (ended, _, answers, (refl, refl), refl), refl), refl), refl), refl), refl),
+          (saved, _, saves, (updated, _, updates, (back, _, goes_back, (committing, _, commits, (forced, _, forces, (forced, _, told, (refl, refl), refl), refl), refl), refl), refl), refl),
           refl,
         ),
         refl,

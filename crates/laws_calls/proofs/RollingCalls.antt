@@ -25,7 +25,7 @@ use Rattle.laws_lives.proofs.Members.{among_with, among_without, txn_without}
 use Rattle.shore_model.specs.declared.rollbacks.Rollback.{Rollback}
 use Rattle.shore_model.specs.declared.rollbacks.Rollback.TheVariants.{To, Whole}
 use Rattle.laws_lives.specs.SessionSteps.{AnswerAbort, MoveLocks, SessionEvent, TellsNothing, entries_by, exchange}
-use Rattle.laws_lives.specs.Sessions.{SessionTxn, abort_answered, txns_of, Sessions, seated}
+use Rattle.laws_lives.specs.Sessions.{SessionTxn, abort_answered, txns_of, Sessions, seated, without_locks}
 use Rattle.laws_lives.specs.UndoLists.{MayGiveReply, MayRoll, UndoToSavepoints, least_kept, mark_of, undo_rolled}
 use Rattle.laws_lives.specs.Views.{IsAmong}
 use Rattle.shore_model.specs.declared.step.Step.{Step}
@@ -194,7 +194,7 @@ module _ (g : Geometry) (o : Opening) (found : List LogRecord) (es : List Entry)
       let entry = same_entry a.session session a.txn (txn_of s.sessions session) (exchange call.Abort (Ok Aborted)) of (sym (its_txn s.sessions a session mem.1 of)) in
       let answered = event_keeps (length found) o es s.sessions (ended s a) (AnswerAbort a) s.log (sessions_of o found es s k) (own_of k a mem, refl) in
       let unlocked = event_keeps (length found) o (es ++ own ∷ []) (ended s a) new.sessions (MoveLocks (held_by_all (released a.txn s.locks.requests))) new.log answered
-      (released_moves (ended s a) s.locks.requests a.txn k.locks.held k.locks.orderly k.locks.rooted k.locks.below ends_under_way) in
+      (released_moves (ended s a) s.locks.requests a.txn (ap (without_locks a.txn) k.locks.held) k.locks.orderly k.locks.rooted k.locks.below ends_under_way) in
       state_of o found es s k (es ++ Exchanged session (txn_of s.sessions session) (exchange call.Abort (Ok Aborted)) ∷ []) new
       (subst (λ (e : Entry). AreSessionsAfter (length found) o (es ++ e ∷ []) new.sessions new.log) entry
       (then_quiet (length found) o es (own ∷ []) new.sessions new.log unlocked))

@@ -10,7 +10,7 @@ use Rattle.shore_types.specs.declared.layout.TheConstants.{MAX_SLOTS}
 use Rattle.shore_types.specs.declared.locking.Granule.{Granule}
 use Rattle.shore_types.specs.declared.locking.Granule.TheVariants as granule
 use Rattle.shore_model.specs.declared.calls.Answer.{Answer}
-use Rattle.shore_model.specs.declared.calls.Answer.TheVariants.{Began, AreInDoubt}
+use Rattle.shore_model.specs.declared.calls.Answer.TheVariants.{Began, AreInDoubt, Committed}
 use Rattle.shore_model.specs.declared.calls.Call.{Call}
 use Rattle.shore_model.specs.declared.calls.Call.TheVariants as call
 use Rattle.shore_model.specs.declared.histories.Decision.TheVariants as decision
@@ -20,32 +20,36 @@ use Rattle.shore_model.specs.declared.histories.Entry.TheVariants.{Decided, Exch
 use Rattle.shore_model.specs.declared.log_records.LogRecord.{LogRecord}
 use Rattle.shore_model.specs.Alone.{record_named_by}
 use Rattle.shore_locks.specs.Tables.{is_waiting}
-use Rattle.laws_locks.proofs.Waiting.{newcomer_quiet}
-use Rattle.laws_lives.proofs.Members.{among_without}
+use Rattle.laws_locks.proofs.Waiting.{newcomer_quiet, released_stay_quiet}
+use Rattle.laws_lives.proofs.Members.{among_without, txn_without}
 use Rattle.laws_lives.specs.RepliesInPlace.{IsKnownAbsent}
-use Rattle.laws_lives.specs.SessionSteps.{AppendCommit, BeginTxn, IsInnerCall, TellsNothing, exchange, AnswerInDoubt}
-use Rattle.laws_lives.specs.Sessions.{SessionTxn, in_txn}
+use Rattle.laws_lives.specs.SessionSteps.{AppendCommit, BeginTxn, IsInnerCall, TellsNothing, exchange, AnswerInDoubt, entries_by, MoveLocks}
+use Rattle.laws_lives.specs.Sessions.{SessionTxn, in_txn, without_locks}
 use Rattle.shore_model.specs.declared.step.Step.{Step}
 use Rattle.shore_model.specs.declared.step.Step.TheVariants.{Done, Nothing, Refused, Waits}
 use Rattle.laws_calls.proofs.GoingOn.{goes_on_kept}
 use Rattle.laws_calls.proofs.LockedAnswers.{absence_told, refusal_told}
 use Rattle.laws_calls.proofs.RefusalTells.{tells_or_none, prepare_tells}
 use Rattle.laws_calls.proofs.RollingCalls.{abort_kept, back_kept, savepoint_kept}
-use Rattle.laws_calls.proofs.Sessions.{AreSessionsAfter, event_keeps, its_txn, commit_seats, own_of}
+use Rattle.laws_calls.proofs.Sessions.{event_keeps, its_txn, commit_seats, own_of, then_quiet}
 use Rattle.laws_calls.proofs.TakenLocks.{sessions_of, state_of}
 use Rattle.laws_calls.specs.CallHistories.{txn_of}
 use Rattle.laws_calls.specs.StateChanges.{committed, begun}
 use Rattle.laws_calls.specs.CallSteps.{BeginStep, CommitStep, InnerStep, IsTooLong, OpenStep, RefusesEarly, RefusesGranule, CallStep, InDoubtStep, OutsideStep, listed_in_doubt}
 use Rattle.laws_calls.specs.Rollbacks.{TakesCall}
-use Rattle.laws_calls.proofs.Waiters.{without_quiet, seat_moved}
+use Rattle.laws_calls.proofs.Waiters.{seat_moved, released_under_way, freed_quiet}
 use Rattle.laws_calls.specs.LockedStates.{IsSessionsState}
-use Rattle.laws_calls.specs.States.{DoesNotWait, HasNoTxn, IsOfSession, State, HasSeat}
+use Rattle.laws_calls.specs.States.{DoesNotWait, HasNoTxn, IsOfSession, State, HasSeat, next_number}
 use Rattle.shore_model.specs.declared.sessions.SessionState.{SessionState}
 use Rattle.laws_calls.proofs.Listings.{listing_steps}
 use Rattle.laws_calls.specs.Prepares.{PrepareStep, granules_in_ex, prepared}
 use Rattle.laws_calls.proofs.PrepareSteps.{prepare_state}
 use Rattle.laws_calls.proofs.Told.{entries_told}
 use Rattle.laws_calls.proofs.Outside.{Resolving, early_tells}
+use Rattle.laws_calls.proofs.Links.{with_commit}
+use Rattle.shore_model.specs.Requests.{held_by_all}
+use Rattle.shore_locks.specs.Grants.{released}
+use Rattle.laws_locks.proofs.Held.{released_moves, released_orderly, released_rooted, released_below}
 
 module _ (g : Geometry) (o : Opening) (found : List LogRecord) (es : List Entry) (s : State) (k : IsSessionsState o found es s) (session : ℕ) where
   -- ---- a begin
@@ -86,25 +90,40 @@ module _ (g : Geometry) (o : Opening) (found : List LogRecord) (es : List Entry)
 
   -- ---- a commit
 
+  committed_kept : (a : SessionTxn) → a.undo.rolling ≡ None → HasSeat s.sessions a → is_waiting a.txn s.locks.requests ≡ false
+      → IsSessionsState o found (es ++ entries_by s.sessions (AppendCommit a (next_number s))) (committed s a)
+  committed_kept a whole mem quiet =
+      let new = committed s a in
+      let made = entries_by s.sessions (AppendCommit a (next_number s)) in
+      let appended = with_commit g s a in
+      let decided = event_keeps (length found) o es s.sessions appended.sessions (AppendCommit a (next_number s)) s.log (sessions_of o found es s k)
+      (own_of k a mem, whole, commit_seats k.agree k.seats a (next_number s) (own_of k a mem).2.0) in
+      let unlocked = event_keeps (length found) o (es ++ made) appended.sessions new.sessions (MoveLocks (held_by_all (released a.txn s.locks.requests))) new.log decided
+      (released_moves appended.sessions s.locks.requests a.txn (ap (without_locks a.txn) k.locks.held) k.locks.orderly k.locks.rooted k.locks.below
+      (λ among. (txn_without a.txn a.txn s.sessions.active among).1 refl)) in
+      state_of o found es s k (es ++ made) new (then_quiet (length found) o es made new.sessions new.log unlocked) (record {
+        held = refl;
+        orderly = released_orderly s.locks.requests a.txn k.locks.orderly;
+        rooted = released_rooted s.locks.requests a.txn k.locks.orderly k.locks.rooted;
+        below = released_below s.locks.requests a.txn s.sessions.next_txn k.locks.orderly k.locks.below;
+        waiters =
+            freed_quiet (released a.txn s.locks.requests) s.sessions a mem.1 (released_stay_quiet s.locks.requests a.txn a.txn k.locks.orderly quiet)
+            (released_under_way s.locks.requests s.sessions a.txn k.locks.orderly k.locks.waiters);
+        waits = λ running b there idle.
+            released_stay_quiet s.locks.requests a.txn b.txn k.locks.orderly (k.locks.waits running b (among_without a.txn b s.sessions.active there).0 idle);
+      })
+
   commit_kept : (a : SessionTxn) → a.undo.rolling ≡ None → IsOfSession s session a → is_waiting a.txn s.locks.requests ≡ false → (step : Step) (new : State) → CommitStep s a step new → IsSessionsState o found (es ++ entries_told s session call.Commit step) new
-  commit_kept a whole mem quiet (Done answer) new h = absurd h
+  commit_kept a whole mem quiet (Waits wait) new h = absurd h
   commit_kept a whole mem quiet (Refused f) new h = absurd h
   commit_kept a whole mem quiet Nothing new h = absurd h
-  commit_kept a whole mem quiet (Waits wait) new h =
-      subst (IsSessionsState o found (es ++ entries_told s session call.Commit (Waits wait))) (sym h.1)
-      (subst (λ w. IsSessionsState o found (es ++ entries_told s session call.Commit (Waits w)) (committed s a)) (sym h.0)
-      (state_of o found es s k (es ++ Decided (decision.Commit (txn_of s.sessions session)) ∷ []) (committed s a)
-      (subst (λ t. AreSessionsAfter (length found) o (es ++ Decided (decision.Commit t) ∷ []) (committed s a).sessions (committed s a).log)
-      (sym (its_txn s.sessions a session mem.0.1 mem.1))
-      (event_keeps (length found) o es s.sessions (committed s a).sessions (AppendCommit a) s.log (sessions_of o found es s k) (own_of k a mem.0, whole, commit_seats k.agree k.seats a (own_of k a mem.0).2.0)))
-      (record {
-        held = k.locks.held;
-        orderly = k.locks.orderly;
-        rooted = k.locks.rooted;
-        below = k.locks.below;
-        waiters = without_quiet s.locks.requests s.sessions a.txn quiet k.locks.waiters;
-        waits = λ running b there idle. k.locks.waits running b (among_without a.txn b s.sessions.active there).0 (λ w m. idle w (inr m));
-      })))
+  commit_kept a whole mem quiet (Done answer) new h =
+      let number = its_txn s.sessions a session mem.0.1 mem.1 in
+      subst (IsSessionsState o found (es ++ entries_told s session call.Commit (Done answer))) (sym h.1)
+      (subst (λ x. IsSessionsState o found (es ++ entries_told s session call.Commit (Done x)) (committed s a)) (sym h.0)
+      (subst (λ t. IsSessionsState o found (es ++ Decided (decision.Commit t) ∷ Exchanged session t (exchange call.Commit (Ok (Committed (next_number s)))) ∷ []) (committed s a)) (sym number)
+      (subst (λ n. IsSessionsState o found (es ++ Decided (decision.Commit a.txn) ∷ Exchanged n a.txn (exchange call.Commit (Ok (Committed (next_number s)))) ∷ []) (committed s a)) mem.1
+      (committed_kept a whole mem.0 quiet))))
 
   -- ---- a prepare
 

@@ -37,8 +37,8 @@ use Rattle.laws_calls.proofs.Decided.{IsOrdinary, OrNot, at_most, both, less_tha
 use Rattle.laws_calls.proofs.SessionInversions.{IsLockless}
 use Rattle.laws_calls.proofs.Sessions.{in_one}
 use Rattle.laws_calls.specs.CallHistories.{IsRoomyState}
-use Rattle.laws_calls.specs.StateChanges.{ComesOfState, answered, decision_waiting, committed, wait_refused, begun}
-use Rattle.laws_calls.specs.CallSteps.{BeginStep, InnerStep, MayAsk, RefusesEarly, RefusesGranule, RefusesId, RefusesLock, ResumesWait, CallStep, ResumeStep, aborted, behind_lock, commit_ended, lock_outcome, lock_waiting, on_conflict_of, txn_count, NeedsTxn, listed_in_doubt, prepare_ended}
+use Rattle.laws_calls.specs.StateChanges.{ComesOfState, answered, committed, wait_refused, begun}
+use Rattle.laws_calls.specs.CallSteps.{BeginStep, InnerStep, MayAsk, RefusesEarly, RefusesGranule, RefusesId, RefusesLock, ResumesWait, CallStep, ResumeStep, aborted, behind_lock, lock_outcome, lock_waiting, on_conflict_of, txn_count, NeedsTxn, listed_in_doubt, prepare_ended}
 use Rattle.laws_calls.specs.Events.{IsStateAfter}
 use Rattle.laws_calls.specs.Rollbacks.{TakesCall}
 use Rattle.laws_calls.specs.SessionWaits.{IsDecisionWait, IsLockWait}
@@ -284,7 +284,7 @@ module _ (g : Geometry) (s : State) (session : ℕ) where
       in_txn call.Commit served = by a.undo.rolling refl
         where
           by : (o : Option Rollback) → a.undo.rolling ≡ o → SessionComesTo g s session call.Commit
-          by None whole = inner call.Commit (Waits (Durable (next_number s))) (committed s a) (inr (inl (whole, inr (inr (inl (refl, (refl, refl))))))) tt
+          by None whole = inner call.Commit (Done (Committed (next_number s))) (committed s a) (inr (inl (whole, inr (inr (inl (refl, (refl, refl))))))) tt
           by (Some r) rolls = must_abort call.Commit tt (not_taken call.Commit r rolls (λ e. cc) (λ n e. cc))
       in_txn call.Savepoint served = by a.undo.rolling refl
         where
@@ -320,21 +320,15 @@ module _ (g : Geometry) (s : State) (session : ℕ) where
     other_comes : (c : Call) → IsNoResolve c → SessionComesTo g s session c
     other_comes c served = by s.failed refl
       where
-        no_commit_waits : s.failed ≡ false → DoesNotWait s session → (a : SessionTxn) → IsAmong a s.sessions.committing → a.session ≡ session → ⊥
-        no_commit_waits running idle a committing of = let w = k.waits.all running a committing in idle (decision_waiting a.session call.Commit w.0) w.1 of
-
         in_its : s.failed ≡ false → DoesNotWait s session → (t : ℕ)
-            → IsIn (map seat_of s.sessions.active) (map seat_of s.sessions.committing) (in_doubt_of s.sessions) (resolved_of s.sessions) session t → SessionComesTo g s session c
-        in_its running idle t (inl active) =
+            → IsIn (map seat_of s.sessions.active) (in_doubt_of s.sessions) (resolved_of s.sessions) session t → SessionComesTo g s session c
+        in_its running idle t active =
             let a = mapped_one seat_of (session, t) s.sessions.active active.0 in
             let of : a.0.session ≡ session = ap (λ (x : ℕ × ℕ). x.0) a.2 in
             let number : a.0.txn ≡ t = ap (λ (x : ℕ × ℕ). x.1) a.2 in
-            let seat = k.sessions.seats.own session t (inl active) in
-            let above = k.sessions.seats.above session t (inl active) in
+            let seat = k.sessions.seats.own session t active in
+            let above = k.sessions.seats.above session t active in
             in_txn running idle roomy a.0 ((a.1, ap s.sessions.seats of ∙ seat ∙ ap Sessions.in_txn (sym number), subst (λ n. 0 < n) (sym number) above), of) c served
-        in_its running idle t (inr committing) =
-            let a = mapped_one seat_of (session, t) s.sessions.committing committing in
-            absurd (no_commit_waits running idle a.0 a.1 (ap (λ (x : ℕ × ℕ). x.0) a.2))
 
         by : (b : Bool) → s.failed ≡ b → SessionComesTo g s session c
         by true failed = comes_refused c fault.Failed (inr (inl (failed, refl, refl))) tt
@@ -365,10 +359,8 @@ module _ (g : Geometry) (s : State) (session : ℕ) where
       decision_resumes h =
           ⊎_elim
           (λ durable. ⊎_elim
-          (λ c. resumes spared (Durable h.number) wait_is (Done Committed) (commit_ended s c.0) (inr (inl (durable, refl, (c.0, c.1, c.2, refl), c.3))) tt)
-          (⊎_elim
-          (λ p. resumes spared (Durable h.number) wait_is (Done Prepared) (prepare_ended s w.session p.0 p.1) (inr (inr (inl (durable, refl, (p.0, p.1, p.2, p.3, refl))))) tt)
-          (λ r. resumes spared (Durable h.number) wait_is (Done Resolved) (resolve_ended s w.session r.0) (inr (inr (inr (durable, refl, (r.0, r.1, r.2, refl))))) tt))
+          (λ p. resumes spared (Durable h.number) wait_is (Done Prepared) (prepare_ended s w.session p.0 p.1) (inr (inl (durable, refl, (p.0, p.1, p.2, p.3, refl)))) tt)
+          (λ r. resumes spared (Durable h.number) wait_is (Done Resolved) (resolve_ended s w.session r.0) (inr (inr (durable, refl, (r.0, r.1, r.2, refl)))) tt)
           h.unanswered)
           (λ not_yet. resumes spared (Durable h.number) wait_is (Waits (Durable h.number)) s (inl (not_yet, refl, refl)) tt)
           (within_or_beyond h.number s.durable)

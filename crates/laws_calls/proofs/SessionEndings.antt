@@ -44,8 +44,7 @@ module _ (g : Geometry) (s : State) (session : ℕ) (c : Call) where
   inner_adds wait new a of (inr (inl (whole, inr (inl h)))) =
       ap (λ (x : State). x.waiting) h.1.5
       ∙ ap (λ (w : Waiting). w ∷ s.waiting) (ap (λ n. record { session = n; call = c; wait = Lock h.1.1; cycle = None }) of ∙ ap waits_with (sym h.1.4))
-  inner_adds wait new a of (inr (inl (whole, inr (inr (inl h))))) =
-      ap (λ (x : State). x.waiting) h.1.1 ∙ ap (λ (w : Waiting). w ∷ s.waiting) (appended a call.Commit wait of h.0 h.1.0)
+  inner_adds wait new a of (inr (inl (whole, inr (inr (inl h))))) = absurd h.1
   inner_adds wait new a of (inr (inl (whole, inr (inr (inr (inr h)))))) =
       ap (λ (x : State). x.waiting) h.2.4 ∙ ap (λ (w : Waiting). w ∷ s.waiting) (appended a (call.Prepare h.0) wait of h.1 h.2.3)
 
@@ -88,7 +87,7 @@ WaitsForIts s c n =
 
 pub its_own_number : (g : Geometry) (s new : State) (session n : ℕ) (c : Call) → CallStep g s session c (Waits (Durable n)) new → WaitsForIts s c n
 its_own_number g s new session n c h = ⊎_elim
-    (λ t. inl (⊎_elim (λ commit. ap (λ (w : Wait). number_of w n) commit.1.0) (λ prepare. ap (λ (w : Wait). number_of w n) prepare.2.3) t.3))
+    (λ t. inl (ap (λ (w : Wait). number_of w n) t.3.2.3))
     (⊎_elim
     (λ commit. inl (ap (λ (w : Wait). number_of w n) commit.waits))
     (λ back. by back.global back.txn back.decided back.is back.by (ap (λ (w : Wait). number_of w n) back.to.1)))
@@ -113,8 +112,7 @@ wait_of Nothing other = other
 still_in : (g : Geometry) (s new : State) (w : Waiting) (its wait : Wait) → IsAmong w s.waiting → w.wait ≡ its → ResumesWait g s w its (Waits wait) new → StillWaits w.session wait new
 still_in g s new w (Durable n) wait m is (inl h) = subst (StillWaits w.session wait) (sym h.2) (w, m, refl, is ∙ ap (λ (x : Step). wait_of x (Durable n)) (sym h.1))
 still_in g s new w (Durable n) wait m is (inr (inl h)) = let clash = h.1 in absurd cc
-still_in g s new w (Durable n) wait m is (inr (inr (inl h))) = let clash = h.1 in absurd cc
-still_in g s new w (Durable n) wait m is (inr (inr (inr h))) = let clash = h.1 in absurd cc
+still_in g s new w (Durable n) wait m is (inr (inr h)) = let clash = h.1 in absurd cc
 still_in g s new w (Lock at) wait m is h = ⊎_elim
     (λ still. subst (StillWaits w.session wait) (sym still.2) (w, m, refl, is ∙ ap (λ (x : Step). wait_of x (Lock at)) (sym still.1)))
     (λ free. let on = free.1 in subst (StillWaits w.session wait) (sym on.5) (lock_waiting h.0 w.call on.1, inl refl, h.1.1, sym on.4))
@@ -179,9 +177,8 @@ others_wait s new session is w m = (waits_on session w s.waiting (subst (IsAmong
 
 done_in : (g : Geometry) (s new : State) (w : Waiting) (its : Wait) (answer : Answer) → ResumesWait g s w its (Done answer) new → AreOthers s w.session new
 done_in g s new w (Durable n) answer (inl h) = let clash = h.1 in absurd cc
-done_in g s new w (Durable n) answer (inr (inl h)) = ap (λ (x : State). x.waiting) h.2.3 ∙ ap (λ n. (wait_refused s n).waiting) h.2.2
-done_in g s new w (Durable n) answer (inr (inr (inl h))) = ap (λ (x : State). x.waiting) h.2.4
-done_in g s new w (Durable n) answer (inr (inr (inr h))) = ap (λ (x : State). x.waiting) h.2.3
+done_in g s new w (Durable n) answer (inr (inl h)) = ap (λ (x : State). x.waiting) h.2.4
+done_in g s new w (Durable n) answer (inr (inr h)) = ap (λ (x : State). x.waiting) h.2.3
 done_in g s new w (Lock at) answer h = ⊎_elim
     (λ still. let clash = still.1 in absurd cc)
     (λ free. done_leaves g (wait_refused s w.session) h.0 w.call answer new free.1)
@@ -190,8 +187,7 @@ done_in g s new w (Lock at) answer h = ⊎_elim
 refused_in : (g : Geometry) (s new : State) (w : Waiting) (its : Wait) (f : Fault) → ResumesWait g s w its (Refused f) new → AreOthers s w.session new
 refused_in g s new w (Durable n) f (inl h) = let clash = h.1 in absurd cc
 refused_in g s new w (Durable n) f (inr (inl h)) = let clash = h.1 in absurd cc
-refused_in g s new w (Durable n) f (inr (inr (inl h))) = let clash = h.1 in absurd cc
-refused_in g s new w (Durable n) f (inr (inr (inr h))) = let clash = h.1 in absurd cc
+refused_in g s new w (Durable n) f (inr (inr h)) = let clash = h.1 in absurd cc
 refused_in g s new w (Lock at) f h = ⊎_elim
     (λ still. let clash = still.1 in absurd cc)
     (λ free. refusing_leaves g (wait_refused s w.session) h.0 w.call f new free.1)

@@ -164,8 +164,7 @@ module _ (g : Geometry) (o : Opening) (found : List LogRecord) (es : List Entry)
   wait_fails : (w : Waiting) (wait : Wait) (f : Fault) (new : State) → ResumesWait g s w wait (Refused f) new → Fails f new
   wait_fails w (Durable n) f new (inl h) = let clash = h.1 in absurd cc
   wait_fails w (Durable n) f new (inr (inl h)) = let clash = h.1 in absurd cc
-  wait_fails w (Durable n) f new (inr (inr (inl h))) = let clash = h.1 in absurd cc
-  wait_fails w (Durable n) f new (inr (inr (inr h))) = let clash = h.1 in absurd cc
+  wait_fails w (Durable n) f new (inr (inr h)) = let clash = h.1 in absurd cc
   wait_fails w (Lock at) f new h = ⊎_elim
       (λ still. let clash = still.1 in absurd cc)
       (λ free. on_fails g (wait_refused s w.session) h.0 k.sessions.locks.orderly free.0 w.call f new free.1)

@@ -16,9 +16,8 @@ use Rattle.shore_model.specs.declared.histories.Decision.TheVariants as decision
 use Rattle.shore_model.specs.declared.histories.Entry.{Entry}
 use Rattle.shore_model.specs.declared.log_records.Payload.TheVariants.{Change, Commit}
 use Rattle.shore_model.specs.Histories.{acknowledged}
-use Rattle.laws_calls.proofs.SettledAtOnce.{at_once, resumed_at_once}
-use Rattle.shore_model.specs.declared.step.Step.TheVariants.{Done, Waits}
-use Rattle.shore_model.specs.declared.step.Wait.TheVariants.{Durable}
+use Rattle.laws_calls.proofs.SettledAtOnce.{at_once}
+use Rattle.shore_model.specs.declared.step.Step.TheVariants.{Done}
 use Rattle.laws_room.proofs.Leaving.{same_page}
 use Rattle.laws_room.specs.Claims.{Grows, SlotCounts}
 use Rattle.laws_room.specs.LogRooms.{image_cost}
@@ -26,9 +25,9 @@ use Rattle.laws_lives.proofs.Ids.{put_here}
 use Rattle.laws_lives.specs.Sessions.{SessionTxn}
 use Rattle.laws_lives.specs.UndoLists.{nothing_to_undo, with_before_image}
 use Rattle.laws_calls.specs.CallHistories.{IsOpened}
-use Rattle.laws_calls.specs.Events.{Called, Forced, Resumed, EventMoves, MovesMaking, entries_of}
-use Rattle.laws_calls.specs.StateChanges.{FitsAt, MayChange, answered, decision_waiting, committed, with_durable, begun}
-use Rattle.laws_calls.specs.CallSteps.{HasLocked, HasPlace, IsPlaceOf, behind_lock, behind_place, commit_ended}
+use Rattle.laws_calls.specs.Events.{Called, Forced, EventMoves, MovesMaking, entries_of, TicketAsked}
+use Rattle.laws_calls.specs.StateChanges.{FitsAt, MayChange, answered, committed, with_durable, begun}
+use Rattle.laws_calls.specs.CallSteps.{HasLocked, HasPlace, IsPlaceOf, behind_lock, behind_place}
 use Rattle.laws_calls.specs.States.{State}
 use Rattle.laws_calls.specs.WorkedRun.{first_id, first_page, one_insert, opened_empty}
 use Rattle.laws_lives.specs.Soundness.{opening_with}
@@ -74,9 +73,6 @@ module _ (g : Geometry) (stream_bytes : ℕ) (bytes : List ℕ) (store : HasStor
   abbrev s4 : State
   s4 = with_durable 2 s3
 
-  abbrev s5 : State
-  s5 = commit_ended s4 a2
-
   is_opened : IsOpened (opening_with empty) [] s0
   is_opened = empty_is_opened stream_bytes
 
@@ -121,28 +117,33 @@ module _ (g : Geometry) (stream_bytes : ℕ) (bytes : List ℕ) (store : HasStor
     at_once g s1 1 (call.Insert 0 bytes) (Done (Inserted first_id)) s2 (inr (inr (inr (inr (inr (inl (refl, λ w m. absurd m, (a1, ((inl refl, refl, omega arith), refl), inr (inl (refl, inr (inl ((short, store), (with_store, has_store, (first_id, has_place, refl, (one_slot, may, refl))))))))))))))) tt,
   )
 
-  commits : EventMoves g s2 (Called 1 call.Commit (Waits (Durable 2))) s3
-  commits = (tt, at_once g s2 1 call.Commit (Waits (Durable 2)) s3 (inr (inr (inr (inr (inr (inl (refl, λ w m. absurd m, (a2, ((inl refl, refl, omega arith), refl), inr (inl (refl, inr (inr (inl (refl, (refl, refl)))))))))))))) tt)
+  commits : EventMoves g s2 (Called 1 call.Commit (Done (Committed 2))) s3
+  commits = (tt, at_once g s2 1 call.Commit (Done (Committed 2)) s3 (inr (inr (inr (inr (inr (inl (refl, λ w m. absurd m, (a2, ((inl refl, refl, omega arith), refl), inr (inl (refl, inr (inr (inl (refl, (refl, refl)))))))))))))) tt)
 
   forces : EventMoves g s3 (Forced 2) s4
   forces = (omega arith, omega arith, refl)
 
-  answers : EventMoves g s4 (Resumed 1 (Done Committed)) s5
-  answers = resumed_at_once g s4 1 (Done Committed) s5 (inr (decision_waiting 1 call.Commit 2, inl refl, refl, inr (refl, inr (inl (omega arith, refl, (a2, inl refl, refl, refl), refl)), refl))) tt
+  -- before the force the ticket is not durable, and then it is
+  not_yet : EventMoves g s3 (TicketAsked 2 false) s3
+  not_yet = (((λ e. let clash = e in absurd cc), (λ le. absurd (omega (arith, le)))), refl)
+
+  told : EventMoves g s4 (TicketAsked 2 true) s4
+  told = (((λ e. omega arith), (λ le. refl)), refl)
 
   abbrev made : List Entry
   made =
       entries_of s0 (Called 1 call.Begin (Done (Began 1))) s1 ++ entries_of s1 (Called 1 (call.Insert 0 bytes) (Done (Inserted first_id))) s2
-      ++ entries_of s2 (Called 1 call.Commit (Waits (Durable 2))) s3 ++ entries_of s3 (Forced 2) s4 ++ entries_of s4 (Resumed 1 (Done Committed)) s5 ++ []
+      ++ entries_of s2 (Called 1 call.Commit (Done (Committed 2))) s3 ++ entries_of s3 (TicketAsked 2 false) s3 ++ entries_of s3 (Forced 2) s4
+      ++ entries_of s4 (TicketAsked 2 true) s4 ++ []
 
   pub session_comes_through : (last : State) × (made : List Entry) × IsOpened (opening_with empty) [] (opened_empty stream_bytes)
       × MovesMaking g (opened_empty stream_bytes) (one_insert bytes) last made
       × (get last.sessions.records first_id ≡ Some bytes) × (acknowledged made ≡ decision.Commit 1 ∷ [])
   session_comes_through = (
-    s5,
+    s4,
     made,
     is_opened,
-    (s1, _, begins, (s2, _, inserts, (s3, _, commits, (s4, _, forces, (s5, _, answers, (refl, refl), refl), refl), refl), refl), refl),
+    (s1, _, begins, (s2, _, inserts, (s3, _, commits, (s3, _, not_yet, (s4, _, forces, (s4, _, told, (refl, refl), refl), refl), refl), refl), refl), refl),
     put_here empty first_id (Some bytes),
     refl,
   )

@@ -71,12 +71,13 @@ IsLockless (call.Delete id) = ⊥
 IsLockless (call.Scan store) = ⊥
 IsLockless (call.Lock at mode) = ⊥
 IsLockless (call.TryLock at mode) = ⊥
-IsLockless call.Commit = ⊥
+IsLockless call.Commit = Unit {0}
 IsLockless (call.Prepare global) = Unit {0}
 IsLockless (call.Resolve global outcome) = ⊥
 IsLockless call.InDoubt = ⊥
 
 pub asks_no_lockless : (c : Call) (lock : Asked) → lock_asked_by c ≡ Some lock → IsLockless c → ⊥
+asks_no_lockless call.Commit lock asks h = absurd cc
 asks_no_lockless call.Savepoint lock asks h = absurd cc
 asks_no_lockless (call.BackTo n) lock asks h = absurd cc
 asks_no_lockless call.Abort lock asks h = absurd cc
@@ -126,7 +127,7 @@ module _ (g : Geometry) (s new : State) (session : ℕ) where
       inner (inl x) = absurd (no_done_refused answer fault.MustAbort x.2)
       inner (inr (inl (whole, inl x))) = absurd (no_done_refused answer x.0 x.2)
       inner (inr (inl (whole, inr (inl x)))) = record { running = h.0; idle = h.1; txn = h.2.0; of = h.2.1; whole = whole; may = x.0; from = answered_from g s h.2.0 c new answer x.1 }
-      inner (inr (inl (whole, inr (inr (inl x))))) = absurd x.1
+      inner (inr (inl (whole, inr (inr (inl x))))) = absurd (locks (subst IsLockless (sym x.0) tt))
       inner (inr (inl (whole, inr (inr (inr (inl x)))))) = absurd (locks (subst IsLockless (sym x.0) tt))
       inner (inr (inl (whole, inr (inr (inr (inr x)))))) = absurd x.2
       inner (inr (inr (inl x))) = absurd (locks (subst IsLockless (sym x.1) tt))
@@ -151,7 +152,7 @@ module _ (g : Geometry) (s new : State) (session : ℕ) where
       by a (inl x) = absurd (no_done_refused answer fault.MustAbort x.2)
       by a (inr (inl (whole, inl x))) = absurd x.1
       by a (inr (inl (whole, inr (inl x)))) = absurd x.0
-      by a (inr (inl (whole, inr (inr (inl x))))) = absurd x.1
+      by a (inr (inl (whole, inr (inr (inl x))))) = let clash = x.0 in absurd cc
       by a (inr (inl (whole, inr (inr (inr (inl x)))))) = (whole, x.1)
       by a (inr (inl (whole, inr (inr (inr (inr x)))))) = absurd x.2
       by a (inr (inr (inl x))) = let clash = x.1 in absurd cc
@@ -168,7 +169,7 @@ module _ (g : Geometry) (s new : State) (session : ℕ) where
       by a (inl x) = absurd (no_done_refused answer fault.MustAbort x.2)
       by a (inr (inl (whole, inl x))) = absurd x.1
       by a (inr (inl (whole, inr (inl x)))) = absurd x.0
-      by a (inr (inl (whole, inr (inr (inl x))))) = absurd x.1
+      by a (inr (inl (whole, inr (inr (inl x))))) = let clash = x.0 in absurd cc
       by a (inr (inl (whole, inr (inr (inr (inl x)))))) = let clash = x.0 in absurd cc
       by a (inr (inl (whole, inr (inr (inr (inr x)))))) = absurd x.2
       by a (inr (inr (inl x))) = (x.2, subst (λ m. BackToStep s a m (Done answer) new) (same_savepoint n x.0 x.1) x.3)
@@ -181,11 +182,26 @@ module _ (g : Geometry) (s new : State) (session : ℕ) where
       by a (inl x) = absurd (no_done_refused answer fault.MustAbort x.2)
       by a (inr (inl (whole, inl x))) = absurd x.1
       by a (inr (inl (whole, inr (inl x)))) = absurd x.0
-      by a (inr (inl (whole, inr (inr (inl x))))) = absurd x.1
+      by a (inr (inl (whole, inr (inr (inl x))))) = let clash = x.0 in absurd cc
       by a (inr (inl (whole, inr (inr (inr (inl x)))))) = let clash = x.0 in absurd cc
       by a (inr (inl (whole, inr (inr (inr (inr x)))))) = absurd x.2
       by a (inr (inr (inl x))) = let clash = x.1 in absurd cc
       by a (inr (inr (inr x))) = x.1
+
+  -- a commit is answered
+  pub committed_in : (answer : Answer) → CallStep g s session call.Commit (Done answer) new
+      → (a : SessionTxn) × IsOfSession s session a × (a.undo.rolling ≡ None) × CommitStep s a (Done answer) new
+  committed_in answer h = let t = answered_of call.Commit answer tt h in let k = by t.0 t.2 in (t.0, t.1, k.0, k.1)
+    where
+      by : (a : SessionTxn) → InnerStep g s a call.Commit (Done answer) new → (a.undo.rolling ≡ None) × CommitStep s a (Done answer) new
+      by a (inl x) = absurd (no_done_refused answer fault.MustAbort x.2)
+      by a (inr (inl (whole, inl x))) = absurd x.1
+      by a (inr (inl (whole, inr (inl x)))) = absurd x.0
+      by a (inr (inl (whole, inr (inr (inl x))))) = (whole, x.1)
+      by a (inr (inl (whole, inr (inr (inr (inl x)))))) = let clash = x.0 in absurd cc
+      by a (inr (inl (whole, inr (inr (inr (inr x)))))) = absurd x.2
+      by a (inr (inr (inl x))) = let clash = x.1 in absurd cc
+      by a (inr (inr (inr x))) = let clash = x.0 in absurd cc
 
   not_begun : {step : Step} → OutsideStep s session call.Begin step new → ⊥
   not_begun (inl h) = let clash = h.0 in cc
@@ -279,7 +295,7 @@ module _ (g : Geometry) (s new : State) (session : ℕ) where
       how (inl x) = absurd (no_waits_refused (Lock at) fault.MustAbort x.2)
       how (inr (inl (whole, inl x))) = absurd (no_waits_refused (Lock at) x.0 x.2)
       how (inr (inl (whole, inr (inl x)))) = x
-      how (inr (inl (whole, inr (inr (inl x))))) = absurd (durable_no_lock (next_number s) at (sym x.1.0))
+      how (inr (inl (whole, inr (inr (inl x))))) = absurd x.1
       how (inr (inl (whole, inr (inr (inr (inl x)))))) = absurd x.1
       how (inr (inl (whole, inr (inr (inr (inr x)))))) = absurd (durable_no_lock (next_number s) at (sym x.2.3))
       how (inr (inr (inl x))) = absurd x.3
@@ -288,7 +304,7 @@ module _ (g : Geometry) (s new : State) (session : ℕ) where
   -- one that waits for a record has appended it
   abbrev pub AppendsIn : Call → ℕ → Type 0
   AppendsIn c n = (a : SessionTxn) × IsOfSession s session a × (a.undo.rolling ≡ None)
-      × (((c ≡ call.Commit) × CommitStep s a (Waits (Durable n)) new) ⊎ ((global : List ℕ) × (c ≡ call.Prepare global) × PrepareStep s a global (Waits (Durable n)) new))
+      × ((global : List ℕ) × (c ≡ call.Prepare global) × PrepareStep s a global (Waits (Durable n)) new)
 
   pub waits_on_record : (c : Call) (n : ℕ) → CallStep g s session c (Waits (Durable n)) new
       → AppendsIn c n ⊎ (CommitWaits s session c (Durable n) new ⊎ RollbackWaits s session c (Durable n) new)
@@ -302,13 +318,13 @@ module _ (g : Geometry) (s new : State) (session : ℕ) where
   waits_on_record c n (inr (inr (inr (inr (inr (inl h)))))) = inl (h.2.0, h.2.1, waits_whole c (Durable n) h.2.0 h.2.2, how h.2.2)
     where
       how : InnerStep g s h.2.0 c (Waits (Durable n)) new
-          → ((c ≡ call.Commit) × CommitStep s h.2.0 (Waits (Durable n)) new) ⊎ ((global : List ℕ) × (c ≡ call.Prepare global) × PrepareStep s h.2.0 global (Waits (Durable n)) new)
+          → (global : List ℕ) × (c ≡ call.Prepare global) × PrepareStep s h.2.0 global (Waits (Durable n)) new
       how (inl x) = absurd (no_waits_refused (Durable n) fault.MustAbort x.2)
       how (inr (inl (whole, inl x))) = absurd (no_waits_refused (Durable n) x.0 x.2)
       how (inr (inl (whole, inr (inl x)))) = absurd (durable_no_lock n x.1.1 x.1.4)
-      how (inr (inl (whole, inr (inr (inl x))))) = inl x
+      how (inr (inl (whole, inr (inr (inl x))))) = absurd x.1
       how (inr (inl (whole, inr (inr (inr (inl x)))))) = absurd x.1
-      how (inr (inl (whole, inr (inr (inr (inr x)))))) = inr x
+      how (inr (inl (whole, inr (inr (inr (inr x)))))) = x
       how (inr (inr (inl x))) = absurd x.3
       how (inr (inr (inr x))) = absurd x.1
 

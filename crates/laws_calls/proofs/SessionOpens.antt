@@ -63,14 +63,12 @@ pub sessions_after_open : (o : Opening) (found : List LogRecord) (s : State) →
 sessions_after_open o found s h =
     let durable = h.durable in
     let few = h.few in
-    let committing : length s.sessions.committing ≡ 0 = ap length h.on.committing in
     let resolving : length (ended_among s.sessions.active s.sessions.resolving) ≡ 0 = ap (λ rs. length (ended_among s.sessions.active rs)) h.on.resolving in
     record {
       sessions = sessions_begin o found s h;
       waits = record {
         each = λ w m. absurd (subst (IsAmong w) h.waiting m);
         once = λ v w m n same. absurd (subst (IsAmong v) h.waiting m);
-        all = λ running a m. absurd (subst (IsAmong a) h.on.committing m);
         prepares = λ running p m e. absurd (true≢false (sym (found_answered p o.in_doubt (subst (IsAmong p) h.on.prepared m)) ∙ e));
         resolves = λ running r ended. absurd (subst (IsAmong r) h.on.resolving ended.0);
         resolve_once = λ v w global x y m n first second. absurd (subst (IsAmong v) h.waiting m);
@@ -79,8 +77,9 @@ sessions_after_open o found s h =
         least = subst (λ n. length found ≤ n) (sym durable) (omega arith);
         most = subst (λ log. s.durable ≤ length log) (sym h.log) (omega arith);
         acknowledged_kept = All-nil (Contains (decisions_in (length found) (take s.durable s.log)));
+        tickets = tt;
       };
-      few = omega (arith, few, committing, resolving);
+      few = omega (arith, few, resolving);
     }
 
 -- ---- opens that must not come

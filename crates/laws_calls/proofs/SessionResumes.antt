@@ -5,22 +5,16 @@ use Rattle.std.proofs.lemmas.Bool.{cases_Bool, eqb-false, eqb-true}
 use Rattle.shore_types.specs.declared.faults.Fault.TheVariants as fault
 use Rattle.shore_types.specs.declared.layout.Geometry.{Geometry}
 use Rattle.shore_types.specs.declared.locking.Granule.{Granule}
-use Rattle.shore_model.specs.declared.calls.Answer.TheVariants.{Committed, Prepared, Resolved}
+use Rattle.shore_model.specs.declared.calls.Answer.TheVariants.{Prepared, Resolved}
 use Rattle.shore_model.specs.declared.calls.Call.{Call}
 use Rattle.shore_model.specs.declared.calls.Call.TheVariants as call
 use Rattle.shore_model.specs.declared.histories.Entry.{Entry}
 use Rattle.shore_model.specs.declared.histories.Opening.{Opening}
 use Rattle.shore_model.specs.declared.histories.Entry.TheVariants.{Exchanged}
 use Rattle.shore_model.specs.declared.log_records.LogRecord.{LogRecord}
-use Rattle.shore_model.specs.declared.requests.Request.{Request}
-use Rattle.shore_model.specs.Requests.{held_by_all}
-use Rattle.shore_locks.specs.Grants.{released}
 use Rattle.shore_locks.specs.Tables.{is_waiting}
-use Rattle.laws_locks.proofs.Held.{released_below, released_moves, released_orderly, released_rooted}
-use Rattle.laws_locks.proofs.Waiting.{released_stay_quiet}
-use Rattle.laws_lives.proofs.Members.{txn_of_one}
-use Rattle.laws_lives.specs.SessionSteps.{AnswerCommit, MoveLocks, exchange, entries_by, AnswerPrepare}
-use Rattle.laws_lives.specs.Sessions.{SessionTxn, commit_answered, txns_of, Sessions, seated, ResolvedTxn}
+use Rattle.laws_lives.specs.SessionSteps.{exchange, AnswerPrepare}
+use Rattle.laws_lives.specs.Sessions.{SessionTxn, Sessions, ResolvedTxn}
 use Rattle.laws_lives.specs.Views.{IsAmong}
 use Rattle.shore_model.specs.declared.step.Step.{Step}
 use Rattle.shore_model.specs.declared.step.Step.TheVariants.{Done, Nothing, Refused, Waits}
@@ -28,18 +22,16 @@ use Rattle.shore_model.specs.declared.step.Wait.{Wait}
 use Rattle.shore_model.specs.declared.step.Wait.TheVariants.{Durable, Lock}
 use Rattle.laws_calls.proofs.GoingOn.{goes_on_kept}
 use Rattle.laws_calls.proofs.LockedAnswers.{refusal_told}
-use Rattle.laws_calls.proofs.RefusalTells.{same_entry}
-use Rattle.laws_calls.proofs.Sessions.{AreSessionsAfter, event_keeps, its_txn, one_txn, then_quiet, committed_seat, one_member, parted, prepare_seats, seat_apart}
+use Rattle.laws_calls.proofs.Sessions.{event_keeps, one_txn, one_member, prepare_seats, seat_apart}
 use Rattle.laws_calls.proofs.TakenLocks.{sessions_of, state_of}
 use Rattle.laws_calls.specs.CallHistories.{txn_of, answered_under, txn_under}
 use Rattle.laws_calls.specs.StateChanges.{wait_refused}
-use Rattle.laws_calls.specs.CallSteps.{CallGoesOn, ResumesCall, ResumesWait, commit_ended, IsPreparing, prepare_ended, HasEnded}
-use Rattle.laws_calls.proofs.Waiters.{released_under_way, seat_moved}
+use Rattle.laws_calls.specs.CallSteps.{CallGoesOn, ResumesCall, ResumesWait, IsPreparing, prepare_ended, HasEnded}
 use Rattle.laws_calls.specs.LockedStates.{IsSessionsState, entries_of_resumed, HasTrueLocks}
-use Rattle.laws_calls.specs.States.{IsOfSession, State, Waiting, without_waiting, AsksForNothing, HasSeat}
+use Rattle.laws_calls.specs.States.{IsOfSession, State, Waiting, without_waiting, HasSeat}
 use Rattle.shore_model.specs.Histories.{free}
 use Rattle.shore_model.specs.declared.sessions.SessionState.{SessionState}
-use Rattle.laws_calls.proofs.Told.{entries_told, entries_waited}
+use Rattle.laws_calls.proofs.Told.{entries_told, entries_waited, asks_decides_nothing}
 use Rattle.laws_calls.specs.Resolves.{resolve_ended}
 
 -- the calls of other sessions wait on
@@ -88,61 +80,13 @@ is_resolve_told s w n step new h = record {
 -- a call that goes on behind its lock adds what it would add if it were made now
 pub same_entries : (g : Geometry) (s : State) (a : SessionTxn) (session : ℕ) (c : Call) (at : Granule) (step : Step) (new : State) → CallGoesOn g s a c step new
     → entries_told s session c step ≡ entries_of_resumed s (record { session = session; call = c; wait = Lock at; cycle = None }) step
-same_entries g s a session c at (Done answer) new h = refl
+same_entries g s a session c at (Done answer) new h =
+    ap (λ ds. ds ++ Exchanged session (answered_under s.sessions session c) (exchange c (Ok answer)) ∷ []) (asks_decides_nothing (txn_of s.sessions session) c h.1.0 h.1.1)
 same_entries g s a session c at (Waits wait) new h = ap (entries_waited s session c) h.4
 same_entries g s a session c at (Refused f) new h = refl
 same_entries g s a session c at Nothing new h = absurd h
 
 module _ (g : Geometry) (o : Opening) (found : List LogRecord) (es : List Entry) (s : State) (k : IsSessionsState o found es s) where
-  -- a transaction that is under way, and its session's, is of another session than one that is committed
-  pub apart : (a b : SessionTxn) → IsAmong a s.sessions.committing → HasSeat s.sessions b → b.session ≢ a.session
-  apart a b committed mine same = parted k b a mine.0 committed (one_txn s.sessions b a mine.1 (committed_seat k a committed) same)
-
-  -- ---- a commit is answered
-
-  module _ (a : SessionTxn) (mem : IsAmong a s.sessions.committing) (session : ℕ) (of : a.session ≡ session) where
-    abbrev left : List Request
-    left = released a.txn s.locks.requests
-
-    -- the sessions behind the answer, before the locks go
-    abbrev told : Sessions
-    told = seated s.sessions (entries_by s.sessions (AnswerCommit a)) (commit_answered s.sessions a)
-
-    under_way_no_more : IsAmong a.txn (txns_of s.sessions.active) → ⊥
-    under_way_no_more among = let b = txn_of_one a.txn s.sessions.active among in parted k b.0 a b.1 mem b.2
-
-    ended : IsSessionsState o found (es ++ Exchanged session (txn_of s.sessions session) (exchange call.Commit (Ok Committed)) ∷ []) (commit_ended s a)
-    ended =
-        let own : Entry = Exchanged a.session a.txn (exchange call.Commit (Ok Committed)) in
-        let entry = same_entry a.session session a.txn (txn_of s.sessions session) (exchange call.Commit (Ok Committed)) of (sym (its_txn s.sessions a session (committed_seat k a mem) of)) in
-        let answered = event_keeps (length found) o es s.sessions told (AnswerCommit a) s.log (sessions_of o found es s k) ((mem, committed_seat k a mem), refl) in
-        let unlocked = event_keeps (length found) o (es ++ own ∷ []) told (commit_ended s a).sessions (MoveLocks (held_by_all left)) s.log answered
-        (released_moves told s.locks.requests a.txn k.locks.held k.locks.orderly k.locks.rooted k.locks.below under_way_no_more) in
-        state_of o found es s k (es ++ Exchanged session (txn_of s.sessions session) (exchange call.Commit (Ok Committed)) ∷ []) (commit_ended s a)
-        (subst (λ (e : Entry). AreSessionsAfter (length found) o (es ++ e ∷ []) (commit_ended s a).sessions s.log) entry
-        (then_quiet (length found) o es (own ∷ []) (commit_ended s a).sessions s.log unlocked))
-        (record {
-          held = refl;
-          orderly = released_orderly s.locks.requests a.txn k.locks.orderly;
-          rooted = released_rooted s.locks.requests a.txn k.locks.orderly k.locks.rooted;
-          below = released_below s.locks.requests a.txn s.sessions.next_txn k.locks.orderly k.locks.below;
-          waiters =
-              seat_moved left s.sessions a.session free (λ b mine waits same. apart a b mem mine same)
-              (released_under_way s.locks.requests s.sessions a.txn k.locks.orderly k.locks.waiters);
-          waits = λ running b there idle. released_stay_quiet s.locks.requests a.txn b.txn k.locks.orderly (still_quiet b there running idle);
-        })
-      where
-        -- who has not waited, and whose session asks for nothing, does not wait
-        still_quiet : (b : SessionTxn) → IsAmong b s.sessions.active → s.failed ≡ false → AsksForNothing (commit_ended s a) b.session → is_waiting b.txn s.locks.requests ≡ false
-        still_quiet b there running idle = ⊎_elim
-            (λ waits.
-            let was = k.locks.waiters b.txn waits in
-            let same = one_member k was.0 b was.1.0 there was.2 in
-            let mine : HasSeat s.sessions b = subst (HasSeat s.sessions) same was.1 in
-            k.locks.waits running b there (λ w m spared of. idle w (waits_stay a.session w s.waiting m (λ own_session. apart a b mem mine (sym of ∙ own_session))) spared of))
-            (λ quiet. quiet)
-            (cases_Bool (is_waiting b.txn s.locks.requests))
-
   -- ---- a call behind a lock
 
   -- the call of a session that waited for a lock, and has it now, waits no more
@@ -216,13 +160,8 @@ module _ (g : Geometry) (o : Opening) (found : List LogRecord) (es : List Entry)
   wait_kept w (Durable n) whole step new (inl h) =
       inl (subst (IsSessionsState o found (es ++ entries_of_resumed s (record { session = w.session; call = w.call; wait = Durable n; cycle = w.cycle }) step)) (sym h.2)
       (subst (λ (x : Step). IsSessionsState o found (es ++ entries_of_resumed s (record { session = w.session; call = w.call; wait = Durable n; cycle = w.cycle }) x) s) (sym h.1) as_it_was))
-  wait_kept w (Durable n) whole step new (inr (inl h)) =
-      inl (subst (IsSessionsState o found (es ++ entries_of_resumed s (record { session = w.session; call = w.call; wait = Durable n; cycle = w.cycle }) step)) (sym h.2.3)
-      (subst (λ (x : Step). IsSessionsState o found (es ++ entries_of_resumed s (record { session = w.session; call = w.call; wait = Durable n; cycle = w.cycle }) x) (commit_ended s h.2.0)) (sym h.1)
-      (subst (λ (c : Call). IsSessionsState o found (es ++ Exchanged w.session (answered_under s.sessions w.session c) (exchange c (Ok Committed)) ∷ []) (commit_ended s h.2.0)) (sym h.3)
-      (ended h.2.0 h.2.1 w.session h.2.2))))
-  wait_kept w (Durable n) whole step new (inr (inr (inl h))) = inl (prepare_kept w n step new h)
-  wait_kept w (Durable n) whole step new (inr (inr (inr h))) = inr (is_resolve_told s w n step new h)
+  wait_kept w (Durable n) whole step new (inr (inl h)) = inl (prepare_kept w n step new h)
+  wait_kept w (Durable n) whole step new (inr (inr h)) = inr (is_resolve_told s w n step new h)
   wait_kept w (Lock at) whole step new h = inl (⊎_elim
       (λ still.
       subst (IsSessionsState o found (es ++ entries_of_resumed s (record { session = w.session; call = w.call; wait = Lock at; cycle = w.cycle }) step)) (sym still.2)

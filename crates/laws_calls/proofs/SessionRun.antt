@@ -24,11 +24,11 @@ use Rattle.laws_lives.specs.Sessions.{SessionTxn}
 use Rattle.laws_lives.specs.UndoLists.{nothing_to_undo, with_before_image}
 use Rattle.laws_calls.proofs.SettledAtOnce.{at_once, resumed_at_once, lone_waiter_is_on_no_cycle, waits_alone, waits_at_once}
 use Rattle.shore_model.specs.declared.step.Step.TheVariants.{Done, Waits}
-use Rattle.shore_model.specs.declared.step.Wait.TheVariants.{Durable, Lock}
+use Rattle.shore_model.specs.declared.step.Wait.TheVariants.{Lock}
 use Rattle.laws_calls.specs.CallHistories.{IsOpened}
-use Rattle.laws_calls.specs.Events.{Called, Forced, Resumed, EventMoves, MovesMaking}
-use Rattle.laws_calls.specs.StateChanges.{FitsAt, MayChange, answered, decision_waiting, committed, wait_refused, with_durable, begun}
-use Rattle.laws_calls.specs.CallSteps.{CallStep, IsPlaceOf, behind_lock, behind_place, commit_ended, lock_waiting}
+use Rattle.laws_calls.specs.Events.{Called, Resumed, EventMoves, MovesMaking}
+use Rattle.laws_calls.specs.StateChanges.{FitsAt, MayChange, answered, committed, wait_refused, begun}
+use Rattle.laws_calls.specs.CallSteps.{CallStep, IsPlaceOf, behind_lock, behind_place, lock_waiting}
 use Rattle.laws_calls.specs.WorkedSessions.{told_to_two, two_sessions}
 use Rattle.laws_calls.specs.Shapes.{store_lock, store_locked}
 use Rattle.laws_calls.specs.States.{DoesNotWait, HasNoTxn, MayBegin, State, Waiting}
@@ -83,14 +83,8 @@ module _ (g : Geometry) (stream_bytes : ℕ) (bytes : List ℕ) (store : HasStor
   abbrev one_commits : State
   one_commits = committed two_waits one_changed
 
-  abbrev forced : State
-  forced = with_durable 2 one_commits
-
-  abbrev one_ended : State
-  one_ended = commit_ended forced one_changed
-
   abbrev two_goes_on : State
-  two_goes_on = behind_lock (wait_refused one_ended 2) two (call.Get first_id) share
+  two_goes_on = behind_lock (wait_refused one_commits 2) two (call.Get first_id) share
 
   abbrev two_has : State
   two_has = answered two_goes_on two (call.Get first_id) (Got bytes) two_goes_on.counts
@@ -184,24 +178,18 @@ module _ (g : Geometry) (stream_bytes : ℕ) (bytes : List ℕ) (store : HasStor
     waits_at_once g begun_two 2 (call.Get first_id) (Record first_id) two_waits called_two two ((inl refl, refl, omega arith), refl) refl (lone_waiter_is_on_no_cycle two_waits.locks.requests 2 two_alone),
   )
 
-  commits : EventMoves g two_waits (Called 1 call.Commit (Waits (Durable 2))) one_commits
-  commits = (tt, at_once g two_waits 1 call.Commit (Waits (Durable 2)) one_commits (inr (inr (inr (inr (inr (inl (refl, idle, (one_changed, ((inr (inl refl), refl, omega arith), refl), inr (inl (refl, inr (inr (inl (refl, (refl, refl)))))))))))))) tt)
+  commits : EventMoves g two_waits (Called 1 call.Commit (Done (Committed 2))) one_commits
+  commits = (tt, at_once g two_waits 1 call.Commit (Done (Committed 2)) one_commits (inr (inr (inr (inr (inr (inl (refl, idle, (one_changed, ((inr (inl refl), refl, omega arith), refl), inr (inl (refl, inr (inr (inl (refl, (refl, refl)))))))))))))) tt)
     where
       idle : DoesNotWait two_waits 1
       idle w m is = ⊎_elim (λ same. let other = ap (λ (x : Waiting). x.session) same in omega arith) (λ later. absurd later) m
 
-  forces : EventMoves g one_commits (Forced 2) forced
-  forces = (omega arith, omega arith, refl)
-
-  ends : EventMoves g forced (Resumed 1 (Done Committed)) one_ended
-  ends = resumed_at_once g forced 1 (Done Committed) one_ended (inr (decision_waiting 1 call.Commit 2, inl refl, refl, inr (refl, inr (inl (omega arith, refl, (one_changed, inl refl, refl, refl), refl)), refl))) tt
-
   there : get two_goes_on.sessions.records first_id ≡ Some bytes
   there = put_here empty first_id (Some bytes)
 
-  goes_on : EventMoves g one_ended (Resumed 2 (Done (Got bytes))) two_has
+  goes_on : EventMoves g one_commits (Resumed 2 (Done (Got bytes))) two_has
   goes_on =
-      resumed_at_once g one_ended 2 (Done (Got bytes)) two_has (inr (
+      resumed_at_once g one_commits 2 (Done (Got bytes)) two_has (inr (
         lock_waiting two (call.Get first_id) (Record first_id),
         inl refl,
         refl,
@@ -242,13 +230,7 @@ module _ (g : Geometry) (stream_bytes : ℕ) (bytes : List ℕ) (store : HasStor
               one_commits,
               _,
               commits,
-              (
-                forced,
-                _,
-                forces,
-                (one_ended, _, ends, (two_has, _, goes_on, (refl, refl), refl), refl),
-                refl,
-              ),
+              (two_has, _, goes_on, (refl, refl), refl),
               refl,
             ),
             refl,

@@ -1,6 +1,6 @@
 -- Each step of a session, each force that is told and each failure leaves a state after its entries; so do any events.
 use Rattle.std.proofs.Common.{◌≡◌, ◌≢◌, ◌⊎◌, inl, inr, ⊎_elim, ◌++◌, ◌∷◌, ◌≤◌, ℕ, List, [], Bool, true, false, cond, None, Some, refl, sym, ap, subst, ◌∙◌, append-nil, arith, length, take, Ok}
-use Rattle.std.specs.Prelude.{◌==◌, Contains, IsTrue, Option}
+use Rattle.std.specs.Prelude.{◌==◌, Contains, IsTrue, Option, ◌↔◌}
 use Rattle.std.proofs.lemmas.Bool.{eqb-false, eqb-true}
 use Rattle.std.proofs.lemmas.List.Elements.{All-weaker}
 use Rattle.shore_types.specs.declared.layout.Geometry.{Geometry}
@@ -13,20 +13,20 @@ use Rattle.shore_model.specs.declared.histories.Opening.{Opening}
 use Rattle.shore_model.specs.declared.log_records.LogRecord.{LogRecord}
 use Rattle.shore_model.specs.Histories.{acknowledged}
 use Rattle.laws_lives.specs.LogPrefixes.{decisions_in}
-use Rattle.laws_lives.specs.SessionSteps.{exchange}
+use Rattle.laws_lives.specs.SessionSteps.{exchange, Ask}
 use Rattle.laws_lives.specs.Sessions.{SessionTxn}
 use Rattle.laws_lives.specs.Views.{IsAmong}
 use Rattle.shore_model.specs.declared.step.Step.{Step}
 use Rattle.shore_model.specs.declared.step.Wait.{Wait}
 use Rattle.shore_model.specs.declared.step.Wait.TheVariants.{Durable, Lock}
 use Rattle.laws_calls.proofs.Elements.{in_longer}
-use Rattle.laws_calls.proofs.Links.{answer_goes, commit_goes, shorter_without, ended_without}
+use Rattle.laws_calls.proofs.Links.{commit_goes, shorter_without, ended_without}
 use Rattle.laws_calls.proofs.SessionCalls.{session_call_kept}
-use Rattle.laws_calls.proofs.SessionForces.{abort_forced, answer_forced, commit_forced, quietly_forced, prepare_forced}
+use Rattle.laws_calls.proofs.SessionForces.{abort_forced, commit_forced, quietly_forced, prepare_forced, ask_forced}
 use Rattle.laws_calls.proofs.SessionResumes.{WaitsWhole, resumed_call_kept, IsResolveTold}
-use Rattle.laws_calls.proofs.Sessions.{its_txn, one_txn, commit_seats, committed_seat, one_member, own_of, seat_apart, older_resolved, committed_above}
+use Rattle.laws_calls.proofs.Sessions.{one_txn, commit_seats, one_member, own_of, older_resolved, event_keeps}
 use Rattle.laws_calls.proofs.Unwinding.{rollback_on}
-use Rattle.laws_calls.proofs.SessionsWaiting.{aborted_waits, commit_waits_on, ended_waits, failed_waits, quietly_waits, woken_waits, prepared_waits}
+use Rattle.laws_calls.proofs.SessionsWaiting.{aborted_waits, failed_waits, quietly_waits, woken_waits, prepared_waits, committed_waits}
 use Rattle.laws_calls.proofs.StepPassages.{CallPasses, ResumePasses, call_passes, resume_passes}
 use Rattle.laws_calls.specs.CallHistories.{IsForced, txn_of}
 use Rattle.laws_calls.specs.Events.{IsStateAfter, call_waiting, entries_of_resume, entries_of_waiting}
@@ -34,12 +34,12 @@ use Rattle.laws_calls.specs.StateChanges.{wait_refused, with_durable, with_failu
 use Rattle.laws_calls.specs.CallSteps.{ResumesCall, CallStep, ResumeStep, txn_count, IsPreparing}
 use Rattle.laws_calls.specs.LockedStates.{IsSessionsState, entries_of_resumed, entries_of_call}
 use Rattle.laws_calls.specs.SessionWaits.{IsDecisionWait, IsLockWait, WaitsOfSessions}
-use Rattle.laws_calls.specs.States.{IsOfSession, State, Waiting, DoesNotWait}
+use Rattle.laws_calls.specs.States.{IsOfSession, State, Waiting, DoesNotWait, next_number}
 use Rattle.shore_model.specs.declared.sessions.SessionState.{SessionState}
 use Rattle.laws_calls.proofs.PrepareSteps.{prepare_waits_on}
 use Rattle.laws_calls.specs.Prepares.{granules_in_ex, prepared}
 use Rattle.laws_calls.proofs.Growing.{forced_grown}
-use Rattle.shore_model.specs.declared.histories.Entry.TheVariants.{Decided, Exchanged}
+use Rattle.shore_model.specs.declared.histories.Entry.TheVariants.{Decided, Exchanged, Asked}
 use Rattle.laws_calls.proofs.Told.{entries_told}
 use Rattle.laws_calls.proofs.Outside.{Resolving}
 use Rattle.laws_calls.proofs.ToldEntries.{told_of_call}
@@ -50,6 +50,7 @@ use Rattle.laws_calls.proofs.UnderGlobal.{under_one, used_resolved}
 use Rattle.laws_calls.specs.Resolves.{resolve_ended}
 use Rattle.shore_model.specs.declared.calls.Answer.TheVariants.{Resolved}
 use Rattle.laws_calls.proofs.FewTxns.{quietly_few}
+use Rattle.laws_calls.proofs.TakenLocks.{state_of, sessions_of}
 
 -- ---- the call that a session waits with
 
@@ -91,11 +92,12 @@ module _ (o : Opening) (found : List LogRecord) (es : List Entry) (s : State) (k
           let a = commit.txn in
           record {
             sessions = kept;
-            waits = subst (WaitsOfSessions (length found)) (sym commit.is) (commit_waits_on o found es s k.sessions k.waits a commit.of.0 (λ w m same. commit.idle w m (same ∙ commit.of.1)));
+            waits = subst (WaitsOfSessions (length found)) (sym commit.is) (committed_waits o found es s k.sessions k.waits a commit.of.0 (λ w m same. commit.idle w m (same ∙ commit.of.1)));
             forced =
                 subst (λ made. IsForced (length found) (es ++ made) new) (sym commit.entries)
-                (subst (IsForced (length found) _) (sym commit.is) (commit_forced (length found) es s k.forced a (txn_of s.sessions session)));
-            few = subst (λ (x : State). txn_count x ≤ MAX_TRANSACTIONS) (sym commit.is) ((commit_goes g s a (own_of k.sessions a commit.of.0) commit.whole (commit_seats k.sessions.agree k.sessions.seats a (own_of k.sessions a commit.of.0).2.0)).few k.few);
+                (subst (IsForced (length found) _) (sym commit.is) (commit_forced (length found) es s k.forced a));
+            few = subst (λ (x : State). txn_count x ≤ MAX_TRANSACTIONS) (sym commit.is)
+                ((commit_goes g s a (own_of k.sessions a commit.of.0) commit.whole (commit_seats k.sessions.agree k.sessions.seats a (next_number s) (own_of k.sessions a commit.of.0).2.0)).few k.few);
           }
       by (inr (inr (inr prep))) =
           let a = prep.txn in
@@ -107,7 +109,7 @@ module _ (o : Opening) (found : List LogRecord) (es : List Entry) (s : State) (k
             forced =
                 subst (λ made. IsForced (length found) (es ++ made) new) (sym prep.entries)
                 (subst (IsForced (length found) _) (sym prep.is)
-                (forced_grown (length found) es (Decided (decision.Prepare a.txn prep.global)) s (prepared s a prep.global (granules_in_ex s a)) refl (_ ∷ [], refl) refl k.forced));
+                (forced_grown (length found) es (Decided (decision.Prepare a.txn prep.global)) s (prepared s a prep.global (granules_in_ex s a)) refl (_ ∷ [], refl) refl refl k.forced));
             few = subst (λ (x : State). txn_count x ≤ MAX_TRANSACTIONS) (sym prep.is) k.few;
           }
       by (inr (inr (inl abort))) =
@@ -147,30 +149,7 @@ module _ (o : Opening) (found : List LogRecord) (es : List Entry) (s : State) (k
   pub as_it_was : IsStateAfter o found (es ++ []) s
   as_it_was = subst (λ (made : List Entry). IsStateAfter o found made s) (sym (append-nil es)) k
 
-  -- the record of a commit that is answered is durable
-  pub answer_is_durable : (w : Waiting) → IsAmong w s.waiting → (n : ℕ) → w.wait ≡ Durable n → n ≤ s.durable → (a : SessionTxn) → IsAmong a s.sessions.committing → a.session ≡ w.session
-      → Contains (decisions_in (length found) (take s.durable s.log)) (decision.Commit (txn_of s.sessions w.session))
-  answer_is_durable w m n waits durable a mem of = by (k.waits.each w m)
-    where
-      number_of : Wait → ℕ
-      number_of (Durable n) = n
-      number_of (Lock at) = 0
-
-      by : IsDecisionWait (length found) s w ⊎ IsLockWait s w → Contains (decisions_in (length found) (take s.durable s.log)) (decision.Commit (txn_of s.sessions w.session))
-      by (inl c) =
-          let same : n ≡ c.number = ap number_of (sym waits) ∙ ap (λ (v : Waiting). number_of v.wait) c.is in
-          let there = in_longer (length found) c.number s.durable s.log c.decision (subst (λ x. x ≤ s.durable) same durable) c.decided in
-          ⊎_elim
-          (λ h.
-          subst (λ t. Contains (decisions_in (length found) (take s.durable s.log)) (decision.Commit t)) (sym (its_txn s.sessions h.0 w.session (committed_seat k.sessions h.0 h.1) h.2))
-          (subst (Contains (decisions_in (length found) (take s.durable s.log))) h.4 there))
-          (⊎_elim
-          (λ h. absurd (seat_apart (committed_seat k.sessions a mem) (ap s.sessions.seats of ∙ h.2.1)))
-          (λ h. absurd (h.4 a.txn (committed_above k.sessions a mem) (ap s.sessions.seats (sym of) ∙ committed_seat k.sessions a mem))))
-          c.unanswered
-      by (inr l) = let clash : Durable n ≡ Lock l.at = sym waits ∙ l.is in absurd cc
-
-  -- so is that of a prepare
+  -- the record of a prepare that is answered is durable
   pub prepare_is_durable : (w : Waiting) → IsAmong w s.waiting → (n : ℕ) → w.wait ≡ Durable n → n ≤ s.durable → (t : ℕ) (global : List ℕ) → IsPreparing s.sessions w.session t global → w.call ≡ call.Prepare global
       → Contains (decisions_in (length found) (take s.durable s.log)) (decision.Prepare t global)
   prepare_is_durable w m n waits durable t global mine asks = by (k.waits.each w m)
@@ -187,15 +166,13 @@ module _ (o : Opening) (found : List LogRecord) (es : List Entry) (s : State) (k
           let same : n ≡ c.number = ap number_of (sym waits) ∙ ap (λ (v : Waiting). number_of v.wait) c.is in
           let there = in_longer (length found) c.number s.durable s.log c.decision (subst (λ x. x ≤ s.durable) same durable) c.decided in
           ⊎_elim
-          (λ h. absurd (seat_apart (committed_seat k.sessions h.0 h.1) (ap s.sessions.seats h.2 ∙ mine.1)))
-          (⊎_elim
           (λ h.
           let number : h.0 ≡ t = ap (λ (p : SessionState). p.txn) (sym h.2.1 ∙ mine.1) in
           let name : h.1 ≡ global = same_name h.1 global (sym h.3 ∙ asks) in
           subst (λ u. Contains (decisions_in (length found) (take s.durable s.log)) (decision.Prepare u global)) number
           (subst (λ x. Contains (decisions_in (length found) (take s.durable s.log)) (decision.Prepare h.0 x)) name
           (subst (Contains (decisions_in (length found) (take s.durable s.log))) h.4 there)))
-          (λ h. let clash : call.Prepare global ≡ call.Resolve h.0.global h.0.outcome = sym asks ∙ h.2 in absurd cc))
+          (λ h. let clash : call.Prepare global ≡ call.Resolve h.0.global h.0.outcome = sym asks ∙ h.2 in absurd cc)
           c.unanswered
       by (inr l) = let clash : Durable n ≡ Lock l.at = sym waits ∙ l.is in absurd cc
 
@@ -242,11 +219,11 @@ module _ (o : Opening) (found : List LogRecord) (es : List Entry) (s : State) (k
             waits = quietly_waits (length found) g w.session woken new (entries_of_resumed s w step) (older_resolved o found es s k.sessions) (woken_waits o found es s k.sessions k.waits w.session (none_decided on.why)) on.on;
             forced =
                 quietly_forced g w.session (length found) es woken new (entries_of_resumed s w step) on.on
-                (record { least = k.forced.least; most = k.forced.most; acknowledged_kept = k.forced.acknowledged_kept });
+                (record { least = k.forced.least; most = k.forced.most; acknowledged_kept = k.forced.acknowledged_kept; tickets = k.forced.tickets });
             few = quietly_few g w.session woken new (entries_of_resumed s w step) on.on k.few;
           }
-      by kept (inr (inr (inr (inr told)))) = resolved told
-      by kept (inr (inr (inr (inl told)))) = record {
+      by kept (inr (inr (inr told))) = resolved told
+      by kept (inr (inr (inl told))) = record {
         sessions = kept;
         waits = subst (WaitsOfSessions (length found)) (sym told.is) (prepared_waits o found es s k.sessions k.waits w.session told.txn told.global told.preparing);
         forced =
@@ -255,17 +232,6 @@ module _ (o : Opening) (found : List LogRecord) (es : List Entry) (s : State) (k
             (prepare_forced (length found) es s k.forced w.session told.txn told.global told.preparing.1 (prepare_is_durable w m told.number told.waits told.durable told.txn told.global told.preparing told.asks)));
         few = subst (λ (x : State). txn_count x ≤ MAX_TRANSACTIONS) (sym told.is) k.few;
       }
-      by kept (inr (inr (inl told))) =
-          let a = told.txn in
-          record {
-            sessions = kept;
-            waits = subst (WaitsOfSessions (length found)) (sym told.is) (ended_waits o found es s k.sessions k.waits a told.committing);
-            forced =
-                subst (λ made. IsForced (length found) (es ++ made) new) (sym told.entries)
-                (subst (IsForced (length found) _) (sym told.is)
-                (answer_forced (length found) es s k.forced a w.session (answer_is_durable w m told.number told.waits told.durable a told.committing told.of)));
-            few = subst (λ (x : State). txn_count x ≤ MAX_TRANSACTIONS) (sym told.is) ((answer_goes g s a told.committing (committed_seat k.sessions a told.committing)).few k.few);
-          }
 
   pub session_resume_stays : (g : Geometry) (session : ℕ) (step : Step) (new : State) → ResumeStep g s session step new
       → IsStateAfter o found (es ++ entries_of_resume s session step) new
@@ -297,7 +263,6 @@ module _ (o : Opening) (found : List LogRecord) (es : List Entry) (s : State) (k
           (λ l. inr (record { txn = l.txn; active = l.active; of = l.of; whole = l.whole; at = l.at; is = l.is; lock = l.lock; asked = l.asked }))
           (k.waits.each w m);
       once = k.waits.once;
-      all = k.waits.all;
       prepares = k.waits.prepares;
       resolves = k.waits.resolves;
       resolve_once = k.waits.resolve_once;
@@ -308,6 +273,7 @@ module _ (o : Opening) (found : List LogRecord) (es : List Entry) (s : State) (k
       acknowledged_kept =
           All-weaker (Contains (decisions_in (length found) (take s.durable s.log))) (Contains (decisions_in (length found) (take n s.log)))
           (λ d h. in_longer (length found) s.durable n s.log d more h) (acknowledged es) k.forced.acknowledged_kept;
+      tickets = k.forced.tickets;
     };
     few = k.few;
   }
@@ -326,6 +292,16 @@ module _ (o : Opening) (found : List LogRecord) (es : List Entry) (s : State) (k
       locks = record { held = k.sessions.locks.held; orderly = k.sessions.locks.orderly; rooted = k.sessions.locks.rooted; below = k.sessions.locks.below; waiters = k.sessions.locks.waiters; waits = λ running. absurd cc };
     };
     waits = failed_waits (length found) s k.waits;
-    forced = record { least = k.forced.least; most = k.forced.most; acknowledged_kept = k.forced.acknowledged_kept };
+    forced = record { least = k.forced.least; most = k.forced.most; acknowledged_kept = k.forced.acknowledged_kept; tickets = k.forced.tickets };
+    few = k.few;
+  }
+
+  -- a ticket is asked for
+  pub session_ask_stays : (ticket : ℕ) (answer : Bool) → ((answer ≡ true) ↔ (ticket ≤ s.durable)) → IsStateAfter o found (es ++ Asked ticket answer ∷ []) s
+  session_ask_stays ticket answer truly = record {
+    sessions = state_of o found es s k.sessions (es ++ Asked ticket answer ∷ []) s
+        (event_keeps (length found) o es s.sessions s.sessions (Ask ticket answer) s.log (sessions_of o found es s k.sessions) refl) k.sessions.locks;
+    waits = k.waits;
+    forced = ask_forced (length found) es s k.forced ticket answer truly;
     few = k.few;
   }

@@ -1,5 +1,5 @@
 -- What the log of a state of sessions tells, and that transactions under way run alone.
-use Rattle.std.proofs.Common.{◌≡◌, ◌≢◌, ◌++◌, ◌∷◌, inl, inr, ℕ, List, [], None, refl, sym, ap, ◌∙◌, arith, length, map, take, subst, Option, Some, ◌⊎◌, ⊎_elim}
+use Rattle.std.proofs.Common.{◌≡◌, ◌≢◌, ◌++◌, ◌∷◌, inl, inr, ℕ, List, [], None, refl, sym, ap, ◌∙◌, arith, length, map, take, subst, Option, Some, ◌⊎◌, ⊎_elim, append_assoc, Ok}
 use Rattle.std.specs.Prelude.{Contains, IsSome, unwrap_or}
 use Rattle.std.proofs.lemmas.List.Elements.{All-weaker}
 use Rattle.std.specs.FinMap.{get}
@@ -8,25 +8,25 @@ use Rattle.shore_types.specs.declared.layout.Geometry.{Geometry}
 use Rattle.shore_model.specs.declared.histories.Decision.TheVariants as decision
 use Rattle.shore_model.specs.declared.histories.Entry.{Entry}
 use Rattle.shore_model.specs.declared.histories.Opening.{Opening}
-use Rattle.shore_model.specs.declared.histories.Entry.TheVariants.{Decided}
+use Rattle.shore_model.specs.declared.histories.Entry.TheVariants.{Decided, Exchanged}
 use Rattle.shore_model.specs.declared.log_records.LogRecord.{LogRecord}
 use Rattle.shore_model.specs.Histories.{Kept, RunsAloneAfter, acknowledged, decisions, serial, calls_of, shown, decision_asked_by}
 use Rattle.shore_model.specs.Records.{overlay, overlays, WriteSet}
-use Rattle.laws_lives.proofs.EndSteps.{commit_now, commit_sees}
+use Rattle.laws_lives.proofs.EndSteps.{commit_now, commit_sees, commit_stays_sound, commit_turn}
 use Rattle.laws_lives.proofs.InPlace.{is_overlaid}
 use Rattle.laws_lives.proofs.LogDecisions.{event_midst, prefix_decides}
 use Rattle.laws_lives.proofs.Members.{txn_among}
 use Rattle.laws_lives.proofs.Views.{read_of_write}
 use Rattle.laws_lives.specs.LogPrefixes.{decisions_in, TellsItsDecisions}
 use Rattle.laws_lives.specs.LogTells.{records_committed}
-use Rattle.laws_lives.specs.SessionSteps.{AnswerAbort, entries_by}
+use Rattle.laws_lives.specs.SessionSteps.{AnswerAbort, entries_by, exchange}
 use Rattle.laws_lives.specs.Sessions.{SessionTxn, abort_answered, txns_of, seated}
 use Rattle.laws_lives.specs.Soundness.{history_from, serial_after, written_by}
 use Rattle.laws_lives.specs.Views.{IsAmong}
 use Rattle.laws_calls.proofs.Sessions.{its_txn, own_of}
 use Rattle.laws_calls.proofs.Elements.{in_longer}
 use Rattle.laws_calls.proofs.SessionStates.{waits_whole, session_call_told}
-use Rattle.laws_calls.proofs.StepPassages.{CallPasses, Commits, ResumePasses, resume_passes, Prepares}
+use Rattle.laws_calls.proofs.StepPassages.{CallPasses, Commits, ResumePasses, resume_passes, Prepares, commit_passes}
 use Rattle.laws_calls.proofs.TakenLocks.{sessions_of}
 use Rattle.shore_model.specs.declared.step.Step.{Step}
 use Rattle.shore_model.specs.declared.step.Step.TheVariants.{Done, Nothing, Refused, Waits}
@@ -47,7 +47,7 @@ use Rattle.laws_lives.proofs.LogPrefixes.{tells_opening}
 use Rattle.laws_lives.proofs.DoubtsShown.{told_is_shown}
 use Rattle.laws_lives.proofs.UndoRecords.{lawful_front}
 use Rattle.laws_lives.proofs.Turns.{decision_after}
-use Rattle.laws_calls.proofs.SessionInversions.{waits_on_record, waits_running}
+use Rattle.laws_calls.proofs.SessionInversions.{answered_running, committed_in}
 use Rattle.shore_model.specs.declared.calls.Call.TheVariants as call
 use Rattle.laws_calls.proofs.Told.{entries_told}
 use Rattle.laws_calls.proofs.ResolveTells.{resolve_abort_tells, resolve_commit_tells}
@@ -56,6 +56,12 @@ use Rattle.shore_model.specs.declared.calls.Outcome.{Outcome}
 use Rattle.shore_model.specs.declared.calls.Outcome.TheVariants as outcome
 use Rattle.laws_calls.specs.Resolves.{ResolvesTo}
 use Rattle.laws_calls.proofs.QuietTells.{quietly_telling_none, whole_told}
+use Rattle.shore_model.specs.declared.calls.Answer.{Answer}
+use Rattle.shore_model.specs.declared.calls.Answer.TheVariants.{Committed}
+use Rattle.shore_model.specs.declared.calls.Exchange.{Exchange}
+use Rattle.laws_lives.proofs.QuietSteps.{all_kept, more_now}
+use Rattle.laws_lives.proofs.Exchanges.{commit_is_quiet}
+use Rattle.laws_lives.proofs.Entries.{decisions-exchanged}
 
 module _ (o : Opening) (found : List LogRecord) (es : List Entry) (s : State) (k : IsStateAfter o found es s) where
   pub sessions_told : records_committed s.log ≡ serial_after o es
@@ -86,11 +92,17 @@ module _ (o : Opening) (found : List LogRecord) (es : List Entry) (s : State) (k
   pub commit_tells : (session : ℕ) (new : State) (made : List Entry) → IsStateAfter o found (es ++ made) new → Commits s session new made
       → records_committed new.log ≡ overlay (records_committed s.log) (written_by o es (txn_of s.sessions session))
   commit_tells session new made after h =
-      let its = its_txn s.sessions h.txn session h.of.0.1 h.of.1 in
+      let a = h.txn in
+      let its = its_txn s.sessions a session h.of.0.1 h.of.1 in
+      let d : Entry = Decided (decision.Commit a.txn) in
+      let x : Exchange = exchange call.Commit (Ok (Committed (next_number s))) in
+      let mid = commit_stays_sound k.sessions.sound a h.of.0.0 h.whole (commit_turn k.sessions.sound a h.of.0.0 h.whole (own_of k.sessions a h.of.0).2) in
       whole_told (length found) o (es ++ made) new.log after.sessions.decides
-      ∙ ap (λ made. serial_after o (es ++ made)) (h.entries ∙ ap (λ t. Decided (decision.Commit t) ∷ []) its)
-      ∙ commit_now k.sessions.sound h.txn h.of.0.0
-      ∙ ap (λ R. overlay R (written_by o es h.txn.txn)) (sym sessions_told)
+      ∙ ap (λ made. serial_after o (es ++ made)) h.entries
+      ∙ ap (serial_after o) (sym (append_assoc es (d ∷ []) (Exchanged a.session a.txn x ∷ [])))
+      ∙ more_now mid ((es ++ d ∷ []) ++ Exchanged a.session a.txn x ∷ []) (decisions-exchanged (es ++ d ∷ []) a.txn a.session x) (all_kept mid a.session a.txn x (commit_is_quiet (next_number s)))
+      ∙ commit_now k.sessions.sound a h.of.0.0
+      ∙ ap (λ R. overlay R (written_by o es a.txn)) (sym sessions_told)
       ∙ ap (λ t. overlay (records_committed s.log) (written_by o es t)) (sym its)
 
   pub session_runs_alone : (a : SessionTxn) → HasSeat s.sessions a → RunsAloneAfter (history_from o es) (decisions es) a.txn
@@ -148,24 +160,24 @@ module _ (o : Opening) (found : List LogRecord) (es : List Entry) (s : State) (k
       by outcome.Commit is (Refused f) none to = absurd to
       by outcome.Commit is Nothing none to = absurd to
 
-  -- who commits asks for it
-  commits_asks : (session : ℕ) (c : Call) (step : Step) (new : State) → TellsNone c step → Commits s session new (entries_told s session c step) → ⊥
-  commits_asks session c step new none commit = by c step none commit.entries
+  -- who commits is answered
+  commits_told : (session : ℕ) (c : Call) (step : Step) (new : State) → (c ≡ call.Commit → (answer : Answer) → step ≢ Done answer) → Commits s session new (entries_told s session c step) → ⊥
+  commits_told session c step new none commit = by c step none commit.txn.txn commit.txn.session commit.txn.txn _ commit.entries
     where
-      by : (c : Call) (step : Step) → TellsNone c step → entries_told s session c step ≡ Decided (decision.Commit (txn_of s.sessions session)) ∷ [] → ⊥
-      by c (Done answer) none e = cc
-      by c (Refused f) none e = cc
-      by c (Waits (Lock at)) none e = cc
-      by c Nothing none e = cc
-      by c (Waits (Durable n)) (inl other) e = other n refl
-      by call.Commit (Waits (Durable n)) (inr asks) e = asks 0 refl
-      by (call.Prepare global) (Waits (Durable n)) (inr asks) e = cc
-      by _ (Waits (Durable n)) (inr asks) e = cc
+      by : (c : Call) (step : Step) → (c ≡ call.Commit → (answer : Answer) → step ≢ Done answer) → (t n u : ℕ) (x : Exchange)
+          → entries_told s session c step ≡ Decided (decision.Commit t) ∷ Exchanged n u x ∷ [] → ⊥
+      by call.Commit (Done answer) none t n u x e = none refl answer refl
+      by _ (Done answer) none t n u x e = cc
+      by c (Refused f) none t n u x e = cc
+      by c (Waits (Lock at)) none t n u x e = cc
+      by c Nothing none t n u x e = cc
+      by (call.Prepare global) (Waits (Durable m)) none t n u x e = cc
+      by _ (Waits (Durable m)) none t n u x e = cc
 
-  pub session_call_tells_none : (g : Geometry) (session : ℕ) (c : Call) (step : Step) (new : State) → CallStep g s session c step new → ((n : ℕ) → step ≢ Waits (Durable n)) ⊎ AsksNoCommit c
-      → records_committed new.log ≡ records_committed s.log
-  session_call_tells_none g session c step new h none =
-      call_tells_none g session c step new h (commits_asks session c step new none) (resolve_tells_none g session c step new none)
+  pub session_call_tells_none : (g : Geometry) (session : ℕ) (c : Call) (step : Step) (new : State) → CallStep g s session c step new → (c ≡ call.Commit → (answer : Answer) → step ≢ Done answer)
+      → ((n : ℕ) → step ≢ Waits (Durable n)) ⊎ AsksNoCommit c → records_committed new.log ≡ records_committed s.log
+  session_call_tells_none g session c step new h no_commit none =
+      call_tells_none g session c step new h (commits_told session c step new no_commit) (resolve_tells_none g session c step new none)
 
   pub resume_tells_none : (g : Geometry) (session : ℕ) (step : Step) (new : State) → ResumeStep g s session step new → records_committed new.log ≡ records_committed s.log
   resume_tells_none g session step new (inl h) = ap (λ (x : State). records_committed x.log) h.2
@@ -176,23 +188,17 @@ module _ (o : Opening) (found : List LogRecord) (es : List Entry) (s : State) (k
       by (inr (inl on)) =
           quietly_telling_none (length found) o es g h.0.session (wait_refused s h.0.session) new (entries_of_resumed s h.0 step) (sessions_of o found es s k.sessions) on.on
       by (inr (inr (inl told))) = ap (λ (x : State). records_committed x.log) told.is
-      by (inr (inr (inr (inl told)))) = ap (λ (x : State). records_committed x.log) told.is
-      by (inr (inr (inr (inr told)))) = ap (λ (x : State). records_committed x.log) told.is
+      by (inr (inr (inr told))) = ap (λ (x : State). records_committed x.log) told.is
 
-  pub call_tells : (g : Geometry) (session n : ℕ) (new : State) → CallStep g s session call.Commit (Waits (Durable n)) new
+  pub call_tells : (g : Geometry) (session : ℕ) (answer : Answer) (new : State) → CallStep g s session call.Commit (Done answer) new
       → records_committed new.log ≡ overlay (records_committed s.log) (written_by o es (txn_of s.sessions session))
-  call_tells g session n new h =
+  call_tells g session answer new h =
+      let t = committed_in g s new session answer h in
       ⊎_elim
-      (λ told. ⊎_elim
-      (λ t. ⊎_elim
-      (λ commit. commit_tells session new (Decided (decision.Commit (txn_of s.sessions session)) ∷ []) told.1
-      (record { txn = t.0; of = t.1; whole = t.2; idle = (waits_running g s new session call.Commit (Durable n) h).1; is = commit.1.1; entries = refl }))
-      (λ prepare. let clash = prepare.1 in absurd cc)
-      t.3)
-      (⊎_elim (λ x. let clash = x.is in absurd cc) (λ x. let clash = x.is in absurd cc))
-      (waits_on_record g s new session call.Commit n h))
+      (λ told. commit_tells session new (entries_told s session call.Commit (Done answer)) told.1
+      (commit_passes g o found es s k.sessions session t.0 t.2 t.1 (answered_running g s new session call.Commit answer h).1 (Done answer) new t.3))
       (λ r. let clash = r.0.is in absurd cc)
-      (session_call_told o found es s k g session call.Commit (Waits (Durable n)) new h)
+      (session_call_told o found es s k g session call.Commit (Done answer) new h)
 
   -- so does a resolve to commit
   pub resolve_tells : (g : Geometry) (session n : ℕ) (global : List ℕ) (new : State) → CallStep g s session (call.Resolve global outcome.Commit) (Waits (Durable n)) new

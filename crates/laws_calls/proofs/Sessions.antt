@@ -1,5 +1,5 @@
 -- Which transaction a session is in, and what each event of the sessions keeps.
-use Rattle.std.proofs.Common.{◌≡◌, ◌≢◌, inr, ⊎_elim, ◌++◌, ◌<◌, ℕ, List, [], true, false, Result, map, length, refl, sym, ap, subst, ◌∙◌, append-nil, arith}
+use Rattle.std.proofs.Common.{◌≡◌, ⊎_elim, ◌++◌, ◌<◌, ℕ, List, [], true, false, Result, map, length, refl, sym, ap, subst, ◌∙◌, append-nil, arith, cond, ◌∷◌, Ok, ◌==◌}
 use Rattle.shore_types.specs.declared.faults.Fault.{Fault}
 use Rattle.shore_model.specs.declared.calls.Answer.{Answer}
 use Rattle.shore_model.specs.declared.calls.Call.{Call}
@@ -21,9 +21,9 @@ use Rattle.laws_lives.specs.Doubts.{TracksDoubts}
 use Rattle.laws_lives.specs.LogPrefixes.{LogDecides}
 use Rattle.laws_lives.specs.LogTells.{IsLogAfter}
 use Rattle.laws_lives.specs.Logged.{log_after}
-use Rattle.laws_lives.specs.OwnSeats.{HasOwnSeats, seat_of}
+use Rattle.laws_lives.specs.OwnSeats.{HasOwnSeats}
 use Rattle.laws_lives.specs.RepliesInPlace.{MayReplyInPlace}
-use Rattle.laws_lives.specs.SessionSteps.{AppendCommit, GiveReply, IsInnerCall, IsOwn, RefuseCall, SessionEvent, StepsTo, entries_by, AnswerInDoubt, AnswerPrepare}
+use Rattle.laws_lives.specs.SessionSteps.{AppendCommit, GiveReply, IsInnerCall, IsOwn, RefuseCall, SessionEvent, StepsTo, entries_by, AnswerInDoubt, AnswerPrepare, exchange}
 use Rattle.laws_lives.specs.Sessions.{SessionTxn, Sessions, commit_appended, in_doubt_of, in_prepared, in_txn, resolved_of, seated, prepare_answered, EachOnce, ResolvedTxn, pairs_of, pair_resolved}
 use Rattle.laws_lives.specs.Soundness.{IsSoundAfter, SessionsAgree}
 use Rattle.laws_lives.specs.Views.{IsAmong}
@@ -32,6 +32,9 @@ use Rattle.laws_calls.specs.CallHistories.{txn_of}
 use Rattle.laws_calls.specs.LockedStates.{IsSessionsState}
 use Rattle.laws_calls.specs.States.{HasSeat, State, HasPrepared, IsOfSession, IsInTxn}
 use Rattle.laws_calls.proofs.ResolvedOnce.{event_once}
+use Rattle.shore_model.specs.declared.calls.Answer.TheVariants.{Committed}
+use Rattle.shore_model.specs.declared.histories.Entry.TheVariants.{Exchanged}
+use Rattle.shore_model.specs.declared.calls.Call.TheVariants as call
 
 -- ---- the transaction of a session
 
@@ -62,26 +65,6 @@ module _ {o : Opening} {found : List LogRecord} {es : List Entry} {s : State} (k
   pub above_none : (a : SessionTxn) → IsAmong a s.sessions.active → 0 < a.txn
   above_none a mem = k.whole.above a.txn (txn_among a s.sessions.active mem)
 
-  -- one that is committed is its session's, and under way no more
-  pub committed_seat : (a : SessionTxn) → IsAmong a s.sessions.committing → s.sessions.seats a.session ≡ in_txn a.txn
-  committed_seat a mem = k.seats.own a.session a.txn (inr (among_map seat_of a s.sessions.committing mem))
-
-  pub committed_above : (a : SessionTxn) → IsAmong a s.sessions.committing → 0 < a.txn
-  committed_above a mem = k.seats.above a.session a.txn (inr (among_map seat_of a s.sessions.committing mem))
-
-  pub parted : (a b : SessionTxn) → IsAmong a s.sessions.active → IsAmong b s.sessions.committing → a.txn ≢ b.txn
-  parted a b x y same =
-      k.seats.parted a.session b.session b.txn
-      (subst (λ t. IsAmong (a.session, t) (map seat_of s.sessions.active)) same (among_map seat_of a s.sessions.active x))
-      (among_map seat_of b s.sessions.committing y)
-
-  -- .. and in no other session
-  pub one_committed : (a b : SessionTxn) → IsAmong a s.sessions.committing → IsAmong b s.sessions.committing → a.txn ≡ b.txn → a.session ≡ b.session
-  one_committed a b x y same =
-      let above = k.seats.above a.session a.txn (inr (among_map seat_of a s.sessions.committing x)) in
-      let number : (s.sessions.seats a.session).txn ≡ a.txn = ap (λ (p : SessionState). p.txn) (committed_seat a x) in
-      k.seats.one a.session b.session (omega arith) (number ∙ same ∙ sym (ap (λ (p : SessionState). p.txn) (committed_seat b y)))
-
   -- a transaction that is under way, and its session's, is neither in doubt nor decided
   pub own_of : (a : SessionTxn) → HasSeat s.sessions a → IsOwn s.sessions a
   own_of a mine = (mine.0, mine.1, its_free)
@@ -101,19 +84,13 @@ module _ {o : Opening} {found : List LogRecord} {es : List Entry} {s : State} (k
       of_prepared : (t : ℕ) → s.sessions.seats a.session ≡ in_prepared t → ⊥
       of_prepared t is = let clash : false ≡ true = ap (λ (p : SessionState). p.prepared) (sym seat ∙ is) in cc
 
-      committed : (t : ℕ) → a.txn ≡ t → IsAmong (a.session, t) (map seat_of s.sessions.committing) → ⊥
-      committed t same there =
-          k.seats.parted a.session a.session t (subst (λ t. IsAmong (a.session, t) (map seat_of s.sessions.active)) same (among_map seat_of a s.sessions.active mem)) there
-
       its_free : (IsAmong a.txn (in_doubt_of s.sessions) → ⊥) × (IsAmong a.txn (resolved_of s.sessions) → ⊥)
       its_free = ⊎_elim
           (λ none. absurd (of_none none))
           (λ more. ⊎_elim
           (λ i.
           let same = number (in_txn i.0) (k.seats.own a.session i.0 i.1) in
-          ⊎_elim
-          (λ active. (λ doubt. active.1 (subst (λ t. IsAmong t (in_doubt_of s.sessions)) same doubt), λ resolved. active.2 (subst (λ t. IsAmong t (resolved_of s.sessions)) same resolved)))
-          (λ there. absurd (committed i.0 same there)) i.1)
+          (λ doubt. i.1.1 (subst (λ t. IsAmong t (in_doubt_of s.sessions)) same doubt), λ resolved. i.1.2 (subst (λ t. IsAmong t (resolved_of s.sessions)) same resolved)))
           (λ d. absurd (of_prepared d.0 d.2)) more)
           (k.seats.there a.session)
 
@@ -185,7 +162,8 @@ older_resolved o found es s k r m =
 pub seat_apart : {p : SessionState} {t u : ℕ} → p ≡ in_txn t → p ≡ in_prepared u → ⊥
 seat_apart x y = let clash : false ≡ true = ap (λ (p : SessionState). p.prepared) (sym x ∙ y) in cc
 
--- so does the commit of one that is not in doubt
-pub commit_seats : {o : Opening} {es : List Entry} {s : Sessions} → SessionsAgree o es s → HasOwnSeats s → (a : SessionTxn) → (IsAmong a.txn (in_doubt_of s) → ⊥)
-    → commit_appended s a ≡ seated s (entries_by s (AppendCommit a)) (commit_appended s a)
-commit_seats {o} {es} {s} agree k a no_doubt = seats_stay s (commit_appended s a) (entries_by s (AppendCommit a)) refl (unprepared o es s agree k a.txn no_doubt)
+-- the decision of one that is not in doubt leaves each seat, and its answer frees its own
+pub commit_seats : {o : Opening} {es : List Entry} {s : Sessions} → SessionsAgree o es s → HasOwnSeats s → (a : SessionTxn) (ticket : ℕ) → (IsAmong a.txn (in_doubt_of s) → ⊥)
+    → seated s (Exchanged a.session a.txn (exchange call.Commit (Ok (Committed ticket))) ∷ []) (commit_appended s a) ≡ seated s (entries_by s (AppendCommit a ticket)) (commit_appended s a)
+commit_seats {o} {es} {s} agree k a ticket no_doubt =
+    ap (λ (seats : ℕ → SessionState). record (commit_appended s a) { seats = seats }) (λ i n. ap (λ p. cond (a.session == n) free p) (sym (unprepared o es s agree k a.txn no_doubt n)) i)

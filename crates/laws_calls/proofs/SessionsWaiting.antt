@@ -1,33 +1,28 @@
 -- What the calls that wait stand on stays with each step.
-use Rattle.std.proofs.Common.{◌≡◌, ◌≢◌, ◌⊎◌, inl, inr, ⊎_elim, ◌++◌, ◌∷◌, ℕ, List, [], false, None, refl, sym, ap, subst, ◌∙◌, arith, length, take, true, cond, ◌<◌, Some}
-use Rattle.std.specs.Prelude.{◌==◌, Contains}
+use Rattle.std.proofs.Common.{◌≡◌, ◌≢◌, ◌⊎◌, inl, inr, ⊎_elim, ◌∷◌, ℕ, List, [], false, None, refl, sym, ap, subst, ◌∙◌, length, true, cond, ◌<◌, Some}
+use Rattle.std.specs.Prelude.{◌==◌}
 use Rattle.std.proofs.lemmas.Bool.{cases_Bool, eqb-false, eqb-true, ne_eqb}
 use Rattle.shore_types.specs.declared.layout.Geometry.{Geometry}
 use Rattle.shore_model.specs.declared.calls.Call.{Call}
 use Rattle.shore_model.specs.declared.calls.Call.TheVariants as call
-use Rattle.shore_model.specs.declared.histories.Decision.TheVariants as decision
 use Rattle.shore_model.specs.declared.histories.Entry.{Entry}
 use Rattle.shore_model.specs.declared.histories.Opening.{Opening}
 use Rattle.shore_model.specs.declared.log_records.LogRecord.{LogRecord}
-use Rattle.shore_model.specs.declared.log_records.Payload.TheVariants as payload
-use Rattle.shore_model.specs.Logs.{previous_of}
-use Rattle.laws_lives.proofs.Lists.{length-push, take-beyond, among_map, mapped_one}
-use Rattle.laws_lives.proofs.LogPrefixes.{decisions_more}
+use Rattle.laws_lives.proofs.Lists.{among_map, mapped_one}
 use Rattle.laws_lives.proofs.Members.{among_without, member_stays}
-use Rattle.laws_lives.specs.LogPrefixes.{decisions_in}
 use Rattle.laws_lives.specs.Sessions.{SessionTxn, Sessions, in_txn, PreparedTxn, prepare_answered, with_answered, ResolvedTxn, txns_of, resolved_of, without_txn}
 use Rattle.laws_lives.specs.Views.{IsAmong}
-use Rattle.laws_calls.proofs.Elements.{among_contained, among_last, waits_on}
+use Rattle.laws_calls.proofs.Elements.{waits_on}
 use Rattle.laws_calls.proofs.Links.{BeginsToWait, GoesQuietly, IsLeft}
 use Rattle.laws_calls.proofs.Prefixes.{whole_prefix}
 use Rattle.laws_calls.proofs.SessionResumes.{waits_stay}
-use Rattle.laws_calls.proofs.Sessions.{one_txn, committed_seat, one_committed, one_member, seat_apart, prepare_seats, parted, own_of, committed_above}
+use Rattle.laws_calls.proofs.Sessions.{one_txn, one_member, seat_apart, prepare_seats, own_of}
 use Rattle.laws_calls.specs.CallHistories.{IsPrefix}
 use Rattle.laws_calls.specs.StateChanges.{decision_waiting, committed, wait_refused, with_failure}
-use Rattle.laws_calls.specs.CallSteps.{aborted, commit_ended, lock_waiting, IsPreparing, prepare_ended, HasEnded}
+use Rattle.laws_calls.specs.CallSteps.{aborted, lock_waiting, IsPreparing, prepare_ended, HasEnded}
 use Rattle.laws_calls.specs.LockedStates.{IsSessionsState}
 use Rattle.laws_calls.specs.SessionWaits.{IsDecisionWait, IsLockWait, WaitsOfSessions, IsUnanswered, IsNotUnderWay}
-use Rattle.laws_calls.specs.States.{DoesNotWait, State, Waiting, next_number, HasSeat, without_waiting}
+use Rattle.laws_calls.specs.States.{DoesNotWait, State, Waiting, HasSeat, without_waiting}
 use Rattle.laws_calls.proofs.Waiters.{other_seat}
 use Rattle.shore_model.specs.declared.sessions.SessionState.{SessionState}
 use Rattle.shore_model.specs.Histories.{free}
@@ -37,8 +32,11 @@ use Rattle.laws_calls.specs.Shapes.{ResolvesNone}
 use Rattle.shore_model.specs.declared.calls.Outcome.{Outcome}
 use Rattle.laws_locks.specs.CallLocks.{Asked, lock_asked_by}
 use Rattle.laws_calls.proofs.LeftWaits.{AreOlder, by_leaves, decision_wait_on, leaves_all, waits_left}
+use Rattle.shore_model.specs.Records.{Records}
+use Rattle.shore_locks.specs.Tables.{Table}
+use Rattle.shore_model.specs.Requests.{held_by_all}
 
--- a failed manager may leave a commit unanswered
+-- a failed manager may leave a prepare or a resolve unanswered
 pub failed_waits : (base : ℕ) (s : State) → WaitsOfSessions base s → WaitsOfSessions base (with_failure s)
 failed_waits base s k = record {
   each = λ w m. ⊎_elim
@@ -46,7 +44,6 @@ failed_waits base s k = record {
       (λ l. inr (record { txn = l.txn; active = l.active; of = l.of; whole = l.whole; at = l.at; is = l.is; lock = l.lock; asked = l.asked }))
       (k.each w m);
   once = k.once;
-  all = λ running. absurd cc;
   prepares = λ running. absurd cc;
   resolves = λ running. absurd cc;
   resolve_once = k.resolve_once;
@@ -76,9 +73,8 @@ resolver_outside base s w global x (inr l) is = absurd (asks_no_resolve w.call l
 resolver_outside base s w global x (inl c) is = by c.unanswered
   where
     by : IsUnanswered s.sessions w.session w.call c.decision → IsNotUnderWay s.sessions w.session
-    by (inl h) = let clash : call.Commit ≡ call.Resolve global x = sym h.3 ∙ is in absurd cc
-    by (inr (inl h)) = let clash : call.Prepare h.1 ≡ call.Resolve global x = sym h.3 ∙ is in absurd cc
-    by (inr (inr h)) = h.4
+    by (inl h) = let clash : call.Prepare h.1 ≡ call.Resolve global x = sym h.3 ∙ is in absurd cc
+    by (inr h) = h.4
 
 -- one session more waits, with one call
 pub one_more : (session : ℕ) (s : State) (v w x : Waiting) → x.session ≡ session → DoesNotWait s session → ((v w : Waiting) → IsAmong v s.waiting → IsAmong w s.waiting → v.session ≡ w.session → v ≡ w)
@@ -101,7 +97,6 @@ lock_waits base session s new k h =
           (k.each w older))
           m;
       once = λ v w m n same. one_more session s v w x h.of h.idle k.once m n same;
-      all = λ running a m. let was = k.all running a m in (was.0, inr was.1);
       prepares = λ running p m e. let was = k.prepares running p m e in (was.0, was.1, inr was.2, was.3);
       resolves = λ running r ended. let was = k.resolves running r ended in (was.0, was.1, inr was.2);
       resolve_once = resolve_more x s.waiting (asks_no_resolve h.call h.lock h.asked) k.resolve_once;
@@ -133,7 +128,7 @@ answered_now t p (q ∷ ps) m e same =
       | false ↦ λ x. ⊎_elim (λ here. eqb-false q.txn t x (ap (λ (y : PreparedTxn). y.txn) here ∙ same)) (λ later. answered_now t p ps later e same)
     ]) refl m
 
--- ---- a Commit goes last
+-- ---- a transaction ends
 
 module _ (o : Opening) (found : List LogRecord) (es : List Entry) (s : State) (k : IsSessionsState o found es s) (h : WaitsOfSessions (length found) s) where
   -- a transaction that leaves those under way is none that is resolved
@@ -154,81 +149,10 @@ module _ (o : Opening) (found : List LogRecord) (es : List Entry) (s : State) (k
       by : (b : SessionTxn) × IsAmong b (without_txn a.txn s.sessions.active) × (b.txn ≡ r.txn) → ⊥
       by (b, there, its) = ended.1 (subst (λ t. IsAmong t (txns_of s.sessions.active)) its (among_map (λ (x : SessionTxn). x.txn) b s.sessions.active (among_without a.txn b s.sessions.active there).0))
 
-  -- the session of a transaction that is under way, or committed, waits with no resolve
+  -- the session of a transaction that is under way waits with no resolve
   pub not_resolver : (w : Waiting) → IsAmong w s.waiting → (global : List ℕ) (x : Outcome) → w.call ≡ call.Resolve global x → (a : SessionTxn) → s.sessions.seats a.session ≡ in_txn a.txn
       → 0 < a.txn → w.session ≢ a.session
   not_resolver w m global x is a seat above same = resolver_outside (length found) s w global x (h.each w m) is a.txn above (ap s.sessions.seats same ∙ seat)
-
-  module _ (a : SessionTxn) (mem : HasSeat s.sessions a) (idle : DoesNotWait s a.session) where
-    abbrev commit_record : LogRecord
-    commit_record = record { txn = a.txn; previous = previous_of a.txn s.log; payload = payload.Commit }
-
-    pub commit_in_log : Contains (decisions_in (length found) (take (next_number s) (committed s a).log)) (decision.Commit a.txn)
-    commit_in_log =
-        let more = decisions_more (length found) s.log commit_record k.decides.long (decision.Commit a.txn) refl in
-        subst (λ l. Contains (decisions_in (length found) l) (decision.Commit a.txn)) (sym (take-beyond (next_number s) s.log commit_record (omega arith)))
-        (subst (λ ds. Contains ds (decision.Commit a.txn)) (sym more)
-        (among_contained (decision.Commit a.txn) (decisions_in (length found) s.log ++ decision.Commit a.txn ∷ [])
-        (among_last (decisions_in (length found) s.log) (decision.Commit a.txn))))
-
-    own_wait : IsDecisionWait (length found) (committed s a) (decision_waiting a.session call.Commit (next_number s))
-    own_wait =
-        let longer = length-push s.log commit_record in
-        record { number = next_number s; decision = decision.Commit a.txn; is = refl; unanswered = inl (a, inl refl, refl, refl, refl); some = omega arith; there = omega (arith, longer); decided = commit_in_log }
-
-    other_waits : (w : Waiting) → IsAmong w s.waiting → IsDecisionWait (length found) s w ⊎ IsLockWait s w → IsDecisionWait (length found) (committed s a) w ⊎ IsLockWait (committed s a) w
-    other_waits w m (inl c) =
-        inl (decision_wait_on (length found) s (committed s a) w (λ b there of. inr there) (λ t global p. p)
-        (λ r ended is out. ((ended.0, ended_without a r ended), out)) (commit_record ∷ [], refl) c)
-    other_waits w m (inr l) =
-        let other : l.txn.txn ≢ a.txn = λ same. idle w m (sym l.of ∙ ap (λ (x : SessionTxn). x.session) (one_member k l.txn a l.active.0 mem.0 same)) in
-        inr (record { txn = l.txn; active = (member_stays a.txn l.txn s.sessions.active l.active.0 other, l.active.1, l.active.2); of = l.of; whole = l.whole; at = l.at; is = l.is; lock = l.lock; asked = l.asked })
-
-    pub commit_waits_on : WaitsOfSessions (length found) (committed s a)
-    commit_waits_on = record {
-      each = λ w m. ⊎_elim (λ same. inl (subst (IsDecisionWait (length found) (committed s a)) same own_wait)) (λ older. other_waits w older (h.each w older)) m;
-      once = λ v w m n same. one_more a.session s v w (decision_waiting a.session call.Commit (next_number s)) refl idle h.once m n same;
-      all = λ running b m. ⊎_elim
-          (λ same. (next_number s, inl (ap (λ (x : SessionTxn). decision_waiting x.session call.Commit (next_number s)) same)))
-          (λ older. let was = h.all running b older in (was.0, inr was.1))
-          m;
-      prepares = λ running p m e. let was = h.prepares running p m e in (was.0, was.1, inr was.2, was.3);
-      resolves = λ running r ended. let was = h.resolves running r (still_ended a mem r ended.0 ended.1) in (was.0, was.1, inr was.2);
-      resolve_once = resolve_more (decision_waiting a.session call.Commit (next_number s)) s.waiting (λ global x e. let clash : call.Commit ≡ call.Resolve global x = e in cc) h.resolve_once;
-    }
-
-  -- ---- its answer
-
-  module _ (a : SessionTxn) (mem : IsAmong a s.sessions.committing) where
-    answered_waits : (w : Waiting) → w.session ≢ a.session → IsDecisionWait (length found) s w ⊎ IsLockWait s w → IsDecisionWait (length found) (commit_ended s a) w ⊎ IsLockWait (commit_ended s a) w
-    answered_waits w other (inl c) =
-        inl (decision_wait_on (length found) s (commit_ended s a) w
-        (λ b there of. member_stays a.txn b s.sessions.committing there (λ same. other (sym of ∙ one_committed k b a there mem same)))
-        (λ t global p. (p.0, other_seat s.sessions.seats a.session w.session free (λ same. other (sym same)) ∙ p.1))
-        (λ r ended is out. (ended, λ t above e. out t above (sym (other_seat s.sessions.seats a.session w.session free (λ same. other (sym same))) ∙ e))) (whole_prefix s.log) c)
-    answered_waits w other (inr l) =
-        let apart : a.session ≢ l.txn.session = λ same. other (sym l.of ∙ sym same) in
-        inr (record { txn = l.txn; active = (l.active.0, other_seat s.sessions.seats a.session l.txn.session free apart ∙ l.active.1, l.active.2); of = l.of; whole = l.whole; at = l.at; is = l.is; lock = l.lock; asked = l.asked })
-
-    pub ended_waits : WaitsOfSessions (length found) (commit_ended s a)
-    ended_waits = record {
-      each = λ w m. let on = waits_on a.session w s.waiting m in answered_waits w on.1 (h.each w on.0);
-      once = λ v w m n same. h.once v w (waits_on a.session v s.waiting m).0 (waits_on a.session w s.waiting n).0 same;
-      all = λ running b m.
-          let without = among_without a.txn b s.sessions.committing m in
-          let was = h.all running b without.0 in
-          let other : b.session ≢ a.session = λ same. without.1 (one_txn s.sessions b a (committed_seat k b without.0) (committed_seat k a mem) same) in
-          (was.0, waits_stay a.session (decision_waiting b.session call.Commit was.0) s.waiting was.1 other);
-      prepares = λ running p m e.
-          let was = h.prepares running p m e in
-          let other : was.0 ≢ a.session = λ same. seat_apart (committed_seat k a mem) (ap s.sessions.seats (sym same) ∙ was.3) in
-          (was.0, was.1, waits_stay a.session (decision_waiting was.0 (call.Prepare p.global) was.1) s.waiting was.2 other, other_seat s.sessions.seats a.session was.0 free (λ same. other (sym same)) ∙ was.3);
-      resolves = λ running r ended.
-          let was = h.resolves running r ended in
-          let its = decision_waiting was.0 (call.Resolve r.global r.outcome) was.1 in
-          (was.0, was.1, waits_stay a.session its s.waiting was.2 (not_resolver its was.2 r.global r.outcome refl a (committed_seat k a mem) (committed_above k a mem)));
-      resolve_once = resolve_less a.session s.waiting h.resolve_once;
-    }
 
   -- ---- a prepare is answered
 
@@ -259,7 +183,7 @@ module _ (o : Opening) (found : List LogRecord) (es : List Entry) (s : State) (k
 
     told_wait : (w : Waiting) → w.session ≢ session → IsDecisionWait (length found) s w ⊎ IsLockWait s w → IsDecisionWait (length found) told w ⊎ IsLockWait told w
     told_wait w other (inl c) =
-        inl (decision_wait_on (length found) s told w (λ b there of. there)
+        inl (decision_wait_on (length found) s told w
         (λ u name p. (not_answered u name s.sessions.prepared p.0 (other_txn w.session u name other p), p.1)) (λ r ended is out. (ended, out)) (whole_prefix s.log) c)
     told_wait w other (inr l) = inr (record { txn = l.txn; active = l.active; of = l.of; whole = l.whole; at = l.at; is = l.is; lock = l.lock; asked = l.asked })
 
@@ -267,9 +191,6 @@ module _ (o : Opening) (found : List LogRecord) (es : List Entry) (s : State) (k
     told_waits = record {
       each = λ w m. let on = waits_on session w s.waiting m in told_wait w on.1 (h.each w on.0);
       once = λ v w m n same. h.once v w (waits_on session v s.waiting m).0 (waits_on session w s.waiting n).0 same;
-      all = λ running b m.
-          let was = h.all running b m in
-          (was.0, waits_stay session (decision_waiting b.session call.Commit was.0) s.waiting was.1 (λ same. seat_apart (committed_seat k b m) (ap s.sessions.seats same ∙ mine.1)));
       prepares = λ running p m e.
           let was_there = still_preparing t p s.sessions.prepared m e in
           let was = h.prepares running p was_there e in
@@ -286,12 +207,20 @@ module _ (o : Opening) (found : List LogRecord) (es : List Entry) (s : State) (k
     prepared_waits =
         subst (λ (x : Sessions). WaitsOfSessions (length found) (record s { sessions = x; waiting = without_waiting session s.waiting })) (prepare_seats s.sessions session t global) told_waits
 
-  -- ---- an abort is answered
+  -- ---- a commit or an abort is answered
 
-  module _ (a : SessionTxn) (mem : HasSeat s.sessions a) (idle : DoesNotWait s a.session) (on : IsPrefix s.log (aborted s a).log) where
-    waits_behind : (w : Waiting) → IsAmong w s.waiting → IsDecisionWait (length found) s w ⊎ IsLockWait s w → IsDecisionWait (length found) (aborted s a) w ⊎ IsLockWait (aborted s a) w
+  module _ (a : SessionTxn) (mem : HasSeat s.sessions a) (idle : DoesNotWait s a.session) (R : Records) (locks : Table) (log : List LogRecord) (on : IsPrefix s.log log) where
+    -- the transaction is under way no more, and its session is in none
+    abbrev gone : State
+    gone = record s {
+      sessions = record s.sessions { records = R; active = without_txn a.txn s.sessions.active; held = held_by_all locks.requests; seats = λ n. cond (a.session == n) free (s.sessions.seats n) };
+      locks = locks;
+      log = log;
+    }
+
+    waits_behind : (w : Waiting) → IsAmong w s.waiting → IsDecisionWait (length found) s w ⊎ IsLockWait s w → IsDecisionWait (length found) gone w ⊎ IsLockWait gone w
     waits_behind w m (inl c) =
-        inl (decision_wait_on (length found) s (aborted s a) w (λ b there of. there)
+        inl (decision_wait_on (length found) s gone w
         (λ t global p. (p.0, other_seat s.sessions.seats a.session w.session free (λ same. seat_apart mem.1 (ap s.sessions.seats same ∙ p.1)) ∙ p.1))
         (λ r ended is out. (
           (ended.0, ended_without a r ended),
@@ -311,17 +240,22 @@ module _ (o : Opening) (found : List LogRecord) (es : List Entry) (s : State) (k
           asked = l.asked;
         })
 
-    pub aborted_waits : WaitsOfSessions (length found) (aborted s a)
-    aborted_waits = record {
+    gone_waits : WaitsOfSessions (length found) gone
+    gone_waits = record {
       each = λ w m. waits_behind w m (h.each w m);
       once = h.once;
-      all = h.all;
       prepares = λ running p m e.
           let was = h.prepares running p m e in
           (was.0, was.1, was.2, other_seat s.sessions.seats a.session was.0 free (λ same. seat_apart mem.1 (ap s.sessions.seats same ∙ was.3)) ∙ was.3);
       resolves = λ running r ended. h.resolves running r (still_ended a mem r ended.0 ended.1);
       resolve_once = h.resolve_once;
     }
+
+  pub aborted_waits : (a : SessionTxn) → HasSeat s.sessions a → DoesNotWait s a.session → IsPrefix s.log (aborted s a).log → WaitsOfSessions (length found) (aborted s a)
+  aborted_waits a mem idle on = gone_waits a mem idle (aborted s a).sessions.records (aborted s a).locks (aborted s a).log on
+
+  pub committed_waits : (a : SessionTxn) → HasSeat s.sessions a → DoesNotWait s a.session → WaitsOfSessions (length found) (committed s a)
+  committed_waits a mem idle = gone_waits a mem idle s.sessions.records (committed s a).locks (committed s a).log (_ ∷ [], refl)
 
   -- ---- a call waits no more
 
@@ -330,10 +264,7 @@ module _ (o : Opening) (found : List LogRecord) (es : List Entry) (s : State) (k
   no_record_awaited a mine v m of n is = by (h.each v m)
     where
       by : IsDecisionWait (length found) s v ⊎ IsLockWait s v → ⊥
-      by (inl c) = ⊎_elim
-          (λ x. parted k a x.0 mine.0 x.1 (one_txn s.sessions a x.0 mine.1 (committed_seat k x.0 x.1) (sym (x.2 ∙ of))))
-          (⊎_elim (λ x. seat_apart mine.1 (ap s.sessions.seats (sym of) ∙ x.2.1)) (λ x. x.4 a.txn mine.2 (ap s.sessions.seats of ∙ mine.1)))
-          c.unanswered
+      by (inl c) = ⊎_elim (λ x. seat_apart mine.1 (ap s.sessions.seats (sym of) ∙ x.2.1)) (λ x. x.4 a.txn mine.2 (ap s.sessions.seats of ∙ mine.1)) c.unanswered
       by (inr l) = let clash : Durable n ≡ Lock l.at = sym is ∙ l.is in cc
 
   module _ (session : ℕ) (kept : s.failed ≡ false → (v : Waiting) → IsAmong v s.waiting → v.session ≡ session → (n : ℕ) → v.wait ≢ Durable n) where
@@ -344,7 +275,6 @@ module _ (o : Opening) (found : List LogRecord) (es : List Entry) (s : State) (k
           (λ l. inr (record { txn = l.txn; active = l.active; of = l.of; whole = l.whole; at = l.at; is = l.is; lock = l.lock; asked = l.asked }))
           (h.each w (waits_on session w s.waiting m).0);
       once = λ v w m n same. h.once v w (waits_on session v s.waiting m).0 (waits_on session w s.waiting n).0 same;
-      all = λ running a m. let was = h.all running a m in (was.0, waits_stay session (decision_waiting a.session call.Commit was.0) s.waiting was.1 (λ of. kept running (decision_waiting a.session call.Commit was.0) was.1 of was.0 refl));
       prepares = λ running p m e.
           let was = h.prepares running p m e in
           (was.0, was.1, waits_stay session (decision_waiting was.0 (call.Prepare p.global) was.1) s.waiting was.2 (λ of. kept running (decision_waiting was.0 (call.Prepare p.global) was.1) was.2 of was.1 refl), was.3);

@@ -138,8 +138,7 @@ module _ (g : Geometry) (o : Opening) (found : List LogRecord) (es : List Entry)
     waits_for_lock : (w : Waiting) (wait : Wait) → ResumesWait g s w wait (Refused f) new → (at : Granule) × (wait ≡ Lock at)
     waits_for_lock w (Durable n) (inl h) = let clash = h.1 in absurd cc
     waits_for_lock w (Durable n) (inr (inl h)) = let clash = h.1 in absurd cc
-    waits_for_lock w (Durable n) (inr (inr (inl h))) = let clash = h.1 in absurd cc
-    waits_for_lock w (Durable n) (inr (inr (inr h))) = let clash = h.1 in absurd cc
+    waits_for_lock w (Durable n) (inr (inr h)) = let clash = h.1 in absurd cc
     waits_for_lock w (Lock at) h = (at, refl)
 
     at_once : (w : Waiting) → IsAmong w s.waiting → w.session ≡ session → ResumeStep g s session (Refused f) new → ResumesCall g s w (Refused f) new → RefusedResume f new

@@ -13,24 +13,26 @@ use Rattle.laws_lives.specs.LogPrefixes.{IsDecidedIn}
 use Rattle.laws_lives.specs.ManagerSteps.{decision_resolved}
 use Rattle.laws_room.specs.Claims.{SlotCounts}
 use Rattle.shore_cycles.specs.declared.victims.Victim.{Victim}
-use Rattle.laws_lives.specs.SessionSteps.{AnswerAbort, AnswerCommit, AnswerInDoubt, AnswerPrepare, AnswerResolve, AppendCommit, AppendPrepare, AppendResolve, AppendRollback, BeginTxn, Doom, EndRollback, GiveReply, MoveLocks, PutBack, RefuseCall, SessionEvent, entries_by}
+use Rattle.laws_lives.specs.SessionSteps.{AnswerAbort, Ask, AnswerInDoubt, AnswerPrepare, AnswerResolve, AppendCommit, AppendPrepare, AppendResolve, AppendRollback, BeginTxn, Doom, EndRollback, GiveReply, MoveLocks, PutBack, RefuseCall, SessionEvent, entries_by}
 use Rattle.laws_lives.specs.Sessions.{Sessions}
 use Rattle.shore_model.specs.declared.step.Step.{Step}
 use Rattle.laws_calls.proofs.Comings.{like_itself, nothing_comes, session_resume_comes}
-use Rattle.laws_calls.proofs.Links.{ComesBy, Goes, GoesBy, IsDurable, IsLike, Writes}
+use Rattle.laws_calls.proofs.Links.{ComesBy, Goes, GoesBy, IsDurable, IsLike, Writes, TellTickets, TellsNoTicket, ask_goes, no_tickets}
 use Rattle.laws_calls.proofs.LongerLogs.{GoesFurther, call_further, further_then, resume_further, victims_further, settles_further}
 use Rattle.laws_calls.proofs.SettledStates.{HasComeTo, call_entries, is_broken, its_withdraws, resume_comes, resume_entries, ended_entries, settles_stays, waiting_call_comes, adds_nothing}
 use Rattle.laws_calls.proofs.SettledWaits.{call_has_asked, resume_has_waited}
 use Rattle.laws_calls.proofs.VictimSteps.{told_comes, victim_comes, victim_stays, withdrawn_comes}
 use Rattle.laws_calls.specs.CallHistories.{txn_of}
 use Rattle.laws_calls.specs.CallSteps.{CallStep, ResumeStep}
-use Rattle.laws_calls.specs.Events.{Called, Forced, HasFailed, IsStateAfter, ManagerEvent, Resumed, EventMoves, entries_of, entries_of_resume}
+use Rattle.laws_calls.specs.Events.{Called, Forced, HasFailed, IsStateAfter, ManagerEvent, Resumed, EventMoves, entries_of, entries_of_resume, TicketAsked}
 use Rattle.laws_calls.specs.Settling.{SettledCall, SettledResume, Settles}
 use Rattle.laws_calls.specs.States.{State}
 use Rattle.laws_calls.specs.Victims.{TakesVictims}
 use Rattle.laws_calls.proofs.CallComings.{session_call_comes}
 use Rattle.laws_calls.specs.LockedStates.{entries_of_call}
 use Rattle.laws_calls.proofs.ToldEntries.{told_of_call}
+use Rattle.shore_model.specs.declared.histories.Entry.TheVariants.{Decided, Exchanged, Asked}
+use Rattle.shore_model.specs.declared.step.Step.TheVariants.{Done, Refused, Waits, Nothing}
 
 -- ---- the same events from a state that is like the one where they began
 
@@ -95,11 +97,11 @@ decided_back s mid on within d h =
     subst (λ rs. IsDecidedIn rs d) (ap (λ n. take n mid.log) on.durable ∙ ap (take s.durable) on.on.1 ∙ take-append-le s.durable s.log on.on.0 within) h
 
 durable_back : (s mid : State) → GoesFurther s mid → s.durable ≤ length s.log → (e : SessionEvent) → IsDurable mid e → IsDurable s e
-durable_back s mid on within (AnswerCommit a) h = decided_back s mid on within (decision.Commit a.txn) h
+durable_back s mid on within (Ask ticket answer) h = tt
 durable_back s mid on within (MoveLocks held) h = tt
 durable_back s mid on within (BeginTxn session) h = tt
 durable_back s mid on within (GiveReply a c reply) h = tt
-durable_back s mid on within (AppendCommit a) h = tt
+durable_back s mid on within (AppendCommit a ticket) h = tt
 durable_back s mid on within (PutBack a kept e r) h = tt
 durable_back s mid on within (Doom a) h = tt
 durable_back s mid on within (AnswerAbort a) h = tt
@@ -119,15 +121,42 @@ all_back s mid on within (e ∷ events) h = (durable_back s mid on within e h.0,
 like_then : (a b c : State) → IsLike a b → IsLike b c → IsLike a c
 like_then a b c h k = record { sessions = k.sessions ∙ h.sessions; log = k.log ∙ h.log; counts = k.counts ∙ h.counts; stream = k.stream ∙ h.stream }
 
-pub comes_on : (g : Geometry) (s mid new : State) (made later : List Entry) → s.durable ≤ length s.log → GoesFurther s mid → ComesBy g s mid made → ComesBy g mid new later
+-- events that only exchange tell of no ticket
+abbrev IsExchange : Entry → Type 0
+IsExchange (Exchanged session txn x) = Unit {0}
+IsExchange (Decided d) = ⊥
+IsExchange (Asked ticket answer) = ⊥
+
+exchanges_behind : (xs ys : List Entry) → AllByRecursion IsExchange (xs ++ ys) → AllByRecursion IsExchange ys
+exchanges_behind [] ys all = all
+exchanges_behind (x ∷ xs) ys all = exchanges_behind xs ys all.1
+
+exchanges_tell_none : (g : Geometry) (s : State) (events : List SessionEvent) (new : State) (made : List Entry) → GoesBy g s events new made → AllByRecursion IsExchange made → AllByRecursion TellsNoTicket events
+exchanges_tell_none g s [] new made h all = tt
+exchanges_tell_none g s (e ∷ events) new made h all =
+    let its = subst (AllByRecursion IsExchange) h.4 all in
+    (none e its, exchanges_tell_none g h.0 events new h.1 h.3 (exchanges_behind (entries_by s.sessions e) h.1 its))
+  where
+    none : (e : SessionEvent) → AllByRecursion IsExchange (entries_by s.sessions e ++ h.1) → TellsNoTicket e
+    none (AppendCommit a ticket) its = absurd its.0
+    none (Ask ticket answer) its = absurd its.0
+    none _ its = tt
+
+tickets_then : (s : State) (xs ys : List SessionEvent) → TellTickets s.durable s.log xs → AllByRecursion TellsNoTicket ys → TellTickets s.durable s.log (xs ++ ys)
+tickets_then s [] ys h none = no_tickets s.durable s.log ys none
+tickets_then s (x ∷ xs) ys h none = (h.0, all_then TellsNoTicket xs ys h.1 none)
+
+-- one after another, of which the later only exchange
+pub comes_on : (g : Geometry) (s mid new : State) (made later : List Entry) → s.durable ≤ length s.log → AllByRecursion IsExchange later → GoesFurther s mid → ComesBy g s mid made → ComesBy g mid new later
     → ComesBy g s new (made ++ later)
-comes_on g s mid new made later within on h k =
+comes_on g s mid new made later within plain on h k =
     let like = like_then h.mid mid k.start h.after k.before in
     record {
       start = h.start;
       before = h.before;
       events = h.events ++ k.events;
       durable = all_then (IsDurable s) h.events k.events h.durable (all_back s mid on within k.events k.durable);
+      tickets = tickets_then s h.events k.events h.tickets (exchanges_tell_none g k.start k.events k.mid later k.goes plain);
       mid = beside h.mid k.mid;
       goes =
           by_then g h.start h.events h.mid made h.goes k.events (beside h.mid k.mid) later
@@ -141,7 +170,7 @@ pub victims_come : (g : Geometry) (o : Opening) (found : List LogRecord) (es : L
     → ComesBy g s new []
 victims_come g o found es s k t [] new h = nothing_comes g s new (subst (IsLike s) (sym h) (like_itself s))
 victims_come g o found es s k t (v ∷ vs) new h =
-    comes_on g s h.0 new [] [] k.forced.most (victims_further s t (v ∷ []) h.0 (h.0, h.1, refl)) (victim_comes o found es s k g t v h.0 h.1)
+    comes_on g s h.0 new [] [] k.forced.most tt (victims_further s t (v ∷ []) h.0 (h.0, h.1, refl)) (victim_comes o found es s k g t v h.0 h.1)
     (victims_come g o found es h.0 (victim_stays o found es s k t v h.0 h.1) t vs new h.2)
 
 -- ---- rounds
@@ -152,6 +181,12 @@ module _ (g : Geometry) (o : Opening) (found : List LogRecord) (session n : ℕ)
     to : HasComeTo o found session n c es step s
     by : ComesBy g start s (ended_entries session n c step)
     on : GoesFurther start s
+
+  ended_exchange : (step : Step) → AllByRecursion IsExchange (ended_entries session n c step)
+  ended_exchange (Done answer) = (tt, tt)
+  ended_exchange (Refused f) = (tt, tt)
+  ended_exchange (Waits wait) = tt
+  ended_exchange Nothing = tt
 
   settles_comes : (s : State) (first : Step) (rounds : List (List Victim)) (step : Step) (new : State) → HasComeBy first s → Settles g s session first rounds step new
       → ComesBy g start new (ended_entries session n c step)
@@ -164,9 +199,9 @@ module _ (g : Geometry) (o : Opening) (found : List LogRecord) (session n : ℕ)
       let b = is_broken o found session n c es first s k.to a at broken h.3 h.4 vs h.5 in
       let on = further_then start s broken k.on (victims_further s a.txn vs broken h.5) in
       let come : ComesBy g start broken [] =
-      comes_on g start s broken [] [] within k.on (subst (λ (x : Step). ComesBy g start s (ended_entries session n c x)) h.4 k.by) (victims_come g o found es s b.before a.txn vs broken h.5) in
+      comes_on g start s broken [] [] within tt k.on (subst (λ (x : Step). ComesBy g start s (ended_entries session n c x)) h.4 k.by) (victims_come g o found es s b.before a.txn vs broken h.5) in
       let then : (later : Step) (x : State) → ComesBy g broken x (entries_of_resume broken session later) → ComesBy g start x (ended_entries session n c later) =
-      λ later x more. comes_on g start broken x [] (ended_entries session n c later) within on come
+      λ later x more. comes_on g start broken x [] (ended_entries session n c later) within (ended_exchange later) on come
       (subst (ComesBy g broken x) (resume_entries o found session n c es broken b.stays at b.waits later) more) in
       ⊎_elim
       (λ ends. ⊎_elim
@@ -245,3 +280,13 @@ module _ (g : Geometry) (o : Opening) (found : List LogRecord) (es : List Entry)
   session_event_comes new (Resumed session step) h = settled_resume_comes session step new h
   session_event_comes new (Forced n) h = nothing_comes g s new (subst (IsLike s) (sym h.2) (record { sessions = refl; log = refl; counts = refl; stream = refl }))
   session_event_comes new HasFailed h = nothing_comes g s new (subst (IsLike s) (sym h) (record { sessions = refl; log = refl; counts = refl; stream = refl }))
+  session_event_comes new (TicketAsked ticket answer) h = subst (λ (x : State). ComesBy g s x (Asked ticket answer ∷ [])) (sym h.1) (record {
+    start = s;
+    before = like_itself s;
+    events = Ask ticket answer ∷ [];
+    durable = (tt, tt);
+    tickets = (h.0, tt);
+    mid = s;
+    goes = (s, [], ask_goes g s ticket answer, (refl, refl), refl);
+    after = like_itself s;
+  })

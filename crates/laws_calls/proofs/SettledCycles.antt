@@ -27,7 +27,7 @@ use Rattle.laws_calls.proofs.SettledWaits.{resume_has_waited}
 use Rattle.laws_calls.proofs.VictimSteps.{victim_stays}
 use Rattle.laws_calls.specs.CallHistories.{IsOpened, txn_of}
 use Rattle.laws_calls.specs.CallSteps.{CallStep, ResumeStep}
-use Rattle.laws_calls.specs.Events.{Called, Forced, HasFailed, IsStateAfter, ManagerEvent, Resumed, EventMoves, EventsMove, entries_of}
+use Rattle.laws_calls.specs.Events.{Called, Forced, HasFailed, IsStateAfter, ManagerEvent, Resumed, EventMoves, EventsMove, entries_of, TicketAsked}
 use Rattle.laws_calls.specs.Settling.{SettledCall, SettledResume, Settles}
 use Rattle.laws_calls.specs.States.{IsOfSession, State, Waiting}
 use Rattle.laws_calls.specs.Victims.{TakesVictims, TellsVictim}
@@ -141,6 +141,7 @@ module _ (g : Geometry) (o : Opening) (found : List LogRecord) (es : List Entry)
   event_free new (Resumed session step) h = settled_resume_free session step new h
   event_free new (Forced n) h = none_as_before s new (ap (λ (x : State). x.locks) h.2) none
   event_free new HasFailed h = none_as_before s new (ap (λ (x : State). x.locks) h) none
+  event_free new (TicketAsked ticket answer) h = none_as_before s new (ap (λ (x : State). x.locks) h.1) none
 
 pub events_free : (g : Geometry) (o : Opening) (found : List LogRecord) (es : List Entry) (s : State) (events : List ManagerEvent) (last : State) → IsStateAfter o found es s → HasNoCycle s.locks.requests
     → EventsMove g s events last → HasNoCycle last.locks.requests

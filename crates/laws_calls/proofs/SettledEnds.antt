@@ -61,7 +61,7 @@ module _ (g : Geometry) (s new : State) where
 
   commit_leaves : (a : SessionTxn) (step : Step) → CommitStep s a step new → IsEnd step → new.waiting ≡ s.waiting
   commit_leaves a (Waits wait) h end = absurd end
-  commit_leaves a (Done answer) h end = absurd h
+  commit_leaves a (Done answer) h end = ap (λ (x : State). x.waiting) h.1
   commit_leaves a (Refused f) h end = absurd h
   commit_leaves a Nothing h end = absurd h
 
@@ -197,8 +197,7 @@ durable_in g s new w (Durable m) n (inl h) = (ap wait_of (sym h.1), h.2)
     wait_of (Refused f) = Durable m
     wait_of Nothing = Durable m
 durable_in g s new w (Durable m) n (inr (inl h)) = let clash = h.1 in absurd cc
-durable_in g s new w (Durable m) n (inr (inr (inl h))) = let clash = h.1 in absurd cc
-durable_in g s new w (Durable m) n (inr (inr (inr h))) = let clash = h.1 in absurd cc
+durable_in g s new w (Durable m) n (inr (inr h)) = let clash = h.1 in absurd cc
 durable_in g s new w (Lock at) n h = ⊎_elim
     (λ still. let clash = still.1 in absurd cc)
     (λ free. let clash = free.1.4 in absurd cc)

@@ -27,8 +27,7 @@ module _ (g : Geometry) (session : ℕ) where
   waits_run : (x new : State) (w : Waiting) (its : Wait) (at : Granule) → ResumesWait g x w its (Waits (Lock at)) new → new.failed ≡ x.failed
   waits_run x new w (Durable n) at (inl h) = let clash = h.1 in absurd cc
   waits_run x new w (Durable n) at (inr (inl h)) = let clash = h.1 in absurd cc
-  waits_run x new w (Durable n) at (inr (inr (inl h))) = let clash = h.1 in absurd cc
-  waits_run x new w (Durable n) at (inr (inr (inr h))) = let clash = h.1 in absurd cc
+  waits_run x new w (Durable n) at (inr (inr h)) = let clash = h.1 in absurd cc
   waits_run x new w (Lock there) at h = ⊎_elim (λ still. same new x still.2) (λ goes. ap (λ (s : State). s.failed) goes.1.5) h.2
 
   anew_runs : (x new : State) (at : Granule) → ResumeStep g x session (Waits (Lock at)) new → new.failed ≡ x.failed
@@ -46,8 +45,7 @@ module _ (g : Geometry) (new : State) (session : ℕ) (f : Fault) (device : f �
   on_runs : (x : State) (w : Waiting) (its : Wait) → ResumesWait g x w its (Refused f) new → new.failed ≡ x.failed
   on_runs x w (Durable n) (inl h) = let clash = h.1 in absurd cc
   on_runs x w (Durable n) (inr (inl h)) = let clash = h.1 in absurd cc
-  on_runs x w (Durable n) (inr (inr (inl h))) = let clash = h.1 in absurd cc
-  on_runs x w (Durable n) (inr (inr (inr h))) = let clash = h.1 in absurd cc
+  on_runs x w (Durable n) (inr (inr h)) = let clash = h.1 in absurd cc
   on_runs x w (Lock at) h = ⊎_elim
       (λ still. let clash = still.1 in absurd cc)
       (λ goes. goes_runs g (wait_refused x w.session) new w.session h.0 w.call f (device, damaged) goes.1)

@@ -44,8 +44,7 @@ left_later s x y bs cs first last =
 waits_left : (g : Geometry) (x new : State) (w : Waiting) (its : Wait) (at : Granule) → ResumesWait g x w its (Waits (Lock at)) new → new ≡ but_doomed x [] new
 waits_left g x new w (Durable n) at (inl h) = let clash = h.1 in absurd cc
 waits_left g x new w (Durable n) at (inr (inl h)) = let clash = h.1 in absurd cc
-waits_left g x new w (Durable n) at (inr (inr (inl h))) = let clash = h.1 in absurd cc
-waits_left g x new w (Durable n) at (inr (inr (inr h))) = let clash = h.1 in absurd cc
+waits_left g x new w (Durable n) at (inr (inr h)) = let clash = h.1 in absurd cc
 waits_left g x new w (Lock there) at h = ⊎_elim
     (λ still. subst (λ (y : State). y ≡ but_doomed x [] y) (sym still.2) refl)
     (λ goes. subst (λ (y : State). y ≡ but_doomed x [] y) (sym goes.1.5) refl)
@@ -82,8 +81,7 @@ module _ (g : Geometry) (session : ℕ) where
 on_left : (g : Geometry) (x new : State) (session : ℕ) (w : Waiting) (its : Wait) (f : Fault) → ResumesWait g x w its (Refused f) new → new ≡ but_doomed x [] new
 on_left g x new session w (Durable n) f (inl h) = let clash = h.1 in absurd cc
 on_left g x new session w (Durable n) f (inr (inl h)) = let clash = h.1 in absurd cc
-on_left g x new session w (Durable n) f (inr (inr (inl h))) = let clash = h.1 in absurd cc
-on_left g x new session w (Durable n) f (inr (inr (inr h))) = let clash = h.1 in absurd cc
+on_left g x new session w (Durable n) f (inr (inr h)) = let clash = h.1 in absurd cc
 on_left g x new session w (Lock at) f h = ⊎_elim
     (λ still. let clash = still.1 in absurd cc)
     (λ goes. left_later x (wait_refused x w.session) new [] [] refl (locks_only (wait_refused x w.session) new (goes_leaves g (wait_refused x w.session) new h.0 w.call f goes.1)))

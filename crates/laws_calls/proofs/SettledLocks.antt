@@ -4,9 +4,7 @@ use Rattle.std.specs.Prelude.{Contains, is_some}
 use Rattle.std.proofs.lemmas.Bool.{cases_Bool}
 use Rattle.shore_types.specs.declared.layout.Geometry.{Geometry}
 use Rattle.shore_types.specs.declared.locking.Granule.{Granule}
-use Rattle.shore_model.specs.declared.calls.Answer.TheVariants.{Aborted, Committed}
 use Rattle.shore_model.specs.declared.calls.Call.{Call}
-use Rattle.shore_model.specs.declared.calls.Call.TheVariants as call
 use Rattle.shore_model.specs.Locks.{path}
 use Rattle.shore_model.specs.declared.histories.Entry.{Entry}
 use Rattle.shore_model.specs.declared.histories.Opening.{Opening}
@@ -36,7 +34,7 @@ use Rattle.shore_model.specs.declared.rollbacks.Rollback.TheVariants.{Whole}
 use Rattle.laws_locks.specs.CallLocks.{Asked, lock_asked_by}
 use Rattle.laws_lives.specs.Sessions.{SessionTxn}
 use Rattle.laws_lives.specs.Views.{IsAmong}
-use Rattle.laws_calls.proofs.AskedLocks.{PlaceLocks, begin_keeps_locks, commit_keeps_locks, goes_on_locks}
+use Rattle.laws_calls.proofs.AskedLocks.{PlaceLocks, begin_keeps_locks, goes_on_locks}
 use Rattle.laws_calls.proofs.Decided.{both_ways}
 use Rattle.laws_calls.proofs.GoingOn.{never_waiting}
 use Rattle.laws_calls.proofs.GrownLocks.{Grown, grown_acquired, grown_cancelled, grown_from, grown_waiting}
@@ -47,7 +45,7 @@ use Rattle.laws_calls.proofs.Sessions.{its_txn}
 use Rattle.laws_calls.proofs.SettledWaits.{HasWaited, resumes_its}
 use Rattle.laws_calls.proofs.RollingLeaves.{back_table, interrupted_table, savepoint_table}
 use Rattle.laws_calls.proofs.TakenLocks.{leaves, locked_state}
-use Rattle.laws_calls.specs.CallSteps.{AbortStep, CallGoesOn, CallStep, InnerStep, ResumeStep, ResumesWait, behind_lock, lock_outcome, on_conflict_of, place_outcome, OutsideStep}
+use Rattle.laws_calls.specs.CallSteps.{AbortStep, CallGoesOn, CallStep, InnerStep, ResumeStep, ResumesWait, behind_lock, lock_outcome, on_conflict_of, place_outcome, OutsideStep, CommitStep}
 use Rattle.laws_calls.specs.Events.{IsStateAfter}
 use Rattle.laws_calls.specs.LockChanges.{ChangesLocks}
 use Rattle.laws_calls.specs.LockedStates.{IsSessionsState}
@@ -57,7 +55,7 @@ use Rattle.laws_calls.specs.Settling.{SettledCall, SettledResume, WaitsForNoLock
 use Rattle.laws_calls.specs.StateChanges.{wait_refused}
 use Rattle.laws_calls.specs.States.{IsOfSession, State, Waiting, HasSeat}
 use Rattle.laws_calls.proofs.PrepareSteps.{prepare_locks}
-use Rattle.laws_calls.specs.Shapes.{ResolvesTxn, IsNoRefusal}
+use Rattle.laws_calls.specs.Shapes.{ResolvesTxn, IsNoRefusal, EndsAtOnce}
 use Rattle.laws_calls.proofs.ResolveLeaves.{resolve_locks}
 use Rattle.laws_calls.proofs.Outside.{outside_or}
 
@@ -228,7 +226,7 @@ module _ (g : Geometry) (o : Opening) (found : List LogRecord) (es : List Entry)
   abbrev StepsSo : Step → State → Type 0
   StepsSo step new =
       (new.locks ≡ s.locks)
-      ⊎ ((((c ≡ call.Abort) × (step ≡ Done Aborted) × ((a : SessionTxn) × IsOfSession s session a × (new.locks.requests ≡ released a.txn s.locks.requests)))
+      ⊎ (((EndsAtOnce s c step × ((a : SessionTxn) × IsOfSession s session a × (new.locks.requests ≡ released a.txn s.locks.requests)))
       ⊎ ((a : SessionTxn) × ResolvesTxn s c a × IsNoRefusal step × (new.locks.requests ≡ released a.txn s.locks.requests)))
       ⊎ ((a : SessionTxn) × IsOfSession s session a × (is_waiting a.txn s.locks.requests ≡ false) × CallGoesOn g s a c step new))
 
@@ -236,14 +234,20 @@ module _ (g : Geometry) (o : Opening) (found : List LogRecord) (es : List Entry)
   inner_so a of quiet step new (inl h) = inl (ap (λ (x : State). x.locks) h.3)
   inner_so a of quiet step new (inr (inl (whole, inl h))) = inl (ap (λ (x : State). x.locks) h.3)
   inner_so a of quiet step new (inr (inl (whole, inr (inl h)))) = inr (inr (a, of, quiet, h.1))
-  inner_so a of quiet step new (inr (inl (whole, inr (inr (inl h))))) = inl (commit_keeps_locks s a step new h.1)
+  inner_so a of quiet step new (inr (inl (whole, inr (inr (inl h))))) = commits step h.1
+    where
+      commits : (step : Step) → CommitStep s a step new → StepsSo step new
+      commits (Done answer) x = inr (inl (inl (inr (h.0, ap Done x.0), (a, of, ap (λ (y : State). y.locks.requests) x.1))))
+      commits (Refused f) x = absurd x
+      commits (Waits wait) x = absurd x
+      commits Nothing x = absurd x
   inner_so a of quiet step new (inr (inl (whole, inr (inr (inr (inl h)))))) = inl (savepoint_table s a step new h.1).locks
   inner_so a of quiet step new (inr (inl (whole, inr (inr (inr (inr h)))))) = inl (prepare_locks s a h.0 step new h.2)
   inner_so a of quiet step new (inr (inr (inl h))) = inl (back_table s a h.0 step new h.3).locks
   inner_so a of quiet step new (inr (inr (inr h))) = aborts step h.1
     where
       aborts : (step : Step) → AbortStep s a step new → StepsSo step new
-      aborts (Done answer) x = inr (inl (inl (h.0, ap Done x.0, (a, of, ap (λ (y : State). y.locks.requests) x.1))))
+      aborts (Done answer) x = inr (inl (inl (inl (h.0, ap Done x.0), (a, of, ap (λ (y : State). y.locks.requests) x.1))))
       aborts (Refused f) x = inl (interrupted_table s a Whole f new x).locks
       aborts (Waits wait) x = absurd x
       aborts Nothing x = absurd x
@@ -276,7 +280,7 @@ module _ (g : Geometry) (o : Opening) (found : List LogRecord) (es : List Entry)
   abbrev pub LocksSettle : Step → State → Type 0
   LocksSettle step new =
       (new.locks.requests ≡ s.locks.requests)
-      ⊎ ((((c ≡ call.Abort) × (step ≡ Done Aborted) × ((a : SessionTxn) × IsOfSession s session a × (new.locks.requests ≡ released a.txn s.locks.requests)))
+      ⊎ (((EndsAtOnce s c step × ((a : SessionTxn) × IsOfSession s session a × (new.locks.requests ≡ released a.txn s.locks.requests)))
       ⊎ ((a : SessionTxn) × ResolvesTxn s c a × IsNoRefusal step × (new.locks.requests ≡ released a.txn s.locks.requests)))
       ⊎ ((a : SessionTxn) × IsOfSession s session a
       × ((between : List Interlude) × ((between ≡ []) ⊎ ((x : State) × IsMidway g s session c between x)) × ChangesLocks s.locks.requests a.txn c (cycles_among between) new.locks.requests)))
@@ -322,25 +326,23 @@ module _ (g : Geometry) (o : Opening) (found : List LogRecord) (es : List Entry)
 -- ---- a resume
 
 module _ (g : Geometry) (o : Opening) (found : List LogRecord) (es : List Entry) (s : State) (k : IsStateAfter o found es s) (session : ℕ) (there : WaitsThere s session) where
-  -- The requests stay; or a commit is answered, and all of its transaction's go; or they change as the call asks that waited.
+  -- The requests stay, or they change as the call asks that waited.
   abbrev pub LocksSettleAgain : Step → State → Type 0
   LocksSettleAgain step new =
       (new.locks.requests ≡ s.locks.requests)
-      ⊎ (((step ≡ Done Committed) × ((a : SessionTxn) × IsAmong a s.sessions.committing × (a.session ≡ session) × (new.locks.requests ≡ released a.txn s.locks.requests)))
       ⊎ ((w : Waiting) × IsAmong w s.waiting × (w.session ≡ session) × ((a : SessionTxn) × IsOfSession s session a
-      × ((between : List Interlude) × ((x : State) × Intervene g session s between x) × ChangesLocks s.locks.requests a.txn w.call (cycles_among between) new.locks.requests))))
+      × ((between : List Interlude) × ((x : State) × Intervene g session s between x) × ChangesLocks s.locks.requests a.txn w.call (cycles_among between) new.locks.requests)))
 
   wait_settles : (w : Waiting) → IsAmong w s.waiting → w.session ≡ session → (wait : Wait) → w.wait ≡ wait → (step : Step) (new : State) → ResumesWait g s w wait step new → LocksSettleAgain step new
   wait_settles w m of (Durable n) is step new (inl h) = inl (ap (λ (x : State). x.locks.requests) h.2)
-  wait_settles w m of (Durable n) is step new (inr (inl h)) = inr (inl (h.1, (h.2.0, h.2.1, h.2.2 ∙ of, ap (λ (x : State). x.locks.requests) h.2.3)))
-  wait_settles w m of (Durable n) is step new (inr (inr (inl h))) = inl (ap (λ (x : State). x.locks.requests) h.2.4)
-  wait_settles w m of (Durable n) is step new (inr (inr (inr h))) = inl (ap (λ (x : State). x.locks.requests) h.2.3)
+  wait_settles w m of (Durable n) is step new (inr (inl h)) = inl (ap (λ (x : State). x.locks.requests) h.2.4)
+  wait_settles w m of (Durable n) is step new (inr (inr h)) = inl (ap (λ (x : State). x.locks.requests) h.2.3)
   wait_settles w m of (Lock at) is step new h = ⊎_elim
       (λ still. inl (ap (λ (x : State). x.locks.requests) still.2))
       (λ free. ⊎_elim
       (λ commits. let clash : Durable commits.number ≡ Lock at = sym (ap (λ (x : Waiting). x.wait) commits.is) ∙ is in absurd cc)
       (λ locks.
-      inr (inr (
+      inr (
         w,
         m,
         of,
@@ -354,7 +356,7 @@ module _ (g : Geometry) (o : Opening) (found : List LogRecord) (es : List Entry)
                 (grown_from s.locks.requests h.0.txn locks.lock.granule locks.lock.mode [] free.0) step new free.1,
           ),
         ),
-      )))
+      ))
       (k.waits.each w m))
       h.2
 
@@ -392,7 +394,7 @@ module _ (g : Geometry) (o : Opening) (found : List LogRecord) (es : List Entry)
       let vs = cycles_among came.between in
       let last = grown_midway g o found es session a.txn w.call locks.lock locks.asked s.locks.requests vs s came.between came.from (all_in came.between) p
       (grown_waiting s.locks.requests a.txn locks.lock.granule locks.lock.mode vs k.sessions.locks.orderly (asks_so w was.waits.there was.waits.of was.at was.waits.lock locks.lock locks.asked a of)) came.intervene in
-      inr (inr (
+      inr (
         w,
         was.waits.there,
         was.waits.of,
@@ -405,7 +407,7 @@ module _ (g : Geometry) (o : Opening) (found : List LogRecord) (es : List Entry)
             ends_changes g o found es session a.txn w.call locks.lock locks.asked s.locks.requests vs came.from new step last.0 last.1 came.ends,
           ),
         ),
-      )))
+      ))
       (k.waits.each w was.waits.there)
 
   pub settled_resume_locks : (step : Step) (new : State) → SettledResume g s session step new → LocksSettleAgain step new

@@ -21,19 +21,19 @@ use Rattle.shore_model.specs.declared.step.Step.TheVariants.{Done, Nothing, Refu
 use Rattle.shore_model.specs.declared.step.Wait.TheVariants.{Durable, Lock}
 use Rattle.laws_calls.proofs.GoingOn.{asking_is_inner}
 use Rattle.laws_calls.proofs.LockedAnswers.{inner_under}
-use Rattle.laws_calls.proofs.SessionStates.{as_it_was, its_wait, session_call_stays, session_failure_stays, session_force_stays, session_resume_stays}
+use Rattle.laws_calls.proofs.SessionStates.{as_it_was, its_wait, session_call_stays, session_failure_stays, session_force_stays, session_resume_stays, session_ask_stays}
 use Rattle.laws_calls.proofs.Sessions.{its_txn}
 use Rattle.laws_calls.proofs.SettledWaits.{IsSpared, WaitsAt, call_has_asked, call_waits_at, resume_has_waited, resume_undecided, resume_waits, still_spared, victims_keep_txn, victims_wait}
 use Rattle.laws_calls.proofs.VictimSteps.{told_stays, victim_stays, withdrawn_stays}
 use Rattle.laws_calls.specs.CallHistories.{txn_of, answered_under}
 use Rattle.laws_calls.specs.CallSteps.{CallStep, ResumeStep, with_requests}
-use Rattle.laws_calls.specs.Events.{Called, Forced, HasFailed, IsStateAfter, ManagerEvent, Resumed, EventMoves, EventsMove, MovesMaking, entries_of, entries_of_resume, entries_of_waiting}
+use Rattle.laws_calls.specs.Events.{Called, Forced, HasFailed, IsStateAfter, ManagerEvent, Resumed, EventMoves, EventsMove, MovesMaking, entries_of, entries_of_resume, entries_of_waiting, TicketAsked}
 use Rattle.laws_calls.specs.LockedStates.{entries_of_resumed, entries_of_call}
 use Rattle.laws_calls.specs.Settling.{SettledCall, SettledResume, Settles}
 use Rattle.laws_calls.specs.StateChanges.{wait_refused, with_durable, with_failure}
 use Rattle.laws_calls.specs.States.{IsOfSession, State, Waiting}
 use Rattle.laws_calls.specs.Victims.{TakesVictims, TellsVictim, Withdraws}
-use Rattle.laws_calls.proofs.Told.{entries_told}
+use Rattle.laws_calls.proofs.Told.{entries_told, asks_decides_nothing}
 use Rattle.laws_calls.proofs.ToldEntries.{told_of_call}
 use Rattle.laws_calls.proofs.LongerLogs.{call_further, further_then, settles_further}
 
@@ -194,7 +194,9 @@ adds_nothing s mid session c x at same = ap (λ (y : Step). entries_of_call s se
 -- the call of a transaction that was under way has the number of it
 pub call_entries : (s : State) (session : ℕ) (c : Call) (lock : Asked) → lock_asked_by c ≡ Some lock → (step : Step) → ((m : ℕ) → step ≢ Waits (Durable m))
     → ended_entries session (txn_of s.sessions session) c step ≡ entries_told s session c step
-call_entries s session c lock asked (Done answer) undecided = ap (λ t. Exchanged session t (exchange c (Ok answer)) ∷ []) (sym (inner_under s session c (asking_is_inner c lock asked)))
+call_entries s session c lock asked (Done answer) undecided =
+    ap (λ t. Exchanged session t (exchange c (Ok answer)) ∷ []) (sym (inner_under s session c (asking_is_inner c lock asked)))
+    ∙ ap (λ ds. ds ++ Exchanged session (answered_under s.sessions session c) (exchange c (Ok answer)) ∷ []) (sym (asks_decides_nothing (txn_of s.sessions session) c lock asked))
 call_entries s session c lock asked (Refused fault) undecided = refl
 call_entries s session c lock asked (Waits (Lock at)) undecided = refl
 call_entries s session c lock asked (Waits (Durable m)) undecided = absurd (undecided m refl)
@@ -253,6 +255,8 @@ session_event_stays g o found es s new (Resumed session step) k h = settled_resu
 session_event_stays g o found es s new (Forced n) k h =
     subst (IsStateAfter o found (es ++ [])) (sym h.2) (as_it_was o found es (with_durable n s) (session_force_stays o found es s k n h.0 h.1))
 session_event_stays g o found es s new HasFailed k h = subst (IsStateAfter o found (es ++ [])) (sym h) (as_it_was o found es (with_failure s) (session_failure_stays o found es s k))
+session_event_stays g o found es s new (TicketAsked ticket answer) k h =
+    subst (IsStateAfter o found _) (sym h.1) (session_ask_stays o found es s k ticket answer h.0)
 
 pub session_events_stay : (g : Geometry) (o : Opening) (found : List LogRecord) (es : List Entry) (s : State) (events : List ManagerEvent) (last : State) (made : List Entry)
     → IsStateAfter o found es s → MovesMaking g s events last made → IsStateAfter o found (es ++ made) last

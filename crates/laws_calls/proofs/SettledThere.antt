@@ -24,7 +24,7 @@ use Rattle.laws_calls.proofs.SettledWaits.{HasWaited, resume_undecided}
 use Rattle.laws_calls.proofs.WaitsThere.{call_there, fresh, fresh_active, resume_there, told_there, victim_there, withdrawn_there}
 use Rattle.laws_calls.specs.CallHistories.{IsOpened, txn_of}
 use Rattle.laws_calls.specs.CallSteps.{ResumeStep, ResumesWait, CallStep}
-use Rattle.laws_calls.specs.Events.{Called, EventMoves, EventsMove, Forced, HasFailed, IsStateAfter, ManagerEvent, Resumed, entries_of}
+use Rattle.laws_calls.specs.Events.{Called, EventMoves, EventsMove, Forced, HasFailed, IsStateAfter, ManagerEvent, Resumed, entries_of, TicketAsked}
 use Rattle.laws_calls.specs.Midway.{EndsFrom, HasItsWait, Interlude, Intervenes, Takes, WaitsAnew}
 use Rattle.laws_calls.specs.SessionWaits.{AllWaitThere, IsDecisionWait, IsLockWait}
 use Rattle.laws_calls.specs.Settling.{SettledCall, SettledResume}
@@ -85,6 +85,7 @@ module _ (g : Geometry) (o : Opening) (found : List LogRecord) (es : List Entry)
   event_there new (Resumed session step) was h = settled_resume_there session step new was h
   event_there new (Forced n) was h = subst AllWaitThere (sym h.2) was
   event_there new HasFailed was h = subst AllWaitThere (sym h) was
+  event_there new (TicketAsked ticket answer) was h = subst AllWaitThere (sym h.1) was
 
 pub events_there : (g : Geometry) (o : Opening) (found : List LogRecord) (es : List Entry) (s : State) (events : List ManagerEvent) (last : State) → IsStateAfter o found es s → AllWaitThere s
     → EventsMove g s events last → AllWaitThere last
@@ -137,8 +138,7 @@ module _ (g : Geometry) (o : Opening) (found : List LogRecord) (es : List Entry)
       by : (wait : Wait) → ResumesWait g s h.0 wait (Waits (Lock at)) new → (a : SessionTxn) × IsOfSession new session a × (is_waiting a.txn new.locks.requests ≡ true)
       by (Durable n) (inl x) = let clash = x.1 in absurd cc
       by (Durable n) (inr (inl x)) = let clash = x.1 in absurd cc
-      by (Durable n) (inr (inr (inl x))) = let clash = x.1 in absurd cc
-      by (Durable n) (inr (inr (inr x))) = let clash = x.1 in absurd cc
+      by (Durable n) (inr (inr x)) = let clash = x.1 in absurd cc
       by (Lock there) x = ⊎_elim
           (λ still. (
             x.0,
@@ -197,26 +197,18 @@ module _ (g : Geometry) (o : Opening) (found : List LogRecord) (es : List Entry)
       let log = ap (λ (x : State). length x.log) t.left in
       let longer = length-push s.log (record { txn = t.txn.txn; previous = previous_of t.txn.txn s.log; payload = payload.Commit }) in
       let most = k.forced.most in
-      (inr (inr (inl (t.global, t.is, number, (t.txn, t.resolvable, t.left)))), omega (arith, number, forced, most), omega (arith, number, log, longer))
-  resolves c (inr t) = let truly = rollback_truly t.global t.txn t.decided t.by t.to in (inr (inr (inr (t.global, t.is, (t.txn, t.decided, t.by, t.to)))), truly.0, truly.1)
+      (inr (inl (t.global, t.is, number, (t.txn, t.resolvable, t.left))), omega (arith, number, forced, most), omega (arith, number, log, longer))
+  resolves c (inr t) = let truly = rollback_truly t.global t.txn t.decided t.by t.to in (inr (inr (t.global, t.is, (t.txn, t.decided, t.by, t.to))), truly.0, truly.1)
 
   appends : (c : Call) → AppendsIn g s new session c n → WaitsTruly c
   appends c t =
       let most = k.forced.most in
-      ⊎_elim
-      (λ commits.
-      let number = same_number (next_number s) commits.1.0 in
-      let forced = ap (λ (x : State). x.durable) commits.1.1 in
-      let log = ap (λ (x : State). length x.log) commits.1.1 in
-      let longer = length-push s.log (record { txn = t.0.txn; previous = previous_of t.0.txn s.log; payload = payload.Commit }) in
-      (inl (commits.0, number, (t.0, t.1, commits.1.1)), omega (arith, number, forced, most), omega (arith, number, log, longer)))
-      (λ prepares.
+      let prepares = t.3 in
       let number = same_number (next_number s) prepares.2.3 in
       let forced = ap (λ (x : State). x.durable) prepares.2.4 in
       let log = ap (λ (x : State). length x.log) prepares.2.4 in
       let longer = length-push s.log (record { txn = t.0.txn; previous = previous_of t.0.txn s.log; payload = payload.Prepare prepares.0 (granules_in_ex s t.0) }) in
-      (inr (inl (prepares.0, prepares.1, number, (t.0, t.1, prepares.2.4))), omega (arith, number, forced, most), omega (arith, number, log, longer)))
-      t.3
+      (inl (prepares.0, prepares.1, number, (t.0, t.1, prepares.2.4)), omega (arith, number, forced, most), omega (arith, number, log, longer))
 
   at_once : (c : Call) → CallStep g s session c (Waits (Durable n)) new → WaitsTruly c
   at_once c h = ⊎_elim (appends c) (resolves c) (waits_on_record g s new session c n h)
@@ -256,8 +248,7 @@ module _ (g : Geometry) (o : Opening) (found : List LogRecord) (es : List Entry)
       commit_in w there m is (inl c) = c
       commit_in w there m is (inr l) = absurd (durable_no_lock m l.at (sym is ∙ l.is))
   waits_on w m of (Durable n') is (inr (inl h)) = let clash = h.1 in absurd cc
-  waits_on w m of (Durable n') is (inr (inr (inl h))) = let clash = h.1 in absurd cc
-  waits_on w m of (Durable n') is (inr (inr (inr h))) = let clash = h.1 in absurd cc
+  waits_on w m of (Durable n') is (inr (inr h)) = let clash = h.1 in absurd cc
   waits_on w m of (Lock at) is h = ⊎_elim
       (λ still. let clash = still.1 in absurd cc)
       (λ free. let clash = free.1.4 in absurd cc)

@@ -192,7 +192,7 @@ inner_asked g s session c at new a running (inl h) = let clash = h.2 in absurd c
 inner_asked g s session c at new a running (inr (inl (whole, inl h))) = let clash = h.2 in absurd cc
 inner_asked g s session c at new a running (inr (inl (whole, inr (inl h)))) =
     subst (HasAsked s session c) (sym h.1.5) (record { lock = h.1.0; asked = h.1.2; number = refl; running = running })
-inner_asked g s session c at new a running (inr (inl (whole, inr (inr (inl h))))) = let clash = h.1.0 in absurd cc
+inner_asked g s session c at new a running (inr (inl (whole, inr (inr (inl h))))) = absurd h.1
 inner_asked g s session c at new a running (inr (inl (whole, inr (inr (inr (inl h)))))) = absurd h.1
 inner_asked g s session c at new a running (inr (inl (whole, inr (inr (inr (inr h)))))) = let clash = h.2.3 in absurd cc
 inner_asked g s session c at new a running (inr (inr (inl h))) = absurd h.3
@@ -232,8 +232,7 @@ call_waits_at g s session c step new h at is =
 lock_waited : (g : Geometry) (s : State) (w : Waiting) (its : Wait) (at : Granule) (new : State) → ResumesWait g s w its (Waits (Lock at)) new → (there : Granule) × (its ≡ Lock there)
 lock_waited g s w (Durable n) at new (inl h) = let clash = h.1 in absurd cc
 lock_waited g s w (Durable n) at new (inr (inl h)) = let clash = h.1 in absurd cc
-lock_waited g s w (Durable n) at new (inr (inr (inl h))) = let clash = h.1 in absurd cc
-lock_waited g s w (Durable n) at new (inr (inr (inr h))) = let clash = h.1 in absurd cc
+lock_waited g s w (Durable n) at new (inr (inr h)) = let clash = h.1 in absurd cc
 lock_waited g s w (Lock there) at new h = (there, refl)
 
 resumed_waited : (g : Geometry) (s : State) (w : Waiting) (at : Granule) (new : State) → ResumesCall g s w (Waits (Lock at)) new → (there : Granule) × (w.wait ≡ Lock there) × (s.failed ≡ false)

@@ -18,7 +18,6 @@ use Rattle.shore_model.specs.declared.log_records.LogRecord.{LogRecord}
 use Rattle.laws_lives.specs.RepliesInPlace.{IsKnownAbsent}
 use Rattle.laws_lives.specs.SessionSteps.{BeginTxn, TellsNothing, exchange, AnswerInDoubt}
 use Rattle.laws_lives.specs.Sessions.{SessionTxn, IsUnused}
-use Rattle.laws_lives.specs.Views.{IsAmong}
 use Rattle.shore_model.specs.declared.step.Step.{Step}
 use Rattle.shore_model.specs.declared.step.Step.TheVariants.{Done, Nothing, Refused, Waits}
 use Rattle.shore_model.specs.declared.step.Wait.{Wait}
@@ -33,9 +32,9 @@ use Rattle.laws_calls.proofs.SessionResumes.{WaitsWhole, same_entries, woken, Is
 use Rattle.laws_calls.specs.CallHistories.{txn_of, answered_under}
 use Rattle.laws_calls.specs.StateChanges.{committed, wait_refused, begun}
 use Rattle.laws_calls.specs.Rollbacks.{TakesCall}
-use Rattle.laws_calls.specs.CallSteps.{AbortStep, BeginStep, CommitStep, InnerStep, OpenStep, RefusesEarly, ResumesCall, ResumesWait, CallStep, commit_ended, InDoubtStep, OutsideStep, listed_in_doubt, IsPreparing, prepare_ended}
+use Rattle.laws_calls.specs.CallSteps.{AbortStep, BeginStep, CommitStep, InnerStep, OpenStep, RefusesEarly, ResumesCall, ResumesWait, CallStep, InDoubtStep, OutsideStep, listed_in_doubt, IsPreparing, prepare_ended}
 use Rattle.laws_calls.specs.LockedStates.{IsSessionsState, entries_of_resumed}
-use Rattle.laws_calls.specs.States.{DoesNotWait, IsOfSession, State, Waiting}
+use Rattle.laws_calls.specs.States.{DoesNotWait, IsOfSession, State, Waiting, next_number}
 use Rattle.laws_calls.proofs.Listings.{listing_steps}
 use Rattle.laws_calls.specs.Prepares.{PrepareStep, MayPrepare, granules_in_ex, prepared}
 use Rattle.laws_calls.proofs.Sessions.{its_txn}
@@ -44,14 +43,14 @@ use Rattle.laws_calls.proofs.Outside.{Resolving, early_tells}
 
 -- ---- calls
 
--- a Commit goes last, and its call waits
+-- a Commit goes last, and is answered
 pub record Commits (s : State) (session : ℕ) (new : State) (made : List Entry) : Type 0 where
   pub txn : SessionTxn
   pub of : IsOfSession s session txn
   pub whole : txn.undo.rolling ≡ None
   pub idle : DoesNotWait s session
   pub is : new ≡ committed s txn
-  pub entries : made ≡ Decided (decision.Commit (txn_of s.sessions session)) ∷ []
+  pub entries : made ≡ Decided (decision.Commit txn.txn) ∷ Exchanged txn.session txn.txn (exchange call.Commit (Ok (Committed (next_number s)))) ∷ []
 
 -- .. or a Prepare
 pub record Prepares (s : State) (session : ℕ) (new : State) (made : List Entry) : Type 0 where
@@ -81,11 +80,20 @@ module _ (g : Geometry) (o : Opening) (found : List LogRecord) (es : List Entry)
       (⊎_elim (λ one. subst TellsNothing (sym one.0) tt) (λ more. ⊎_elim (λ two. subst TellsNothing (sym two.0) tt) (λ three. subst TellsNothing (sym three.0) tt) more) h.0) (inl h.1)
   begin_passes idle Nothing new h = absurd h
 
-  commit_passes : (a : SessionTxn) → a.undo.rolling ≡ None → IsOfSession s session a → DoesNotWait s session → (step : Step) (new : State) → CommitStep s a step new
+  pub commit_passes : (a : SessionTxn) → a.undo.rolling ≡ None → IsOfSession s session a → DoesNotWait s session → (step : Step) (new : State) → CommitStep s a step new
       → Commits s session new (entries_told s session call.Commit step)
-  commit_passes a whole mem idle (Waits wait) new h =
-      record { txn = a; of = mem; whole = whole; idle = idle; is = h.1; entries = ap (λ w. entries_told s session call.Commit (Waits w)) h.0 }
-  commit_passes a whole mem idle (Done answer) new h = absurd h
+  commit_passes a whole mem idle (Done answer) new h = record {
+    txn = a;
+    of = mem;
+    whole = whole;
+    idle = idle;
+    is = h.1;
+    entries =
+        ap (λ x. entries_told s session call.Commit (Done x)) h.0
+        ∙ ap (λ t. Decided (decision.Commit t) ∷ Exchanged session t (exchange call.Commit (Ok (Committed (next_number s)))) ∷ []) (its_txn s.sessions a session mem.0.1 mem.1)
+        ∙ ap (λ n. Decided (decision.Commit a.txn) ∷ Exchanged n a.txn (exchange call.Commit (Ok (Committed (next_number s)))) ∷ []) (sym mem.1);
+  }
+  commit_passes a whole mem idle (Waits wait) new h = absurd h
   commit_passes a whole mem idle (Refused f) new h = absurd h
   commit_passes a whole mem idle Nothing new h = absurd h
 
@@ -186,18 +194,7 @@ module _ (g : Geometry) (o : Opening) (found : List LogRecord) (es : List Entry)
 
 -- ---- going on
 
--- a commit is answered, whose record is durable
-pub record IsAnswered (s : State) (session : ℕ) (wait : Wait) (new : State) (made : List Entry) : Type 0 where
-  pub number : ℕ
-  pub waits : wait ≡ Durable number
-  pub durable : number ≤ s.durable
-  pub txn : SessionTxn
-  pub committing : IsAmong txn s.sessions.committing
-  pub of : txn.session ≡ session
-  pub is : new ≡ commit_ended s txn
-  pub entries : made ≡ Exchanged session (txn_of s.sessions session) (exchange call.Commit (Ok Committed)) ∷ []
-
--- .. or a prepare
+-- a prepare is answered, whose record is durable
 pub record IsPrepareTold (s : State) (session : ℕ) (wait : Wait) (c : Call) (new : State) (made : List Entry) : Type 0 where
   pub number : ℕ
   pub waits : wait ≡ Durable number
@@ -216,7 +213,7 @@ pub record GoesOnQuietly (g : Geometry) (s : State) (session : ℕ) (wait : Wait
 
 -- or nothing is done
 abbrev pub ResumePasses : Geometry → State → ℕ → Wait → Call → State → List Entry → Type 0
-ResumePasses g s session wait c new made = ((new ≡ s) × (made ≡ [])) ⊎ (GoesOnQuietly g s session wait new made ⊎ (IsAnswered s session wait new made ⊎ (IsPrepareTold s session wait c new made ⊎ IsResolveTold s session wait c new made)))
+ResumePasses g s session wait c new made = ((new ≡ s) × (made ≡ [])) ⊎ (GoesOnQuietly g s session wait new made ⊎ (IsPrepareTold s session wait c new made ⊎ IsResolveTold s session wait c new made))
 
 module _ (g : Geometry) (o : Opening) (found : List LogRecord) (es : List Entry) (s : State) (k : IsSessionsState o found es s) where
   prepare_told : (w : Waiting) (n : ℕ) (step : Step) (new : State)
@@ -239,20 +236,8 @@ module _ (g : Geometry) (o : Opening) (found : List LogRecord) (es : List Entry)
   wait_passes : (w : Waiting) (wait : Wait) → WaitsWhole s w.session wait → (step : Step) (new : State) → ResumesWait g s w wait step new
       → ResumePasses g s w.session wait w.call new (entries_of_resumed s (record { session = w.session; call = w.call; wait = wait; cycle = w.cycle }) step)
   wait_passes w (Durable n) whole step new (inl h) = inl (h.2, ap (entries_of_resumed s (record { session = w.session; call = w.call; wait = Durable n; cycle = w.cycle })) h.1)
-  wait_passes w (Durable n) whole step new (inr (inl h)) = inr (inr (inl (record {
-    number = n;
-    waits = refl;
-    durable = h.0;
-    txn = h.2.0;
-    committing = h.2.1;
-    of = h.2.2;
-    is = h.2.3;
-    entries =
-        ap (entries_of_resumed s (record { session = w.session; call = w.call; wait = Durable n; cycle = w.cycle })) h.1
-        ∙ ap (λ (c : Call). Exchanged w.session (answered_under s.sessions w.session c) (exchange c (Ok Committed)) ∷ []) h.3;
-  })))
-  wait_passes w (Durable n) whole step new (inr (inr (inl h))) = inr (inr (inr (inl (prepare_told w n step new h))))
-  wait_passes w (Durable n) whole step new (inr (inr (inr h))) = inr (inr (inr (inr (is_resolve_told s w n step new h))))
+  wait_passes w (Durable n) whole step new (inr (inl h)) = inr (inr (inl (prepare_told w n step new h)))
+  wait_passes w (Durable n) whole step new (inr (inr h)) = inr (inr (inr (is_resolve_told s w n step new h)))
   wait_passes w (Lock at) whole step new h = ⊎_elim
       (λ still. inl (still.2, ap (entries_of_resumed s (record { session = w.session; call = w.call; wait = Lock at; cycle = w.cycle })) still.1))
       (λ free.

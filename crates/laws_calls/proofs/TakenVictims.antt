@@ -23,7 +23,7 @@ use Rattle.laws_lives.specs.Views.{IsAmong}
 use Rattle.laws_calls.proofs.Cancelled.{cancelled_below, cancelled_moves, cancelled_rooted}
 use Rattle.laws_calls.proofs.Links.{Goes, same_room, ended_with}
 use Rattle.laws_calls.proofs.ReplyLinks.{as_many}
-use Rattle.laws_calls.proofs.Sessions.{AreSessionsAfter, event_keeps, one_txn, committed_seat, one_member, own_of, parted, seat_apart}
+use Rattle.laws_calls.proofs.Sessions.{AreSessionsAfter, event_keeps, one_txn, one_member, own_of, seat_apart}
 use Rattle.laws_calls.proofs.TakenLocks.{sessions_of, state_of}
 use Rattle.laws_calls.proofs.ToldCycles.{is_as_it_was, is_to_tell, other_waits, still_once, to_tell, was_waiting, still_resolve_once}
 use Rattle.laws_calls.proofs.Unwinding.{its_list, other_list, with_list}
@@ -145,12 +145,8 @@ module _ (o : Opening) (found : List LogRecord) (es : List Entry) (s : State) (k
   -- ---- its call, and those of others
 
   module _ (h : WaitsOfSessions (length found) s) where
-    -- a committed transaction is of another session
-    committed_apart : (a : SessionTxn) → IsAmong a s.sessions.committing → a.session ≢ b.session
-    committed_apart a committed same = parted k b a mem.0 committed (one_txn s.sessions b a mem.1 (committed_seat k a committed) (sym same))
-
     own_wait : (v : Waiting) → v.session ≡ b.session → IsDecisionWait (length found) s v ⊎ IsLockWait s v → IsLockWait new (to_tell cycle v)
-    own_wait v own (inl c) = absurd (⊎_elim (λ h. committed_apart h.0 h.1 (h.2 ∙ own)) (⊎_elim (λ h. seat_apart mem.1 (ap s.sessions.seats (sym own) ∙ h.2.1)) (λ h. h.4 b.txn mem.2 (ap s.sessions.seats own ∙ mem.1))) c.unanswered)
+    own_wait v own (inl c) = absurd (⊎_elim (λ h. seat_apart mem.1 (ap s.sessions.seats (sym own) ∙ h.2.1)) (λ h. h.4 b.txn mem.2 (ap s.sessions.seats own ∙ mem.1)) c.unanswered)
     own_wait v own (inr l) =
         record { txn = with_list b (doomed_list b); active = (its_list b (doomed_list b) s.sessions.active mem.0, mem.1, mem.2); of = sym own; whole = λ spared. absurd cc; at = l.at; is = l.is; lock = l.lock; asked = l.asked }
 
@@ -159,8 +155,7 @@ module _ (o : Opening) (found : List LogRecord) (es : List Entry) (s : State) (k
       where
         unanswered : (v : Waiting) → IsUnanswered s.sessions v.session v.call c.decision → IsUnanswered new.sessions v.session v.call c.decision
         unanswered v (inl x) = inl x
-        unanswered v (inr (inl x)) = inr (inl x)
-        unanswered v (inr (inr x)) = inr (inr (x.0, (x.1.0, λ m. x.1.1 (subst (IsAmong x.0.txn) (txns_with b.txn (doomed_list b) s.sessions.active) m)), x.2, x.3, x.4))
+        unanswered v (inr x) = inr (x.0, (x.1.0, λ m. x.1.1 (subst (IsAmong x.0.txn) (txns_with b.txn (doomed_list b) s.sessions.active) m)), x.2, x.3, x.4)
     other_wait v other (inr l) =
         let apart : l.txn.txn ≢ b.txn = λ same. other (sym l.of ∙ ap (λ (x : SessionTxn). x.session) (one_member k l.txn b l.active.0 mem.0 same)) in
         inr (record { txn = l.txn; active = (other_list b.txn (doomed_list b) l.txn s.sessions.active l.active.0 apart, l.active.1, l.active.2); of = l.of; whole = l.whole; at = l.at; is = l.is; lock = l.lock; asked = l.asked })
@@ -181,7 +176,6 @@ module _ (o : Opening) (found : List LogRecord) (es : List Entry) (s : State) (k
     victim_waits = record {
       each = each_wait;
       once = still_once b.session cycle s.waiting h.once;
-      all = λ running a m. let was = h.all running a m in (was.0, other_waits b.session cycle (decision_waiting a.session call.Commit was.0) s.waiting was.1 (committed_apart a m));
       resolves = λ running r ended.
           let was = h.resolves running r (ended.0, λ m. ended.1 (subst (IsAmong r.txn) (sym (txns_with b.txn (doomed_list b) s.sessions.active)) m)) in
           let its = decision_waiting was.0 (call.Resolve r.global r.outcome) was.1 in

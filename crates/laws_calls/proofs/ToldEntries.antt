@@ -79,7 +79,6 @@ refusal_seat o found es s new session t c f k later =
     same false p = refl
 
 only_decided : (s : State) (session : ℕ) (c : Call) → map Decided (decisions (entries_decided s session c)) ≡ entries_decided s session c
-only_decided s session call.Commit = refl
 only_decided s session (call.Prepare global) = refl
 only_decided s session _ = refl
 

@@ -1,5 +1,5 @@
 -- A cycle that a session is to be told stood within an earlier event of the run.
-use Rattle.std.proofs.Common.{◌≡◌, ◌⊎◌, inl, inr, ⊎_elim, ◌≤◌, ◌++◌, ℕ, List, [], ◌∷◌, Some, None, refl, sym, ap, subst, ◌∙◌}
+use Rattle.std.proofs.Common.{◌≡◌, ◌⊎◌, inl, inr, ⊎_elim, ◌++◌, ℕ, List, [], ◌∷◌, Some, None, refl, sym, ap, subst, ◌∙◌}
 use Rattle.shore_model.specs.declared.histories.Entry.{Entry}
 use Rattle.shore_model.specs.declared.histories.Opening.{Opening}
 use Rattle.std.specs.Prelude.{◌==◌}
@@ -26,7 +26,7 @@ use Rattle.laws_calls.proofs.VictimSteps.{victim_seat}
 use Rattle.laws_calls.proofs.WaitsThere.{call_nothing}
 use Rattle.laws_calls.specs.CallHistories.{IsOpened, txn_of}
 use Rattle.laws_calls.specs.CallSteps.{CallGoesOn, CallStep, ResumeStep, ResumesWait}
-use Rattle.laws_calls.specs.Events.{Called, EventMoves, EventsMove, Forced, HasFailed, IsStateAfter, ManagerEvent, Resumed, entries_of}
+use Rattle.laws_calls.specs.Events.{Called, EventMoves, EventsMove, Forced, HasFailed, IsStateAfter, ManagerEvent, Resumed, entries_of, TicketAsked}
 use Rattle.laws_calls.specs.Midway.{EndsFrom, Interlude, Intervene, Intervenes, IsCutShort, IsItsCycle, Takes, WaitsAnew}
 use Rattle.laws_calls.specs.StateChanges.{wait_refused}
 use Rattle.laws_calls.specs.States.{State, Waiting, without_waiting}
@@ -68,9 +68,8 @@ call_told g s new session c Nothing h = absurd (call_nothing g s new session c h
 
 wait_told : (g : Geometry) (s new : State) (w : Waiting) (wait : Wait) (step : Step) → ResumesWait g s w wait step new → WereToBeTold s new
 wait_told g s new w (Durable n) step (inl h) = same_told s new (ap (λ (x : State). x.waiting) h.2)
-wait_told g s new w (Durable n) step (inr (inl h)) = without_told s new h.2.0.session (ap (λ (x : State). x.waiting) h.2.3)
-wait_told g s new w (Durable n) step (inr (inr (inl h))) = without_told s new w.session (ap (λ (x : State). x.waiting) h.2.4)
-wait_told g s new w (Durable n) step (inr (inr (inr h))) = without_told s new w.session (ap (λ (x : State). x.waiting) h.2.3)
+wait_told g s new w (Durable n) step (inr (inl h)) = without_told s new w.session (ap (λ (x : State). x.waiting) h.2.4)
+wait_told g s new w (Durable n) step (inr (inr h)) = without_told s new w.session (ap (λ (x : State). x.waiting) h.2.3)
 wait_told g s new w (Lock at) step h = ⊎_elim
     (λ still. same_told s new (ap (λ (x : State). x.waiting) still.2))
     (λ free. then_told s (wait_refused s w.session) new (without_told s (wait_refused s w.session) w.session refl) (goes_told g (wait_refused s w.session) new h.0 w.call step free.1))
@@ -160,6 +159,7 @@ module _ (g : Geometry) (o : Opening) (found : List LogRecord) (es : List Entry)
       (settled_resume_to g s session step new h)
   told_in new (Forced n) h w m cycle is = inl (subst (λ (y : State). IsAmong w y.waiting) h.2 m)
   told_in new HasFailed h w m cycle is = inl (subst (λ (y : State). IsAmong w y.waiting) h m)
+  told_in new (TicketAsked ticket answer) h w m cycle is = inl (subst (λ (y : State). IsAmong w y.waiting) h.1 m)
 
 -- ---- a run
 

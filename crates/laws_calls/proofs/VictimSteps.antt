@@ -72,7 +72,7 @@ module _ (o : Opening) (found : List LogRecord) (es : List Entry) (s : State) (k
     taken_stays = record {
       sessions = victim_state o found es s k.sessions b mem cycle;
       waits = victim_waits o found es s k.sessions b mem cycle k.waits;
-      forced = record { least = k.forced.least; most = k.forced.most; acknowledged_kept = k.forced.acknowledged_kept };
+      forced = record { least = k.forced.least; most = k.forced.most; acknowledged_kept = k.forced.acknowledged_kept; tickets = k.forced.tickets };
       few =
           let few = k.few in
           let undo = undo_rolled b.undo b.undo.images Whole in
@@ -87,6 +87,7 @@ module _ (o : Opening) (found : List LogRecord) (es : List Entry) (s : State) (k
       before = record { sessions = refl; log = refl; counts = refl; stream = refl };
       events = Doom b ∷ MoveLocks (held_by_all left) ∷ [];
       durable = (tt, (tt, tt));
+      tickets = (tt, (tt, tt));
       mid = with_requests (with_doom s b) left;
       goes = (
         with_doom s b,
@@ -122,18 +123,17 @@ module _ (o : Opening) (found : List LogRecord) (es : List Entry) (s : State) (k
         ap (entries_of_resumed s w) (sym is) ∙ ap (λ (x : Option Waiting). entries_of_waiting s x step) (sym (its_wait session s.waiting w k.waits.once there of))
 
     refused_stays : (new : State) → IsSessionsState o found (es ++ refusal ∷ []) new → WaitsOfSessions (length found) new → new.sessions.active ≡ s.sessions.active
-        → new.sessions.committing ≡ s.sessions.committing → new.sessions.resolving ≡ s.sessions.resolving → new.log ≡ s.log → new.durable ≡ s.durable → IsStateAfter o found (es ++ refusal ∷ []) new
-    refused_stays new kept waits active committing resolving log durable = record {
+        → new.sessions.resolving ≡ s.sessions.resolving → new.log ≡ s.log → new.durable ≡ s.durable → IsStateAfter o found (es ++ refusal ∷ []) new
+    refused_stays new kept waits active resolving log durable = record {
       sessions = kept;
       waits = waits;
-      forced = forced_grown (length found) es refusal s new durable ([], log ∙ sym (append-nil s.log)) refl k.forced;
+      forced = forced_grown (length found) es refusal s new durable ([], log ∙ sym (append-nil s.log)) refl refl k.forced;
       few =
           let few = k.few in
           let actives : length new.sessions.active ≡ length s.sessions.active = ap length active in
-          let committings : length new.sessions.committing ≡ length s.sessions.committing = ap length committing in
           let ended : length (ended_among new.sessions.active new.sessions.resolving) ≡ length (ended_among s.sessions.active s.sessions.resolving) =
           ap (λ xs. length (ended_among xs new.sessions.resolving)) active ∙ ap (λ rs. length (ended_among s.sessions.active rs)) resolving in
-          omega (arith, few, actives, committings, ended);
+          omega (arith, few, actives, ended);
     }
 
   -- ---- the session of a victim is told
@@ -170,7 +170,7 @@ module _ (o : Opening) (found : List LogRecord) (es : List Entry) (s : State) (k
     deadlock_stays : IsStateAfter o found (es ++ refusal w there deadlock tt ∷ []) (wait_refused s w.session)
     deadlock_stays =
         refused_stays w there deadlock tt (wait_refused s w.session) (refusal_told o found es (wait_refused s w.session) let_go w.session w.call deadlock tt)
-        (woken_waits o found es s k.sessions k.waits w.session (λ running. none_decided)) refl refl refl refl refl
+        (woken_waits o found es s k.sessions k.waits w.session (λ running. none_decided)) refl refl refl refl
 
     deadlock_comes : (g : Geometry) → ComesBy g s (wait_refused s w.session) (refusal w there deadlock tt ∷ [])
     deadlock_comes g =
@@ -212,7 +212,7 @@ module _ (o : Opening) (found : List LogRecord) (es : List Entry) (s : State) (k
     withdrawn_waits : WaitsOfSessions (length found) withdrawn
     withdrawn_waits =
         waits_left (length found) idle withdrawn (older_resolved o found es s k.sessions)
-        (record { waiting = refl; committing = refl; prepared = refl; seats = λ n t is. is; active = λ b mem. (b, mem, refl, refl, λ waits whole. whole); resolving = refl; txns = λ t m. m; older = λ t less m. m; next = omega arith; outside = λ v m t is. is; on = whole_prefix s.log; running = λ running. running })
+        (record { waiting = refl; prepared = refl; seats = λ n t is. is; active = λ b mem. (b, mem, refl, refl, λ waits whole. whole); resolving = refl; txns = λ t m. m; older = λ t less m. m; next = omega arith; outside = λ v m t is. is; on = whole_prefix s.log; running = λ running. running })
         (woken_waits o found es s k.sessions k.waits a.session (λ running. no_record_awaited o found es s k.sessions k.waits a of.0))
 
     abbrev short : Entry
@@ -220,7 +220,7 @@ module _ (o : Opening) (found : List LogRecord) (es : List Entry) (s : State) (k
 
     short_stays : IsStateAfter o found (es ++ short ∷ []) withdrawn
     short_stays =
-        refused_stays w there fault.Memory tt withdrawn (refusal_told o found es withdrawn withdrawn_state w.session w.call fault.Memory tt) withdrawn_waits refl refl refl refl refl
+        refused_stays w there fault.Memory tt withdrawn (refusal_told o found es withdrawn withdrawn_state w.session w.call fault.Memory tt) withdrawn_waits refl refl refl refl
 
     short_comes : (g : Geometry) → ComesBy g s withdrawn (short ∷ [])
     short_comes g =

@@ -38,7 +38,7 @@ use Rattle.laws_calls.proofs.Sessions.{one_txn, one_member, prepare_seats}
 use Rattle.laws_calls.proofs.SettledEnds.{call_leaves, idle_before}
 use Rattle.laws_calls.proofs.TakenLocks.{leaves}
 use Rattle.laws_calls.proofs.WaitingRequests.{NoneWaitsAnew, cancelled_none, found_waiting, others_none, released_none}
-use Rattle.laws_calls.specs.CallSteps.{AbortStep, AnswersBehind, BeginStep, CallGoesOn, CallStep, CommitStep, InnerStep, ResumeStep, ResumesWait, behind_lock, commit_ended, lock_waiting, on_conflict_of, with_requests, prepare_ended, OutsideStep}
+use Rattle.laws_calls.specs.CallSteps.{AbortStep, AnswersBehind, BeginStep, CallGoesOn, CallStep, CommitStep, InnerStep, ResumeStep, ResumesWait, behind_lock, lock_waiting, on_conflict_of, with_requests, prepare_ended, OutsideStep}
 use Rattle.laws_calls.specs.Events.{IsStateAfter, entries_of_resume}
 use Rattle.laws_calls.specs.LockChanges.{TakesAsAsked}
 use Rattle.laws_calls.specs.LockedStates.{IsSessionsState}
@@ -53,7 +53,7 @@ use Rattle.shore_model.specs.Histories.{free}
 use Rattle.laws_calls.proofs.Outside.{outside_something, outside_or}
 use Rattle.laws_calls.specs.Prepares.{PrepareStep}
 use Rattle.laws_calls.specs.Resolves.{resolve_ended}
-use Rattle.laws_calls.proofs.WereUnderWay.{WasUnderWay, was_it, was_with, was_without, was_beside, was_in_txn, was_in, AllWereUnderWay, interrupted_were, told_seat, resolve_were}
+use Rattle.laws_calls.proofs.WereUnderWay.{WasUnderWay, was_it, was_with, was_beside, was_in_txn, was_in, AllWereUnderWay, interrupted_were, told_seat, resolve_were}
 
 module _ (g : Geometry) (l : State) (a : SessionTxn) (new : State) where
   -- what a transaction's call leaves once it is answered
@@ -93,11 +93,12 @@ module _ (g : Geometry) (s new : State) (session : ℕ) where
   begin_were (Waits wait) h b m other = absurd h
   begin_were Nothing h b m other = absurd h
 
-  commit_were : (a : SessionTxn) (step : Step) → CommitStep s a step new → AllWereUnderWay s new
-  commit_were a (Waits wait) h b = was_in s new _ b h.1 (was_without s a.txn b)
-  commit_were a (Done answer) h b = absurd h
-  commit_were a (Refused f) h b = absurd h
-  commit_were a Nothing h b = absurd h
+  commit_were : (a : SessionTxn) → a.session ≡ session → (step : Step) → CommitStep s a step new → OthersWereUnderWay
+  commit_were a of (Done answer) h b m other =
+      was_in s new _ b h.1 (λ now. was_it s b (was_beside s a.session free b (λ same. other (sym same ∙ of)) ((among_without a.txn b s.sessions.active now.0).0, now.1, now.2))) m
+  commit_were a of (Waits wait) h b m other = absurd h
+  commit_were a of (Refused f) h b m other = absurd h
+  commit_were a of Nothing h b m other = absurd h
 
   prepare_were : (a : SessionTxn) → a.session ≡ session → (global : List ℕ) (step : Step) → PrepareStep s a global step new → OthersWereUnderWay
   prepare_were a of global (Waits wait) h b m other =
@@ -130,7 +131,7 @@ module _ (g : Geometry) (s new : State) (session : ℕ) where
   inner_were a of c step (inl h) b m other = was_in s new s b h.3 (was_it s b) m
   inner_were a of c step (inr (inl (whole, inl h))) b m other = was_in s new s b h.3 (was_it s b) m
   inner_were a of c step (inr (inl (whole, inr (inl h)))) b m other = goes_were g s a c step new h.1 b m
-  inner_were a of c step (inr (inl (whole, inr (inr (inl h))))) b m other = commit_were a step h.1 b m
+  inner_were a of c step (inr (inl (whole, inr (inr (inl h))))) b m other = commit_were a of step h.1 b m other
   inner_were a of c step (inr (inl (whole, inr (inr (inr (inl h)))))) b m other = savepoint_were a step h.1 b m
   inner_were a of c step (inr (inl (whole, inr (inr (inr (inr h)))))) b m other = prepare_were a of h.0 step h.2 b m other
   inner_were a of c step (inr (inr (inl h))) b m other = back_were a h.0 step h.3 b m
@@ -272,7 +273,7 @@ module _ (g : Geometry) (o : Opening) (found : List LogRecord) (es : List Entry)
       by (inl (inr (t, of, (lock, asked, inl one)))) = others_none s.locks.requests new.locks.requests t.txn one.others r there wants (apart t of)
       by (inl (inr (t, of, (lock, asked, inr place)))) =
           others_none s.locks.requests place.between t.txn place.first.others r (others_none place.between new.locks.requests t.txn place.place.others r there wants (apart t of)) wants (apart t of)
-      by (inr (inl (abort, done, (t, of, gone)))) = released_none t.txn s.locks.requests k.sessions.locks.orderly.one_each r (subst (In r) gone there) wants
+      by (inr (inl (ends, (t, of, gone)))) = released_none t.txn s.locks.requests k.sessions.locks.orderly.one_each r (subst (In r) gone there) wants
       by (inr (inr (t, its, ends, gone))) = released_none t.txn s.locks.requests k.sessions.locks.orderly.one_each r (subst (In r) gone there) wants
 
   -- its own
@@ -403,10 +404,8 @@ module _ (g : Geometry) (o : Opening) (found : List LogRecord) (es : List Entry)
 
   wait_there : (w : Waiting) → w.session ≡ session → (wait : Wait) → ResumesWait g s w wait step new → AllWaitThere new
   wait_there w of (Durable n) (inl h) = same_there h.2
-  wait_there w of (Durable n) (inr (inl h)) = subst AllWaitThere (sym h.2.3)
-      (all_there s (commit_ended s h.2.0) k.sessions.locks.orderly (still_waited s h.2.0.session) (freed_were s h.2.0) (released_none h.2.0.txn s.locks.requests k.sessions.locks.orderly.one_each) was)
-  wait_there w of (Durable n) (inr (inr (inl h))) = subst AllWaitThere (sym h.2.4) (prepared_there w h.2.0 h.2.1)
-  wait_there w of (Durable n) (inr (inr (inr h))) = subst AllWaitThere (sym h.2.3)
+  wait_there w of (Durable n) (inr (inl h)) = subst AllWaitThere (sym h.2.4) (prepared_there w h.2.0 h.2.1)
+  wait_there w of (Durable n) (inr (inr h)) = subst AllWaitThere (sym h.2.3)
       (all_there s (resolve_ended s w.session h.2.0) k.sessions.locks.orderly (still_waited s w.session) (λ b m. was_it s b (m.0, sym (told_seat s.sessions.seats w.session b.session) ∙ m.1, m.2))
       (λ r there wants. there) was)
   wait_there w of (Lock at) h = ⊎_elim

@@ -11,7 +11,7 @@ use Rattle.shore_types.specs.declared.locking.Mode.TheVariants.{EX}
 use Rattle.shore_model.specs.Logs.{previous_of}
 use Rattle.shore_model.specs.Records.{scan_of}
 use Rattle.shore_model.specs.declared.calls.Answer.{Answer}
-use Rattle.shore_model.specs.declared.calls.Answer.TheVariants.{Began, Got, Inserted, Scanned}
+use Rattle.shore_model.specs.declared.calls.Answer.TheVariants.{Began, Got, Inserted, Scanned, Committed}
 use Rattle.shore_model.specs.declared.calls.Call.{Call}
 use Rattle.shore_model.specs.declared.calls.Call.TheVariants as call
 use Rattle.shore_model.specs.declared.log_records.LogRecord.{LogRecord}
@@ -26,11 +26,11 @@ use Rattle.laws_lives.specs.Sessions.{SessionTxn}
 use Rattle.laws_lives.specs.Views.{IsAmong}
 use Rattle.shore_model.specs.declared.step.Step.TheVariants.{Done}
 use Rattle.laws_calls.proofs.Decided.{both_ways, no_record_both}
-use Rattle.laws_calls.proofs.SessionInversions.{AnsweredFrom, AnsweredIn, answered_in, answered_of, answered_running, asks_in_txn, asks_no_lockless, begun_in, insert_asks, same_lock}
+use Rattle.laws_calls.proofs.SessionInversions.{AnsweredFrom, AnsweredIn, answered_in, answered_of, answered_running, asks_in_txn, asks_no_lockless, begun_in, insert_asks, same_lock, committed_in}
 use Rattle.laws_calls.specs.StateChanges.{CanLog, FitsAt, MayChange, answered}
 use Rattle.laws_calls.specs.CallSteps.{AnswersBehind, HasPlace, ServesTxn, CallStep, behind_lock, behind_place, lock_outcome, place_outcome, txn_count, NeedsTxn}
 use Rattle.laws_calls.specs.Shapes.{ForItsTxn, store_locked}
-use Rattle.laws_calls.specs.States.{HasNoTxn, IsInTxn, MayBegin, State, Waiting}
+use Rattle.laws_calls.specs.States.{HasNoTxn, IsInTxn, MayBegin, State, Waiting, next_number}
 use Rattle.laws_calls.proofs.Sessions.{in_one}
 
 same_bytes : (x y : List ℕ) → Got x ≡ Got y → x ≡ y
@@ -210,8 +210,16 @@ module _ (g : Geometry) (s new : State) (session : ℕ) where
   pub answer_after_failure : (c : Call) (answer : Answer) → IsTrue s.failed → Answered c answer → ⊥
   answer_after_failure c answer failed h = both_ways s.failed failed (answered_running g s new session c answer h).0
 
-  pub commit_at_once : (answer : Answer) → Answered call.Commit answer → ⊥
-  commit_at_once answer h = (answered_in g s new session call.Commit answer tt (λ x. x) h).may
+  pub commit_told_other : (answer : Answer) → answer ≢ Committed (next_number s) → Answered call.Commit answer → ⊥
+  commit_told_other answer other h = other (committed_in g s new session answer h).3.0
+
+  pub commit_unlogged : (answer : Answer) → new.log ≡ s.log → Answered call.Commit answer → ⊥
+  commit_unlogged answer same h =
+      let t = committed_in g s new session answer h in
+      let e = ap (λ (x : State). length x.log) t.3.1 in
+      let longer = length-push s.log (record { txn = t.0.txn; previous = previous_of t.0.txn s.log; payload = payload.Commit }) in
+      let long = ap length same in
+      omega (arith, e, longer, long)
 
   -- a call is not answered if its lock is not taken
   pub answer_unlocked : (c : Call) (answer : Answer) (lock : Asked) → lock_asked_by c ≡ Some lock

@@ -1,5 +1,5 @@
 -- Resumes of sessions that must not come.
-use Rattle.std.proofs.Common.{◌≡◌, ◌≢◌, inl, inr, ⊎_elim, ◌≤◌, ◌<◌, ℕ, List, [], ◌∷◌, Bool, true, false, refl, sym, ap, subst, ◌∙◌, length, arith, cond, Ok, reverse}
+use Rattle.std.proofs.Common.{◌≡◌, ◌≢◌, inl, inr, ⊎_elim, ◌≤◌, ◌<◌, ℕ, List, [], ◌∷◌, Bool, true, false, refl, sym, ap, subst, ◌∙◌, length, arith, cond, Ok, reverse, None}
 use Rattle.std.specs.Prelude.{◌==◌, All, IsTrue, is_some, not}
 use Rattle.std.proofs.lemmas.Bool.{eqb-false}
 use Rattle.std.proofs.lemmas.List.Elements.{All-cons, All-head, All-map, All-nil, All-tail}
@@ -9,14 +9,13 @@ use Rattle.shore_types.specs.declared.faults.Fault.TheVariants as fault
 use Rattle.shore_types.specs.declared.layout.Geometry.{Geometry}
 use Rattle.shore_types.specs.declared.locking.Granule.{Granule}
 use Rattle.shore_types.specs.declared.locking.Mode.{Mode}
-use Rattle.shore_model.specs.Locks.{HoldsAtLeast, path}
+use Rattle.shore_model.specs.Locks.{path}
 use Rattle.shore_model.specs.Modes.{is_allowed}
 use Rattle.shore_model.specs.declared.calls.Answer.{Answer}
-use Rattle.shore_model.specs.declared.calls.Answer.TheVariants.{Committed, Prepared, Resolved}
+use Rattle.shore_model.specs.declared.calls.Answer.TheVariants.{Prepared, Resolved}
 use Rattle.shore_model.specs.declared.calls.Call.{Call}
 use Rattle.shore_model.specs.declared.histories.Entry.{Entry}
 use Rattle.shore_model.specs.declared.histories.Opening.{Opening}
-use Rattle.shore_model.specs.declared.holds.Hold.{Hold}
 use Rattle.shore_model.specs.declared.log_records.LogRecord.{LogRecord}
 use Rattle.shore_model.specs.declared.requests.Request.{Request}
 use Rattle.shore_locks.proofs.LawLemmas.{released_own}
@@ -25,14 +24,11 @@ use Rattle.shore_locks.specs.Grants.{released}
 use Rattle.shore_locks.specs.Laws.{of_others, owners}
 use Rattle.shore_locks.specs.Orderly.{IsOrderly}
 use Rattle.shore_locks.specs.Tables.{Table, is_waiting}
-use Rattle.shore_path.proofs.Freeing.{weaker_released}
-use Rattle.shore_path.proofs.Holding.{enough_of, holder_from_lock, holder_of, lock_from_holder}
 use Rattle.shore_path.proofs.Reached.{waits_after}
 use Rattle.shore_path.specs.Walks.{acquired}
 use Rattle.shore_path.specs.declared.answers.Acquired.TheVariants as acquire
 use Rattle.shore_path.specs.declared.answers.OnConflict.{OnConflict}
 use Rattle.laws_locks.proofs.Held.{gone_of}
-use Rattle.laws_lives.specs.SessionSteps.{KeepsLocks}
 use Rattle.laws_lives.specs.Sessions.{SessionTxn}
 use Rattle.laws_lives.specs.Views.{IsAmong}
 use Rattle.shore_model.specs.declared.step.Step.{Step}
@@ -41,17 +37,18 @@ use Rattle.shore_model.specs.declared.step.Wait.{Wait}
 use Rattle.shore_model.specs.declared.step.Wait.TheVariants.{Durable, Lock}
 use Rattle.laws_calls.proofs.AcquireAnswers.{outcome_by}
 use Rattle.laws_calls.proofs.Decided.{both_ways}
-use Rattle.laws_calls.proofs.SessionInversions.{durable_no_lock}
+use Rattle.laws_calls.proofs.SessionInversions.{durable_no_lock, committed_in}
 use Rattle.laws_calls.proofs.SessionResumes.{WaitsWhole}
 use Rattle.laws_calls.proofs.SessionStates.{waits_whole}
-use Rattle.laws_calls.proofs.Sessions.{one_txn, committed_seat, parted, seat_apart, committed_above}
+use Rattle.laws_calls.proofs.Sessions.{one_txn}
 use Rattle.laws_calls.specs.Events.{Forced, IsStateAfter, EventMoves}
 use Rattle.laws_calls.specs.StateChanges.{wait_refused}
-use Rattle.laws_calls.specs.CallSteps.{CallGoesOn, MayAsk, ResumesCall, ResumesWait, CallStep, ResumeStep, commit_ended, on_conflict_of}
+use Rattle.laws_calls.specs.CallSteps.{CallGoesOn, MayAsk, ResumesCall, ResumesWait, CallStep, ResumeStep, on_conflict_of, CommitStep}
 use Rattle.laws_calls.specs.LockedStates.{IsSessionsState}
 use Rattle.laws_calls.specs.Shapes.{ForItsTxn, WaitsOnLocks, WaitsOnRecords}
 use Rattle.laws_calls.specs.States.{DoesNotWait, IsOfSession, State, Waiting, without_waiting}
-use Rattle.laws_calls.proofs.SessionsWaiting.{resolver_outside}
+use Rattle.shore_model.specs.Requests.{held_by_all}
+use Rattle.shore_model.specs.declared.calls.Call.TheVariants as call
 
 waits_no_done : (wait : Wait) (answer : Answer) → Done answer ≡ Waits wait → ⊥
 waits_no_done wait answer e = cc
@@ -123,32 +120,31 @@ module _ (g : Geometry) (s new : State) (session : ℕ) where
       none : (v : Waiting) (wait : Wait) → ResumesWait g s v wait Nothing new → ⊥
       none v (Durable n) (inl x) = let clash = x.1 in cc
       none v (Durable n) (inr (inl x)) = let clash = x.1 in cc
-      none v (Durable n) (inr (inr (inl x))) = let clash = x.1 in cc
-      none v (Durable n) (inr (inr (inr x))) = let clash = x.1 in cc
+      none v (Durable n) (inr (inr x)) = let clash = x.1 in cc
       none v (Lock at) x = ⊎_elim (λ still. let clash = still.1 in cc) (λ goes. goes.1) x.2
 
-  -- ---- of a commit
+  -- ---- of a prepare or a resolve
 
   pub done_though_not_durable : (answer : Answer) → WaitsOnRecords s session (λ n. s.durable < n) → ResumesTo (Done answer) → ⊥
   done_though_not_durable answer on h =
       let t = done answer h in
       let r = on_record (λ n. s.durable < n) on (Done answer) t (runs (Done answer) (λ e. cc) t.waited t.how).1 in
-      ⊎_elim (λ still. waits_no_done (Durable r.0) answer still.1) (⊎_elim (λ ends. let le = ends.0 in let less = r.1 in omega arith) (⊎_elim (λ ends. let le = ends.0 in let less = r.1 in omega arith) (λ ends. let le = ends.0 in let less = r.1 in omega arith))) r.2
+      ⊎_elim (λ still. waits_no_done (Durable r.0) answer still.1) (⊎_elim (λ ends. let le = ends.0 in let less = r.1 in omega arith) (λ ends. let le = ends.0 in let less = r.1 in omega arith)) r.2
 
   pub waits_though_durable : (wait : Wait) → WaitsOnRecords s session (λ n. n ≤ s.durable) → ResumesTo (Waits wait) → ⊥
   waits_though_durable wait on h =
       let t = waits wait h in
       let r = on_record (λ n. n ≤ s.durable) on (Waits wait) t (runs (Waits wait) (λ e. cc) t.waited t.how).1 in
-      ⊎_elim (λ still. let less = still.0 in let le = r.1 in omega arith) (⊎_elim (λ ends. waits_no_done wait Committed (sym ends.1)) (⊎_elim (λ ends. waits_no_done wait Prepared (sym ends.1)) (λ ends. waits_no_done wait Resolved (sym ends.1)))) r.2
+      ⊎_elim (λ still. let less = still.0 in let le = r.1 in omega arith) (⊎_elim (λ ends. waits_no_done wait Prepared (sym ends.1)) (λ ends. waits_no_done wait Resolved (sym ends.1))) r.2
 
-  pub commit_refused : (f : Fault) → s.failed ≡ false → WaitsOnRecords s session (λ n. Unit {0}) → ResumesTo (Refused f) → ⊥
-  commit_refused f running on h =
+  pub decision_refused : (f : Fault) → s.failed ≡ false → WaitsOnRecords s session (λ n. Unit {0}) → ResumesTo (Refused f) → ⊥
+  decision_refused f running on h =
       let t = refused f h in
       ⊎_elim
       (λ failed. both_ways s.failed failed.0 running)
       (λ runs.
       let r = on_record (λ n. Unit {0}) on (Refused f) t runs.1 in
-      ⊎_elim (λ still. let clash = still.1 in cc) (⊎_elim (λ ends. let clash = ends.1 in cc) (⊎_elim (λ ends. let clash = ends.1 in cc) (λ ends. let clash = ends.1 in cc))) r.2)
+      ⊎_elim (λ still. let clash = still.1 in cc) (⊎_elim (λ ends. let clash = ends.1 in cc) (λ ends. let clash = ends.1 in cc)) r.2)
       t.how
 
   pub waits_for_other : (n : ℕ) → ((w : Waiting) → IsAmong w s.waiting → w.session ≡ session → w.wait ≢ Durable n) → ResumesTo (Waits (Durable n)) → ⊥
@@ -158,9 +154,8 @@ module _ (g : Geometry) (s new : State) (session : ℕ) where
     where
       its : (wait : Wait) → ResumesWait g s (waits (Durable n) h).waited wait (Waits (Durable n)) new → wait ≡ Durable n
       its (Durable m) (inl x) = sym (same_wait (Durable n) (Durable m) x.1)
-      its (Durable m) (inr (inl x)) = absurd (waits_no_done (Durable n) Committed (sym x.1))
-      its (Durable m) (inr (inr (inl x))) = absurd (waits_no_done (Durable n) Prepared (sym x.1))
-      its (Durable m) (inr (inr (inr x))) = absurd (waits_no_done (Durable n) Resolved (sym x.1))
+      its (Durable m) (inr (inl x)) = absurd (waits_no_done (Durable n) Prepared (sym x.1))
+      its (Durable m) (inr (inr x)) = absurd (waits_no_done (Durable n) Resolved (sym x.1))
       its (Lock at) x =
           ⊎_elim
           (λ still. absurd (durable_no_lock n at (same_wait (Durable n) (Lock at) still.1)))
@@ -277,40 +272,24 @@ gone t rs orderly =
     (subst (All (λ (k : ℕ × Granule). k.0 ≢ t)) (sym (released_own rs t orderly.one_each))
     (All-map (λ (k : ℕ × Granule). k.0 ≢ t) (λ (r : Request). (r.txn, r.granule)) (of_others t rs) (not_of t rs)))
 
-module _ (g : Geometry) (o : Opening) (found : List LogRecord) (es : List Entry) (s new : State) (after : IsStateAfter o found es s) (session : ℕ) (a : SessionTxn)
-    (mem : IsAmong a s.sessions.committing) (of : a.session ≡ session) (answer : Answer) (h : ResumeStep g s session (Done answer) new) where
-  pub ends : new ≡ commit_ended s a
-  ends = by t.waited.wait (runs g s new session (Done answer) (λ e. cc) t.waited t.how).1
-    where
-      t : Resumed g s new session (Done answer)
-      t = done g s new session answer h
+-- a commit is answered
+module _ (g : Geometry) (o : Opening) (found : List LogRecord) (es : List Entry) (s new : State) (after : IsSessionsState o found es s) (session : ℕ) (a : SessionTxn) (of : IsOfSession s session a)
+    (answer : Answer) (h : CallStep g s session call.Commit (Done answer) new) where
+  its_txn_ends : (t : (b : SessionTxn) × IsOfSession s session b × (b.undo.rolling ≡ None) × CommitStep s b (Done answer) new) → (new.locks.requests ≡ released a.txn s.locks.requests) × (new.sessions.held ≡ held_by_all (released a.txn s.locks.requests))
+  its_txn_ends t =
+      let same : t.0.txn ≡ a.txn = one_txn s.sessions t.0 a t.1.0.1 of.0.1 (t.1.1 ∙ sym of.1) in (
+        ap (λ (x : State). x.locks.requests) t.3.1 ∙ ap (λ n. released n s.locks.requests) same,
+        ap (λ (x : State). x.sessions.held) t.3.1 ∙ ap (λ n. held_by_all (released n s.locks.requests)) same,
+      )
 
-      same : (b : SessionTxn) → IsAmong b s.sessions.committing → b.session ≡ t.waited.session → commit_ended s b ≡ commit_ended s a
-      same b m is =
-          ap (λ (n : ℕ). commit_ended s (record { session = b.session; txn = n; undo = a.undo })) (one_txn s.sessions b a (committed_seat after.sessions b m) (committed_seat after.sessions a mem) (is ∙ t.of ∙ sym of))
-          ∙ ap (λ (n : ℕ). commit_ended s (record { session = n; txn = a.txn; undo = a.undo })) (is ∙ t.of ∙ sym of)
-
-      by : (wait : Wait) → ResumesWait g s t.waited wait (Done answer) new → new ≡ commit_ended s a
-      by (Durable n) (inl x) = absurd (waits_no_done (Durable n) answer x.1)
-      by (Durable n) (inr (inl x)) = x.2.3 ∙ same x.2.0 x.2.1 x.2.2
-      by (Durable n) (inr (inr (inr x))) =
-          absurd (resolver_outside (length found) s t.waited x.2.0.global x.2.0.outcome (after.waits.each t.waited t.there) x.2.2 a.txn (committed_above after.sessions a mem)
-          (ap s.sessions.seats (t.of ∙ sym of) ∙ committed_seat after.sessions a mem))
-      by (Durable n) (inr (inr (inl x))) = absurd (seat_apart (committed_seat after.sessions a mem) (ap s.sessions.seats (of ∙ sym t.of) ∙ x.2.2.1))
-      by (Lock at) x = absurd (parted after.sessions x.0 a x.1.0.0 mem (one_txn s.sessions x.0 a x.1.0.1 (committed_seat after.sessions a mem) (x.1.1 ∙ t.of ∙ sym of)))
+  left : (new.locks.requests ≡ released a.txn s.locks.requests) × (new.sessions.held ≡ held_by_all (released a.txn s.locks.requests))
+  left = its_txn_ends (committed_in g s new session answer h)
 
   pub no_lock_left : All (λ h. h.txn ≢ a.txn) new.sessions.held
-  no_lock_left = subst (λ (s : State). All (λ h. h.txn ≢ a.txn) s.sessions.held) (sym ends) (gone_of s.locks.requests a.txn after.sessions.locks.orderly)
+  no_lock_left = subst (All (λ h. h.txn ≢ a.txn)) (sym left.1) (gone_of s.locks.requests a.txn after.locks.orderly)
 
   pub no_request_left : All (λ r. r.txn ≢ a.txn) new.locks.requests
-  no_request_left = subst (λ (s : State). All (λ r. r.txn ≢ a.txn) s.locks.requests) (sym ends) (gone a.txn s.locks.requests after.sessions.locks.orderly)
-
-  pub others_keep : (u : ℕ) → u ≢ a.txn → KeepsLocks s.sessions.held new.sessions.held u
-  others_keep u other m at held =
-      let was = holder_from_lock u at m s.locks.requests (subst (λ (l : List Hold). HoldsAtLeast l u m at) after.sessions.locks.held held) in
-      let enough = weaker_released a.txn s.locks.requests after.sessions.locks.orderly u at m other (enough_of u at m s.locks.requests after.sessions.locks.orderly.one_each was) in
-      subst (λ (s : State). HoldsAtLeast s.sessions.held u m at) (sym ends)
-      (lock_from_holder u at m (released a.txn s.locks.requests) (holder_of u at m (released a.txn s.locks.requests) enough))
+  no_request_left = subst (All (λ r. r.txn ≢ a.txn)) (sym left.0) (gone a.txn s.locks.requests after.locks.orderly)
 
 -- ---- forces
 

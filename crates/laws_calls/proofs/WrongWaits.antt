@@ -19,7 +19,6 @@ use Rattle.shore_model.specs.declared.step.Wait.TheVariants.{Durable, Lock}
 use Rattle.laws_calls.proofs.AcquireAnswers.{try_never_waits}
 use Rattle.laws_calls.proofs.Decided.{both_ways}
 use Rattle.laws_calls.proofs.SessionInversions.{waits_on_lock, waits_on_record, waits_of, waits_running, no_waits_refused}
-use Rattle.laws_calls.specs.StateChanges.{committed}
 use Rattle.laws_calls.specs.CallSteps.{CallStep, lock_outcome, InnerStep, NeedsTxn}
 use Rattle.laws_calls.specs.Shapes.{ForItsTxn}
 use Rattle.laws_calls.specs.States.{HasNoTxn, State, Waiting, next_number, IsOfSession}
@@ -43,21 +42,21 @@ module _ (g : Geometry) (s new : State) (session : ℕ) where
   abbrev WaitsFor : Call → Wait → Type 0
   WaitsFor c wait = CallStep g s session c (Waits wait) new
 
-  -- a commit goes last in the log, and waits for its record
-  appended : (wait : Wait) → WaitsFor call.Commit wait → (a : SessionTxn) × (wait ≡ Durable (next_number s)) × (new ≡ committed s a)
-  appended wait h = let t = waits_of g s new session call.Commit wait tt h in let k = by t.0 t.2 in (t.0, k.0, k.1)
+  -- a commit never waits
+  pub commit_waits : (wait : Wait) → WaitsFor call.Commit wait → ⊥
+  commit_waits wait h = let t = waits_of g s new session call.Commit wait tt h in by t.0 t.2
     where
-      by : (a : SessionTxn) → InnerStep g s a call.Commit (Waits wait) new → (wait ≡ Durable (next_number s)) × (new ≡ committed s a)
-      by a (inl x) = absurd (no_waits_refused wait fault.MustAbort x.2)
+      by : (a : SessionTxn) → InnerStep g s a call.Commit (Waits wait) new → ⊥
+      by a (inl x) = no_waits_refused wait fault.MustAbort x.2
       by a (inr (inl (whole, inl x))) = absurd x.1
       by a (inr (inl (whole, inr (inl x)))) = absurd x.0
-      by a (inr (inl (whole, inr (inr (inl x))))) = x.1
+      by a (inr (inl (whole, inr (inr (inl x))))) = absurd x.1
       by a (inr (inl (whole, inr (inr (inr (inl x)))))) = absurd x.1
-      by a (inr (inl (whole, inr (inr (inr (inr x)))))) = let clash = x.1 in absurd cc
+      by a (inr (inl (whole, inr (inr (inr (inr x)))))) = let clash = x.1 in cc
       by a (inr (inr (inl x))) = absurd x.3
       by a (inr (inr (inr x))) = absurd x.1
 
-  -- so does a prepare
+  -- a prepare goes last in the log, and waits for its record
   pub prepare_appended : (global : List ℕ) (wait : Wait) → WaitsFor (call.Prepare global) wait → (a : SessionTxn) × IsOfSession s session a × PrepareStep s a global (Waits wait) new
   prepare_appended global wait h = let t = waits_of g s new session (call.Prepare global) wait tt h in (t.0, t.1, by t.0 t.2)
     where
@@ -74,23 +73,6 @@ module _ (g : Geometry) (s new : State) (session : ℕ) where
       by a (inr (inr (inl x))) = absurd x.3
       by a (inr (inr (inr x))) = absurd x.1
 
-  pub append_keeps_all : (wait : Wait) → new.locks ≢ s.locks → WaitsFor call.Commit wait → ⊥
-  append_keeps_all wait other h = other (ap (λ (s : State). s.locks) (appended wait h).2)
-
-  pub append_holds_all : (wait : Wait) → new.sessions.held ≢ s.sessions.held → WaitsFor call.Commit wait → ⊥
-  append_holds_all wait other h = other (ap (λ (s : State). s.sessions.held) (appended wait h).2)
-
-  pub append_unlogged : (wait : Wait) → new.log ≡ s.log → WaitsFor call.Commit wait → ⊥
-  append_unlogged wait same h =
-      let t = appended wait h in
-      let e = ap (λ (s : State). length s.log) t.2 in
-      let longer = length-push s.log (record { txn = t.0.txn; previous = previous_of t.0.txn s.log; payload = payload.Commit }) in
-      let long = ap length same in
-      omega arith
-
-  pub waits_for_other_record : (wait : Wait) → wait ≢ Durable (next_number s) → WaitsFor call.Commit wait → ⊥
-  waits_for_other_record wait other h = other (appended wait h).1
-
   pub prepare_for_other_record : (global : List ℕ) (wait : Wait) → wait ≢ Durable (next_number s) → WaitsFor (call.Prepare global) wait → ⊥
   prepare_for_other_record global wait other h = other (prepare_appended global wait h).2.3
 
@@ -105,10 +87,7 @@ module _ (g : Geometry) (s new : State) (session : ℕ) where
   -- any other call waits for a lock, where its acquire does
   pub waits_for_no_decision : (t : ℕ) (c : Call) (n : ℕ) → decision_asked_by t c ≡ None → WaitsFor c (Durable n) → ⊥
   waits_for_no_decision t c n none h = ⊎_elim
-      (λ its. ⊎_elim
-      (λ commit. let clash : decision_asked_by t call.Commit ≡ None = subst (λ (x : Call). decision_asked_by t x ≡ None) commit.0 none in cc)
-      (λ prepare. let clash : decision_asked_by t (call.Prepare prepare.0) ≡ None = subst (λ (x : Call). decision_asked_by t x ≡ None) prepare.1 none in cc)
-      its.3)
+      (λ its. let clash : decision_asked_by t (call.Prepare its.3.0) ≡ None = subst (λ (x : Call). decision_asked_by t x ≡ None) its.3.1 none in cc)
       (⊎_elim
       (λ commit. let clash : decision_asked_by t (call.Resolve commit.global outcome.Commit) ≡ None = subst (λ (x : Call). decision_asked_by t x ≡ None) commit.is none in cc)
       (λ back. let clash : decision_asked_by t (call.Resolve back.global outcome.Abort) ≡ None = subst (λ (x : Call). decision_asked_by t x ≡ None) back.is none in cc))

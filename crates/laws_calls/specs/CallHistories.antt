@@ -16,6 +16,7 @@ use Rattle.shore_locks.specs.Tables.{is_waiting}
 use Rattle.shore_path.specs.Rooted.{AreRooted}
 use Rattle.laws_lives.specs.LogPrefixes.{decisions_in}
 use Rattle.laws_lives.specs.Sessions.{Sessions, in_use}
+use Rattle.laws_lives.specs.Tickets.{AreTickets}
 use Rattle.laws_lives.specs.WholeLogs.{IsOpenOn}
 use Rattle.laws_room.specs.Claims.{Claimed}
 use Rattle.laws_room.specs.LogRooms.{HasLogRoom}
@@ -44,11 +45,12 @@ answered_under s session _ = txn_of s session
 
 -- ---- what holds after it
 
--- each acknowledged decision has its record among the durable ones, behind the base
+-- each acknowledged decision has its record among the durable ones, behind the base, and each ticket is the number of its Commit there
 pub record IsForced (base : ℕ) (es : List Entry) (s : State) : Type 0 where
   pub least : base ≤ s.durable
   pub most : s.durable ≤ length s.log
   pub acknowledged_kept : All (Contains (decisions_in base (take s.durable s.log))) (acknowledged es)
+  pub tickets : AreTickets base s.log es
 
 -- its pages have room for all that stands and for all that may come back, and so has the log
 pub record IsRoomyState (s : State) : Type 0 where

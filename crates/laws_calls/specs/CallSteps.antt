@@ -34,8 +34,8 @@ use Rattle.laws_locks.specs.CallLocks.{Asked, CanLockNow, lock_asked_by}
 use Rattle.laws_room.specs.Choosing.{IsLowest}
 use Rattle.laws_room.specs.Claims.{SlotCounts}
 use Rattle.laws_lives.specs.Logged.{log_after}
-use Rattle.laws_lives.specs.SessionSteps.{AnswerAbort, AnswerCommit, AnswerPrepare, entries_by}
-use Rattle.laws_lives.specs.Sessions.{ResolvedTxn, SessionTxn, Sessions, abort_answered, commit_answered, in_prepared, prepare_answered, seated, txns_of}
+use Rattle.laws_lives.specs.SessionSteps.{AnswerAbort, AnswerPrepare, entries_by}
+use Rattle.laws_lives.specs.Sessions.{ResolvedTxn, SessionTxn, Sessions, abort_answered, in_prepared, prepare_answered, seated, txns_of}
 use Rattle.laws_lives.specs.Views.{IsAmong}
 use Rattle.shore_model.specs.declared.step.Step.{Step}
 use Rattle.shore_model.specs.declared.step.Step.TheVariants.{Done, Nothing, Refused, Waits}
@@ -262,9 +262,9 @@ ended_among active rs = filter (λ r. not (list_any (λ a. a.txn == r.txn) activ
 abbrev pub HasEnded : Sessions → ResolvedTxn → Type 0
 HasEnded s r = IsAmong r s.resolving × (IsAmong r.txn (txns_of s.active) → ⊥)
 
--- the transactions in the table: those under way, and those that are decided and not answered
+-- the transactions in the table: those under way, and those that a resolve has decided and not answered
 abbrev pub txn_count : State → ℕ
-txn_count s = length s.sessions.active + length s.sessions.committing + length (ended_among s.sessions.active s.sessions.resolving)
+txn_count s = length s.sessions.active + length (ended_among s.sessions.active s.sessions.resolving)
 
 abbrev pub BeginStep : State → ℕ → Step → State → Type 0
 BeginStep s session (Done answer) new =
@@ -276,9 +276,10 @@ BeginStep s session (Refused f) new =
     ⊎ ((f ≡ fault.LogFull) × HasNoTxn s session × (txn_count s < MAX_TRANSACTIONS) × ¬ MayBegin s)) × (new ≡ s)
 BeginStep s session Nothing new = ⊥
 
+-- a commit is answered at once, with the number of its record
 abbrev pub CommitStep : State → SessionTxn → Step → State → Type 0
-CommitStep s a (Waits wait) new = (wait ≡ Durable (next_number s)) × (new ≡ committed s a)
-CommitStep s a (Done answer) new = ⊥
+CommitStep s a (Done answer) new = (answer ≡ Committed (next_number s)) × (new ≡ committed s a)
+CommitStep s a (Waits wait) new = ⊥
 CommitStep s a (Refused f) new = ⊥
 CommitStep s a Nothing new = ⊥
 
@@ -363,13 +364,6 @@ CallStep g s session c step new =
     ⊎ ((s.failed ≡ false) × DoesNotWait s session × NeedsTxn c × HasPrepared s session × (step ≡ Refused fault.IsPrepared) × (new ≡ s))
     ⊎ ((s.failed ≡ false) × DoesNotWait s session × OutsideStep s session c step new)
 
--- the commit is answered, and then its locks go
-abbrev pub commit_ended : State → SessionTxn → State
-commit_ended s a =
-    with_requests
-    (record s { sessions = seated s.sessions (entries_by s.sessions (AnswerCommit a)) (commit_answered s.sessions a); waiting = without_waiting a.session s.waiting })
-    (released a.txn s.locks.requests)
-
 -- the Prepare of the session's transaction is appended, under this global id, and it is not answered
 abbrev pub IsPreparing : Sessions → ℕ → ℕ → List ℕ → Type 0
 IsPreparing s session t global = IsAmong (record { txn = t; global = global; answered = false }) s.prepared × (s.seats session ≡ in_prepared t)
@@ -381,12 +375,11 @@ prepare_ended s session t global = record s {
   waiting = without_waiting session s.waiting;
 }
 
--- Going on with a call that waits for this. While its record is not durable, or its request still waits, nothing is done. A commit, a prepare or a resolve is
--- answered then, and a call goes on from its locks as if it were made now.
+-- Going on with a call that waits for this. While its record is not durable, or its request still waits, nothing is done. A prepare or a resolve is answered
+-- then, and a call goes on from its locks as if it were made now.
 abbrev pub ResumesWait : Geometry → State → Waiting → Wait → Step → State → Type 0
 ResumesWait g s w (Durable n) step new =
     ((s.durable < n) × (step ≡ Waits (Durable n)) × (new ≡ s))
-    ⊎ ((n ≤ s.durable) × (step ≡ Done Committed) × ((a : SessionTxn) × IsAmong a s.sessions.committing × (a.session ≡ w.session) × (new ≡ commit_ended s a)) × (w.call ≡ call.Commit))
     ⊎ ((n ≤ s.durable) × (step ≡ Done Prepared)
     × ((t : ℕ) × (global : List ℕ) × IsPreparing s.sessions w.session t global × (w.call ≡ call.Prepare global) × (new ≡ prepare_ended s w.session t global)))
     ⊎ ((n ≤ s.durable) × (step ≡ Done Resolved)

@@ -1,9 +1,10 @@
 -- What happens to a manager whose sessions take locks: the calls that are served, runs of events, and the entries that they add to the history.
-use Rattle.std.specs.Prelude.{◌≡◌, ◌≤◌, ◌==◌, ℕ, List, [], ◌∷◌, ◌++◌, Option, None, Some, if◌then◌else◌, length}
+use Rattle.std.specs.Prelude.{◌≡◌, ◌≤◌, ◌==◌, ◌↔◌, ℕ, List, [], ◌∷◌, ◌++◌, Bool, true, Option, None, Some, if◌then◌else◌, length}
 use Rattle.shore_types.specs.declared.layout.Geometry.{Geometry}
 use Rattle.shore_types.specs.declared.layout.TheConstants.{MAX_TRANSACTIONS}
 use Rattle.shore_model.specs.declared.calls.Call.{Call}
 use Rattle.shore_model.specs.declared.histories.Entry.{Entry}
+use Rattle.shore_model.specs.declared.histories.Entry.TheVariants.{Asked}
 use Rattle.shore_model.specs.declared.histories.Opening.{Opening}
 use Rattle.shore_model.specs.declared.log_records.LogRecord.{LogRecord}
 use Rattle.shore_model.specs.declared.step.Step.{Step}
@@ -18,18 +19,21 @@ use Rattle.laws_calls.specs.States.{State, Waiting}
 
 -- ---- events
 
--- what happens to a manager: a call and a resume of a session, each with what it came to; a force that is told; a device's failure
+-- what happens to a manager: a call and a resume of a session, each with what it came to; a force that is told; a device's failure; and whether a ticket is
+-- durable is asked, with the answer
 pub data ManagerEvent : Type 0 where
   Called : ℕ → Call → Step → ManagerEvent
   Resumed : ℕ → Step → ManagerEvent
   Forced : ℕ → ManagerEvent
   HasFailed : ManagerEvent
+  TicketAsked : ℕ → Bool → ManagerEvent
 
 abbrev pub EventMoves : Geometry → State → ManagerEvent → State → Type 0
 EventMoves g s (Called session c step) new = IsServed c × SettledCall g s session c step new
 EventMoves g s (Resumed session step) new = SettledResume g s session step new
 EventMoves g s (Forced n) new = (s.durable ≤ n) × (n ≤ length s.log) × (new ≡ with_durable n s)
 EventMoves g s HasFailed new = new ≡ with_failure s
+EventMoves g s (TicketAsked ticket answer) new = ((answer ≡ true) ↔ (ticket ≤ s.durable)) × (new ≡ s)
 
 -- events may, one after another, leave this
 abbrev pub EventsMove : Geometry → State → List ManagerEvent → State → Type 0
@@ -56,6 +60,7 @@ entries_of s (Called session c step) new = entries_of_call s session c step new
 entries_of s (Resumed session step) new = entries_of_resume s session step
 entries_of s (Forced n) new = []
 entries_of s HasFailed new = []
+entries_of s (TicketAsked ticket answer) new = Asked ticket answer ∷ []
 
 -- the events lead to the state, and make the entries
 abbrev pub MovesMaking : Geometry → State → List ManagerEvent → State → List Entry → Type 0
@@ -66,7 +71,7 @@ MovesMaking g s (e ∷ events) last made = (new : State) × (later : List Entry)
 -- ---- what holds after it
 
 -- The state is what a manager has come to that was opened on this list, after these entries: its sessions, log and locks are, its calls wait truly,
--- what was acknowledged is durable, and there are no more transactions than there may be.
+-- what was acknowledged is durable and each ticket is the number of its Commit, and there are no more transactions than there may be.
 pub record IsStateAfter (o : Opening) (found : List LogRecord) (es : List Entry) (s : State) : Type 0 where
   pub sessions : IsSessionsState o found es s
   pub waits : WaitsOfSessions (length found) s

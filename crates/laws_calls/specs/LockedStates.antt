@@ -1,6 +1,8 @@
 -- What holds of the sessions of a manager and of its lock table after a history, while calls take locks.
 use Rattle.std.specs.Prelude.{◌≡◌, ◌<◌, ℕ, List, [], ◌∷◌, ◌++◌, Ok, Err, All, false, true, length, map}
 use Rattle.shore_model.specs.declared.calls.Call.{Call}
+use Rattle.shore_model.specs.declared.calls.Call.TheVariants as call
+use Rattle.shore_model.specs.declared.histories.Decision.TheVariants as decision
 use Rattle.shore_model.specs.declared.histories.Entry.{Entry}
 use Rattle.shore_model.specs.declared.histories.Opening.{Opening}
 use Rattle.shore_model.specs.declared.histories.Entry.TheVariants.{Decided, Exchanged}
@@ -37,9 +39,15 @@ abbrev pub entries_of_wait : State → State → Wait → List Entry
 entries_of_wait s new (Durable n) = decisions_made s new
 entries_of_wait s new (Lock at) = []
 
--- What a call of a session adds to the history: its reply, or what it has decided and waits for; a resolve that is interrupted may have decided to roll back.
+-- what a call has decided that is answered at once: a commit its transaction's
+abbrev pub decided_at_once : ℕ → Call → List Entry
+decided_at_once t call.Commit = Decided (decision.Commit t) ∷ []
+decided_at_once t _ = []
+
+-- What a call of a session adds to the history: its reply, behind what it has decided; or what it has decided and waits for. A resolve that is interrupted may have
+-- decided to roll back.
 abbrev pub entries_of_call : State → ℕ → Call → Step → State → List Entry
-entries_of_call s session c (Done answer) new = Exchanged session (answered_under s.sessions session c) (exchange c (Ok answer)) ∷ []
+entries_of_call s session c (Done answer) new = decided_at_once (txn_of s.sessions session) c ++ Exchanged session (answered_under s.sessions session c) (exchange c (Ok answer)) ∷ []
 entries_of_call s session c (Refused fault) new = decisions_made s new ++ Exchanged session (txn_of new.sessions session) (exchange c (Err fault)) ∷ []
 entries_of_call s session c (Waits wait) new = entries_of_wait s new wait
 entries_of_call s session c Nothing new = []

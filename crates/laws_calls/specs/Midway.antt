@@ -1,5 +1,5 @@
 -- The states that a call or a resume comes by before it ends: behind each victim that is taken, and behind each time that the call goes on and waits anew.
-use Rattle.std.specs.Prelude.{◌≡◌, ◌⊎◌, ◌≤◌, ℕ, List, [], ◌∷◌, Some, All, Contains, true}
+use Rattle.std.specs.Prelude.{◌≡◌, ◌⊎◌, ◌≤◌, ℕ, List, [], ◌∷◌, Some, All, true}
 use Rattle.shore_types.specs.declared.layout.Geometry.{Geometry}
 use Rattle.shore_types.specs.declared.locking.Granule.{Granule}
 use Rattle.shore_model.specs.declared.calls.Call.{Call}
@@ -14,7 +14,6 @@ use Rattle.shore_model.specs.declared.step.Wait.TheVariants.{Lock}
 use Rattle.laws_calls.specs.CallSteps.{CallStep, ResumeStep}
 use Rattle.laws_calls.specs.Settling.{WaitsForNoLock}
 use Rattle.laws_calls.specs.StateChanges.{wait_refused}
-use Rattle.laws_lives.specs.Views.{IsAmong}
 use Rattle.laws_calls.specs.States.{IsOfSession, State}
 use Rattle.laws_calls.specs.Victims.{TakesVictim, TellsVictim, Withdraws}
 

@@ -24,11 +24,10 @@ use Rattle.laws_calls.specs.States.{HasSeat, IsOfSession, State, Waiting}
 abbrev pub IsNotUnderWay : Sessions → ℕ → Type 0
 IsNotUnderWay s session = (t : ℕ) → 0 < t → s.seats session ≢ in_txn t
 
--- a commit, a prepare or a resolve has decided this, and is not answered
+-- a prepare or a resolve has decided this, and is not answered
 abbrev pub IsUnanswered : Sessions → ℕ → Call → Decision → Type 0
 IsUnanswered s session c d =
-    ((a : SessionTxn) × IsAmong a s.committing × (a.session ≡ session) × (c ≡ call.Commit) × (d ≡ decision.Commit a.txn))
-    ⊎ ((t : ℕ) × (global : List ℕ) × IsPreparing s session t global × (c ≡ call.Prepare global) × (d ≡ decision.Prepare t global))
+    ((t : ℕ) × (global : List ℕ) × IsPreparing s session t global × (c ≡ call.Prepare global) × (d ≡ decision.Prepare t global))
     ⊎ ((r : ResolvedTxn) × HasEnded s r × (c ≡ call.Resolve r.global r.outcome) × (d ≡ decision_asked r.txn r.outcome) × IsNotUnderWay s session)
 
 -- it waits for its record, which the log has
@@ -53,12 +52,11 @@ pub record IsLockWait (s : State) (w : Waiting) : Type 0 where
   pub lock : Asked
   pub asked : lock_asked_by w.call ≡ Some lock
 
--- Each call that waits is a commit, a prepare, a resolve, or a call that asks for a lock, a session waits with one, and as long as no device has failed each
--- transaction that is committed, prepared or resolved, and not answered, has such a call; a resolved one has no two.
+-- Each call that waits is a prepare, a resolve, or a call that asks for a lock, a session waits with one, and as long as no device has failed each transaction
+-- that is prepared or resolved, and not answered, has such a call; a resolved one has no two. A commit never waits.
 pub record WaitsOfSessions (base : ℕ) (s : State) : Type 0 where
   pub each : (w : Waiting) → IsAmong w s.waiting → IsDecisionWait base s w ⊎ IsLockWait s w
   pub once : (v w : Waiting) → IsAmong v s.waiting → IsAmong w s.waiting → v.session ≡ w.session → v ≡ w
-  pub all : s.failed ≡ false → (a : SessionTxn) → IsAmong a s.sessions.committing → (n : ℕ) × IsAmong (decision_waiting a.session call.Commit n) s.waiting
   pub prepares : s.failed ≡ false → (p : PreparedTxn) → IsAmong p s.sessions.prepared → p.answered ≡ false
       → (session : ℕ) × (n : ℕ) × IsAmong (decision_waiting session (call.Prepare p.global) n) s.waiting × (s.sessions.seats session ≡ in_prepared p.txn)
   pub resolves : s.failed ≡ false → (r : ResolvedTxn) → HasEnded s.sessions r

@@ -6,6 +6,7 @@ use Rattle.shore_types.specs.declared.layout.Geometry.{Geometry}
 use Rattle.shore_types.specs.declared.locking.Granule.{Granule}
 use Rattle.shore_types.specs.declared.locking.Granule.TheVariants.{Store}
 use Rattle.shore_types.specs.declared.locking.Mode.TheVariants.{IX}
+use Rattle.shore_model.specs.declared.calls.Answer.TheVariants.{Aborted, Committed}
 use Rattle.shore_model.specs.declared.calls.Call.{Call}
 use Rattle.shore_model.specs.declared.calls.Call.TheVariants as call
 use Rattle.shore_model.specs.declared.calls.Outcome.{Outcome}
@@ -22,7 +23,6 @@ use Rattle.laws_calls.specs.CallSteps.{MayAsk, behind_lock}
 use Rattle.laws_calls.specs.Prepares.{granules_in_ex, prepared}
 use Rattle.laws_calls.specs.Resolves.{DecidesRollback, IsResolvable, IsRollingBack, RollsBack, resolve_committed}
 use Rattle.laws_calls.specs.Rollbacks.{Interrupts}
-use Rattle.laws_calls.specs.StateChanges.{committed}
 use Rattle.laws_calls.specs.States.{IsOfSession, State, Waiting, next_number}
 
 -- whichever transaction under way the session is in
@@ -64,6 +64,10 @@ IsNoRefusal Nothing = Unit {0}
 abbrev pub ResolvesNone : Call → Type 0
 ResolvesNone c = (global : List ℕ) (asked : Outcome) → c ≢ call.Resolve global asked
 
+-- a commit or an abort is answered at once, the commit with the number of its record
+abbrev pub EndsAtOnce : State → Call → Step → Type 0
+EndsAtOnce s c step = ((c ≡ call.Abort) × (step ≡ Done Aborted)) ⊎ ((c ≡ call.Commit) × (step ≡ Done (Committed (next_number s))))
+
 -- the call resolves the transaction, which is in doubt, or is being rolled back by an earlier resolve
 abbrev pub ResolvesTxn : State → Call → SessionTxn → Type 0
 ResolvesTxn s c a = (global : List ℕ) × (asked : Outcome) × (c ≡ call.Resolve global asked) × (IsResolvable s a global ⊎ IsRollingBack s a global)
@@ -71,8 +75,7 @@ ResolvesTxn s c a = (global : List ℕ) × (asked : Outcome) × (c ≡ call.Reso
 -- The call has appended the record of what it decides, and waits for that, or an interrupted resolve has appended it before; and this is left.
 abbrev pub WaitsForItsRecord : State → ℕ → Call → ℕ → State → Type 0
 WaitsForItsRecord s session c n new =
-    ((c ≡ call.Commit) × (n ≡ next_number s) × ((a : SessionTxn) × IsOfSession s session a × (new ≡ committed s a)))
-    ⊎ ((global : List ℕ) × (c ≡ call.Prepare global) × (n ≡ next_number s) × ((a : SessionTxn) × IsOfSession s session a × (new ≡ prepared s a global (granules_in_ex s a))))
+    ((global : List ℕ) × (c ≡ call.Prepare global) × (n ≡ next_number s) × ((a : SessionTxn) × IsOfSession s session a × (new ≡ prepared s a global (granules_in_ex s a))))
     ⊎ ((global : List ℕ) × (c ≡ call.Resolve global outcome.Commit) × (n ≡ next_number s)
     × ((a : SessionTxn) × IsResolvable s a global × (new ≡ resolve_committed s session a global)))
     ⊎ ((global : List ℕ) × (c ≡ call.Resolve global outcome.Abort) × ((b : SessionTxn) × (decided : State) × DecidesRollback s global b decided

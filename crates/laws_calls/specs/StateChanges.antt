@@ -1,21 +1,24 @@
 -- What calls and other events leave of a state, and what happens to a manager.
-use Rattle.std.specs.Prelude.{◌≡◌, ◌≢◌, ◌⊎◌, ◌<◌, ◌≤◌, ℕ, List, ◌∷◌, None, Ok, true, length}
+use Rattle.std.specs.Prelude.{◌≡◌, ◌≢◌, ◌⊎◌, ◌<◌, ◌≤◌, ℕ, List, [], ◌∷◌, None, Ok, true, length}
 use Rattle.shore_types.specs.Images.{Image, image_len}
 use Rattle.shore_types.specs.declared.faults.Device.{Device}
 use Rattle.shore_types.specs.declared.faults.Fault.{Fault}
 use Rattle.shore_types.specs.declared.faults.Fault.TheVariants as fault
 use Rattle.shore_types.specs.declared.ids.Rid.{Rid}
 use Rattle.shore_model.specs.declared.calls.Answer.{Answer}
+use Rattle.shore_model.specs.declared.calls.Answer.TheVariants.{Committed}
 use Rattle.shore_model.specs.declared.calls.Call.{Call}
 use Rattle.shore_model.specs.declared.calls.Call.TheVariants as call
+use Rattle.shore_model.specs.declared.histories.Entry.TheVariants.{Exchanged}
 use Rattle.shore_model.specs.declared.log_records.Payload.TheVariants as payload
 use Rattle.shore_model.specs.declared.requests.Request.{Request}
 use Rattle.shore_model.specs.Requests.{held_by_all}
+use Rattle.shore_locks.specs.Grants.{released}
 use Rattle.shore_model.specs.declared.step.Step.{Step}
 use Rattle.shore_model.specs.declared.step.Step.TheVariants.{Done, Waits, Refused, Nothing}
 use Rattle.shore_model.specs.declared.step.Wait.TheVariants.{Durable}
 use Rattle.laws_lives.specs.Logged.{and_record, log_after_answer}
-use Rattle.laws_lives.specs.SessionSteps.{BeginTxn, entries_by}
+use Rattle.laws_lives.specs.SessionSteps.{BeginTxn, entries_by, exchange}
 use Rattle.laws_lives.specs.Sessions.{SessionTxn, commit_appended, locks_moved, reply_given, seated, txn_begun}
 use Rattle.laws_room.specs.Claims.{SlotCounts, Grows}
 use Rattle.laws_calls.specs.States.{State, Waiting, next_number, without_waiting, log_room, page_slots}
@@ -59,13 +62,15 @@ begun s session = record s { sessions = seated s.sessions (entries_by s.sessions
 abbrev pub decision_waiting : ℕ → Call → ℕ → Waiting
 decision_waiting session c n = record { session = session; call = c; wait = Durable n; cycle = None }
 
--- the Commit goes last, and the call waits for its force
+-- the Commit goes last, its locks go with it, and the session is answered, and is in no transaction
 abbrev pub committed : State → SessionTxn → State
-committed s a = record s {
-  sessions = commit_appended s.sessions a;
-  log = and_record a.txn s.log payload.Commit;
-  waiting = decision_waiting a.session call.Commit (next_number s) ∷ s.waiting;
-}
+committed s a =
+    with_requests
+    (record s {
+      sessions = seated s.sessions (Exchanged a.session a.txn (exchange call.Commit (Ok (Committed (next_number s)))) ∷ []) (commit_appended s.sessions a);
+      log = and_record a.txn s.log payload.Commit;
+    })
+    (released a.txn s.locks.requests)
 
 -- the call that waited is refused
 abbrev pub wait_refused : State → ℕ → State

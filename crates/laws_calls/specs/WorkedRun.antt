@@ -1,14 +1,13 @@
--- A run worked by hand over an empty volume: a transaction inserts a record and commits, and the commit is answered once it is durable.
-use Rattle.std.specs.Prelude.{ℕ, List, [], ◌∷◌, false}
+-- A run worked by hand over an empty volume: a transaction inserts a record and commits, and the commit is acknowledged once its ticket is durable.
+use Rattle.std.specs.Prelude.{ℕ, List, [], ◌∷◌, false, true}
 use Rattle.std.specs.FinMap.{empty}
 use Rattle.shore_types.specs.declared.ids.PageId.{PageId}
 use Rattle.shore_types.specs.declared.ids.Rid.{Rid}
 use Rattle.shore_model.specs.declared.calls.Answer.TheVariants.{Began, Committed, Inserted}
 use Rattle.shore_model.specs.declared.calls.Call.TheVariants as call
-use Rattle.shore_model.specs.declared.step.Step.TheVariants.{Done, Waits}
-use Rattle.shore_model.specs.declared.step.Wait.TheVariants.{Durable}
+use Rattle.shore_model.specs.declared.step.Step.TheVariants.{Done}
 use Rattle.laws_lives.specs.WorkedRun.{just_opened}
-use Rattle.laws_calls.specs.Events.{Called, Forced, ManagerEvent, Resumed}
+use Rattle.laws_calls.specs.Events.{Called, Forced, ManagerEvent, TicketAsked}
 use Rattle.laws_calls.specs.States.{State}
 
 -- an open of an empty log, over pages with no slot
@@ -32,5 +31,5 @@ first_id = record { page = first_page; slot = 0 }
 
 abbrev pub one_insert : List ℕ → List ManagerEvent
 one_insert bytes =
-    Called 1 call.Begin (Done (Began 1)) ∷ Called 1 (call.Insert 0 bytes) (Done (Inserted first_id)) ∷ Called 1 call.Commit (Waits (Durable 2))
-    ∷ Forced 2 ∷ Resumed 1 (Done Committed) ∷ []
+    Called 1 call.Begin (Done (Began 1)) ∷ Called 1 (call.Insert 0 bytes) (Done (Inserted first_id)) ∷ Called 1 call.Commit (Done (Committed 2))
+    ∷ TicketAsked 2 false ∷ Forced 2 ∷ TicketAsked 2 true ∷ []

@@ -9,7 +9,7 @@ ghost use Rattle.shore_types.specs.declared.layout.Geometry.{Geometry};
 ghost use Rattle.shore_types.specs.declared.layout.TheConstants.{MAX_RECORD_BYTES, MAX_TRANSACTIONS};
 ghost use Rattle.shore_types.specs.declared.locking.Granule.{Granule};
 ghost use Rattle.shore_model.specs.declared.calls.Answer.{Answer};
-ghost use Rattle.shore_model.specs.declared.calls.Answer.TheVariants.{AreInDoubt, Began, Deleted, Got, Inserted, Locked, Scanned, Updated};
+ghost use Rattle.shore_model.specs.declared.calls.Answer.TheVariants.{AreInDoubt, Began, Committed, Deleted, Got, Inserted, Locked, Scanned, Updated};
 ghost use Rattle.shore_model.specs.declared.calls.Call.{Call};
 ghost use Rattle.shore_model.specs.declared.calls.Call.TheVariants.{Commit, Begin, Delete, Get, GetForUpdate, InDoubt, Insert, Scan, TryLock, Update};
 ghost use Rattle.shore_model.specs.Records.{scan_of};
@@ -26,7 +26,7 @@ ghost use Rattle.shore_model.specs.declared.step.Step.TheVariants.{Done};
 ghost use Rattle.shore_model.specs.declared.step.Wait.TheVariants.{Lock};
 ghost use Rattle.laws_calls.specs.StateChanges.{CanLog, FitsAt};
 ghost use Rattle.laws_calls.specs.CallSteps.{ServesTxn, CallStep, NeedsTxn, lock_outcome, place_outcome, txn_count};
-ghost use Rattle.laws_calls.specs.States.{State, Waiting, HasNoTxn, IsInTxn, MayBegin};
+ghost use Rattle.laws_calls.specs.States.{State, Waiting, next_number, HasNoTxn, IsInTxn, MayBegin};
 ghost use Rattle.shore_types.specs.Locking.{level_of};
 ghost use Rattle.shore_types.specs.declared.locking.Granule.TheVariants.{Record};
 ghost use Rattle.shore_types.specs.declared.locking.Mode.{Mode};
@@ -75,8 +75,10 @@ pub fn wrong_answers_do_not_come()
         IsAmong w s.waiting → w.session ≡ session → CallStep g s session c (Done answer) new → ⊥ }
     ensures after_failure { (g : Geometry) (s new : State) (session : ℕ) (c : Call) (answer : Answer) →
         IsTrue s.failed → CallStep g s session c (Done answer) new → ⊥ }
-    ensures commit_at_once { (g : Geometry) (s new : State) (session : ℕ) (answer : Answer) →
-        CallStep g s session Commit (Done answer) new → ⊥ }
+    ensures commit_told_other { (g : Geometry) (s new : State) (session : ℕ) (answer : Answer) →
+        answer ≢ Committed (next_number s) → CallStep g s session Commit (Done answer) new → ⊥ }
+    ensures commit_unlogged { (g : Geometry) (s new : State) (session : ℕ) (answer : Answer) →
+        new.log ≡ s.log → CallStep g s session Commit (Done answer) new → ⊥ }
     ensures unlocked { (g : Geometry) (s new : State) (session : ℕ) (c : Call) (answer : Answer) (lock : Asked) → lock_asked_by c ≡ Some lock →
         ForItsTxn s session (λ a. (lock_outcome s a c lock).answer ≢ Ok acquire.Done) → CallStep g s session c (Done answer) new → ⊥ }
 {}

@@ -1,5 +1,5 @@
 //! The laws of calls: what each event keeps, and what a history and a crash then have. Each is the contract of an empty function.
-ghost use Rattle.std.specs.Prelude.{◌≡◌, ◌≢◌, ◌⊎◌, ◌<◌, ◌≤◌, ◌∷◌, ◌++◌, ℕ, All, IsSome, IsTrue, List, [], None, Some, length, take, ◌+◌, true};
+ghost use Rattle.std.specs.Prelude.{◌≡◌, ◌≢◌, ◌⊎◌, ◌<◌, ◌≤◌, ◌∷◌, ◌++◌, ℕ, All, IsSome, IsTrue, List, [], None, Some, length, take, ◌+◌};
 ghost use Rattle.std.specs.FinMap.{empty, get};
 ghost use Rattle.std.specs.List.{AllByRecursion};
 ghost use Rattle.shore_types.specs.Layout.{HasPage, HasStore};
@@ -11,7 +11,7 @@ ghost use Rattle.shore_types.specs.declared.ids.Rid.{Rid};
 ghost use Rattle.shore_types.specs.declared.layout.Geometry.{Geometry};
 ghost use Rattle.shore_types.specs.declared.layout.TheConstants.{LAST_OPENED, LONGEST_FRAME, MAX_LOG_BYTES, MAX_RECORD_BYTES};
 ghost use Rattle.shore_model.specs.declared.calls.Answer.{Answer};
-ghost use Rattle.shore_model.specs.declared.calls.Answer.TheVariants.{Aborted, Committed, Prepared, Resolved};
+ghost use Rattle.shore_model.specs.declared.calls.Answer.TheVariants.{Prepared, Resolved};
 ghost use Rattle.shore_model.specs.declared.calls.Call.{Call};
 ghost use Rattle.shore_model.specs.declared.calls.Call.TheVariants.{Abort, Commit, Prepare, Resolve};
 ghost use Rattle.shore_model.specs.declared.histories.Decision.TheVariants as decision;
@@ -47,7 +47,7 @@ ghost use Rattle.laws_calls.specs.States.{DoesNotWait, HasSeat, IsOfSession, Sta
 ghost use Rattle.laws_calls.specs.WorkedRun.{first_id, first_page, one_insert, opened_empty};
 ghost use Rattle.shore_model.specs.declared.calls.Outcome.TheVariants as outcome;
 ghost use Rattle.laws_calls.specs.Resolves.{IsRollingBack, rollback_number};
-ghost use Rattle.laws_calls.specs.Shapes.{ResolvesTxn, IsNoRefusal};
+ghost use Rattle.laws_calls.specs.Shapes.{EndsAtOnce, ResolvesTxn, IsNoRefusal};
 ghost use Rattle.shore_model.specs.declared.calls.Outcome.{Outcome};
 
 /// What an open leaves is a state after no entries.
@@ -102,8 +102,8 @@ pub fn crash_keeps_acknowledged_commits()
 {}
 
 /// The log tells the serial records of all decisions, and with the changes of those in doubt what the decisions show. Those are in doubt whom the decisions
-/// leave so. A call that is answered, refused or waits for a lock adds nothing to what it tells, nor does one that asks for no commit, and a Commit,
-/// a resolve's too, what its transaction has written, which is what stands at those ids while no rollback of it is under way. If nobody is under way, all that is
+/// leave so. A call that is answered, but for a commit, that is refused or waits for a lock adds nothing to what it tells, nor does one that asks for no commit, and a
+/// Commit, a resolve's too, what its transaction has written, which is what stands at those ids while no rollback of it is under way. If nobody is under way, all that is
 /// in place is told.
 pub fn log_tells_what_is_decided()
     ensures decided { (o : Opening) (found : List LogRecord) (es : List Entry) (s : State) →
@@ -115,12 +115,13 @@ pub fn log_tells_what_is_decided()
     ensures in_place { (o : Opening) (found : List LogRecord) (es : List Entry) (s : State) →
         IsStateAfter o found es s → s.sessions.active ≡ [] → s.sessions.records ≡ records_committed s.log }
     ensures call { (g : Geometry) (o : Opening) (found : List LogRecord) (es : List Entry) (old new : State) (session : ℕ) (c : Call) (step : Step) → IsStateAfter o found es old
-        → CallStep g old session c step new → ((n : ℕ) → step ≢ Waits (Durable n)) ⊎ ((t : ℕ) → decision_asked_by t c ≢ Some (decision.Commit t))
+        → CallStep g old session c step new → (c ≡ Commit → (answer : Answer) → step ≢ Done answer)
+        → ((n : ℕ) → step ≢ Waits (Durable n)) ⊎ ((t : ℕ) → decision_asked_by t c ≢ Some (decision.Commit t))
         → records_committed new.log ≡ records_committed old.log }
     ensures resume { (g : Geometry) (o : Opening) (found : List LogRecord) (es : List Entry) (old new : State) (session : ℕ) (step : Step) → IsStateAfter o found es old
         → ResumeStep g old session step new → records_committed new.log ≡ records_committed old.log }
-    ensures commit { (g : Geometry) (o : Opening) (found : List LogRecord) (es : List Entry) (old new : State) (session n : ℕ) → IsStateAfter o found es old
-        → CallStep g old session Commit (Waits (Durable n)) new
+    ensures commit { (g : Geometry) (o : Opening) (found : List LogRecord) (es : List Entry) (old new : State) (session : ℕ) (answer : Answer) → IsStateAfter o found es old
+        → CallStep g old session Commit (Done answer) new
         → records_committed new.log ≡ overlay (records_committed old.log) (written_by o es (txn_of old.sessions session)) }
     ensures resolve { (g : Geometry) (o : Opening) (found : List LogRecord) (es : List Entry) (old new : State) (session n : ℕ) (global : List ℕ) → IsStateAfter o found es old
         → CallStep g old session (Resolve global outcome.Commit) (Waits (Durable n)) new
@@ -151,7 +152,7 @@ pub fn calls_keep_room()
         → length found + (log_room s).reserved < LAST_OPENED → s.stream_bytes ≤ MAX_LOG_BYTES → IsRoomyState s }
 {}
 
-/// A call that comes to a wait waits: a commit, a prepare or a resolve for its own record, which an interrupted resolve may have appended before. It waits no more once it is answered or refused. A device that fails, and a page that
+/// A call that comes to a wait waits: a prepare or a resolve for its own record, which an interrupted resolve may have appended before. It waits no more once it is answered or refused. A device that fails, and a page that
 /// is damaged, fail the state, and then all is refused.
 pub fn waits_end_and_faults_fail()
     ensures begin { (g : Geometry) (s new : State) (session : ℕ) (c : Call) (wait : Wait) →
@@ -185,25 +186,23 @@ pub fn locks_stay_in_harmony()
 {}
 
 /// Locks are taken only as calls ask: by a call of a session, and going on with it, the requests of every other transaction stay or are granted, the own ones
-/// grow along the path to the granule that is asked for, an insert's to its place too, and nobody's become weaker. A commit keeps all of its locks until
-/// its answer, and has none after it; so does an abort, however often it is interrupted. A prepare and its answer leave all locks. A resolve gives those of its transaction
-/// back as its decision to commit is logged, or its rollback has ended, and its answer leaves all.
+/// grow along the path to the granule that is asked for, an insert's to its place too, and nobody's become weaker. A commit gives all
+/// of its locks back as its record is logged, with its answer; so does an abort, however often it is interrupted. A prepare and its answer leave all locks. A resolve gives
+/// those of its transaction back as its decision to commit is logged, or its rollback has ended, and its answer leaves all.
 pub fn locks_change_as_asked()
     ensures calls { (g : Geometry) (o : Opening) (found : List LogRecord) (es : List Entry) (old new : State) (session : ℕ) (c : Call) (step : Step) → IsStateAfter o found es old
         → CallStep g old session c step new → ((new.locks.requests ≡ old.locks.requests)
         ⊎ ((a : SessionTxn) × IsOfSession old session a × TakesAsAsked old.locks.requests a.txn c new.locks.requests))
-        ⊎ (((c ≡ Abort) × (step ≡ Done Aborted) × ((a : SessionTxn) × IsOfSession old session a × (new.locks.requests ≡ released a.txn old.locks.requests)))
+        ⊎ ((EndsAtOnce old c step × ((a : SessionTxn) × IsOfSession old session a × (new.locks.requests ≡ released a.txn old.locks.requests)))
         ⊎ ((a : SessionTxn) × ResolvesTxn old c a × IsNoRefusal step × (new.locks.requests ≡ released a.txn old.locks.requests))) }
     ensures resumes { (g : Geometry) (o : Opening) (found : List LogRecord) (es : List Entry) (old new : State) (w : Waiting) (step : Step) → IsStateAfter o found es old
-        → ResumesCall g old w step new → ((new.locks.requests ≡ old.locks.requests)
-        ⊎ ((a : SessionTxn) × IsOfSession old w.session a × TakesAsAsked old.locks.requests a.txn w.call new.locks.requests))
-        ⊎ ((step ≡ Done Committed) × ((a : SessionTxn) × IsAmong a old.sessions.committing × (a.session ≡ w.session)
-        × (new.locks.requests ≡ released a.txn old.locks.requests))) }
-    ensures commit { (g : Geometry) (o : Opening) (found : List LogRecord) (es : List Entry) (old new : State) (session : ℕ) (step : Step) → IsStateAfter o found es old
-        → CallStep g old session Commit step new → new.locks.requests ≡ old.locks.requests }
-    ensures told { (g : Geometry) (o : Opening) (found : List LogRecord) (es : List Entry) (old new : State) (w : Waiting) (n : ℕ) → IsStateAfter o found es old
-        → w.wait ≡ Durable n → ResumesCall g old w (Done Committed) new → (new.locks.requests ≡ released (txn_of old.sessions w.session) old.locks.requests)
-        × All (λ h. h.txn ≢ txn_of old.sessions w.session) new.sessions.held }
+        → ResumesCall g old w step new → (new.locks.requests ≡ old.locks.requests)
+        ⊎ ((a : SessionTxn) × IsOfSession old w.session a × TakesAsAsked old.locks.requests a.txn w.call new.locks.requests) }
+    ensures commit { (g : Geometry) (o : Opening) (found : List LogRecord) (es : List Entry) (old new : State) (session : ℕ) (f : Fault) → IsStateAfter o found es old
+        → CallStep g old session Commit (Refused f) new → new.locks.requests ≡ old.locks.requests }
+    ensures told_commit { (g : Geometry) (o : Opening) (found : List LogRecord) (es : List Entry) (old new : State) (session : ℕ) (answer : Answer) → IsStateAfter o found es old
+        → CallStep g old session Commit (Done answer) new → (new.locks.requests ≡ released (txn_of old.sessions session) old.locks.requests)
+        × All (λ h. h.txn ≢ txn_of old.sessions session) new.sessions.held }
     ensures told_prepare { (g : Geometry) (old new : State) (w : Waiting) (n : ℕ) → w.wait ≡ Durable n → ResumesCall g old w (Done Prepared) new
         → (new.locks.requests ≡ old.locks.requests) × (new.sessions.held ≡ old.sessions.held) }
     ensures prepare { (g : Geometry) (old new : State) (session : ℕ) (global : List ℕ) (step : Step) → CallStep g old session (Prepare global) step new → new.locks ≡ old.locks }
@@ -217,7 +216,8 @@ pub fn locks_change_as_asked()
         × All (λ h. h.txn ≢ txn_of old.sessions session) new.sessions.held }
 {}
 
-/// The conditions can be met: over an empty volume, a transaction locks a store and a place, inserts a record and commits, and the commit is answered.
+/// The conditions can be met: over an empty volume, a transaction locks a store and a place, inserts a record and commits. The commit is answered at once with a ticket,
+/// which is not durable, and acknowledged once it is.
 pub fn one_insert_comes_through()
     ensures { (g : Geometry) (stream_bytes : ℕ) (bytes : List ℕ) → HasStore g 0 → HasPage g first_page → length bytes ≤ MAX_RECORD_BYTES → 100000 ≤ stream_bytes →
         (last : State) × (made : List Entry) × IsOpened (opening_with empty) [] (opened_empty stream_bytes) × MovesMaking g (opened_empty stream_bytes) (one_insert bytes) last made

@@ -1,5 +1,5 @@
 //! Which locks calls take and keep, what others then cannot do, and when locks go.
-ghost use Rattle.std.specs.Prelude.{◌≡◌, ◌≢◌, ℕ, All, List, take};
+ghost use Rattle.std.specs.Prelude.{◌≡◌, ◌≢◌, ℕ, All, List};
 ghost use Rattle.std.specs.FinMap.{get};
 ghost use Rattle.shore_types.specs.declared.ids.Rid.{Rid};
 ghost use Rattle.shore_types.specs.declared.layout.Geometry.{Geometry};
@@ -12,11 +12,9 @@ ghost use Rattle.shore_model.specs.declared.histories.Opening.{Opening};
 ghost use Rattle.shore_model.specs.declared.log_records.LogRecord.{LogRecord};
 ghost use Rattle.shore_model.specs.Locks.{MayRead, MayWrite};
 ghost use Rattle.laws_lives.specs.Sessions.{SessionTxn};
-ghost use Rattle.laws_lives.specs.Views.{IsAmong};
 ghost use Rattle.shore_model.specs.declared.step.Step.{Step};
-ghost use Rattle.shore_model.specs.declared.step.Step.TheVariants.{Done, Waits, Refused};
-ghost use Rattle.shore_model.specs.declared.step.Wait.{Wait};
-ghost use Rattle.laws_calls.specs.CallSteps.{CallStep, ResumeStep};
+ghost use Rattle.shore_model.specs.declared.step.Step.TheVariants.{Done, Refused};
+ghost use Rattle.laws_calls.specs.CallSteps.{CallStep};
 ghost use Rattle.laws_calls.specs.LockedStates.{IsSessionsState};
 ghost use Rattle.laws_calls.specs.States.{IsOfSession, State};
 ghost use Rattle.laws_lives.specs.GranuleLocks.{HasLocksFor};
@@ -27,23 +25,22 @@ ghost use Rattle.shore_model.specs.declared.calls.Outcome.{Outcome};
 ghost use Rattle.shore_types.specs.declared.faults.Fault.{Fault};
 ghost use Rattle.laws_calls.specs.CallHistories.{txn_under};
 
-/// An answer has the locks that it needs, and no call makes a lock of another transaction weaker, whatever it comes to, nor one of its own, unless it is an
-/// abort that is answered, or a resolve of it that is not refused: so neither a refusal, nor the append of a commit, nor a way back, nor an abort or a resolve that
-/// is interrupted gives a lock back.
+/// An answer has the locks that it needs, and no call makes a lock of another transaction weaker, whatever it comes to, nor one of its own, unless it is a
+/// commit or an abort that is answered, or a resolve of it that is not refused: so neither a refusal, nor a way back, nor an abort or a resolve that is interrupted
+/// gives a lock back.
 pub fn calls_take_and_keep_locks()
     ensures has { (g : Geometry) (o : Opening) (found : List LogRecord) (es : List Entry) (s new : State) (session : ℕ) (c : Call) (answer : Answer) (a : SessionTxn) →
         IsSessionsState o found es s → IsOfSession s session a → CallStep g s session c (Done answer) new → HasLocksFor new.sessions.held a.txn c answer }
     ensures keeps { (g : Geometry) (o : Opening) (found : List LogRecord) (es : List Entry) (s new : State) (session : ℕ) (c : Call) (step : Step) (u : ℕ) →
-        IsSessionsState o found es s → step ≢ Done Aborted → ResolvesNone c → CallStep g s session c step new → KeepsLocks s.sessions.held new.sessions.held u }
+        IsSessionsState o found es s → step ≢ Done Aborted → (c ≡ Commit → (answer : Answer) → step ≢ Done answer) → ResolvesNone c → CallStep g s session c step new → KeepsLocks s.sessions.held new.sessions.held u }
     ensures refused_resolve_keeps { (g : Geometry) (s new : State) (session : ℕ) (global : List ℕ) (asked : Outcome) (f : Fault) →
         CallStep g s session (Resolve global asked) (Refused f) new → (new.locks ≡ s.locks) × (new.sessions.held ≡ s.sessions.held) }
     ensures resolve_keeps_others { (g : Geometry) (o : Opening) (found : List LogRecord) (es : List Entry) (s new : State) (session : ℕ) (global : List ℕ) (asked : Outcome) (step : Step) (u : ℕ) →
         IsStateAfter o found es s → u ≢ txn_under s.sessions global → CallStep g s session (Resolve global asked) step new → KeepsLocks s.sessions.held new.sessions.held u }
     ensures keeps_others { (g : Geometry) (o : Opening) (found : List LogRecord) (es : List Entry) (s new : State) (session : ℕ) (c : Call) (step : Step)
         (a : SessionTxn) (u : ℕ) → IsSessionsState o found es s → IsOfSession s session a → u ≢ a.txn → CallStep g s session c step new → KeepsLocks s.sessions.held new.sessions.held u }
-    ensures append { (g : Geometry) (s new : State) (session : ℕ) (wait : Wait) → new.locks ≢ s.locks → CallStep g s session Commit (Waits wait) new → ⊥ }
-    ensures append_held { (g : Geometry) (s new : State) (session : ℕ) (wait : Wait) →
-        new.sessions.held ≢ s.sessions.held → CallStep g s session Commit (Waits wait) new → ⊥ }
+    ensures refused_commit_keeps { (g : Geometry) (s new : State) (session : ℕ) (f : Fault) →
+        CallStep g s session Commit (Refused f) new → (new.locks ≡ s.locks) × (new.sessions.held ≡ s.sessions.held) }
 {}
 
 /// No read is answered of a record that another transaction may write, and no change of one that another may read or write.
@@ -71,13 +68,10 @@ pub fn nobody_reads_what_another_may_write()
 /// A commit that is answered leaves none of its transaction's locks and requests, and others theirs.
 pub fn answered_commits_give_locks_back()
     ensures locks { (g : Geometry) (o : Opening) (found : List LogRecord) (es : List Entry) (s new : State) (session : ℕ) (a : SessionTxn) (answer : Answer) →
-        IsStateAfter o found es s →
-        IsAmong a s.sessions.committing → a.session ≡ session → ResumeStep g s session (Done answer) new → All (λ h. h.txn ≢ a.txn) new.sessions.held }
+        IsSessionsState o found es s → IsOfSession s session a → CallStep g s session Commit (Done answer) new → All (λ h. h.txn ≢ a.txn) new.sessions.held }
     ensures requests { (g : Geometry) (o : Opening) (found : List LogRecord) (es : List Entry) (s new : State) (session : ℕ) (a : SessionTxn) (answer : Answer) →
-        IsStateAfter o found es s →
-        IsAmong a s.sessions.committing → a.session ≡ session → ResumeStep g s session (Done answer) new → All (λ r. r.txn ≢ a.txn) new.locks.requests }
+        IsSessionsState o found es s → IsOfSession s session a → CallStep g s session Commit (Done answer) new → All (λ r. r.txn ≢ a.txn) new.locks.requests }
     ensures others { (g : Geometry) (o : Opening) (found : List LogRecord) (es : List Entry) (s new : State) (session : ℕ) (a : SessionTxn) (answer : Answer) (u : ℕ) →
-        IsStateAfter o found es s →
-        IsAmong a s.sessions.committing → a.session ≡ session → ResumeStep g s session (Done answer) new → u ≢ a.txn →
+        IsSessionsState o found es s → IsOfSession s session a → CallStep g s session Commit (Done answer) new → u ≢ a.txn →
         KeepsLocks s.sessions.held new.sessions.held u }
 {}

@@ -32,7 +32,7 @@ pub fn calls_come_to_something()
         IsStateAfter o found es s → IsRoomyState s → (step : Step) × (new : State) × CallStep g s session c step new × ComesOfState step }
 {}
 
-/// So does each resume, of a commit, of a call that waits for a lock, or of a victim's.
+/// So does each resume, of a prepare, of a resolve, of a call that waits for a lock, or of a victim's.
 pub fn resumes_come_to_something()
     ensures { (g : Geometry) (o : Opening) (found : List LogRecord) (es : List Entry) (s : State) (session : ℕ) → IsStateAfter o found es s → IsRoomyState s
         → (step : Step) × (new : State) × (ResumeStep g s session step new ⊎ TellsVictim s session step new) × ComesOfState step }
@@ -54,8 +54,8 @@ pub fn calls_that_wait_may_ask()
         LockWaitsMayAsk g last }
 {}
 
-/// The conditions of steps can be met: over an empty volume, one session inserts a record, another waits for its lock, and has the bytes once the commit
-/// of the first is answered.
+/// The conditions of steps can be met: over an empty volume, one session inserts a record, another waits for its lock, and has the bytes once the first
+/// has committed, before that is durable.
 pub fn two_sessions_come_through()
     ensures { (g : Geometry) (stream_bytes : ℕ) (bytes : List ℕ) → HasStore g 0 → HasPage g first_page → length bytes ≤ MAX_RECORD_BYTES → 100000 ≤ stream_bytes →
         (last : State) × (made : List Entry) × IsOpened (opening_with empty) [] (opened_empty stream_bytes)

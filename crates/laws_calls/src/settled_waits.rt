@@ -3,14 +3,12 @@ ghost use Rattle.std.specs.Prelude.{◌≡◌, ◌<◌, ℕ, List, length, ◌�
 ghost use Rattle.shore_types.specs.declared.layout.Geometry.{Geometry};
 ghost use Rattle.shore_types.specs.declared.locking.Granule.{Granule};
 ghost use Rattle.shore_model.specs.declared.calls.Call.{Call};
-ghost use Rattle.shore_model.specs.declared.calls.Call.TheVariants.{Commit};
 ghost use Rattle.shore_model.specs.declared.histories.Entry.{Entry};
 ghost use Rattle.shore_model.specs.declared.histories.Opening.{Opening};
 ghost use Rattle.shore_model.specs.declared.log_records.LogRecord.{LogRecord};
 ghost use Rattle.shore_model.specs.declared.step.Step.{Step};
 ghost use Rattle.shore_model.specs.declared.step.Step.TheVariants.{Waits};
 ghost use Rattle.shore_model.specs.declared.step.Wait.TheVariants.{Durable, Lock};
-ghost use Rattle.laws_lives.specs.Sessions.{SessionTxn};
 ghost use Rattle.laws_lives.specs.Views.{IsAmong};
 ghost use Rattle.laws_calls.specs.CallHistories.{IsOpened};
 ghost use Rattle.laws_calls.specs.Events.{EventsMove, IsStateAfter, ManagerEvent};
@@ -18,7 +16,7 @@ ghost use Rattle.laws_calls.specs.Midway.{HasItsWait};
 ghost use Rattle.laws_calls.specs.SessionWaits.{AllWaitThere, IsDecisionWait};
 ghost use Rattle.laws_calls.specs.Settling.{SettledCall, SettledResume};
 ghost use Rattle.laws_calls.specs.Shapes.{WaitsForItsRecord};
-ghost use Rattle.laws_calls.specs.States.{IsOfSession, State, Waiting, next_number};
+ghost use Rattle.laws_calls.specs.States.{State, Waiting};
 
 /// A request with which a transaction waits is its session's call's, at the granule for which that waits: so it is after an open, and after any events.
 pub fn requests_wait_where_calls_say()
@@ -39,7 +37,7 @@ pub fn waits_for_locks_are_true()
         AllWaitThere s → SettledResume g s session (Waits (Lock at)) new → HasItsWait new session at }
 {}
 
-/// Only a commit, a prepare and a resolve wait for a record: for that of their decision, which the log has, and which is not durable then. As it is resumed it
+/// Only a prepare and a resolve wait for a record: for that of their decision, which the log has, and which is not durable then. As it is resumed it
 /// waits on for that record as long as that is not durable, and nothing changes.
 pub fn waits_for_records_are_true()
     ensures call { (g : Geometry) (o : Opening) (found : List LogRecord) (es : List Entry) (s new : State) (session n : ℕ) (c : Call) → IsStateAfter o found es s →

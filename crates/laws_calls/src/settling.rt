@@ -47,7 +47,7 @@ pub fn settled_calls_keep_room()
         IsStateAfter o found es old → IsRoomyState old → SettledResume g old session step new → IsRoomyState new }
 {}
 
-/// A call that comes to a wait waits, a commit and a prepare for their own record, and its transaction is no victim then. It waits no more once it is answered or
+/// A call that comes to a wait waits, a prepare for its own record, and its transaction is no victim then. It waits no more once it is answered or
 /// refused, as a victim too, unless it was refused as an earlier call of its session waits. A device that fails, and a page that is damaged, fail the state.
 pub fn settled_calls_end_waits()
     ensures begin { (g : Geometry) (o : Opening) (found : List LogRecord) (es : List Entry) (s new : State) (session : ℕ) (c : Call) (wait : Wait) → IsStateAfter o found es s →

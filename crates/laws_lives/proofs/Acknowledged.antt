@@ -1,6 +1,6 @@
 -- Which decisions are acknowledged, and why each of them is in what is durable.
-use Rattle.std.proofs.Common.{◌≡◌, ◌≢◌, ◌⊎◌, inl, inr, ⊎_elim, ◌+◌, ◌≤◌, ◌<◌, ℕ, zero, suc, List, [], ◌∷◌, ◌++◌, Bool, true, false, cond, map, Option, Some, None, refl, sym, ap, subst, ◌∙◌, drop, take, length, arith, append-nil, take-append-drop}
-use Rattle.std.specs.Prelude.{◌==◌, ◌&&◌, ◌||◌, Contains, IfSome, is_ok, not}
+use Rattle.std.proofs.Common.{◌≡◌, ◌≢◌, ◌⊎◌, inl, inr, ⊎_elim, ◌≤◌, ◌<◌, ℕ, zero, suc, List, [], ◌∷◌, ◌++◌, Bool, true, false, cond, map, Some, None, refl, sym, ap, subst, ◌∙◌, drop, take, length, arith, append-nil, append_assoc, take-append-drop}
+use Rattle.std.specs.Prelude.{◌==◌, ◌&&◌, ◌||◌, is_ok, not}
 use Rattle.std.specs.List.{AllByRecursion, cons_option, filter_map}
 use Rattle.std.proofs.lemmas.Bool.{eq-eqb, true≢false}
 use Rattle.std.proofs.lemmas.List.{take-append-le, take-take}
@@ -15,20 +15,20 @@ use Rattle.shore_model.specs.declared.histories.Entry.{Entry}
 use Rattle.shore_model.specs.declared.log_records.LogRecord.{LogRecord}
 use Rattle.shore_model.specs.declared.log_records.Payload.{Payload}
 use Rattle.shore_model.specs.declared.log_records.Payload.TheVariants.{Commit, Prepare, RollbackDecided}
-use Rattle.shore_model.specs.Histories.{acknowledged, acknowledged_by, decision_asked_by}
+use Rattle.shore_model.specs.declared.histories.Entry.TheVariants.{Decided}
+use Rattle.shore_model.specs.Histories.{acknowledged, acknowledged_after, acknowledged_by, decision_asked_by, commits_with, tickets}
 use Rattle.shore_model.specs.Logs.{has, is_commit, is_prepare, is_rollback}
 use Rattle.laws_lives.proofs.Booleans.{or_right}
 use Rattle.laws_lives.proofs.DoubtRecords.{among_filter, none_of_it}
 use Rattle.laws_lives.proofs.DoubtSteps.{still_without}
-use Rattle.laws_lives.proofs.Lists.{among_append, among_map, recursion-push, recursion-weaker}
+use Rattle.laws_lives.proofs.Lists.{among_append, recursion-weaker}
 use Rattle.laws_lives.proofs.LogPrefixes.{decisions_in-take}
-use Rattle.laws_lives.proofs.Members.{among_with, among_without, txn_among, txn_without, txns_with}
+use Rattle.laws_lives.proofs.Members.{txn_among, txn_without, txns_with}
 use Rattle.laws_lives.proofs.Steps.{among_push, answered_txns, prepared_among, still_prepared, still_resolved, txns_push, was_prepared}
 use Rattle.laws_lives.specs.LogPrefixes.{IsDecidedIn, decision_asked, decision_by, decision_in, decisions_in}
-use Rattle.laws_lives.specs.ManagerSteps.{AnswersDurable, decision_resolved}
-use Rattle.laws_lives.specs.Recovery.{RecoveryState}
-use Rattle.laws_lives.specs.SessionSteps.{AnswerAbort, AnswerCommit, AnswerInDoubt, AnswerPrepare, AnswerResolve, AppendCommit, AppendPrepare, AppendResolve, AppendRollback, BeginTxn, Doom, EndRollback, GiveReply, IsInnerCall, MoveLocks, PutBack, RefuseCall, SessionEvent, StepsTo, entries_by}
-use Rattle.laws_lives.specs.Sessions.{IsFree, PreparedTxn, ResolvedTxn, SessionTxn, Sessions, in_doubt_of, resolved_of, txns_of, with_answered, without_prepared}
+use Rattle.laws_lives.specs.ManagerSteps.{decision_resolved}
+use Rattle.laws_lives.specs.SessionSteps.{AnswerAbort, AnswerInDoubt, AnswerPrepare, AnswerResolve, AppendCommit, AppendPrepare, AppendResolve, AppendRollback, Ask, BeginTxn, Doom, EndRollback, GiveReply, IsInnerCall, MoveLocks, PutBack, RefuseCall, SessionEvent, StepsTo, entries_by}
+use Rattle.laws_lives.specs.Sessions.{IsFree, PreparedTxn, Sessions, in_doubt_of, resolved_of, txns_of, with_answered, without_prepared}
 use Rattle.laws_lives.specs.Soundness.{decided_txn}
 use Rattle.laws_lives.specs.Views.{IsAmong}
 
@@ -61,7 +61,6 @@ pub record NumbersAreNew (base floor : ℕ) (s : Sessions) (log : List LogRecord
   pub old : AllByRecursion (λ r. r.txn < floor) (take base log)
   pub next : floor ≤ s.next_txn
   pub each : (t : ℕ) → IsAmong t (txns_of s.active) → IsFree s t → floor ≤ t
-  pub committing : (a : SessionTxn) → IsAmong a s.committing → floor ≤ a.txn
   pub preparing : (p : PreparedTxn) → IsAmong p s.prepared → p.answered ≡ false → floor ≤ p.txn
   pub prepared : (t : ℕ) → IsAmong t (in_doubt_of s) → IsUnresolved base log t
   pub resolved : (t : ℕ) → IsAmong t (resolved_of s) → IsUnresolved base log t
@@ -84,61 +83,42 @@ module _ (base floor : ℕ) (old : Sessions) (log : List LogRecord) (k : Numbers
       record { uncommitted = none_of_it is_commit t (take base log) none; not_rolled = none_of_it is_rollback t (take base log) none }
 
   -- the same but for transactions under way
-  listed_anew : (new : Sessions) → new.next_txn ≡ old.next_txn → new.committing ≡ old.committing → new.prepared ≡ old.prepared → new.resolving ≡ old.resolving
+  listed_anew : (new : Sessions) → new.next_txn ≡ old.next_txn → new.prepared ≡ old.prepared → new.resolving ≡ old.resolving
       → ((t : ℕ) → IsAmong t (txns_of new.active) → IsAmong t (txns_of old.active)) → NumbersAreNew base floor new log
-  listed_anew new next committing prepared resolving fewer = record {
+  listed_anew new next prepared resolving fewer = record {
     old = k.old;
     next = subst (λ n. floor ≤ n) (sym next) k.next;
     each = λ t b is. k.each t (fewer t b)
         (λ h. is.0 (subst (λ ps. IsAmong t (map (λ p. p.txn) ps)) (sym prepared) h), λ h. is.1 (subst (λ rs. IsAmong t (map (λ r. r.txn) rs)) (sym resolving) h));
-    committing = λ a m. k.committing a (subst (IsAmong a) committing m);
     preparing = λ p m e. k.preparing p (subst (IsAmong p) prepared m) e;
     prepared = λ t b. k.prepared t (subst (λ ps. IsAmong t (map (λ p. p.txn) ps)) prepared b);
     resolved = λ t b. k.resolved t (subst (λ rs. IsAmong t (map (λ r. r.txn) rs)) resolving b);
   }
 
   pub numbers_stay_new : (new : Sessions) (e : SessionEvent) → StepsTo old e new → NumbersAreNew base floor new log
-  numbers_stay_new new (MoveLocks held) steps = subst (λ s. NumbersAreNew base floor s log) (sym steps.3) (listed_anew _ refl refl refl refl (λ t b. b))
+  numbers_stay_new new (MoveLocks held) steps = subst (λ s. NumbersAreNew base floor s log) (sym steps.3) (listed_anew _ refl refl refl (λ t b. b))
   numbers_stay_new new (BeginTxn session) steps =
       let next = k.next in
       subst (λ s. NumbersAreNew base floor s log) (sym steps.1) (record {
         old = k.old;
         next = omega arith;
         each = λ t b is. ⊎_elim (λ e. subst (λ t. floor ≤ t) e k.next) (λ later. k.each t later is) b;
-        committing = k.committing;
         preparing = k.preparing;
         prepared = k.prepared;
         resolved = k.resolved;
       })
   numbers_stay_new new (GiveReply a c reply) steps =
-      subst (λ s. NumbersAreNew base floor s log) (sym steps.4) (listed_anew _ refl refl refl refl (λ t b. subst (IsAmong t) (txns_with a.txn _ old.active) b))
-  numbers_stay_new new (AppendCommit a) steps =
-      subst (λ s. NumbersAreNew base floor s log) (sym steps.2) (record {
-        old = k.old;
-        next = k.next;
-        each = λ t b is. k.each t (txn_without a.txn t old.active b).0 is;
-        committing = λ b m. ⊎_elim (λ e. subst (λ (x : SessionTxn). floor ≤ x.txn) e (k.each a.txn (txn_among a old.active steps.0.0) steps.0.2)) (λ later. k.committing b later) m;
-        preparing = k.preparing;
-        prepared = k.prepared;
-        resolved = k.resolved;
-      })
+      subst (λ s. NumbersAreNew base floor s log) (sym steps.4) (listed_anew _ refl refl refl (λ t b. subst (IsAmong t) (txns_with a.txn _ old.active) b))
+  numbers_stay_new new (AppendCommit a ticket) steps =
+      subst (λ s. NumbersAreNew base floor s log) (sym steps.2) (listed_anew _ refl refl refl (λ t b. (txn_without a.txn t old.active b).0))
   numbers_stay_new new (PutBack a kept e r) steps =
-      subst (λ s. NumbersAreNew base floor s log) (sym steps.4) (listed_anew _ refl refl refl refl (λ t b. subst (IsAmong t) (txns_with a.txn _ old.active) b))
+      subst (λ s. NumbersAreNew base floor s log) (sym steps.4) (listed_anew _ refl refl refl (λ t b. subst (IsAmong t) (txns_with a.txn _ old.active) b))
   numbers_stay_new new (Doom a) steps =
-      subst (λ s. NumbersAreNew base floor s log) (sym steps.1) (listed_anew _ refl refl refl refl (λ t b. subst (IsAmong t) (txns_with a.txn _ old.active) b))
+      subst (λ s. NumbersAreNew base floor s log) (sym steps.1) (listed_anew _ refl refl refl (λ t b. subst (IsAmong t) (txns_with a.txn _ old.active) b))
   numbers_stay_new new (AnswerAbort a) steps =
-      subst (λ s. NumbersAreNew base floor s log) (sym steps.1) (listed_anew _ refl refl refl refl (λ t b. (txn_without a.txn t old.active b).0))
-  numbers_stay_new new (AnswerCommit a) steps =
-      subst (λ s. NumbersAreNew base floor s log) (sym steps.1) (record {
-        old = k.old;
-        next = k.next;
-        each = k.each;
-        committing = λ b m. k.committing b (among_without a.txn b old.committing m).0;
-        preparing = k.preparing;
-        prepared = k.prepared;
-        resolved = k.resolved;
-      })
-  numbers_stay_new new (RefuseCall session t c fault) steps = subst (λ s. NumbersAreNew base floor s log) (sym steps.2) (listed_anew _ refl refl refl refl (λ t b. b))
+      subst (λ s. NumbersAreNew base floor s log) (sym steps.1) (listed_anew _ refl refl refl (λ t b. (txn_without a.txn t old.active b).0))
+  numbers_stay_new new (Ask ticket durable) steps = subst (λ s. NumbersAreNew base floor s log) (sym steps) k
+  numbers_stay_new new (RefuseCall session t c fault) steps = subst (λ s. NumbersAreNew base floor s log) (sym steps.2) (listed_anew _ refl refl refl (λ t b. b))
   numbers_stay_new new (AppendPrepare a global granules) steps =
       let one : PreparedTxn = record { txn = a.txn; global = global; answered = false } in
       let own = k.each a.txn (txn_among a old.active steps.0.0) steps.0.2 in
@@ -148,7 +128,6 @@ module _ (base floor : ℕ) (old : Sessions) (log : List LogRecord) (k : Numbers
         old = k.old;
         next = k.next;
         each = λ t b is. k.each t b (λ h. is.0 (subst (IsAmong t) (sym (txns_push one old.prepared)) (among_push t a.txn (in_doubt_of old) h)), is.1);
-        committing = k.committing;
         preparing = λ p m e. ⊎_elim (λ before. k.preparing p before e) (λ now. ⊎_elim (λ same. subst (λ (p : PreparedTxn). floor ≤ p.txn) same own) (λ no. absurd no) now) (among_append p old.prepared (one ∷ []) m);
         prepared = λ t b. ⊎_elim (λ before. k.prepared t before) (λ e. subst (IsUnresolved base log) e (new_unresolved a.txn own)) (was t b);
         resolved = k.resolved;
@@ -159,7 +138,6 @@ module _ (base floor : ℕ) (old : Sessions) (log : List LogRecord) (k : Numbers
         old = k.old;
         next = k.next;
         each = λ u b is. k.each u b (λ h. is.0 (subst (IsAmong u) (sym same) h), is.1);
-        committing = k.committing;
         preparing = λ p m e. k.preparing p (still_preparing t p old.prepared m e) e;
         prepared = λ u b. k.prepared u (subst (IsAmong u) same b);
         resolved = k.resolved;
@@ -171,7 +149,6 @@ module _ (base floor : ℕ) (old : Sessions) (log : List LogRecord) (k : Numbers
         each = λ t b is.
             let was = txn_without a.txn t old.active b in
             k.each t was.0 (λ h. is.0 (still_prepared a.txn t old.prepared h was.1), λ h. is.1 (inr h));
-        committing = k.committing;
         preparing = λ p m e. k.preparing p (among_kept a.txn p old.prepared m) e;
         prepared = λ t b. k.prepared t (was_prepared a.txn t old.prepared b).0;
         resolved = λ t b. ⊎_elim (λ e. subst (IsUnresolved base log) e (k.prepared a.txn (prepared_among _ old.prepared steps.2))) (λ later. k.resolved t later) b;
@@ -183,24 +160,22 @@ module _ (base floor : ℕ) (old : Sessions) (log : List LogRecord) (k : Numbers
         each = λ t b is.
             k.each t (subst (IsAmong t) (txns_with a.txn _ old.active) b)
             (λ h. is.0 (still_prepared a.txn t old.prepared h (λ same. is.1 (inl (sym same)))), λ h. is.1 (inr h));
-        committing = k.committing;
         preparing = λ p m e. k.preparing p (among_kept a.txn p old.prepared m) e;
         prepared = λ t b. k.prepared t (was_prepared a.txn t old.prepared b).0;
         resolved = λ t b. ⊎_elim (λ e. subst (IsUnresolved base log) e (k.prepared a.txn (prepared_among _ old.prepared steps.1))) (λ later. k.resolved t later) b;
       })
   numbers_stay_new new (EndRollback a) steps =
-      subst (λ s. NumbersAreNew base floor s log) (sym steps.2) (listed_anew _ refl refl refl refl (λ t b. (txn_without a.txn t old.active b).0))
+      subst (λ s. NumbersAreNew base floor s log) (sym steps.2) (listed_anew _ refl refl refl (λ t b. (txn_without a.txn t old.active b).0))
   numbers_stay_new new (AnswerResolve session r) steps =
       subst (λ s. NumbersAreNew base floor s log) (sym steps.2) (record {
         old = k.old;
         next = k.next;
         each = λ t b is. k.each t b (is.0, λ h. is.1 (still_resolved r.txn t old.resolving h (λ same. steps.1 (subst (λ v. IsAmong v (txns_of old.active)) same b))));
-        committing = k.committing;
         preparing = k.preparing;
         prepared = k.prepared;
         resolved = λ t b. k.resolved t (still_without r.txn t old.resolving b);
       })
-  numbers_stay_new new (AnswerInDoubt session t pairs) steps = subst (λ s. NumbersAreNew base floor s log) (sym steps.2) (listed_anew _ refl refl refl refl (λ t b. b))
+  numbers_stay_new new (AnswerInDoubt session t pairs) steps = subst (λ s. NumbersAreNew base floor s log) (sym steps.2) (listed_anew _ refl refl refl (λ t b. b))
 
   pub new_in_longer : (more : List LogRecord) → base ≤ length log → NumbersAreNew base floor old (log ++ more)
   new_in_longer more long =
@@ -211,7 +186,6 @@ module _ (base floor : ℕ) (old : Sessions) (log : List LogRecord) (k : Numbers
         old = subst (AllByRecursion (λ r. r.txn < floor)) (sym same) k.old;
         next = k.next;
         each = k.each;
-        committing = k.committing;
         preparing = k.preparing;
         prepared = λ t b. still t (k.prepared t b);
         resolved = λ t b. still t (k.resolved t b);
@@ -265,24 +239,24 @@ decision_is_own base n log d le none h =
 
 -- ---- entries that acknowledge
 
--- the decision that an event acknowledges
-abbrev pub acknowledged_in : SessionEvent → Option Decision
-acknowledged_in (AnswerCommit a) = Some (decision.Commit a.txn)
-acknowledged_in (AnswerPrepare session t global) = Some (decision.Prepare t global)
-acknowledged_in (AnswerResolve session r) = Some (decision_resolved r)
-acknowledged_in (MoveLocks held) = None
-acknowledged_in (BeginTxn session) = None
-acknowledged_in (GiveReply a c reply) = None
-acknowledged_in (AppendCommit a) = None
-acknowledged_in (PutBack a kept e r) = None
-acknowledged_in (Doom a) = None
-acknowledged_in (AnswerAbort a) = None
-acknowledged_in (RefuseCall session t c fault) = None
-acknowledged_in (AppendPrepare a global granules) = None
-acknowledged_in (AppendResolve a global) = None
-acknowledged_in (AppendRollback a global) = None
-acknowledged_in (EndRollback a) = None
-acknowledged_in (AnswerInDoubt session t pairs) = None
+-- the decisions that an event acknowledges, after these entries
+abbrev pub acknowledged_in : List Entry → SessionEvent → List Decision
+acknowledged_in es (Ask ticket durable) = cond durable (commits_with ticket (tickets es)) []
+acknowledged_in es (AnswerPrepare session t global) = decision.Prepare t global ∷ []
+acknowledged_in es (AnswerResolve session r) = decision_resolved r ∷ []
+acknowledged_in es (MoveLocks held) = []
+acknowledged_in es (BeginTxn session) = []
+acknowledged_in es (GiveReply a c reply) = []
+acknowledged_in es (AppendCommit a ticket) = []
+acknowledged_in es (PutBack a kept e r) = []
+acknowledged_in es (Doom a) = []
+acknowledged_in es (AnswerAbort a) = []
+acknowledged_in es (RefuseCall session t c fault) = []
+acknowledged_in es (AppendPrepare a global granules) = []
+acknowledged_in es (AppendResolve a global) = []
+acknowledged_in es (AppendRollback a global) = []
+acknowledged_in es (EndRollback a) = []
+acknowledged_in es (AnswerInDoubt session t pairs) = []
 
 inner_asks_none : (t : ℕ) (c : Call) → IsInnerCall c → decision_asked_by t c ≡ None
 inner_asks_none t call.Begin inner = absurd inner
@@ -293,66 +267,59 @@ inner_asks_none t (call.Resolve global outcome) inner = absurd inner
 inner_asks_none t call.InDoubt inner = absurd inner
 inner_asks_none t _ inner = refl
 
-abbrev no_decision : Option Decision
-no_decision = None
+abbrev no_decision : List Decision
+no_decision = []
 
-none_either_way : (b : Bool) → cond b no_decision None ≡ None
+none_either_way : (b : Bool) → cond b no_decision no_decision ≡ []
 none_either_way true = refl
 none_either_way false = refl
 
+pub acknowledged-push : (before es : List Entry) (e : Entry) → acknowledged_after before (es ++ e ∷ []) ≡ acknowledged_after before es ++ acknowledged_by (before ++ es) e
+acknowledged-push before [] e = append-nil (acknowledged_by before e) ∙ ap (λ es. acknowledged_by es e) (sym (append-nil before))
+acknowledged-push before (x ∷ es) e =
+    ap (λ ds. acknowledged_by before x ++ ds) (acknowledged-push (before ++ x ∷ []) es e)
+    ∙ sym (append_assoc (acknowledged_by before x) (acknowledged_after (before ++ x ∷ []) es) (acknowledged_by ((before ++ x ∷ []) ++ es) e))
+    ∙ ap (λ more. (acknowledged_by before x ++ acknowledged_after (before ++ x ∷ []) es) ++ acknowledged_by more e) (append_assoc before (x ∷ []) es)
+
+recursion-append : {A : Type 0} (P : A → Type 0) (xs ys : List A) → AllByRecursion P xs → AllByRecursion P ys → AllByRecursion P (xs ++ ys)
+recursion-append P [] ys h k = k
+recursion-append P (x ∷ xs) ys h k = (h.0, recursion-append P xs ys h.1 k)
+
+and_no_more : (P : Decision → Type 0) (es : List Entry) → AllByRecursion P (acknowledged es) → (e : Entry) → acknowledged_by es e ≡ [] → AllByRecursion P (acknowledged (es ++ e ∷ []))
+and_no_more P es h e none = subst (AllByRecursion P) (sym (acknowledged-push [] es e ∙ ap (λ ds. acknowledged es ++ ds) none ∙ append-nil (acknowledged es))) h
+
 module _ (P : Decision → Type 0) (es : List Entry) (h : AllByRecursion P (acknowledged es)) where
-  acknowledges_none : (e : Entry) → acknowledged_by e ≡ None → AllByRecursion P (acknowledged (es ++ e ∷ []))
-  acknowledges_none e none =
-      subst (AllByRecursion P)
-      (sym (filter_map-append acknowledged_by es (e ∷ []) ∙ ap (λ o. acknowledged es ++ cons_option o []) none ∙ append-nil (acknowledged es))) h
+  pub acknowledges : (e : Entry) (ds : List Decision) → acknowledged_by es e ≡ ds → AllByRecursion P ds → AllByRecursion P (acknowledged (es ++ e ∷ []))
+  acknowledges e ds is own =
+      subst (AllByRecursion P) (sym (acknowledged-push [] es e ∙ ap (λ ds. acknowledged es ++ ds) is)) (recursion-append P (acknowledged es) ds h own)
 
-  acknowledges_one : (e : Entry) (d : Decision) → acknowledged_by e ≡ Some d → P d → AllByRecursion P (acknowledged (es ++ e ∷ []))
-  acknowledges_one e d some p =
-      subst (AllByRecursion P) (sym (filter_map-append acknowledged_by es (e ∷ []) ∙ ap (λ o. acknowledged es ++ cons_option o []) some))
-      (recursion-push P (acknowledged es) d h p)
+  acknowledges_none : (e : Entry) → acknowledged_by es e ≡ [] → AllByRecursion P (acknowledged (es ++ e ∷ []))
+  acknowledges_none e none = acknowledges e [] none tt
 
-  -- only the answers of a commit, of a prepare and of a resolve acknowledge
-  pub event_acknowledges : (old new : Sessions) (e : SessionEvent) → StepsTo old e new → IfSome (acknowledged_in e) P
+  -- only the answers on a ticket, of a prepare and of a resolve acknowledge
+  pub event_acknowledges : (old new : Sessions) (e : SessionEvent) → StepsTo old e new → AllByRecursion P (acknowledged_in es e)
       → AllByRecursion P (acknowledged (es ++ entries_by old e))
   event_acknowledges old new (MoveLocks held) steps own = subst (λ es. AllByRecursion P (acknowledged es)) (sym (append-nil es)) h
   event_acknowledges old new (BeginTxn session) steps own = acknowledges_none _ refl
   event_acknowledges old new (GiveReply a c reply) steps own =
-      acknowledges_none _ (ap (λ o. cond (is_ok reply) o None) (inner_asks_none a.txn c steps.1) ∙ none_either_way (is_ok reply))
-  event_acknowledges old new (AppendCommit a) steps own = acknowledges_none _ refl
+      acknowledges_none _ (ap (λ o. cond (is_ok reply) (cons_option o []) []) (inner_asks_none a.txn c steps.1) ∙ none_either_way (is_ok reply))
+  event_acknowledges old new (AppendCommit a ticket) steps own =
+      let d : Entry = Decided (decision.Commit a.txn) in
+      subst (λ es. AllByRecursion P (acknowledged es)) (append_assoc es (d ∷ []) _)
+      (and_no_more P (es ++ d ∷ []) (acknowledges_none d refl) _ refl)
   event_acknowledges old new (PutBack a kept e r) steps own = subst (λ es. AllByRecursion P (acknowledged es)) (sym (append-nil es)) h
   event_acknowledges old new (Doom a) steps own = subst (λ es. AllByRecursion P (acknowledged es)) (sym (append-nil es)) h
   event_acknowledges old new (AnswerAbort a) steps own = acknowledges_none _ refl
-  event_acknowledges old new (AnswerCommit a) steps own = acknowledges_one _ (decision.Commit a.txn) refl own
+  event_acknowledges old new (Ask ticket durable) steps own = acknowledges _ (acknowledged_in es (Ask ticket durable)) refl own
   event_acknowledges old new (RefuseCall session t c fault) steps own = acknowledges_none _ refl
   event_acknowledges old new (AppendPrepare a global granules) steps own = acknowledges_none _ refl
-  event_acknowledges old new (AnswerPrepare session t global) steps own = acknowledges_one _ (decision.Prepare t global) refl own
+  event_acknowledges old new (AnswerPrepare session t global) steps own = acknowledges _ (decision.Prepare t global ∷ []) refl own
   event_acknowledges old new (AppendResolve a global) steps own = acknowledges_none _ refl
   event_acknowledges old new (AppendRollback a global) steps own = acknowledges_none _ refl
   event_acknowledges old new (EndRollback a) steps own = subst (λ es. AllByRecursion P (acknowledged es)) (sym (append-nil es)) h
-  event_acknowledges old new (AnswerResolve session r) steps own = acknowledges_one _ (decision_resolved r) (resolve_asks r.txn r.global r.outcome) own
+  event_acknowledges old new (AnswerResolve session r) steps own = acknowledges _ (decision_resolved r ∷ []) (ap (λ o. cons_option o []) (resolve_asks r.txn r.global r.outcome)) own
     where
       resolve_asks : (t : ℕ) (global : List ℕ) (o : Outcome) → decision_asked_by t (call.Resolve global o) ≡ Some (decision_asked t o)
       resolve_asks t global outcome.Commit = refl
       resolve_asks t global outcome.Abort = refl
   event_acknowledges old new (AnswerInDoubt session t pairs) steps own = acknowledges_none _ refl
-
--- what an event acknowledges is durable, and a decision of this manager
-pub acknowledges_own : (base floor : ℕ) (old new : Sessions) (store : RecoveryState) (e : SessionEvent) → NumbersAreNew base floor old store.log → base ≤ store.durable
-    → StepsTo old e new → AnswersDurable store e → IfSome (acknowledged_in e) (λ d. IsAmong d (decisions_in base (take store.durable store.log)))
-acknowledges_own base floor old new store (AnswerCommit a) k le steps durable =
-    decision_is_own base store.durable store.log (decision.Commit a.txn) le (new_unresolved base floor old store.log k a.txn (k.committing a steps.0.0)).uncommitted durable
-acknowledges_own base floor old new store (AnswerPrepare session t global) k le steps durable =
-    let own = k.preparing (record { txn = t; global = global; answered = false }) steps.0 refl in
-    decision_is_own base store.durable store.log (decision.Prepare t global) le
-    (none_of_it is_prepare t (take base store.log) (recursion-weaker (λ r. r.txn < floor) (λ r. r.txn ≢ t) (λ r less same. omega arith) (take base store.log) k.old)) durable
-acknowledges_own base floor old new store (AnswerResolve session r) k le steps durable =
-    of_outcome r.outcome (k.resolved r.txn (resolved_among r old.resolving steps.0)) durable
-  where
-    resolved_among : (r : ResolvedTxn) (rs : List ResolvedTxn) → IsAmong r rs → IsAmong r.txn (map (λ r. r.txn) rs)
-    resolved_among r rs h = among_map (λ (r : ResolvedTxn). r.txn) r rs h
-
-    of_outcome : (o : Outcome) → IsUnresolved base store.log r.txn → IsDecidedIn (take store.durable store.log) (decision_asked r.txn o)
-        → IsAmong (decision_asked r.txn o) (decisions_in base (take store.durable store.log))
-    of_outcome outcome.Commit h is = decision_is_own base store.durable store.log (decision.Commit r.txn) le h.uncommitted is
-    of_outcome outcome.Abort h is = decision_is_own base store.durable store.log (decision.RollBack r.txn) le h.not_rolled is
-acknowledges_own base floor old new store _ k le steps durable = tt

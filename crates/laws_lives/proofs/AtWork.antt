@@ -1,5 +1,5 @@
 -- A manager at work: what holds of it, event by event.
-use Rattle.std.proofs.Common.{◌≡◌, ◌≤◌, inr, ◌++◌, ℕ, List, [], ◌∷◌, sym, subst, ◌∙◌, length, take, arith, append-nil}
+use Rattle.std.proofs.Common.{◌≡◌, ◌≤◌, ◌++◌, ℕ, List, [], ◌∷◌, sym, subst, ◌∙◌, length, take, arith, append-nil}
 use Rattle.std.specs.FinMap.{get}
 use Rattle.std.specs.List.{AllByRecursion}
 use Rattle.shore_types.specs.declared.ids.Rid.{Rid}
@@ -15,11 +15,14 @@ use Rattle.laws_lives.specs.Logged.{log_after}
 use Rattle.laws_lives.specs.SessionSteps.{SessionEvent, StepsTo, entries_by}
 use Rattle.laws_lives.specs.Sessions.{Sessions}
 use Rattle.laws_lives.specs.Views.{IsAmong}
-use Rattle.laws_lives.proofs.Acknowledged.{NumbersAreNew, acknowledges_own, event_acknowledges, new_in_longer, numbers_stay_new, still_decided}
+use Rattle.laws_lives.proofs.AcknowledgedOwn.{acknowledges_own}
+use Rattle.laws_lives.proofs.Tickets.{event_tickets}
+use Rattle.laws_lives.specs.Tickets.{AreTickets}
+use Rattle.laws_lives.proofs.Acknowledged.{NumbersAreNew, event_acknowledges, new_in_longer, numbers_stay_new, still_decided}
 use Rattle.laws_lives.proofs.WholeLogs.{image_in_place}
 use Rattle.laws_lives.proofs.WholeRuns.{AllHold, event_keeps_all}
 use Rattle.laws_lives.proofs.Works.{HasWorked, all_work}
-use Rattle.laws_lives.specs.ManagerSteps.{AnswersDurable, ManagerState, StretchEvent, ManagerRunsTo, ManagerStepsTo, Serve, Tend, entries_made}
+use Rattle.laws_lives.specs.ManagerSteps.{AnswersTruly, ManagerState, StretchEvent, ManagerRunsTo, ManagerStepsTo, Serve, Tend, entries_made}
 
 -- each decision that is acknowledged is in the durable part of the log
 abbrev pub AcknowledgedAreDurable : ℕ → List Entry → RecoveryState → Type 0
@@ -34,6 +37,7 @@ pub record IsAtWork (base floor : ℕ) (o : Opening) (es : List Entry) (m : Mana
   pub durable : base ≤ m.store.durable
   pub numbers : NumbersAreNew base floor m.sessions m.store.log
   pub acknowledged : AcknowledgedAreDurable base es m.store
+  pub tickets : AreTickets base m.store.log es
 
 -- work takes nothing from what is durable
 pub durable_after_work : (base : ℕ) (es : List Entry) (s new : RecoveryState) → s.durable ≤ length s.log → HasWorked s new
@@ -48,7 +52,7 @@ module _ (base floor : ℕ) (o : Opening) (es : List Entry) (m : ManagerState) (
   numbers_after_work : (new : RecoveryState) → HasWorked m.store new → (s : Sessions) → NumbersAreNew base floor s m.store.log → NumbersAreNew base floor s new.log
   numbers_after_work new w s n = subst (NumbersAreNew base floor s) (sym w.grows) (new_in_longer base floor s m.store.log n w.more k.decides.long)
 
-  served : (e : SessionEvent) (new : ManagerState) → StepsTo m.sessions e new.sessions → AnswersDurable m.store e → HasWorked m.store new.store
+  served : (e : SessionEvent) (new : ManagerState) → StepsTo m.sessions e new.sessions → AnswersTruly m.store.durable m.store.log e → HasWorked m.store new.store
       → new.store.log ≡ log_after m.store.log m.sessions e → IsAtWork base floor o (es ++ entries_by m.sessions e) new
   served e new steps answers w log =
       let es' = es ++ entries_by m.sessions e in
@@ -64,7 +68,9 @@ module _ (base floor : ℕ) (o : Opening) (es : List Entry) (m : ManagerState) (
         numbers = numbers_after_work new.store w new.sessions (numbers_stay_new base floor m.sessions m.store.log k.numbers new.sessions e steps);
         acknowledged = durable_after_work base es' m.store new.store k.recoverable.durable w
             (event_acknowledges (λ d. IsAmong d (decisions_in base (take m.store.durable m.store.log))) es k.acknowledged m.sessions new.sessions e steps
-            (acknowledges_own base floor m.sessions new.sessions m.store e k.numbers k.durable steps answers));
+            (acknowledges_own base floor es m.sessions new.sessions m.store e k.numbers k.durable k.tickets steps answers));
+        tickets = subst (λ log. AreTickets base log es') (sym log)
+            (event_tickets base m.store.durable m.store.log es m.sessions new.sessions e k.decides.long steps answers.1 k.tickets);
       }
 
   tended : (new : ManagerState) → new.sessions ≡ m.sessions → HasWorked m.store new.store → new.store.log ≡ m.store.log → IsAtWork base floor o es new
@@ -79,6 +85,7 @@ module _ (base floor : ℕ) (o : Opening) (es : List Entry) (m : ManagerState) (
         durable = omega arith;
         numbers = subst (λ s. NumbersAreNew base floor s new.store.log) (sym same) (numbers_after_work new.store w m.sessions k.numbers);
         acknowledged = durable_after_work base es m.store new.store k.recoverable.durable w k.acknowledged;
+        tickets = subst (λ log. AreTickets base log es) (sym log) k.tickets;
       }
 
   pub stays_at_work : (e : StretchEvent) (new : ManagerState) → ManagerStepsTo m e new → IsAtWork base floor o (es ++ entries_made m e) new

@@ -7,12 +7,11 @@ use Rattle.shore_model.specs.declared.histories.Opening.{Opening}
 use Rattle.shore_model.specs.declared.calls.Answer.{Answer}
 use Rattle.shore_model.specs.declared.calls.Call.{Call}
 use Rattle.shore_model.specs.declared.histories.Entry.{Entry}
-use Rattle.shore_model.specs.Records.{Records}
 use Rattle.laws_lives.proofs.Members.{among_with, among_without, same_member, txn_among}
 use Rattle.laws_lives.proofs.Rollings.{some_not_none}
 use Rattle.shore_model.specs.declared.rollbacks.Rollback.{Rollback}
 use Rattle.shore_model.specs.declared.rollbacks.Rollback.TheVariants.{Whole, To}
-use Rattle.laws_lives.specs.SessionSteps.{AnswerAbort, AnswerCommit, AnswerInDoubt, AnswerPrepare, AnswerResolve, AppendCommit, AppendPrepare, AppendResolve, AppendRollback, BeginTxn, Doom, EndRollback, GiveReply, MoveLocks, PutBack, RefuseCall, SessionEvent, StepsTo}
+use Rattle.laws_lives.specs.SessionSteps.{AnswerAbort, AnswerInDoubt, AnswerPrepare, AnswerResolve, AppendCommit, AppendPrepare, AppendResolve, AppendRollback, Ask, BeginTxn, Doom, EndRollback, GiveReply, MoveLocks, PutBack, RefuseCall, SessionEvent, StepsTo}
 use Rattle.laws_lives.specs.Sessions.{SessionTxn, Sessions, txns_of, with_undo}
 use Rattle.laws_lives.specs.Soundness.{SessionsAgree}
 use Rattle.laws_lives.specs.UndoLists.{UndoList, undo_after, undo_rolled}
@@ -36,8 +35,8 @@ module _ (s mid : Sessions) (a b : SessionTxn) (doom : StepsTo s (Doom a) mid) w
   doomed_left among same =
       (ap (λ (undo : UndoList). undo.images) (doomed_undo among same), doomed_rolls among same, ap (λ (s : Sessions). s.records) doom.1)
 
-  pub commit_of_doomed : (new : Sessions) → b.txn ≡ a.txn → StepsTo mid (AppendCommit b) new → ⊥
-  commit_of_doomed new same step = some_not_none Whole (sym (doomed_rolls step.0.0 same) ∙ step.1)
+  pub commit_of_doomed : (new : Sessions) (ticket : ℕ) → b.txn ≡ a.txn → StepsTo mid (AppendCommit b ticket) new → ⊥
+  commit_of_doomed new ticket same step = some_not_none Whole (sym (doomed_rolls step.0.0 same) ∙ step.1)
 
 -- ---- of one that is rolled back as a whole
 
@@ -83,13 +82,13 @@ module _ {o : Opening} {es : List Entry} {s : Sessions} (k : SessionsAgree o es 
   stays_doomed new (GiveReply c call reply) step among =
       listed_anew c (undo_after s.records c.undo call reply) (λ own. absurd (reply_to_doomed s new c (it_is c step.0.0 own) call reply step))
       (subst (λ (s : Sessions). IsAmong b s.active) step.4 among)
-  stays_doomed new (AppendCommit c) step among = as_before (among_without c.txn b s.active (subst (λ (s : Sessions). IsAmong b s.active) step.2 among)).0
+  stays_doomed new (AppendCommit c ticket) step among = as_before (among_without c.txn b s.active (subst (λ (s : Sessions). IsAmong b s.active) step.2 among)).0
   stays_doomed new (PutBack c kept e r) step among =
       listed_anew c (undo_rolled c.undo kept r) (put_back_whole new c kept e r step) (subst (λ (s : Sessions). IsAmong b s.active) step.4 among)
   stays_doomed new (Doom c) step among =
       listed_anew c (undo_rolled c.undo c.undo.images Whole) (λ own. refl) (subst (λ (s : Sessions). IsAmong b s.active) step.1 among)
   stays_doomed new (AnswerAbort c) step among = as_before (among_without c.txn b s.active (subst (λ (s : Sessions). IsAmong b s.active) step.1 among)).0
-  stays_doomed new (AnswerCommit c) step among = as_before (subst (λ (s : Sessions). IsAmong b s.active) step.1 among)
+  stays_doomed new (Ask ticket durable) step among = as_before (subst (λ (s : Sessions). IsAmong b s.active) step among)
   stays_doomed new (RefuseCall session t c fault) step among = as_before (subst (λ (s : Sessions). IsAmong b s.active) step.2 among)
   stays_doomed new (AppendPrepare c global granules) step among = as_before (subst (λ (s : Sessions). IsAmong b s.active) step.4 among)
   stays_doomed new (AnswerPrepare session t global) step among = as_before (subst (λ (s : Sessions). IsAmong b s.active) step.2 among)

@@ -1,6 +1,6 @@
 -- The locks that those in doubt are given back: they are in harmony, and well rooted.
 use Rattle.std.proofs.Common.{◌≡◌, ◌≢◌, ◌⊎◌, inl, inr, ⊎_elim, ◌++◌, ◌≤◌, ℕ, suc, List, ◌∷◌, [], length, map, refl, sym, ap, subst, ◌∙◌, arith}
-use Rattle.std.specs.Prelude.{All, Any, Contains, IsTrue}
+use Rattle.std.specs.Prelude.{All, Contains, IsTrue}
 use Rattle.std.specs.List.{AllByRecursion}
 use Rattle.std.proofs.lemmas.List.Elements.{All-contains, All-contains_itself, All-weaker, Contains-append_cases}
 use Rattle.shore_types.specs.declared.ids.Rid.{Rid}

@@ -1,18 +1,17 @@
 -- An open on a log in which transactions are in doubt: these are under way again, as the log has them.
-use Rattle.std.proofs.Common.{◌≡◌, ◌≢◌, ◌⊎◌, ◌<◌, ◌≤◌, inl, inr, ⊎_elim, ◌++◌, ℕ, zero, suc, List, [], ◌∷◌, Bool, true, false, cond, Some, None, refl, sym, ap, subst, ◌∙◌, length, map, arith}
-use Rattle.std.specs.Prelude.{◌==◌, ◌&&◌, ◌||◌, All, Any, Contains, IfSome, IsSome, not, nat_eq, reverse, unwrap_or}
-use Rattle.std.specs.FinMap.{empty, get, get-empty}
+use Rattle.std.proofs.Common.{◌≡◌, ◌≢◌, ◌⊎◌, ◌<◌, inl, inr, ⊎_elim, ◌++◌, ℕ, zero, suc, List, [], ◌∷◌, Bool, true, false, cond, Some, None, refl, sym, ap, subst, ◌∙◌, map, arith}
+use Rattle.std.specs.Prelude.{◌==◌, ◌&&◌, ◌||◌, All, Contains, IsSome, not, nat_eq, reverse}
+use Rattle.std.specs.FinMap.{get, get-empty}
 use Rattle.std.specs.List.{AllByRecursion, cons_option, filter_map}
 use Rattle.std.specs.Ordering.{eq_by_cmp}
 use Rattle.std.specs.Cmp.Lexicographic.{pointwise}
-use Rattle.std.proofs.lemmas.Bool.{cases_Bool, eq-eqb, eqb-true, eqb-false, true≢false}
+use Rattle.std.proofs.lemmas.Bool.{cases_Bool, eqb-true, true≢false}
 use Rattle.std.proofs.lemmas.List.{reverse-append, reverse-reverse}
 use Rattle.std.proofs.lemmas.List.Elements.{All-contains_itself, All-from_recursion, All-weaker, filter_map-append}
 use Rattle.shore_types.specs.Ids.{rid_cmp}
 use Rattle.shore_types.specs.Images.{Image}
 use Rattle.shore_types.specs.declared.ids.Rid.{Rid}
 use Rattle.shore_types.specs.declared.locking.Granule.{Granule}
-use Rattle.shore_types.specs.declared.locking.Granule.TheVariants.{Record}
 use Rattle.shore_model.specs.declared.histories.InDoubt.{InDoubt}
 use Rattle.shore_model.specs.declared.histories.Opening.{Opening}
 use Rattle.shore_model.specs.declared.holds.Hold.{Hold}
@@ -21,34 +20,33 @@ use Rattle.shore_model.specs.declared.log_records.Payload.{Payload}
 use Rattle.shore_model.specs.declared.log_records.Payload.TheVariants.{Change, Compensation, Prepare}
 use Rattle.shore_model.specs.declared.unanswered_changes.UnansweredChange.{UnansweredChange}
 use Rattle.shore_model.specs.Histories.{last_under, writes_given}
-use Rattle.shore_model.specs.Locks.{MayRead, MayWrite, path}
-use Rattle.shore_model.specs.Logs.{Lawful, LiesUnder, MayFollow, MaySay, has, id_in, image_of_record, is_commit, is_in_doubt, is_of_checkpoint, is_over, is_prepare, is_rollback, logged_writes, prepare_of, unanswered}
-use Rattle.shore_model.specs.Records.{Records, WriteSet, laid_over, overlay, put_image}
+use Rattle.shore_model.specs.Locks.{MayRead, MayWrite}
+use Rattle.shore_model.specs.Logs.{Lawful, LiesUnder, MayFollow, MaySay, has, image_of_record, is_commit, is_in_doubt, is_of_checkpoint, is_over, is_prepare, is_rollback, logged_writes, prepare_of, unanswered}
+use Rattle.shore_model.specs.Records.{Records, WriteSet, overlay, put_image}
 use Rattle.laws_lives.proofs.Booleans.{and_true, or_true}
 use Rattle.laws_lives.proofs.CommittedRecords.{uncommitted_apart}
 use Rattle.laws_lives.proofs.DoubtDecisions.{same_text}
 use Rattle.laws_lives.proofs.DoubtLocks.{reads_under, restored_in_harmony}
 use Rattle.laws_lives.proofs.DoubtRecords.{among_filter, doubt_has_prepare, doubt_txns}
 use Rattle.laws_lives.proofs.GranulePaths.{on_one_path, writes_under}
-use Rattle.laws_lives.proofs.Ids.{overlay_empty, put_here, put_there, told_apart}
-use Rattle.laws_lives.proofs.InPlace.{has_image}
-use Rattle.laws_lives.proofs.Lists.{among_append, among_map, mapped_one, recursion-weaker}
+use Rattle.laws_lives.proofs.Ids.{overlay_empty, put_here, put_there}
+use Rattle.laws_lives.proofs.Lists.{among_append, among_map, mapped_one}
 use Rattle.laws_lives.proofs.LogPrefixes.{given_one}
 use Rattle.laws_lives.proofs.Members.{txn_among}
-use Rattle.laws_lives.proofs.OneMore.{AreKnown, has-more, has-not_its, has-not_this, has-push, id_itself, same_id, unanswered_known, undone_elsewhere, writes_none}
-use Rattle.laws_lives.proofs.SessionsAgree.{open_agrees}
-use Rattle.laws_lives.proofs.Steps.{found_txns, open_is_sound}
+use Rattle.laws_lives.proofs.OneMore.{AreKnown, has-more, has-not_this, has-push, same_id, unanswered_known, undone_elsewhere, writes_none}
+use Rattle.laws_lives.proofs.Steps.{found_txns}
 use Rattle.laws_lives.proofs.UndoLists.{laid_over-append}
-use Rattle.laws_lives.proofs.Views.{not_some, overlay_none, read_of_write, some_or_none}
+use Rattle.laws_lives.proofs.Views.{not_some, overlay_none}
 use Rattle.laws_lives.proofs.WholeSteps.{changed_logged, lying, names_under}
 use Rattle.laws_lives.proofs.Writers.{by_records, never_true, one_writer_at_most, same_or_not}
+use Rattle.laws_lives.proofs.UndoEnds.{writers_in_doubt}
 use Rattle.laws_lives.proofs.WritersTold.{among_filtered, among_prepared, doubt_not_over, in_doubt_parts}
 use Rattle.laws_lives.specs.Doubts.{HasWritten, LoggedDoubt, TracksDoubts, doubt_by, doubt_of, doubts_in, pair_logged, undo_in}
 use Rattle.laws_lives.specs.LogTells.{AreLogged, HasLogged, IsLogAfter, records_committed}
-use Rattle.laws_lives.specs.Sessions.{IsFree, PreparedTxn, SessionTxn, Sessions, in_doubt_of, pairs_of, resolved_of, txns_of}
-use Rattle.laws_lives.specs.Soundness.{IsJustOpened, IsSoundAfter, SessionsAgree, found_in_doubt, progress_from, progress_in, written_by}
+use Rattle.laws_lives.specs.Sessions.{Sessions, in_doubt_of, pairs_of, txns_of}
+use Rattle.laws_lives.specs.Soundness.{IsJustOpened, found_in_doubt, progress_from, progress_in, written_by}
 use Rattle.laws_lives.specs.UndoLists.{CanUndo, UndoList, rolled_back}
-use Rattle.laws_lives.specs.Views.{IsAmong, Sees, Stand}
+use Rattle.laws_lives.specs.Views.{IsAmong, Sees}
 use Rattle.laws_lives.specs.WholeLogs.{IsOpenOn, IsWholeLog}
 use Rattle.laws_lives.specs.Writers.{HasOneWriterAtMost, HasWriter, changes_id, image_committed, image_undone}
 
@@ -261,7 +259,7 @@ module _ (o : Opening) (log : List LogRecord) (s : Sessions) (h : IsOpenOn o log
         of_other : (u : ℕ) → HasWriter log id u → ⊥
         of_other u w =
             let other : t ≢ u = λ same. true≢false (sym w.changed ∙ ap (λ v. has (changes_id id) v log) (sym same) ∙ none) in
-            let doubt_of_u = h.no_losers u id w.changed w.not_over in
+            let doubt_of_u = writers_in_doubt log h.lawful h.no_losers u id w.changed w.not_over in
             let e = mapped_one (λ (d : LoggedDoubt). d.txn) u (doubts_in log) (in_doubt_logged u doubt_of_u) in
             let under = doubts_lie_under log h.lawful e.0 id (among_filter (λ (d : LoggedDoubt). is_in_doubt d.txn log) e.0 (filter_map doubt_of log) e.1).0
             (ap (λ t. is_in_doubt t log) e.2 ∙ doubt_of_u) (ap (λ t. has (changes_id id) t log) e.2 ∙ w.changed) in
@@ -349,7 +347,7 @@ module _ (o : Opening) (log : List LogRecord) (s : Sessions) (h : IsOpenOn o log
       by_writer : HasOneWriterAtMost log id → image_of_record log id ≡ image_committed log id
       by_writer (inl f) = f.image
       by_writer (inr w) =
-          let e = mapped_one (λ (d : LoggedDoubt). d.txn) w.0 (doubts_in log) (in_doubt_logged w.0 (h.no_losers w.0 id w.1.changed w.1.not_over)) in
+          let e = mapped_one (λ (d : LoggedDoubt). d.txn) w.0 (doubts_in log) (in_doubt_logged w.0 (writers_in_doubt log h.lawful h.no_losers w.0 id w.1.changed w.1.not_over)) in
           let b = subst (λ t. IsAmong t (txns_of s.active)) e.2 (there_at e.0 e.1) in
           (has_written w.0 b).logged id (image_of_record log id) w.1.written ∙ overlay_none (records_committed log) (written_by o [] w.0) id (none w.0 b)
 
@@ -376,7 +374,6 @@ module _ (o : Opening) (log : List LogRecord) (s : Sessions) (h : IsOpenOn o log
   pub is_just_opened : IsJustOpened o s
   is_just_opened = record {
     seats = h.seats;
-    committing = h.committing;
     resolving = h.resolving;
     prepared = h.prepared;
     active = h.active;
@@ -434,7 +431,7 @@ module _ (o : Opening) (log : List LogRecord) (s : Sessions) (h : IsOpenOn o log
   open_is_whole_log = record {
     lawful = h.lawful;
     writers = λ t id changed runs.
-        let e = mapped_one (λ (d : LoggedDoubt). d.txn) t (doubts_in log) (in_doubt_logged t (h.no_losers t id changed runs)) in
+        let e = mapped_one (λ (d : LoggedDoubt). d.txn) t (doubts_in log) (in_doubt_logged t (writers_in_doubt log h.lawful h.no_losers t id changed runs)) in
         subst (λ t. IsAmong t (txns_of s.active)) e.2 (there_at e.0 e.1);
     unended = λ t b. not_over t b;
     above = λ t b. prepared_above log h.lawful t (in_doubt_parts (has is_prepare t log) (has is_commit t log) (has is_rollback t log) (is_doubt t b)).0;

@@ -1,5 +1,5 @@
 -- Those in doubt in a log, with one record more.
-use Rattle.std.proofs.Common.{◌≡◌, ◌≢◌, ◌⊎◌, inl, inr, ⊎_elim, ◌++◌, ℕ, List, [], ◌∷◌, Bool, true, false, cond, Option, Some, None, Result, Ok, Err, refl, sym, ap, ◌∙◌, map, append-nil, length}
+use Rattle.std.proofs.Common.{◌≡◌, ◌≢◌, inl, inr, ⊎_elim, ◌++◌, ℕ, List, [], ◌∷◌, Bool, true, false, cond, Some, None, Result, Ok, Err, refl, sym, ap, ◌∙◌, map, append-nil}
 use Rattle.std.specs.Prelude.{◌==◌, ◌&&◌, ◌||◌, not, filter}
 use Rattle.std.specs.FinMap.{get}
 use Rattle.std.specs.List.{AllByRecursion, cons_option, filter_map}
@@ -15,14 +15,14 @@ use Rattle.shore_model.specs.declared.calls.Call.{Call}
 use Rattle.shore_model.specs.declared.calls.Call.TheVariants as call
 use Rattle.shore_model.specs.declared.log_records.LogRecord.{LogRecord}
 use Rattle.shore_model.specs.declared.log_records.Payload.{Payload}
-use Rattle.shore_model.specs.declared.log_records.Payload.TheVariants.{Change, Compensation, Commit, End, Prepare, RollbackDecided}
+use Rattle.shore_model.specs.declared.log_records.Payload.TheVariants.{Change, Commit, End, Prepare, RollbackDecided}
 use Rattle.shore_model.specs.Logs.{committed_in, has, in_doubt_in, is_commit, is_decision, is_in_doubt, is_prepare, is_rollback, prepare_of, previous_of}
 use Rattle.shore_model.specs.Records.{Records}
 use Rattle.laws_lives.proofs.Booleans.{or_right}
 use Rattle.laws_lives.proofs.DoubtDecisions.{filter_two}
 use Rattle.laws_lives.proofs.OneMore.{has-not_this, has-push}
 use Rattle.laws_lives.specs.Doubts.{LoggedDoubt, doubt_by, doubt_of, doubts_in}
-use Rattle.laws_lives.specs.Logged.{and_compensations, and_record, and_rollback, log_after_answer, log_after_reply, next_to_undo}
+use Rattle.laws_lives.specs.Logged.{and_compensations, and_record, and_rollback, log_after_answer, log_after_reply}
 use Rattle.laws_lives.specs.Sessions.{SessionTxn}
 use Rattle.laws_lives.specs.UndoLists.{images_since}
 use Rattle.laws_lives.specs.Views.{IsAmong}

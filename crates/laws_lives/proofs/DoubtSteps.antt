@@ -1,36 +1,33 @@
 -- Each event leaves those in doubt in the log as the state has them, holding their granules.
-use Rattle.std.proofs.Common.{◌≡◌, ◌≢◌, ◌⊎◌, ◌<◌, ◌+◌, inl, inr, ⊎_elim, ◌++◌, ℕ, List, [], ◌∷◌, Bool, true, false, cond, Some, None, refl, sym, ap, subst, ◌∙◌, map, arith}
-use Rattle.std.specs.Prelude.{◌==◌, All, Contains, filter, nat_eq, not}
-use Rattle.std.specs.List.{AllByRecursion}
+use Rattle.std.proofs.Common.{◌≡◌, ◌≢◌, ◌⊎◌, ◌<◌, inl, inr, ⊎_elim, ◌++◌, ℕ, List, [], ◌∷◌, true, false, cond, refl, sym, ap, subst, ◌∙◌, map, arith}
+use Rattle.std.specs.Prelude.{◌==◌, Contains, nat_eq, not}
 use Rattle.std.specs.Cmp.Lexicographic.{pointwise}
-use Rattle.std.proofs.lemmas.Bool.{true≢false}
+use Rattle.std.proofs.lemmas.Bool.{eq-eqb, true≢false}
 use Rattle.std.proofs.lemmas.List.Elements.{All-contains}
 use Rattle.shore_types.specs.declared.locking.Granule.{Granule}
 use Rattle.shore_types.specs.declared.locking.Mode.TheVariants.{EX}
 use Rattle.shore_model.specs.declared.histories.Entry.{Entry}
 use Rattle.shore_model.specs.declared.histories.Opening.{Opening}
-use Rattle.shore_model.specs.declared.holds.Hold.{Hold}
 use Rattle.shore_model.specs.declared.log_records.LogRecord.{LogRecord}
-use Rattle.shore_model.specs.declared.log_records.Payload.TheVariants.{Commit, End, Prepare, RollbackDecided}
-use Rattle.shore_model.specs.Locks.{HoldsAtLeast, OnOnePath}
+use Rattle.shore_model.specs.declared.log_records.Payload.TheVariants.{Commit, Prepare, RollbackDecided}
+use Rattle.shore_model.specs.Locks.{HoldsAtLeast}
 use Rattle.shore_model.specs.Logs.{has, is_prepare, is_rollback, previous_of}
+use Rattle.laws_lives.proofs.EndedLocks.{others_keep}
 use Rattle.laws_lives.proofs.DoubtDecisions.{but, pairs_without, same_text}
-use Rattle.laws_lives.proofs.DoubtRecords.{DecidesNone, abort_decides_none, among_filter, but_doubt, commit_takes, compensations_decide_none, decides_none, end_decides_none, none_committed, none_of_it, one_decides_none, prepare_adds, reply_decides_none, rollback_takes}
+use Rattle.laws_lives.proofs.DoubtRecords.{DecidesNone, abort_decides_none, among_filter, but_doubt, commit_takes, decides_none, end_decides_none, none_committed, none_of_it, one_decides_none, prepare_adds, reply_decides_none, rollback_takes}
 use Rattle.laws_lives.proofs.GranulePaths.{none_on_one_path}
 use Rattle.laws_lives.proofs.Lists.{among_append, among_left, among_map, among_right, map-push, mapped_one, recursion-weaker}
 use Rattle.laws_lives.proofs.Members.{txn_among, txn_without, txns_with}
-use Rattle.laws_lives.proofs.OneMore.{has-more, has-not_its, has-not_this, has-this}
+use Rattle.laws_lives.proofs.OneMore.{has-not_its, has-not_this, has-this}
 use Rattle.laws_lives.proofs.SessionsAgree.{but_none, each_at, pair_txn}
 use Rattle.laws_lives.proofs.Steps.{among_push, answered_pairs, answered_txns, last_among, still_prepared, still_resolved, txns_push, was_prepared}
 use Rattle.laws_lives.proofs.Writers.{same_or_not}
-use Rattle.shore_model.specs.declared.rollbacks.Rollback.TheVariants.{Whole}
 use Rattle.laws_lives.specs.Doubts.{DoubtsStand, LoggedDoubt, TracksDoubts, doubts_in, pair_logged}
 use Rattle.laws_lives.specs.LogTells.{IsLogAfter}
-use Rattle.laws_lives.specs.Logged.{and_compensations, and_record, log_after}
-use Rattle.laws_lives.specs.SessionSteps.{AnswerAbort, AnswerCommit, AnswerInDoubt, AnswerPrepare, AnswerResolve, AppendCommit, AppendPrepare, AppendResolve, AppendRollback, AreExclusive, BeginTxn, Doom, EndRollback, GiveReply, KeepsLocks, MoveLocks, PutBack, RefuseCall, SessionEvent, StepsTo, entries_by}
-use Rattle.laws_lives.specs.Sessions.{IsFree, IsUnused, PreparedTxn, ResolvedTxn, SessionTxn, Sessions, in_doubt_of, pair_of, pair_resolved, pairs_of, resolved_of, seated, txns_of, with_answered, without_prepared, without_resolved}
+use Rattle.laws_lives.specs.Logged.{and_record, log_after}
+use Rattle.laws_lives.specs.SessionSteps.{AnswerAbort, AnswerInDoubt, AnswerPrepare, AnswerResolve, AppendCommit, AppendPrepare, AppendResolve, AppendRollback, AreExclusive, Ask, BeginTxn, Doom, EndRollback, GiveReply, KeepsLocks, MoveLocks, PutBack, RefuseCall, SessionEvent, StepsTo}
+use Rattle.laws_lives.specs.Sessions.{IsFree, IsUnused, PreparedTxn, ResolvedTxn, SessionTxn, Sessions, in_doubt_of, pair_of, pair_resolved, pairs_of, resolved_of, txns_of, without_prepared, without_resolved}
 use Rattle.laws_lives.specs.Soundness.{IsSoundAfter, SessionsAgree}
-use Rattle.laws_lives.specs.UndoLists.{undo_rolled}
 use Rattle.laws_lives.specs.Views.{IsAmong}
 
 -- fewer of them stand as they did
@@ -79,11 +76,12 @@ module _ {o : Opening} {es : List Entry} {s : Sessions} {log : List LogRecord} (
   }
 
   -- the same transactions under way, prepared and resolved
-  pub still_tracks : (more : List LogRecord) (new : Sessions) → DecidesNone log more → new.prepared ≡ s.prepared → new.resolving ≡ s.resolving → new.held ≡ s.held
+  pub still_tracks : (more : List LogRecord) (new : Sessions) → DecidesNone log more → new.prepared ≡ s.prepared → new.resolving ≡ s.resolving
+      → ((t : ℕ) → IsAmong t (in_doubt_of s) → KeepsLocks s.held new.held t)
       → ((t : ℕ) → IsAmong t (txns_of new.active) → IsAmong t (txns_of s.active)) → TracksDoubts more new
-  still_tracks more new none prepared resolving held fewer =
+  still_tracks more new none prepared resolving keeps fewer =
       undecided_tracks more new none (ap pairs_of prepared) (ap (map (λ p. p.txn)) prepared)
-      (λ t b m g h. subst (λ held. HoldsAtLeast held t m g) (sym held) h)
+      keeps
       (λ t b is. d.free t (fewer t b) (λ h. is.0 (subst (λ ps. IsAmong t (map (λ p. p.txn) ps)) (sym prepared) h), λ h. is.1 (subst (λ rs. IsAmong t (map (λ r. r.txn) rs)) (sym resolving) h)))
       (λ t b r. (fewer t b, subst (λ rs. IsAmong t (map (λ r. r.txn) rs)) resolving r))
 
@@ -135,16 +133,17 @@ module _ {o : Opening} {es : List Entry} {s : Sessions} {log : List LogRecord} (
 
   -- ---- a commit of one that is free
 
-  own_commit_tracks : (a : SessionTxn) → IsFree s a.txn → (new : Sessions) → new.prepared ≡ s.prepared → new.resolving ≡ s.resolving → new.held ≡ s.held
+  pub own_commit_tracks : (a : SessionTxn) → IsFree s a.txn → (new : Sessions) → new.prepared ≡ s.prepared → new.resolving ≡ s.resolving
+      → ((t : ℕ) → IsAmong t (in_doubt_of s) → KeepsLocks s.held new.held t)
       → ((u : ℕ) → IsAmong u (txns_of new.active) → IsAmong u (txns_of s.active) × (u ≢ a.txn)) → TracksDoubts (and_record a.txn log Commit) new
-  own_commit_tracks a is_free new prepared resolving held fewer =
+  own_commit_tracks a is_free new prepared resolving keeps fewer =
       let r : LogRecord = record { txn = a.txn; previous = previous_of a.txn log; payload = Commit } in
       let takes = commit_takes log a.txn (previous_of a.txn log) in
       let kept : (e : LoggedDoubt) → IsAmong e (doubts_in (log ++ r ∷ [])) → IsAmong e (doubts_in log) =
       λ e a'. (among_filter (λ d. not (a.txn == d.txn)) e (doubts_in log) (subst (IsAmong e) takes a')).0 in
       record {
         in_doubt = ap (map pair_logged) takes ∙ map_but a.txn (doubts_in log) ∙ ap (but a.txn) d.in_doubt ∙ but_none a.txn s.prepared is_free.0 ∙ ap pairs_of (sym prepared);
-        hold = λ e g x c. subst (λ held. HoldsAtLeast held e.txn EX g) (sym held) (d.hold e g (kept e x) c);
+        hold = λ e g x c. keeps e.txn (doubt_is_prepared e (kept e x)) EX g (d.hold e g (kept e x) c);
         free = λ u b is.
             let old = d.free u (fewer u b).0
             (λ h. is.0 (subst (λ ps. IsAmong u (map (λ p. p.txn) ps)) (sym prepared) h), λ h. is.1 (subst (λ rs. IsAmong u (map (λ r. r.txn) rs)) (sym resolving) h)) in
@@ -157,16 +156,20 @@ module _ {o : Opening} {es : List Entry} {s : Sessions} {log : List LogRecord} (
 
   -- ---- what a resolve decides
 
-  module _ (t : ℕ) (more : List LogRecord) (new : Sessions) (takes : doubts_in more ≡ but_doubt t (doubts_in log)) (prepared : new.prepared ≡ without_prepared t s.prepared) (held : new.held ≡ s.held)
+  module _ (t : ℕ) (more : List LogRecord) (new : Sessions) (takes : doubts_in more ≡ but_doubt t (doubts_in log)) (prepared : new.prepared ≡ without_prepared t s.prepared) (keeps : (u : ℕ) → u ≢ t → KeepsLocks s.held new.held u)
       (resolved : resolved_of new ≡ t ∷ resolved_of s) (active : (u : ℕ) → IsAmong u (txns_of new.active) → IsAmong u (txns_of s.active)) where
     kept_doubt : (e : LoggedDoubt) → IsAmong e (doubts_in more) → IsAmong e (doubts_in log)
     kept_doubt e a = (among_filter (λ d. not (t == d.txn)) e (doubts_in log) (subst (IsAmong e) takes a)).0
+
+    doubt_is_other : (e : LoggedDoubt) → IsAmong e (doubts_in more) → e.txn ≢ t
+    doubt_is_other e a same =
+        true≢false (sym ((among_filter (λ d. not (t == d.txn)) e (doubts_in log) (subst (IsAmong e) takes a)).1) ∙ ap not (eq-eqb t e.txn (sym same)))
 
     pub resolve_tracks : ((u : ℕ) → u ≢ t → (has is_prepare u more ≡ has is_prepare u log) × (has is_rollback u more ≡ has is_rollback u log))
         → (IsAmong t (txns_of new.active) → has is_rollback t more ≡ true) → TracksDoubts more new
     resolve_tracks others own = record {
       in_doubt = ap (map pair_logged) takes ∙ map_but t (doubts_in log) ∙ ap (but t) d.in_doubt ∙ sym (pairs_without t s.prepared) ∙ ap pairs_of (sym prepared);
-      hold = λ e g a c. subst (λ held. HoldsAtLeast held e.txn EX g) (sym held) (d.hold e g (kept_doubt e a) c);
+      hold = λ e g a c. keeps e.txn (doubt_is_other e a) EX g (d.hold e g (kept_doubt e a) c);
       free = λ u b is.
           let other : u ≢ t = λ same. is.1 (subst (IsAmong u) (sym resolved) (inl (sym same))) in
           let old = d.free u (active u b)
@@ -212,23 +215,22 @@ event_tracks_doubts o es old new (BeginTxn session) log k agree l d moves =
     (λ t b r. (⊎_elim (λ same. let less : t < old.next_txn = resolved_low agree t r in absurd (omega arith)) (λ later. later) b, r)))
 event_tracks_doubts o es old new (GiveReply a c reply) log k agree l d moves =
     subst (TracksDoubts (log_after log old (GiveReply a c reply))) (sym moves.4)
-    (still_tracks k l d _ _ (reply_decides_none log old.records a c reply) refl refl refl (λ t b. subst (IsAmong t) (txns_with a.txn _ old.active) b))
-event_tracks_doubts o es old new (AppendCommit a) log k agree l d moves =
+    (still_tracks k l d _ _ (reply_decides_none log old.records a c reply) refl refl (λ t b m g h. h) (λ t b. subst (IsAmong t) (txns_with a.txn _ old.active) b))
+event_tracks_doubts o es old new (AppendCommit a ticket) log k agree l d moves =
     subst (TracksDoubts (and_record a.txn log Commit)) (sym moves.2)
-    (own_commit_tracks k l d a moves.0.2 _ refl refl refl (λ u b. txn_without a.txn u old.active b))
+    (own_commit_tracks k l d a moves.0.2 _ refl refl (λ t b. others_keep a.txn old.held t (λ same. moves.0.2.0 (subst (λ v. IsAmong v (in_doubt_of old)) same b))) (λ u b. txn_without a.txn u old.active b))
 event_tracks_doubts o es old new (PutBack a kept e r) log k agree l d moves =
     subst (TracksDoubts (log_after log old (PutBack a kept e r))) (sym moves.4)
-    (still_tracks k l d _ _ (one_decides_none a.txn log log _ refl (decides_none log)) refl refl refl (λ t b. subst (IsAmong t) (txns_with a.txn _ old.active) b))
+    (still_tracks k l d _ _ (one_decides_none a.txn log log _ refl (decides_none log)) refl refl (λ t b m g h. h) (λ t b. subst (IsAmong t) (txns_with a.txn _ old.active) b))
 event_tracks_doubts o es old new (Doom a) log k agree l d moves =
     subst (TracksDoubts log) (sym moves.1)
-    (still_tracks k l d log _ (decides_none log) refl refl refl (λ t b. subst (IsAmong t) (txns_with a.txn _ old.active) b))
+    (still_tracks k l d log _ (decides_none log) refl refl (λ t b m g h. h) (λ t b. subst (IsAmong t) (txns_with a.txn _ old.active) b))
 event_tracks_doubts o es old new (AnswerAbort a) log k agree l d moves =
     subst (TracksDoubts (log_after log old (AnswerAbort a))) (sym moves.1)
-    (still_tracks k l d _ _ (abort_decides_none a.txn log a.undo.images) refl refl refl (λ t b. (txn_without a.txn t old.active b).0))
-event_tracks_doubts o es old new (AnswerCommit a) log k agree l d moves =
-    subst (TracksDoubts log) (sym moves.1) (still_tracks k l d log _ (decides_none log) refl refl refl (λ t b. b))
+    (still_tracks k l d _ _ (abort_decides_none a.txn log a.undo.images) refl refl (λ t b. others_keep a.txn old.held t (λ same. moves.0.2.0 (subst (λ v. IsAmong v (in_doubt_of old)) same b))) (λ t b. (txn_without a.txn t old.active b).0))
+event_tracks_doubts o es old new (Ask ticket durable) log k agree l d moves = subst (TracksDoubts log) (sym moves) d
 event_tracks_doubts o es old new (RefuseCall session t c fault) log k agree l d moves =
-    subst (TracksDoubts log) (sym moves.2) (still_tracks k l d log _ (decides_none log) refl refl refl (λ t b. b))
+    subst (TracksDoubts log) (sym moves.2) (still_tracks k l d log _ (decides_none log) refl refl (λ t b m g h. h) (λ t b. b))
 event_tracks_doubts o es old new (AppendPrepare a global granules) log k agree l d moves =
     subst (TracksDoubts (and_record a.txn log (Prepare global granules))) (sym moves.4)
     (prepare_tracks k l d a moves.0.0 moves.0.2 global granules moves.2 moves.3 _ refl refl refl refl)
@@ -239,22 +241,22 @@ event_tracks_doubts o es old new (AnswerPrepare session t global) log k agree l 
 event_tracks_doubts o es old new (AppendResolve a global) log k agree l d moves =
     let r : LogRecord = record { txn = a.txn; previous = previous_of a.txn log; payload = Commit } in
     subst (TracksDoubts (and_record a.txn log Commit)) (sym moves.3)
-    (resolve_tracks k l d a.txn (log ++ r ∷ []) _ (commit_takes log a.txn (previous_of a.txn log)) refl refl refl (λ u b. (txn_without a.txn u old.active b).0)
+    (resolve_tracks k l d a.txn (log ++ r ∷ []) _ (commit_takes log a.txn (previous_of a.txn log)) refl (others_keep a.txn old.held) refl (λ u b. (txn_without a.txn u old.active b).0)
     (λ u other. (has-not_this log r is_prepare u refl, has-not_this log r is_rollback u refl))
     (λ among. absurd ((txn_without a.txn a.txn old.active among).1 refl)))
 event_tracks_doubts o es old new (AppendRollback a global) log k agree l d moves =
     let r : LogRecord = record { txn = a.txn; previous = previous_of a.txn log; payload = RollbackDecided } in
     subst (TracksDoubts (and_record a.txn log RollbackDecided)) (sym moves.2)
-    (resolve_tracks k l d a.txn (log ++ r ∷ []) _ (rollback_takes log a.txn (previous_of a.txn log)) refl refl refl (λ u b. subst (IsAmong u) (txns_with a.txn _ old.active) b)
+    (resolve_tracks k l d a.txn (log ++ r ∷ []) _ (rollback_takes log a.txn (previous_of a.txn log)) refl (λ u other m g h. h) refl (λ u b. subst (IsAmong u) (txns_with a.txn _ old.active) b)
     (λ u other. (has-not_this log r is_prepare u refl, has-not_its log r is_rollback u (λ same. other (sym same))))
     (λ among. has-this log r is_rollback refl))
 event_tracks_doubts o es old new (EndRollback a) log k agree l d moves =
     subst (TracksDoubts (log_after log old (EndRollback a))) (sym moves.2)
-    (still_tracks k l d _ _ (end_decides_none a.txn log a.undo.images) refl refl refl (λ t b. (txn_without a.txn t old.active b).0))
+    (still_tracks k l d _ _ (end_decides_none a.txn log a.undo.images) refl refl (λ t b. others_keep a.txn old.held t (λ same. moves.0.1 (subst (λ v. IsAmong v (in_doubt_of old)) same b))) (λ t b. (txn_without a.txn t old.active b).0))
 event_tracks_doubts o es old new (AnswerResolve session r) log k agree l d moves =
     subst (TracksDoubts log) (sym moves.2)
     (undecided_tracks k l d log _ (decides_none log) refl refl (λ t b m g h. h)
     (λ u b is. d.free u b (is.0, λ h. is.1 (still_resolved r.txn u old.resolving h (λ same. moves.1 (subst (λ v. IsAmong v (txns_of old.active)) same b)))))
     (λ t b resolved. (b, still_without r.txn t old.resolving resolved)))
 event_tracks_doubts o es old new (AnswerInDoubt session t pairs) log k agree l d moves =
-    subst (TracksDoubts log) (sym moves.2) (still_tracks k l d log _ (decides_none log) refl refl refl (λ t b. b))
+    subst (TracksDoubts log) (sym moves.2) (still_tracks k l d log _ (decides_none log) refl refl (λ t b m g h. h) (λ t b. b))

@@ -6,7 +6,6 @@ use Rattle.std.specs.List.{cons_option, filter_map}
 use Rattle.std.proofs.lemmas.Bool.{cases_Bool, true≢false}
 use Rattle.std.proofs.lemmas.List.Elements.{filter_map-append}
 use Rattle.shore_types.specs.Ids.{rids_total, exact_rids}
-use Rattle.shore_types.specs.Images.{Image}
 use Rattle.shore_types.specs.declared.ids.Rid.{Rid}
 use Rattle.shore_model.specs.declared.histories.Entry.{Entry}
 use Rattle.shore_model.specs.declared.histories.Opening.{Opening}
@@ -14,7 +13,7 @@ use Rattle.shore_model.specs.declared.log_records.LogRecord.{LogRecord}
 use Rattle.shore_model.specs.declared.log_records.Payload.{Payload}
 use Rattle.shore_model.specs.declared.log_records.Payload.TheVariants.{Prepare}
 use Rattle.shore_model.specs.Histories.{in_doubt, shown}
-use Rattle.shore_model.specs.Logs.{Lawful, MayFollow, MaySay, has, in_doubt_in, is_in_doubt, is_over, is_prepare, logged_writes, prepare_of, records_told}
+use Rattle.shore_model.specs.Logs.{Lawful, MayFollow, MaySay, has, in_doubt_in, is_in_doubt, is_prepare, logged_writes, prepare_of, records_told}
 use Rattle.shore_model.specs.Records.{WriteSet, overlay, overlays}
 use Rattle.shore_model.proofs.Overlays.{get-overlay}
 use Rattle.laws_lives.proofs.DoubtRecords.{among_filter, doubt_has_prepare, doubt_txns}

@@ -1,5 +1,5 @@
 -- A transaction ends, by an abort or a commit, and the history stays sound.
-use Rattle.std.proofs.Common.{◌≡◌, ◌≢◌, ◌⊎◌, inl, inr, ⊎_elim, ◌++◌, ◌<◌, ℕ, List, [], ◌∷◌, None, Ok, refl, sym, ap, subst, ◌∙◌}
+use Rattle.std.proofs.Common.{◌≡◌, ◌≢◌, ◌⊎◌, inl, inr, ⊎_elim, ◌++◌, ◌<◌, ℕ, List, [], ◌∷◌, None, refl, sym, ap, subst, ◌∙◌}
 use Rattle.std.specs.FinMap.{get}
 use Rattle.std.specs.List.{AllByRecursion}
 use Rattle.shore_types.specs.declared.ids.Rid.{Rid}
@@ -11,6 +11,7 @@ use Rattle.shore_model.specs.declared.progress.Progress.{Progress}
 use Rattle.shore_model.specs.Histories.{Sound, calls_of, decisions, serial, writes_given}
 use Rattle.shore_model.specs.Locks.{MayRead, MayWrite}
 use Rattle.shore_model.specs.Records.{Records, overlay}
+use Rattle.laws_lives.proofs.EndedLocks.{left_with}
 use Rattle.laws_lives.proofs.Entries.{calls-decided, decisions-decided}
 use Rattle.laws_lives.proofs.Lists.{recursion-each, recursion-push}
 use Rattle.laws_lives.proofs.Members.{among_without, txn_among, txn_stays, txn_without}
@@ -19,7 +20,7 @@ use Rattle.laws_lives.proofs.Standing.{stands_on}
 use Rattle.laws_lives.proofs.Turns.{AreKept, KeepsTurn, kept_by_decided, serial-kept, serial-push}
 use Rattle.laws_lives.proofs.UndoLists.{undo_kept_by_others, undone_agrees, undone_changes}
 use Rattle.laws_lives.proofs.Views.{one_ends, overlay_none, some_or_none, writer_excludes}
-use Rattle.laws_lives.specs.Sessions.{IsFree, SessionTxn, Sessions, commit_appended, rollback_ended, txns_of, without_txn}
+use Rattle.laws_lives.specs.Sessions.{IsFree, SessionTxn, Sessions, txns_of, without_txn}
 use Rattle.laws_lives.specs.Soundness.{IsSoundAfter, decided_txn, history_from, progress_from, progress_in, serial_after, written_by}
 use Rattle.laws_lives.specs.UndoLists.{CanUndo, rolled_back}
 use Rattle.laws_lives.specs.Views.{IsAmong, Sees, Stand, StayRight}
@@ -44,7 +45,7 @@ module _ {o : Opening} {es : List Entry} {s : Sessions} (k : IsSoundAfter o es s
     pub rollback_elsewhere : (u : ℕ) → u ≢ a.txn → (id : Rid) → MayRead s.held u id → get R' id ≡ get s.records id
     rollback_elsewhere u other id r = ⊎_elim (λ kept. kept) (λ w. absurd (writer_excludes k.stand a.txn u id (λ same. other (sym same)) w r)) (rollback_changes id)
 
-    pub rollback_stays_sound : IsSoundAfter o es (rollback_ended s a)
+    pub rollback_stays_sound : IsSoundAfter o es (left_with s a R')
     rollback_stays_sound = record {
       sound = k.sound;
       standing = k.standing;
@@ -104,7 +105,7 @@ module _ {o : Opening} {es : List Entry} {s : Sessions} (k : IsSoundAfter o es s
       commit_turn is_free =
           sound_commit o es a.txn k.sound (k.own a.txn (txn_among a s.active mem) is_free) (k.replies a.txn (txn_among a s.active mem) now (λ id r. refl))
 
-      pub commit_stays_sound : Sound (history_from o with_commit) → IsSoundAfter o with_commit (commit_appended s a)
+      pub commit_stays_sound : Sound (history_from o with_commit) → IsSoundAfter o with_commit (left_with s a s.records)
       commit_stays_sound turn = record {
         sound = turn;
         standing = k.standing;

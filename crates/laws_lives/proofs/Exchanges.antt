@@ -33,8 +33,8 @@ tells_nothing R c _ h = tt
 pub refusal_is_quiet : (c : Call) (fault : Fault) → TellsNothing fault → IsQuiet (exchange c (Err fault))
 refusal_is_quiet c fault h = record { may = λ R p. tells_nothing _ c fault h; leaves = λ p. refl }
 
-pub commit_is_quiet : IsQuiet (exchange call.Commit (Ok Committed))
-commit_is_quiet = record { may = λ R p. refl; leaves = λ p. refl }
+pub commit_is_quiet : (ticket : ℕ) → IsQuiet (exchange call.Commit (Ok (Committed ticket)))
+commit_is_quiet ticket = record { may = λ R p. (ticket, refl); leaves = λ p. refl }
 
 pub abort_is_quiet : IsQuiet (exchange call.Abort (Ok Aborted))
 abort_is_quiet = record { may = λ R p. refl; leaves = λ p. refl }

@@ -19,10 +19,12 @@ use Rattle.laws_lives.specs.Soundness.{written_by}
 use Rattle.laws_lives.specs.Views.{IsAmong}
 use Rattle.laws_lives.proofs.Acknowledged.{still_decided}
 use Rattle.laws_lives.proofs.AtWork.{AcknowledgedAreDurable, IsAtWork, durable_after_work}
+use Rattle.laws_lives.proofs.Tickets.{still_tickets}
 use Rattle.laws_lives.proofs.WholeSteps.{event_stays_whole}
 use Rattle.laws_lives.proofs.Works.{all_work}
 use Rattle.laws_lives.specs.ManagerSteps.{ManagerState}
 use Rattle.laws_lives.specs.Stretches.{IsInMidst, MayFailAs}
+use Rattle.laws_lives.specs.Tickets.{AreTickets}
 
 pub record MayLosePower (base : ℕ) (o : Opening) (es : List Entry) (s : RecoveryState) : Type 0 where
   pub lawful : Lawful s.log
@@ -32,6 +34,7 @@ pub record MayLosePower (base : ℕ) (o : Opening) (es : List Entry) (s : Recove
   -- each prefix has a prefix of the decisions
   pub decided : (n : ℕ) → (m : ℕ) × (decisions_in base (take n s.log) ≡ take m (decisions es))
   pub acknowledged : AcknowledgedAreDurable base es s
+  pub tickets : AreTickets base s.log es
 
 pub crash_keeps : (base : ℕ) (o : Opening) (es : List Entry) (s : RecoveryState) → MayLosePower base o es s → (n : ℕ) → s.durable ≤ n → n ≤ length s.log
     → Kept es (decisions_in base (take n s.log)) × TellsItsDecisions base o (written_by o es) (take n s.log)
@@ -64,6 +67,7 @@ module _ (base floor : ℕ) (o : Opening) (es : List Entry) (m : ManagerState) (
     prefixes = k.decides.prefixes;
     decided = λ n. let front = decisions_in-take base n m.store.log in (front.0, front.1 ∙ ap (take front.0) (sym k.decides.all));
     acknowledged = k.acknowledged;
+    tickets = k.tickets;
   }
 
   in_the_midst : (failing : RecoveryState) → IsInMidst m failing → MayLosePower base o es failing
@@ -92,6 +96,7 @@ module _ (base floor : ℕ) (o : Opening) (es : List Entry) (m : ManagerState) (
               ap (λ rs. decisions_in base (take n rs)) (sym is_prefix) ∙ first.1 ∙ ap (take first.0) there.1 ∙ both.1 ∙ ap (take both.0) (sym midst.all),
             );
         acknowledged = durable_after_work base es m.store failing k.recoverable.durable w k.acknowledged;
+        tickets = subst (λ log. AreTickets base log es) (sym w.grows) (still_tickets base m.store.log w.more es k.tickets);
       }
 
   pub may_lose_power : (failing : RecoveryState) → MayFailAs m failing → MayLosePower base o es failing

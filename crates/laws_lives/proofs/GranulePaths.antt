@@ -1,6 +1,6 @@
 -- Granules on one path, and exclusive locks on them.
-use Rattle.std.proofs.Common.{◌≡◌, ◌≢◌, ℕ, List, ◌∷◌, [], inl, inr, ⊎_elim, refl, sym, subst}
-use Rattle.std.specs.Prelude.{Any, Contains, IsTrue}
+use Rattle.std.proofs.Common.{◌≢◌, ℕ, List, ◌∷◌, [], inl, inr, ⊎_elim, refl, sym, subst}
+use Rattle.std.specs.Prelude.{Contains}
 use Rattle.shore_types.specs.declared.ids.Rid.{Rid}
 use Rattle.shore_types.specs.declared.locking.Granule.{Granule}
 use Rattle.shore_types.specs.declared.locking.Granule.TheVariants.{Volume, Store, Page, Record}

@@ -10,7 +10,6 @@ use Rattle.shore_model.specs.declared.calls.Answer.{Answer}
 use Rattle.shore_model.specs.declared.calls.Call.{Call}
 use Rattle.shore_model.specs.declared.histories.Entry.{Entry}
 use Rattle.shore_model.specs.Locks.{MayRead}
-use Rattle.shore_model.specs.Records.{Records}
 use Rattle.laws_lives.proofs.EndSteps.{rollback_elsewhere}
 use Rattle.laws_lives.proofs.Members.{txn_among}
 use Rattle.laws_lives.proofs.PutBacks.{put_back_elsewhere}

@@ -1,5 +1,5 @@
 -- Stretches, one after another: a life.
-use Rattle.std.proofs.Common.{◌≡◌, ℕ, zero, suc, List, [], ◌∷◌, Some, map, refl, sym, ap, subst, ◌∙◌, length, take, arith, length-take}
+use Rattle.std.proofs.Common.{◌≡◌, ℕ, zero, suc, List, [], ◌∷◌, Some, map, refl, ap, ◌∙◌, length, take, arith, length-take}
 use Rattle.std.specs.Prelude.{slice_get}
 use Rattle.std.specs.FinMap.{empty}
 use Rattle.shore_model.specs.declared.histories.InDoubt.{InDoubt}
@@ -7,7 +7,7 @@ use Rattle.shore_model.specs.declared.histories.Opening.{Opening}
 use Rattle.shore_model.specs.declared.log_records.LogRecord.{LogRecord}
 use Rattle.shore_model.specs.Histories.{Kept, in_doubt, shown}
 use Rattle.shore_model.specs.Lives.{IsLife, next_opening}
-use Rattle.shore_model.specs.Logs.{Lawful, records_told}
+use Rattle.shore_model.specs.Logs.{records_told}
 use Rattle.laws_lives.proofs.DoubtsShown.{told_is_shown}
 use Rattle.laws_lives.proofs.Invariant.{event_kept}
 use Rattle.laws_lives.proofs.LogPrefixes.{opening_tells, tells_opening}

@@ -1,5 +1,5 @@
 -- Each event keeps the decisions of the log those of the history, and what prefixes of the log tell.
-use Rattle.std.proofs.Common.{◌≡◌, ◌≤◌, ◌++◌, ⊎_elim, ℕ, List, [], ◌∷◌, Bool, true, false, cond, None, Some, Result, Ok, Err, refl, sym, ap, subst, ◌∙◌, length, map, take, arith, append-nil}
+use Rattle.std.proofs.Common.{◌≡◌, ◌≢◌, ◌≤◌, ◌++◌, ⊎_elim, ℕ, List, [], ◌∷◌, Bool, true, false, cond, Some, Result, Ok, Err, refl, sym, ap, subst, ◌∙◌, length, take, arith, append-nil, append_assoc}
 use Rattle.std.proofs.Math.Seq.{take-length}
 use Rattle.std.specs.Prelude.{◌==◌, ◌&&◌, not, unwrap_or}
 use Rattle.std.specs.FinMap.{get}
@@ -7,7 +7,6 @@ use Rattle.std.specs.List.{filter_map}
 use Rattle.shore_types.specs.Images.{Image}
 use Rattle.shore_types.specs.declared.faults.Fault.{Fault}
 use Rattle.shore_types.specs.declared.ids.Rid.{Rid}
-use Rattle.shore_types.specs.declared.locking.Granule.{Granule}
 use Rattle.shore_model.specs.declared.calls.Answer.{Answer}
 use Rattle.shore_model.specs.declared.calls.Answer.TheVariants.{Began, Aborted, AreInDoubt, Committed, Prepared, Resolved}
 use Rattle.shore_model.specs.declared.calls.Call.{Call}
@@ -16,28 +15,30 @@ use Rattle.shore_model.specs.declared.calls.Exchange.{Exchange}
 use Rattle.shore_model.specs.declared.histories.Decision.{Decision}
 use Rattle.shore_model.specs.declared.histories.Decision.TheVariants as decision
 use Rattle.shore_model.specs.declared.histories.Entry.{Entry}
-use Rattle.shore_model.specs.declared.histories.Entry.TheVariants.{Decided, Exchanged}
+use Rattle.shore_model.specs.declared.histories.Entry.TheVariants.{Asked, Decided, Exchanged}
 use Rattle.shore_model.specs.declared.histories.Opening.{Opening}
 use Rattle.shore_model.specs.declared.log_records.LogRecord.{LogRecord}
 use Rattle.shore_model.specs.declared.log_records.Payload.{Payload}
 use Rattle.shore_model.specs.declared.log_records.Payload.TheVariants.{Commit, End, Prepare, RollbackDecided}
 use Rattle.shore_model.specs.Histories.{decisions, in_doubt, serial}
-use Rattle.shore_model.specs.Logs.{has, in_doubt_in, is_commit, is_in_doubt, is_prepare, is_rollback, previous_of}
+use Rattle.shore_model.specs.Logs.{has, is_commit, is_in_doubt, is_prepare, is_rollback, previous_of}
 use Rattle.shore_model.proofs.Overlays.{get-overlay}
 use Rattle.laws_lives.proofs.BeginSteps.{begin_kept}
 use Rattle.laws_lives.proofs.DoubtRecords.{doubt_txns}
-use Rattle.laws_lives.proofs.DoubtSteps.{doubt_is_prepared, event_tracks_doubts}
-use Rattle.laws_lives.proofs.Entries.{decisions-decided, decisions-exchanged}
+use Rattle.laws_lives.proofs.DoubtSteps.{doubt_is_prepared, event_tracks_doubts, own_commit_tracks}
+use Rattle.laws_lives.proofs.EndSteps.{commit_stays_sound, commit_turn}
+use Rattle.laws_lives.proofs.EndedLocks.{others_keep, without_its_locks}
+use Rattle.laws_lives.proofs.Entries.{decisions-asked, decisions-decided, decisions-exchanged}
 use Rattle.laws_lives.proofs.Exchanges.{IsQuiet, abort_is_quiet, commit_is_quiet, in_doubt_is_quiet, prepare_is_quiet, refusal_is_quiet, resolve_is_quiet}
 use Rattle.laws_lives.proofs.Lists.{drop-whole, length-push, mapped_one, recursion-each}
 use Rattle.laws_lives.proofs.LogPrefixes.{IsUndecided, compensations_more, decisions_in-take, decisions_more, opening_tells, prefixes_kept, prefixes_more, record_more, reply_more}
-use Rattle.laws_lives.proofs.LogSteps.{event_keeps_log}
-use Rattle.laws_lives.proofs.Members.{txn_among, txn_of_one}
+use Rattle.laws_lives.proofs.LogSteps.{commit_keeps_log, event_keeps_log, locks_go}
+use Rattle.laws_lives.proofs.Members.{txn_among, txn_of_one, txn_without}
 use Rattle.laws_lives.proofs.QuietSteps.{all_kept}
 use Rattle.laws_lives.proofs.ReplySteps.{decided_kept}
-use Rattle.laws_lives.proofs.SessionsAgree.{event_agrees}
-use Rattle.laws_lives.proofs.Steps.{event_stays_sound}
-use Rattle.laws_lives.proofs.Turns.{AreKept, KeepsTurn, kept_by_decided}
+use Rattle.laws_lives.proofs.SessionsAgree.{decision_agrees, event_agrees}
+use Rattle.laws_lives.proofs.Steps.{event_stays_sound, sound_seated}
+use Rattle.laws_lives.proofs.Turns.{AreKept, KeepsTurn, kept_by_asked, kept_by_decided}
 use Rattle.laws_lives.proofs.Views.{read_of_write}
 use Rattle.laws_lives.proofs.WholeSteps.{among_or_not}
 use Rattle.laws_lives.specs.Doubts.{DoubtsStand, HasWritten, IsOpeningOf, LoggedDoubt, TracksDoubts, doubts_in}
@@ -45,8 +46,8 @@ use Rattle.laws_lives.specs.Logged.{and_compensations, and_record, log_after, lo
 use Rattle.shore_model.specs.declared.rollbacks.Rollback.{Rollback}
 use Rattle.laws_lives.specs.LogPrefixes.{DecidesNothing, LogDecides, TellsItsDecisions, decision_by, decision_in, decisions_in}
 use Rattle.laws_lives.specs.LogTells.{IsLogAfter, records_committed}
-use Rattle.laws_lives.specs.SessionSteps.{AnswerAbort, AnswerCommit, AnswerInDoubt, AnswerPrepare, AnswerResolve, AppendCommit, AppendPrepare, AppendResolve, AppendRollback, BeginTxn, Doom, EndRollback, GiveReply, MoveLocks, PutBack, RefuseCall, SessionEvent, StepsTo, entries_by, exchange}
-use Rattle.laws_lives.specs.Sessions.{IsFree, SessionTxn, Sessions, in_doubt_of, resolved_of, txns_of}
+use Rattle.laws_lives.specs.SessionSteps.{AnswerAbort, AnswerInDoubt, AnswerPrepare, AnswerResolve, AppendCommit, AppendPrepare, AppendResolve, AppendRollback, Ask, BeginTxn, Doom, EndRollback, GiveReply, MoveLocks, PutBack, RefuseCall, SessionEvent, StepsTo, entries_by, exchange}
+use Rattle.laws_lives.specs.Sessions.{SessionTxn, Sessions, commit_appended, in_doubt_of, resolved_of, seated, txns_of, without_txn}
 use Rattle.laws_lives.specs.Soundness.{IsSoundAfter, SessionsAgree, decided_txn, serial_after, written_by}
 use Rattle.laws_lives.specs.Views.{IsAmong}
 
@@ -168,6 +169,20 @@ module _ {base : ℕ} {o : Opening} {es : List Entry} {s : Sessions} {log : List
             (prefixes_kept base o es more (decisions es) log (recursion-each (λ e. KeepsTurn o es more (decided_txn e)) (λ e. kept_by_decided o es (decided_txn e) c) (decisions es)) d.all d.prefixes);
       }
 
+-- entries that decide nothing, and with which each transaction keeps its turn
+more_decides : {base : ℕ} {o : Opening} {es : List Entry} (more : List Entry) (log : List LogRecord) → decisions more ≡ decisions es → ((t : ℕ) → KeepsTurn o es more t)
+    → LogDecides base o es log → LogDecides base o more log
+more_decides {base} {o} {es} more log same kept g = record {
+  long = g.long;
+  all = same ∙ g.all;
+  prefixes = prefixes_kept base o es more (decisions es) log (recursion-each (λ d. KeepsTurn o es more (decided_txn d)) (λ d. kept (decided_txn d)) (decisions es)) g.all g.prefixes;
+}
+
+answer_decides : {base : ℕ} {o : Opening} {es : List Entry} {s : Sessions} → IsSoundAfter o es s → (log : List LogRecord) (session t : ℕ) (x : Exchange) → IsQuiet x
+    → LogDecides base o es log → LogDecides base o (es ++ Exchanged session t x ∷ []) log
+answer_decides {es = es} k log session t x quiet g =
+    more_decides (es ++ Exchanged session t x ∷ []) log (decisions-exchanged es t session x) (all_kept k session t x quiet) g
+
 pub event_decides : (base : ℕ) (o : Opening) (es : List Entry) (old new : Sessions) (e : SessionEvent) (log : List LogRecord) → IsSoundAfter o es old
     → SessionsAgree o es old → IsLogAfter o es old log → TracksDoubts log old → LogDecides base o es log → StepsTo old e new → LogDecides base o (es ++ entries_by old e) (log_after log old e)
 event_decides base o es old new (MoveLocks held) log k agree l t d moves = subst (λ es. LogDecides base o es log) (sym (append-nil es)) d
@@ -175,16 +190,25 @@ event_decides base o es old new (BeginTxn session) log k agree l t d moves = beg
 event_decides base o es old new (GiveReply a c reply) log k agree l t d moves =
     exchange_decides k agree l t d (log_after_reply log old.records a c reply) a.session a.txn (exchange c reply) (decided_kept k a moves.0.0 moves.0.2 (exchange c reply))
     (reply_midst k agree l t d a moves.0.0 moves.0.2.0 c reply)
-event_decides base o es old new (AppendCommit a) log k agree l t d moves =
-    decision_decides k agree l t d a.txn Commit (decision.Commit a.txn) refl (event_stays_sound o es old new (AppendCommit a) k agree moves) (event_agrees o es old new (AppendCommit a) k agree moves)
-    (event_keeps_log o es old new (AppendCommit a) log k l moves) (event_tracks_doubts o es old new (AppendCommit a) log k agree l t moves)
+event_decides base o es old new (AppendCommit a ticket) log k agree l t d moves =
+    let x : Exchange = exchange call.Commit (Ok (Committed ticket)) in
+    let gone : (u : ℕ) → IsAmong u (txns_of (without_txn a.txn old.active)) → u ≢ a.txn = λ u b. (txn_without a.txn u old.active b).1 in
+    let sound = commit_stays_sound k a moves.0.0 moves.1 (commit_turn k a moves.0.0 moves.1 moves.0.2) in
+    let freed = without_its_locks a.txn sound gone in
+    let left = locks_go (commit_keeps_log k l a moves.0.0 moves.1) a.txn gone in
+    let mid : Sessions = seated old (Decided (decision.Commit a.txn) ∷ []) (commit_appended old a) in
+    let decided = decision_decides k agree l t d a.txn Commit (decision.Commit a.txn) refl (sound_seated old (Decided (decision.Commit a.txn) ∷ []) freed) (decision_agrees agree k a moves.0)
+    (record { tells_serial = left.tells_serial; undo_logged = left.undo_logged; below = left.below })
+    (own_commit_tracks k l t a moves.0.2 mid refl refl (λ u b. others_keep a.txn old.held u (λ same. moves.0.2.0 (subst (λ v. IsAmong v (in_doubt_of old)) same b))) (λ u b. txn_without a.txn u old.active b)) in
+    subst (λ es. LogDecides base o es (and_record a.txn log Commit)) (append_assoc es (Decided (decision.Commit a.txn) ∷ []) (Exchanged a.session a.txn x ∷ []))
+    (answer_decides freed (and_record a.txn log Commit) a.session a.txn x (commit_is_quiet ticket) decided)
 event_decides base o es old new (PutBack a kept e r) log k agree l t d moves =
     subst (λ es. LogDecides base o es (log_after log old (PutBack a kept e r))) (sym (append-nil es)) (put_back_midst k agree l t d a moves.0.0 moves.0.1 kept e r)
 event_decides base o es old new (Doom a) log k agree l t d moves = subst (λ es. LogDecides base o es log) (sym (append-nil es)) d
 event_decides base o es old new (AnswerAbort a) log k agree l t d moves =
     quiet_decides k agree l t d (abort_midst k agree l t d a moves.0.0 moves.0.2.0) a.session a.txn (exchange call.Abort (Ok Aborted)) abort_is_quiet
-event_decides base o es old new (AnswerCommit a) log k agree l t d moves =
-    quiet_decides k agree l t d d a.session a.txn (exchange call.Commit (Ok Committed)) commit_is_quiet
+event_decides base o es old new (Ask ticket durable) log k agree l t d moves =
+    more_decides (es ++ Asked ticket durable ∷ []) log (decisions-asked es ticket durable) (λ u. kept_by_asked o es u ticket durable) d
 event_decides base o es old new (RefuseCall session u c fault) log k agree l t d moves =
     quiet_decides k agree l t d d session u (exchange c (Err fault)) (refusal_is_quiet c fault moves.1)
 event_decides base o es old new (AppendPrepare a global granules) log k agree l t d moves =
@@ -214,11 +238,11 @@ pub event_midst : (base : ℕ) (o : Opening) (es : List Entry) (old new : Sessio
 event_midst base o es old new (MoveLocks held) log k agree l t d moves none = d
 event_midst base o es old new (BeginTxn session) log k agree l t d moves none = d
 event_midst base o es old new (GiveReply a c reply) log k agree l t d moves none = reply_midst k agree l t d a moves.0.0 moves.0.2.0 c reply
-event_midst base o es old new (AppendCommit a) log k agree l t d moves none = absurd none
+event_midst base o es old new (AppendCommit a ticket) log k agree l t d moves none = absurd none
 event_midst base o es old new (PutBack a kept e r) log k agree l t d moves none = put_back_midst k agree l t d a moves.0.0 moves.0.1 kept e r
 event_midst base o es old new (Doom a) log k agree l t d moves none = d
 event_midst base o es old new (AnswerAbort a) log k agree l t d moves none = abort_midst k agree l t d a moves.0.0 moves.0.2.0
-event_midst base o es old new (AnswerCommit a) log k agree l t d moves none = d
+event_midst base o es old new (Ask ticket durable) log k agree l t d moves none = d
 event_midst base o es old new (RefuseCall session u c fault) log k agree l t d moves none = d
 event_midst base o es old new (AppendPrepare a global granules) log k agree l t d moves none = absurd none
 event_midst base o es old new (AnswerPrepare session u global) log k agree l t d moves none = d

@@ -1,6 +1,6 @@
 -- Prefixes of the log as records come: what each of them tells.
 use Rattle.std.proofs.Common.{◌≡◌, ◌≢◌, inl, inr, ⊎_elim, ◌≤◌, ℕ, zero, suc, List, [], ◌∷◌, ◌++◌, true, false, cond, map, Some, None, Result, Ok, Err, refl, sym, ap, subst, ◌∙◌, drop, take, length, arith, append-nil}
-use Rattle.std.specs.Prelude.{◌==◌, ◌&&◌, ◌||◌, filter, not}
+use Rattle.std.specs.Prelude.{◌==◌, ◌&&◌, filter, not}
 use Rattle.std.specs.FinMap.{get}
 use Rattle.std.specs.List.{AllByRecursion, cons_option, filter_map}
 use Rattle.std.proofs.lemmas.Bool.{eqb-true, eqb-false, true≢false}

@@ -1,5 +1,5 @@
 -- Each event keeps the log beside the history.
-use Rattle.std.proofs.Common.{◌≡◌, ◌≢◌, ⊎_elim, ◌++◌, ◌<◌, ◌+◌, ℕ, zero, suc, List, [], ◌∷◌, true, false, cond, Some, None, Result, Ok, Err, refl, sym, ap, subst, ◌∙◌, map, length, drop, take, arith, append-nil}
+use Rattle.std.proofs.Common.{◌≡◌, ◌≢◌, ⊎_elim, ◌++◌, ◌<◌, ◌+◌, ℕ, zero, suc, List, [], ◌∷◌, Bool, true, false, cond, Some, None, Result, Ok, Err, refl, sym, ap, subst, ◌∙◌, length, drop, take, arith, append-nil, append_assoc}
 use Rattle.std.specs.Prelude.{◌==◌, IsSome, filter, slice_get, unwrap_or}
 use Rattle.std.specs.FinMap.{empty, get, insert, get-empty}
 use Rattle.std.specs.List.{AllByRecursion, cons_option}
@@ -16,14 +16,14 @@ use Rattle.shore_model.specs.declared.calls.Exchange.{Exchange}
 use Rattle.shore_model.specs.declared.histories.Decision.{Decision}
 use Rattle.shore_model.specs.declared.histories.Decision.TheVariants as decision
 use Rattle.shore_model.specs.declared.histories.Entry.{Entry}
-use Rattle.shore_model.specs.declared.histories.Entry.TheVariants.{Exchanged, Decided}
+use Rattle.shore_model.specs.declared.histories.Entry.TheVariants.{Asked, Exchanged, Decided}
 use Rattle.shore_model.specs.declared.holds.Hold.{Hold}
 use Rattle.shore_model.specs.declared.log_records.LogRecord.{LogRecord}
 use Rattle.shore_model.specs.declared.log_records.Payload.{Payload}
 use Rattle.shore_model.specs.declared.log_records.Payload.TheVariants.{Change, Compensation, Commit, End, Prepare, RollbackDecided}
 use Rattle.shore_model.specs.declared.progress.Progress.{Progress}
 use Rattle.shore_model.specs.Alone.{start, after, after_answer, after_reply}
-use Rattle.shore_model.specs.Histories.{calls_of, serial, writes_given}
+use Rattle.shore_model.specs.Histories.{calls_of, decisions, serial, writes_given}
 use Rattle.shore_model.specs.Locks.{MayWrite}
 use Rattle.shore_model.specs.Logs.{committed_in, image_in, is_commit, last_images, logged_writes, previous_of}
 use Rattle.shore_model.specs.Records.{Records, WriteSet, overlay, put_image}
@@ -35,20 +35,22 @@ use Rattle.laws_lives.proofs.LogTells.{committed_one, committed_same, compensati
 use Rattle.laws_lives.proofs.LoggedUndos.{own_reply, still_logged, with_compensations, with_reply}
 use Rattle.laws_lives.proofs.Members.{HasNewUndo, among_with, among_without, txn_among, txn_without, txns_with}
 use Rattle.laws_lives.proofs.BeginSteps.{begin_called, begin_now, begin_others, not_yet}
-use Rattle.laws_lives.proofs.EndSteps.{abort_can, commit_called, commit_now, commit_sees, rollback_elsewhere, rollback_stays_sound}
-use Rattle.laws_lives.proofs.QuietSteps.{all_kept, quiet_now}
-use Rattle.laws_lives.proofs.Turns.{decision_after, kept_by_decided, own_progress as own_progress_of}
+use Rattle.laws_lives.proofs.EndSteps.{abort_can, commit_called, commit_now, commit_sees, commit_stays_sound, commit_turn, rollback_elsewhere, rollback_stays_sound}
+use Rattle.laws_lives.proofs.EndedLocks.{left_with, others_keep, without_its_locks}
+use Rattle.laws_lives.proofs.Entries.{decisions-asked, decisions-exchanged}
+use Rattle.laws_lives.proofs.QuietSteps.{all_kept, more_now}
+use Rattle.laws_lives.proofs.Turns.{KeepsTurn, decision_after, kept_by_asked, kept_by_decided, own_progress as own_progress_of}
 use Rattle.laws_lives.proofs.PutBacks.{doom_stays_sound, may_put_back}
 use Rattle.laws_lives.proofs.ReplySteps.{others_called, own_called, reply_now, t_below}
 use Rattle.laws_lives.proofs.StrongerLocks.{writes_up}
 use Rattle.laws_lives.proofs.Views.{read_of_write, writer_excludes}
-use Rattle.laws_lives.specs.LogTells.{records_committed, AreLogged, HasLogged, IsLogAfter, TellsSerial}
+use Rattle.laws_lives.specs.LogTells.{AreLogged, HasLogged, IsLogAfter, TellsSerial}
 use Rattle.laws_lives.specs.Logged.{and_compensations, and_record, log_after, log_after_answer, log_after_reply, next_to_undo}
 use Rattle.laws_lives.specs.RepliesInPlace.{MayReplyInPlace, Permit}
 use Rattle.shore_model.specs.declared.rollbacks.Rollback.{Rollback}
 use Rattle.shore_model.specs.declared.rollbacks.Rollback.TheVariants.{Whole}
-use Rattle.laws_lives.specs.SessionSteps.{AnswerAbort, AnswerCommit, AnswerInDoubt, AnswerPrepare, AnswerResolve, AppendCommit, AppendPrepare, AppendResolve, AppendRollback, BeginTxn, Doom, EndRollback, GiveReply, KeepsLocks, MoveLocks, PutBack, RefuseCall, SessionEvent, StepsTo, entries_by, exchange}
-use Rattle.laws_lives.specs.Sessions.{IsFree, SessionTxn, Sessions, commit_appended, rollback_ended, seated, doomed, image_put_back, locks_moved, reply_given, txn_begun, txns_of, without_txn}
+use Rattle.laws_lives.specs.SessionSteps.{AnswerAbort, AnswerInDoubt, AnswerPrepare, AnswerResolve, AppendCommit, AppendPrepare, AppendResolve, AppendRollback, Ask, BeginTxn, Doom, EndRollback, GiveReply, KeepsLocks, MoveLocks, PutBack, RefuseCall, SessionEvent, StepsTo, entries_by, exchange}
+use Rattle.laws_lives.specs.Sessions.{IsFree, SessionTxn, Sessions, commit_appended, rollback_ended, seated, doomed, image_put_back, locks_moved, reply_given, txn_begun, txns_of, without_locks, without_txn}
 use Rattle.laws_lives.specs.Soundness.{IsSoundAfter, decided_txn, progress_from, progress_in, serial_after, written_by}
 use Rattle.laws_lives.specs.UndoLists.{CanUndo, UndoList, in_place_after, in_place_after_answer, mark_of, undo_after, undo_rolled, rolled_back}
 use Rattle.laws_lives.specs.Views.{IsAmong}
@@ -265,7 +267,7 @@ module _ {o : Opening} {es : List Entry} {s : Sessions} {log : List LogRecord} (
     less : a.txn < s.next_txn
     less = k.below a.txn t_in
 
-    pub commit_keeps_log : a.undo.rolling ≡ None → IsLogAfter o (es ++ Decided (decision.Commit a.txn) ∷ []) (commit_appended s a) (and_record a.txn log Commit)
+    pub commit_keeps_log : a.undo.rolling ≡ None → IsLogAfter o (es ++ Decided (decision.Commit a.txn) ∷ []) (left_with s a s.records) (and_record a.txn log Commit)
     commit_keeps_log none =
         let r : LogRecord = record { txn = a.txn; previous = previous_of a.txn log; payload = Commit } in
         record {
@@ -329,7 +331,7 @@ module _ {o : Opening} {es : List Entry} {s : Sessions} {log : List LogRecord} (
     -- the list tells the same, and the others have logged what they had
     ended_keeps : (log' : List LogRecord) → TellsSerial log' s.held now undone (txns_of s.active) (progress_in o es)
         → ((b : SessionTxn) → IsAmong b s.active → AreLogged log' b.txn b.undo.images)
-        → AllByRecursion (λ r. r.txn < s.next_txn) log' → IsLogAfter o es (rollback_ended s a) log'
+        → AllByRecursion (λ r. r.txn < s.next_txn) log' → IsLogAfter o es (left_with s a undone) log'
     ended_keeps log' tells logged below = record {
       tells_serial = record {
         tells = tells.tells;
@@ -349,7 +351,7 @@ module _ {o : Opening} {es : List Entry} {s : Sessions} {log : List LogRecord} (
         compensations_tell s.held disjoint now (txns_of s.active) (progress_in o es) a.txn t_in s.records log a.undo.images (abort_can k a mem).changed
         l.tells_serial
 
-    pub end_keeps : IsLogAfter o es (rollback_ended s a) (and_record a.txn aborts End)
+    pub end_keeps : IsLogAfter o es (left_with s a undone) (and_record a.txn aborts End)
     end_keeps =
         let r : LogRecord = record { txn = a.txn; previous = previous_of a.txn aborts; payload = End } in
         ended_keeps (aborts ++ r ∷ []) (record {
@@ -361,7 +363,7 @@ module _ {o : Opening} {es : List Entry} {s : Sessions} {log : List LogRecord} (
         (grown a.txn aborts End less (undo_grown a.txn log a.undo.images less l.below))
 
     -- or nothing, of one that has logged nothing
-    unlogged_keeps : IsLogAfter o es (rollback_ended s a) log
+    unlogged_keeps : IsLogAfter o es (left_with s a undone) log
     unlogged_keeps = record {
       tells_serial = record {
         tells = l.tells_serial.tells;
@@ -373,9 +375,9 @@ module _ {o : Opening} {es : List Entry} {s : Sessions} {log : List LogRecord} (
       below = l.below;
     }
 
-    pub rollback_keeps_log : IsLogAfter o es (rollback_ended s a) (log_after log s (AnswerAbort a))
+    pub rollback_keeps_log : IsLogAfter o es (left_with s a undone) (log_after log s (AnswerAbort a))
     rollback_keeps_log =
-        elim (previous_of a.txn log == 0) as (λ b. IsLogAfter o es (rollback_ended s a) (cond b log (and_record a.txn aborts End))) [
+        elim (previous_of a.txn log == 0) as (λ b. IsLogAfter o es (left_with s a undone) (cond b log (and_record a.txn aborts End))) [
           | true ↦ unlogged_keeps
           | false ↦ end_keeps
         ]
@@ -405,34 +407,25 @@ module _ {o : Opening} {es : List Entry} {s : Sessions} {log : List LogRecord} (
         below = recursion-weaker (λ r. r.txn < s.next_txn) (λ r. r.txn < s.next_txn + 1) (λ r less. omega arith) log l.below;
       }
 
-  pub locks_keep_log : (held : List Hold) → ((t : ℕ) → IsAmong t (txns_of s.active) → KeepsLocks s.held held t)
-      → IsLogAfter o es (locks_moved s held) log
-  locks_keep_log held kept = record {
-    tells_serial = record {
-      tells = l.tells_serial.tells;
-      uncommitted = l.tells_serial.uncommitted;
-      each = λ u b. let g = l.tells_serial.each u b in record {
-        in_place = λ id image at. let was = g.in_place id image at in (was.0, writes_up s.held held u id (kept u b) was.1);
-        unwritten = g.unwritten;
-        unsaved = g.unsaved;
-      };
-    };
-    undo_logged = l.undo_logged;
-    below = l.below;
-  }
+  module _ (more : List Entry) (same : decisions more ≡ decisions es) (kept : (t : ℕ) → KeepsTurn o es more t) where
+    pub more_keeps_log : IsLogAfter o more s log
+    more_keeps_log =
+        let still : (v : ℕ) → StillLogged s.held s.records v (logged_writes log v) (progress_in o es v) (progress_in o more v) =
+        λ v. subst (StillLogged s.held s.records v (logged_writes log v) (progress_in o es v)) (sym (kept v).progress) (λ g. g) in
+        record {
+          tells_serial =
+              subst (λ now. TellsSerial log s.held now s.records (txns_of s.active) (progress_in o more)) (sym (more_now k more same kept))
+              (further (txns_of s.active) (progress_in o more) (λ v b. (b, still v)) l.tells_serial);
+          undo_logged = l.undo_logged;
+          below = l.below;
+        }
 
   pub quiet_keeps_log : (session u : ℕ) (x : Exchange) → IsQuiet x → IsLogAfter o (es ++ Exchanged session u x ∷ []) s log
   quiet_keeps_log session u x quiet =
-      let more = es ++ Exchanged session u x ∷ [] in
-      let still : (v : ℕ) → StillLogged s.held s.records v (logged_writes log v) (progress_in o es v) (progress_in o more v) =
-      λ v. subst (StillLogged s.held s.records v (logged_writes log v) (progress_in o es v)) (sym (all_kept k session u x quiet v).progress) (λ g. g) in
-      record {
-        tells_serial =
-            subst (λ now. TellsSerial log s.held now s.records (txns_of s.active) (progress_in o more)) (sym (quiet_now k session u x quiet))
-            (further (txns_of s.active) (progress_in o more) (λ v b. (b, still v)) l.tells_serial);
-        undo_logged = l.undo_logged;
-        below = l.below;
-      }
+      more_keeps_log (es ++ Exchanged session u x ∷ []) (decisions-exchanged es u session x) (all_kept k session u x quiet)
+
+  pub asked_keeps_log : (n : ℕ) (b : Bool) → IsLogAfter o (es ++ Asked n b ∷ []) s log
+  asked_keeps_log n b = more_keeps_log (es ++ Asked n b ∷ []) (decisions-asked es n b) (λ t. kept_by_asked o es t n b)
 
   pub log_beside : (new : Sessions) → new.records ≡ s.records → new.active ≡ s.active → new.held ≡ s.held → new.next_txn ≡ s.next_txn → IsLogAfter o es new log
   log_beside new records active held next = record {
@@ -474,15 +467,44 @@ module _ {o : Opening} {es : List Entry} {s : Sessions} {log : List LogRecord} (
   log_seated : {left : Sessions} {more : List Entry} {log' : List LogRecord} (added : List Entry) → IsLogAfter o more left log' → IsLogAfter o more (seated s added left) log'
   log_seated {left} added h = record { tells_serial = h.tells_serial; undo_logged = h.undo_logged; below = h.below }
 
+locks_keep_log : {o : Opening} {es : List Entry} {s : Sessions} {log : List LogRecord} → IsLogAfter o es s log → (held : List Hold) → ((t : ℕ) → IsAmong t (txns_of s.active) → KeepsLocks s.held held t)
+    → IsLogAfter o es (locks_moved s held) log
+locks_keep_log {s = s} l held kept = record {
+  tells_serial = record {
+    tells = l.tells_serial.tells;
+    uncommitted = l.tells_serial.uncommitted;
+    each = λ u b. let g = l.tells_serial.each u b in record {
+      in_place = λ id image at. let was = g.in_place id image at in (was.0, writes_up s.held held u id (kept u b) was.1);
+      unwritten = g.unwritten;
+      unsaved = g.unsaved;
+    };
+  };
+  undo_logged = l.undo_logged;
+  below = l.below;
+}
+
+-- the locks of one that has ended go
+pub locks_go : {o : Opening} {es : List Entry} {s : Sessions} {log : List LogRecord} → IsLogAfter o es s log → (t : ℕ) → ((u : ℕ) → IsAmong u (txns_of s.active) → u ≢ t)
+    → IsLogAfter o es (locks_moved s (without_locks t s.held)) log
+locks_go {s = s} l t gone = locks_keep_log l (without_locks t s.held) (λ u b. others_keep t s.held u (gone u b))
+
 pub event_keeps_log : (o : Opening) (es : List Entry) (old new : Sessions) (e : SessionEvent) (log : List LogRecord) → IsSoundAfter o es old
     → IsLogAfter o es old log → StepsTo old e new → IsLogAfter o (es ++ entries_by old e) new (log_after log old e)
 event_keeps_log o es old new (MoveLocks held) log k l moves =
     at_new o _ _ _ new moves.3
-    (subst (λ es. IsLogAfter o es (locks_moved old held) log) (sym (append-nil es)) (locks_keep_log k l held moves.1))
+    (subst (λ es. IsLogAfter o es (locks_moved old held) log) (sym (append-nil es)) (locks_keep_log l held moves.1))
 event_keeps_log o es old new (BeginTxn session) log k l moves = at_new o _ _ _ new moves.1 (log_seated k l (entries_by old (BeginTxn session)) (begin_keeps_log k l session))
 event_keeps_log o es old new (GiveReply a c reply) log k l moves =
     at_new o _ _ _ new moves.4 (log_seated k l (entries_by old (GiveReply a c reply)) (reply_keeps_log k l a moves.0.0 moves.0.2 c reply moves.2))
-event_keeps_log o es old new (AppendCommit a) log k l moves = at_new o _ _ _ new moves.2 (log_seated k l (entries_by old (AppendCommit a)) (commit_keeps_log k l a moves.0.0 moves.1))
+event_keeps_log o es old new (AppendCommit a ticket) log k l moves =
+    let x : Exchange = exchange call.Commit (Ok (Committed ticket)) in
+    let gone : (u : ℕ) → IsAmong u (txns_of (without_txn a.txn old.active)) → u ≢ a.txn = λ u b. (txn_without a.txn u old.active b).1 in
+    let left = commit_stays_sound k a moves.0.0 moves.1 (commit_turn k a moves.0.0 moves.1 moves.0.2) in
+    let freed = locks_go (commit_keeps_log k l a moves.0.0 moves.1) a.txn gone in
+    at_new o _ _ _ new moves.2
+    (log_seated k l (entries_by old (AppendCommit a ticket))
+    (subst (λ es. IsLogAfter o es (commit_appended old a) (and_record a.txn log Commit)) (append_assoc es (Decided (decision.Commit a.txn) ∷ []) (Exchanged a.session a.txn x ∷ []))
+    (quiet_keeps_log (without_its_locks a.txn left gone) freed a.session a.txn x (commit_is_quiet ticket))))
 event_keeps_log o es old new (PutBack a kept e r) log k l moves =
     at_new o _ _ _ new moves.4
     (subst (λ es. IsLogAfter o es (image_put_back old a kept e r) (log_after log old (PutBack a kept e r))) (sym (append-nil es)) (put_back_keeps_log k l a moves.0.0 kept e r moves.1))
@@ -491,10 +513,10 @@ event_keeps_log o es old new (Doom a) log k l moves =
 event_keeps_log o es old new (AnswerAbort a) log k l moves =
     at_new o _ _ _ new moves.1
     (log_seated k l (entries_by old (AnswerAbort a))
-    (quiet_keeps_log (rollback_stays_sound k a moves.0.0) (rollback_keeps_log k l a moves.0.0) a.session a.txn (exchange call.Abort (Ok Aborted)) abort_is_quiet))
-event_keeps_log o es old new (AnswerCommit a) log k l moves =
-    let h = quiet_keeps_log k l a.session a.txn (exchange call.Commit (Ok Committed)) commit_is_quiet in
-    at_new o _ _ _ new moves.1 (record { tells_serial = h.tells_serial; undo_logged = h.undo_logged; below = h.below })
+    (quiet_keeps_log (without_its_locks a.txn (rollback_stays_sound k a moves.0.0) (λ u b. (txn_without a.txn u old.active b).1))
+    (locks_go (rollback_keeps_log k l a moves.0.0) a.txn (λ u b. (txn_without a.txn u old.active b).1))
+    a.session a.txn (exchange call.Abort (Ok Aborted)) abort_is_quiet))
+event_keeps_log o es old new (Ask ticket durable) log k l moves = at_new o _ _ _ new moves (asked_keeps_log k l ticket durable)
 event_keeps_log o es old new (RefuseCall session t c fault) log k l moves =
     at_new o _ _ _ new moves.2
     (log_seated k l (entries_by old (RefuseCall session t c fault)) (quiet_keeps_log k l session t (exchange c (Err fault)) (refusal_is_quiet c fault moves.1)))
@@ -506,7 +528,7 @@ event_keeps_log o es old new (AnswerPrepare session t global) log k l moves =
     let h = quiet_keeps_log k l session t (exchange (call.Prepare global) (Ok Prepared)) (prepare_is_quiet global) in
     at_new o _ _ _ new moves.2 (record { tells_serial = h.tells_serial; undo_logged = h.undo_logged; below = h.below })
 event_keeps_log o es old new (AppendResolve a global) log k l moves =
-    let h = commit_keeps_log k l a moves.0 moves.1 in
+    let h = locks_go (commit_keeps_log k l a moves.0 moves.1) a.txn (λ u b. (txn_without a.txn u old.active b).1) in
     at_new o _ _ _ new moves.3 (record { tells_serial = h.tells_serial; undo_logged = h.undo_logged; below = h.below })
 event_keeps_log o es old new (AppendRollback a global) log k l moves =
     let t_in = txn_among a old.active moves.0 in
@@ -514,7 +536,8 @@ event_keeps_log o es old new (AppendRollback a global) log k l moves =
     (subst (IsAmong a.txn) (sym (txns_with a.txn (undo_rolled a.undo a.undo.images Whole) old.active)) t_in) in
     at_new o _ _ _ new moves.2 (record { tells_serial = h.tells_serial; undo_logged = h.undo_logged; below = h.below })
 event_keeps_log o es old new (EndRollback a) log k l moves =
-    at_new o _ _ _ new moves.2 (subst (λ es. IsLogAfter o es (rollback_ended old a) (log_after log old (EndRollback a))) (sym (append-nil es)) (end_keeps k l a moves.0.0))
+    at_new o _ _ _ new moves.2 (subst (λ es. IsLogAfter o es (rollback_ended old a) (log_after log old (EndRollback a))) (sym (append-nil es))
+    (locks_go (end_keeps k l a moves.0.0) a.txn (λ u b. (txn_without a.txn u old.active b).1)))
 event_keeps_log o es old new (AnswerResolve session r) log k l moves =
     let h = quiet_keeps_log k l session r.txn (exchange (call.Resolve r.global r.outcome) (Ok Resolved)) (resolve_is_quiet r.global r.outcome) in
     at_new o _ _ _ new moves.2 (record { tells_serial = h.tells_serial; undo_logged = h.undo_logged; below = h.below })

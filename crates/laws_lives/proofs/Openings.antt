@@ -20,19 +20,18 @@ use Rattle.laws_lives.proofs.Restarts.{events_restart, restart_shows}
 use Rattle.laws_lives.proofs.UndoRecords.{undone_front, undone_grows, undone_lawful}
 use Rattle.laws_lives.specs.Recovery.{IsRecoverable, RecoveryEvent, RecoveryState}
 use Rattle.laws_lives.specs.Restarts.{IsRestartOf, RestartsTo}
-use Rattle.laws_lives.specs.Undo.{HasNoLosers, IsLoser, IsUndoneTo, undo_payload, undo_record}
+use Rattle.laws_lives.specs.Undo.{HasNoLosers, IsUndoneTo, undo_payload, undo_record}
 use Rattle.laws_lives.proofs.Lists.{among_map, drop-whole, length-push, mapped_one, recursion-take}
-use Rattle.laws_lives.proofs.LogPrefixes.{decisions_same, given_one, opening_tells, written_stays}
+use Rattle.laws_lives.proofs.LogPrefixes.{decisions_same, opening_tells, written_stays}
 use Rattle.laws_lives.proofs.LogTells.{logged_other, tells_same}
-use Rattle.laws_lives.specs.Doubts.{DoubtsStand, HasWritten, IsOpeningOf, LoggedDoubt, doubt_of, doubts_in, pair_logged}
+use Rattle.laws_lives.specs.Doubts.{DoubtsStand, IsOpeningOf, LoggedDoubt, doubt_of, doubts_in, pair_logged}
 use Rattle.laws_lives.specs.LogPrefixes.{PrefixesTell, decision_in, decisions_in}
-use Rattle.laws_lives.specs.LogTells.{records_committed}
-use Rattle.laws_lives.specs.Sessions.{EachOnce, PreparedTxn, SessionTxn, Sessions, in_doubt_of, txns_of}
+use Rattle.laws_lives.specs.Sessions.{EachOnce, PreparedTxn, Sessions, in_doubt_of, txns_of}
 use Rattle.laws_lives.specs.Soundness.{found_in_doubt, written_by}
 use Rattle.laws_lives.specs.Views.{IsAmong}
 use Rattle.laws_lives.proofs.AtWork.{IsAtWork}
 use Rattle.laws_lives.proofs.Steps.{found_txns}
-use Rattle.laws_lives.proofs.WholeRuns.{AllHold, open_is_whole}
+use Rattle.laws_lives.proofs.WholeRuns.{open_is_whole}
 use Rattle.laws_lives.proofs.WritersTold.{in_doubt_parts}
 use Rattle.laws_lives.specs.ManagerSteps.{OpensOver}
 use Rattle.laws_lives.specs.Stretches.{MayBeFound}
@@ -122,7 +121,6 @@ module _ (o : Opening) (s : RecoveryState) (works : List RecoveryEvent) (ready :
   is_open = record {
     records = λ id. opens.records id ∙ redone_whole ready come_through.0 redone id.page id.slot;
     seats = opens.seats;
-    committing = opens.committing;
     resolving = opens.resolving;
     prepared = opens.prepared;
     active = opens.active;
@@ -170,12 +168,12 @@ module _ (o : Opening) (s : RecoveryState) (works : List RecoveryEvent) (ready :
           old = recursion-take (λ r. r.txn < first.next_txn) (length s.log) ready.log opens.below;
           next = omega arith;
           each = λ t b is. absurd (is.0 (subst (IsAmong t) (opens.active ∙ sym (ap (map (λ p. p.txn)) opens.prepared ∙ found_txns o.in_doubt)) b));
-          committing = λ a m. absurd (subst (IsAmong a) opens.committing m);
           preparing = λ p m e. absurd (true≢false (sym (found_answered p o.in_doubt (subst (IsAmong p) opens.prepared m)) ∙ e));
           prepared = λ t b. let u = found_undecided t b in record { uncommitted = ap (has is_commit t) front ∙ u.0; not_rolled = ap (has is_rollback t) front ∙ u.1 };
           resolved = λ t b. absurd (subst (λ rs. IsAmong t (map (λ r. r.txn) rs)) opens.resolving b);
         };
         acknowledged = tt;
+        tickets = tt;
       }
     where
       found_answered : (p : PreparedTxn) (ds : List InDoubt) → IsAmong p (map found_in_doubt ds) → p.answered ≡ true

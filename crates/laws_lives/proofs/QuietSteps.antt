@@ -1,5 +1,5 @@
--- Events that leave every transaction as far as it was: a refusal, the answer to a commit, and locks that move.
-use Rattle.std.proofs.Common.{◌≡◌, ◌≢◌, ◌++◌, ◌<◌, ◌≤◌, ℕ, List, [], ◌∷◌, sym, ap, subst, ◌∙◌, arith}
+-- Events that leave every transaction as far as it was: a refusal, an answer on a ticket, and locks that move.
+use Rattle.std.proofs.Common.{◌≡◌, ◌≢◌, ◌++◌, ◌<◌, ◌≤◌, ℕ, List, [], ◌∷◌, Bool, sym, ap, subst, ◌∙◌, arith}
 use Rattle.std.specs.Prelude.{All}
 use Rattle.std.specs.FinMap.{get}
 use Rattle.std.specs.List.{AllByRecursion}
@@ -9,19 +9,19 @@ use Rattle.shore_model.specs.declared.calls.Exchange.{Exchange}
 use Rattle.shore_model.specs.declared.histories.Decision.{Decision}
 use Rattle.shore_model.specs.declared.histories.Entry.{Entry}
 use Rattle.shore_model.specs.declared.progress.Progress.{Progress}
-use Rattle.shore_model.specs.declared.histories.Entry.TheVariants.{Exchanged, Decided}
+use Rattle.shore_model.specs.declared.histories.Entry.TheVariants.{Asked, Exchanged, Decided}
 use Rattle.shore_model.specs.declared.holds.Hold.{Hold}
 use Rattle.shore_model.specs.Histories.{Sound, calls_of, decisions, serial}
 use Rattle.shore_model.specs.Locks.{Harmony, MayRead, MayWrite}
 use Rattle.shore_model.specs.Records.{Records}
-use Rattle.laws_lives.proofs.Entries.{calls-decided, calls-other, decisions-decided, decisions-exchanged}
+use Rattle.laws_lives.proofs.Entries.{calls-asked, calls-decided, calls-other, decisions-asked, decisions-decided, decisions-exchanged}
 use Rattle.laws_lives.proofs.Exchanges.{IsQuiet}
 use Rattle.laws_lives.proofs.Lists.{recursion-each, recursion-push}
 use Rattle.laws_lives.proofs.Members.{txn_among}
 use Rattle.laws_lives.proofs.Soundness.{sound_stays}
 use Rattle.laws_lives.proofs.StrongerLocks.{reads_up, writes_up}
 use Rattle.laws_lives.proofs.Standing.{stands_on}
-use Rattle.laws_lives.proofs.Turns.{AreKept, KeepsTurn, kept_by_decided, kept_by_quiet, decision_after, serial-kept}
+use Rattle.laws_lives.proofs.Turns.{AreKept, KeepsTurn, kept_by_asked, kept_by_decided, kept_by_quiet, decision_after, serial-kept}
 use Rattle.laws_lives.proofs.UndoLists.{undo_kept_by_locks}
 use Rattle.laws_lives.proofs.Views.{locks_may_move}
 use Rattle.laws_lives.specs.SessionSteps.{KeepsLocks}
@@ -34,6 +34,31 @@ module _ {o : Opening} {es : List Entry} {s : Sessions} (k : IsSoundAfter o es s
   abbrev now : Records
   now = serial_after o es
 
+  -- more entries, with which each transaction keeps its turn
+  module _ (more : List Entry) (same : decisions more ≡ decisions es) (kept : (t : ℕ) → KeepsTurn o es more t) where
+    pub more_now : serial_after o more ≡ now
+    more_now =
+        ap (serial (written_by o more) o.records) same
+        ∙ serial-kept o es more (decisions es) (recursion-each (λ d. KeepsTurn o es more (decided_txn d)) (λ d. kept (decided_txn d)) (decisions es))
+
+    pub more_stays_sound : ((t : ℕ) → s.next_txn ≤ t → calls_of t more ≡ calls_of t es) → IsSoundAfter o more s
+    more_stays_sound uncalled = record {
+      sound = sound_stays o es more same (recursion-each (λ d. KeepsTurn o es more (decided_txn d)) (λ d. kept (decided_txn d)) (decisions es)) k.sound;
+      standing = k.standing;
+      stands_for = λ a m. stands_on o es more a (k.standing a.txn) (ap (λ (p : Progress). p.writes) (kept a.txn).progress) (k.stands_for a m);
+      stand = subst (λ now. Stand s.held now s.records (txns_of s.active) k.standing) (sym more_now) k.stand;
+      replies = λ t a S agree. (kept t).replies S (k.replies t a S (λ id r. agree id r ∙ ap (λ R. get R id) more_now));
+      undoes = λ a m. subst (λ now. CanUndo s.held now s.records a.txn a.undo (progress_in o more a.txn)) (sym more_now)
+          (subst (CanUndo s.held now s.records a.txn a.undo) (sym (kept a.txn).progress) (k.undoes a m));
+      undecided = λ t a is_free. subst (AllByRecursion (λ d. decided_txn d ≢ t)) (sym same) (k.undecided t a is_free);
+      below = k.below;
+      decided = subst (AllByRecursion (λ d. decided_txn d < s.next_txn)) (sym same) k.decided;
+      uncalled = λ t le. uncalled t le ∙ k.uncalled t le;
+      unheld = k.unheld;
+      own = k.own;
+      found_below = k.found_below;
+    }
+
   -- a quiet reply
   module _ (session u : ℕ) (x : Exchange) (quiet : IsQuiet x) where
     abbrev pub with_quiet : List Entry
@@ -42,31 +67,12 @@ module _ {o : Opening} {es : List Entry} {s : Sessions} (k : IsSoundAfter o es s
     pub all_kept : (t : ℕ) → KeepsTurn o es with_quiet t
     all_kept t = kept_by_quiet o es t u session x quiet
 
-    pub quiet_now : serial_after o with_quiet ≡ now
-    quiet_now =
-        ap (serial (written_by o with_quiet) o.records) (decisions-exchanged es u session x)
-        ∙ serial-kept o es with_quiet (decisions es)
-        (recursion-each (λ d. KeepsTurn o es with_quiet (decided_txn d)) (λ d. all_kept (decided_txn d)) (decisions es))
-
     pub quiet_stays_sound : u < s.next_txn → IsSoundAfter o with_quiet s
-    quiet_stays_sound below = record {
-      sound =
-          sound_stays o es with_quiet (decisions-exchanged es u session x)
-          (recursion-each (λ d. KeepsTurn o es with_quiet (decided_txn d)) (λ d. all_kept (decided_txn d)) (decisions es)) k.sound;
-      standing = k.standing;
-      stands_for = λ a m. stands_on o es with_quiet a (k.standing a.txn) (ap (λ (p : Progress). p.writes) (all_kept a.txn).progress) (k.stands_for a m);
-      stand = subst (λ now. Stand s.held now s.records (txns_of s.active) k.standing) (sym quiet_now) k.stand;
-      replies = λ t a S agree. (all_kept t).replies S (k.replies t a S (λ id r. agree id r ∙ ap (λ R. get R id) quiet_now));
-      undoes = λ a m. subst (λ now. CanUndo s.held now s.records a.txn a.undo (progress_in o with_quiet a.txn)) (sym quiet_now)
-          (subst (CanUndo s.held now s.records a.txn a.undo) (sym (all_kept a.txn).progress) (k.undoes a m));
-      undecided = λ t a is_free. subst (AllByRecursion (λ d. decided_txn d ≢ t)) (sym (decisions-exchanged es u session x)) (k.undecided t a is_free);
-      below = k.below;
-      decided = subst (AllByRecursion (λ d. decided_txn d < s.next_txn)) (sym (decisions-exchanged es u session x)) k.decided;
-      uncalled = λ t le. calls-other es t u session x (λ same. omega arith) ∙ k.uncalled t le;
-      unheld = k.unheld;
-      own = k.own;
-      found_below = k.found_below;
-    }
+    quiet_stays_sound below = more_stays_sound with_quiet (decisions-exchanged es u session x) all_kept (λ t le. calls-other es t u session x (λ same. omega arith))
+
+  -- an answer on a ticket
+  pub asked_stays_sound : (n : ℕ) (b : Bool) → IsSoundAfter o (es ++ Asked n b ∷ []) s
+  asked_stays_sound n b = more_stays_sound (es ++ Asked n b ∷ []) (decisions-asked es n b) (λ t. kept_by_asked o es t n b) (λ t le. calls-asked es t n b)
 
   -- what neither records, nor locks, nor transactions under way are of may change
   pub sound_beside : (new : Sessions) → new.records ≡ s.records → new.active ≡ s.active → new.held ≡ s.held → new.next_txn ≡ s.next_txn

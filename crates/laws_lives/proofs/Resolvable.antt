@@ -1,5 +1,5 @@
 -- What is in doubt can be resolved either way.
-use Rattle.std.proofs.Common.{◌≡◌, ℕ, List, Bool, true, None, refl, sym, ap, subst, ◌∙◌}
+use Rattle.std.proofs.Common.{◌≡◌, ℕ, List, Bool, true, refl, sym, ap, subst, ◌∙◌}
 use Rattle.shore_model.specs.declared.histories.Entry.{Entry}
 use Rattle.shore_model.specs.declared.histories.Opening.{Opening}
 use Rattle.shore_model.specs.declared.log_records.LogRecord.{LogRecord}

@@ -2,7 +2,6 @@
 use Rattle.std.proofs.Common.{◌++◌, List, [], ◌∷◌, sym, subst}
 use Rattle.shore_model.specs.declared.histories.Opening.{Opening}
 use Rattle.shore_model.specs.declared.histories.Entry.{Entry}
-use Rattle.shore_model.specs.Records.{Records}
 use Rattle.laws_lives.proofs.SessionsAgree.{event_agrees, open_agrees}
 use Rattle.laws_lives.proofs.Steps.{event_stays_sound, open_is_sound}
 use Rattle.laws_lives.specs.SessionSteps.{SessionEvent, entries_by}

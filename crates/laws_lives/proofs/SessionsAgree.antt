@@ -1,11 +1,11 @@
 -- Each event leaves each session in the transaction that the history gives it, adds entries that may stand there, and leaves those in doubt whom
 -- the history has so.
-use Rattle.std.proofs.Common.{◌≡◌, ◌≢◌, ◌⊎◌, inl, inr, ⊎_elim, ◌++◌, ◌<◌, ◌≤◌, ◌+◌, ℕ, List, [], ◌∷◌, Bool, true, false, cond, Option, Some, None, Result, Ok, Err, refl, sym, ap, subst, ◌∙◌, length, map, arith, append-nil}
+use Rattle.std.proofs.Common.{◌≡◌, ◌⊎◌, inl, inr, ⊎_elim, ◌++◌, ◌<◌, ◌≤◌, ◌+◌, ℕ, List, [], ◌∷◌, Bool, true, false, cond, Option, Some, None, Result, Ok, Err, refl, sym, ap, subst, ◌∙◌, length, map, arith, append-nil, append_assoc}
 use Rattle.std.specs.Prelude.{◌==◌, ◌&&◌, ◌||◌, All, IfSome, IsSomeAnd, filter, nat_eq, not, slice_get}
 use Rattle.std.specs.FinMap.{get}
 use Rattle.std.specs.List.{AllByRecursion, list_any}
 use Rattle.std.specs.Cmp.Lexicographic.{pointwise}
-use Rattle.std.proofs.lemmas.Bool.{eq-eqb, eqb-true, eqb-false, ne_eqb}
+use Rattle.std.proofs.lemmas.Bool.{eq-eqb, ne_eqb}
 use Rattle.std.proofs.lemmas.List.Elements.{All-nil, All-push, All-weaker}
 use Rattle.shore_types.specs.declared.faults.Fault.{Fault}
 use Rattle.shore_types.specs.declared.locking.Granule.{Granule}
@@ -15,28 +15,27 @@ use Rattle.shore_model.specs.declared.calls.Call.{Call}
 use Rattle.shore_model.specs.declared.calls.Call.TheVariants as call
 use Rattle.shore_model.specs.declared.calls.Exchange.{Exchange}
 use Rattle.shore_model.specs.declared.histories.Decision.{Decision}
-use Rattle.shore_model.specs.declared.histories.Decision.TheVariants as decision
 use Rattle.shore_model.specs.declared.histories.Decision.TheVariants.{Commit, Prepare, RollBack}
 use Rattle.shore_model.specs.declared.histories.Entry.{Entry}
-use Rattle.shore_model.specs.declared.histories.Entry.TheVariants.{Exchanged, Decided}
+use Rattle.shore_model.specs.declared.histories.Entry.TheVariants.{Asked, Exchanged, Decided}
 use Rattle.shore_model.specs.declared.histories.InDoubt.{InDoubt}
 use Rattle.shore_model.specs.declared.histories.Opening.{Opening}
 use Rattle.shore_model.specs.declared.holds.Hold.{Hold}
 use Rattle.shore_model.specs.declared.sessions.SessionState.{SessionState}
 use Rattle.shore_model.specs.Alone.{IsRight}
 use Rattle.shore_model.specs.Histories.{IsHistory, IsNewNumber, IsOfTxn, MayStand, after_decision, after_entry, after_own_reply, all_prepared, began, begun_by, decisions, free, has_prepared, in_doubt, is_undecided, last_under, once_decided, once_prepared, session_state}
-use Rattle.shore_model.specs.Records.{Records, put_image, scan_of}
+use Rattle.shore_model.specs.Records.{Records, scan_of}
 use Rattle.laws_lives.proofs.DoubtDecisions.{but, doubt_commit, doubt_prepare, doubt_rollback, none_ended, pairs_without, prepared_now, prepared_push, under_commit, under_now, under_rollback, under_still}
-use Rattle.laws_lives.proofs.Entries.{decisions-decided, decisions-exchanged, history-push, session_state-push}
-use Rattle.laws_lives.proofs.Lists.{among_append, among_left, among_map, among_right, map-push, mapped_one, recursion-each}
-use Rattle.laws_lives.proofs.Members.{HasNewUndo, among_with, among_without, once_without, same_member, txn_among, txn_of_one, txn_stays, txn_without, txns_with}
-use Rattle.laws_lives.proofs.Steps.{among_push, answered_pairs, answered_txns, found_txns, found_under, last_among, prepared_among, still_prepared, txn_below, txns_push, was_prepared}
+use Rattle.laws_lives.proofs.Entries.{decisions-asked, decisions-decided, decisions-exchanged, history-push, session_state-push}
+use Rattle.laws_lives.proofs.Lists.{among_append, among_left, among_map, among_right, map-push}
+use Rattle.laws_lives.proofs.Members.{among_with, among_without, once_without, same_member, txn_among, txn_stays, txns_with}
+use Rattle.laws_lives.proofs.Steps.{answered_pairs, answered_txns, found_txns, found_under, prepared_among, txns_push, was_prepared}
 use Rattle.laws_lives.specs.RepliesInPlace.{MayReplyInPlace}
 use Rattle.shore_model.specs.declared.rollbacks.Rollback.TheVariants.{Whole}
-use Rattle.laws_lives.specs.SessionSteps.{AnswerAbort, AnswerCommit, AnswerInDoubt, AnswerPrepare, AnswerResolve, AppendCommit, AppendPrepare, AppendResolve, AppendRollback, BeginTxn, Doom, EndRollback, GiveReply, IsInnerCall, IsOwn, MoveLocks, PutBack, RefuseCall, SessionEvent, StepsTo, entries_by, exchange}
-use Rattle.laws_lives.specs.Sessions.{EachOnce, IsFree, IsTxnOf, IsUnused, PreparedTxn, ResolvedTxn, SessionTxn, Sessions, abort_answered, commit_answered, commit_appended, doomed, image_put_back, in_doubt_of, in_prepared, in_txn, in_use, locks_moved, pair_of, pair_resolved, pairs_of, prepare_answered, prepare_appended, reply_given, resolve_answered, resolve_appended, rollback_appended, rollback_ended, seated, txn_begun, txns_of, with_answered, with_undo, without_prepared, without_resolved, without_txn}
+use Rattle.laws_lives.specs.SessionSteps.{AnswerAbort, AnswerInDoubt, AnswerPrepare, AnswerResolve, AppendCommit, AppendPrepare, AppendResolve, AppendRollback, Ask, BeginTxn, Doom, EndRollback, GiveReply, IsInnerCall, IsOwn, MoveLocks, PutBack, RefuseCall, SessionEvent, StepsTo, entries_by, exchange}
+use Rattle.laws_lives.specs.Sessions.{EachOnce, IsTxnOf, IsUnused, PreparedTxn, ResolvedTxn, SessionTxn, Sessions, abort_answered, commit_appended, doomed, image_put_back, in_doubt_of, in_prepared, in_txn, in_use, locks_moved, pair_of, pair_resolved, pairs_of, prepare_answered, prepare_appended, reply_given, resolve_answered, resolve_appended, rollback_appended, rollback_ended, seated, txn_begun, txns_of, with_undo, without_prepared, without_resolved, without_txn}
 use Rattle.laws_lives.specs.Soundness.{IsJustOpened, IsSoundAfter, SessionsAgree, decided_txn, found_in_doubt, history_from}
-use Rattle.laws_lives.specs.UndoLists.{UndoList, nothing_to_undo, undo_after, undo_rolled}
+use Rattle.laws_lives.specs.UndoLists.{UndoList, undo_after, undo_rolled}
 use Rattle.laws_lives.specs.Views.{IsAmong}
 
 -- ---- replies that leave their sessions as they are
@@ -103,7 +102,7 @@ no_entry n e at = cc
 
 low_reply : (n : ℕ) (p : SessionState) (reply : Result Answer Fault) → 0 < n → p.txn < n → IfSome (begun_by reply) (λ u. u < n) → (after_own_reply p reply).txn < n
 low_reply n p (Ok (Began t)) some low begins = begins
-low_reply n p (Ok Committed) some low begins = some
+low_reply n p (Ok (Committed ticket)) some low begins = some
 low_reply n p (Ok Aborted) some low begins = some
 low_reply n p _ some low begins = low
 
@@ -305,6 +304,45 @@ module _ {o : Opening} {es : List Entry} {s : Sessions} (k : SessionsAgree o es 
   own_txn : (a : SessionTxn) → s.seats a.session ≡ in_txn a.txn → a.txn ≡ (s.seats a.session).txn
   own_txn a seat = ap (λ (p : SessionState). p.txn) (sym seat)
 
+  -- a reply that frees its session
+  freed : (a : SessionTxn) → s.seats a.session ≡ in_txn a.txn → (x : Exchange) → begun_by x.reply ≡ None → IsOfTxn (s.seats a.session) pairs a.txn x.call x.reply → (new : Sessions)
+      → new ≡ record new { seats = λ n. session_state n (s.seats n) (Exchanged a.session a.txn x ∷ []) } → new.next_txn ≡ s.next_txn
+      → pairs_of s.prepared ≡ pairs_of new.prepared → in_doubt_of new ≡ in_doubt_of s → ((p : ℕ × List ℕ) → IsAmong p (in_use new) → IsAmong p (in_use s)) → Lists new
+      → SessionsAgree o (es ++ Exchanged a.session a.txn x ∷ []) new
+  freed a seat x none of new is next prepared doubts used lists =
+      let le : s.next_txn ≤ new.next_txn = omega arith in
+      exchanged_agrees a.session a.txn x new (record {
+        may = (if_begun (begun_by x.reply) (IsNewNumber o es) none, subst (λ p. IsOfTxn p pairs a.txn x.call x.reply) (sym (k.seats a.session)) of);
+        seats = λ n. ap (λ (s : Sessions). s.seats n) (sym is);
+        begins = if_begun (begun_by x.reply) (λ u. u < new.next_txn) none;
+        next = le;
+        prepared = prepared;
+        doubts = λ u b. subst (IsAmong u) doubts b;
+        used = used;
+        lists = lists;
+      })
+
+  -- an answer on a ticket: nothing is as it was not
+  pub asked_agrees : (ticket : ℕ) (durable : Bool) → SessionsAgree o (es ++ Asked ticket durable ∷ []) s
+  asked_agrees ticket durable =
+      let e : Entry = Asked ticket durable in
+      let same : decisions (es ++ e ∷ []) ≡ decisions es = decisions-asked es ticket durable in
+      record {
+        history = history-push es o e k.history tt;
+        seats = λ n. session_state-push n free es e ∙ k.seats n;
+        once = k.once;
+        below = k.below;
+        found = k.found;
+        begun = All-push (λ e. IfSome (began e) (λ u. u < s.next_txn)) es e k.begun tt;
+        some = k.some;
+        in_doubt = ap (in_doubt o.in_doubt) same ∙ k.in_doubt;
+        turned = λ u b. ap (λ ds. has_prepared o.in_doubt ds u) same ∙ k.turned u b;
+        under_way = k.under_way;
+        unrolled = k.unrolled;
+        under = λ p a. ap (λ ds. last_under p.1 None (all_prepared o.in_doubt ds)) same ∙ k.under p a;
+        used_below = k.used_below;
+      }
+
   module _ (sound : IsSoundAfter o es s) where
     begin_agrees : (session : ℕ) → s.seats session ≡ free → SessionsAgree o (es ++ entries_by s (BeginTxn session)) (seated s (entries_by s (BeginTxn session)) (txn_begun s session))
     begin_agrees session idle =
@@ -343,35 +381,12 @@ module _ {o : Opening} {es : List Entry} {s : Sessions} (k : SessionsAgree o es 
         left_alone session t (exchange call.InDoubt (Ok (AreInDoubt qs))) (record { stays = λ p. refl; begins_none = refl }) (sym of) _ refl refl refl refl (λ p b. b)
         (record { once = k.once; under_way = k.under_way; unrolled = k.unrolled })
 
-    -- a reply that frees its session
-    freed : (a : SessionTxn) → s.seats a.session ≡ in_txn a.txn → (x : Exchange) → begun_by x.reply ≡ None → IsOfTxn (s.seats a.session) pairs a.txn x.call x.reply → (new : Sessions)
-        → new ≡ record new { seats = λ n. session_state n (s.seats n) (Exchanged a.session a.txn x ∷ []) } → new.next_txn ≡ s.next_txn
-        → pairs_of s.prepared ≡ pairs_of new.prepared → in_doubt_of new ≡ in_doubt_of s → ((p : ℕ × List ℕ) → IsAmong p (in_use new) → IsAmong p (in_use s)) → Lists new
-        → SessionsAgree o (es ++ Exchanged a.session a.txn x ∷ []) new
-    freed a seat x none of new is next prepared doubts used lists =
-        let le : s.next_txn ≤ new.next_txn = omega arith in
-        exchanged_agrees a.session a.txn x new (record {
-          may = (if_begun (begun_by x.reply) (IsNewNumber o es) none, subst (λ p. IsOfTxn p pairs a.txn x.call x.reply) (sym (k.seats a.session)) of);
-          seats = λ n. ap (λ (s : Sessions). s.seats n) (sym is);
-          begins = if_begun (begun_by x.reply) (λ u. u < new.next_txn) none;
-          next = le;
-          prepared = prepared;
-          doubts = λ u b. subst (IsAmong u) doubts b;
-          used = used;
-          lists = lists;
-        })
-
     abort_agrees : (a : SessionTxn) → IsOwn s a → SessionsAgree o (es ++ entries_by s (AnswerAbort a)) (seated s (entries_by s (AnswerAbort a)) (abort_answered s a))
     abort_agrees a own =
         freed a own.1 (exchange call.Abort (Ok Aborted)) refl (own_txn a own.1) _ refl refl refl refl (λ p b. b) (without_one a.txn own.2.0 _ refl refl)
 
-    answer_agrees : (a : SessionTxn) → s.seats a.session ≡ in_txn a.txn → SessionsAgree o (es ++ entries_by s (AnswerCommit a)) (seated s (entries_by s (AnswerCommit a)) (commit_answered s a))
-    answer_agrees a seat =
-        freed a seat (exchange call.Commit (Ok Committed)) refl (own_txn a seat) _ refl refl refl refl (λ p b. b)
-        (record { once = k.once; under_way = k.under_way; unrolled = k.unrolled })
-
-    commit_agrees : (a : SessionTxn) → IsOwn s a → SessionsAgree o (es ++ entries_by s (AppendCommit a)) (seated s (entries_by s (AppendCommit a)) (commit_appended s a))
-    commit_agrees a own = decided_agrees (Commit a.txn) _ (record {
+    pub decision_agrees : (a : SessionTxn) → IsOwn s a → SessionsAgree o (es ++ Decided (Commit a.txn) ∷ []) (seated s (Decided (Commit a.txn) ∷ []) (commit_appended s a))
+    decision_agrees a own = decided_agrees (Commit a.txn) _ (record {
       may = tt;
       seats = λ n. refl;
       own = sound.below a.txn (txn_among a s.active own.0);
@@ -496,6 +511,20 @@ module _ {o : Opening} {es : List Entry} {s : Sessions} (k : SessionsAgree o es 
         (among_append p (pairs_of s.prepared) (map pair_resolved (without_resolved r.txn s.resolving)) b))
         (record { once = k.once; under_way = k.under_way; unrolled = k.unrolled })
 
+-- ---- a commit, and its answer
+
+own_seat : (t : ℕ) → once_decided (in_txn t) t ≡ in_txn t
+own_seat t = elim (t == t) as (λ b. cond (b && false) free (in_txn t) ≡ in_txn t) [ true ↦ refl | false ↦ refl ]
+
+commit_agrees : {o : Opening} {es : List Entry} {s : Sessions} → SessionsAgree o es s → IsSoundAfter o es s → (a : SessionTxn) → IsOwn s a → (ticket : ℕ)
+    → SessionsAgree o (es ++ entries_by s (AppendCommit a ticket)) (seated s (entries_by s (AppendCommit a ticket)) (commit_appended s a))
+commit_agrees {o} {es} {s} k sound a own ticket =
+    let x : Exchange = exchange call.Commit (Ok (Committed ticket)) in
+    let mid = decision_agrees k sound a own in
+    let seat : once_decided (s.seats a.session) a.txn ≡ in_txn a.txn = ap (λ p. once_decided p a.txn) own.1 ∙ own_seat a.txn in
+    subst (λ es. SessionsAgree o es (seated s (entries_by s (AppendCommit a ticket)) (commit_appended s a))) (append_assoc es (Decided (Commit a.txn) ∷ []) (Exchanged a.session a.txn x ∷ []))
+    (freed mid a seat x refl (own_txn mid a seat) _ refl refl refl refl (λ p b. b) (record { once = mid.once; under_way = mid.under_way; unrolled = mid.unrolled }))
+
 -- ---- all of them
 
 pub event_agrees : (o : Opening) (es : List Entry) (old new : Sessions) (e : SessionEvent) → IsSoundAfter o es old → SessionsAgree o es old → StepsTo old e new
@@ -505,7 +534,7 @@ event_agrees o es old new (MoveLocks held) sound k moves =
     (still_agrees k _ refl refl refl refl (record { once = k.once; under_way = k.under_way; unrolled = k.unrolled })))
 event_agrees o es old new (BeginTxn session) sound k moves = subst (SessionsAgree o _) (sym moves.1) (begin_agrees k sound session moves.0)
 event_agrees o es old new (GiveReply a c reply) sound k moves = subst (SessionsAgree o _) (sym moves.4) (reply_agrees k sound a c reply moves.0 moves.1 moves.2)
-event_agrees o es old new (AppendCommit a) sound k moves = subst (SessionsAgree o _) (sym moves.2) (commit_agrees k sound a moves.0)
+event_agrees o es old new (AppendCommit a ticket) sound k moves = subst (SessionsAgree o _) (sym moves.2) (commit_agrees k sound a moves.0 ticket)
 event_agrees o es old new (PutBack a kept e r) sound k moves =
     subst (SessionsAgree o (es ++ [])) (sym moves.4)
     (subst (λ es. SessionsAgree o es (image_put_back old a kept e r)) (sym (append-nil es))
@@ -515,7 +544,7 @@ event_agrees o es old new (Doom a) sound k moves =
     (subst (λ es. SessionsAgree o es (doomed old a)) (sym (append-nil es))
     (still_agrees k _ refl refl refl refl (undo_of_one k a.txn (undo_rolled a.undo a.undo.images Whole) moves.0.1 _ refl refl)))
 event_agrees o es old new (AnswerAbort a) sound k moves = subst (SessionsAgree o _) (sym moves.1) (abort_agrees k sound a moves.0)
-event_agrees o es old new (AnswerCommit a) sound k moves = subst (SessionsAgree o _) (sym moves.1) (answer_agrees k sound a moves.0.1)
+event_agrees o es old new (Ask ticket durable) sound k moves = subst (SessionsAgree o _) (sym moves) (asked_agrees k ticket durable)
 event_agrees o es old new (RefuseCall session t c fault) sound k moves = subst (SessionsAgree o _) (sym moves.2) (refusal_agrees k sound session t c fault moves.0)
 event_agrees o es old new (AppendPrepare a global granules) sound k moves =
     subst (SessionsAgree o _) (sym moves.4) (prepare_agrees k sound a global granules moves.0 moves.1 moves.2)

@@ -1,5 +1,5 @@
 -- Turns in a history with more entries: those that were taken stay, and a commit takes its own.
-use Rattle.std.proofs.Common.{◌≡◌, ◌++◌, ⊎_elim, ℕ, List, [], ◌∷◌, Bool, true, false, cond, Some, None, refl, sym, ap, subst, ◌∙◌}
+use Rattle.std.proofs.Common.{◌≡◌, ◌++◌, ⊎_elim, ℕ, List, [], ◌∷◌, Bool, true, false, cond, Some, None, sym, ap, subst, ◌∙◌}
 use Rattle.std.specs.Prelude.{slice_get, take, IfSome}
 use Rattle.shore_model.specs.declared.histories.Opening.{Opening}
 use Rattle.shore_model.specs.declared.histories.Decision.{Decision}

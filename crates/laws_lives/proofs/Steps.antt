@@ -1,5 +1,5 @@
 -- Each event, and an open, leave the history sound.
-use Rattle.std.proofs.Common.{◌≡◌, ◌≢◌, inl, inr, ⊎_elim, ◌++◌, ◌<◌, ◌≤◌, ℕ, List, [], ◌∷◌, true, false, cond, Some, None, Ok, Err, refl, sym, ap, subst, ◌∙◌, map, arith, append-nil}
+use Rattle.std.proofs.Common.{◌≡◌, ◌≢◌, inl, inr, ⊎_elim, ◌++◌, ◌<◌, ◌≤◌, ℕ, List, [], ◌∷◌, true, false, cond, Some, None, Ok, Err, refl, sym, ap, subst, ◌∙◌, map, arith, append-nil, append_assoc}
 use Rattle.std.specs.Prelude.{◌==◌, All, not, slice_get}
 use Rattle.std.specs.List.{AllByRecursion}
 use Rattle.std.proofs.lemmas.Bool.{eqb-true, eqb-false, ne_eqb}
@@ -9,7 +9,9 @@ use Rattle.shore_model.specs.declared.calls.Answer.TheVariants.{Aborted, AreInDo
 use Rattle.shore_model.specs.declared.calls.Call.TheVariants as call
 use Rattle.shore_model.specs.declared.histories.Decision.{Decision}
 use Rattle.shore_model.specs.declared.histories.Decision.TheVariants as decision
+use Rattle.shore_model.specs.declared.calls.Exchange.{Exchange}
 use Rattle.shore_model.specs.declared.histories.Entry.{Entry}
+use Rattle.shore_model.specs.declared.histories.Entry.TheVariants.{Decided, Exchanged}
 use Rattle.shore_model.specs.declared.histories.InDoubt.{InDoubt}
 use Rattle.shore_model.specs.declared.histories.Opening.{Opening}
 use Rattle.shore_model.specs.declared.sessions.SessionState.{SessionState}
@@ -19,14 +21,15 @@ use Rattle.laws_lives.proofs.Lists.{among_map, among_right, map-push}
 use Rattle.laws_lives.proofs.Members.{txn_among, txn_without}
 use Rattle.laws_lives.proofs.Soundness.{sound_prepare, sound_resolve, sound_rollback}
 use Rattle.laws_lives.proofs.Standing.{stands_whole}
-use Rattle.laws_lives.specs.SessionSteps.{AnswerAbort, AnswerCommit, AnswerInDoubt, AnswerPrepare, AnswerResolve, AppendCommit, AppendPrepare, AppendResolve, AppendRollback, BeginTxn, Doom, EndRollback, GiveReply, MoveLocks, PutBack, RefuseCall, SessionEvent, StepsTo, entries_by, exchange}
-use Rattle.laws_lives.specs.Sessions.{IsFree, IsTxnOf, PreparedTxn, ResolvedTxn, SessionTxn, Sessions, abort_answered, doomed, image_put_back, in_doubt_of, locks_moved, pair_of, pair_resolved, pairs_of, prepare_appended, resolve_appended, rollback_appended, rollback_ended, seated, txns_of, with_answered, without_prepared, without_resolved}
+use Rattle.laws_lives.specs.SessionSteps.{AnswerAbort, AnswerInDoubt, AnswerPrepare, AnswerResolve, AppendCommit, AppendPrepare, AppendResolve, AppendRollback, Ask, BeginTxn, Doom, EndRollback, GiveReply, MoveLocks, PutBack, RefuseCall, SessionEvent, StepsTo, entries_by, exchange}
+use Rattle.laws_lives.specs.Sessions.{IsFree, IsTxnOf, PreparedTxn, ResolvedTxn, SessionTxn, Sessions, abort_answered, commit_appended, doomed, image_put_back, in_doubt_of, locks_moved, pair_of, pair_resolved, pairs_of, prepare_appended, resolve_appended, rollback_appended, rollback_ended, seated, txns_of, with_answered, without_prepared, without_resolved}
 use Rattle.laws_lives.specs.Soundness.{IsJustOpened, IsSoundAfter, SessionsAgree, found_in_doubt, serial_after, written_by}
 use Rattle.laws_lives.specs.Views.{IsAmong}
 use Rattle.laws_lives.proofs.BeginSteps.{begin_stays_sound}
 use Rattle.laws_lives.proofs.EndSteps.{commit_stays_sound, commit_turn, rollback_stays_sound}
 use Rattle.laws_lives.proofs.PutBacks.{doom_stays_sound, put_back_stays_sound}
-use Rattle.laws_lives.proofs.QuietSteps.{decision_stays_sound, locks_stay_sound, quiet_stays_sound, sound_beside}
+use Rattle.laws_lives.proofs.EndedLocks.{without_its_locks}
+use Rattle.laws_lives.proofs.QuietSteps.{asked_stays_sound, decision_stays_sound, locks_stay_sound, quiet_stays_sound, sound_beside}
 use Rattle.laws_lives.proofs.ReplySteps.{reply_stays_sound}
 
 none_at : (n : ℕ) (d : Decision) → slice_get (decisions []) n ≡ Some d → ⊥
@@ -135,9 +138,21 @@ resolved_below : {o : Opening} {es : List Entry} {s : Sessions} (r : ResolvedTxn
 resolved_below {s = s} r k mem = k.used_below (pair_resolved r) (among_right (pair_resolved r) (pairs_of s.prepared) (map pair_resolved s.resolving) (among_map pair_resolved r s.resolving mem))
 
 module _ {o : Opening} {es : List Entry} {s : Sessions} (k : IsSoundAfter o es s) (agree : SessionsAgree o es s) where
+  end_stays_sound : (a : SessionTxn) → IsAmong a s.active → IsSoundAfter o es (rollback_ended s a)
+  end_stays_sound a mem = without_its_locks a.txn (rollback_stays_sound k a mem) (λ u b. (txn_without a.txn u s.active b).1)
+
+  -- a commit: its record, then its locks go, then it is answered
+  own_commit_stays_sound : (a : SessionTxn) → IsAmong a s.active → a.undo.rolling ≡ None → IsFree s a.txn → (ticket : ℕ)
+      → IsSoundAfter o (es ++ entries_by s (AppendCommit a ticket)) (commit_appended s a)
+  own_commit_stays_sound a mem none is_free ticket =
+      let x : Exchange = exchange call.Commit (Ok (Committed ticket)) in
+      subst (λ es. IsSoundAfter o es (commit_appended s a)) (append_assoc es (Decided (decision.Commit a.txn) ∷ []) (Exchanged a.session a.txn x ∷ []))
+      (quiet_stays_sound (without_its_locks a.txn (commit_stays_sound k a mem none (commit_turn k a mem none is_free)) (λ u b. (txn_without a.txn u s.active b).1))
+      a.session a.txn x (commit_is_quiet ticket) (k.below a.txn (txn_among a s.active mem)))
+
   abort_stays_sound : (a : SessionTxn) → IsAmong a s.active → IsSoundAfter o (es ++ entries_by s (AnswerAbort a)) (abort_answered s a)
   abort_stays_sound a mem =
-      quiet_stays_sound (rollback_stays_sound k a mem) a.session a.txn (exchange call.Abort (Ok Aborted)) abort_is_quiet (k.below a.txn (txn_among a s.active mem))
+      quiet_stays_sound (end_stays_sound a mem) a.session a.txn (exchange call.Abort (Ok Aborted)) abort_is_quiet (k.below a.txn (txn_among a s.active mem))
 
   prepare_stays_sound : (a : SessionTxn) → IsAmong a s.active → IsFree s a.txn → (global : List ℕ) (granules : List Granule)
       → IsSoundAfter o (es ++ entries_by s (AppendPrepare a global granules)) (prepare_appended s a global)
@@ -154,7 +169,7 @@ module _ {o : Opening} {es : List Entry} {s : Sessions} (k : IsSoundAfter o es s
   resolve_stays_sound : (a : SessionTxn) → IsAmong a s.active → a.undo.rolling ≡ None → (global : List ℕ) → IsAmong a.txn (in_doubt_of s)
       → IsSoundAfter o (es ++ entries_by s (AppendResolve a global)) (resolve_appended s a global)
   resolve_stays_sound a mem none global doubt =
-      sound_beside (commit_stays_sound k a mem none (sound_resolve o es a.txn k.sound (agree.turned a.txn doubt))) (resolve_appended s a global) refl refl refl refl
+      sound_beside (without_its_locks a.txn (commit_stays_sound k a mem none (sound_resolve o es a.txn k.sound (agree.turned a.txn doubt))) (λ u b. (txn_without a.txn u s.active b).1)) (resolve_appended s a global) refl refl refl refl
       (λ u b is. (λ h. is.0 (still_prepared a.txn u s.prepared h (txn_without a.txn u s.active b).1), λ h. is.1 (inr h)))
 
   rollback_begins_sound : (a : SessionTxn) → IsAmong a s.active → (global : List ℕ) → IsAmong a.txn (in_doubt_of s)
@@ -176,9 +191,8 @@ event_stays_sound o es old new (BeginTxn session) k agree moves =
     subst (IsSoundAfter o _) (sym moves.1) (sound_seated old (entries_by old (BeginTxn session)) (begin_stays_sound k session))
 event_stays_sound o es old new (GiveReply a c reply) k agree moves =
     subst (IsSoundAfter o _) (sym moves.4) (sound_seated old (entries_by old (GiveReply a c reply)) (reply_stays_sound k a moves.0.0 moves.0.2 c reply moves.2 moves.3))
-event_stays_sound o es old new (AppendCommit a) k agree moves =
-    subst (IsSoundAfter o _) (sym moves.2)
-    (sound_seated old (entries_by old (AppendCommit a)) (commit_stays_sound k a moves.0.0 moves.1 (commit_turn k a moves.0.0 moves.1 moves.0.2)))
+event_stays_sound o es old new (AppendCommit a ticket) k agree moves =
+    subst (IsSoundAfter o _) (sym moves.2) (sound_seated old (entries_by old (AppendCommit a ticket)) (own_commit_stays_sound k agree a moves.0.0 moves.1 moves.0.2 ticket))
 event_stays_sound o es old new (PutBack a kept e r) k agree moves =
     subst (IsSoundAfter o (es ++ [])) (sym moves.4)
     (subst (λ es. IsSoundAfter o es (image_put_back old a kept e r)) (sym (append-nil es)) (put_back_stays_sound k a moves.0.0 kept e moves.1 r moves.2 moves.3))
@@ -186,10 +200,7 @@ event_stays_sound o es old new (Doom a) k agree moves =
     subst (IsSoundAfter o (es ++ [])) (sym moves.1) (subst (λ es. IsSoundAfter o es (doomed old a)) (sym (append-nil es)) (doom_stays_sound k a moves.0.0))
 event_stays_sound o es old new (AnswerAbort a) k agree moves =
     subst (IsSoundAfter o _) (sym moves.1) (sound_seated old (entries_by old (AnswerAbort a)) (abort_stays_sound k agree a moves.0.0))
-event_stays_sound o es old new (AnswerCommit a) k agree moves =
-    subst (IsSoundAfter o _) (sym moves.1)
-    (beside (quiet_stays_sound k a.session a.txn (exchange call.Commit (Ok Committed)) commit_is_quiet
-    (txn_below a.session a.txn agree (ap (λ (p : SessionState). p.txn) moves.0.1))) _ refl refl refl refl refl refl)
+event_stays_sound o es old new (Ask ticket durable) k agree moves = subst (IsSoundAfter o _) (sym moves) (asked_stays_sound k ticket durable)
 event_stays_sound o es old new (RefuseCall session t c fault) k agree moves =
     subst (IsSoundAfter o _) (sym moves.2)
     (sound_seated old (entries_by old (RefuseCall session t c fault)) (quiet_stays_sound k session t (exchange c (Err fault)) (refusal_is_quiet c fault moves.1) (txn_below session t agree moves.0)))
@@ -209,7 +220,7 @@ event_stays_sound o es old new (AppendRollback a global) k agree moves =
     subst (IsSoundAfter o _) (sym moves.2)
     (sound_seated old (entries_by old (AppendRollback a global)) (rollback_begins_sound k agree a moves.0 global (prepared_among _ old.prepared moves.1)))
 event_stays_sound o es old new (EndRollback a) k agree moves =
-    subst (IsSoundAfter o (es ++ [])) (sym moves.2) (subst (λ es. IsSoundAfter o es (rollback_ended old a)) (sym (append-nil es)) (rollback_stays_sound k a moves.0.0))
+    subst (IsSoundAfter o (es ++ [])) (sym moves.2) (subst (λ es. IsSoundAfter o es (rollback_ended old a)) (sym (append-nil es)) (end_stays_sound k agree a moves.0.0))
 event_stays_sound o es old new (AnswerResolve session r) k agree moves =
     subst (IsSoundAfter o _) (sym moves.2)
     (sound_beside (quiet_stays_sound k session r.txn (exchange (call.Resolve r.global r.outcome) (Ok Resolved)) (resolve_is_quiet r.global r.outcome) (resolved_below r agree moves.0))

@@ -1,5 +1,5 @@
 -- What more entries leave of transactions: one that has no reply more, or quiet ones alone, has its turn as before.
-use Rattle.std.proofs.Common.{◌≡◌, ◌≢◌, ◌++◌, ℕ, List, [], ◌∷◌, true, false, Option, None, Some, refl, sym, ap, subst, ◌∙◌, append-nil}
+use Rattle.std.proofs.Common.{◌≡◌, ◌≢◌, ◌++◌, ℕ, List, [], ◌∷◌, Bool, true, false, Option, None, Some, refl, sym, ap, subst, ◌∙◌, append-nil}
 use Rattle.std.specs.Prelude.{◌==◌}
 use Rattle.std.specs.List.{AllByRecursion}
 use Rattle.shore_model.specs.declared.calls.Exchange.{Exchange}
@@ -7,12 +7,12 @@ use Rattle.shore_model.specs.declared.histories.Decision.{Decision}
 use Rattle.shore_model.specs.declared.histories.Decision.TheVariants.{Commit, Prepare, RollBack}
 use Rattle.shore_model.specs.declared.histories.Entry.{Entry}
 use Rattle.shore_model.specs.declared.histories.Opening.{Opening}
-use Rattle.shore_model.specs.declared.histories.Entry.TheVariants.{Exchanged, Decided}
+use Rattle.shore_model.specs.declared.histories.Entry.TheVariants.{Asked, Exchanged, Decided}
 use Rattle.shore_model.specs.declared.progress.Progress.{Progress}
 use Rattle.shore_model.specs.Alone.{MayReplyAll, after, start, writes_of}
 use Rattle.shore_model.specs.Histories.{calls_of, decisions, serial, writes_given}
 use Rattle.shore_model.specs.Records.{Records, WriteSet, overlay}
-use Rattle.laws_lives.proofs.Entries.{calls-decided, calls-exchanged, calls-other, decisions-decided}
+use Rattle.laws_lives.proofs.Entries.{calls-asked, calls-decided, calls-exchanged, calls-other, decisions-decided}
 use Rattle.laws_lives.proofs.Exchanges.{IsQuiet, after-push, replies-push}
 use Rattle.laws_lives.proofs.Lists.{recursion-each, recursion-weaker}
 use Rattle.laws_lives.specs.Soundness.{decided_txn, progress_from, progress_in, serial_after, written_by}
@@ -35,6 +35,9 @@ kept_by_other o es t u s x other = kept_if_same o es _ t (calls-other es t u s x
 
 pub kept_by_decided : (o : Opening) (es : List Entry) (t : ℕ) (d : Decision) → KeepsTurn o es (es ++ Decided d ∷ []) t
 kept_by_decided o es t d = kept_if_same o es _ t (calls-decided es t d)
+
+pub kept_by_asked : (o : Opening) (es : List Entry) (t n : ℕ) (b : Bool) → KeepsTurn o es (es ++ Asked n b ∷ []) t
+kept_by_asked o es t n b = kept_if_same o es _ t (calls-asked es t n b)
 
 -- a quiet reply leaves the progress
 pub quiet_progress : (given : Option WriteSet) (xs : List Exchange) (x : Exchange) → IsQuiet x → progress_from given (xs ++ x ∷ []) ≡ progress_from given xs

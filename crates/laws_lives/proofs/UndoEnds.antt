@@ -157,12 +157,11 @@ has_known q log lawful = by_records (λ xs. (t : ℕ) → has (changes_id q) t x
         (before.0, subst (λ es. 0 < first_number es) (sym (newest_other xs r t ne)) before.1))
         (same_or_not r.txn t)
 
-no_losers : (log : List LogRecord) → Lawful log → ((t : ℕ) → IsLoser log t → ⊥) → HasNoLosers log
-no_losers log lawful none t q changed runs =
+-- then whoever has changed a record and not ended is in doubt
+pub writers_in_doubt : (log : List LogRecord) → Lawful log → HasNoLosers log → (t : ℕ) (q : Rid) → has (changes_id q) t log ≡ true → is_over t log ≡ false → is_in_doubt t log ≡ true
+writers_in_doubt log lawful none t q changed runs =
     let known = has_known q log lawful t changed in
     ⊎_elim (λ doubt. doubt) (λ not_so. absurd (none t (record { is_one = known.0; known = known.1; not_over = runs; not_in_doubt = not_so }))) (cases_Bool (is_in_doubt t log))
 
 pub undo_ends : (log : List LogRecord) → Lawful log → (ts : List ℕ) × (last : List LogRecord) × IsUndoneTo log ts last × HasNoLosers last
-undo_ends log lawful =
-    let all = undo_all (map (λ r. r.txn) log) log (λ t h. among_records t 1 log h.known) in
-    (all.0, all.1, all.2, no_losers all.1 (undone_lawful log all.0 all.1 all.2 lawful) all.3)
+undo_ends log lawful = undo_all (map (λ r. r.txn) log) log (λ t h. among_records t 1 log h.known)

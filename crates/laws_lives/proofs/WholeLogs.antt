@@ -1,8 +1,8 @@
 -- A whole log: what it leaves in place, and which records its transactions may append.
-use Rattle.std.proofs.Common.{◌≡◌, ◌≢◌, ◌<◌, inl, inr, ⊎_elim, ℕ, List, [], ◌∷◌, ◌++◌, Bool, true, false, cond, map, Some, None, refl, sym, ap, subst, ◌∙◌, arith, append_assoc}
-use Rattle.std.specs.Prelude.{◌==◌, ◌&&◌, ◌||◌, filter, not}
+use Rattle.std.proofs.Common.{◌≡◌, ◌≢◌, ◌<◌, inl, inr, ⊎_elim, ℕ, List, [], ◌∷◌, ◌++◌, Bool, true, false, Some, refl, sym, ap, subst, ◌∙◌, arith, append_assoc}
+use Rattle.std.specs.Prelude.{◌==◌, ◌&&◌, ◌||◌, not}
 use Rattle.std.specs.FinMap.{get}
-use Rattle.std.specs.List.{AllByRecursion, cons_option, filter_map}
+use Rattle.std.specs.List.{AllByRecursion}
 use Rattle.std.proofs.lemmas.Bool.{eq-eqb, ne_eqb, cases_Bool, true≢false}
 use Rattle.std.proofs.lemmas.List.Elements.{All-from_recursion}
 use Rattle.shore_types.specs.Images.{Image}
@@ -13,8 +13,7 @@ use Rattle.shore_model.specs.declared.log_records.LogRecord.{LogRecord}
 use Rattle.shore_model.specs.declared.log_records.Payload.{Payload}
 use Rattle.shore_model.specs.declared.log_records.Payload.TheVariants.{Compensation}
 use Rattle.shore_model.specs.Locks.{MayWrite}
-use Rattle.shore_model.specs.Logs.{Lawful, LeavesFree, MayFollow, NoOtherChanged, has, id_in, image_of_record, is_commit, is_end, is_in_doubt, is_of_checkpoint, is_over, is_prepare, is_rollback, is_undoable, is_unprepared, logged_writes, prepare_of, previous_of, records_told, unanswered}
-use Rattle.shore_model.specs.Records.{Records, overlays}
+use Rattle.shore_model.specs.Logs.{Lawful, LeavesFree, MayFollow, NoOtherChanged, has, id_in, image_of_record, is_commit, is_end, is_of_checkpoint, is_over, is_prepare, is_rollback, is_undoable, logged_writes, previous_of, unanswered}
 use Rattle.laws_lives.proofs.OneMore.{has-not_its, id_itself, writes_none}
 use Rattle.laws_lives.proofs.UndoRecords.{lawful_next}
 use Rattle.laws_lives.proofs.Writers.{never_true, one_writer_at_most, same_or_not}
@@ -24,7 +23,7 @@ use Rattle.laws_lives.proofs.EndedTxns.{over_same}
 use Rattle.laws_lives.proofs.LogSteps.{disjoint}
 use Rattle.laws_lives.proofs.LoggedInPlace.{stand_logged}
 use Rattle.laws_lives.proofs.UnansweredChanges.{compensation_answers, unanswered_other}
-use Rattle.laws_lives.specs.LogTells.{IsLogAfter, MatchesUndo, records_committed}
+use Rattle.laws_lives.specs.LogTells.{IsLogAfter, MatchesUndo}
 use Rattle.laws_lives.specs.Logged.{and_compensations, and_record, next_to_undo}
 use Rattle.laws_lives.specs.Sessions.{Sessions, txns_of}
 use Rattle.laws_lives.specs.Soundness.{IsSoundAfter}

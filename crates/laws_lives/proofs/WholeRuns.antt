@@ -1,5 +1,5 @@
 -- From an open on, the log stays whole beside the sessions.
-use Rattle.std.proofs.Common.{◌++◌, ℕ, List, [], ◌∷◌, sym, subst}
+use Rattle.std.proofs.Common.{◌++◌, List, [], ◌∷◌, sym, subst}
 use Rattle.shore_model.specs.declared.histories.Entry.{Entry}
 use Rattle.shore_model.specs.declared.histories.Opening.{Opening}
 use Rattle.shore_model.specs.declared.log_records.LogRecord.{LogRecord}

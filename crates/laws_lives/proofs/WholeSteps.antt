@@ -47,7 +47,7 @@ use Rattle.shore_model.specs.declared.rollbacks.Rollback.TheVariants.{Whole}
 use Rattle.laws_lives.specs.LogTells.{IsLogAfter, MatchesUndo}
 use Rattle.laws_lives.specs.Logged.{and_compensations, and_record, log_after, log_after_answer, log_after_reply}
 use Rattle.laws_lives.specs.RepliesInPlace.{MayReplyInPlace, Permit}
-use Rattle.laws_lives.specs.SessionSteps.{AnswerAbort, AnswerCommit, AnswerInDoubt, AnswerPrepare, AnswerResolve, AppendCommit, AppendPrepare, AppendResolve, AppendRollback, AreExclusive, BeginTxn, Doom, EndRollback, GiveReply, MoveLocks, PutBack, RefuseCall, SessionEvent, StepsTo}
+use Rattle.laws_lives.specs.SessionSteps.{AnswerAbort, AnswerInDoubt, AnswerPrepare, AnswerResolve, AppendCommit, AppendPrepare, AppendResolve, AppendRollback, AreExclusive, Ask, BeginTxn, Doom, EndRollback, GiveReply, MoveLocks, PutBack, RefuseCall, SessionEvent, StepsTo}
 use Rattle.laws_lives.specs.Sessions.{IsFree, PreparedTxn, SessionTxn, Sessions, doomed, in_doubt_of, pair_of, resolved_of, image_put_back, reply_given, txn_begun, txns_of, with_undo, without_txn}
 use Rattle.laws_lives.specs.Soundness.{IsSoundAfter}
 use Rattle.laws_lives.specs.UndoLists.{UndoList, in_place_after, mark_of, undo_after, undo_after_answer, undo_rolled}
@@ -467,15 +467,15 @@ event_stays_whole o es old new (GiveReply a c reply) log k l d w steps =
     let h = reply_stays_whole k l d w a steps.0.0 steps.0.2 c reply steps.2 in
     subst (IsWholeLog (log_after_reply log old.records a c reply)) (sym steps.4)
     (record { lawful = h.lawful; writers = h.writers; unended = h.unended; above = h.above; undo_lists = h.undo_lists; some = h.some })
-event_stays_whole o es old new (AppendCommit a) log k l d w steps =
-    subst (IsWholeLog (log_after log old (AppendCommit a))) (sym steps.2)
+event_stays_whole o es old new (AppendCommit a ticket) log k l d w steps =
+    subst (IsWholeLog (log_after log old (AppendCommit a ticket))) (sym steps.2)
     (commit_stays_whole k l d w a steps.0.0 (ap (λ b. b || is_in_doubt a.txn log) (may_change k l d w a.txn (txn_among a old.active steps.0.0) steps.0.2)) _ refl refl)
 event_stays_whole o es old new (PutBack a kept e r) log k l d w steps =
     subst (IsWholeLog (log_after log old (PutBack a kept e r))) (sym steps.4) (put_back_stays_whole k l d w a steps.0.0 steps.0.1 kept e r steps.1)
 event_stays_whole o es old new (Doom a) log k l d w steps = subst (IsWholeLog log) (sym steps.1) (doom_stays_whole k l d w a steps.0.0)
 event_stays_whole o es old new (AnswerAbort a) log k l d w steps =
     subst (IsWholeLog (log_after log old (AnswerAbort a))) (sym steps.1) (abort_stays_whole k l d w a steps.0.0 steps.0.2.0 _ refl refl)
-event_stays_whole o es old new (AnswerCommit a) log k l d w steps = subst (IsWholeLog log) (sym steps.1) (quiet_stays_whole k l d w _ refl refl)
+event_stays_whole o es old new (Ask ticket durable) log k l d w steps = subst (IsWholeLog log) (sym steps) w
 event_stays_whole o es old new (RefuseCall session t c fault) log k l d w steps = subst (IsWholeLog log) (sym steps.2) (quiet_stays_whole k l d w _ refl refl)
 event_stays_whole o es old new (AppendPrepare a global granules) log k l d w steps =
     subst (IsWholeLog (log_after log old (AppendPrepare a global granules))) (sym steps.4)

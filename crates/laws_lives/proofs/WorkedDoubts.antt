@@ -1,20 +1,19 @@
 -- The worked runs of prepared transactions: each event may come.
-use Rattle.std.proofs.Common.{◌≡◌, ◌≢◌, ◌⊎◌, inl, inr, ⊎_elim, ◌++◌, ℕ, zero, suc, List, [], ◌∷◌, Some, None, Ok, false, true, refl, sym, ap, subst, ◌∙◌, ◌<◌, arith}
-use Rattle.std.specs.Prelude.{All, Contains, IsSome, IsSomeAnd, IsTrue, slice_get, take}
+use Rattle.std.proofs.Common.{◌≡◌, inl, inr, ⊎_elim, ◌++◌, ℕ, zero, suc, List, [], ◌∷◌, Some, Ok, refl, sym, ap, subst, ◌∙◌, ◌<◌, arith}
+use Rattle.std.specs.Prelude.{All, Contains, IsSome, IsSomeAnd, IsTrue, take}
 use Rattle.std.specs.FinMap.{empty, get, insert}
 use Rattle.std.proofs.lemmas.List.Elements.{All-cons, All-contains, All-nil}
 use Rattle.shore_types.specs.declared.faults.Fault.TheVariants.{IsPrepared}
 use Rattle.shore_types.specs.declared.ids.Rid.{Rid}
-use Rattle.shore_types.specs.declared.locking.Granule.{Granule}
 use Rattle.shore_types.specs.declared.locking.Granule.TheVariants.{Page, Record, Store, Volume}
-use Rattle.shore_types.specs.declared.locking.Mode.TheVariants.{EX, IX}
+use Rattle.shore_types.specs.declared.locking.Mode.TheVariants.{EX}
 use Rattle.shore_model.specs.declared.calls.Answer.TheVariants.{Got, Updated}
 use Rattle.shore_model.specs.declared.calls.Call.TheVariants as call
 use Rattle.shore_model.specs.declared.histories.Decision.{Decision}
 use Rattle.shore_model.specs.declared.histories.Decision.TheVariants as decision
 use Rattle.shore_model.specs.declared.histories.Entry.{Entry}
 use Rattle.shore_model.specs.declared.holds.Hold.{Hold}
-use Rattle.shore_model.specs.Histories.{IsHistory, Kept, acknowledged, decisions, in_doubt}
+use Rattle.shore_model.specs.Histories.{IsHistory, Kept, decisions, in_doubt}
 use Rattle.shore_model.specs.Locks.{Agree, Harmony, HoldsAtLeast, MayRead, MayWrite, ancestors}
 use Rattle.shore_model.specs.Modes.{is_write}
 use Rattle.shore_model.specs.Records.{Records, put_image}
@@ -23,27 +22,27 @@ use Rattle.laws_lives.proofs.DoubtLocks.{contained_among}
 use Rattle.laws_lives.proofs.Ids.{put_here}
 use Rattle.laws_lives.proofs.WorkedRun.{only_one}
 use Rattle.shore_model.specs.declared.rollbacks.Rollback.TheVariants.{Whole}
-use Rattle.laws_lives.specs.SessionSteps.{AnswerInDoubt, AnswerPrepare, AnswerResolve, AppendPrepare, AppendResolve, AppendRollback, AreExclusive, AreThoseInDoubt, BeginTxn, EndRollback, GiveReply, MoveLocks, PutBack, RefuseCall, StepsTo, entries_by}
+use Rattle.laws_lives.specs.SessionSteps.{AnswerInDoubt, AnswerPrepare, AnswerResolve, AppendPrepare, AppendResolve, AppendRollback, AreExclusive, AreThoseInDoubt, BeginTxn, GiveReply, RefuseCall, entries_by}
 use Rattle.laws_lives.specs.Doubts.{doubts_in, restored_locks, undo_in}
-use Rattle.laws_lives.specs.Sessions.{SessionTxn, Sessions, image_put_back, locks_moved, prepare_answered, prepare_appended, reply_given, resolve_answered, resolve_appended, rollback_appended, rollback_ended, seated, txn_begun}
+use Rattle.laws_lives.specs.Sessions.{Sessions, image_put_back, locks_moved, prepare_answered, prepare_appended, reply_given, resolve_answered, resolve_appended, rollback_appended, rollback_ended, seated, txn_begun}
 use Rattle.laws_lives.specs.Soundness.{RunsTo, history_from, opening_with}
 use Rattle.laws_lives.specs.UndoLists.{nothing_to_undo}
 use Rattle.laws_lives.specs.Views.{IsAmong}
 use Rattle.laws_lives.specs.WorkedDoubts.{all_undone, changed_once, doubtful_log, doubtful_open, found_again, intention, late_answer, prepared_once, preparer, resolved_after_open, resolved_first, resolved_to_abort, resolved_to_commit, second_reader, to_abort, to_be_undone, to_commit}
 use Rattle.laws_lives.specs.WorkedRun.{just_opened, read_lock, write_lock}
 
-none_below_0 : (n : ℕ) → n < 0 → ⊥
+pub none_below_0 : (n : ℕ) → n < 0 → ⊥
 none_below_0 n less = omega arith
 
 -- one lock is in harmony with itself
-alone_in_harmony : (h : Hold) → Harmony (h ∷ [])
+pub alone_in_harmony : (h : Hold) → Harmony (h ∷ [])
 alone_in_harmony h = record {
   stand_together = All-cons (λ i. All (Agree i) (h ∷ [])) h [] (All-cons (Agree h) h [] (λ e other. absurd (other refl)) (All-nil (Agree h))) (All-nil (λ i. All (Agree i) (h ∷ [])));
   none_interferes = λ r t u other w d.
       other (sym w.4.0 ∙ ap (λ (h : Hold). h.txn) (sym (only_one h w.1 (w.0, w.2, w.3)) ∙ only_one h d.1 (d.0, d.2, d.3)) ∙ d.4.0);
 }
 
-one_below : (n : ℕ) (h : Hold) → h.txn < n → All (λ (h : Hold). h.txn < n) (h ∷ [])
+pub one_below : (n : ℕ) (h : Hold) → h.txn < n → All (λ (h : Hold). h.txn < n) (h ∷ [])
 one_below n h less = All-cons (λ (h : Hold). h.txn < n) h [] less (All-nil (λ (h : Hold). h.txn < n))
 
 module _ (a : Rid) where

@@ -17,8 +17,8 @@ use Rattle.shore_model.specs.Records.{Records, put_image}
 use Rattle.shore_model.proofs.RecordPaths.{OnPath, at_page, at_record, at_store, at_volume, head_contained, on_path}
 use Rattle.laws_lives.proofs.Ids.{put_here, put_there, told_apart}
 use Rattle.shore_model.specs.declared.rollbacks.Rollback.TheVariants.{Whole, To}
-use Rattle.laws_lives.specs.SessionSteps.{AnswerAbort, AnswerCommit, AppendCommit, BeginTxn, GiveReply, entries_by}
-use Rattle.laws_lives.specs.Sessions.{SessionTxn, Sessions, seated, abort_answered, commit_answered, commit_appended, image_put_back, locks_moved, reply_given, txn_begun}
+use Rattle.laws_lives.specs.SessionSteps.{AnswerAbort, AppendCommit, BeginTxn, GiveReply, entries_by}
+use Rattle.laws_lives.specs.Sessions.{Sessions, seated, abort_answered, commit_appended, image_put_back, locks_moved, reply_given, txn_begun}
 use Rattle.laws_lives.specs.Soundness.{RunsTo}
 use Rattle.laws_lives.specs.WorkedRun.{abort_interrupted, half_way_back, interleaved, just_opened, once_deleted, once_put_back, once_saved, once_updated, read_lock, reader, reads_and_writes, saved_first, saved_then_deleted, saved_then_updated, twice_changed, way_back_interrupted, write_lock, writer}
 use Rattle.laws_lives.specs.UndoLists.{nothing_to_undo}
@@ -94,6 +94,10 @@ module _ (a b : Rid) (differ : a ≢ b) where
   reads : MayRead (reads_and_writes a b) 1 a
   reads = (0, first, omega arith, refl, (refl, head_contained (Record a) (ancestors (Record a)), refl))
 
+  -- .. also once the other's locks are gone
+  reads_alone : MayRead (first ∷ []) 1 a
+  reads_alone = (0, first, omega arith, refl, (refl, head_contained (Record a) (ancestors (Record a)), refl))
+
   writes : MayWrite (reads_and_writes a b) 2 b
   writes = (1, second, omega arith, refl, (refl, head_contained (Record b) (ancestors (Record b)), refl))
 
@@ -112,7 +116,7 @@ module _ (a b : Rid) (differ : a ≢ b) where
 
   -- ---- events
 
-  module _ (o : Records) (x y z : List ℕ) (at_a : get o a ≡ Some x) (at_b : get o b ≡ Some y) where
+  module _ (o : Records) (x y z : List ℕ) (ticket : ℕ) (at_a : get o a ≡ Some x) (at_b : get o b ≡ Some y) where
     abbrev after_change : Records
     after_change = put_image o b (Some z)
 
@@ -147,16 +151,13 @@ module _ (a b : Rid) (differ : a ≢ b) where
     s8 = seated s7 (entries_by s7 (GiveReply (writer (once_deleted o b z)) (call.BackTo 0) (Ok WentBack))) (reply_given s7 (writer (once_deleted o b z)) (call.BackTo 0) (Ok WentBack))
 
     abbrev s9 : Sessions
-    s9 = seated s8 (entries_by s8 (AppendCommit (writer (once_saved o b)))) (commit_appended s8 (writer (once_saved o b)))
+    s9 = seated s8 (entries_by s8 (AppendCommit (writer (once_saved o b)) ticket)) (commit_appended s8 (writer (once_saved o b)))
 
     abbrev s10 : Sessions
     s10 = seated s9 (entries_by s9 (GiveReply reader (call.Get a) (Ok (Got x)))) (reply_given s9 reader (call.Get a) (Ok (Got x)))
 
-    abbrev s11 : Sessions
-    s11 = seated s10 (entries_by s10 (AnswerCommit (writer (once_saved o b)))) (commit_answered s10 (writer (once_saved o b)))
-
     abbrev s12 : Sessions
-    s12 = seated s11 (entries_by s11 (AnswerAbort reader)) (abort_answered s11 reader)
+    s12 = seated s10 (entries_by s10 (AnswerAbort reader)) (abort_answered s10 reader)
 
     a_stays : get after_undo a ≡ Some x
     a_stays = other_image after_delete (get after_change b) ∙ other_image after_change None ∙ other_image o (Some z) ∙ at_a
@@ -247,17 +248,14 @@ module _ (a b : Rid) (differ : a ≢ b) where
     u9 = seated u8 (entries_by u8 (GiveReply (writer (half_way_back o b)) (call.BackTo 0) (Ok WentBack))) (reply_given u8 (writer (half_way_back o b)) (call.BackTo 0) (Ok WentBack))
 
     abbrev u10 : Sessions
-    u10 = seated u9 (entries_by u9 (AppendCommit (writer saved_first))) (commit_appended u9 (writer saved_first))
-
-    abbrev u11 : Sessions
-    u11 = seated u10 (entries_by u10 (AnswerCommit (writer saved_first))) (commit_answered u10 (writer saved_first))
+    u10 = seated u9 (entries_by u9 (AppendCommit (writer saved_first) ticket)) (commit_appended u9 (writer saved_first))
 
     abbrev u12 : Sessions
-    u12 = seated u11 (entries_by u11 (AnswerAbort reader)) (abort_answered u11 reader)
+    u12 = seated u10 (entries_by u10 (AnswerAbort reader)) (abort_answered u10 reader)
 
-    pub interrupt_way_back : (last : Sessions) × (made : List Entry) × RunsTo (just_opened o) (way_back_interrupted o a b x z) [] last made × (get last.records b ≡ Some y)
+    pub interrupt_way_back : (last : Sessions) × (made : List Entry) × RunsTo (just_opened o) (way_back_interrupted o a b x z ticket) [] last made × (get last.records b ≡ Some y)
     interrupt_way_back =
-        let run : (made : List Entry) × RunsTo (just_opened o) (way_back_interrupted o a b x z) [] u12 made = (
+        let run : (made : List Entry) × RunsTo (just_opened o) (way_back_interrupted o a b x z ticket) [] u12 made = (
           _,
           (
             s1,
@@ -290,13 +288,9 @@ module _ (a b : Rid) (differ : a ≢ b) where
                               u10,
                               ((inl refl, refl, (λ h. h, λ h. h)), refl, refl),
                               (
-                                u11,
-                                ((inl refl, refl), refl),
-                                (
-                                  u12,
-                                  ((inl refl, refl, (λ h. h, λ h. h)), refl),
-                                  (refl, refl),
-                                ),
+                                u12,
+                                ((inl refl, refl, (λ h. h, λ h. h)), refl),
+                                (refl, refl),
                               ),
                             ),
                           ),
@@ -311,9 +305,9 @@ module _ (a b : Rid) (differ : a ≢ b) where
         ) in
         (u12, run.0, run.1, put_here after_undo b (get o b) ∙ at_b)
 
-    pub interleave : (last : Sessions) × (made : List Entry) × RunsTo (just_opened o) (interleaved o a b x z) [] last made × (get last.records b ≡ Some z)
+    pub interleave : (last : Sessions) × (made : List Entry) × RunsTo (just_opened o) (interleaved o a b x z ticket) [] last made × (get last.records b ≡ Some z)
     interleave =
-        let run : (made : List Entry) × RunsTo (just_opened o) (interleaved o a b x z) [] s12 made = (
+        let run : (made : List Entry) × RunsTo (just_opened o) (interleaved o a b x z ticket) [] s12 made = (
           _,
           (
             s1,
@@ -344,15 +338,11 @@ module _ (a b : Rid) (differ : a ≢ b) where
                             ((inl refl, refl, (λ h. h, λ h. h)), refl, refl),
                             (
                               s10,
-                              ((inl refl, refl, (λ h. h, λ h. h)), tt, (reads, got after_undo x a_stays), inl refl, refl),
+                              ((inl refl, refl, (λ h. h, λ h. h)), tt, (reads_alone, got after_undo x a_stays), inl refl, refl),
                               (
-                                s11,
-                                ((inl refl, refl), refl),
-                                (
-                                  s12,
-                                  ((inl refl, refl, (λ h. h, λ h. h)), refl),
-                                  (refl, refl),
-                                ),
+                                s12,
+                                ((inl refl, refl, (λ h. h, λ h. h)), refl),
+                                (refl, refl),
                               ),
                             ),
                           ),

@@ -12,6 +12,7 @@ use Rattle.shore_model.specs.Records.{Records, WriteSet, overlay, overlays}
 use Rattle.shore_types.specs.Images.{Image}
 use Rattle.shore_model.specs.Logs.{Lawful, MayFollow, MaySay, records_told, has, is_over, is_commit, is_end, is_prepare, is_rollback, is_in_doubt, is_undoable, prepare_of, in_doubt_in, logged_writes, image_of_record}
 use Rattle.shore_model.proofs.Overlays.{get-overlay}
+use Rattle.laws_lives.proofs.UndoEnds.{writers_in_doubt}
 use Rattle.laws_lives.specs.LogTells.{records_committed}
 use Rattle.laws_lives.specs.Views.{IsAmong}
 use Rattle.laws_lives.proofs.Lists.{recursion-weaker}
@@ -154,6 +155,6 @@ module _ (log : List LogRecord) (lawful : Lawful log) where
       leaves_running q (in_doubt_in log)
       (recursion-weaker (λ u. is_in_doubt u log ≡ true) (λ u. is_over u log ≡ false) doubt_not_over (in_doubt_in log) (filtered (λ u. is_in_doubt u log) (filter_map prepare_of log)))
       (λ t changed runs.
-      let doubt = quiet t q changed runs in
+      let doubt = writers_in_doubt log lawful quiet t q changed runs in
       among_filtered t (λ u. is_in_doubt u log) doubt (filter_map prepare_of log)
       (among_prepared t log (in_doubt_parts (has is_prepare t log) (has is_commit t log) (has is_rollback t log) doubt).0))

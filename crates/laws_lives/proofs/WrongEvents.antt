@@ -87,8 +87,8 @@ module _ (s new : Sessions) where
   second_txn session some step = let none : (s.seats session).txn ≡ 0 = ap (λ (p : SessionState). p.txn) step.0 in omega arith
 
   -- one in doubt is left alone, until a resolve decides it, which comes only once its prepare is answered
-  pub commit_of_doubtful : (a : SessionTxn) → IsAmong a.txn (in_doubt_of s) → StepsTo s (AppendCommit a) new → ⊥
-  commit_of_doubtful a among step = step.0.2.0 among
+  pub commit_of_doubtful : (a : SessionTxn) (ticket : ℕ) → IsAmong a.txn (in_doubt_of s) → StepsTo s (AppendCommit a ticket) new → ⊥
+  commit_of_doubtful a ticket among step = step.0.2.0 among
 
   pub undo_of_doubtful : (a : SessionTxn) (kept : List (Rid × Image)) (e : Rid × Image) (r : Rollback) → IsAmong a.txn (in_doubt_of s) → StepsTo s (PutBack a kept e r) new → ⊥
   undo_of_doubtful a kept e r among step = step.0.1 among
@@ -117,8 +117,8 @@ module _ (s new : Sessions) where
 
   -- ---- while a rollback is under way
 
-  pub commit_in_rollback : (a : SessionTxn) → a.undo.rolling ≢ None → StepsTo s (AppendCommit a) new → ⊥
-  commit_in_rollback a rolls step = rolls step.1
+  pub commit_in_rollback : (a : SessionTxn) (ticket : ℕ) → a.undo.rolling ≢ None → StepsTo s (AppendCommit a ticket) new → ⊥
+  commit_in_rollback a ticket rolls step = rolls step.1
 
   pub get_in_rollback : (a : SessionTxn) (id : Rid) (reply : Result Answer Fault) → a.undo.rolling ≢ None → StepsTo s (GiveReply a (call.Get id) reply) new → ⊥
   get_in_rollback a id reply rolls step = ⊎_elim (λ none. rolls none) (λ back. no_back_to id back.0 back.3) step.3

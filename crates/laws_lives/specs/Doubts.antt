@@ -1,7 +1,7 @@
 -- Transactions in doubt in a log: what an open makes of them, and what must hold of them so that it can. All of it is a function of the log.
-use Rattle.std.specs.Prelude.{◌≡◌, ◌≢◌, ◌⊎◌, ◌++◌, ◌<◌, ℕ, List, [], ◌∷◌, Option, None, Some, Contains, All, Any, IsTrue, true, false, filter, length, map, reverse}
+use Rattle.std.specs.Prelude.{◌≡◌, ◌≢◌, ◌⊎◌, ◌++◌, ◌<◌, ℕ, List, [], ◌∷◌, Option, None, Some, Contains, true, false, filter, length, map, reverse}
 use Rattle.std.specs.FinMap.{get}
-use Rattle.std.specs.List.{AllByRecursion, filter_map}
+use Rattle.std.specs.List.{filter_map}
 use Rattle.shore_types.specs.Images.{Image}
 use Rattle.shore_types.specs.declared.ids.Rid.{Rid}
 use Rattle.shore_types.specs.declared.locking.Granule.{Granule}
@@ -13,10 +13,10 @@ use Rattle.shore_model.specs.declared.log_records.LogRecord.{LogRecord}
 use Rattle.shore_model.specs.declared.log_records.Payload.{Payload}
 use Rattle.shore_model.specs.declared.log_records.Payload.TheVariants.{Change, Compensation, Commit, End, Prepare, RollbackDecided, CheckpointBegin, CheckpointEnd, Anchor}
 use Rattle.shore_model.specs.Locks.{HoldsAtLeast, OnOnePath, ancestors}
-use Rattle.shore_model.specs.Logs.{has, is_commit, is_in_doubt, is_prepare, is_rollback, logged_writes, unanswered}
+use Rattle.shore_model.specs.Logs.{has, is_in_doubt, is_prepare, is_rollback, logged_writes, unanswered}
 use Rattle.shore_model.specs.Records.{WriteSet, overlay}
 use Rattle.laws_lives.specs.LogTells.{records_committed}
-use Rattle.laws_lives.specs.Sessions.{EachOnce, IsFree, SessionTxn, Sessions, in_doubt_of, pairs_of, resolved_of, txns_of}
+use Rattle.laws_lives.specs.Sessions.{EachOnce, IsFree, Sessions, in_doubt_of, pairs_of, resolved_of, txns_of}
 use Rattle.laws_lives.specs.UndoLists.{UndoList}
 use Rattle.laws_lives.specs.Views.{IsAmong}
 

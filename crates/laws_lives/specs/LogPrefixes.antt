@@ -16,7 +16,7 @@ use Rattle.shore_model.specs.Logs.{in_doubt_in}
 use Rattle.shore_model.specs.Records.{WriteSet}
 use Rattle.laws_lives.specs.Doubts.{DoubtsStand, HasWritten, doubts_in, pair_logged}
 use Rattle.laws_lives.specs.LogTells.{records_committed}
-use Rattle.laws_lives.specs.SessionSteps.{SessionEvent, MoveLocks, BeginTxn, GiveReply, AppendCommit, PutBack, Doom, AnswerAbort, AnswerCommit, RefuseCall, AppendPrepare, AnswerPrepare, AppendResolve, AppendRollback, EndRollback, AnswerResolve, AnswerInDoubt}
+use Rattle.laws_lives.specs.SessionSteps.{SessionEvent, MoveLocks, BeginTxn, GiveReply, AppendCommit, PutBack, Doom, AnswerAbort, Ask, RefuseCall, AppendPrepare, AnswerPrepare, AppendResolve, AppendRollback, EndRollback, AnswerResolve, AnswerInDoubt}
 use Rattle.laws_lives.specs.Soundness.{written_by}
 use Rattle.laws_lives.specs.Views.{IsAmong}
 
@@ -70,11 +70,11 @@ abbrev pub DecidesNothing : SessionEvent → Type 0
 DecidesNothing (MoveLocks held) = Unit {0}
 DecidesNothing (BeginTxn session) = Unit {0}
 DecidesNothing (GiveReply a c reply) = Unit {0}
-DecidesNothing (AppendCommit a) = ⊥
+DecidesNothing (AppendCommit a ticket) = ⊥
 DecidesNothing (PutBack a kept e r) = Unit {0}
 DecidesNothing (Doom a) = Unit {0}
 DecidesNothing (AnswerAbort a) = Unit {0}
-DecidesNothing (AnswerCommit a) = Unit {0}
+DecidesNothing (Ask ticket durable) = Unit {0}
 DecidesNothing (RefuseCall session t c fault) = Unit {0}
 DecidesNothing (AppendPrepare a global granules) = ⊥
 DecidesNothing (AnswerPrepare session t global) = Unit {0}

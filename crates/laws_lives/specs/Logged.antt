@@ -13,7 +13,7 @@ use Rattle.shore_model.specs.declared.log_records.Payload.{Payload}
 use Rattle.shore_model.specs.declared.log_records.Payload.TheVariants.{Change, Compensation, Commit, End, Prepare, RollbackDecided}
 use Rattle.shore_model.specs.Logs.{previous_of, undo_next_of, unanswered}
 use Rattle.shore_model.specs.Records.{Records}
-use Rattle.laws_lives.specs.SessionSteps.{SessionEvent, MoveLocks, BeginTxn, GiveReply, AppendCommit, PutBack, Doom, AnswerAbort, AnswerCommit, RefuseCall, AppendPrepare, AnswerPrepare, AppendResolve, AppendRollback, EndRollback, AnswerResolve, AnswerInDoubt}
+use Rattle.laws_lives.specs.SessionSteps.{SessionEvent, MoveLocks, BeginTxn, GiveReply, AppendCommit, PutBack, Doom, AnswerAbort, Ask, RefuseCall, AppendPrepare, AnswerPrepare, AppendResolve, AppendRollback, EndRollback, AnswerResolve, AnswerInDoubt}
 use Rattle.laws_lives.specs.Sessions.{SessionTxn, Sessions}
 use Rattle.laws_lives.specs.UndoLists.{images_since}
 
@@ -59,17 +59,16 @@ log_after_reply log R a c (Err fault) = log
 abbrev pub and_rollback : ℕ → List LogRecord → List (Rid × Image) → List LogRecord
 and_rollback t log images = if previous_of t log == 0 then log else and_record t (and_compensations t log images) End
 
--- the list after an event: an image that is put back appends its Compensation, an abort those of all that are left and an End, and an
--- answered commit nothing, as its Commit is there already
+-- the list after an event: an image that is put back appends its Compensation, and an abort those of all that are left and an End
 abbrev pub log_after : List LogRecord → Sessions → SessionEvent → List LogRecord
 log_after log s (MoveLocks held) = log
 log_after log s (BeginTxn session) = log
 log_after log s (GiveReply a c reply) = log_after_reply log s.records a c reply
-log_after log s (AppendCommit a) = and_record a.txn log Commit
+log_after log s (AppendCommit a ticket) = and_record a.txn log Commit
 log_after log s (PutBack a kept e r) = and_record a.txn log (Compensation e.0 e.1 (next_to_undo a.txn log))
 log_after log s (Doom a) = log
 log_after log s (AnswerAbort a) = and_rollback a.txn log a.undo.images
-log_after log s (AnswerCommit a) = log
+log_after log s (Ask ticket durable) = log
 log_after log s (RefuseCall session t c fault) = log
 log_after log s (AppendPrepare a global granules) = and_record a.txn log (Prepare global granules)
 log_after log s (AnswerPrepare session t global) = log

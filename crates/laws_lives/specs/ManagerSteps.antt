@@ -1,6 +1,7 @@
 -- A manager: sessions at work over a log and pages. Nothing of the sessions knows of pages, and nothing of the pages of sessions; they meet
 -- in what the log is after an event.
-use Rattle.std.specs.Prelude.{◌≡◌, ◌<◌, ◌++◌, ℕ, List, [], ◌∷◌, map, take}
+use Rattle.std.specs.Prelude.{◌≡◌, ◌<◌, ◌≤◌, ◌+◌, ◌↔◌, ◌++◌, ℕ, List, [], ◌∷◌, true, length, map, take}
+use Rattle.shore_model.specs.declared.log_records.LogRecord.{LogRecord}
 use Rattle.std.specs.FinMap.{get}
 use Rattle.std.specs.List.{AllByRecursion}
 use Rattle.shore_types.specs.declared.ids.Rid.{Rid}
@@ -14,7 +15,7 @@ use Rattle.shore_model.specs.declared.histories.Decision.TheVariants as decision
 use Rattle.laws_lives.specs.LogPrefixes.{IsDecidedIn, decision_asked}
 use Rattle.laws_lives.specs.Recovery.{AppendRecord, FlushPage, ForceLog, LeadsTo, LosePower, RecoveryEvent, RecoveryState, RedoRecord}
 use Rattle.laws_lives.specs.Logged.{log_after}
-use Rattle.laws_lives.specs.SessionSteps.{AnswerAbort, AnswerCommit, AnswerInDoubt, AnswerPrepare, AnswerResolve, AppendCommit, AppendPrepare, AppendResolve, AppendRollback, BeginTxn, Doom, EndRollback, GiveReply, MoveLocks, PutBack, RefuseCall, SessionEvent, StepsTo, entries_by}
+use Rattle.laws_lives.specs.SessionSteps.{AnswerAbort, Ask, AnswerInDoubt, AnswerPrepare, AnswerResolve, AppendCommit, AppendPrepare, AppendResolve, AppendRollback, BeginTxn, Doom, EndRollback, GiveReply, MoveLocks, PutBack, RefuseCall, SessionEvent, StepsTo, entries_by}
 use Rattle.laws_lives.specs.Sessions.{ResolvedTxn, SessionTxn, Sessions, txns_of}
 use Rattle.laws_lives.specs.Views.{IsAmong}
 
@@ -48,28 +49,51 @@ pub data StretchEvent : Type 0 where
 abbrev pub decision_resolved : ResolvedTxn → Decision
 decision_resolved r = decision_asked r.txn r.outcome
 
--- a commit is not answered before its Commit is durable, nor a prepare before its Prepare, nor a resolve before its decision
-abbrev pub AnswersDurable : RecoveryState → SessionEvent → Type 0
-AnswersDurable store (AnswerCommit a) = IsDecidedIn (take store.durable store.log) (decision.Commit a.txn)
-AnswersDurable store (MoveLocks held) = Unit {0}
-AnswersDurable store (BeginTxn session) = Unit {0}
-AnswersDurable store (GiveReply a c reply) = Unit {0}
-AnswersDurable store (AppendCommit a) = Unit {0}
-AnswersDurable store (PutBack a kept e r) = Unit {0}
-AnswersDurable store (Doom a) = Unit {0}
-AnswersDurable store (AnswerAbort a) = Unit {0}
-AnswersDurable store (RefuseCall session t c fault) = Unit {0}
-AnswersDurable store (AppendPrepare a global granules) = Unit {0}
-AnswersDurable store (AnswerPrepare session t global) = IsDecidedIn (take store.durable store.log) (decision.Prepare t global)
-AnswersDurable store (AppendResolve a global) = Unit {0}
-AnswersDurable store (AppendRollback a global) = Unit {0}
-AnswersDurable store (EndRollback a) = Unit {0}
-AnswersDurable store (AnswerResolve session r) = IsDecidedIn (take store.durable store.log) (decision_resolved r)
-AnswersDurable store (AnswerInDoubt session t pairs) = Unit {0}
+-- a prepare is not answered before its Prepare is durable, nor a resolve before its decision. If more is durable, or the log goes on, it stays so
+abbrev pub AnswersDurable : ℕ → List LogRecord → SessionEvent → Type 0
+AnswersDurable durable log (AppendCommit a ticket) = Unit {0}
+AnswersDurable durable log (Ask ticket answer) = Unit {0}
+AnswersDurable durable log (MoveLocks held) = Unit {0}
+AnswersDurable durable log (BeginTxn session) = Unit {0}
+AnswersDurable durable log (GiveReply a c reply) = Unit {0}
+AnswersDurable durable log (PutBack a kept e r) = Unit {0}
+AnswersDurable durable log (Doom a) = Unit {0}
+AnswersDurable durable log (AnswerAbort a) = Unit {0}
+AnswersDurable durable log (RefuseCall session t c fault) = Unit {0}
+AnswersDurable durable log (AppendPrepare a global granules) = Unit {0}
+AnswersDurable durable log (AnswerPrepare session t global) = IsDecidedIn (take durable log) (decision.Prepare t global)
+AnswersDurable durable log (AppendResolve a global) = Unit {0}
+AnswersDurable durable log (AppendRollback a global) = Unit {0}
+AnswersDurable durable log (EndRollback a) = Unit {0}
+AnswersDurable durable log (AnswerResolve session r) = IsDecidedIn (take durable log) (decision_resolved r)
+AnswersDurable durable log (AnswerInDoubt session t pairs) = Unit {0}
+
+-- A commit is answered at once: the number that its Commit gets. A ticket is durable exactly if the durable number is at least it. This is judged where the
+-- event comes, and does not stay so.
+abbrev pub TellsTicket : ℕ → List LogRecord → SessionEvent → Type 0
+TellsTicket durable log (AppendCommit a ticket) = ticket ≡ length log + 1
+TellsTicket durable log (Ask ticket answer) = (answer ≡ true) ↔ (ticket ≤ durable)
+TellsTicket durable log (MoveLocks held) = Unit {0}
+TellsTicket durable log (BeginTxn session) = Unit {0}
+TellsTicket durable log (GiveReply a c reply) = Unit {0}
+TellsTicket durable log (PutBack a kept e r) = Unit {0}
+TellsTicket durable log (Doom a) = Unit {0}
+TellsTicket durable log (AnswerAbort a) = Unit {0}
+TellsTicket durable log (RefuseCall session t c fault) = Unit {0}
+TellsTicket durable log (AppendPrepare a global granules) = Unit {0}
+TellsTicket durable log (AnswerPrepare session t global) = Unit {0}
+TellsTicket durable log (AppendResolve a global) = Unit {0}
+TellsTicket durable log (AppendRollback a global) = Unit {0}
+TellsTicket durable log (EndRollback a) = Unit {0}
+TellsTicket durable log (AnswerResolve session r) = Unit {0}
+TellsTicket durable log (AnswerInDoubt session t pairs) = Unit {0}
+
+abbrev pub AnswersTruly : ℕ → List LogRecord → SessionEvent → Type 0
+AnswersTruly durable log e = AnswersDurable durable log e × TellsTicket durable log e
 
 abbrev pub ManagerStepsTo : ManagerState → StretchEvent → ManagerState → Type 0
 ManagerStepsTo m (Serve e works) new =
-    StepsTo m.sessions e new.sessions × AnswersDurable m.store e × WorksTo m.store works new.store × (new.store.log ≡ log_after m.store.log m.sessions e)
+    StepsTo m.sessions e new.sessions × AnswersTruly m.store.durable m.store.log e × WorksTo m.store works new.store × (new.store.log ≡ log_after m.store.log m.sessions e)
 ManagerStepsTo m (Tend works) new = (new.sessions ≡ m.sessions) × WorksTo m.store works new.store × (new.store.log ≡ m.store.log)
 
 abbrev pub entries_made : ManagerState → StretchEvent → List Entry
@@ -80,6 +104,13 @@ abbrev pub ManagerRunsTo : ManagerState → List StretchEvent → List Entry →
 ManagerRunsTo m [] es last made = (last ≡ m) × (made ≡ es)
 ManagerRunsTo m (e ∷ events) es last made = (new : ManagerState) × ManagerStepsTo m e new × ManagerRunsTo new events (es ++ entries_made m e) last made
 
+-- The events may come one after another over a log of which `durable` records are durable at first: before each event, more may be.
+abbrev pub RunsOver : Sessions → List LogRecord → ℕ → List SessionEvent → List Entry → Sessions → List Entry → Type 0
+RunsOver s log durable [] es last made = (last ≡ s) × (made ≡ es)
+RunsOver s log durable (e ∷ events) es last made =
+    (new : Sessions) × (forced : ℕ) × StepsTo s e new × (durable ≤ forced) × (forced ≤ length log) × AnswersTruly forced log e
+    × RunsOver new (log_after log s e) forced events (es ++ entries_by s e) last made
+
 -- ---- an open
 
 -- Sessions open on what a restart has left: the records that the pages show, no session in a transaction, and numbers that no record has. Those in
@@ -87,7 +118,6 @@ ManagerRunsTo m (e ∷ events) es last made = (new : ManagerState) × ManagerSte
 pub record OpensOver (o : Opening) (ready : RecoveryState) (first : Sessions) : Type 0 where
   pub records : (id : Rid) → get first.records id ≡ (ready.in_place id.page).slots id.slot
   pub seats : (n : ℕ) → first.seats n ≡ free
-  pub committing : first.committing ≡ []
   pub resolving : first.resolving ≡ []
   pub prepared : first.prepared ≡ map found_in_doubt o.in_doubt
   pub active : txns_of first.active ≡ map (λ d. d.txn) o.in_doubt

@@ -42,8 +42,6 @@ pub record Sessions : Type 0 where
   pub records : Records
   -- the transactions under way, those in doubt and those that a resolve has decided to roll back among them
   pub active : List SessionTxn
-  -- those that are committed, while their calls wait for the answer
-  pub committing : List SessionTxn
   pub held : List Hold
   -- what the next begin answers
   pub next_txn : ℕ
@@ -151,14 +149,19 @@ image_put_back s a kept e r = record s {
 abbrev pub doomed : Sessions → SessionTxn → Sessions
 doomed s a = record s { active = with_undo a.txn (undo_rolled a.undo a.undo.images Whole) s.active }
 
+-- the locks, once those of a transaction go
+abbrev pub without_locks : ℕ → List Hold → List Hold
+without_locks t held = filter (λ h. not (h.txn == t)) held
+
+-- a transaction is under way no longer, and its locks go
+abbrev pub txn_ended : Sessions → SessionTxn → Records → Sessions
+txn_ended s a R = record s { records = R; active = without_txn a.txn s.active; held = without_locks a.txn s.held }
+
 abbrev pub commit_appended : Sessions → SessionTxn → Sessions
-commit_appended s a = record s { active = without_txn a.txn s.active; committing = a ∷ s.committing }
+commit_appended s a = txn_ended s a s.records
 
 abbrev pub abort_answered : Sessions → SessionTxn → Sessions
-abort_answered s a = record s { records = rolled_back s.records a.undo.images; active = without_txn a.txn s.active }
-
-abbrev pub commit_answered : Sessions → SessionTxn → Sessions
-commit_answered s a = record s { committing = without_txn a.txn s.committing }
+abort_answered s a = txn_ended s a (rolled_back s.records a.undo.images)
 
 -- the seats after these entries
 abbrev pub seated : Sessions → List Entry → Sessions → Sessions
@@ -171,8 +174,7 @@ abbrev pub prepare_answered : Sessions → ℕ → Sessions
 prepare_answered s t = record s { prepared = with_answered t s.prepared }
 
 abbrev pub resolve_appended : Sessions → SessionTxn → List ℕ → Sessions
-resolve_appended s a global = record s {
-  active = without_txn a.txn s.active;
+resolve_appended s a global = record (commit_appended s a) {
   prepared = without_prepared a.txn s.prepared;
   resolving = record { txn = a.txn; global = global; outcome = outcome.Commit } ∷ s.resolving;
 }
@@ -184,9 +186,9 @@ rollback_appended s a global = record (doomed s a) {
   resolving = record { txn = a.txn; global = global; outcome = outcome.Abort } ∷ s.resolving;
 }
 
--- what is left of a transaction is put back
+-- what is left of a transaction is put back, and its locks go
 abbrev pub rollback_ended : Sessions → SessionTxn → Sessions
-rollback_ended s a = record s { records = rolled_back s.records a.undo.images; active = without_txn a.txn s.active }
+rollback_ended s a = txn_ended s a (rolled_back s.records a.undo.images)
 
 abbrev pub resolve_answered : Sessions → ℕ → Sessions
 resolve_answered s t = record s { resolving = without_resolved t s.resolving }

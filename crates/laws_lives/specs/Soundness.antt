@@ -112,7 +112,6 @@ found_in_doubt d = record { txn = d.txn; global = d.global; answered = true }
 -- place, and with undo lists that undo these.
 pub record IsJustOpened (o : Opening) (s : Sessions) : Type 0 where
   pub seats : (n : ℕ) → s.seats n ≡ free
-  pub committing : s.committing ≡ []
   pub resolving : s.resolving ≡ []
   pub prepared : s.prepared ≡ map found_in_doubt o.in_doubt
   pub active : txns_of s.active ≡ map (λ d. d.txn) o.in_doubt

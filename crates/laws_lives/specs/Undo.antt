@@ -1,12 +1,10 @@
 -- Undo of the losers at a restart: the records that it appends (ARIES: compensation log records), one after another.
-use Rattle.std.specs.Prelude.{◌≡◌, ◌<◌, ◌++◌, ℕ, List, [], ◌∷◌, true, false}
-use Rattle.shore_types.specs.declared.ids.Rid.{Rid}
+use Rattle.std.specs.Prelude.{◌≡◌, ◌<◌, ◌++◌, ℕ, List, [], ◌∷◌, false}
 use Rattle.shore_model.specs.declared.unanswered_changes.UnansweredChange.{UnansweredChange}
 use Rattle.shore_model.specs.declared.log_records.LogRecord.{LogRecord}
 use Rattle.shore_model.specs.declared.log_records.Payload.{Payload}
 use Rattle.shore_model.specs.declared.log_records.Payload.TheVariants.{Compensation, End}
-use Rattle.shore_model.specs.Logs.{has, is_over, is_in_doubt, last_of, unanswered, undo_next_of}
-use Rattle.laws_lives.specs.Writers.{changes_id}
+use Rattle.shore_model.specs.Logs.{is_over, is_in_doubt, last_of, unanswered, undo_next_of}
 
 -- a loser (ARIES: loser transaction): it has left a record, and neither ended nor came to be in doubt
 pub record IsLoser (log : List LogRecord) (t : ℕ) : Type 0 where
@@ -29,6 +27,6 @@ abbrev pub IsUndoneTo : List LogRecord → List ℕ → List LogRecord → Type 
 IsUndoneTo log [] last = last ≡ log
 IsUndoneTo log (t ∷ ts) last = IsLoser log t × IsUndoneTo (log ++ undo_record log t ∷ []) ts last
 
--- whoever has changed a record and not ended is in doubt
+-- nobody is left to be undone, nor to be ended
 abbrev pub HasNoLosers : List LogRecord → Type 0
-HasNoLosers log = (t : ℕ) (id : Rid) → has (changes_id id) t log ≡ true → is_over t log ≡ false → is_in_doubt t log ≡ true
+HasNoLosers log = (t : ℕ) → IsLoser log t → ⊥

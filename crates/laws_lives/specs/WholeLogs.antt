@@ -34,7 +34,6 @@ pub record IsWholeLog (log : List LogRecord) (s : Sessions) : Type 0 where
 pub record IsOpenOn (o : Opening) (log : List LogRecord) (s : Sessions) : Type 0 where
   pub records : (id : Rid) → get s.records id ≡ image_of_record log id
   pub seats : (n : ℕ) → s.seats n ≡ free
-  pub committing : s.committing ≡ []
   pub resolving : s.resolving ≡ []
   pub prepared : s.prepared ≡ map found_in_doubt o.in_doubt
   pub active : txns_of s.active ≡ map (λ d. d.txn) o.in_doubt

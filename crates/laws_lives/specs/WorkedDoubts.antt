@@ -1,7 +1,7 @@
 -- Runs of prepared transactions, worked by hand, from an open on records o that have a. Session 1 changes a and prepares under a global id. In the first, session
 -- 3 resolves it to abort, and session 1 begins anew before the change is put back. In the second it is resolved to commit, its locks go before the resolve is
 -- answered, and session 2 reads what was committed. In the third there is no resolve. In the fourth an open finds it in doubt, and session 2 resolves it to abort.
-use Rattle.std.specs.Prelude.{ℕ, true, List, [], ◌∷◌, ◌++◌, None, Ok, Some}
+use Rattle.std.specs.Prelude.{ℕ, true, List, [], ◌∷◌, None, Ok, Some}
 use Rattle.std.specs.FinMap.{get}
 use Rattle.shore_types.specs.declared.faults.Fault.TheVariants.{IsPrepared}
 use Rattle.shore_types.specs.declared.ids.Rid.{Rid}
@@ -85,7 +85,6 @@ abbrev pub doubtful_open : Records → Rid → List ℕ → List ℕ → Session
 doubtful_open o a z global = record {
   records = put_image o a (Some z);
   active = found_again (undo_in (doubtful_log o a z global) 1) ∷ [];
-  committing = [];
   held = restored_locks (doubts_in (doubtful_log o a z global));
   next_txn = 2;
   seats = λ n. free;

@@ -13,12 +13,12 @@ use Rattle.shore_model.specs.declared.holds.Hold.{Hold}
 use Rattle.shore_model.specs.Histories.{free}
 use Rattle.shore_model.specs.Records.{Records, put_image}
 use Rattle.shore_model.specs.declared.rollbacks.Rollback.TheVariants.{Whole, To}
-use Rattle.laws_lives.specs.SessionSteps.{AnswerAbort, AnswerCommit, AppendCommit, BeginTxn, GiveReply, MoveLocks, PutBack, SessionEvent}
+use Rattle.laws_lives.specs.SessionSteps.{AnswerAbort, AppendCommit, BeginTxn, GiveReply, MoveLocks, PutBack, SessionEvent}
 use Rattle.laws_lives.specs.Sessions.{SessionTxn, Sessions}
 use Rattle.laws_lives.specs.UndoLists.{UndoList, nothing_to_undo}
 
 abbrev pub just_opened : Records → Sessions
-just_opened o = record { records = o; active = []; committing = []; held = []; next_txn = 1; seats = λ n. free; prepared = []; resolving = [] }
+just_opened o = record { records = o; active = []; held = []; next_txn = 1; seats = λ n. free; prepared = []; resolving = [] }
 
 -- session 1 has transaction 1, and session 2 transaction 2, each with this undo list
 abbrev pub reader : SessionTxn
@@ -47,17 +47,17 @@ abbrev pub once_deleted : Records → Rid → List ℕ → UndoList
 once_deleted o b z = record { images = (b, get o b) ∷ (b, get (put_image o b (Some z)) b) ∷ []; marks = 1 ∷ []; rolling = None }
 
 -- x is what a has, and z what session 2 writes to b
-abbrev pub interleaved : Records → Rid → Rid → List ℕ → List ℕ → List SessionEvent
-interleaved o a b x z =
+abbrev pub interleaved : Records → Rid → Rid → List ℕ → List ℕ → ℕ → List SessionEvent
+interleaved o a b x z ticket =
     BeginTxn 1 ∷ BeginTxn 2 ∷ MoveLocks (reads_and_writes a b)
     ∷ GiveReply reader (call.Get a) (Ok (Got x))
     ∷ GiveReply (writer nothing_to_undo) (call.Update b z) (Ok Updated)
     ∷ GiveReply (writer (once_updated o b)) call.Savepoint (Ok (Saved 0))
     ∷ GiveReply (writer (once_saved o b)) (call.Delete b) (Ok Deleted)
     ∷ GiveReply (writer (once_deleted o b z)) (call.BackTo 0) (Ok WentBack)
-    ∷ AppendCommit (writer (once_saved o b))
+    ∷ AppendCommit (writer (once_saved o b)) ticket
     ∷ GiveReply reader (call.Get a) (Ok (Got x))
-    ∷ AnswerCommit (writer (once_saved o b)) ∷ AnswerAbort reader ∷ []
+    ∷ AnswerAbort reader ∷ []
 
 -- the undo list of the writer after its update and its delete, with no savepoint, and in the midst of its abort
 abbrev pub twice_changed : Records → Rid → List ℕ → UndoList
@@ -88,8 +88,8 @@ saved_then_deleted o b z = record { images = (b, get o b) ∷ (b, get (put_image
 abbrev pub half_way_back : Records → Rid → UndoList
 half_way_back o b = record { images = (b, get o b) ∷ []; marks = 0 ∷ []; rolling = Some (To 0) }
 
-abbrev pub way_back_interrupted : Records → Rid → Rid → List ℕ → List ℕ → List SessionEvent
-way_back_interrupted o a b x z =
+abbrev pub way_back_interrupted : Records → Rid → Rid → List ℕ → List ℕ → ℕ → List SessionEvent
+way_back_interrupted o a b x z ticket =
     BeginTxn 1 ∷ BeginTxn 2 ∷ MoveLocks (reads_and_writes a b)
     ∷ GiveReply (writer nothing_to_undo) call.Savepoint (Ok (Saved 0))
     ∷ GiveReply (writer saved_first) (call.Update b z) (Ok Updated)
@@ -97,4 +97,4 @@ way_back_interrupted o a b x z =
     ∷ PutBack (writer (saved_then_deleted o b z)) ((b, get o b) ∷ []) (b, get (put_image o b (Some z)) b) (To 0)
     ∷ GiveReply reader (call.Get a) (Ok (Got x))
     ∷ GiveReply (writer (half_way_back o b)) (call.BackTo 0) (Ok WentBack)
-    ∷ AppendCommit (writer saved_first) ∷ AnswerCommit (writer saved_first) ∷ AnswerAbort reader ∷ []
+    ∷ AppendCommit (writer saved_first) ticket ∷ AnswerAbort reader ∷ []

@@ -3,6 +3,7 @@
 //! Mohan et al., 1992); and all of these as one manager after another. No code runs here.
 #![tactic(auto)]
 
+pub mod commits;
 pub mod lives;
 pub mod recovery;
 pub mod sessions;

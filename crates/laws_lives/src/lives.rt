@@ -18,7 +18,8 @@ ghost use Rattle.laws_lives.specs.LogTells.{IsLogAfter};
 ghost use Rattle.laws_lives.specs.Logged.{log_after};
 ghost use Rattle.laws_lives.specs.SessionSteps.{SessionEvent, StepsTo};
 ghost use Rattle.laws_lives.specs.Sessions.{Sessions};
-ghost use Rattle.laws_lives.specs.Soundness.{IsSoundAfter, RunsTo, SessionsAgree, history_from, opening_with, written_by};
+ghost use Rattle.laws_lives.specs.ManagerSteps.{RunsOver};
+ghost use Rattle.laws_lives.specs.Soundness.{IsSoundAfter, SessionsAgree, history_from, opening_with, written_by};
 ghost use Rattle.laws_lives.specs.Stretches.{AreStretches, IsStretch, IsUpAfter, MayBeFound, MayFailAs, OpensGiveBack, OpensShow, Stretch, just_formatted, left_at_last, left_by_crash, opening_after, span_of, spans_of};
 ghost use Rattle.laws_lives.specs.WholeLogs.{IsOpenOn, IsWholeLog, RunsWithLog};
 
@@ -77,9 +78,9 @@ pub fn doubts_return()
 {}
 
 /// Nothing that the sessions may do is lost by the join: from whatever may be found a restart comes through, and over it sessions open of which
-/// every run can happen, with a crash after it.
+/// every run can happen, with a crash after it, if its tickets are those of the log, whatever is durable before each event, and its answers are as that allows.
 pub fn sessions_can_act()
     ensures { (o : Opening) (s : RecoveryState) → MayBeFound s → IsOpeningOf s.log o →
-        (first : Sessions) × ((events : List SessionEvent) (last : Sessions) (made : List Entry) → RunsTo first events [] last made →
-        (l : Stretch) × IsStretch o s l × (l.first ≡ first) × (l.made ≡ made) × (l.last.sessions ≡ last)) }
+        (ready : RecoveryState) × (first : Sessions) × ((events : List SessionEvent) (last : Sessions) (made : List Entry) → RunsOver first ready.log ready.durable events [] last made →
+        (l : Stretch) × IsStretch o s l × (l.first ≡ first) × (l.ready ≡ ready) × (l.made ≡ made) × (l.last.sessions ≡ last)) }
 {}

@@ -219,8 +219,8 @@ pub fn unanswered_changes_match_undo()
 /// The events of two sessions may come between each other: a worked run with all kinds of events, in which one commits while the other
 /// reads, and what it has committed is in place.
 pub fn two_sessions_interleave()
-    ensures { (o : Records) (a b : Rid) (x y z : List ℕ) → a ≢ b → get o a ≡ Some x → get o b ≡ Some y →
-        (last : Sessions) × (made : List Entry) × RunsTo (just_opened o) (interleaved o a b x z) [] last made × (get last.records b ≡ Some z) }
+    ensures { (o : Records) (a b : Rid) (x y z : List ℕ) (ticket : ℕ) → a ≢ b → get o a ≡ Some x → get o b ≡ Some y →
+        (last : Sessions) × (made : List Entry) × RunsTo (just_opened o) (interleaved o a b x z ticket) [] last made × (get last.records b ≡ Some z) }
 {}
 
 /// So may they in the midst of a rollback: one session changes a record twice, and its abort, or its way back to a savepoint, puts one image
@@ -228,8 +228,8 @@ pub fn two_sessions_interleave()
 pub fn rollbacks_are_interrupted()
     ensures abort { (o : Records) (a b : Rid) (x y z : List ℕ) → a ≢ b → get o a ≡ Some x → get o b ≡ Some y →
         (last : Sessions) × (made : List Entry) × RunsTo (just_opened o) (abort_interrupted o a b x z) [] last made × (get last.records b ≡ Some y) }
-    ensures back_to { (o : Records) (a b : Rid) (x y z : List ℕ) → a ≢ b → get o a ≡ Some x → get o b ≡ Some y →
-        (last : Sessions) × (made : List Entry) × RunsTo (just_opened o) (way_back_interrupted o a b x z) [] last made × (get last.records b ≡ Some y) }
+    ensures back_to { (o : Records) (a b : Rid) (x y z : List ℕ) (ticket : ℕ) → a ≢ b → get o a ≡ Some x → get o b ≡ Some y →
+        (last : Sessions) × (made : List Entry) × RunsTo (just_opened o) (way_back_interrupted o a b x z ticket) [] last made × (get last.records b ≡ Some y) }
 {}
 
 /// A session changes a record and prepares; its transaction is in doubt. Resolved to abort by another session, it leaves what was there before, though the
@@ -297,7 +297,7 @@ pub fn wrong_events_do_not_come()
     ensures locks_clash { (s new : Sessions) (held : List Hold) (t u : ℕ) (id : Rid) →
         t ≢ u → MayWrite held t id → MayRead held u id → StepsTo s (MoveLocks held) new → ⊥ }
     ensures lock_of_nobody { (s new : Sessions) (h : Hold) (held : List Hold) → Contains held h → s.next_txn ≤ h.txn → StepsTo s (MoveLocks held) new → ⊥ }
-    ensures commit_in_rollback { (s new : Sessions) (a : SessionTxn) → a.undo.rolling ≢ None → StepsTo s (AppendCommit a) new → ⊥ }
+    ensures commit_in_rollback { (s new : Sessions) (a : SessionTxn) (ticket : ℕ) → a.undo.rolling ≢ None → StepsTo s (AppendCommit a ticket) new → ⊥ }
     ensures get_in_rollback { (s new : Sessions) (a : SessionTxn) (id : Rid) (reply : Result Answer Fault) →
         a.undo.rolling ≢ None → StepsTo s (GiveReply a (Get id) reply) new → ⊥ }
     ensures other_savepoint { (s new : Sessions) (a : SessionTxn) (kept : List (Rid × Image)) (e : Rid × Image) (n m : ℕ) →
@@ -308,9 +308,9 @@ pub fn wrong_events_do_not_come()
         a.undo.images ≡ older ++ newest ∷ [] → newest ≢ e → StepsTo s (PutBack a kept e r) new → ⊥ }
     ensures before_savepoint { (s new : Sessions) (a : SessionTxn) (kept : List (Rid × Image)) (e : Rid × Image) (n : ℕ) →
         length kept < mark_of a.undo n → StepsTo s (PutBack a kept e (To n)) new → ⊥ }
-    ensures commit_of_doomed { (s mid new : Sessions) (a b : SessionTxn) →
-        StepsTo s (Doom a) mid → b.txn ≡ a.txn → StepsTo mid (AppendCommit b) new → ⊥ }
-    ensures commit_of_doubtful { (s new : Sessions) (a : SessionTxn) → IsAmong a.txn (in_doubt_of s) → StepsTo s (AppendCommit a) new → ⊥ }
+    ensures commit_of_doomed { (s mid new : Sessions) (a b : SessionTxn) (ticket : ℕ) →
+        StepsTo s (Doom a) mid → b.txn ≡ a.txn → StepsTo mid (AppendCommit b ticket) new → ⊥ }
+    ensures commit_of_doubtful { (s new : Sessions) (a : SessionTxn) (ticket : ℕ) → IsAmong a.txn (in_doubt_of s) → StepsTo s (AppendCommit a ticket) new → ⊥ }
     ensures undo_of_doubtful { (s new : Sessions) (a : SessionTxn) (kept : List (Rid × Image)) (e : Rid × Image) (r : Rollback) →
         IsAmong a.txn (in_doubt_of s) → StepsTo s (PutBack a kept e r) new → ⊥ }
     ensures resolve_of_unanswered { (s new : Sessions) (a : SessionTxn) (global : List ℕ) →

@@ -13,7 +13,7 @@ use Rattle.shore_model.specs.declared.calls.Call.{Call}
 use Rattle.shore_model.specs.declared.calls.Call.TheVariants as call
 use Rattle.shore_model.specs.declared.holds.Hold.{Hold}
 use Rattle.shore_model.specs.declared.requests.Request.{Request}
-use Rattle.shore_model.specs.Locks.{ancestors}
+use Rattle.shore_model.specs.Locks.{HoldsAtLeast, ancestors}
 use Rattle.shore_model.specs.Modes.{covers}
 use Rattle.shore_model.specs.Requests.{held_by_all, hold_in, hold_of, requests_by}
 use Rattle.shore_locks.specs.Grants.{granted, is_enough, released}
@@ -31,9 +31,10 @@ use Rattle.shore_path.proofs.Freeing.{rooted_released, weaker_released}
 use Rattle.shore_path.proofs.Harmonies.{harmony_of}
 use Rattle.shore_path.proofs.Intentions.{are_rooted, rooted_of, well_rooted}
 use Rattle.shore_path.proofs.Holding.{enough_of, holder_from_lock, holder_of, holding, lock_from_holder}
+use Rattle.laws_lives.proofs.EndedLocks.{any_held}
 use Rattle.laws_lives.specs.GranuleLocks.{HasLock, HasLocksFor}
 use Rattle.laws_lives.specs.SessionSteps.{KeepsLocks, MoveLocks, StepsTo}
-use Rattle.laws_lives.specs.Sessions.{Sessions, locks_moved, txns_of}
+use Rattle.laws_lives.specs.Sessions.{Sessions, locks_moved, txns_of, without_locks}
 use Rattle.laws_lives.specs.Views.{IsAmong}
 use Rattle.laws_locks.specs.CallLocks.{Asked, lock_asked_by, asked_for}
 
@@ -131,11 +132,13 @@ released_rooted rs t orderly rooted = are_rooted (released t rs) (rooted_release
 pub released_below : (rs : List Request) (t n : ℕ) → IsOrderly rs → All (λ r. r.txn < n) rs → All (λ r. r.txn < n) (released t rs)
 released_below rs t n orderly below = same_owners (λ u. u < n) (of_others t rs) (released t rs) (released_own rs t orderly.one_each) (below_others t n rs below)
 
-pub released_moves : (s : Sessions) (rs : List Request) (t : ℕ) → s.held ≡ held_by_all rs → IsOrderly rs → AreRooted rs → All (λ r. r.txn < s.next_txn) rs → (IsAmong t (txns_of s.active) → ⊥)
-    → StepsTo s (MoveLocks (held_by_all (released t rs))) (locks_moved s (held_by_all (released t rs)))
+-- behind the end of a transaction, whose locks are gone already
+pub released_moves : (s : Sessions) (rs : List Request) (t : ℕ) → s.held ≡ without_locks t (held_by_all rs) → IsOrderly rs → AreRooted rs → All (λ r. r.txn < s.next_txn) rs
+    → (IsAmong t (txns_of s.active) → ⊥) → StepsTo s (MoveLocks (held_by_all (released t rs))) (locks_moved s (held_by_all (released t rs)))
 released_moves s rs t held orderly rooted below idle =
-    moves_of s rs (released t rs) held orderly (released_orderly rs t orderly) (released_rooted rs t orderly rooted)
-    (λ u among g m enough. weaker_released t rs orderly u g m (λ same. idle (subst (λ (x : ℕ). IsAmong x (txns_of s.active)) same among)) enough) (released_below rs t s.next_txn orderly below)
+    let from_all = moves_of (locks_moved s (held_by_all rs)) rs (released t rs) refl orderly (released_orderly rs t orderly) (released_rooted rs t orderly rooted)
+    (λ u among g m enough. weaker_released t rs orderly u g m (λ same. idle (subst (λ (x : ℕ). IsAmong x (txns_of s.active)) same among)) enough) (released_below rs t s.next_txn orderly below) in
+    (from_all.0, λ u among m g has. from_all.1 u among m g (any_held t (held_by_all rs) _ (subst (λ (l : List Hold). HoldsAtLeast l u m g) held has)), from_all.2, refl)
 
 -- ---- the locks of calls
 

@@ -23,7 +23,7 @@ ghost use Rattle.shore_path.specs.Acquires.{IsReached, MayRefuse, NoneWeaker, Ot
 ghost use Rattle.shore_path.specs.Rooted.{AreRooted};
 ghost use Rattle.laws_lives.specs.GranuleLocks.{HasLock, HasLocksFor};
 ghost use Rattle.laws_lives.specs.SessionSteps.{MoveLocks, StepsTo};
-ghost use Rattle.laws_lives.specs.Sessions.{Sessions, locks_moved, txns_of};
+ghost use Rattle.laws_lives.specs.Sessions.{Sessions, locks_moved, txns_of, without_locks};
 ghost use Rattle.laws_lives.specs.Views.{IsAmong};
 ghost use Rattle.laws_locks.specs.Acquires.{Leaves};
 ghost use Rattle.laws_locks.specs.CallLocks.{Asked, CanLockNow, lock_asked_by};
@@ -68,9 +68,9 @@ pub fn acquires_move_locks()
         → All (λ r. r.txn < s.next_txn) new → StepsTo s (MoveLocks (held_by_all new)) (locks_moved s (held_by_all new)) }
 {}
 
-/// So does a release by one who is not under way, and it leaves him no lock.
+/// So does a release of one who has ended, whose locks are gone as he ends, and it leaves him no lock.
 pub fn releases_move_locks()
-    ensures moves { (s : Sessions) (rs : List Request) (t : ℕ) → s.held ≡ held_by_all rs → IsOrderly rs → AreRooted rs
+    ensures moves { (s : Sessions) (rs : List Request) (t : ℕ) → s.held ≡ without_locks t (held_by_all rs) → IsOrderly rs → AreRooted rs
         → All (λ r. r.txn < s.next_txn) rs → (IsAmong t (txns_of s.active) → ⊥)
         → StepsTo s (MoveLocks (held_by_all (released t rs))) (locks_moved s (held_by_all (released t rs))) }
     ensures gone { (rs : List Request) (t : ℕ) → IsOrderly rs → All (λ h. h.txn ≢ t) (held_by_all (released t rs)) }

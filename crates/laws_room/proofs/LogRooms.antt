@@ -11,7 +11,7 @@ use Rattle.laws_lives.proofs.Steps.{answered_txns}
 use Rattle.laws_room.specs.LogRooms.{Admits, AnswerAdmits, EventAdmits, HasLogRoom, LogRoom, RoomAfter, Takes, TurnsTake, answered_room, begun_room, change_cost, changed_room, compensation_cost, compensation_costs, ended_room, left_room, owed, owed_by_all, prepare_cost, prepared_room, undone_room, undone_rooms}
 use Rattle.shore_model.specs.declared.rollbacks.Rollback.{Rollback}
 use Rattle.shore_model.specs.declared.rollbacks.Rollback.TheVariants.{Whole}
-use Rattle.laws_lives.specs.SessionSteps.{AnswerAbort, AnswerCommit, AnswerInDoubt, AnswerPrepare, AnswerResolve, AppendCommit, AppendPrepare, AppendResolve, AppendRollback, BeginTxn, Doom, EndRollback, GiveReply, MoveLocks, PutBack, RefuseCall, SessionEvent, StepsTo}
+use Rattle.laws_lives.specs.SessionSteps.{AnswerAbort, AnswerInDoubt, AnswerPrepare, AnswerResolve, AppendCommit, AppendPrepare, AppendResolve, AppendRollback, Ask, BeginTxn, Doom, EndRollback, GiveReply, MoveLocks, PutBack, RefuseCall, SessionEvent, StepsTo}
 use Rattle.laws_lives.specs.Sessions.{EachOnce, PreparedTxn, SessionTxn, Sessions, in_doubt_of, txns_of, with_answered, with_undo, without_prepared, without_txn}
 use Rattle.laws_lives.specs.UndoLists.{UndoList, mark_of, marks_kept, nothing_to_undo, undo_after_answer, undo_rolled, with_before_image}
 use Rattle.laws_lives.specs.Views.{IsAmong}
@@ -247,7 +247,7 @@ module _ (spare : ℕ) (within : spare ≤ LONGEST_FRAME + GREATEST_CHECKPOINT) 
       subst (λ (n : Sessions). HasLogRoom spare (length n.prepared) n.active room') (sym moves.4) (same_room is (answered a moves.0.0 c answer admits))
   event_room (GiveReply a c (Err fault)) new room' moves admits is =
       subst (λ (n : Sessions). HasLogRoom spare (length n.prepared) n.active room') (sym moves.4) (same_room is (stays a moves.0.0 a.undo refl))
-  event_room (AppendCommit a) new room' moves admits is =
+  event_room (AppendCommit a ticket) new room' moves admits is =
       subst (λ (n : Sessions). HasLogRoom spare (length n.prepared) n.active room') (sym moves.2) (same_room is (ended_takes spare (length s.prepared) s.active room h once a moves.0.0).1)
   event_room (PutBack a kept e r) new room' moves admits is = subst (λ (n : Sessions). HasLogRoom spare (length n.prepared) n.active room') (sym moves.4)
       (same_room is (undone_takes spare (length s.prepared) s.active room h once a moves.0.0 kept e (marks_kept r a.undo.marks) (Some r) moves.1).1)
@@ -255,7 +255,7 @@ module _ (spare : ℕ) (within : spare ≤ LONGEST_FRAME + GREATEST_CHECKPOINT) 
       (same_room is (stays a moves.0.0 (undo_rolled a.undo a.undo.images Whole) refl))
   event_room (AnswerAbort a) new room' moves admits is = subst (λ (n : Sessions). HasLogRoom spare (length n.prepared) n.active room') (sym moves.1)
       (⊎_elim (λ ended. same_room ended (aborted a moves.0.0).0) (λ left. same_room left (aborted a moves.0.0).1) is)
-  event_room (AnswerCommit a) new room' moves admits is = subst (λ (n : Sessions). HasLogRoom spare (length n.prepared) n.active room') (sym moves.1) (same_room is h)
+  event_room (Ask ticket durable) new room' moves admits is = subst (λ (n : Sessions). HasLogRoom spare (length n.prepared) n.active room') (sym moves) (same_room is h)
   event_room (RefuseCall session t c fault) new room' moves admits is =
       subst (λ (n : Sessions). HasLogRoom spare (length n.prepared) n.active room') (sym moves.2) (same_room is h)
   event_room (AppendPrepare a global granules) new room' moves admits is =
@@ -308,11 +308,11 @@ module _ (s : Sessions) (apart : EachOnce (in_doubt_of s)) where
   event_once (MoveLocks held) new moves = same_once moves.3 apart
   event_once (BeginTxn session) new moves = same_once moves.1 apart
   event_once (GiveReply a c reply) new moves = same_once moves.4 apart
-  event_once (AppendCommit a) new moves = same_once moves.2 apart
+  event_once (AppendCommit a ticket) new moves = same_once moves.2 apart
   event_once (PutBack a kept e r) new moves = same_once moves.4 apart
   event_once (Doom a) new moves = same_once moves.1 apart
   event_once (AnswerAbort a) new moves = same_once moves.1 apart
-  event_once (AnswerCommit a) new moves = same_once moves.1 apart
+  event_once (Ask ticket durable) new moves = same_once moves apart
   event_once (RefuseCall session t c fault) new moves = same_once moves.2 apart
   event_once (AppendPrepare a global granules) new moves =
       same_once moves.4 (subst EachOnce (sym (map-push (λ (p : PreparedTxn). p.txn) s.prepared record { txn = a.txn; global = global; answered = false })) (push_once a.txn (in_doubt_of s) apart moves.0.2.0))

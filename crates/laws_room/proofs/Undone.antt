@@ -17,7 +17,7 @@ use Rattle.laws_room.specs.Events.{AnswerFits, ChangeFitsPage, EventFits}
 use Rattle.shore_model.specs.declared.rollbacks.Rollback.{Rollback}
 use Rattle.shore_model.specs.declared.rollbacks.Rollback.TheVariants.{Whole}
 use Rattle.laws_lives.specs.RepliesInPlace.{Permit}
-use Rattle.laws_lives.specs.SessionSteps.{AnswerAbort, AnswerCommit, AnswerInDoubt, AnswerPrepare, AnswerResolve, AppendCommit, AppendPrepare, AppendResolve, AppendRollback, BeginTxn, Doom, EndRollback, GiveReply, MoveLocks, PutBack, RefuseCall, SessionEvent, StepsTo}
+use Rattle.laws_lives.specs.SessionSteps.{AnswerAbort, AnswerInDoubt, AnswerPrepare, AnswerResolve, AppendCommit, AppendPrepare, AppendResolve, AppendRollback, Ask, BeginTxn, Doom, EndRollback, GiveReply, MoveLocks, PutBack, RefuseCall, SessionEvent, StepsTo}
 use Rattle.laws_lives.specs.Sessions.{SessionTxn, Sessions, with_undo, without_txn}
 use Rattle.laws_lives.specs.Soundness.{IsSoundAfter}
 use Rattle.laws_lives.specs.UndoLists.{UndoList, in_place_after_answer, mark_of, marks_kept, nothing_to_undo, undo_after_answer, undo_rolled, with_before_image}
@@ -129,7 +129,7 @@ module _ {o : Opening} {es : List Entry} {s : Sessions} (after : IsSoundAfter o 
       subst (λ (n : Sessions). Claimed n.records n.active counts') (sym h.4) (answer_on a h.0.0 counts' c answer h.2.0 fits)
   event_claims (GiveReply a c (Err fault)) new counts' h fits =
       subst (λ (n : Sessions). Claimed n.records n.active counts') (sym h.4) (stays_on a h.0.0 counts' a.undo refl fits)
-  event_claims (AppendCommit a) new counts' h fits =
+  event_claims (AppendCommit a ticket) new counts' h fits =
       subst (λ (n : Sessions). Claimed n.records n.active counts') (sym h.2)
       (subst (Claimed s.records (without_txn a.txn s.active)) (sym fits) (left_keeps s.records s.active counts k a h.0.0))
   event_claims (PutBack a kept e r) new counts' h fits =
@@ -139,8 +139,8 @@ module _ {o : Opening} {es : List Entry} {s : Sessions} (after : IsSoundAfter o 
   event_claims (Doom a) new counts' h fits =
       subst (λ (n : Sessions). Claimed n.records n.active counts') (sym h.1) (stays_on a h.0.0 counts' (undo_rolled a.undo a.undo.images Whole) refl fits)
   event_claims (AnswerAbort a) new counts' h fits = subst (λ (n : Sessions). Claimed n.records n.active counts') (sym h.1) (all_undone a h.0.0 counts' fits)
-  event_claims (AnswerCommit a) new counts' h fits =
-      subst (λ (n : Sessions). Claimed n.records n.active counts') (sym h.1) (subst (Claimed s.records s.active) (sym fits) k)
+  event_claims (Ask ticket durable) new counts' h fits =
+      subst (λ (n : Sessions). Claimed n.records n.active counts') (sym h) (subst (Claimed s.records s.active) (sym fits) k)
   event_claims (RefuseCall session t c fault) new counts' h fits =
       subst (λ (n : Sessions). Claimed n.records n.active counts') (sym h.2) (subst (Claimed s.records s.active) (sym fits) k)
   event_claims (AppendPrepare a global granules) new counts' h fits =

@@ -8,7 +8,7 @@ use Rattle.shore_model.specs.declared.calls.Call.{Call}
 use Rattle.shore_model.specs.declared.calls.Call.TheVariants as call
 use Rattle.shore_model.specs.Records.{Records}
 use Rattle.shore_page.specs.Room.{Fits}
-use Rattle.laws_lives.specs.SessionSteps.{AnswerAbort, AnswerCommit, AnswerInDoubt, AnswerPrepare, AnswerResolve, AppendCommit, AppendPrepare, AppendResolve, AppendRollback, BeginTxn, Doom, EndRollback, GiveReply, MoveLocks, PutBack, RefuseCall, SessionEvent}
+use Rattle.laws_lives.specs.SessionSteps.{AnswerAbort, AnswerInDoubt, AnswerPrepare, AnswerResolve, AppendCommit, AppendPrepare, AppendResolve, AppendRollback, Ask, BeginTxn, Doom, EndRollback, GiveReply, MoveLocks, PutBack, RefuseCall, SessionEvent}
 use Rattle.laws_lives.specs.Sessions.{SessionTxn, Sessions}
 use Rattle.laws_room.specs.Claims.{Grows, SlotCounts, slots_of}
 
@@ -42,11 +42,11 @@ EventFits s counts (GiveReply a c (Ok answer)) new = AnswerFits s counts c answe
 EventFits s counts (GiveReply a c (Err fault)) new = new ≡ counts
 EventFits s counts (MoveLocks held) new = new ≡ counts
 EventFits s counts (BeginTxn session) new = new ≡ counts
-EventFits s counts (AppendCommit a) new = new ≡ counts
+EventFits s counts (AppendCommit a ticket) new = new ≡ counts
 EventFits s counts (PutBack a kept e r) new = new ≡ counts
 EventFits s counts (Doom a) new = new ≡ counts
 EventFits s counts (AnswerAbort a) new = new ≡ counts
-EventFits s counts (AnswerCommit a) new = new ≡ counts
+EventFits s counts (Ask ticket durable) new = new ≡ counts
 EventFits s counts (RefuseCall session t c fault) new = new ≡ counts
 EventFits s counts (AppendPrepare a global granules) new = new ≡ counts
 EventFits s counts (AnswerPrepare session t global) new = new ≡ counts

@@ -14,7 +14,7 @@ use Rattle.shore_model.specs.declared.log_records.Payload.TheVariants.{Prepare}
 use Rattle.shore_model.specs.Records.{Records}
 use Rattle.shore_logrec.specs.Text.{cost_of}
 use Rattle.shore_model.specs.declared.rollbacks.Rollback.{Rollback}
-use Rattle.laws_lives.specs.SessionSteps.{AnswerAbort, AnswerCommit, AnswerInDoubt, AnswerPrepare, AnswerResolve, AppendCommit, AppendPrepare, AppendResolve, AppendRollback, BeginTxn, Doom, EndRollback, GiveReply, MoveLocks, PutBack, RefuseCall, SessionEvent}
+use Rattle.laws_lives.specs.SessionSteps.{AnswerAbort, AnswerInDoubt, AnswerPrepare, AnswerResolve, AppendCommit, AppendPrepare, AppendResolve, AppendRollback, Ask, BeginTxn, Doom, EndRollback, GiveReply, MoveLocks, PutBack, RefuseCall, SessionEvent}
 use Rattle.laws_lives.specs.Sessions.{SessionTxn, Sessions, with_undo}
 use Rattle.laws_lives.specs.UndoLists.{images_since}
 use Rattle.laws_lives.specs.Views.{IsAmong}
@@ -137,13 +137,13 @@ abbrev pub RoomAfter : Sessions → SessionEvent → LogRoom → LogRoom → Typ
 RoomAfter s (BeginTxn session) room new = new ≡ begun_room room
 RoomAfter s (GiveReply a c (Ok answer)) room new = new ≡ answered_room s.records a c answer room
 RoomAfter s (GiveReply a c (Err fault)) room new = new ≡ room
-RoomAfter s (AppendCommit a) room new = new ≡ ended_room (owed a) room
+RoomAfter s (AppendCommit a ticket) room new = new ≡ ended_room (owed a) room
 RoomAfter s (PutBack a kept e r) room new = new ≡ undone_room e.1 room
 RoomAfter s (Doom a) room new = new ≡ room
 RoomAfter s (AnswerAbort a) room new =
     (new ≡ ended_room ENDING_COST (undone_rooms a.undo.images room)) ⊎ (new ≡ left_room ENDING_COST (undone_rooms a.undo.images room))
 RoomAfter s (MoveLocks held) room new = new ≡ room
-RoomAfter s (AnswerCommit a) room new = new ≡ room
+RoomAfter s (Ask ticket durable) room new = new ≡ room
 RoomAfter s (RefuseCall session t c fault) room new = new ≡ room
 RoomAfter s (AppendPrepare a global granules) room new = new ≡ prepared_room global granules room
 RoomAfter s (AnswerPrepare session t global) room new = new ≡ room
@@ -182,11 +182,11 @@ EventAdmits s (BeginTxn session) room = Admits room ENDING_COST
 EventAdmits s (GiveReply a c (Ok answer)) room = AnswerAdmits s.records c answer room
 EventAdmits s (GiveReply a c (Err fault)) room = Unit {0}
 EventAdmits s (MoveLocks held) room = Unit {0}
-EventAdmits s (AppendCommit a) room = Unit {0}
+EventAdmits s (AppendCommit a ticket) room = Unit {0}
 EventAdmits s (PutBack a kept e r) room = Unit {0}
 EventAdmits s (Doom a) room = Unit {0}
 EventAdmits s (AnswerAbort a) room = Unit {0}
-EventAdmits s (AnswerCommit a) room = Unit {0}
+EventAdmits s (Ask ticket durable) room = Unit {0}
 EventAdmits s (RefuseCall session t c fault) room = Unit {0}
 EventAdmits s (AppendPrepare a global granules) room = Admits room (prepare_cost global granules + ENDING_COST)
 EventAdmits s (AnswerPrepare session t global) room = Unit {0}

@@ -4,7 +4,7 @@ use Rattle.shore_types.specs.declared.layout.Geometry.{Geometry}
 use Rattle.shore_model.specs.declared.log_records.LogRecord.{LogRecord}
 use Rattle.laws_lives.specs.Recovery.{AppendRecord, ForceLog, RecoveryEvent, RecoveryState, after_append, after_force}
 use Rattle.laws_calls.proofs.LongerLogs.{GoesFurther, settled_call_further, settled_resume_further}
-use Rattle.laws_calls.specs.Events.{Called, Forced, HasFailed, ManagerEvent, Resumed, EventMoves}
+use Rattle.laws_calls.specs.Events.{Called, Forced, HasFailed, ManagerEvent, Resumed, EventMoves, TicketAsked}
 use Rattle.laws_calls.specs.States.{State}
 use Rattle.laws_lives.specs.ManagerSteps.{WorksTo}
 use Rattle.laws_runs.specs.StoredRuns.{IsStored, StoredState}
@@ -69,3 +69,4 @@ module _ (m : StoredState) (stored : IsStored m.state m.store) (redone : m.store
         redone = redone;
       }
   event_can_be_stored g new HasFailed h = appended new (subst (GoesFurther m.state) (sym h) (record { durable = refl; on = ([], sym (append-nil _)) }))
+  event_can_be_stored g new (TicketAsked ticket answer) h = appended new (subst (GoesFurther m.state) (sym h.1) (record { durable = refl; on = ([], sym (append-nil _)) }))

@@ -24,7 +24,7 @@ use Rattle.laws_calls.proofs.Told.{entries_told}
 use Rattle.laws_calls.proofs.ToldEntries.{told_of_call}
 use Rattle.laws_calls.specs.CallHistories.{txn_of}
 use Rattle.laws_calls.specs.CallSteps.{CallStep}
-use Rattle.laws_calls.specs.Events.{Called, EventMoves, Forced, HasFailed, IsStateAfter, ManagerEvent, Resumed, call_waiting, entries_of, entries_of_waiting}
+use Rattle.laws_calls.specs.Events.{Called, EventMoves, Forced, HasFailed, IsStateAfter, ManagerEvent, Resumed, call_waiting, entries_of, entries_of_waiting, TicketAsked}
 use Rattle.laws_calls.specs.LockedStates.{entries_of_call}
 use Rattle.laws_calls.specs.Resolves.{DecidesRollback, MayResolve, ResolvesTo}
 use Rattle.laws_calls.specs.Settling.{Settles}
@@ -45,11 +45,11 @@ IsNoPreparing (Called session c step) = WaitsForNoPrepare c step
 IsNoPreparing _ = Unit {0}
 
 told_none : (s : State) (session : ℕ) (c : Call) (step : Step) → WaitsForNoPrepare c step → AllByRecursion PreparesNothing (entries_told s session c step)
-told_none s session c (Done answer) none = (tt, tt)
+told_none s session call.Commit (Done answer) none = (tt, (tt, tt))
+told_none s session _ (Done answer) none = (tt, tt)
 told_none s session c (Refused f) none = (tt, tt)
 told_none s session c Nothing none = tt
 told_none s session c (Waits (Lock at)) none = tt
-told_none s session call.Commit (Waits (Durable n)) none = (tt, tt)
 told_none s session (call.Prepare global) (Waits (Durable n)) none = absurd none
 told_none s session _ (Waits (Durable n)) none = tt
 
@@ -122,3 +122,4 @@ module _ (g : Geometry) (o : Opening) (found : List LogRecord) (es : List Entry)
   event_decides_no_prepare new (Resumed session step) none h = resumed_none s (call_waiting session s.waiting) step
   event_decides_no_prepare new (Forced n) none h = tt
   event_decides_no_prepare new HasFailed none h = tt
+  event_decides_no_prepare new (TicketAsked ticket answer) none h = (tt, tt)

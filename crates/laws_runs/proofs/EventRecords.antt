@@ -20,7 +20,7 @@ use Rattle.laws_lives.proofs.OneMore.{has-not_this}
 use Rattle.laws_lives.proofs.Writers.{same_or_not}
 use Rattle.laws_lives.specs.Doubts.{LoggedDoubt, doubts_in}
 use Rattle.laws_lives.specs.Logged.{and_compensations, and_record, and_rollback, log_after, log_after_answer, log_after_reply}
-use Rattle.laws_lives.specs.SessionSteps.{AnswerAbort, AnswerCommit, AnswerInDoubt, AnswerPrepare, AnswerResolve, AppendCommit, AppendPrepare, AppendResolve, AppendRollback, BeginTxn, Doom, EndRollback, GiveReply, MoveLocks, PutBack, RefuseCall, SessionEvent, StepsTo}
+use Rattle.laws_lives.specs.SessionSteps.{AnswerAbort, Ask, AnswerInDoubt, AnswerPrepare, AnswerResolve, AppendCommit, AppendPrepare, AppendResolve, AppendRollback, BeginTxn, Doom, EndRollback, GiveReply, MoveLocks, PutBack, RefuseCall, SessionEvent, StepsTo}
 use Rattle.laws_lives.specs.Sessions.{SessionTxn, Sessions, txns_of, with_undo, without_txn}
 use Rattle.laws_lives.specs.Undo.{IsLoser}
 use Rattle.laws_lives.specs.UndoLists.{UndoList, images_since}
@@ -60,7 +60,7 @@ module _ (t : ℕ) (log : List LogRecord) where
 
 pub prepares_none : (log : List LogRecord) (s : Sessions) (e : SessionEvent) → IsNoPrepare e → PreparesNone log (log_after log s e)
 prepares_none log s (GiveReply a c reply) none = undecided_prepares_none log _ (reply_decides_none log s.records a c reply)
-prepares_none log s (AppendCommit a) none = commit_prepares_none a.txn log
+prepares_none log s (AppendCommit a ticket) none = commit_prepares_none a.txn log
 prepares_none log s (PutBack a kept e r) none = undecided_prepares_none log _ (one_decides_none a.txn log log _ refl (decides_none log))
 prepares_none log s (AnswerAbort a) none = undecided_prepares_none log _ (abort_decides_none a.txn log a.undo.images)
 prepares_none log s (AppendPrepare a global granules) none = absurd none
@@ -70,7 +70,7 @@ prepares_none log s (EndRollback a) none = undecided_prepares_none log _ (end_de
 prepares_none log s (MoveLocks held) none = undecided_prepares_none log log (decides_none log)
 prepares_none log s (BeginTxn session) none = undecided_prepares_none log log (decides_none log)
 prepares_none log s (Doom a) none = undecided_prepares_none log log (decides_none log)
-prepares_none log s (AnswerCommit a) none = undecided_prepares_none log log (decides_none log)
+prepares_none log s (Ask ticket answer) none = undecided_prepares_none log log (decides_none log)
 prepares_none log s (RefuseCall session t c f) none = undecided_prepares_none log log (decides_none log)
 prepares_none log s (AnswerPrepare session t global) none = undecided_prepares_none log log (decides_none log)
 prepares_none log s (AnswerResolve session r) none = undecided_prepares_none log log (decides_none log)
@@ -160,12 +160,12 @@ module _ (log : List LogRecord) (s : Sessions) (losers : (u : ℕ) → IsLoser l
   losers_stay new (BeginTxn session) steps = same_under_way new (λ u m. subst (λ (x : Sessions). IsAmong u (txns_of x.active)) (sym steps.1) (inr m))
   losers_stay new (GiveReply a c reply) steps =
       still_under_way a steps.0.0 new _ (reply_loses log s a c reply) (with_undo_stays a steps.0.0 new _ (ap (λ (x : Sessions). x.active) steps.4))
-  losers_stay new (AppendCommit a) steps = ends_there a steps.0.0 new (ap (λ (x : Sessions). x.active) steps.2) log Commit (none_lose a.txn log) (inl refl)
+  losers_stay new (AppendCommit a ticket) steps = ends_there a steps.0.0 new (ap (λ (x : Sessions). x.active) steps.2) log Commit (none_lose a.txn log) (inl refl)
   losers_stay new (PutBack a kept e r) steps =
       still_under_way a steps.0.0 new _ (one_loses a.txn log log _ (none_lose a.txn log)) (with_undo_stays a steps.0.0 new _ (ap (λ (x : Sessions). x.active) steps.4))
   losers_stay new (Doom a) steps = still_under_way a steps.0.0 new log (none_lose a.txn log) (with_undo_stays a steps.0.0 new _ (ap (λ (x : Sessions). x.active) steps.1))
   losers_stay new (AnswerAbort a) steps = aborts_there a steps.0.0 new (ap (λ (x : Sessions). x.active) steps.1)
-  losers_stay new (AnswerCommit a) steps = same_under_way new (as_active new _ steps.1 refl)
+  losers_stay new (Ask ticket answer) steps = same_under_way new (as_active new _ steps refl)
   losers_stay new (RefuseCall session t c f) steps = same_under_way new (as_active new _ steps.2 refl)
   losers_stay new (AppendPrepare a global granules) steps =
       still_under_way a steps.0.0 new _ (one_loses a.txn log log _ (none_lose a.txn log)) (as_active new _ steps.4 refl)

@@ -31,16 +31,16 @@ use Rattle.shore_path.specs.declared.answers.OnConflict.{OnConflict}
 use Rattle.shore_path.specs.declared.answers.OnConflict.TheVariants.{Refuse}
 use Rattle.laws_locks.specs.CallLocks.{Asked, lock_asked_by}
 use Rattle.laws_lives.specs.Sessions.{SessionTxn}
-use Rattle.laws_calls.proofs.AskedLocks.{begin_keeps_locks, commit_keeps_locks, refused_locks}
+use Rattle.laws_calls.proofs.AskedLocks.{begin_keeps_locks, refused_locks}
 use Rattle.laws_calls.proofs.LockWaits.{asked_for, called, may, resumes, same_call, victims}
 use Rattle.laws_calls.proofs.Outside.{outside_or}
 use Rattle.laws_calls.proofs.PrepareSteps.{prepare_locks}
 use Rattle.laws_calls.proofs.ResolveLeaves.{decided_table, resolve_locks}
 use Rattle.laws_calls.proofs.RollingLeaves.{back_table, interrupted_table, savepoint_table}
 use Rattle.laws_calls.proofs.Rows.{page_has_store}
-use Rattle.laws_calls.specs.CallSteps.{AbortStep, AnswersBehind, CallGoesOn, CallStep, HasLocked, InnerStep, MayAsk, OutsideStep, RefusesBehind, ResumeStep, ResumesWait, ServesTxn, behind_lock, behind_place, on_conflict_of}
+use Rattle.laws_calls.specs.CallSteps.{AbortStep, AnswersBehind, CallGoesOn, CallStep, HasLocked, InnerStep, MayAsk, OutsideStep, RefusesBehind, ResumeStep, ResumesWait, ServesTxn, behind_lock, behind_place, on_conflict_of, CommitStep}
 use Rattle.laws_calls.specs.Resolves.{ResolvesTo}
-use Rattle.laws_calls.specs.Events.{Called, EventMoves, Forced, HasFailed, ManagerEvent, Resumed}
+use Rattle.laws_calls.specs.Events.{Called, EventMoves, Forced, HasFailed, ManagerEvent, Resumed, TicketAsked}
 use Rattle.laws_calls.specs.Settling.{SettledResume, Settles}
 use Rattle.laws_calls.specs.Shapes.{LockWaitsMayAsk}
 use Rattle.laws_calls.specs.StateChanges.{wait_refused}
@@ -168,11 +168,17 @@ module _ (g : Geometry) where
   abort_bounds s a (Waits wait) new h k = absurd h
   abort_bounds s a Nothing new h k = absurd h
 
+  commit_bounds : (s : State) (a : SessionTxn) (step : Step) (new : State) → CommitStep s a step new → HasLocksInBounds g s → HasLocksInBounds g new
+  commit_bounds s a (Done answer) new h k = freed_bounds s new a.txn (ap (λ (x : State). x.locks) h.1) k
+  commit_bounds s a (Refused f) new h k = absurd h
+  commit_bounds s a (Waits wait) new h k = absurd h
+  commit_bounds s a Nothing new h k = absurd h
+
   inner_bounds : (s : State) (a : SessionTxn) (c : Call) (step : Step) (new : State) → InnerStep g s a c step new → HasLocksInBounds g s → HasLocksInBounds g new
   inner_bounds s a c step new (inl h) k = same_bounds s new (ap (λ (x : State). x.locks) h.3) k
   inner_bounds s a c step new (inr (inl (whole, inl h))) k = same_bounds s new (ap (λ (x : State). x.locks) h.3) k
   inner_bounds s a c step new (inr (inl (whole, inr (inl h)))) k = goes_on_bounds s a c step new h.0 h.1 k
-  inner_bounds s a c step new (inr (inl (whole, inr (inr (inl h))))) k = same_bounds s new (commit_keeps_locks s a step new h.1) k
+  inner_bounds s a c step new (inr (inl (whole, inr (inr (inl h))))) k = commit_bounds s a step new h.1 k
   inner_bounds s a c step new (inr (inl (whole, inr (inr (inr (inl h)))))) k = same_bounds s new (savepoint_table s a step new h.1).locks k
   inner_bounds s a c step new (inr (inl (whole, inr (inr (inr (inr h)))))) k = same_bounds s new (prepare_locks s a h.0 step new h.2) k
   inner_bounds s a c step new (inr (inr (inl h))) k = same_bounds s new (back_table s a h.0 step new h.3).locks k
@@ -218,9 +224,8 @@ module _ (g : Geometry) where
   waited_bounds : (s : State) (w : Waiting) (wait : Wait) (step : Step) (new : State) → ((at : Granule) → wait ≡ Lock at → MayAsk g w.call) → ResumesWait g s w wait step new
       → HasLocksInBounds g s → HasLocksInBounds g new
   waited_bounds s w (Durable n) step new may (inl h) k = same_bounds s new (ap (λ (x : State). x.locks) h.2) k
-  waited_bounds s w (Durable n) step new may (inr (inl h)) k = freed_bounds s new h.2.0.txn (ap (λ (x : State). x.locks) h.2.3) k
-  waited_bounds s w (Durable n) step new may (inr (inr (inl h))) k = same_bounds s new (ap (λ (x : State). x.locks) h.2.4) k
-  waited_bounds s w (Durable n) step new may (inr (inr (inr h))) k = same_bounds s new (ap (λ (x : State). x.locks) h.2.3) k
+  waited_bounds s w (Durable n) step new may (inr (inl h)) k = same_bounds s new (ap (λ (x : State). x.locks) h.2.4) k
+  waited_bounds s w (Durable n) step new may (inr (inr h)) k = same_bounds s new (ap (λ (x : State). x.locks) h.2.3) k
   waited_bounds s w (Lock at) step new may h k = ⊎_elim
       (λ still. same_bounds s new (ap (λ (x : State). x.locks) still.2) k)
       (λ free. goes_on_bounds (wait_refused s w.session) h.0 w.call step new (may at refl) free.1 (same_bounds s (wait_refused s w.session) refl k))
@@ -275,3 +280,4 @@ module _ (g : Geometry) where
   event_keeps_locks s new (Resumed session step) asks h k = resumed_bounds s session step new asks h k
   event_keeps_locks s new (Forced n) asks h k = same_bounds s new (ap (λ (x : State). x.locks) h.2) k
   event_keeps_locks s new HasFailed asks h k = same_bounds s new (ap (λ (x : State). x.locks) h) k
+  event_keeps_locks s new (TicketAsked ticket answer) asks h k = same_bounds s new (ap (λ (x : State). x.locks) h.1) k

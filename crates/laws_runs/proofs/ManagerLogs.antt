@@ -78,15 +78,14 @@ found_have P log (t ∷ ts) last u all =
 
 pub opened_over : (g : Geometry) (stream_bytes : ℕ) (o : Opening) (found : List LogRecord) (ready : RecoveryState) (first : State) → IsRecoverable ready → ready.redone ≡ length ready.log
     → IsRestartOf found ready → IsOpeningOf found o → IsOpenedOver o ready first → first.stream_bytes ≡ stream_bytes → ((p : PageId) → first.counts p ≡ slot_count ready.log p)
-    → IsNext found first.sessions.next_txn → ((t : ℕ) → IsLoser ready.log t → ⊥) → HasLocksInBounds g first → IsOpenedFrom g stream_bytes ready.log first
-opened_over g stream_bytes o found ready first kept redone restart opening opens long counts next ended locks = record {
+    → IsNext found first.sessions.next_txn → HasLocksInBounds g first → IsOpenedFrom g stream_bytes ready.log first
+opened_over g stream_bytes o found ready first kept redone restart opening opens long counts next locks = record {
   log = sym opens.stored.log;
   as_long = long;
   records = λ id. opens.sessions.records id ∙ redone_whole ready kept redone id.page id.slot;
   prepared = ap pairs_of opens.sessions.prepared ∙ pairs_found o.in_doubt ∙ there.in_doubt;
   active = opens.sessions.active ∙ txns_paired o.in_doubt ∙ ap (map (λ (p : ℕ × List ℕ). p.0)) there.in_doubt ∙ txns_logged (doubts_in ready.log);
   undo_lists = opens.sessions.undo_lists;
-  ended = ended;
   counts = counts;
   some = opens.sessions.some;
   least = λ n some all. next.least n (omega (arith, some))

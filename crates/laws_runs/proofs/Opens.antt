@@ -40,6 +40,7 @@ use Rattle.laws_lives.specs.WholeLogs.{IsWholeLog}
 use Rattle.shore_page.specs.Room.{HasRoom, HoldsItsImage}
 use Rattle.shore_page.specs.Slots.{settled}
 use Rattle.laws_lives.proofs.OneMore.{by_push, same_id}
+use Rattle.laws_lives.proofs.UndoEnds.{writers_in_doubt}
 use Rattle.laws_lives.proofs.Redo.{image_of_record-push, or_image}
 use Rattle.laws_lives.specs.Undo.{HasNoLosers, IsLoser, undo_record}
 use Rattle.laws_room.proofs.Lists.{each_at}
@@ -249,7 +250,7 @@ module _ (g : Geometry) (stream_bytes : ℕ) (log : List LogRecord) (s : State) 
       let is_whole : IsWholeLog log s.sessions =
       record {
         lawful = lawful;
-        writers = λ t id changed not_over. is_under_way t (ended t id changed not_over);
+        writers = λ t id changed not_over. is_under_way t (writers_in_doubt log lawful ended t id changed not_over);
         unended = λ t m. (runs t m).runs;
         above = λ t m. (runs t m).some;
         undo_lists = matches;
@@ -260,7 +261,7 @@ module _ (g : Geometry) (stream_bytes : ℕ) (log : List LogRecord) (s : State) 
         prefixes = subst (AreRoomy g stream_bytes least) (sym opened.log) k;
         counts = λ p. opened.counts p ∙ ap (λ l. slot_count l p) (sym opened.log);
         whole = subst (λ l. IsWholeLog l s.sessions) (sym opened.log) is_whole;
-        losers = λ t loser. absurd (opened.ended t (subst (λ l. IsLoser l t) opened.log loser));
+        losers = λ t loser. absurd (ended t (subst (λ l. IsLoser l t) opened.log loser));
         txns = opened.least LAST_TXN (omega arith) numbers;
         locks = opened.locks;
       }

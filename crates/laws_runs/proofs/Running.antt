@@ -42,7 +42,7 @@ use Rattle.laws_calls.proofs.SettledStates.{session_event_stays}
 use Rattle.laws_calls.proofs.Sessions.{AreSessionsAfter}
 use Rattle.laws_calls.proofs.TakenLocks.{sessions_of}
 use Rattle.laws_calls.specs.CallHistories.{IsRoomyState}
-use Rattle.laws_calls.specs.Events.{Called, Forced, HasFailed, IsStateAfter, ManagerEvent, EventMoves, MovesMaking, Resumed, entries_of}
+use Rattle.laws_calls.specs.Events.{Called, Forced, HasFailed, IsStateAfter, ManagerEvent, EventMoves, MovesMaking, Resumed, entries_of, TicketAsked}
 use Rattle.laws_calls.specs.CallSteps.{CallStep, InnerStep, ended_among, txn_count}
 use Rattle.laws_calls.specs.Prepares.{PrepareStep, granules_in_ex, prepared}
 use Rattle.laws_calls.specs.Settling.{Settles}
@@ -382,6 +382,7 @@ durable_rises g s new (Called session c step) h = let same = (settled_call_furth
 durable_rises g s new (Resumed session step) h = let same = (settled_resume_further g s session step new h).durable in omega (arith, same)
 durable_rises g s new (Forced n) h = let same = ap (λ (x : State). x.durable) h.2 in let more = h.0 in omega (arith, same, more)
 durable_rises g s new HasFailed h = let same = ap (λ (x : State). x.durable) h in omega (arith, same)
+durable_rises g s new (TicketAsked ticket answer) h = let same = ap (λ (x : State). x.durable) h.1 in omega (arith, same)
 
 module _ (g : Geometry) (stream_bytes : ℕ) (o : Opening) (found : List LogRecord) where
   module _ (least : ℕ) where
@@ -389,7 +390,7 @@ module _ (g : Geometry) (stream_bytes : ℕ) (o : Opening) (found : List LogReco
     pub comes_leaving : (es : List Entry) (s new : State) (made : List Entry) → IsStateAfter o found es s → IsRoomyState s → LeavesRoomyLogsFrom g stream_bytes least s → ComesBy g s new made
         → AllByRecursion PreparesNothing made → HasLocksInBounds g new → LeavesRoomyLogsFrom g stream_bytes least new
     comes_leaving es s new made k roomy h comes none locks =
-        let few : txn_count comes.start ≤ MAX_TRANSACTIONS = subst (λ (n : Sessions). length n.active + length n.committing + length (ended_among n.active n.resolving) ≤ MAX_TRANSACTIONS) (sym comes.before.sessions) k.few in
+        let few : txn_count comes.start ≤ MAX_TRANSACTIONS = subst (λ (n : Sessions). length n.active + length (ended_among n.active n.resolving) ≤ MAX_TRANSACTIONS) (sym comes.before.sessions) k.few in
         and_locks g stream_bytes least new
         (like_leaving g stream_bytes least comes.mid new comes.after
         (by_leaving g stream_bytes least (length found) o es comes.start comes.events comes.mid made

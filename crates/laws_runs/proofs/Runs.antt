@@ -92,7 +92,7 @@ module _ (g : Geometry) (o : Opening) (s : RecoveryState) (f : MayBeFound s) (op
   at_work = opens_at_work o s r.restart r.ready r.first.sessions f opening h.restarts h.redone h.no_losers h.opens.sessions
 
   first_seats : HasOwnSeats r.first.sessions
-  first_seats = opened_seats o r.first.sessions h.opens.sessions.seats h.opens.sessions.committing h.opens.sessions.prepared h.opens.sessions.active
+  first_seats = opened_seats o r.first.sessions h.opens.sessions.seats h.opens.sessions.prepared h.opens.sessions.active
 
   -- what the open leaves is a state after no entries
   pub opened : IsStateAfter o s.log [] r.first
@@ -104,7 +104,6 @@ module _ (g : Geometry) (o : Opening) (s : RecoveryState) (f : MayBeFound s) (op
       let long : length r.ready.log ≡ length r.first.log = ap length log in
       let opens = h.opens.sessions in
       let few = h.opens.few in
-      let committing : length r.first.sessions.committing ≡ 0 = ap length opens.committing in
       let resolving : length (ended_among r.first.sessions.active r.first.sessions.resolving) ≡ 0 =
       ap (λ rs. length (ended_among r.first.sessions.active rs)) opens.resolving in
       record {
@@ -122,7 +121,6 @@ module _ (g : Geometry) (o : Opening) (s : RecoveryState) (f : MayBeFound s) (op
         waits = record {
           each = λ w m. absurd (subst (IsAmong w) h.opens.waiting m);
           once = λ v w m n same. absurd (subst (IsAmong v) h.opens.waiting m);
-          all = λ running a m. absurd (subst (IsAmong a) opens.committing m);
           prepares = λ running p m e. absurd (true≢false (sym (found_answered p o.in_doubt (subst (IsAmong p) opens.prepared m)) ∙ e));
           resolves = λ running r ended. absurd (subst (IsAmong r) opens.resolving ended.0);
           resolve_once = λ v w global x y m n first second. absurd (subst (IsAmong v) h.opens.waiting m);
@@ -131,8 +129,9 @@ module _ (g : Geometry) (o : Opening) (s : RecoveryState) (f : MayBeFound s) (op
           least = omega (arith, least, durable);
           most = omega (arith, most, durable, long);
           acknowledged_kept = All-nil (Contains (decisions_in (length s.log) (take r.first.durable r.first.log)));
+          tickets = tt;
         };
-        few = omega (arith, few, committing, resolving);
+        few = omega (arith, few, resolving);
       }
 
   pub come : HasCome o s.log [] (record { state = r.first; store = r.ready }) r.last r.made

@@ -10,7 +10,7 @@ use Rattle.shore_model.specs.declared.histories.Decision.TheVariants as decision
 use Rattle.shore_model.specs.declared.histories.Entry.{Entry}
 use Rattle.laws_lives.specs.Recovery.{AppendRecord, FlushPage, ForceLog, LosePower, RecoveryEvent, RecoveryState, RedoRecord}
 use Rattle.laws_lives.specs.LogPrefixes.{IsDecidedIn, decision_in}
-use Rattle.laws_lives.specs.SessionSteps.{AnswerAbort, AnswerCommit, AnswerInDoubt, AnswerPrepare, AnswerResolve, AppendCommit, AppendPrepare, AppendResolve, AppendRollback, BeginTxn, Doom, EndRollback, GiveReply, MoveLocks, PutBack, RefuseCall, SessionEvent}
+use Rattle.laws_lives.specs.SessionSteps.{AnswerAbort, Ask, AnswerInDoubt, AnswerPrepare, AnswerResolve, AppendCommit, AppendPrepare, AppendResolve, AppendRollback, BeginTxn, Doom, EndRollback, GiveReply, MoveLocks, PutBack, RefuseCall, SessionEvent}
 use Rattle.laws_lives.specs.Views.{IsAmong}
 use Rattle.laws_calls.proofs.Links.{GoesBy}
 use Rattle.laws_calls.proofs.Prefixes.{prefix_on, whole_prefix}
@@ -67,12 +67,12 @@ decided_on s new h d durable =
     subst (λ l. IsPrefix (take s.durable s.log) (take new.durable l)) (sym h.on.1) (longer_take s.durable new.durable s.log h.on.0 h.durable) in
     still_decided d (take s.durable s.log) (take new.durable new.log) on durable
 
-pub stays_durable : (s new : RecoveryState) → WorksOn s new → (e : SessionEvent) → AnswersDurable s e → AnswersDurable new e
-stays_durable s new h (AnswerCommit a) durable = decided_on s new h (decision.Commit a.txn) durable
+pub stays_durable : (s new : RecoveryState) → WorksOn s new → (e : SessionEvent) → AnswersDurable s.durable s.log e → AnswersDurable new.durable new.log e
+stays_durable s new h (Ask ticket answer) durable = tt
 stays_durable s new h (MoveLocks held) durable = tt
 stays_durable s new h (BeginTxn session) durable = tt
 stays_durable s new h (GiveReply a c reply) durable = tt
-stays_durable s new h (AppendCommit a) durable = tt
+stays_durable s new h (AppendCommit a ticket) durable = tt
 stays_durable s new h (PutBack a kept e r) durable = tt
 stays_durable s new h (Doom a) durable = tt
 stays_durable s new h (AnswerAbort a) durable = tt

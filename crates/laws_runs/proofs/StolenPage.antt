@@ -18,7 +18,6 @@ use Rattle.std.specs.Prelude.{Contains}
 use Rattle.shore_model.specs.declared.holds.Hold.{Hold}
 use Rattle.shore_model.specs.Lives.{next_opening}
 use Rattle.shore_model.specs.Logs.{first_number, image_of_record, is_over}
-use Rattle.shore_analysis.proofs.InTurn.{no_losers}
 use Rattle.laws_calls.proofs.EmptyOpens.{empty_is_opened, none_granted}
 use Rattle.laws_calls.proofs.SessionInsert.{session_inserts}
 use Rattle.laws_calls.specs.Events.{Called, EventMoves, Forced, ManagerEvent, entries_of}
@@ -117,9 +116,6 @@ module _ (g : Geometry) (stream_bytes : ℕ) (bytes : List ℕ) (store : HasStor
         refl,
       )
 
-  unchanged : false ≡ true → ⊥
-  unchanged e = cc
-
   opened_over_none : IsOpenedOver (opening_with empty) formatted (opened_empty stream_bytes)
   opened_over_none =
       let opened = empty_is_opened stream_bytes in
@@ -127,7 +123,6 @@ module _ (g : Geometry) (stream_bytes : ℕ) (bytes : List ℕ) (store : HasStor
         sessions = record {
           records = λ id. get-empty rid_cmp id;
           seats = λ n. refl;
-          committing = refl;
           resolving = refl;
           prepared = refl;
           active = refl;
@@ -147,7 +142,7 @@ module _ (g : Geometry) (stream_bytes : ℕ) (bytes : List ℕ) (store : HasStor
   stolen_up = record {
     restarts = refl;
     redone = refl;
-    no_losers = λ t id changed over. absurd (unchanged changed);
+    no_losers = λ t loser. let known = loser.known in omega arith;
     opens = opened_over_none;
     from = opened_from_none g limits stream_bytes;
     moves = stolen_moves;
@@ -248,12 +243,11 @@ module _ (g : Geometry) (stream_bytes : ℕ) (bytes : List ℕ) (store : HasStor
   opened_up = record {
     restarts = restarts;
     redone = refl;
-    no_losers = no_losers ready.log sound.lawful none_left;
+    no_losers = none_left;
     opens = record {
       sessions = record {
         records = λ id. get-empty rid_cmp id ∙ sym (redone_whole ready sound.recoverable refl id.page id.slot ∙ leaves_nothing id);
         seats = λ n. refl;
-        committing = refl;
         resolving = refl;
         prepared = refl;
         active = refl;
@@ -275,7 +269,6 @@ module _ (g : Geometry) (stream_bytes : ℕ) (bytes : List ℕ) (store : HasStor
       prepared = refl;
       active = refl;
       undo_lists = λ a m. absurd m;
-      ended = none_left;
       counts = λ p. refl;
       some = omega arith;
       least = λ n some above. let one = above.0 in omega (arith, one);

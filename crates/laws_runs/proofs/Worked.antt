@@ -56,7 +56,6 @@ opened_from_none g limits stream_bytes = record {
   prepared = refl;
   active = refl;
   undo_lists = λ a m. absurd m;
-  ended = λ t loser. let known = loser.known in omega arith;
   counts = λ p. refl;
   some = omega arith;
   least = λ n some above. omega arith;
@@ -79,7 +78,7 @@ module _ (g : Geometry) (bytes : List ℕ) (store : HasStore g 0) (page : HasPag
       let none = format_is_roomy g stream_bytes (omega arith) most in
       let opened = opened_from_none g limits stream_bytes in
       let roomy = opens_roomy g stream_bytes [] (opened_empty stream_bytes) opened (whole_roomy g stream_bytes 0 [] none) (λ n r at. absurd (nothing n r at)) in
-      let leaves = opens_leaving g stream_bytes [] (opened_empty stream_bytes) opened 0 none (λ n r at. absurd (nothing n r at)) (λ t id changed. absurd (unchanged changed)) in
+      let leaves = opens_leaving g stream_bytes [] (opened_empty stream_bytes) opened 0 none (λ n r at. absurd (nothing n r at)) (λ t loser. let known = loser.known in omega arith) in
       record {
         last = h.0;
         made = h.1;
@@ -91,9 +90,6 @@ module _ (g : Geometry) (bytes : List ℕ) (store : HasStore g 0) (page : HasPag
     where
       nothing : (n : ℕ) (r : LogRecord) → slice_get [] n ≡ Some r → ⊥
       nothing n r at = cc
-
-      unchanged : false ≡ true → ⊥
-      unchanged e = cc
 
   pub run_leaves_roomy : (stream_bytes : ℕ) → 100000 ≤ stream_bytes → stream_bytes ≤ MAX_LOG_BYTES
       → (last : State) × (made : List Entry) × MovesMaking g (opened_empty stream_bytes) (one_insert bytes) last made

@@ -41,7 +41,7 @@ abbrev pub LeavesRoomyLogs : Geometry → ℕ → State → Type 0
 LeavesRoomyLogs g stream_bytes s = LeavesRoomyLogsFrom g stream_bytes s.durable s
 
 -- What an open makes of a log over a stream of so many bytes: what the log leaves is in place, those in doubt are under way and nobody else, with the
--- undo lists that the log gives them, and no loser is left. Each page has the slots that the log gave it, the next transaction's number is the least above
+-- undo lists that the log gives them. Each page has the slots that the log gave it, the next transaction's number is the least above
 -- all of the log's, and the lock table is in bounds.
 pub record IsOpenedFrom (g : Geometry) (stream_bytes : ℕ) (found : List LogRecord) (s : State) : Type 0 where
   pub log : s.log ≡ found
@@ -50,7 +50,6 @@ pub record IsOpenedFrom (g : Geometry) (stream_bytes : ℕ) (found : List LogRec
   pub prepared : pairs_of s.sessions.prepared ≡ map pair_logged (doubts_in found)
   pub active : txns_of s.sessions.active ≡ map (λ d. d.txn) (doubts_in found)
   pub undo_lists : (a : SessionTxn) → IsAmong a s.sessions.active → a.undo ≡ undo_in found a.txn
-  pub ended : (t : ℕ) → IsLoser found t → ⊥
   pub counts : (p : PageId) → s.counts p ≡ slot_count found p
   pub some : 0 < s.sessions.next_txn
   pub least : (n : ℕ) → 0 < n → AllByRecursion (λ r. r.txn < n) found → s.sessions.next_txn ≤ n

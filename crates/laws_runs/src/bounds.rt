@@ -135,7 +135,7 @@ pub fn undo_fits_pages_and_log()
 {}
 
 /// The state that an open makes of a roomy log has room on its pages and in its log, also for the rollback of those in doubt, and its records lie in the
-/// geometry. Whatever a later crash leaves of it is roomy. The open over a restart makes such a state if no loser is left, as when the restart has come through,
+/// geometry. Whatever a later crash leaves of it is roomy if no loser is left, as when the restart has come through. The open over a restart makes such a state
 /// with the slots that the log gave the pages, if its next number is the one that analysis of the found log gives and its lock table is in bounds.
 pub fn opens_have_room()
     ensures roomy { (g : Geometry) (stream_bytes : ℕ) (log : List LogRecord) (s : State) → IsRoomyLog g stream_bytes log → Lawful log → IsOpenedFrom g stream_bytes log s →
@@ -146,7 +146,7 @@ pub fn opens_have_room()
         IsOpenedFrom g stream_bytes log s → LeavesRoomyLogs g stream_bytes s }
     ensures over { (g : Geometry) (stream_bytes : ℕ) (o : Opening) (found : List LogRecord) (ready : RecoveryState) (s : State) → IsRecoverable ready → ready.redone ≡ length ready.log →
         IsRestartOf found ready → IsOpeningOf found o → IsOpenedOver o ready s → s.stream_bytes ≡ stream_bytes → ((p : PageId) → s.counts p ≡ slot_count ready.log p) →
-        IsNext found s.sessions.next_txn → ((t : ℕ) → IsLoser ready.log t → ⊥) → HasLocksInBounds g s → IsOpenedFrom g stream_bytes ready.log s }
+        IsNext found s.sessions.next_txn → HasLocksInBounds g s → IsOpenedFrom g stream_bytes ready.log s }
 {}
 
 /// Analysis refuses no record of a lawful log that may be left.

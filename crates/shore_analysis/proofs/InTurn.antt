@@ -1,13 +1,11 @@
 -- Whose turn it is, among the entries of the losers; and turns in their order.
-use Rattle.std.proofs.Common.{◌≡◌, inl, inr, ⊎_elim, ℕ, zero, suc, List, [], ◌∷◌, ◌++◌, map, refl, sym, ap, subst, ◌∙◌, arith}
+use Rattle.std.proofs.Common.{◌≡◌, inl, inr, ℕ, zero, suc, List, [], ◌∷◌, ◌++◌, map, refl, sym, ap, subst, ◌∙◌, arith}
 use Rattle.std.specs.List.{AllByRecursion}
-use Rattle.std.proofs.lemmas.Bool.{cases_Bool}
 use Rattle.shore_model.specs.declared.log_records.LogRecord.{LogRecord}
 use Rattle.shore_model.specs.declared.log_records.LogTxn.{LogTxn}
-use Rattle.shore_model.specs.Logs.{Lawful, is_in_doubt, unanswered, undo_next_of}
+use Rattle.shore_model.specs.Logs.{unanswered, undo_next_of}
 use Rattle.laws_lives.specs.Views.{IsAmong}
-use Rattle.laws_lives.specs.Undo.{HasNoLosers, IsLoser, IsUndoneTo, undo_record}
-use Rattle.laws_lives.proofs.UndoEnds.{has_known}
+use Rattle.laws_lives.specs.Undo.{IsLoser, IsUndoneTo, undo_record}
 use Rattle.shore_analysis.specs.Losers.{AreEntriesOfLosers, IsEntryOfLoser, IsNextToUndo, IsUndoneInOrder, NeedNotWait}
 
 -- who need not wait for a second need not wait for whom that need not wait for
@@ -41,12 +39,6 @@ next_to_undo log es e h a first u loser =
 
 pub none_left : (log : List LogRecord) (es : List LogTxn) → es ≡ [] → AreEntriesOfLosers log es → (t : ℕ) → IsLoser log t → ⊥
 none_left log es none h t loser = subst (λ xs. IsAmong t (map (λ e. e.txn) xs)) none (h.every t loser)
-
--- whoever has changed a record and is neither a loser nor in doubt has ended
-pub no_losers : (log : List LogRecord) → Lawful log → ((t : ℕ) → IsLoser log t → ⊥) → HasNoLosers log
-no_losers log lawful none t id changed runs =
-    let known = has_known id log lawful t changed in
-    ⊎_elim (λ doubt. doubt) (λ not_so. absurd (none t (record { is_one = known.0; known = known.1; not_over = runs; not_in_doubt = not_so }))) (cases_Bool (is_in_doubt t log))
 
 same_number : (m n : ℕ) → NeedNotWait m n → NeedNotWait n m → m ≡ n
 same_number m n (inl a) (inl b) = a ∙ sym b

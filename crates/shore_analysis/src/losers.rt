@@ -55,8 +55,7 @@ impl Losers {
         alloc: Global,
         found: &[LogRecord],
     ) -> Result<Option<LogRecord>, AllocError>
-        ensures none { (log : List LogRecord) → HasLosers log self.now → IfOk result (λ next. IfNone next ((t : ℕ) → IsLoser log t → ⊥)) }
-        ensures done { (log : List LogRecord) → Lawful log → HasLosers log self.now → IfOk result (λ next. IfNone next (HasNoLosers log)) }
+        ensures none { (log : List LogRecord) → HasLosers log self.now → IfOk result (λ next. IfNone next (HasNoLosers log)) }
         ensures loser { (log : List LogRecord) → HasLosers log self.now → IfOk result (λ next. IfSome next (λ r. IsLoser log r.txn)) }
         ensures turn { (log : List LogRecord) → HasLosers log self.now → IfOk result (λ next. IfSome next (λ r. IsNextToUndo log r.txn)) }
         ensures undoes { (g : Geometry) (turns : List ℕ) (log : List LogRecord) → AreMeant g found.now → IsUndoneTo found.now turns log

@@ -2,19 +2,19 @@
 -- speak of is the one that locks held to the end are taken for (degree 3 of Gray, Lorie, Putzolu and Traiger 1976), with
 -- the prepare as the turn of a transaction that prepared.
 use Rattle.std.specs.Prelude.{◌≡◌, ◌<◌, ◌==◌, ◌&&◌, ◌||◌, ℕ, List, [], ◌∷◌, ◌++◌, Bool, true, false, not, if◌then◌else◌, Option, None, Some, Result, Ok, Err, map, filter, take, slice_get, unwrap_or, nat_eq, is_ok, IsTrue, IfSome, All, Contains, OnOk}
-use Rattle.std.specs.List.{filter_map, list_any}
+use Rattle.std.specs.List.{cons_option, filter_map, list_any}
 use Rattle.std.specs.Cmp.Lexicographic.{pointwise}
 use Rattle.shore_types.specs.declared.faults.Fault.{Fault}
 use Rattle.shore_model.specs.declared.calls.Call.{Call}
 use Rattle.shore_model.specs.declared.calls.Call.TheVariants as call
 use Rattle.shore_model.specs.declared.calls.Answer.{Answer}
-use Rattle.shore_model.specs.declared.calls.Answer.TheVariants.{Began, Got, Inserted, Updated, Deleted, Scanned, Locked, Saved, WentBack, Committed, Aborted, Prepared, Resolved, AreInDoubt, Staged, Forced, Flushed, Begun, Ended, Anchored, Moved, Cut}
+use Rattle.shore_model.specs.declared.calls.Answer.TheVariants.{Began, Got, Inserted, Updated, Deleted, Scanned, Locked, Saved, WentBack, Committed, Aborted, Prepared, Resolved, AreInDoubt, Staged, Forced, Flushed, Begun, Ended, Anchored, Moved, Cut, IsDurable}
 use Rattle.shore_model.specs.declared.calls.Outcome.TheVariants as outcome
 use Rattle.shore_model.specs.declared.calls.Exchange.{Exchange}
 use Rattle.shore_model.specs.declared.histories.Decision.{Decision}
 use Rattle.shore_model.specs.declared.histories.Decision.TheVariants.{Commit, Prepare, RollBack}
 use Rattle.shore_model.specs.declared.histories.Entry.{Entry}
-use Rattle.shore_model.specs.declared.histories.Entry.TheVariants.{Exchanged, Decided}
+use Rattle.shore_model.specs.declared.histories.Entry.TheVariants.{Asked, Exchanged, Decided}
 use Rattle.shore_model.specs.declared.histories.InDoubt.{InDoubt}
 use Rattle.shore_model.specs.declared.histories.Opening.{Opening}
 use Rattle.shore_model.specs.declared.sessions.SessionState.{SessionState}
@@ -32,6 +32,7 @@ pub record History : Type 0 where
 abbrev pub exchange_of : ℕ → Entry → Option Exchange
 exchange_of t (Exchanged session txn exchange) = if txn == t then Some exchange else None
 exchange_of t (Decided d) = None
+exchange_of t (Asked ticket durable) = None
 
 -- a transaction's calls with their answers
 abbrev pub calls_of : ℕ → List Entry → List Exchange
@@ -41,6 +42,7 @@ calls_of t es = filter_map (exchange_of t) es
 abbrev pub decision_of : Entry → Option Decision
 decision_of (Exchanged session txn exchange) = None
 decision_of (Decided d) = Some d
+decision_of (Asked ticket durable) = None
 
 -- the decisions, in the order of the events that appended their records
 abbrev pub decisions : List Entry → List Decision
@@ -55,6 +57,7 @@ begun_by _ = None
 abbrev pub began : Entry → Option ℕ
 began (Exchanged session txn exchange) = begun_by exchange.reply
 began (Decided d) = None
+began (Asked ticket durable) = None
 
 -- a session is in no transaction
 abbrev pub free : SessionState
@@ -63,7 +66,7 @@ free = record { txn = 0; prepared = false }
 -- the state of a session after a reply: a begin puts it into a transaction, a commit's or an abort's answer frees it
 abbrev pub after_own_reply : SessionState → Result Answer Fault → SessionState
 after_own_reply p (Ok (Began t)) = record { txn = t; prepared = false }
-after_own_reply p (Ok Committed) = free
+after_own_reply p (Ok (Committed ticket)) = free
 after_own_reply p (Ok Aborted) = free
 after_own_reply p (Ok (Got bytes)) = p
 after_own_reply p (Ok (Inserted id)) = p
@@ -84,6 +87,7 @@ after_own_reply p (Ok (Ended n)) = p
 after_own_reply p (Ok (Anchored checkpoint tail)) = p
 after_own_reply p (Ok Moved) = p
 after_own_reply p (Ok Cut) = p
+after_own_reply p (Ok (IsDurable durable)) = p
 after_own_reply p (Err fault) = p
 
 -- its state once a transaction is prepared
@@ -104,6 +108,7 @@ after_decision p (RollBack t) = once_decided p t
 abbrev pub after_entry : ℕ → SessionState → Entry → SessionState
 after_entry s p (Exchanged session txn exchange) = if session == s then after_own_reply p exchange.reply else p
 after_entry s p (Decided d) = after_decision p d
+after_entry s p (Asked ticket durable) = p
 
 -- its state after entries
 abbrev pub session_state : ℕ → SessionState → List Entry → SessionState
@@ -154,14 +159,16 @@ MayStand o before (Exchanged session txn exchange) =
     × IsOfTxn (session_state session free before) (all_prepared o.in_doubt (decisions before)) txn exchange.call exchange.reply
 MayStand o before (Decided (RollBack t)) = IsTrue (has_prepared o.in_doubt (decisions before) t)
 MayStand o before (Decided _) = Unit {0}
+MayStand o before (Asked ticket durable) = Unit {0}
 
 -- each entry may follow those before it
 abbrev pub IsHistory : History → Type 0
 IsHistory h = (n : ℕ) (e : Entry) → slice_get h.entries n ≡ Some e → MayStand h.opening (take n h.entries) e
 
--- the decision that a call asks for
+-- the decision that a call asks for and its answer acknowledges. A commit is answered before its record is durable: its answer acknowledges
+-- nothing
 abbrev pub decision_asked_by : ℕ → Call → Option Decision
-decision_asked_by t call.Commit = Some (Commit t)
+decision_asked_by t call.Commit = None
 decision_asked_by t (call.Prepare global) = Some (Prepare t global)
 decision_asked_by t (call.Resolve global outcome.Commit) = Some (Commit t)
 decision_asked_by t (call.Resolve global outcome.Abort) = Some (RollBack t)
@@ -179,14 +186,43 @@ decision_asked_by t (call.BackTo k) = None
 decision_asked_by t call.Abort = None
 decision_asked_by t call.InDoubt = None
 
--- the decision that an entry acknowledges: the one that its call asks for, if the answer is Ok
-abbrev pub acknowledged_by : Entry → Option Decision
-acknowledged_by (Exchanged session txn exchange) = if is_ok exchange.reply then decision_asked_by txn exchange.call else None
-acknowledged_by (Decided d) = None
+-- ---- tickets
+
+-- the ticket that a reply gives for its transaction's commit: the number of its Commit record
+abbrev pub ticket_for : ℕ → Result Answer Fault → Option (ℕ × ℕ)
+ticket_for t (Ok (Committed ticket)) = Some (ticket, t)
+ticket_for t _ = None
+
+abbrev pub ticket_in : Entry → Option (ℕ × ℕ)
+ticket_in (Exchanged session txn exchange) = ticket_for txn exchange.reply
+ticket_in (Decided d) = None
+ticket_in (Asked ticket durable) = None
+
+-- the tickets that these entries give, each with its transaction. They are those of one manager, since its open: numbers that a crash lost are
+-- given again, so a ticket of another manager is none of them, though it may have the same number
+abbrev pub tickets : List Entry → List (ℕ × ℕ)
+tickets es = filter_map ticket_in es
+
+-- the commits that have the ticket
+abbrev pub commits_with : ℕ → List (ℕ × ℕ) → List Decision
+commits_with ticket ts = map (λ p. Commit p.1) (filter (λ p. p.0 == ticket) ts)
+
+-- ---- what is acknowledged
+
+-- The decisions that an entry acknowledges, after those before it. A commit is acknowledged where its ticket is asked for and the answer is
+-- that it is durable; a prepare, and a decision of a prepared transaction, where its call is answered Ok.
+abbrev pub acknowledged_by : List Entry → Entry → List Decision
+acknowledged_by before (Exchanged session txn exchange) = if is_ok exchange.reply then cons_option (decision_asked_by txn exchange.call) [] else []
+acknowledged_by before (Decided d) = []
+acknowledged_by before (Asked ticket durable) = if durable then commits_with ticket (tickets before) else []
+
+abbrev pub acknowledged_after : List Entry → List Entry → List Decision
+acknowledged_after before [] = []
+acknowledged_after before (e ∷ es) = acknowledged_by before e ++ acknowledged_after (before ++ e ∷ []) es
 
 -- the acknowledged decisions
 abbrev pub acknowledged : List Entry → List Decision
-acknowledged es = filter_map acknowledged_by es
+acknowledged es = acknowledged_after [] es
 
 -- ---- the records that decisions leave
 

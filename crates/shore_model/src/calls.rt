@@ -2,7 +2,7 @@
 ghost use Rattle.std.specs.Prelude.{◌≡◌, IfOk};
 
 use shore_types::{
-    Bytes, Fault, GlobalId, Granule, Lsn, Mode, Pairs, Rid, Sequence, StoreId, TxnId,
+    Bytes, Fault, GlobalId, Granule, Lsn, Mode, Pairs, Rid, Sequence, StoreId, Ticket, TxnId,
 };
 use std::alloc::{AllocError, Global};
 
@@ -72,7 +72,8 @@ pub enum Answer {
     Locked,
     Saved(usize),
     WentBack,
-    Committed,
+    /// The commit's record is appended, under this number. Whether it is durable an `Asked` says.
+    Committed(Ticket),
     Aborted,
     Prepared,
     Resolved,
@@ -85,6 +86,7 @@ pub enum Answer {
     Anchored { checkpoint: Lsn, tail: Lsn },
     Moved,
     Cut,
+    IsDurable(bool),
 }
 
 /// A call with its answer, or the fault that it was refused with.

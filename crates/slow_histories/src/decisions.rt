@@ -1,12 +1,14 @@
 //! The decisions of a history, and what a crash may keep of them, computed slowly.
-ghost use Rattle.std.specs.Prelude.{◌≡◌, ◌==◌, ◌∷◌, ◌++◌, ◌↔◌, [], ℕ, filter, take, All, Contains, IfOk, OnOk, IsTrue};
+ghost use Rattle.std.specs.Prelude.{◌≡◌, ◌==◌, ◌∷◌, ◌++◌, ◌↔◌, [], ℕ, Bool, List, filter, take, All, Contains, IfOk, OnOk, IsTrue};
 ghost use Rattle.std.specs.List.{cons_option, filter_map, list_any};
+ghost use Rattle.shore_model.specs.declared.histories.Entry.{Entry};
+ghost use Rattle.shore_model.specs.declared.histories.Entry.TheVariants.{Asked};
 ghost use Rattle.shore_model.specs.declared.histories.InDoubt.{InDoubt};
 ghost use Rattle.shore_model.specs.Histories as histories;
-ghost use Rattle.shore_model.specs.Histories.{Kept, is_ended_by, is_prepare_of, is_undecided, decision_of, acknowledged_by, decision_asked_by, prepared_by};
+ghost use Rattle.shore_model.specs.Histories.{Kept, is_ended_by, is_prepare_of, is_undecided, decision_of, acknowledged_by, commits_with, decision_asked_by, prepared_by, tickets};
 
-use shore_model::{Call, Decision, Entry, InDoubt, Opening, Outcome};
-use shore_types::{GlobalId, Sequence, TxnId};
+use shore_model::{Answer, Call, Decision, Entry, InDoubt, Opening, Outcome};
+use shore_types::{GlobalId, Sequence, Ticket, TxnId};
 use std::alloc::{AllocError, Global};
 
 /// The decisions, in the order of the events that gave them.
@@ -20,15 +22,74 @@ pub fn decisions(alloc: Global, entries: &[Entry]) -> Result<Sequence<Decision>,
     Ok(found)
 }
 
-/// The decisions whose calls were answered Ok.
+/// The decisions that are acknowledged: a commit where its ticket is asked for and said to be durable, a prepare and a resolve where their calls are answered Ok.
 pub fn acknowledged(alloc: Global, entries: &[Entry]) -> Result<Sequence<Decision>, AllocError>
     ensures { IfOk result (λ found. found ≡ histories.acknowledged entries.now) }
 {
     let mut found = Sequence::new(alloc);
-    for entry in entries {
-        push_some(&mut found, answered(alloc, entry)?)?;
+    for index in 0..entries.len() {
+        push_acknowledged(alloc, &mut found, &entries[..index], &entries[index])?;
     }
     Ok(found)
+}
+
+// What an entry acknowledges, after those before it.
+fn push_acknowledged(
+    alloc: Global,
+    found: &mut Sequence<Decision>,
+    before: &[Entry],
+    entry: &Entry,
+) -> Result<(), AllocError>
+    ensures { OnOk result (found.new ≡ found.old ++ acknowledged_by before.now entry.now) }
+{
+    match entry {
+        Entry::Asked { ticket, durable } => {
+            if *durable {
+                push_commits(found, before, *ticket)?;
+            }
+            Ok(())
+        }
+        _ => push_some(found, answered(alloc, entry)?),
+    }
+}
+
+// The commits that have the ticket.
+fn push_commits(
+    found: &mut Sequence<Decision>,
+    before: &[Entry],
+    ticket: Ticket,
+) -> Result<(), AllocError>
+    ensures { OnOk result (found.new ≡ found.old ++ commits_with ticket (tickets before.now)) }
+{
+    for entry in before {
+        push_some(found, commit_of(entry, ticket))?;
+    }
+    Ok(())
+}
+
+// The commit that an entry answers with the ticket.
+fn commit_of(entry: &Entry, ticket: Ticket) -> Option<Decision>
+    ensures { cons_option result [] ≡ commits_with ticket (tickets (entry.now ∷ [])) }
+{
+    let (given, txn) = ticket_in(entry)?;
+    (given == ticket).then_some(Decision::Commit(txn))
+}
+
+// The ticket that an entry gives, with its transaction.
+fn ticket_in(entry: &Entry) -> Option<(Ticket, TxnId)>
+    ensures { result ≡ histories.ticket_in entry.now }
+{
+    match entry {
+        Entry::Exchanged {
+            session: _,
+            txn,
+            exchange,
+        } => match &exchange.reply {
+            Ok(Answer::Committed(ticket)) => Some((*ticket, *txn)),
+            _ => None,
+        },
+        _ => None,
+    }
 }
 
 fn push_some(found: &mut Sequence<Decision>, decision: Option<Decision>) -> Result<(), AllocError>
@@ -49,8 +110,9 @@ fn decided(alloc: Global, entry: &Entry) -> Result<Option<Decision>, AllocError>
     }
 }
 
+// What a call acknowledges that is answered Ok.
 fn answered(alloc: Global, entry: &Entry) -> Result<Option<Decision>, AllocError>
-    ensures { IfOk result (λ decision. decision ≡ acknowledged_by entry.now) }
+    ensures { IfOk result (λ decision. (before : List Entry) → ((ticket : ℕ) (durable : Bool) → entry.now ≡ Asked ticket durable → ⊥) → cons_option decision [] ≡ acknowledged_by before entry.now) }
 {
     match entry {
         Entry::Exchanged {
@@ -72,7 +134,6 @@ fn asked(alloc: Global, txn: TxnId, call: &Call) -> Result<Option<Decision>, All
     ensures { IfOk result (λ decision. decision ≡ decision_asked_by txn call.now) }
 {
     match call {
-        Call::Commit => Ok(Some(Decision::Commit(txn))),
         Call::Prepare(global) => Ok(Some(Decision::Prepare(txn, global.try_clone(alloc)?))),
         Call::Resolve(_, Outcome::Commit) => Ok(Some(Decision::Commit(txn))),
         Call::Resolve(_, Outcome::Abort) => Ok(Some(Decision::RollBack(txn))),

@@ -110,7 +110,7 @@ fn is_right(
         Call::TryLock(_, _) => Ok(matches!(answer, Answer::Locked)),
         Call::Savepoint => Ok(is_saved(saved, answer)),
         Call::BackTo(index) => Ok(*index < saved && matches!(answer, Answer::WentBack)),
-        Call::Commit => Ok(matches!(answer, Answer::Committed)),
+        Call::Commit => Ok(matches!(answer, Answer::Committed(_))),
         Call::Abort => Ok(matches!(answer, Answer::Aborted)),
         Call::Prepare(_) => Ok(matches!(answer, Answer::Prepared)),
         Call::Resolve(_, _) => Ok(matches!(answer, Answer::Resolved)),

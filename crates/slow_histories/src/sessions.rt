@@ -28,7 +28,7 @@ fn after_own_reply(stands: SessionState, reply: &Result<Answer, Fault>) -> Sessi
             txn: *txn,
             prepared: false,
         },
-        Ok(Answer::Committed) => free(),
+        Ok(Answer::Committed(_)) => free(),
         Ok(Answer::Aborted) => free(),
         _ => stands,
     }
@@ -83,6 +83,10 @@ fn after_entry(session: SessionId, stands: SessionState, entry: &Entry) -> Sessi
             }
         }
         Entry::Decided(decision) => after_decision(stands, decision),
+        Entry::Asked {
+            ticket: _,
+            durable: _,
+        } => stands,
     }
 }
 
@@ -155,6 +159,10 @@ fn began(entry: &Entry) -> Option<TxnId>
             exchange,
         } => begun(&exchange.reply),
         Entry::Decided(_) => None,
+        Entry::Asked {
+            ticket: _,
+            durable: _,
+        } => None,
     }
 }
 
@@ -233,6 +241,10 @@ fn may_stand(
         }
         Entry::Decided(Decision::RollBack(txn)) => Ok(has_prepared(opening, made.as_slice(), *txn)),
         Entry::Decided(_) => Ok(true),
+        Entry::Asked {
+            ticket: _,
+            durable: _,
+        } => Ok(true),
     }
 }
 

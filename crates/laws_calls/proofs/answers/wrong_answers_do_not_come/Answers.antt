@@ -1,4 +1,4 @@
-use Rattle.laws_calls.proofs.WrongAnswers.{answer_after_failure, answer_in_no_txn, answer_unlocked, answer_while_waiting, begin_when_full, begin_without_room, commit_at_once, delete_of_none, delete_without_room, get_outside, get_that_changes, other_bytes, other_bytes_for_update, other_number, other_scan, second_begin, update_of_none, update_too_long, update_without_place, update_without_room}
+use Rattle.laws_calls.proofs.WrongAnswers.{answer_after_failure, answer_in_no_txn, answer_unlocked, answer_while_waiting, begin_when_full, begin_without_room, commit_told_other, commit_unlogged, delete_of_none, delete_without_room, get_outside, get_that_changes, other_bytes, other_bytes_for_update, other_number, other_scan, second_begin, update_of_none, update_too_long, update_without_place, update_without_room}
 use Rattle.laws_calls.proofs.answers.wrong_answers_do_not_come.Goals as goal
 
 pub returns-clause-other_bytes : goal.returns-clause-other_bytes
@@ -55,8 +55,11 @@ returns-clause-while_waiting d = answer_while_waiting
 pub returns-clause-after_failure : goal.returns-clause-after_failure
 returns-clause-after_failure d = answer_after_failure
 
-pub returns-clause-commit_at_once : goal.returns-clause-commit_at_once
-returns-clause-commit_at_once d = commit_at_once
+pub returns-clause-commit_told_other : goal.returns-clause-commit_told_other
+returns-clause-commit_told_other d = commit_told_other
+
+pub returns-clause-commit_unlogged : goal.returns-clause-commit_unlogged
+returns-clause-commit_unlogged d = commit_unlogged
 
 pub returns-clause-unlocked : goal.returns-clause-unlocked
 returns-clause-unlocked d = answer_unlocked

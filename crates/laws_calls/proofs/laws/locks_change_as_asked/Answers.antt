@@ -1,4 +1,4 @@
-use Rattle.laws_calls.proofs.AskedLocks.{abort_gone, call_changes, commit_keeps, prepare_leaves_locks, resume_changes, told_gone}
+use Rattle.laws_calls.proofs.AskedLocks.{abort_gone, call_changes, commit_gone, commit_keeps, prepare_leaves_locks, resume_changes}
 use Rattle.laws_calls.proofs.ResolveLocks.{resolve_gone, resolve_leaves_locks}
 use Rattle.laws_calls.proofs.WrongPrepares.{in_place_then}
 use Rattle.laws_calls.proofs.laws.locks_change_as_asked.Goals as goal
@@ -10,13 +10,13 @@ pub returns-clause-resumes : goal.returns-clause-resumes
 returns-clause-resumes d g o found es old new w step k h = resume_changes g o found es old k w step new h
 
 pub returns-clause-commit : goal.returns-clause-commit
-returns-clause-commit d g o found es old new session step k h = commit_keeps g o found es old k session step new h
+returns-clause-commit d g o found es old new session f k h = commit_keeps g o found es old k session f new h
 
 pub returns-clause-told_abort : goal.returns-clause-told_abort
 returns-clause-told_abort d g o found es old new session answer k h = abort_gone g o found es old k session answer new h
 
-pub returns-clause-told : goal.returns-clause-told
-returns-clause-told d g o found es old new w n k is h = told_gone g o found es old k w n new is h
+pub returns-clause-told_commit : goal.returns-clause-told_commit
+returns-clause-told_commit d g o found es old new session answer k h = commit_gone g o found es old k session answer new h
 
 pub returns-clause-told_prepare : goal.returns-clause-told_prepare
 returns-clause-told_prepare d g old new w n is h = prepare_leaves_locks g old w n new is h

@@ -15,13 +15,13 @@ pub returns-clause-in_place : goal.returns-clause-in_place
 returns-clause-in_place d o found es s k none = all_told o found es s k none
 
 pub returns-clause-call : goal.returns-clause-call
-returns-clause-call d g o found es old new session c step k h other = session_call_tells_none o found es old k g session c step new h other
+returns-clause-call d g o found es old new session c step k h no_commit other = session_call_tells_none o found es old k g session c step new h no_commit other
 
 pub returns-clause-resume : goal.returns-clause-resume
 returns-clause-resume d g o found es old new session step k h = resume_tells_none o found es old k g session step new h
 
 pub returns-clause-commit : goal.returns-clause-commit
-returns-clause-commit d g o found es old new session n k h = call_tells o found es old k g session n new h
+returns-clause-commit d g o found es old new session answer k h = call_tells o found es old k g session answer new h
 
 pub returns-clause-own : goal.returns-clause-own
 returns-clause-own d o found es s a id k mem whole some = own_in_place o found es s k a mem whole id some

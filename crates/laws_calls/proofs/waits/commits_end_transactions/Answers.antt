@@ -1,8 +1,8 @@
-use Rattle.laws_calls.proofs.AnswersDone.{answered_in_none, waits_under_way}
+use Rattle.laws_calls.proofs.AnswersDone.{answered_in_none, under_way_no_more}
 use Rattle.laws_calls.proofs.waits.commits_end_transactions.Goals as goal
 
-pub returns-clause-waits : goal.returns-clause-waits
-returns-clause-waits d g o found es s new session wait a k h mem = waits_under_way g o found es s new k session wait h a mem
+pub returns-clause-gone : goal.returns-clause-gone
+returns-clause-gone d g o found es s new session a answer k of h among = under_way_no_more g o found es s new k session answer h a of among
 
 pub returns-clause-answered : goal.returns-clause-answered
-returns-clause-answered d g o found es s new session a answer k mem of h = answered_in_none g o found es s new k session a mem of answer h
+returns-clause-answered d g o found es s new session answer k h = answered_in_none g o found es s new k session answer h

@@ -1,4 +1,4 @@
-use Rattle.laws_calls.proofs.WrongResumes.{changed_though_waiting, commit_refused, done_though_not_durable, done_though_waiting, nothing_though_waiting, refused_though_waiting, resumes_after_failure, resumes_none, waits_for_other, waits_though_durable, waits_though_granted}
+use Rattle.laws_calls.proofs.WrongResumes.{changed_though_waiting, decision_refused, done_though_not_durable, done_though_waiting, nothing_though_waiting, refused_though_waiting, resumes_after_failure, resumes_none, waits_for_other, waits_though_durable, waits_though_granted}
 use Rattle.laws_calls.proofs.waits.wrong_resumes_do_not_come.Goals as goal
 
 pub returns-clause-of_none : goal.returns-clause-of_none
@@ -16,8 +16,8 @@ returns-clause-done_though_not_durable d = done_though_not_durable
 pub returns-clause-waits_though_durable : goal.returns-clause-waits_though_durable
 returns-clause-waits_though_durable d = waits_though_durable
 
-pub returns-clause-commit_refused : goal.returns-clause-commit_refused
-returns-clause-commit_refused d = commit_refused
+pub returns-clause-decision_refused : goal.returns-clause-decision_refused
+returns-clause-decision_refused d = decision_refused
 
 pub returns-clause-waits_for_other : goal.returns-clause-waits_for_other
 returns-clause-waits_for_other d = waits_for_other

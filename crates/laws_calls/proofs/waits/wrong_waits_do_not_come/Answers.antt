@@ -1,11 +1,8 @@
-use Rattle.laws_calls.proofs.WrongWaits.{append_unlogged, begin_waits, prepare_for_other_record, prepare_unlogged, resolve_for_other_record, resolve_unlogged, try_waits, waits_after_failure, waits_for_no_decision, waits_for_other_record, waits_in_no_txn, waits_there, waits_though_free, waits_twice}
+use Rattle.laws_calls.proofs.WrongWaits.{begin_waits, commit_waits, prepare_for_other_record, prepare_unlogged, resolve_for_other_record, resolve_unlogged, try_waits, waits_after_failure, waits_for_no_decision, waits_in_no_txn, waits_there, waits_though_free, waits_twice}
 use Rattle.laws_calls.proofs.waits.wrong_waits_do_not_come.Goals as goal
 
-pub returns-clause-for_other_record : goal.returns-clause-for_other_record
-returns-clause-for_other_record d = waits_for_other_record
-
-pub returns-clause-unlogged : goal.returns-clause-unlogged
-returns-clause-unlogged d = append_unlogged
+pub returns-clause-of_a_commit : goal.returns-clause-of_a_commit
+returns-clause-of_a_commit d = commit_waits
 
 pub returns-clause-prepare_for_other_record : goal.returns-clause-prepare_for_other_record
 returns-clause-prepare_for_other_record d = prepare_for_other_record

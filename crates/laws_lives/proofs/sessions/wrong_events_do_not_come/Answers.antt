@@ -27,7 +27,7 @@ pub returns-clause-lock_of_nobody : goal.returns-clause-lock_of_nobody
 returns-clause-lock_of_nobody c s new h held among beyond step = lock_of_nobody s new h held among beyond step
 
 pub returns-clause-commit_in_rollback : goal.returns-clause-commit_in_rollback
-returns-clause-commit_in_rollback c s new a rolls step = commit_in_rollback s new a rolls step
+returns-clause-commit_in_rollback c s new a ticket rolls step = commit_in_rollback s new a ticket rolls step
 
 pub returns-clause-get_in_rollback : goal.returns-clause-get_in_rollback
 returns-clause-get_in_rollback c s new a id reply rolls step = get_in_rollback s new a id reply rolls step
@@ -45,13 +45,13 @@ pub returns-clause-before_savepoint : goal.returns-clause-before_savepoint
 returns-clause-before_savepoint c s new a kept e n less step = before_savepoint s new a kept e n less step
 
 pub returns-clause-commit_of_doomed : goal.returns-clause-commit_of_doomed
-returns-clause-commit_of_doomed c s mid new a b doom same step = commit_of_doomed s mid a b doom new same step
+returns-clause-commit_of_doomed c s mid new a b ticket doom same step = commit_of_doomed s mid a b doom new ticket same step
 
 pub returns-clause-doom_of_another : goal.returns-clause-doom_of_another
 returns-clause-doom_of_another c s new a other step = doom_of_another s new a other step
 
 pub returns-clause-commit_of_doubtful : goal.returns-clause-commit_of_doubtful
-returns-clause-commit_of_doubtful c s new a among step = commit_of_doubtful s new a among step
+returns-clause-commit_of_doubtful c s new a ticket among step = commit_of_doubtful s new a ticket among step
 
 pub returns-clause-undo_of_doubtful : goal.returns-clause-undo_of_doubtful
 returns-clause-undo_of_doubtful c s new a kept e r among step = undo_of_doubtful s new a kept e r among step

@@ -1,7 +1,7 @@
-use Rattle.std.proofs.Common.{◌≡◌, ◌++◌, drop}
-use Rattle.std.specs.List.{filter_map}
-use Rattle.shore_model.specs.Histories.{acknowledged_by}
+use Rattle.std.proofs.Common.{◌≡◌, ◌++◌, drop, take}
+use Rattle.shore_model.specs.Histories as histories
+use Rattle.shore_model.specs.Histories.{acknowledged_after}
 use Rattle.slow_histories.proofs.decisions.acknowledged.Given as goal
 
-abbrev pub invariant-loop-entry : goal.invariant-loop-entry
-invariant-loop-entry l = l.found ++ filter_map acknowledged_by (drop l.entry-index l.entries) ≡ filter_map acknowledged_by l.entries
+abbrev pub invariant-loop-index : goal.invariant-loop-index
+invariant-loop-index l = l.found ++ acknowledged_after (take l.index l.entries) (drop l.index l.entries) ≡ histories.acknowledged l.entries

@@ -15,17 +15,57 @@ use std::alloc::{AllocError, Global};
 // just these decisions, `shown:` which records they come to, and `in doubt:` whom they leave in doubt.
 const HISTORIES: &str = "
 run: commit_survives_crash
-1 1 begin -> began 1; 1 1 insert 0 aa -> at 0.0.0; decided commit 1; 1 1 commit -> committed
+1 1 begin -> began 1; 1 1 insert 0 aa -> at 0.0.0; decided commit 1; 1 1 commit -> ticket 2; asked 2 yes
 sound:
 kept: commit 1
 shown: commit 1 = 0.0.0 aa
 lost:
 shown:
 
+run: lazy_commit
+# Nothing is acknowledged by a ticket alone, nor by an ask of another number. The reader's commit is never kept without the writer's.
+1 1 begin -> began 1; 1 1 insert 0 aa -> at 0.0.0; decided commit 1; 1 1 commit -> ticket 2
+2 2 begin -> began 2; 2 2 get 0.0.0 -> got aa; decided commit 2; 2 2 commit -> ticket 3; asked 2 no; asked 1 yes; asked 9 yes
+sound:
+kept:
+kept: commit 1
+kept: commit 1; commit 2
+lost: commit 2
+asked 2 yes
+sound:
+lost:
+kept: commit 1
+kept: commit 1; commit 2
+asked 3 yes
+lost: commit 1
+kept: commit 1; commit 2
+
+run: an_ask_before_its_commit
+1 1 begin -> began 1; asked 1 yes; decided commit 1; 1 1 commit -> ticket 1
+kept:
+kept: commit 1
+
+run: locks_go_before_the_record
+# Who reads what another has written commits first.
+1 1 begin -> began 1; 1 1 insert 0 aa -> at 0.0.0; 2 2 begin -> began 2; 2 2 get 0.0.0 -> got aa
+unsound: decided commit 2; 2 2 commit -> ticket 2; decided commit 1; 1 1 commit -> ticket 3
+sound: decided commit 1; 1 1 commit -> ticket 2; decided commit 2; 2 2 commit -> ticket 3
+
+run: a_reader_s_commit_has_no_record
+1 1 begin -> began 1; 1 1 commit -> ticket 1; asked 1 yes
+lost:
+lost: commit 1
+
+run: a_committed_transaction_is_left
+1 1 begin -> began 1; decided commit 1; 1 1 commit -> ticket 1
+sound: 1 0 get 0.0.0 -> refused NoTransaction
+no history: 1 1 get 0.0.0 -> refused NoRecord
+no history: 1 1 commit -> ticket 2
+
 run: failed_force
 # The force of the second commit failed: after the crash its record is there or not. What was acknowledged is kept.
-1 1 begin -> began 1; 1 1 insert 0 aa -> at 0.0.0; decided commit 1; 1 1 commit -> committed
-1 2 begin -> began 2; 1 2 insert 0 bb -> at 0.0.1; decided commit 2; 1 2 commit -> refused Device; 1 2 begin -> refused Failed
+1 1 begin -> began 1; 1 1 insert 0 aa -> at 0.0.0; decided commit 1; 1 1 commit -> ticket 2; asked 2 yes
+1 2 begin -> began 2; 1 2 insert 0 bb -> at 0.0.1; decided commit 2; 1 2 commit -> ticket 4; 1 0 begin -> refused Failed; asked 4 no
 sound:
 kept: commit 1; commit 2
 shown: commit 1; commit 2 = 0.0.0 aa 0.0.1 bb
@@ -45,7 +85,7 @@ lost: commit 2; commit 1
 lost: commit 1; commit 2; commit 2
 
 run: waiter_gets_the_old_bytes
-1 1 begin -> began 1; 1 1 insert 0 aa -> at 0.0.0; decided commit 1; 1 1 commit -> committed
+1 1 begin -> began 1; 1 1 insert 0 aa -> at 0.0.0; decided commit 1; 1 1 commit -> ticket 2
 1 2 begin -> began 2; 1 2 update 0.0.0 bb -> updated; 2 3 begin -> began 3; 1 2 abort -> aborted
 sound: 2 3 get 0.0.0 -> got aa; decided commit 3
 unsound: 2 3 get 0.0.0 -> got bb; decided commit 3
@@ -53,17 +93,17 @@ unsound: 2 3 get 0.0.0 -> got bb; decided commit 3
 run: rollback_to_a_savepoint
 1 1 begin -> began 1; 1 1 insert 0 aa -> at 0.0.0; 1 1 savepoint -> saved 0; 1 1 update 0.0.0 bb -> updated
 1 1 delete 0.0.0 -> deleted; 1 1 get 0.0.0 -> refused NoRecord; 1 1 back 1 -> refused NoSavepoint; 1 1 back 0 -> went_back
-1 1 get 0.0.0 -> got aa; decided commit 1; 1 1 commit -> committed
+1 1 get 0.0.0 -> got aa; decided commit 1; 1 1 commit -> ticket 6
 sound:
 shown: commit 1 = 0.0.0 aa
 
 run: answer_at_the_prepare
 # Transaction 2 gets a record and prepares; then 3 updates it and commits. The answer is right at the prepare, no longer at the commit.
-1 1 begin -> began 1; 1 1 insert 0 aa -> at 0.0.0; decided commit 1; 1 1 commit -> committed; 1 2 begin -> began 2
+1 1 begin -> began 1; 1 1 insert 0 aa -> at 0.0.0; decided commit 1; 1 1 commit -> ticket 2; 1 2 begin -> began 2
 unsound: 1 2 get 0.0.0 -> got dd; decided prepare 2 g3; \
     2 3 begin -> began 3; 2 3 update 0.0.0 dd -> updated; decided commit 3; decided commit 2
 1 2 get 0.0.0 -> got aa; 1 2 insert 0 cc -> at 0.0.1; decided prepare 2 g3; 1 2 prepare g3 -> prepared
-2 3 begin -> began 3; 2 3 update 0.0.0 dd -> updated; decided commit 3; 2 3 commit -> committed
+2 3 begin -> began 3; 2 3 update 0.0.0 dd -> updated; decided commit 3; 2 3 commit -> ticket 6
 decided commit 2; 3 2 resolve commit g3 -> resolved
 sound:
 kept: commit 1; prepare 2 g3; commit 3; commit 2
@@ -87,8 +127,8 @@ run: prepared_is_resolved
 # After the crash another session resolves it while transaction 2 waits, which then gets what it wrote.
 doubt: 1 0.0.0 g1 aa
 2 2 begin -> began 2
-unsound: 2 2 get 0.0.0 -> got aa; decided commit 2; 2 2 commit -> committed; decided roll_back 1
-decided commit 1; 3 1 resolve commit g1 -> resolved; 2 2 get 0.0.0 -> got aa; decided commit 2; 2 2 commit -> committed
+unsound: 2 2 get 0.0.0 -> got aa; decided commit 2; 2 2 commit -> ticket 3; decided roll_back 1
+decided commit 1; 3 1 resolve commit g1 -> resolved; 2 2 get 0.0.0 -> got aa; decided commit 2; 2 2 commit -> ticket 4
 sound:
 lost:
 shown: = 0.0.0 aa
@@ -157,8 +197,8 @@ unsound: 1 1 savepoint -> saved 2; decided commit 1
 unsound: 1 1 back 1 -> went_back; decided commit 1
 
 run: commits_count_in_their_order
-1 1 begin -> began 1; 1 1 insert 0 aa -> at 0.0.0; 1 1 update 0.0.0 bb -> updated; decided commit 1; 1 1 commit -> committed
-1 2 begin -> began 2; 1 2 update 0.0.0 cc -> updated; decided commit 2; 1 2 commit -> committed
+1 1 begin -> began 1; 1 1 insert 0 aa -> at 0.0.0; 1 1 update 0.0.0 bb -> updated; decided commit 1; 1 1 commit -> ticket 3
+1 2 begin -> began 2; 1 2 update 0.0.0 cc -> updated; decided commit 2; 1 2 commit -> ticket 5
 sound:
 shown: commit 1; commit 2 = 0.0.0 cc
 shown: commit 2; commit 1 = 0.0.0 bb
@@ -168,14 +208,14 @@ run: a_prepare_lays_nothing
 2 2 begin -> began 2
 sound: 2 2 get 0.0.0 -> refused NoRecord; decided commit 2
 unsound: 2 2 get 0.0.0 -> got aa; decided commit 2
-2 2 insert 0 bb -> at 0.0.0; decided commit 2; 2 2 commit -> committed
+2 2 insert 0 bb -> at 0.0.0; decided commit 2; 2 2 commit -> ticket 4
 shown: prepare 1 g1; roll_back 1 =
 shown: prepare 1 g1; commit 2; commit 1 = 0.0.0 aa
 
 run: calls_belong_to_their_sessions
 doubt: 1 0.0.0 g1 aa
 no history: 1 1 begin -> began 1
-1 2 begin -> began 2; decided commit 2; 1 2 commit -> committed; 1 0 savepoint -> refused NoTransaction
+1 2 begin -> began 2; decided commit 2; 1 2 commit -> ticket 3; 1 0 savepoint -> refused NoTransaction
 sound:
 no history: 1 2 get 0.0.0 -> got bb
 

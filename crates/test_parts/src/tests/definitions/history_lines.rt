@@ -1,15 +1,19 @@
 //! Entries of a history as words. A decision is `decided` and what was decided; a call is its session, its transaction, what
-//! was asked, and the reply.
+//! was asked, and the reply; an ask is `asked`, its ticket, and `yes` or `no`.
 use super::steps::Step;
 use super::words::Words;
 use shore_model::{Answer, Call, Decision, Entry, Exchange, InDoubt, Outcome, RidMap};
-use shore_types::{Fault, Pairs, SessionId, StoreId};
+use shore_types::{Fault, Lsn, Pairs, SessionId, StoreId, Ticket};
 use std::alloc::Global;
 
 impl Step for Entry {
     fn read(alloc: Global, words: &mut Words) -> Entry {
         match words.word() {
             "decided" => Entry::Decided(Decision::read(alloc, words)),
+            "asked" => Entry::Asked {
+                ticket: ticket(words),
+                durable: is_yes(words),
+            },
             session => Entry::Exchanged {
                 session: SessionId(words.short_number_of(session)),
                 txn: words.txn(),
@@ -104,6 +108,7 @@ fn answer(alloc: Global, kind: &str, words: &mut Words) -> Answer {
         "at" => Answer::Inserted(words.rid()),
         "scanned" => Answer::Scanned(records(alloc, words)),
         "saved" => Answer::Saved(words.short_number() as usize),
+        "ticket" => Answer::Committed(ticket(words)),
         _ => plain_answer(kind, words),
     }
 }
@@ -113,11 +118,22 @@ fn plain_answer(kind: &str, words: &mut Words) -> Answer {
         "updated" => Answer::Updated,
         "deleted" => Answer::Deleted,
         "went_back" => Answer::WentBack,
-        "committed" => Answer::Committed,
         "aborted" => Answer::Aborted,
         "prepared" => Answer::Prepared,
         "resolved" => Answer::Resolved,
         _ => words.refused(Answer::Updated),
+    }
+}
+
+fn ticket(words: &mut Words) -> Ticket {
+    Ticket::of(Lsn(words.number()))
+}
+
+fn is_yes(words: &mut Words) -> bool {
+    match words.word() {
+        "yes" => true,
+        "no" => false,
+        _ => words.refused(false),
     }
 }
 

@@ -1,6 +1,6 @@
 use Rattle.std.proofs.Common.{sym, subst}
 use Rattle.shore_analysis.specs.Losers.{AreEntriesOfLosers}
-use Rattle.shore_analysis.proofs.InTurn.{entry_of_one, next_to_undo, no_losers, none_left}
+use Rattle.shore_analysis.proofs.InTurn.{entry_of_one, next_to_undo}
 use Rattle.shore_analysis.proofs.losers.Losers.next_record.Goals as goal
 
 pub returns-clause-loser : goal.returns-clause-loser
@@ -19,8 +19,3 @@ returns-clause-undoes c g turns log meant undone h =
     let entry = entry_of_one log c.as_slice.result.now c.in-Some.loser held.each c.in-Some.ensures.some in
     let says = c.in_ok-payload.ensures g turns log c.in-Some.loser.txn meant undone entry.undo_next in
     λ i. record { txn = c.in-Some.loser.txn; previous = entry.last i; payload = says i }
-
-pub returns-in_default-clause-done : goal.returns-in_default-clause-done
-returns-in_default-clause-done c log lawful h =
-    let held = subst (AreEntriesOfLosers log) (sym c.as_slice.ensures.value) h in
-    no_losers log lawful (none_left log c.as_slice.result.now c.in_default.ensures.none held)
