@@ -1,0 +1,10 @@
+pub mod KeptLogs
+pub mod KeptTables
+pub mod MeantBehind
+pub mod Checkpoints
+pub mod RecoveryNumbers
+pub mod CheckpointedStores
+pub mod StoresInOrder
+pub mod KeptRestarts
+pub mod RingRooms
+pub mod WorkedCheckpoint
