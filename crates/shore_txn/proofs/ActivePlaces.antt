@@ -10,7 +10,7 @@ use Rattle.laws_room.specs.LogRooms.{compensation_costs, owed_by_all}
 use Rattle.shore_txn.specs.ActiveTxns as active
 use Rattle.shore_txn.specs.ActiveTxns.{IsPlace, all_changes, changes_to, entries_if, own_place, places_if, txn_index, undos_of}
 use Rattle.shore_txn.specs.Chains.{IsOfBucket, bucket_of, newest_in}
-use Rattle.shore_txn.specs.Places.{buckets_if}
+use Rattle.shore_txn.specs.Places.{buckets_in}
 use Rattle.shore_txn.specs.Txns.{as_session_txn, entries_of}
 use Rattle.shore_txn.specs.UndoEntries.{claims_on, images_of}
 use Rattle.shore_txn.specs.declared.active.ActiveTxn.{ActiveTxn}
@@ -29,9 +29,9 @@ count_costs : (es : List UndoEntry) → length es ≤ compensation_costs (images
 count_costs [] = omega arith
 count_costs (e ∷ es) = let rest = count_costs es in omega (arith, rest)
 
-pub few_changes : {items : List ActiveTxn} {index : ℕ} {a : ActiveTxn} → IsAt items index a → length (buckets_if a.chains) ≤ owed_by_all (undos_of items)
+pub few_changes : {items : List ActiveTxn} {index : ℕ} {a : ActiveTxn} → IsAt items index a → length (buckets_in a.chains) ≤ owed_by_all (undos_of items)
 few_changes {items} {index} {a} at =
-    let long : length (buckets_if a.chains) ≡ length (entries_of a.txn) = ap length a.chained ∙ length-map (entries_of a.txn) (λ (e : UndoEntry). bucket_of e.id.page) in
+    let long : length (buckets_in a.chains) ≡ length (entries_of a.txn) = ap length a.chained ∙ length-map (entries_of a.txn) (λ (e : UndoEntry). bucket_of e.id.page) in
     let least = owed_among (as_session_txn a.txn) (undos_of items) (session_txn_there at) in
     let costs = count_costs (entries_of a.txn) in
     omega (arith, long, least, costs)
@@ -71,7 +71,7 @@ module _ (p : PageId) (items : List ActiveTxn) where
       own_is : own_place (index * OWN_PLACES + own) ≡ own
       own_is = mod-mul-add index OWN_PLACES own less
 
-      pub place_of : 1 ≤ own → IsOfBucket (buckets_if a.chains) (bucket_of p) own → IsPlace items (bucket_of p) (index * OWN_PLACES + own)
+      pub place_of : 1 ≤ own → IsOfBucket (buckets_in a.chains) (bucket_of p) own → IsPlace items (bucket_of p) (index * OWN_PLACES + own)
       place_of some is = record {
         some = λ none. absurd (omega (arith, some, none, own_is));
         chain =
@@ -88,12 +88,12 @@ module _ (p : PageId) (items : List ActiveTxn) where
           ∙ claims_append p (all_changes (active.txns_of (take index items))) (take own (entries_of a.txn))
 
     -- the newest place of its chain
-    module _ (newest : ℕ) (is : newest ≡ newest_in (bucket_of p) (buckets_if a.chains)) where
+    module _ (newest : ℕ) (is : newest ≡ newest_in (bucket_of p) (buckets_in a.chains)) where
       newest_has : claims_on p (take newest (entries_of a.txn)) ≡ claims_on p (entries_of a.txn)
-      newest_has = ap (λ n. claims_on p (take n (entries_of a.txn))) is ∙ newest_tells p (entries_of a.txn) (buckets_if a.chains) a.chained
+      newest_has = ap (λ n. claims_on p (take n (entries_of a.txn))) is ∙ newest_tells p (entries_of a.txn) (buckets_in a.chains) a.chained
 
       pub newest_few : newest ≤ owed_by_all (undos_of items)
-      newest_few = omega (arith, is, newest_within (buckets_if a.chains) (bucket_of p), few_changes at)
+      newest_few = omega (arith, is, newest_within (buckets_in a.chains) (bucket_of p), few_changes at)
 
       -- .. if it has none, the older ones tell all
       pub none_more : newest ≡ 0 → older_claims (suc index) ≡ older_claims index
@@ -104,7 +104,7 @@ module _ (p : PageId) (items : List ActiveTxn) where
           → IsPlace items (bucket_of p) (index * OWN_PLACES + newest) × (claims_on p (changes_to items (txn_index (index * OWN_PLACES + newest)) (own_place (index * OWN_PLACES + newest))) ≡ older_claims (suc index))
       newest_place some few =
           let less : newest < OWN_PLACES = omega (arith, newest_few, few) in (
-            place_of newest less some (subst (IsOfBucket (buckets_if a.chains) (bucket_of p)) (sym is) (newest_is (buckets_if a.chains) (bucket_of p))),
+            place_of newest less some (subst (IsOfBucket (buckets_in a.chains) (bucket_of p)) (sym is) (newest_is (buckets_in a.chains) (bucket_of p))),
             place_has newest less ∙ ap (λ l. older_claims index ++ l) newest_has ∙ sym one_more,
           )
 
@@ -120,12 +120,12 @@ pub record NewestRead (p : PageId) (items : List ActiveTxn) (count index newest 
 
 pub newest_read : (table : Transactions) (p : PageId) (count index newest : ℕ) (read : ActiveTxn) → count ≤ length table.active.items → 1 ≤ index
     → (index ≤ count) × (older_claims p table.active.items index ≡ older_claims p table.active.items count)
-    → read ≡ get_or table.active.items (index - 1) read → newest ≡ newest_in (bucket_of p) (buckets_if read.chains) → NewestRead p table.active.items count index newest
+    → read ≡ get_or table.active.items (index - 1) read → newest ≡ newest_in (bucket_of p) (buckets_in read.chains) → NewestRead p table.active.items count index newest
 newest_read table p count index newest read inside some (within, behind) at is =
     let items = table.active.items in
     let few = owed_few table in
     let one = one_at items (index - 1) (omega (arith, some, within, inside)) in
-    let its : newest ≡ newest_in (bucket_of p) (buckets_if one.0.chains) = is ∙ ap (λ (a : ActiveTxn). newest_in (bucket_of p) (buckets_if a.chains)) (at ∙ read_at one.1 read) in
+    let its : newest ≡ newest_in (bucket_of p) (buckets_in one.0.chains) = is ∙ ap (λ (a : ActiveTxn). newest_in (bucket_of p) (buckets_in a.chains)) (at ∙ read_at one.1 read) in
     let low = newest_few p items one.1 newest its in
     let next : suc (index - 1) ≡ index = omega (arith, some) in
     let all : older_claims p items (suc (index - 1)) ≡ older_claims p items count = ap (older_claims p items) next ∙ behind in record {
@@ -138,7 +138,7 @@ newest_read table p count index newest read inside some (within, behind) at is =
 
 -- ---- from a place to the next older one
 
-owner : (o : Option ActiveTxn) (bucket own : ℕ) → 1 ≤ own → IsOfBucket (places_if o) bucket own → (a : ActiveTxn) × (o ≡ Some a) × IsOfBucket (buckets_if a.chains) bucket own
+owner : (o : Option ActiveTxn) (bucket own : ℕ) → 1 ≤ own → IsOfBucket (places_if o) bucket own → (a : ActiveTxn) × (o ≡ Some a) × IsOfBucket (buckets_in a.chains) bucket own
 owner None bucket zero some is = absurd (omega (arith, some))
 owner None bucket (suc k) some is = absurd (apart is)
   where
@@ -156,7 +156,7 @@ pub record PlaceRead (p : PageId) (items : List ActiveTxn) (place older : ℕ) (
   pub last : older ≡ 0 → claims_on p (changes_to items (txn_index place) (own_place place)) ≡ older_claims p items (txn_index place) ++ option_to_list claim
 
 pub place_read : (p : PageId) (items : List ActiveTxn) (place older : ℕ) (claim : Option (ℕ × ℕ)) (read : ActiveTxn) → 1 ≤ place → IsPlace items (bucket_of p) place → read ≡ get_or items (txn_index place) read
-    → older ≡ newest_in (get_or (buckets_if read.chains) (own_place place - 1) 0) (take (own_place place - 1) (buckets_if read.chains))
+    → older ≡ newest_in (get_or (buckets_in read.chains) (own_place place - 1) 0) (take (own_place place - 1) (buckets_in read.chains))
     → ((e : UndoEntry) → slice_get (entries_of read.txn) (own_place place - 1) ≡ Some e → option_to_list claim ≡ claims_on p (e ∷ [])) → PlaceRead p items place older claim
 place_read p items place older claim read some is at leads told =
     let index = txn_index place in
@@ -167,8 +167,8 @@ place_read p items place older claim read some is at leads told =
     let its = owner (slice_get items index) (bucket_of p) own own_some is.chain in
     let one = is_at items index its.0 its.1 in
     let same : read ≡ its.0 = at ∙ read_at one read in
-    let tells = subst (λ (a : ActiveTxn). Tells p (entries_of a.txn) (buckets_if a.chains) own older claim) same
-    (place_tells p (entries_of read.txn) (buckets_if read.chains) read.chained own older claim own_some (subst (λ (a : ActiveTxn). IsOfBucket (buckets_if a.chains) (bucket_of p) own) (sym same) its.2) leads told) in
+    let tells = subst (λ (a : ActiveTxn). Tells p (entries_of a.txn) (buckets_in a.chains) own older claim) same
+    (place_tells p (entries_of read.txn) (buckets_in read.chains) read.chained own older claim own_some (subst (λ (a : ActiveTxn). IsOfBucket (buckets_in a.chains) (bucket_of p) own) (sym same) its.2) leads told) in
     let has : claims_on p (changes_to items index own) ≡ older_claims p items index ++ claims_on p (take own (entries_of its.0.txn)) =
     ap (λ o. claims_on p (all_changes (active.txns_of (take index items)) ++ take own (entries_if o))) its.1
     ∙ claims_append p (all_changes (active.txns_of (take index items))) (take own (entries_of its.0.txn)) in

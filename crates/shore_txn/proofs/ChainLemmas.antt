@@ -1,14 +1,14 @@
 -- Chains of places: one place more, and what a step to an older one passes.
-use Rattle.std.proofs.Common.{◌≡◌, ◌<◌, ◌≤◌, ◌+◌, ◌++◌, ℕ, zero, suc, Bool, true, false, List, [], ◌∷◌, Some, length, replicate, take, get_or, set, refl, sym, ap, subst, ◌∙◌, inl, inr, arith, below_more}
+use Rattle.std.proofs.Common.{◌≡◌, ◌<◌, ◌≤◌, ◌+◌, ◌-◌, ◌++◌, ℕ, zero, suc, Bool, true, false, List, [], ◌∷◌, Some, length, replicate, take, get_or, set, refl, sym, ap, subst, ◌∙◌, inl, inr, arith, below_more}
 use Rattle.std.specs.Prelude.{◌==◌}
 use Rattle.std.proofs.Math.ListN.{get_or-append}
 use Rattle.std.proofs.Math.Seq.{get_or-append_seam, take-append_seam}
 use Rattle.std.proofs.lemmas.Bool.{cases_eq}
 use Rattle.std.proofs.lemmas.Bool.Decides.{Decides-eqb}
-use Rattle.std.proofs.lemmas.List.{get_or-replicate, length-replicate, length-map, length-set, length_push, map-append, get_or-set_same, get_or-set_other, take-append-le}
+use Rattle.std.proofs.lemmas.List.{get_or-replicate, length-replicate, length-map, length-set, length_push, map-append, get_or-set_same, get_or-set_other, map_more, length-take-le, take-append-le}
 use Rattle.shore_txn.specs.declared.chains.Link.{Link}
-use Rattle.shore_txn.specs.declared.chains.TheConstants.{BUCKETS}
-use Rattle.shore_txn.specs.Chains.{IsChained, IsLink, IsOfBucket, buckets_of, link_at, newest_in, place_behind}
+use Rattle.shore_txn.specs.declared.chains.TheConstants.{BUCKETS, FEW}
+use Rattle.shore_txn.specs.Chains.{AreHeads, IsChained, IsLink, IsOfBucket, buckets_of, link_at, newest_in, place_behind}
 
 -- a test of two numbers that are one, and of two that are not
 same_test : (a b : ℕ) → a ≡ b → (a == b) ≡ true
@@ -54,9 +54,38 @@ newest_is (x ∷ buckets) b = each (x == b) (Decides-eqb x b).0 (newest_in b buc
     each true same (suc later) is = is
     each false same (suc later) is = is
 
+-- ---- the heads
+
+pub no_heads : AreHeads [] (replicate BUCKETS 0)
+no_heads = record { count = length-replicate {A = ℕ} BUCKETS 0; newest = λ b below. get_or-replicate {A = ℕ} BUCKETS b 0 0 below }
+
+module _ (buckets heads : List ℕ) (bucket : ℕ) (are : AreHeads buckets heads) (inside : bucket < BUCKETS) where
+  newest_more : (b : ℕ) → b < BUCKETS → get_or (set heads bucket (length buckets + 1)) b 0 ≡ newest_in b (buckets ++ bucket ∷ [])
+  newest_more b below = elim (cases_eq bucket b) [
+    | inl same ↦ subst (λ (n : ℕ). get_or (set heads bucket (length buckets + 1)) n 0 ≡ newest_in n (buckets ++ bucket ∷ [])) same
+        (get_or-set_same heads bucket (length buckets + 1) 0 (let c = are.count in omega (arith, c, inside)) ∙ sym (newest_push buckets bucket))
+    | inr apart ↦ get_or-set_other heads bucket b (length buckets + 1) 0 (λ is. apart (sym is)) ∙ are.newest b below ∙ sym (newest_other buckets b bucket apart)
+  ]
+
+  -- .. behind one place more
+  pub heads_more : AreHeads (buckets ++ bucket ∷ []) (set heads bucket (length buckets + 1))
+  heads_more = record { count = length-set heads bucket (length buckets + 1) ∙ are.count; newest = newest_more }
+
+module _ (buckets heads : List ℕ) (bucket older : ℕ) (are : AreHeads (buckets ++ bucket ∷ []) heads) (inside : bucket < BUCKETS) (leads : older ≡ newest_in bucket buckets) where
+  newest_less : (b : ℕ) → b < BUCKETS → get_or (set heads bucket older) b 0 ≡ newest_in b buckets
+  newest_less b below = elim (cases_eq bucket b) [
+    | inl same ↦ subst (λ (n : ℕ). get_or (set heads bucket older) n 0 ≡ newest_in n buckets) same
+        (get_or-set_same heads bucket older 0 (let c = are.count in omega (arith, c, inside)) ∙ leads)
+    | inr apart ↦ get_or-set_other heads bucket b older 0 (λ is. apart (sym is)) ∙ are.newest b below ∙ newest_other buckets b bucket apart
+  ]
+
+  -- .. once the newest place is gone
+  heads_less : AreHeads buckets (set heads bucket older)
+  heads_less = record { count = length-set heads bucket older ∙ are.count; newest = newest_less }
+
 -- ---- one place more
 
-module _ (links : List Link) (heads : List ℕ) (link : Link) (chained : IsChained links heads) (inside : link.bucket < BUCKETS) (leads : link.older ≡ get_or heads link.bucket 0) where
+module _ (links : List Link) (heads : List ℕ) (link : Link) (chained : IsChained links heads) (room : length heads ≡ 0 → length links < FEW) (inside : link.bucket < BUCKETS) (leads : link.older ≡ newest_in link.bucket (buckets_of links)) where
   abbrev longer : List Link
   longer = links ++ link ∷ []
 
@@ -69,24 +98,27 @@ module _ (links : List Link) (heads : List ℕ) (link : Link) (chained : IsChain
   count : length (buckets_of links) ≡ length links
   count = length-map links (λ (l : Link). l.bucket)
 
-  newest_more : (b : ℕ) → b < BUCKETS → get_or (set heads link.bucket (length longer)) b 0 ≡ newest_in b (buckets_of longer)
-  newest_more b below = elim (cases_eq link.bucket b) [
-    | inl same ↦ subst (λ (n : ℕ). get_or (set heads link.bucket (length longer)) n 0 ≡ newest_in n (buckets_of longer)) same
-        (get_or-set_same heads link.bucket (length longer) 0 (let c = chained.count in omega (arith, c, inside)) ∙ length_push links link ∙ ap (λ n. n + 1) (sym count) ∙ sym (ap (newest_in link.bucket) buckets_more ∙ newest_push (buckets_of links) link.bucket))
-    | inr apart ↦ get_or-set_other heads link.bucket b (length longer) 0 (λ is. apart (sym is)) ∙ chained.newest b below ∙ sym (ap (newest_in b) buckets_more ∙ newest_other (buckets_of links) b link.bucket apart)
-  ]
-
   older_more : (k : ℕ) → k < length longer → IsLink (take k (buckets_of longer)) (link_at longer k)
   older_more k below = below_more (λ k. IsLink (take k (buckets_of longer)) (link_at longer k)) (length links)
       (λ k less. subst (λ (l : Link). IsLink (take k (buckets_of longer)) l) (sym (get_or-append links (link ∷ []) no_link k less))
       (subst (λ (bs : List ℕ). IsLink bs (link_at links k)) (sym (ap (take k) buckets_more ∙ take-append-le k (buckets_of links) (link.bucket ∷ []) (omega (arith, less, count)))) (chained.older k less)))
       (subst (λ (l : Link). IsLink (take (length links) (buckets_of longer)) l) (sym (get_or-append_seam links link [] no_link))
       (subst (λ (bs : List ℕ). IsLink bs link) (sym (ap (take (length links)) buckets_more ∙ ap (λ n. take n (buckets_of links ++ link.bucket ∷ [])) (sym count) ∙ take-append_seam (buckets_of links) (link.bucket ∷ [])))
-      (record { inside = inside; leads = leads ∙ chained.newest link.bucket inside })))
+      (record { inside = inside; leads = leads })))
       k (omega (arith, below, length_push links link))
 
+  places_are : length (buckets_of links) + 1 ≡ length longer
+  places_are = let long = length_push links link in omega (arith, long, count)
+
   pub chained_more : IsChained longer (set heads link.bucket (length longer))
-  chained_more = record { count = length-set heads link.bucket (length longer) ∙ chained.count; newest = newest_more; older = older_more }
+  chained_more =
+      let same = length-set heads link.bucket (length longer) in record {
+        newest = λ some. subst (λ (bs : List ℕ). AreHeads bs (set heads link.bucket (length longer))) (sym buckets_more)
+            (subst (λ n. AreHeads (buckets_of links ++ link.bucket ∷ []) (set heads link.bucket n)) places_are
+            (heads_more (buckets_of links) heads link.bucket (chained.newest (omega (arith, some, same))) inside));
+        few = λ none. let less = room (omega (arith, none, same)) in let long = length_push links link in omega (arith, less, long);
+        older = older_more;
+      }
 
 -- ---- one place less
 
@@ -97,39 +129,59 @@ module _ (links : List Link) (heads : List ℕ) (link : Link) (chained : IsChain
   buckets_were : buckets_of (links ++ link ∷ []) ≡ buckets_of links ++ link.bucket ∷ []
   buckets_were = map-append (λ (l : Link). l.bucket) links (link ∷ [])
 
-  few : length (buckets_of links) ≡ length links
-  few = length-map links (λ (l : Link). l.bucket)
+  fewer : length (buckets_of links) ≡ length links
+  fewer = length-map links (λ (l : Link). l.bucket)
 
   -- the newest place leads to the newest one of the others
   newest_leads : IsLink (buckets_of links) link
   newest_leads =
       subst (λ (l : Link). IsLink (buckets_of links) l) (get_or-append_seam links link [] spare)
       (subst (λ (bs : List ℕ). IsLink bs (link_at (links ++ link ∷ []) (length links)))
-      (ap (take (length links)) buckets_were ∙ ap (λ n. take n (buckets_of links ++ link.bucket ∷ [])) (sym few) ∙ take-append_seam (buckets_of links) (link.bucket ∷ []))
+      (ap (take (length links)) buckets_were ∙ ap (λ n. take n (buckets_of links ++ link.bucket ∷ [])) (sym fewer) ∙ take-append_seam (buckets_of links) (link.bucket ∷ []))
       (chained.older (length links) (let long = length_push links link in omega (arith, long))))
-
-  newest_less : (b : ℕ) → b < BUCKETS → get_or (set heads link.bucket link.older) b 0 ≡ newest_in b (buckets_of links)
-  newest_less b below = elim (cases_eq link.bucket b) [
-    | inl same ↦ subst (λ (n : ℕ). get_or (set heads link.bucket link.older) n 0 ≡ newest_in n (buckets_of links)) same
-        (get_or-set_same heads link.bucket link.older 0 (let c = chained.count in let inside = newest_leads.inside in omega (arith, c, inside)) ∙ newest_leads.leads)
-    | inr apart ↦ get_or-set_other heads link.bucket b link.older 0 (λ is. apart (sym is)) ∙ chained.newest b below ∙ ap (newest_in b) buckets_were ∙ newest_other (buckets_of links) b link.bucket apart
-  ]
 
   older_less : (k : ℕ) → k < length links → IsLink (take k (buckets_of links)) (link_at links k)
   older_less k less =
       subst (λ (l : Link). IsLink (take k (buckets_of links)) l) (get_or-append links (link ∷ []) spare k less)
-      (subst (λ (bs : List ℕ). IsLink bs (link_at (links ++ link ∷ []) k)) (ap (take k) buckets_were ∙ take-append-le k (buckets_of links) (link.bucket ∷ []) (omega (arith, less, few)))
+      (subst (λ (bs : List ℕ). IsLink bs (link_at (links ++ link ∷ []) k)) (ap (take k) buckets_were ∙ take-append-le k (buckets_of links) (link.bucket ∷ []) (omega (arith, less, fewer)))
       (chained.older k (let long = length_push links link in omega (arith, less, long))))
 
   pub chained_less : IsChained links (set heads link.bucket link.older)
-  chained_less = record { count = length-set heads link.bucket link.older ∙ chained.count; newest = newest_less; older = older_less }
+  chained_less =
+      let same = length-set heads link.bucket link.older in record {
+        newest = λ some. heads_less (buckets_of links) heads link.bucket link.older (subst (λ (bs : List ℕ). AreHeads bs heads) buckets_were (chained.newest (omega (arith, some, same)))) newest_leads.inside newest_leads.leads;
+        few = λ none. let were = chained.few (omega (arith, none, same)) in let long = length_push links link in omega (arith, were, long);
+        older = older_less;
+      }
 
--- no place is chained
-pub fresh_chained : (heads : List ℕ) → heads ≡ replicate BUCKETS 0 → IsChained [] heads
-fresh_chained heads is =
-    let long : length (replicate {A = ℕ} BUCKETS 0) ≡ BUCKETS = length-replicate {A = ℕ} BUCKETS 0 in
-    record {
-      count = ap length is ∙ long;
-      newest = λ b below. ap (λ (l : List ℕ). get_or l b 0) is ∙ get_or-replicate {A = ℕ} BUCKETS b 0 0 below;
-      older = λ k below. absurd (omega (arith, below));
-    }
+-- ---- no place, and other heads
+
+pub fresh_chained : IsChained [] []
+fresh_chained = record { newest = λ some. absurd (omega (arith, some)); few = λ none. omega arith; older = λ k below. absurd (omega (arith, below)) }
+
+pub chained_anew : (links : List Link) (old heads : List ℕ) → IsChained links old → AreHeads (buckets_of links) heads → IsChained links heads
+chained_anew links old heads chained are = record { newest = λ some. are; few = λ none. let count = are.count in absurd (omega (arith, none, count)); older = chained.older }
+
+-- ---- walks over the links
+
+pub bucket_read : (links : List Link) (index : ℕ) → index < length links → buckets_of (take (index + 1) links) ≡ buckets_of (take index links) ++ (link_at links index).bucket ∷ []
+bucket_read links index inside = map_more (λ (l : Link). l.bucket) links index (record { bucket = 0; older = 0 }) inside
+
+pub few_read : (links : List Link) (index : ℕ) → index ≤ length links → length (buckets_of (take index links)) ≡ index
+few_read links index within = length-map (take index links) (λ (l : Link). l.bucket) ∙ length-take-le index links within
+
+module _ (links : List Link) (place bucket : ℕ) (some : 1 ≤ place) (within : place ≤ length links) where
+  back : buckets_of (take place links) ≡ buckets_of (take (place - 1) links) ++ (link_at links (place - 1)).bucket ∷ []
+  back =
+      let next : place - 1 + 1 ≡ place = omega (arith, some) in
+      ap (λ n. buckets_of (take n links)) (sym next) ∙ bucket_read links (place - 1) (omega (arith, some, within))
+
+  -- a place of another bucket is passed
+  pub walked_past : ((link_at links (place - 1)).bucket ≡ bucket → ⊥) → newest_in bucket (buckets_of (take (place - 1) links)) ≡ newest_in bucket (buckets_of (take place links))
+  walked_past apart = sym (ap (newest_in bucket) back ∙ newest_other (buckets_of (take (place - 1) links)) bucket (link_at links (place - 1)).bucket apart)
+
+  -- the first one of the bucket is its newest
+  pub walked_to : (link_at links (place - 1)).bucket ≡ bucket → newest_in bucket (buckets_of (take place links)) ≡ place
+  walked_to same =
+      let before : length (buckets_of (take (place - 1) links)) ≡ place - 1 = few_read links (place - 1) (omega (arith, within)) in
+      ap (newest_in bucket) back ∙ ap (λ b. newest_in bucket (buckets_of (take (place - 1) links) ++ b ∷ [])) same ∙ newest_push (buckets_of (take (place - 1) links)) bucket ∙ omega (arith, some, before)

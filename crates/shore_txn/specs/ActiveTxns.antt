@@ -10,7 +10,7 @@ use Rattle.shore_txn.specs.declared.txn.Txn.{Txn}
 use Rattle.shore_txn.specs.declared.txn_state.TxnState.TheVariants as state
 use Rattle.shore_txn.specs.declared.undo.UndoEntry.{UndoEntry}
 use Rattle.shore_txn.specs.Chains.{IsOfBucket}
-use Rattle.shore_txn.specs.Places.{HasLinkRoomIf, buckets_if}
+use Rattle.shore_txn.specs.Places.{HasLinkRoom, buckets_in}
 use Rattle.shore_txn.specs.Txns.{HasEntryRoom, IsOf, as_session_txn, decided_of, entries_of, global_of, last_of, marks_of, number_of, state_of}
 use Rattle.shore_txn.specs.UndoEntries.{image_of}
 
@@ -107,7 +107,7 @@ pub record HasMore {A : Type 0} (more old new : List A) : Type 0 where
 
 -- a change more needs no memory
 abbrev pub CanNote : ActiveTxn → Type 0
-CanNote a = HasEntryRoom a.txn × HasLinkRoomIf a.chains
+CanNote a = HasEntryRoom a.txn × HasLinkRoom a.chains
 
 -- ---- places of their changes
 
@@ -124,7 +124,7 @@ entries_if (Some a) = entries_of a.txn
 
 abbrev pub places_if : Option ActiveTxn → List ℕ
 places_if None = []
-places_if (Some a) = buckets_if a.chains
+places_if (Some a) = buckets_in a.chains
 
 -- the changes up to a place: those of the older transactions, and those of its own so far
 abbrev pub changes_to : List ActiveTxn → ℕ → ℕ → List UndoEntry

@@ -1,8 +1,8 @@
 -- Chains of the places of changes, one for each bucket of pages. A place is the index of a change and 1.
-use Rattle.std.specs.Prelude.{◌≡◌, ◌==◌, ◌<◌, ◌+◌, ◌*◌, ◌%◌, ℕ, zero, suc, Bool, List, [], ◌∷◌, Some, length, map, take, get_or, slice_get, slice_index_or, if◌then◌else◌}
+use Rattle.std.specs.Prelude.{◌≡◌, ◌==◌, ◌<◌, ◌≤◌, ◌+◌, ◌*◌, ◌%◌, ℕ, zero, suc, Bool, List, [], ◌∷◌, Some, length, map, take, get_or, slice_get, slice_index_or, if◌then◌else◌}
 use Rattle.shore_types.specs.declared.ids.PageId.{PageId}
 use Rattle.shore_txn.specs.declared.chains.Link.{Link}
-use Rattle.shore_txn.specs.declared.chains.TheConstants.{BUCKETS}
+use Rattle.shore_txn.specs.declared.chains.TheConstants.{BUCKETS, FEW}
 use Rattle.shore_txn.specs.declared.undo.UndoEntry.{UndoEntry}
 
 -- the bucket of a page
@@ -39,8 +39,17 @@ pub record IsLink (earlier : List ℕ) (link : Link) : Type 0 where
   pub inside : link.bucket < BUCKETS
   pub leads : link.older ≡ newest_in link.bucket earlier
 
--- each bucket leads to its newest place, and each place to the next older one
-pub record IsChained (links : List Link) (heads : List ℕ) : Type 0 where
+-- each link has one of the buckets
+abbrev pub AreInside : List Link → Type 0
+AreInside links = (index : ℕ) → index < length links → (link_at links index).bucket < BUCKETS
+
+-- each bucket leads to its newest place, where places have these buckets
+pub record AreHeads (buckets heads : List ℕ) : Type 0 where
   pub count : length heads ≡ BUCKETS
-  pub newest : (bucket : ℕ) → bucket < BUCKETS → get_or heads bucket 0 ≡ newest_in bucket (buckets_of links)
+  pub newest : (bucket : ℕ) → bucket < BUCKETS → get_or heads bucket 0 ≡ newest_in bucket buckets
+
+-- each bucket leads to its newest place, or there are no heads and the places are few; and each place leads to the next older one
+pub record IsChained (links : List Link) (heads : List ℕ) : Type 0 where
+  pub newest : 0 < length heads → AreHeads (buckets_of links) heads
+  pub few : length heads ≡ 0 → length links ≤ FEW
   pub older : (index : ℕ) → index < length links → IsLink (take index (buckets_of links)) (link_at links index)

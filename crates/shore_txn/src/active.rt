@@ -1,10 +1,10 @@
 //! A transaction of the table, with the places of its changes.
-ghost use Rattle.std.specs.Prelude.{◌≡◌, ◌-◌, ◌+◌, ◌<◌, ◌≤◌, ◌++◌, ◌∷◌, [], List, IfOk, IsOk, IsSome, OnErr, OnOk, Some, false, get_or, length, option_to_list, slice_get, take, true};
+ghost use Rattle.std.specs.Prelude.{◌≡◌, ◌-◌, ◌+◌, ◌<◌, ◌≤◌, ◌++◌, ◌∷◌, [], List, IfOk, IsOk, OnErr, OnOk, Some, false, get_or, length, option_to_list, slice_get, take, true};
 ghost use Rattle.shore_types.specs.declared.layout.TheConstants.{ENDING_COST, LAST_TXN, MAX_LOG_BYTES, MAX_RECORD_BYTES, MAX_SAVEPOINTS};
 ghost use Rattle.shore_types.specs.Images.{image_len};
 ghost use Rattle.laws_room.specs.LogRooms.{compensation_cost};
 ghost use Rattle.shore_txn.specs.Chains.{bucket_of, newest_in, page_buckets};
-ghost use Rattle.shore_txn.specs.Places.{buckets_if};
+ghost use Rattle.shore_txn.specs.Places.{buckets_in};
 ghost use Rattle.shore_txn.specs.TxnStates.{is_in_doubt};
 ghost use Rattle.shore_txn.specs.Txns.{HasMarkRoom, IsAfterAnswer, IsAfterChange, IsAfterDecision, IsAfterPrepare, IsAfterSavepoint, IsAfterUndo, IsBackAt, IsDoomed, IsFoundPrepared, SameTxn, entries_of, marks_of, state_of};
 ghost use Rattle.shore_txn.specs.UndoEntries.{claims_on};
@@ -20,14 +20,14 @@ use std::alloc::{AllocError, Global};
 /// The session of one that an open has found, which is in it no more.
 pub(crate) const NOBODY: SessionId = SessionId(0);
 
-/// A transaction under way. It has chains of its own from its first change on, so that a begin makes none.
+/// A transaction under way, with chains of its own.
 #[derive(Drop)]
 pub(crate) struct ActiveTxn {
     /// Its number, its undo list, and what it may do.
     txn: Txn,
     /// A place for each entry of the undo list (`chained`): who adds or takes an entry does so in both.
-    chains: Option<PageChains>,
-    ghost chained: { buckets_if chains ≡ page_buckets (entries_of txn) },
+    chains: PageChains,
+    ghost chained: { buckets_in chains ≡ page_buckets (entries_of txn) },
 }
 
 impl ActiveTxn {
@@ -41,7 +41,7 @@ impl ActiveTxn {
     {
         ActiveTxn {
             txn: Txn::new(alloc, number, session),
-            chains: None,
+            chains: PageChains::new(alloc),
         }
     }
 
@@ -53,7 +53,10 @@ impl ActiveTxn {
     {
         let mut txn = Txn::new(alloc, number, NOBODY);
         txn.unseat();
-        ActiveTxn { txn, chains: None }
+        ActiveTxn {
+            txn,
+            chains: PageChains::new(alloc),
+        }
     }
 
     pub(crate) fn txn(&self) -> &Txn
@@ -69,23 +72,8 @@ impl ActiveTxn {
         ensures same { SameTxn self.old.txn self.new.txn }
         ensures reserved { self.new.txn.reserved ≡ self.old.txn.reserved }
     {
-        self.make_chains(alloc)?;
-        if let Some(chains) = &mut self.chains {
-            chains.reserve()?;
-        }
+        self.chains.reserve(alloc)?;
         self.txn.reserve_entry()
-    }
-
-    // Makes its chains, unless it has them.
-    fn make_chains(&mut self, alloc: Global) -> Result<(), AllocError>
-        ensures made { OnOk result (IsSome self.new.chains) }
-        ensures idle { IsSome self.old.chains → IsOk result × (self.new ≡ self.old) }
-        ensures same { self.new.txn ≡ self.old.txn }
-    {
-        if self.chains.is_none() {
-            self.chains = Some(PageChains::new(alloc)?);
-        }
-        Ok(())
     }
 
     /// A change of it was logged, and its undo costs so much.
@@ -96,9 +84,7 @@ impl ActiveTxn {
         requires sum { self.old.txn.reserved + cost ≤ MAX_LOG_BYTES }
         ensures { IsAfterChange self.old.txn entry self.new.txn }
     {
-        if let Some(chains) = &mut self.chains {
-            chains.push(&entry.id.page);
-        }
+        self.chains.push(&entry.id.page);
         self.txn.note_change(entry, cost);
     }
 
@@ -140,9 +126,7 @@ impl ActiveTxn {
         requires cost { (kept : List UndoEntry) (e : UndoEntry) → entries_of self.old.txn ≡ kept ++ e ∷ [] → cost ≡ compensation_cost e.before }
         ensures { IsAfterUndo lsn rollback result self.old.txn self.new.txn }
     {
-        if let Some(chains) = &mut self.chains {
-            chains.pop();
-        }
+        self.chains.pop();
         self.txn.note_compensation(lsn, rollback, cost)
     }
 
@@ -199,24 +183,18 @@ impl ActiveTxn {
 
     /// The newest place of a page's bucket, 0 for none.
     pub(crate) fn newest(&self, page: &PageId) -> usize
-        ensures { result ≡ newest_in (bucket_of page.now) (buckets_if self.now.chains) }
+        ensures { result ≡ newest_in (bucket_of page.now) (buckets_in self.now.chains) }
     {
-        match &self.chains {
-            Some(chains) => chains.newest(page),
-            None => 0,
-        }
+        self.chains.newest(page)
     }
 
     /// The next older place in the bucket of a place, 0 for none.
     pub(crate) fn older(&self, place: usize) -> usize
         requires some { 1 ≤ place }
-        requires there { place ≤ length (buckets_if self.now.chains) }
-        ensures { result ≡ newest_in (get_or (buckets_if self.now.chains) (place - 1) 0) (take (place - 1) (buckets_if self.now.chains)) }
+        requires there { place ≤ length (buckets_in self.now.chains) }
+        ensures { result ≡ newest_in (get_or (buckets_in self.now.chains) (place - 1) 0) (take (place - 1) (buckets_in self.now.chains)) }
     {
-        match &self.chains {
-            Some(chains) => chains.older(place),
-            None => 0,
-        }
+        self.chains.older(place)
     }
 
     /// What its change of an index may put back on a page: the slot, and the length of the image before. None if the change is of another page.
