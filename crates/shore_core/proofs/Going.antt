@@ -5,7 +5,6 @@ use Rattle.shore_types.specs.declared.faults.Fault.{Fault}
 use Rattle.shore_types.specs.declared.layout.Geometry.{Geometry}
 use Rattle.shore_types.specs.declared.locking.Granule.{Granule}
 use Rattle.shore_model.specs.declared.calls.Call.{Call}
-use Rattle.shore_model.specs.declared.calls.Call.TheVariants as call
 use Rattle.shore_model.specs.declared.log_records.LogRecord.{LogRecord}
 use Rattle.shore_disk.specs.declared.device.Disk as disk
 use Rattle.shore_log.specs.declared.tail.Tail as tail
@@ -28,8 +27,7 @@ use Rattle.laws_calls.specs.SessionWaits.{IsDecisionWait, IsLockWait, WaitsOfSes
 use Rattle.laws_calls.specs.States.{DoesNotWait, IsOfSession, State, Waiting}
 use Rattle.shore_model.specs.declared.step.Wait.{Wait}
 use Rattle.shore_model.specs.declared.step.Wait.TheVariants.{Durable, Lock}
-use Rattle.shore_model.specs.declared.calls.Outcome.{Outcome}
-use Rattle.shore_sessions.specs.Calls.{awaits_record, is_durable, logs_decision}
+use Rattle.shore_sessions.specs.Calls.{awaits_record, is_durable}
 use Rattle.shore_sessions.specs.declared.waits.WaitingCall.{WaitingCall}
 use Rattle.shore_core.specs.declared.core_calls.Core.{Core}
 use Rattle.shore_core.specs.Cores.{IsSafe, geometry_of}
@@ -41,32 +39,17 @@ durable_lock : (n : ℕ) (at : Granule) → ◌≡◌ {A = Wait} (Durable n) (Lo
 durable_lock n at e = cc
 
 -- who waits for a record waits for that of its decision, and who waits for a lock is another call
-pub commit_waits : (base : ℕ) (s : State) (w : Waiting) (n : ℕ) → WaitsOfSessions base s → IsAmong w s.waiting → w.wait ≡ Durable n → IsDecisionWait base s w
-commit_waits base s w n waits m is = elim (waits.each w m) [ inl commit ↦ commit | inr lock ↦ absurd (durable_lock n lock.at (sym is ∙ lock.is)) ]
-
--- .. which is a commit's, if it is neither a prepare's nor a resolve's
-pub commit_of : {base : ℕ} {w : Waiting} (s : State) → IsDecisionWait base s w → (logs_decision w.call ≡ true → w.call ≡ call.Commit)
-    → (a : SessionTxn) × IsAmong a s.sessions.committing × (a.session ≡ w.session) × (w.call ≡ call.Commit)
-commit_of s wait only = elim wait.unanswered [
-  | inl commit ↦ (commit.0, commit.1, commit.2, commit.3)
-  | inr (inl prepare) ↦ absurd (no_prepare prepare.1 (sym prepare.3 ∙ only (ap logs_decision prepare.3)))
-  | inr (inr resolve) ↦ absurd (no_resolve resolve.0.global resolve.0.outcome (sym resolve.2 ∙ only (ap logs_decision resolve.2)))
-]
-  where
-    no_prepare : (global : List ℕ) → call.Prepare global ≡ call.Commit → ⊥
-    no_prepare global e = cc
-
-    no_resolve : (global : List ℕ) (asked : Outcome) → call.Resolve global asked ≡ call.Commit → ⊥
-    no_resolve global asked e = cc
+decision_waits : (base : ℕ) (s : State) (w : Waiting) (n : ℕ) → WaitsOfSessions base s → IsAmong w s.waiting → w.wait ≡ Durable n → IsDecisionWait base s w
+decision_waits base s w n waits m is = elim (waits.each w m) [ inl decision ↦ decision | inr lock ↦ absurd (durable_lock n lock.at (sym is ∙ lock.is)) ]
 
 -- .. so its transaction is no victim
-pub spared_commit : (base : ℕ) (s : State) (w : Waiting) (n : ℕ) → WaitsOfSessions base s → IsAmong w s.waiting → w.wait ≡ Durable n → w.cycle ≡ None
-spared_commit base s w n waits m is = ap (λ (x : Waiting). x.cycle) (commit_waits base s w n waits m is).is
+pub decision_spared : (base : ℕ) (s : State) (w : Waiting) (n : ℕ) → WaitsOfSessions base s → IsAmong w s.waiting → w.wait ≡ Durable n → w.cycle ≡ None
+decision_spared base s w n waits m is = ap (λ (x : Waiting). x.cycle) (decision_waits base s w n waits m is).is
 
 pub lock_waits : (base : ℕ) (s : State) (w : Waiting) (at : Granule) → WaitsOfSessions base s → IsAmong w s.waiting → w.wait ≡ Lock at → IsLockWait s w
 lock_waits base s w at waits m is =
     elim (waits.each w m) [
-      | inl commit ↦ absurd (durable_lock commit.number at (sym (subst (λ (x : Waiting). x.wait ≡ Durable commit.number) (sym commit.is) refl) ∙ is))
+      | inl decision ↦ absurd (durable_lock decision.number at (sym (subst (λ (x : Waiting). x.wait ≡ Durable decision.number) (sym decision.is) refl) ∙ is))
       | inr lock ↦ lock
     ]
 
@@ -108,7 +91,7 @@ safe_woken g s safe session a its quiet =
         sessions = woken g safe.opening safe.found safe.entries s k.sessions a session its quiet;
         waits = woken_waits safe.opening safe.found safe.entries s k.sessions k.waits session
             (λ works v m of. no_record_awaited safe.opening safe.found safe.entries s k.sessions k.waits a its.0 v m (of ∙ sym its.1));
-        forced = record { least = k.forced.least; most = k.forced.most; acknowledged_kept = k.forced.acknowledged_kept };
+        forced = record { least = k.forced.least; most = k.forced.most; acknowledged_kept = k.forced.acknowledged_kept; tickets = k.forced.tickets };
         few = k.few;
       };
       asks = λ w at m. safe.asks w at (among_filtered (λ (v : Waiting). not (v.session == session)) w s.waiting m).0;

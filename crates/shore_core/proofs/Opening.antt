@@ -1,5 +1,5 @@
 -- What a call comes to whose session has no transaction, or one that may do no more than end a rollback.
-use Rattle.std.proofs.Common.{◌≡◌, ◌≢◌, ◌⊎◌, inl, inr, ℕ, List, None, Option, Some, Result, Err, IsErrAnd, false, true, refl, subst, ◌∙◌}
+use Rattle.std.proofs.Common.{◌≡◌, ◌≢◌, ◌⊎◌, inl, inr, ℕ, List, None, Option, Some, Result, Err, IsErrAnd, false, true, refl, subst}
 use Rattle.std.specs.Prelude.{IsSome}
 use Rattle.shore_types.specs.declared.faults.Fault.{Fault}
 use Rattle.shore_types.specs.declared.faults.Fault.TheVariants as fault
@@ -16,18 +16,13 @@ use Rattle.laws_lives.specs.UndoLists.{UndoList}
 use Rattle.laws_calls.proofs.SessionInversions.{asks_in_txn}
 use Rattle.laws_calls.specs.CallSteps.{NeedsTxn}
 use Rattle.laws_calls.specs.Rollbacks.{TakesCall}
-use Rattle.laws_calls.specs.States.{DoesNotWait, HasNoTxn, HasPrepared, State}
+use Rattle.laws_calls.specs.States.{DoesNotWait, HasPrepared, State}
 use Rattle.shore_model.specs.declared.step.Step.{Step}
 use Rattle.shore_sessions.proofs.Seats.{in_no_txn}
-use Rattle.shore_sessions.proofs.WaitSteps.{call_waits, commit_call}
-use Rattle.shore_sessions.specs.Calls.{as_waiting}
-use Rattle.shore_sessions.specs.Controls.{txns_in, waits_in}
-use Rattle.shore_sessions.specs.Standing.{HasControl}
-use Rattle.shore_sessions.specs.declared.control.Control.{Control}
 use Rattle.shore_txn.specs.Transactions.{HasNoTxnOf}
 use Rattle.shore_core.specs.declared.core_calls.Core.{Core}
 use Rattle.shore_core.specs.Callers.{IsNotOpen}
-use Rattle.shore_core.specs.Cores.{IsIn, IsOver, control_of, txns_of}
+use Rattle.shore_core.specs.Cores.{IsIn, IsOver, txns_of}
 use Rattle.shore_core.specs.Replies.{Replied}
 use Rattle.shore_core.proofs.Coming.{comes_same}
 use Rattle.shore_core.proofs.Taking.{replied_as}
@@ -97,12 +92,6 @@ whole_taken undo c inner (inl whole) = whole
 whole_taken undo c inner (inr (inl abort)) = absurd (inner.aborts abort)
 whole_taken undo c inner (inr (inr back)) = absurd (inner.goes back.0 back.2)
 
--- a session that has no transaction in the table, and does not wait, is in none
-pub in_none : (control : Control) (s : State) → HasControl control s → HasOwnSeats s.sessions → (session : ℕ) → s.failed ≡ false → DoesNotWait s session → HasNoTxnOf session (txns_in control) → HasNoTxn s session
-in_none control s was seats session works idle none =
-    in_no_txn (txns_in control) s was.txns seats session none
-    (λ a m same. let its = commit_call (waits_in control) s was.waits works a m in idle (as_waiting its.0) (call_waits (waits_in control) s was.waits its.0 its.1) (its.2 ∙ same))
-
 module _ {T V : Type 0} {G : tail.Ghosts T} {H : disk.Ghosts V} (core : Core T V G H) where
   -- a call of a session that has no transaction
   pub replied_none : (front : List ℕ) (disk : ℕ → List ℕ) (before : List LogRecord) (s : State) (store : RecoveryState) (session : ℕ) (c : Call)
@@ -110,7 +99,7 @@ module _ {T V : Type 0} {G : tail.Ghosts T} {H : disk.Ghosts V} (core : Core T V
       → Replied session c (Err fault.NoTransaction) core core front before s store
   replied_none front disk before s store session c is over seats needs works idle none = record {
     later = s;
-    replies = inr (inr (inr (inr (inl (works, idle, needs, in_none (control_of core) s is.beside.parts.stands seats session works idle none, refl, refl)))));
+    replies = inr (inr (inr (inr (inl (works, idle, needs, in_no_txn (txns_of core) s is.beside.parts.stands.txns seats session none, refl, refl)))));
     comes = inr (comes_same core front disk before s store is over);
   }
 

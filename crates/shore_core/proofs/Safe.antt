@@ -66,7 +66,6 @@ module _ (s : State) (rs : List Request) where
   waits_behind : (base : ℕ) → AreOlder s → WaitsOfSessions base s → WaitsOfSessions base (with_requests s rs)
   waits_behind base older = waits_left base s (with_requests s rs) older (record {
     waiting = refl;
-    committing = refl;
     prepared = refl;
     seats = λ n t is. is;
     active = λ a mine. (a, mine, refl, refl, λ waits whole. whole);
@@ -80,7 +79,7 @@ module _ (s : State) (rs : List Request) where
   })
 
   forced_behind : (base : ℕ) (es : List Entry) → IsForced base es s → IsForced base es (with_requests s rs)
-  forced_behind base es h = record { least = h.least; most = h.most; acknowledged_kept = h.acknowledged_kept }
+  forced_behind base es h = record { least = h.least; most = h.most; acknowledged_kept = h.acknowledged_kept; tickets = h.tickets }
 
   roomy_behind : IsRoomyState s → IsRoomyState (with_requests s rs)
   roomy_behind h = record { pages = h.pages; log = h.log }

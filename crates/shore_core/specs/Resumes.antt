@@ -19,6 +19,5 @@ NoneWaits core session = (w : WaitingCall) → IsAmong w (waits_of core) → w.s
 
 -- which of those calls it is that log a decision and wait for its record
 abbrev pub IsAwaited : Call → Awaited → Type 0
-IsAwaited c awaited.Commit = logs_decision c ≡ true → c ≡ call.Commit
-IsAwaited c awaited.Prepare = (global : List ℕ) × (c ≡ call.Prepare global)
+IsAwaited c awaited.Prepare = logs_decision c ≡ true → (global : List ℕ) × (c ≡ call.Prepare global)
 IsAwaited c awaited.Resolve = (global : List ℕ) × (asked : Outcome) × (c ≡ call.Resolve global asked)

@@ -9,17 +9,17 @@ use crate::core_calls::Core;
 use shore_disk::Disk;
 use shore_log::Tail;
 use shore_logrec::{LogRecord, Payload};
-use shore_model::{Step, Wait};
+use shore_model::{Answer, Step};
 use shore_txn::Seat;
-use shore_types::Fault;
+use shore_types::{Fault, Ticket};
 
 impl<T: Tail, V: Disk> Core<T, V> {
     ghost use Rattle.shore_core.specs.Callers.{IsOfCaller};
     ghost use Rattle.shore_core.specs.Cores.{control_of, faults_of, has_failed, txns_of};
     ghost use Rattle.shore_core.specs.Replies.{InEach, Reads, Replied, ServesCall};
 
-    // The record of the commit was reserved for at the begin, so it is never refused for room. The transaction's claims go with it, its locks with its
-    // answer.
+    // The record of the commit was reserved for at the begin, so it is never refused for room. The transaction's claims and its locks go with it, and its
+    // ticket is the record's number. Behind the record nothing can fail.
     pub(crate) fn commit(&mut self, seat: &Seat) -> Result<Step, Fault>
         requires free { HasNoWait seat.now.session (control_of self.old) }
         requires seated { IsSeatIn seat.now (txns_of self.old) }
@@ -34,15 +34,14 @@ impl<T: Tail, V: Disk> Core<T, V> {
             previous: txn.last(),
             payload: Payload::Commit,
         };
-        self.control.reserve_wait()?;
         let number = match self.tail.push(record) {
             Ok(number) => number,
             Err((fault, _)) => return Err(fault),
         };
-        let changes = self.control.commit(seat, number);
+        let changes = self.control.commit(seat);
         for change in &changes {
             self.heap.release(change.id);
         }
-        Ok(Step::Waits(Wait::Durable(number)))
+        Ok(Step::Done(Answer::Committed(Ticket::of(number))))
     }
 }

@@ -1,7 +1,8 @@
 //! The calls of the sessions, and what the log device tells.
-ghost use Rattle.std.specs.Prelude.{◌≡◌, ◌⊎◌, ◌↔◌, ◌+◌, ◌≤◌, ◌<◌, ℕ, List, IsTrue, Ok, Err, false, length};
+ghost use Rattle.std.specs.Prelude.{◌≡◌, ◌⊎◌, ◌↔◌, ◌+◌, ◌≤◌, ◌<◌, ℕ, Bool, List, IsTrue, Ok, Err, false, length, true};
 ghost use Rattle.shore_types.specs.declared.faults.Fault.TheVariants as Fault;
 ghost use Rattle.shore_types.specs.declared.layout.TheConstants.{GREATEST_CHECKPOINT, LAST_LSN, LAST_OPENED, LONGEST_FRAME};
+ghost use Rattle.shore_model.specs.declared.calls.Answer.TheVariants as Answer;
 ghost use Rattle.shore_model.specs.declared.calls.Call.TheVariants as Call;
 ghost use Rattle.shore_model.specs.declared.log_records.LogRecord.{LogRecord};
 ghost use Rattle.laws_lives.specs.Recovery.{RecoveryState, after_force};
@@ -24,7 +25,7 @@ use shore_model::{Answer, Call, Step, Wait};
 use shore_sessions::Control;
 use shore_txn::Seat;
 use shore_types::layout::{ENDING_COST, LAST_LSN, LAST_TXN, MAX_TRANSACTIONS};
-use shore_types::{Fault, Geometry, Lsn, SessionId};
+use shore_types::{Fault, Geometry, Lsn, SessionId, Ticket};
 use std::alloc::Global;
 
 /// The pages of a volume, the transactions of the sessions with their locks, and the log buffer that the records of changes go to.
@@ -64,7 +65,8 @@ impl<T: Tail, V: Disk> Core<T, V> {
     ///
     /// A refused call has changed nothing but locks that were taken, and others that it doomed as victims, if it waited first; a rollback keeps the steps that
     /// it has made, that of a resolve its decision too: the same call goes on with the others. But after `Device` and `Damaged` every later call is refused.
-    /// A call that waits for a lock goes on at a resume, once another has let it through; one that waits for its record, once its force is told.
+    /// A call that waits for a lock goes on at a resume, once another has let it through; a prepare or a resolve that waits for its record, once its force is
+    /// told. A commit never waits: it is answered with its ticket, and its locks are gone.
     pub fn call(&mut self, alloc: Global, session: SessionId, call: Call) -> Step
         requires { IsServed call }
 
@@ -222,6 +224,14 @@ impl<T: Tail, V: Disk> Core<T, V> {
         ensures { result ≡ durable_of self.now }
     {
         self.durable
+    }
+
+    /// Whether the Commit of a ticket is durable, as far as was told. It is asked of the manager that gave the ticket: numbers that a crash lost are used
+    /// again. Nothing changes, and a failure is none of its concern: what was durable stays so.
+    pub fn ask(&self, ticket: Ticket) -> Step
+        ensures answered { (answer : Bool) × (result ≡ Step.Done (Answer.IsDurable answer)) × ((answer ≡ true) ↔ (ticket ≤ durable_of self.now)) }
+    {
+        Step::Done(Answer::IsDurable(ticket.number() <= self.durable))
     }
 
     /// A device has failed: every later call answers `Failed`.

@@ -17,7 +17,6 @@ use std::alloc::Global;
 /// What it is that waits for its record.
 #[derive(Clone, Copy)]
 enum Awaited {
-    Commit,
     Prepare,
     Resolve,
 }
@@ -27,7 +26,7 @@ impl<T: Tail, V: Disk> Core<T, V> {
     ghost use Rattle.shore_core.specs.Resumes.{NoneWaits};
     ghost use Rattle.shore_core.specs.Replies.{ForTxn, InEach, MakesNoCall, ReadsWaiting, Resumed, Serves, fault_at};
 
-    /// Goes on with the session's call that waits. A commit, a prepare and a resolve are answered once the record of the decision is durable; a call that waits
+    /// Goes on with the session's call that waits. A prepare and a resolve are answered once the record of the decision is durable; a call that waits
     /// for a lock goes on once its transaction waits no more, and may then be refused as any call, or wait for another granule of its path. Once a device has failed it is
     /// refused by `Failed`, once; and if its transaction has become the victim of a cycle, by `Deadlock`, once. With no call that waits there is nothing to do.
     pub fn resume(&mut self, alloc: Global, session: SessionId) -> Step
@@ -52,7 +51,7 @@ impl<T: Tail, V: Disk> Core<T, V> {
         }
     }
 
-    // A call that waits for its record. A commit's locks go with its answer, and those of a prepare stay; those of a resolve are gone.
+    // A call that waits for its record. The locks of a prepare stay, and those of a resolve are gone.
     fn resume_durable(&mut self, session: SessionId, number: Lsn, awaited: Awaited) -> Step
         ensures step { has_failed self.old ≡ false → InEach (λ front disk before s store. (w : WaitingCall) → IsAmong w (waits_of self.old) → w.session ≡ session → w.wait ≡ Wait.Durable number
             → IsAwaited w.call awaited → Resumed session result self.old self.new front before s store) self.old }
@@ -64,10 +63,6 @@ impl<T: Tail, V: Disk> Core<T, V> {
             return Step::Waits(Wait::Durable(number));
         }
         match awaited {
-            Awaited::Commit => {
-                self.control.end_commit(session);
-                Step::Done(Answer::Committed)
-            }
             Awaited::Prepare => {
                 self.control.end_prepare(session);
                 Step::Done(Answer::Prepared)
@@ -117,9 +112,9 @@ fn awaited_by(call: &Call) -> Awaited
     ensures { IsAwaited call.now result }
 {
     match call {
-        Call::Prepare(_) => Awaited::Prepare,
         Call::Resolve(..) => Awaited::Resolve,
-        Call::Commit
+        Call::Prepare(_)
+        | Call::Commit
         | Call::Begin
         | Call::Get(_)
         | Call::GetForUpdate(_)
@@ -132,7 +127,7 @@ fn awaited_by(call: &Call) -> Awaited
         | Call::Savepoint
         | Call::BackTo(_)
         | Call::Abort
-        | Call::InDoubt => Awaited::Commit,
+        | Call::InDoubt => Awaited::Prepare,
     }
 }
 

@@ -21,7 +21,7 @@ use Rattle.shore_pool.specs.Pools.{PoolHolds, NeedsForce}
 use Rattle.shore_pool.proofs.Same.{pages_on}
 use Rattle.shore_heap.specs.declared.heap.Heap.{Heap}
 use Rattle.shore_heap.specs.Contents.{AreBounds, AreKept, FitIn, KeepWhatFits, ClaimsOfPages, claimed_frame, with_page_slots}
-use Rattle.shore_heap.specs.Heaps.{IsAsRead, KeepsSlots, LeavesPages, Shows, StayInPlace, WroteBack, bounds_of, faults_of, frame_at, frame_of, geometry_of, history_of, honesty_of}
+use Rattle.shore_heap.specs.Heaps.{IsFreshFrame, KeepsSlots, LeavesPages, Shows, StayInPlace, WroteBack, bounds_of, faults_of, frame_at, frame_of, geometry_of, history_of, honesty_of}
 use Rattle.shore_heap.proofs.Claimed.{images_kept}
 use Rattle.shore_heap.proofs.Frames.{Came, IsRead, have_fetched}
 use Rattle.shore_heap.proofs.Going.{may_be}
@@ -59,12 +59,12 @@ module _ {D : Type 0} {G : Ghosts D} (old : Heap D G) (mid : Pool D G) (id : Pag
 
 -- the page is there as it was read
 pub as_read : (id : PageId) (last : ℕ) (kept : List (ℕ × ℕ)) (o now : Option Frame) → IsSomeAnd o (IsRead id last)
-    → ((f : Frame) → o ≡ Some f → (slots : List Slot) × KeepWhatFits kept f.page.slots slots × (now ≡ Some (with_page_slots slots f))) → IsSomeAnd now (IsAsRead kept)
+    → ((f : Frame) → o ≡ Some f → (slots : List Slot) × KeepWhatFits kept f.page.slots slots × (now ≡ Some (with_page_slots slots f))) → IsSomeAnd now (IsFreshFrame kept last)
 as_read id last kept None now read fitting = absurd read
 as_read id last kept (Some f) now read fitting =
     let (slots, keeps, is) = fitting f refl in
     let bare : f.page.slots ≡ map settled (images_of slots) = ap (λ (p : PageState). p.slots) read.0 ∙ ap (map settled) (sym (images_kept kept f.page.slots slots keeps)) in
-    subst (λ (o : Option Frame). IsSomeAnd o (IsAsRead kept)) (sym is) (record { slots = subst (λ (l : List Slot). KeepWhatFits kept l slots) bare keeps; clean = read.2 })
+    subst (λ (o : Option Frame). IsSomeAnd o (IsFreshFrame kept last)) (sym is) (record { clean = read.2; number = read.1; slots = subst (λ (l : List Slot). KeepWhatFits kept l slots) bare keeps })
 
 pub came_by : {D : Type 0} {G : Ghosts D} (old : Heap D G) (mid : Pool D G) (new : Heap D G) (id : PageId) (K : ClaimsOfPages) (last : ℕ) (number : page_number (pools.geometry_of mid) id ≡ page_number (geometry_of old) id)
     → (frame_of old id ≡ None) × IsSomeAnd (pools.frame_of mid id) (IsRead id last) → ((f : Frame) → pools.frame_of mid id ≡ Some f → FitIn (K id) f.page.slots → frame_of new id ≡ Some (claimed_frame (K id) f))
@@ -150,3 +150,15 @@ module _ {D : Type 0} {G : Ghosts D} (old : Heap D G) (mid : Pool D G) (durable 
         each None e is clean dirt = clean
         each (Some g) None is clean dirt = let clash : None ≡ Some g.recovery = dirt in cc
         each (Some g) (Some e) is clean dirt = let same : e.recovery ≡ g.recovery = cc in let it : e ≡ f = cc in dirty (ap (λ (f : Frame). f.recovery) (sym it) ∙ same ∙ clean)
+
+-- ---- the frames, whatever the pages hold
+
+-- a frame that is there was there before
+pub was_there : (was now : Option Frame) (f : Frame) → pools.StaysOrGoes was now → now ≡ Some f → (h : Frame) × (was ≡ Some h) × ((f ≡ h) ⊎ (f ≡ changes.settled h))
+was_there was now f (inl stays) is = (f, sym stays ∙ is, inl refl)
+was_there was now f (inr (inl clean)) is = each was refl (sym is ∙ clean)
+  where
+    each : (o : Option Frame) → was ≡ o → Some f ≡ option_map changes.settled o → (h : Frame) × (was ≡ Some h) × ((f ≡ h) ⊎ (f ≡ changes.settled h))
+    each None at same = let clash : Some f ≡ None = same in absurd cc
+    each (Some h) at same = let one : f ≡ changes.settled h = cc in (h, at, inr one)
+was_there was now f (inr (inr gone)) is = let clash : None ≡ Some f = sym gone ∙ is in absurd cc

@@ -19,6 +19,7 @@ use Rattle.shore_page.specs.Slots.{Slot, settled}
 use Rattle.shore_page.specs.Text.{IsPageText, images_of}
 use Rattle.shore_pool.specs.declared.frame.Frame.{Frame}
 use Rattle.shore_pool.specs.declared.pool.Pool.{Pool}
+use Rattle.shore_pool.specs.Changes as changes
 use Rattle.shore_pool.specs.Pools as pools
 use Rattle.shore_pool.specs.Pages.{SamePages}
 use Rattle.shore_pool.specs.Pools.{HasInPlace, PoolHolds, NeedsForce}
@@ -105,11 +106,6 @@ KeepsSlots K old new durable front disk S = (left : ℕ → List ℕ) × Shows K
 abbrev pub LeavesPages : {D : Type 0} {G : Ghosts D} → Heap D G → ℕ → List ℕ → (ℕ → List ℕ) → List ℕ → Type 0
 LeavesPages heap durable front disk image = (left : ℕ → List ℕ) × ShowsBehind (geometry_of heap) front left image × MayBeLeft heap durable disk left
 
--- the frame has its page as it was read: clean, and each slot keeps what its record takes, and of what is told what finds room
-pub record IsAsRead (kept : List (ℕ × ℕ)) (f : Frame) : Type 0 where
-  pub slots : KeepWhatFits kept (map settled (images_of f.page.slots)) f.page.slots
-  pub clean : f.recovery ≡ None
-
 -- the call was refused since a force is needed: no page may leave its frame
 abbrev pub AsksForForce : {D : Type 0} {G : Ghosts D} → Heap D G → ℕ → Fault → Type 0
 AsksForForce heap durable it = (number : ℕ) × (it ≡ fault.NeedForce number) × NeedsForce heap.pool durable number
@@ -119,6 +115,17 @@ AsksForForce heap durable it = (number : ℕ) × (it ≡ fault.NeedForce number)
 abbrev pub RefusesPage : {D : Type 0} {G : Ghosts D} → Heap D G → (ℕ → List ℕ) → PageId → LogEnds → Fault → Type 0
 RefusesPage heap disk id ends it = (it ≡ fault.Device) ⊎ (it ≡ fault.Memory)
     ⊎ ((it ≡ fault.Damaged device.Volume (page_offset (page_number (geometry_of heap) id))) × HasNoPage (disk (page_number (geometry_of heap) id)) id ends.last) ⊎ AsksForForce heap ends.durable it
+
+-- A frame of a page that was read: clean, with a number up to this one, and each slot keeps what its record takes, and of what is told what finds room.
+pub record IsFreshFrame (kept : List (ℕ × ℕ)) (last : ℕ) (f : Frame) : Type 0 where
+  pub clean : f.recovery ≡ None
+  pub number : f.page.number ≤ last
+  pub slots : KeepWhatFits kept (map settled (images_of f.page.slots)) f.page.slots
+
+-- Each frame was there, though it may have become clean, or the page of this id was read into it.
+abbrev pub FramesWere : {D : Type 0} {G : Ghosts D} → ClaimsOfPages → Heap D G → Heap D G → PageId → ℕ → Type 0
+FramesWere K old new id last = (k : ℕ) (f : Frame) → frame_at new k ≡ Some f
+    → ((h : Frame) × (frame_at old k ≡ Some h) × ((f ≡ h) ⊎ (f ≡ changes.settled h))) ⊎ ((k ≡ page_number (geometry_of old) id) × (frame_at old k ≡ None) × IsFreshFrame (K id) last f)
 
 -- What a call leaves that fetches pages, whatever it answers. These claims were told, and pages with numbers up to the durable one may have been
 -- written back for it.

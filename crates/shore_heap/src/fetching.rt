@@ -5,7 +5,7 @@ ghost use Rattle.shore_page.specs.Room.{Fits, raised};
 ghost use Rattle.shore_page.specs.Slots.{Slot, with_change};
 ghost use Rattle.shore_pool.specs.Changes.{reclaimed};
 ghost use Rattle.shore_pool.specs.Pages.{SamePages};
-ghost use Rattle.shore_pool.specs.Pools.{PoolHolds, StaysOrGoes};
+ghost use Rattle.shore_pool.specs.Pools.{PoolHolds};
 ghost use Rattle.shore_types.specs.Layout.{HasPage};
 ghost use Rattle.shore_types.specs.declared.faults.Fault.TheVariants as Fault;
 ghost use Rattle.shore_types.specs.declared.ids.PageId.{PageId};
@@ -20,7 +20,7 @@ use std::alloc::Global;
 
 impl<D: Disk> Heap<D> {
     ghost use Rattle.shore_pool.specs.declared.frame.Frame.{Frame};
-    ghost use Rattle.shore_heap.specs.Heaps.{IsAsRead, KeepsVolume, ReadsPages, RefusesPage, Shows, bounds_of, claims_in, device_of, frame_at, frame_of, geometry_of, limit_of, pool_of};
+    ghost use Rattle.shore_heap.specs.Heaps.{FramesWere, KeepsVolume, ReadsPages, RefusesPage, Shows, bounds_of, claims_in, device_of, frame_at, frame_of, geometry_of, limit_of, pool_of};
 
     /// Brings a page into a frame, if it is in none. Another may be written back and leave its own for it.
     pub fn fetch<C: Claims>(
@@ -36,10 +36,8 @@ impl<D: Disk> Heap<D> {
         ensures refused { (front : List ℕ) (disk : ℕ → List ℕ) → PoolHolds (pool_of self.old) front disk
             → IfErr result (RefusesPage self.old disk page ends.now) }
 
-        // The frame of another page has what it had, though it may have become clean, or it goes. The page that is asked for was in its frame, or is there as it was read.
-        ensures others { (k : ℕ) → k ≢ page_number (geometry_of self.old) page → StaysOrGoes (frame_at self.old k) (frame_at self.new k) }
-        ensures asked { (front : List ℕ) (disk : ℕ → List ℕ) → PoolHolds (pool_of self.old) front disk → OnOk result ((frame_of self.new page ≡ frame_of self.old page)
-            ⊎ ((frame_of self.old page ≡ None) × IsSomeAnd (frame_of self.new page) (IsAsRead (claims_in C.Claims claims.now page)))) }
+        // The page that is asked for was in its frame, or is there as it was read; a frame of another has what it had, though it may have become clean.
+        ensures framed { (front : List ℕ) (disk : ℕ → List ℕ) → PoolHolds (pool_of self.old) front disk → FramesWere (claims_in C.Claims claims.now) self.old self.new page ends.now.last }
 
         // Where a force is needed nothing has changed: each frame is as it was.
         ensures unmoved { (front : List ℕ) (disk : ℕ → List ℕ) → PoolHolds (pool_of self.old) front disk

@@ -24,7 +24,7 @@ use Rattle.shore_txn.specs.declared.txn_state.TxnState.TheVariants.{Preparing}
 use Rattle.shore_txn.proofs.ActiveOthers.{each_becomes}
 use Rattle.shore_txn.proofs.ActiveSteps.{one_at_number}
 use Rattle.shore_txn.proofs.OneOfMany.{among_map, map_with}
-use Rattle.shore_sessions.specs.Calls.{as_resolved, committers_of, is_commit, name_of, names_of, resolved_by}
+use Rattle.shore_sessions.specs.Calls.{as_resolved, resolved_by}
 use Rattle.shore_sessions.specs.Controls.{locks_in, txns_in, waits_in}
 use Rattle.shore_sessions.specs.Seated.{IsNamed, IsSeated, rolled_in}
 use Rattle.shore_sessions.specs.Standing.{HasControl, HasTxns, HasWaits, IsLogged}
@@ -38,7 +38,7 @@ use Rattle.shore_sessions.proofs.SeatSteps.{StaysSeated, its_seats, named_still,
 use Rattle.shore_sessions.proofs.Seats.{doubt_there}
 use Rattle.shore_sessions.proofs.Taking.{AreApart, is_other, none_removed}
 use Rattle.shore_sessions.proofs.TxnSteps.{StaysLogged, above_still, each_was, logged_still, names_were}
-use Rattle.shore_sessions.proofs.WaitSteps.{commits, committers_stay, others_wait, resolved_but}
+use Rattle.shore_sessions.proofs.WaitSteps.{others_wait, resolved_but}
 
 clash : true ≡ false → ⊥
 clash e = cc
@@ -133,35 +133,23 @@ its_call session (x ∷ xs) = ⊎_elim
     (its_call session xs))
     (cases_Bool (x.session == session))
 
-module _ (calls : List WaitingCall) (s : State) (was : HasWaits calls s) (works : s.failed ≡ false) (own : HasOwnSeats s.sessions) (apart : AreApart calls) (session t : ℕ) (global : List ℕ)
+module _ (calls : List WaitingCall) (s : State) (was : HasWaits calls s) (own : HasOwnSeats s.sessions) (apart : AreApart calls) (session t : ℕ) (global : List ℕ)
     (is : IsPreparing s.sessions session t global) (some : 0 < t) where
-  -- its call is no commit and no resolve
-  no_other : (w : WaitingCall) → IsAmong w calls → w.session ≡ session → (is_commit w ≡ false) × (as_resolved w ≡ None)
-  no_other w m same = (
-    ⊎_elim (λ commit. absurd (its_commit commit)) (λ other. other) (cases_Bool (is_commit w)),
-    (elim (as_resolved w) as (λ o. as_resolved w ≡ o → o ≡ None) [ None ↦ λ none. refl | Some r ↦ λ some. absurd (its_resolve r some) ]) refl,
-  )
+  -- its call is no resolve
+  no_other : (w : WaitingCall) → IsAmong w calls → w.session ≡ session → as_resolved w ≡ None
+  no_other w m same = (elim (as_resolved w) as (λ o. as_resolved w ≡ o → o ≡ None) [ None ↦ λ none. refl | Some r ↦ λ some. absurd (its_resolve r some) ]) refl
     where
-      its_commit : is_commit w ≡ true → ⊥
-      its_commit commit =
-          let a = commits calls s was w m commit works in
-          let seat = own.own a.0.session a.0.txn (inr (among_map name_of a.0 s.sessions.committing a.1)) in
-          clash (ap (λ (p : SessionState). p.prepared) (sym is.1 ∙ ap s.sessions.seats (sym (a.2 ∙ same)) ∙ seat))
-
       its_resolve : (r : ResolvedTxn) → as_resolved w ≡ Some r → ⊥
       its_resolve r some = clash (ap (λ (p : SessionState). p.prepared) (sym is.1 ∙ ap s.sessions.seats (sym same) ∙ (was.ended w r m some).2))
 
-  stay : (names_of s.sessions.committing ≡ committers_of (filter (is_other session) calls)) × (resolved_by (filter (is_other session) calls) ≡ resolved_by calls)
-  stay = ⊎_elim
-      (λ w. let plain = no_other w.0 w.1 w.2 in (committers_stay calls s was session apart w.0 w.1 w.2 plain.0 works, resolved_but calls apart session w.0 w.1 w.2 plain.1))
-      (λ none. let all = none_removed session calls none in (was.committing works ∙ ap committers_of all, ap resolved_by (sym all)))
+  pub resolved_answered : resolved_by (filter (is_other session) calls) ≡ resolved_by calls
+  resolved_answered = ⊎_elim
+      (λ w. resolved_but calls apart session w.0 w.1 w.2 (no_other w.0 w.1 w.2))
+      (λ none. ap resolved_by (sym (none_removed session calls none)))
       (its_call session calls)
 
-  pub resolved_answered : resolved_by (filter (is_other session) calls) ≡ resolved_by calls
-  resolved_answered = stay.1
-
   pub waits_answered : HasWaits (filter (is_other session) calls) (prepare_ended s session t global)
-  waits_answered = others_wait calls s was session (prepare_ended s session t global) refl (λ f. stay.0) refl refl (λ n other. seats n) others
+  waits_answered = others_wait calls s was session (prepare_ended s session t global) refl refl refl (λ n other. seats n) others
     where
       seats : (n : ℕ) → (prepare_ended s session t global).sessions.seats n ≡ s.sessions.seats n
       seats n = same_either (session == n) (s.sessions.seats n)
@@ -179,14 +167,14 @@ module _ (calls : List WaitingCall) (s : State) (was : HasWaits calls s) (works 
 
 -- ---- both
 
-pub control_answered : (old new : Control) (s : State) → HasControl old s → s.failed ≡ false → HasOwnSeats s.sessions → AreApart (waits_in old) → (session t : ℕ) (global : List ℕ)
+pub control_answered : (old new : Control) (s : State) → HasControl old s → HasOwnSeats s.sessions → AreApart (waits_in old) → (session t : ℕ) (global : List ℕ)
     → IsPreparing s.sessions session t global → HasTxns (txns_in new) (prepare_ended s session t global) → rolled_in (txns_in new) ≡ rolled_in (txns_in old) → locks_in new ≡ locks_in old
     → waits_in new ≡ filter (is_other session) (waits_in old) → HasControl new (prepare_ended s session t global)
-control_answered old new s was works own apart session t global is txns rolled locks taken = record {
+control_answered old new s was own apart session t global is txns rolled locks taken = record {
   txns = txns;
-  waits = subst (λ cs. HasWaits cs (prepare_ended s session t global)) (sym taken) (waits_answered (waits_in old) s was.waits works own apart session t global is some);
+  waits = subst (λ cs. HasWaits cs (prepare_ended s session t global)) (sym taken) (waits_answered (waits_in old) s was.waits own apart session t global is some);
   resolving = resolving_kept (txns_in old) (txns_in new) (waits_in old) (waits_in new) s (prepare_ended s session t global) rolled
-      (ap resolved_by taken ∙ resolved_answered (waits_in old) s was.waits works own apart session t global is some) refl (λ f. f) was.resolving;
+      (ap resolved_by taken ∙ resolved_answered (waits_in old) s was.waits own apart session t global is some) refl (λ f. f) was.resolving;
   locks = was.locks ∙ sym locks;
 }
   where

@@ -99,7 +99,7 @@ pub control_resolving : (old new : Control) (s : State) (was : HasControl old s)
 control_resolving old new s was a global can txns rolled waits locks = record {
   txns = txns;
   waits = subst (λ cs. HasWaits cs (resolved_state s a global)) (sym waits)
-      (waits_decided (waits_in old) s was.waits a (resolved_state s a global) refl refl (λ f. f) refl refl (λ n. refl) (not_preparing (txns_in old) s was.txns a global can)
+      (waits_decided (waits_in old) s was.waits a (resolved_state s a global) refl refl refl (λ n. refl) (not_preparing (txns_in old) s was.txns a global can)
       (λ w m is. still_asks (waits_in old) s was.waits a w m is (not_asking (txns_in old) s was.txns a global can w.session w.txn (was.waits.asking w m is).1))
       (λ k m. fewer_active (waits_in old) s was.waits a k m));
   resolving = λ f. IsPermutation-cons r s.sessions.resolving (rolled_in (txns_in new) ++ resolved_by (waits_in new))

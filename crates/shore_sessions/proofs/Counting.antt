@@ -1,5 +1,5 @@
--- How many transactions there are: those of the table, and those whose commits and resolves wait.
-use Rattle.std.proofs.Common.{◌≡◌, ◌+◌, ◌++◌, ◌∷◌, ◌==◌, [], inl, inr, ⊎_elim, ℕ, List, Bool, true, false, cond, refl, sym, ap, subst, ◌∙◌, arith, length}
+-- How many transactions there are: those of the table, and those whose resolves wait.
+use Rattle.std.proofs.Common.{◌≡◌, ◌+◌, ◌++◌, ◌∷◌, ◌==◌, [], inl, inr, ⊎_elim, ℕ, List, Bool, true, false, cond, refl, sym, ap, subst, ◌∙◌, arith, length, suc}
 use Rattle.std.specs.Prelude.{◌||◌, filter, not}
 use Rattle.std.specs.List.{cons_option, list_any}
 use Rattle.std.proofs.lemmas.Bool.{cases_Bool, eq-eqb, eqb-true}
@@ -15,7 +15,7 @@ use Rattle.shore_txn.specs.Transactions.{undos_in}
 use Rattle.shore_txn.specs.Transactions as table
 use Rattle.shore_txn.specs.Txns.{as_session_txn, number_of}
 use Rattle.shore_txn.proofs.OneOfMany.{among_map}
-use Rattle.shore_sessions.specs.Calls.{as_resolved, asks_commit, commits_of, decides, is_decided, resolved_as, resolved_by}
+use Rattle.shore_sessions.specs.Calls.{as_resolved, asks_resolve, is_resolve, resolved_as, resolved_by}
 use Rattle.shore_sessions.specs.Controls.{txns_in, waits_in}
 use Rattle.shore_sessions.specs.Seated.{as_rolled, rolled_in}
 use Rattle.shore_sessions.specs.Standing.{HasControl}
@@ -24,14 +24,12 @@ use Rattle.shore_sessions.specs.declared.waits.WaitingCall.{WaitingCall}
 use Rattle.shore_sessions.proofs.Lists.{filter_all}
 use Rattle.shore_sessions.proofs.Permuted.{among_made, filtered}
 use Rattle.shore_sessions.proofs.Rolled.{resolve_is, rolled_is}
-use Rattle.shore_sessions.proofs.WaitSteps.{committing_count}
 
 -- ---- calls
 
-module _ (w : WaitingCall) (xs ms : List WaitingCall) (rs : List ResolvedTxn) (so_far : length xs ≡ length ms + length rs) where
-  counted : (t : ℕ) (c : Call) → length (cond (decides c) (w ∷ xs) xs) ≡ length (cond (asks_commit c) (w ∷ ms) ms) + length (cons_option (resolved_as t c) rs)
-  counted t call.Commit = omega (arith, so_far)
-  counted t (call.Resolve global asked) = omega (arith, so_far)
+module _ (w : WaitingCall) (xs : List WaitingCall) (rs : List ResolvedTxn) (so_far : length xs ≡ length rs) where
+  counted : (t : ℕ) (c : Call) → length (cond (asks_resolve c) (w ∷ xs) xs) ≡ length (cons_option (resolved_as t c) rs)
+  counted t (call.Resolve global asked) = ap suc so_far
   counted t (call.Prepare global) = so_far
   counted t call.Begin = so_far
   counted t (call.Get id) = so_far
@@ -44,12 +42,13 @@ module _ (w : WaitingCall) (xs ms : List WaitingCall) (rs : List ResolvedTxn) (s
   counted t (call.TryLock at mode) = so_far
   counted t call.Savepoint = so_far
   counted t (call.BackTo index) = so_far
+  counted t call.Commit = so_far
   counted t call.Abort = so_far
   counted t call.InDoubt = so_far
 
-pub decided_count : (calls : List WaitingCall) → length (filter is_decided calls) ≡ length (commits_of calls) + length (resolved_by calls)
-decided_count [] = refl
-decided_count (w ∷ ws) = counted w (filter is_decided ws) (commits_of ws) (resolved_by ws) (decided_count ws) w.txn w.call
+pub resolves_count : (calls : List WaitingCall) → length (filter is_resolve calls) ≡ length (resolved_by calls)
+resolves_count [] = refl
+resolves_count (w ∷ ws) = counted w (filter is_resolve ws) (resolved_by ws) (resolves_count ws) w.txn w.call
 
 -- ---- those that a resolve has decided
 
@@ -98,10 +97,9 @@ module _ (control : Control) (s : State) (was : HasControl control s) (works : s
       ∙ ap (λ rs. length (rs ++ filter has_ended (resolved_by (waits_in control)))) (none_pass has_ended (rolled_in (txns_in control)) rolled_not)
       ∙ ap length (filter_all has_ended (resolved_by (waits_in control)) resolved_so)
 
-  pub count_is : length (undos_in (txns_in control)) + length (filter is_decided (waits_in control)) ≡ txn_count s
+  pub count_is : length (undos_in (txns_in control)) + length (filter is_resolve (waits_in control)) ≡ txn_count s
   count_is =
       let active : length s.sessions.active ≡ length (undos_in (txns_in control)) = ap length was.txns.active in
-      let committing = committing_count (waits_in control) s was.waits works in
       let ended = ended_count in
-      let calls = decided_count (waits_in control) in
-      omega (arith, active, committing, ended, calls)
+      let calls = resolves_count (waits_in control) in
+      omega (arith, active, ended, calls)

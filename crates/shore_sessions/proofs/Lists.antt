@@ -53,38 +53,11 @@ module _ {A : Type 0} where
         | false ↦ append-nil (reverse (filter p xs))
       ]
 
-  -- tests that agree on each element
-  pub filter_alike : (p q : A → Bool) (xs : List A) → ((x : A) → IsAmong x xs → p x ≡ q x) → filter p xs ≡ filter q xs
-  filter_alike p q [] same = refl
-  filter_alike p q (x ∷ xs) same =
-      ap (λ b. cond b (x ∷ filter p xs) (filter p xs)) (same x (inl refl))
-      ∙ ap (λ zs. cond (q x) (x ∷ zs) zs) (filter_alike p q xs (λ y m. same y (inr m)))
-
-  -- .. that is passed by each
+  -- each passes
   pub filter_all : (p : A → Bool) (xs : List A) → ((x : A) → IsAmong x xs → p x ≡ true) → filter p xs ≡ xs
   filter_all p [] all = refl
   filter_all p (x ∷ xs) all =
       ap (λ b. cond b (x ∷ filter p xs) (filter p xs)) (all x (inl refl)) ∙ ap (λ zs. x ∷ zs) (filter_all p xs (λ y m. all y (inr m)))
-
-  pub filter_both : (p q : A → Bool) (xs : List A) → filter p (filter q xs) ≡ filter q (filter p xs)
-  filter_both p q [] = refl
-  filter_both p q (x ∷ xs) =
-      elim (p x) as (λ b. p x ≡ b → filter p (cond (q x) (x ∷ filter q xs) (filter q xs)) ≡ filter q (cond b (x ∷ filter p xs) (filter p xs))) [
-        | true ↦ λ is. passes (filter_both p q xs) is
-        | false ↦ λ is. fails (filter_both p q xs) is
-      ] refl
-    where
-      passes : filter p (filter q xs) ≡ filter q (filter p xs) → p x ≡ true → filter p (cond (q x) (x ∷ filter q xs) (filter q xs)) ≡ filter q (x ∷ filter p xs)
-      passes rest is = elim (q x) as (λ c. filter p (cond c (x ∷ filter q xs) (filter q xs)) ≡ cond c (x ∷ filter q (filter p xs)) (filter q (filter p xs))) [
-        | true ↦ ap (λ b. cond b (x ∷ filter p (filter q xs)) (filter p (filter q xs))) is ∙ ap (λ zs. x ∷ zs) rest
-        | false ↦ rest
-      ]
-
-      fails : filter p (filter q xs) ≡ filter q (filter p xs) → p x ≡ false → filter p (cond (q x) (x ∷ filter q xs) (filter q xs)) ≡ filter q (filter p xs)
-      fails rest is = elim (q x) as (λ c. filter p (cond c (x ∷ filter q xs) (filter q xs)) ≡ filter q (filter p xs)) [
-        | true ↦ ap (λ b. cond b (x ∷ filter p (filter q xs)) (filter p (filter q xs))) is ∙ rest
-        | false ↦ rest
-      ]
 
   pub among_filtered : (p : A → Bool) (x : A) (xs : List A) → IsAmong x (filter p xs) → IsAmong x xs × (p x ≡ true)
   among_filtered p x [] = λ m. absurd m

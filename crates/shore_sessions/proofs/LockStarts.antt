@@ -9,14 +9,14 @@ use Rattle.shore_path.specs.declared.answers.OnConflict.TheVariants as conflict
 use Rattle.laws_locks.specs.CallLocks.{Asked}
 use Rattle.laws_lives.specs.Sessions.{SessionTxn}
 use Rattle.laws_lives.specs.Views.{IsAmong}
-use Rattle.laws_calls.proofs.Sessions.{committed_seat, one_member, one_txn, parted}
+use Rattle.laws_calls.proofs.Sessions.{one_member, one_txn}
 use Rattle.laws_calls.specs.CallSteps.{on_conflict_of}
 use Rattle.laws_calls.specs.Events.{IsStateAfter}
 use Rattle.laws_calls.specs.States.{DoesNotWait, HasSeat, State}
 use Rattle.shore_sessions.specs.Calls.{name_of}
 use Rattle.shore_sessions.specs.Controls.{txns_in, waits_in}
 use Rattle.shore_sessions.specs.Noting.{HasSessionsOf}
-use Rattle.shore_sessions.specs.Standing.{AreResolving, HasTxns, HasWaits}
+use Rattle.shore_sessions.specs.Standing.{AreResolving, HasControl, HasTxns, HasWaits}
 use Rattle.shore_sessions.specs.declared.control.Control.{Control}
 use Rattle.shore_sessions.proofs.LockRounds.{IsStart}
 use Rattle.shore_sessions.proofs.Sitting.{seat_sits, sitting, sitting_seat}
@@ -58,13 +58,10 @@ module _ (o : Opening) (found : List LogRecord) (es : List Entry) (s : State) (k
     idle = idle;
   }
 
-  -- a session is in one transaction
-  pub stands_for : (control new : Control) → HasTxns (txns_in control) s → HasWaits (waits_in control) s → AreResolving (txns_in control) (waits_in control) s
-      → txns_in new ≡ txns_in control → waits_in new ≡ waits_in control → HasSessionsOf new s
-  stands_for control new txns waits resolving same calls = record {
-    txns = subst (λ x. HasTxns x s) (sym same) txns;
-    waits = subst (λ x. HasWaits x s) (sym calls) waits;
-    resolving = subst (λ x. AreResolving x (waits_in new) s) (sym same) (subst (λ x. AreResolving (txns_in control) x s) (sym calls) resolving);
-    works = works;
-    apart = λ a b committed seat of. parted k.sessions b a seat.0 committed (one_txn s.sessions b a seat.1 (committed_seat k.sessions a committed) of);
-  }
+-- a control with the same transactions and calls has the same sessions, whatever its locks
+pub stands_for : (control new : Control) (s : State) → HasControl control s → txns_in new ≡ txns_in control → waits_in new ≡ waits_in control → HasSessionsOf new s
+stands_for control new s was same calls = record {
+  txns = subst (λ x. HasTxns x s) (sym same) was.txns;
+  waits = subst (λ x. HasWaits x s) (sym calls) was.waits;
+  resolving = subst (λ x. AreResolving x (waits_in new) s) (sym same) (subst (λ x. AreResolving (txns_in control) x s) (sym calls) was.resolving);
+}

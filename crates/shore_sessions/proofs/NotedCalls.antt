@@ -1,6 +1,6 @@
 -- Calls that wait, of which that of one session is to be told a cycle.
 use Rattle.std.proofs.Common.{◌≡◌, ◌≢◌, inl, inr, ◌<◌, ◌++◌, ◌∷◌, [], ℕ, zero, suc, List, Some, true, false, cond, refl, sym, ap, subst, ◌∙◌, arith, length, get_or, map, set}
-use Rattle.std.specs.Prelude.{◌==◌, All, filter, if◌then◌else◌, reverse}
+use Rattle.std.specs.Prelude.{◌==◌, if◌then◌else◌, reverse}
 use Rattle.std.proofs.lemmas.Bool.{eq-eqb, ne_eqb}
 use Rattle.std.proofs.lemmas.List.{map-append}
 use Rattle.std.specs.List.{cons_option}
@@ -12,12 +12,12 @@ use Rattle.laws_calls.specs.CallSteps.{IsPreparing}
 use Rattle.laws_calls.specs.States.{State, Waiting}
 use Rattle.laws_calls.specs.Victims.{with_cycle}
 use Rattle.shore_txn.proofs.OneOfMany.{map_among}
-use Rattle.shore_sessions.specs.Calls.{as_resolved, as_waiting, as_waitings, asks_commit, awaits_record, caller_of, commits_of, cycle_noted, is_commit, logs_decision, names_of, resolved_by}
+use Rattle.shore_sessions.specs.Calls.{as_resolved, as_waiting, as_waitings, awaits_record, caller_of, cycle_noted, logs_decision, names_of, resolved_by}
 use Rattle.shore_sessions.specs.Noting.{victim_noted}
 use Rattle.shore_sessions.specs.Standing.{HasWaits}
 use Rattle.shore_sessions.specs.declared.waits.WaitingCall.{WaitingCall}
 use Rattle.shore_sessions.proofs.Lists.{reverse-cons}
-use Rattle.shore_sessions.proofs.Taking.{AreApart, all_among, among_all, among_at, apart_rest, first_apart}
+use Rattle.shore_sessions.proofs.Taking.{AreApart, among_at, apart_rest, first_apart}
 use Rattle.shore_sessions.proofs.WaitSteps.{names-with_undo, numbers_named}
 
 map_turned : {A B : Type 0} (f : A → B) (xs : List A) → map f (reverse xs) ≡ reverse (map f xs)
@@ -58,9 +58,6 @@ module _ (session : ℕ) (cycle : List ℕ) where
   resolved_noted [] = refl
   resolved_noted (w ∷ ws) = ap (λ o. cons_option o (resolved_by (cycle_noted session cycle ws))) (resolved_same w) ∙ ap (cons_option (as_resolved w)) (resolved_noted ws)
 
-  session_same : (w : WaitingCall) → (note w).session ≡ w.session
-  session_same w = ap (λ (n : ℕ × ℕ). n.0) (caller_same w)
-
   -- as the state has them
   abbrev noted_waiting : Waiting → Waiting
   noted_waiting w = if w.session == session then record { session = w.session; call = w.call; wait = w.wait; cycle = Some cycle } else w
@@ -73,31 +70,12 @@ module _ (session : ℕ) (cycle : List ℕ) where
       map_turned noted_waiting (map as_waiting calls)
       ∙ ap reverse (map_map as_waiting noted_waiting (λ w. as_waiting (note w)) waiting_same calls ∙ sym (map_map note as_waiting (λ w. as_waiting (note w)) (λ w. refl) calls))
 
-  commits_noted : (calls : List WaitingCall) → map caller_of (commits_of (cycle_noted session cycle calls)) ≡ map caller_of (commits_of calls)
-  commits_noted [] = refl
-  commits_noted (w ∷ ws) =
-      elim (w.session == session) as (λ b. map caller_of (filter is_commit (cond b (told w) w ∷ cycle_noted session cycle ws)) ≡ map caller_of (commits_of (w ∷ ws))) [
-        | true ↦ elim (asks_commit w.call) as (λ d. map caller_of (cond d (told w ∷ commits_of (cycle_noted session cycle ws)) (commits_of (cycle_noted session cycle ws))) ≡ map caller_of (cond d (w ∷ commits_of ws) (commits_of ws))) [
-          | true ↦ ap (λ l. caller_of w ∷ l) (commits_noted ws)
-          | false ↦ commits_noted ws
-        ]
-        | false ↦ elim (asks_commit w.call) as (λ d. map caller_of (cond d (w ∷ commits_of (cycle_noted session cycle ws)) (commits_of (cycle_noted session cycle ws))) ≡ map caller_of (cond d (w ∷ commits_of ws) (commits_of ws))) [
-          | true ↦ ap (λ l. caller_of w ∷ l) (commits_noted ws)
-          | false ↦ commits_noted ws
-        ]
-      ]
-
   -- none is noted if none is the session's
   pub none_noted : (calls : List WaitingCall) → ((w : WaitingCall) → IsAmong w calls → w.session ≢ session) → cycle_noted session cycle calls ≡ calls
-  none_noted [] free = refl
-  none_noted (w ∷ ws) free =
-      ap (λ b. cond b (told w) w ∷ cycle_noted session cycle ws) (ne_eqb w.session session (free w (inl refl)))
-      ∙ ap (λ l. w ∷ l) (none_noted ws (λ v m. free v (inr m)))
-
-  pub free_noted : (other : ℕ) (calls : List WaitingCall) → All (λ w. w.session ≢ other) calls → All (λ w. w.session ≢ other) (cycle_noted session cycle calls)
-  free_noted other calls free = all_among (λ (w : WaitingCall). w.session ≢ other) (cycle_noted session cycle calls) (λ w m same.
-      let was = map_among note w calls m in
-      among_all (λ (v : WaitingCall). v.session ≢ other) calls free was.0 was.1 (sym (session_same was.0) ∙ ap (λ (v : WaitingCall). v.session) was.2 ∙ same))
+  none_noted [] others = refl
+  none_noted (w ∷ ws) others =
+      ap (λ b. cond b (told w) w ∷ cycle_noted session cycle ws) (ne_eqb w.session session (others w (inl refl)))
+      ∙ ap (λ l. w ∷ l) (none_noted ws (λ v m. others v (inr m)))
 
   -- the call at an index is the session's
   pub set_noted : (calls : List WaitingCall) → AreApart calls → (i : ℕ) → i < length calls → ((d : WaitingCall) → (get_or calls i d).session ≡ session) → (d : WaitingCall)
@@ -109,20 +87,6 @@ module _ (session : ℕ) (cycle : List ℕ) where
   set_noted (x ∷ xs) apart (suc i) less own d =
       ap (λ l. x ∷ l) (set_noted xs (apart_rest x xs apart) i (omega arith) own d)
       ∙ ap (λ b. cond b (told x) x ∷ cycle_noted session cycle xs) (sym (ne_eqb x.session session (λ same. first_apart x xs apart (get_or xs i x) (among_at xs i x (omega arith)) (same ∙ sym (own x)))))
-
-  apart_more : (x : WaitingCall) (xs : List WaitingCall) → ((w : WaitingCall) → IsAmong w xs → x.session ≢ w.session) → AreApart xs → AreApart (x ∷ xs)
-  apart_more x xs first rest zero zero d less within = absurd (omega (arith, less))
-  apart_more x xs first rest zero (suc j) d less within = first (get_or xs j d) (among_at xs j d (omega (arith, within)))
-  apart_more x xs first rest (suc i) zero d less within = absurd (omega (arith, less))
-  apart_more x xs first rest (suc i) (suc j) d less within = rest i j d (omega (arith, less)) (omega (arith, within))
-
-  -- a session waits with one call still
-  pub apart_noted : (calls : List WaitingCall) → AreApart calls → AreApart (cycle_noted session cycle calls)
-  apart_noted [] apart = apart
-  apart_noted (x ∷ xs) apart = apart_more (note x) (cycle_noted session cycle xs)
-      (λ w m same. let was = map_among note w xs m in
-      first_apart x xs apart was.0 was.1 (sym (session_same x) ∙ same ∙ ap (λ (v : WaitingCall). v.session) (sym was.2) ∙ session_same was.0))
-      (apart_noted xs (apart_rest x xs apart))
 
 -- ---- what they tell of a state
 
@@ -144,7 +108,6 @@ module _ (calls : List WaitingCall) (s : State) (was : HasWaits calls s) (b : Se
     kinds = λ w m.
         let old = noted_of w m in
         ap awaits_record (sym old.2) ∙ record_same b.session cycle old.0 ∙ was.kinds old.0 old.1 ∙ ap logs_decision (sym (call_same b.session cycle old.0) ∙ ap (λ (v : WaitingCall). v.call) old.2);
-    committing = λ works. was.committing works ∙ sym (ap reverse (commits_noted b.session cycle calls));
     asking = λ w m is.
         let old = noted_of w m in
         let caller = sym (caller_same b.session cycle old.0) ∙ ap caller_of old.2 in

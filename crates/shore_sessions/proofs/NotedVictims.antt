@@ -1,12 +1,11 @@
 -- Victims as they are noted one after another: what each makes of the transactions, and whose call is told.
-use Rattle.std.proofs.Common.{◌≡◌, ◌≢◌, ◌<◌, ⊎_elim, ℕ, List, [], ◌∷◌, true, false, map, refl, sym, ap, subst, ◌∙◌, arith}
+use Rattle.std.proofs.Common.{◌≡◌, ◌≢◌, ⊎_elim, ℕ, List, [], ◌∷◌, true, false, map, refl, sym, ap, subst, ◌∙◌, arith}
 use Rattle.std.proofs.lemmas.Bool.{cases_Bool}
 use Rattle.shore_model.specs.declared.sessions.SessionState.{SessionState}
 use Rattle.laws_lives.specs.Sessions.{EachOnce, SessionTxn, in_txn, txns_of, with_undo}
 use Rattle.laws_lives.specs.UndoLists.{undo_rolled}
 use Rattle.laws_lives.specs.Views.{IsAmong}
 use Rattle.shore_model.specs.declared.rollbacks.Rollback.TheVariants.{Whole}
-use Rattle.laws_lives.proofs.Members.{among_with}
 use Rattle.shore_model.specs.declared.requests.Request.{Request}
 use Rattle.laws_calls.specs.CallSteps.{with_requests}
 use Rattle.laws_calls.specs.States.{State, Waiting}
@@ -36,7 +35,7 @@ use Rattle.shore_sessions.proofs.RollbackSteps.{becomes_of}
 use Rattle.shore_sessions.proofs.SeatSteps.{StaysSeated, doomed_seated, rolled_kept}
 use Rattle.shore_sessions.proofs.Taking.{among_all}
 use Rattle.shore_sessions.proofs.TxnSteps.{StaysLogged, txns_still}
-use Rattle.shore_sessions.proofs.WaitSteps.{asker_of, commits, names-with_undo, one_of_three, waiting_call, waits_kept}
+use Rattle.shore_sessions.proofs.WaitSteps.{asker_of, names-with_undo, one_of_two, waiting_call, waits_kept}
 
 -- ---- what is kept
 
@@ -104,10 +103,8 @@ module _ (old new : Transactions) {number : ℕ} (one : OneBecomes number IsDoom
 pub stands_locked : (control : Control) (s : State) (rs : List Request) → HasSessionsOf control s → HasSessionsOf control (with_requests s rs)
 stands_locked control s rs stands = record {
   txns = txns_kept (txns_in control) (txns_in control) s (with_requests s rs) refl refl refl (λ n. refl) refl refl refl stands.txns;
-  waits = waits_kept (waits_in control) s stands.waits (with_requests s rs) refl refl (λ f. f) refl (λ n. refl) refl refl;
+  waits = waits_kept (waits_in control) s stands.waits (with_requests s rs) refl refl (λ n. refl) refl refl;
   resolving = stands.resolving;
-  works = stands.works;
-  apart = λ a b committed seat. stands.apart a b committed (seat.0, seat.1, seat.2);
 }
 
 -- ---- whose call is told
@@ -137,10 +134,7 @@ module _ (control : Control) (s : State) (stands : HasSessionsOf control s) (ses
       in_it = ap s.sessions.seats own ∙ notable.seat.1
 
       no_record : logs_decision w.call ≡ true → ⊥
-      no_record logs = one_of_three w.call logs
-          (λ commit.
-          let its = commits (waits_in control) s stands.waits w m commit stands.works in
-          stands.apart its.0 b its.1 notable.seat (sym own ∙ sym its.2))
+      no_record logs = one_of_two w.call logs
           (λ global is. opposite (ap (λ (p : SessionState). p.prepared) (sym (stands.waits.preparing w global m is).1 ∙ in_it)))
           (λ global asked is.
           let some = notable.seat.2 in
@@ -162,11 +156,6 @@ module _ (control : Control) (s : State) (stands : HasSessionsOf control s) (ses
     waits = subst (λ cs. HasWaits cs (victim_noted s b v.cycle)) (sym waits) (waits_noted (waits_in control) s stands.waits b v.cycle);
     resolving = resolving_kept (txns_in control) (txns_in new) (waits_in control) (waits_in new) s (victim_noted s b v.cycle) rolled
         (ap resolved_by waits ∙ resolved_noted b.session v.cycle (waits_in control)) refl (λ f. f) stands.resolving;
-    works = stands.works;
-    apart = λ a d committed seat same.
-        let its = among_with b.txn (undo_rolled b.undo b.undo.images Whole) d s.sessions.active seat.0 in
-        stands.apart a its.was committed
-        (its.there, ap s.sessions.seats (sym its.session) ∙ seat.1 ∙ ap in_txn its.txn, subst (λ n. 0 < n) its.txn seat.2) (sym its.session ∙ same);
   }
 
   -- no call of the session waits yet

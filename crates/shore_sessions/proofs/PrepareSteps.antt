@@ -45,7 +45,7 @@ use Rattle.shore_sessions.proofs.Permuted.{made_without}
 use Rattle.shore_sessions.proofs.SeatSteps.{its_seats}
 use Rattle.shore_sessions.proofs.Seats.{doubt_there, seat_there}
 use Rattle.shore_sessions.proofs.TxnSteps.{above_pushed, each_was, logged_beside, names_were, unrolled}
-use Rattle.shore_sessions.proofs.WaitSteps.{committers-pushed, other_asks, resolved_still, waitings-push}
+use Rattle.shore_sessions.proofs.WaitSteps.{other_asks, resolved_still, waitings-push}
 
 clash : true ≡ false → ⊥
 clash e = cc
@@ -179,7 +179,6 @@ module _ (calls : List WaitingCall) (s : State) (was : HasWaits calls s) (a : Se
     kinds = λ w n. ⊎_elim (λ old. was.kinds w old)
         (λ new. ⊎_elim (λ same. subst (λ (v : WaitingCall). awaits_record v ≡ logs_decision v.call) same refl) (λ none. absurd none) new)
         (among_either w calls (it ∷ []) n);
-    committing = λ f. was.committing f ∙ sym (committers-pushed calls it [] refl);
     asking = λ w n is. ⊎_elim
         (λ old. let its = was.asking w old is in
         (its.0, unlike_still (s.sessions.seats w.session) a.txn (λ same. other_asks calls s was a seat.0 once free_calls w old is (sym (ap (λ (x : SessionState). x.txn) its.1) ∙ same)) ∙ its.1))

@@ -172,7 +172,6 @@ module _ (old new : Control) (s : State) (was : HasControl old s) (works : s.fai
   waits_rolled = record {
     waiting = was.waits.waiting;
     kinds = was.waits.kinds;
-    committing = was.waits.committing;
     asking = λ w n is. let its = was.waits.asking w n is in (still_asks (waits_in old) s was.waits a w n is (nobody_in w.session w.txn its.1), its.1);
     preparing = was.waits.preparing;
     ended = λ w q n is. let its = was.waits.ended w q n is in ((λ k. its.0 (fewer_active (waits_in old) s was.waits a w.txn k)), its.1, its.2);
@@ -288,8 +287,7 @@ module _ (old new : Transactions) (s : State) (was : HasTxns old s) (a : Session
 
 -- ---- the calls, as the transaction is decided
 
-module _ (calls : List WaitingCall) (s : State) (was : HasWaits calls s) (a : SessionTxn) (t : State) (waiting : t.waiting ≡ s.waiting) (committing : t.sessions.committing ≡ s.sessions.committing)
-    (works : t.failed ≡ false → s.failed ≡ false) (prepared : t.sessions.prepared ≡ without_prepared a.txn s.sessions.prepared) (next : t.sessions.next_txn ≡ s.sessions.next_txn)
+module _ (calls : List WaitingCall) (s : State) (was : HasWaits calls s) (a : SessionTxn) (t : State) (waiting : t.waiting ≡ s.waiting) (prepared : t.sessions.prepared ≡ without_prepared a.txn s.sessions.prepared) (next : t.sessions.next_txn ≡ s.sessions.next_txn)
     (seats : (n : ℕ) → t.sessions.seats n ≡ once_decided (s.sessions.seats n) a.txn)
     (others : (k : ℕ) (name : List ℕ) → IsAmong (record { txn = k; global = name; answered = false }) s.sessions.prepared → k ≢ a.txn) where
   pub waits_decided : ((w : WaitingCall) → IsAmong w calls → awaits_record w ≡ false → IsAmong (caller_of w) (names_of t.sessions.active))
@@ -297,7 +295,6 @@ module _ (calls : List WaitingCall) (s : State) (was : HasWaits calls s) (a : Se
   waits_decided asks fewer = record {
     waiting = waiting ∙ was.waiting;
     kinds = was.kinds;
-    committing = λ f. ap names_of committing ∙ was.committing (works f);
     asking = λ w m is. (asks w m is, seats w.session ∙ txn_still (s.sessions.seats w.session) a.txn w.txn (was.asking w m is).1 ∙ (was.asking w m is).1);
     preparing = λ w name m is.
         let its = was.preparing w name m is in

@@ -21,7 +21,7 @@ use Rattle.shore_txn.specs.Transactions.{undos_in}
 use Rattle.shore_txn.specs.Transactions as table
 use Rattle.shore_txn.specs.Txns.{as_session_txn, number_of}
 use Rattle.shore_txn.proofs.OneOfMany.{among_map}
-use Rattle.shore_sessions.specs.Calls.{as_resolved, asks_commit, awaits_record, logs_decision, resolved_by}
+use Rattle.shore_sessions.specs.Calls.{as_resolved, awaits_record, logs_decision, resolved_by}
 use Rattle.shore_sessions.specs.Controls.{locks_in, txns_in, waits_in}
 use Rattle.shore_sessions.specs.Seated.{as_rolled, rolled_in}
 use Rattle.shore_sessions.specs.Standing.{HasControl, HasControlBut, HasWaits}
@@ -31,9 +31,9 @@ use Rattle.shore_sessions.proofs.ControlSteps.{txns_kept}
 use Rattle.shore_sessions.proofs.EndedWaits.{has_ended}
 use Rattle.shore_sessions.proofs.Lists.{among_either, filter_all}
 use Rattle.shore_sessions.proofs.Permuted.{among_made, filtered, made_among, made_passing}
-use Rattle.shore_sessions.proofs.Rolled.{resolve_is, rolled_is}
+use Rattle.shore_sessions.proofs.Rolled.{rolled_is}
 use Rattle.shore_sessions.proofs.Taking.{AreApart, is_other, one_of_session}
-use Rattle.shore_sessions.proofs.WaitSteps.{committers-pushed, committers_stay, others_wait, resolved_pushed, waitings-push}
+use Rattle.shore_sessions.proofs.WaitSteps.{others_wait, resolved_pushed, waitings-push}
 
 clash : true ≡ false → ⊥
 clash e = cc
@@ -82,7 +82,6 @@ module _ (calls : List WaitingCall) (s : State) (was : HasWaits calls s) (sessio
     kinds = λ w n. ⊎_elim (λ old. was.kinds w old)
         (λ new. ⊎_elim (λ same. subst (λ (v : WaitingCall). awaits_record v ≡ logs_decision v.call) same refl) (λ none. absurd none) new)
         (among_either w calls (it ∷ []) n);
-    committing = λ f. was.committing f ∙ sym (committers-pushed calls it [] refl);
     asking = λ w n is. ⊎_elim (λ old. was.asking w old is)
         (λ new. ⊎_elim (λ same. absurd (clash (ap awaits_record same ∙ is))) (λ none. absurd none) new)
         (among_either w calls (it ∷ []) n);
@@ -145,7 +144,6 @@ control_told control s session r was = record {
   waits = record {
     waiting = was.waits.waiting;
     kinds = was.waits.kinds;
-    committing = was.waits.committing;
     asking = λ w m is. let its = was.waits.asking w m is in (its.0, seats w.session ∙ its.1);
     preparing = λ w global m is. let its = was.waits.preparing w global m is in (its.0, seats w.session ∙ its.1);
     ended = λ w q m is. let its = was.waits.ended w q m is in (its.0, its.1, seats w.session ∙ its.2);
@@ -179,17 +177,13 @@ pub control_resolved : (old new : Control) (s : State) (session : ℕ) (w : Wait
 control_resolved old new s session w r was works apart m own is same locks taken = record {
   txns = txns_kept (txns_in old) (txns_in new) s (resolve_ended s session r) same refl refl seats refl refl refl was.txns;
   waits = subst (λ cs. HasWaits cs (resolve_ended s session r)) (sym taken)
-      (others_wait (waits_in old) s was.waits session (resolve_ended s session r) refl
-      (λ f. committers_stay (waits_in old) s was.waits session apart w m own (ap asks_commit resolves.1) f) refl refl (λ n other. seats n)
+      (others_wait (waits_in old) s was.waits session (resolve_ended s session r) refl refl refl (λ n other. seats n)
       (λ v global n other prepares. (was.waits.preparing v global n prepares).0));
   resolving = λ f. subst (IsPermutation (without_resolved r.txn s.sessions.resolving)) left
       (filtered (λ (q : ResolvedTxn). not (r.txn == q.txn)) s.sessions.resolving (rolled_in (txns_in old) ++ resolved_by (waits_in old)) (was.resolving f));
   locks = was.locks ∙ sym locks;
 }
   where
-    resolves : (w.txn ≡ r.txn) × (w.call ≡ call.Resolve r.global r.outcome)
-    resolves = resolve_is w.txn w.call r is
-
     seats : (n : ℕ) → (resolve_ended s session r).sessions.seats n ≡ s.sessions.seats n
     seats n = same_either (session == n) (s.sessions.seats n)
 

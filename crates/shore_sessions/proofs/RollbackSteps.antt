@@ -1,9 +1,8 @@
 -- What savepoints, rollbacks and their endings make of the transactions under way.
-use Rattle.std.proofs.Common.{◌≡◌, ◌≢◌, ⊎_elim, ◌+◌, ◌<◌, ◌++◌, ◌∷◌, ◌==◌, [], ℕ, List, Bool, true, false, cond, drop, refl, sym, ap, subst, ◌∙◌, arith, length, map, take}
+use Rattle.std.proofs.Common.{◌≡◌, ◌≢◌, ◌+◌, ◌<◌, ◌++◌, ◌∷◌, [], ℕ, List, Bool, true, false, cond, drop, refl, sym, ap, subst, ◌∙◌, arith, length, map, take}
 use Rattle.std.specs.Prelude.{reverse}
 use Rattle.std.specs.List.{AllByRecursion}
 use Rattle.std.specs.List.Sorted.{IsPermutation}
-use Rattle.std.proofs.lemmas.Bool.{cases_Bool, ne_eqb}
 use Rattle.std.proofs.lemmas.List.{append-nil, map-append, take-append-drop}
 use Rattle.shore_types.specs.Images.{Image}
 use Rattle.shore_types.specs.declared.ids.Rid.{Rid}
@@ -11,7 +10,6 @@ use Rattle.shore_types.specs.declared.layout.TheConstants.{ENDING_COST}
 use Rattle.shore_model.specs.declared.log_records.LogRecord.{LogRecord}
 use Rattle.shore_model.specs.declared.log_records.Payload.TheVariants.{Compensation, End}
 use Rattle.shore_model.specs.declared.unanswered_changes.UnansweredChange.{UnansweredChange}
-use Rattle.shore_model.specs.declared.sessions.SessionState.{SessionState}
 use Rattle.shore_model.specs.Histories.{free}
 use Rattle.shore_model.specs.Logs.{previous_of, unanswered, undo_next_of}
 use Rattle.shore_logrec.specs.Text.{cost_of}
@@ -46,7 +44,7 @@ use Rattle.shore_sessions.specs.Standing.{HasTxns, IsLogged, abort_ended, as_cha
 use Rattle.shore_sessions.proofs.Lists.{all_by_members, reverse-cons}
 use Rattle.shore_sessions.proofs.LogSteps.{cost_push, previous_own, rollback_not}
 use Rattle.shore_sessions.proofs.SeatSteps.{undo_seated}
-use Rattle.shore_sessions.proofs.TxnSteps.{StaysLogged, above_pushed, above_still, changes_push, each_was, logged_beside, names_left, others_logged, seats_left, txns_on}
+use Rattle.shore_sessions.proofs.TxnSteps.{StaysLogged, above_pushed, above_still, changes_push, each_was, entered_less, logged_beside, names_left, others_logged, others_seated, seats_left, txns_on}
 
 -- ---- what a log has of each stays
 
@@ -198,36 +196,13 @@ module _ (old new : Transactions) (s : State) (was : HasTxns old s) where
         (all_by_members (IsLogged s.log) (table.txns_in new) (each_left (IsLogged s.log) (IsLogged s.log) old.numbers (each_was old new s was) one (λ u apart is. is)))
         (above_still old new s was next)
 
-    module _ (seat : s.sessions.seats a.session ≡ in_txn a.txn) (works : Bool) where
-      free_now : (n : ℕ) → (abort_ended s a works).sessions.seats n ≡ cond (a.session == n) free (s.sessions.seats n)
-      free_now n = refl
-
-      -- whose session was in another is in it still
-      its_others : (u : Txn) → IsAmong u (table.txns_in old) → number_of u ≢ number → IsSeated s.sessions u → IsSeated (abort_ended s a works).sessions u
-      its_others u n apart was_seated = record {
-        own = λ seated.
-            let other : a.session ≢ u.session = λ same. apart
-            (ap (λ (p : SessionState). p.txn) (sym (ap s.sessions.seats same ∙ was_seated.own seated) ∙ seat) ∙ own) in
-            ap (λ b. cond b free (s.sessions.seats u.session)) (ne_eqb a.session u.session other) ∙ was_seated.own seated;
-        alone = λ k at. ⊎_elim
-            (λ same. let some = u.some in let none = sym (ap (λ b. (cond b free (s.sessions.seats k)).txn) same) ∙ at in absurd (omega (arith, some, none)))
-            (λ other. was_seated.alone k (sym (ap (λ b. (cond b free (s.sessions.seats k)).txn) other) ∙ at))
-            (cases_Bool (a.session == k));
-      }
-
-      entered_less : (n : ℕ) → ((abort_ended s a works).sessions.seats n).txn < next_in old
-      entered_less n = ⊎_elim
-          (λ same. let some = old.some in subst (λ b. (cond b free (s.sessions.seats n)).txn < next_in old) (sym same) (omega (arith, some)))
-          (λ other. subst (λ b. (cond b free (s.sessions.seats n)).txn < next_in old) (sym other) (was.entered n))
-          (cases_Bool (a.session == n))
-
     pub txns_aborted : s.sessions.seats a.session ≡ in_txn a.txn → (logged : Bool) → (room_in new).kept ≡ (room_in old).kept + cond logged ENDING_COST 0 → HasTxns new (abort_ended s a logged)
     txns_aborted seat true kept =
         txns_ended (abort_ended s a true) (record {
           active = refl;
           prepared = refl;
-          seats = its_others seat true;
-          entered = entered_less seat true;
+          seats = others_seated old new s was number changes a one m own seat (abort_ended s a true).sessions (λ n. refl);
+          entered = entered_less old new s was number changes a one m own seat (abort_ended s a true).sessions (λ n. refl);
           number_to_come = refl;
           bytes = refl;
           log_is = refl;
@@ -236,8 +211,8 @@ module _ (old new : Transactions) (s : State) (was : HasTxns old s) where
         txns_gone (abort_ended s a false) (record {
           active = refl;
           prepared = refl;
-          seats = its_others seat false;
-          entered = entered_less seat false;
+          seats = others_seated old new s was number changes a one m own seat (abort_ended s a false).sessions (λ n. refl);
+          entered = entered_less old new s was number changes a one m own seat (abort_ended s a false).sessions (λ n. refl);
           number_to_come = refl;
           bytes = refl;
           log_is = refl;

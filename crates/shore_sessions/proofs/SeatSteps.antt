@@ -10,20 +10,14 @@ use Rattle.shore_txn.specs.ActiveTxns.{OneBecomes}
 use Rattle.shore_txn.specs.Transactions.{undos_in}
 use Rattle.shore_txn.specs.Transactions as table
 use Rattle.shore_txn.specs.TxnStates.{is_in_doubt}
-use Rattle.shore_txn.specs.Txns.{IsAfterChange, IsAfterSavepoint, IsAfterUndo, IsBackAt, IsDoomed, IsOf, SameTxn, as_session_txn, decided_of, global_of, number_of, state_of}
+use Rattle.shore_txn.specs.Txns.{IsAfterChange, IsAfterSavepoint, IsAfterUndo, IsBackAt, IsDoomed, IsOf, SameTxn, decided_of, global_of, number_of, state_of}
 use Rattle.shore_txn.specs.declared.transactions.Transactions.{Transactions}
 use Rattle.shore_txn.specs.declared.txn.Txn.{Txn}
 use Rattle.shore_txn.specs.declared.undo.UndoEntry.{UndoEntry}
 use Rattle.shore_model.specs.declared.rollbacks.Rollback.{Rollback}
-use Rattle.shore_txn.proofs.OneOfMany.{all_among, among_map, once_same}
+use Rattle.shore_txn.proofs.OneOfMany.{all_among}
 use Rattle.shore_sessions.specs.Seated.{IsNamed, IsSeated, as_rolled, is_rolled, rolled_as, seat_as}
 use Rattle.shore_sessions.proofs.Permuted.{made_with}
-
--- a transaction of the table by its number
-pub one_numbered : (txns : Transactions) (t u : Txn) → IsAmong t (table.txns_in txns) → IsAmong u (table.txns_in txns) → number_of t ≡ number_of u → as_session_txn t ≡ as_session_txn u
-one_numbered txns t u m n same =
-    once_same (λ (a : SessionTxn). a.txn) (undos_in txns) txns.numbers (as_session_txn t) (as_session_txn u)
-    (among_map as_session_txn t (table.txns_in txns) m) (among_map as_session_txn u (table.txns_in txns) n) same
 
 -- ---- one is as it was to its session, and by its name
 

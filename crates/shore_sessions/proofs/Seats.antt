@@ -1,5 +1,5 @@
 -- Which transaction a session is in, by the table and by the sessions.
-use Rattle.std.proofs.Common.{◌≡◌, ◌≢◌, ◌⊎◌, inl, inr, ⊎_elim, ◌<◌, ℕ, List, [], None, Some, true, false, unwrap_or, refl, sym, subst, ap, ◌∙◌, arith}
+use Rattle.std.proofs.Common.{◌≡◌, ◌⊎◌, inl, inr, ⊎_elim, ◌<◌, ℕ, List, [], None, Some, true, false, unwrap_or, refl, sym, subst, ap, ◌∙◌, arith}
 use Rattle.std.proofs.lemmas.Option.{same_Some}
 use Rattle.shore_model.specs.declared.sessions.SessionState.{SessionState}
 use Rattle.laws_lives.specs.OwnSeats.{HasOwnSeats, IsIn}
@@ -82,9 +82,9 @@ module _ (txns : Transactions) (s : State) (was : HasTxns txns s) where
       let t = among_made as_prepared p (table.txns_in txns) (permuted_among s.sessions.prepared (prepared_in txns) was.prepared p m) in
       (t.0, t.1, doubt_is (number_of t.0) (unwrap_or (global_of t.0) []) (state_of t.0) p t.2)
 
-  -- a session that is in none of the table, and whose commit does not wait, is in none
-  pub in_no_txn : HasOwnSeats s.sessions → (session : ℕ) → HasNoTxnOf session txns → ((a : SessionTxn) → IsAmong a s.sessions.committing → a.session ≢ session) → HasNoTxn s session
-  in_no_txn seats session none committing = ⊎_elim
+  -- a session that is in none of the table is in none
+  pub in_no_txn : HasOwnSeats s.sessions → (session : ℕ) → HasNoTxnOf session txns → HasNoTxn s session
+  in_no_txn seats session none = ⊎_elim
       (λ out. out)
       (λ more. ⊎_elim (λ i. absurd (in_one i.0 i.1)) (λ d. absurd (in_doubt d.0 d.1 d.2)) more)
       (seats.there session)
@@ -93,12 +93,11 @@ module _ (txns : Transactions) (s : State) (was : HasTxns txns s) where
       not_its : (t : Txn) → IsAmong t (table.txns_in txns) → (s.sessions.seats session).txn ≡ number_of t → ⊥
       not_its t m at = none t m ((its_seats txns s.sessions was.seats t m).alone session at)
 
-      in_one : (t : ℕ) → IsIn (names_of s.sessions.active) (names_of s.sessions.committing) (in_doubt_of s.sessions) (resolved_of s.sessions) session t → ⊥
-      in_one t (inl is) =
+      in_one : (t : ℕ) → IsIn (names_of s.sessions.active) (in_doubt_of s.sessions) (resolved_of s.sessions) session t → ⊥
+      in_one t is =
           let a = map_among name_of (session, t) s.sessions.active is.0 in
           let u = active_there a.0 a.1 in
-          not_its u.0 u.1 (ap (λ (p : SessionState). p.txn) (seats.own session t (inl is)) ∙ sym (ap (λ (b : SessionTxn). b.txn) u.2 ∙ ap (λ (n : ℕ × ℕ). n.1) a.2))
-      in_one t (inr is) = let a = map_among name_of (session, t) s.sessions.committing is in committing a.0 a.1 (ap (λ (n : ℕ × ℕ). n.0) a.2)
+          not_its u.0 u.1 (ap (λ (p : SessionState). p.txn) (seats.own session t is) ∙ sym (ap (λ (b : SessionTxn). b.txn) u.2 ∙ ap (λ (n : ℕ × ℕ). n.1) a.2))
 
       in_doubt : (t : ℕ) → IsAmong t (in_doubt_of s.sessions) → s.sessions.seats session ≡ record { txn = t; prepared = true } → ⊥
       in_doubt t m at =

@@ -13,6 +13,7 @@ use Rattle.shore_model.specs.declared.log_records.Payload.{Payload}
 use Rattle.shore_model.specs.declared.log_records.Payload.TheVariants.{Change, Commit}
 use Rattle.shore_model.specs.declared.sessions.SessionState.{SessionState}
 use Rattle.shore_model.specs.declared.unanswered_changes.UnansweredChange.{UnansweredChange}
+use Rattle.shore_model.specs.Histories.{free}
 use Rattle.shore_model.specs.Logs.{previous_of, unanswered}
 use Rattle.shore_logrec.specs.Text.{cost_of}
 use Rattle.shore_page.specs.Room.{claim_at}
@@ -365,14 +366,33 @@ module _ (old new : Transactions) (s : State) (was : HasTxns old s) where
       rolled_left =
           ap (filter_map as_rolled) one.is ∙ sym (made_without as_rolled one.newer one.older one.one leaver_unrolled) ∙ ap (filter_map as_rolled) (sym one.was)
 
+      -- once its session is freed, those of others are in what they were in
+      module _ (t : Sessions) (freed : (n : ℕ) → t.seats n ≡ cond (a.session == n) free (s.sessions.seats n)) where
+        pub others_seated : (u : Txn) → IsAmong u (table.txns_in old) → number_of u ≢ number → IsSeated s.sessions u → IsSeated t u
+        others_seated u n apart was_seated = record {
+          own = λ seated.
+              let other : a.session ≢ u.session = λ same. apart (ap (λ (p : SessionState). p.txn) (sym (ap s.sessions.seats same ∙ was_seated.own seated) ∙ seat) ∙ own) in
+              freed u.session ∙ ap (λ b. cond b free (s.sessions.seats u.session)) (ne_eqb a.session u.session other) ∙ was_seated.own seated;
+          alone = λ k at. ⊎_elim
+              (λ same. let some = u.some in let none = sym (ap (λ (p : SessionState). p.txn) (freed k ∙ ap (λ b. cond b free (s.sessions.seats k)) same)) ∙ at in absurd (omega (arith, some, none)))
+              (λ other. was_seated.alone k (sym (ap (λ (p : SessionState). p.txn) (freed k ∙ ap (λ b. cond b free (s.sessions.seats k)) other)) ∙ at))
+              (cases_Bool (a.session == k));
+        }
+
+        pub entered_less : (n : ℕ) → (t.seats n).txn < next_in old
+        entered_less n = subst (λ (p : SessionState). p.txn < next_in old) (sym (freed n)) (⊎_elim
+            (λ same. let some = old.some in subst (λ b. (cond b free (s.sessions.seats n)).txn < next_in old) (sym same) (omega (arith, some)))
+            (λ other. subst (λ b. (cond b free (s.sessions.seats n)).txn < next_in old) (sym other) (was.entered n))
+            (cases_Bool (a.session == n)))
+
       -- its Commit is logged
       pub txns_committed : undos_in new ≡ without_txn a.txn (undos_in old) → prepared_in new ≡ prepared_in old → next_in new ≡ next_in old → (room_in new).kept ≡ (room_in old).kept + ENDING_COST
           → (room_in new).stream_bytes ≡ (room_in old).stream_bytes → HasTxns new (committed s a)
       txns_committed undos doubts next kept stream = record {
         active = ap (without_txn a.txn) was.active ∙ sym undos;
         prepared = subst (IsPermutation s.sessions.prepared) (sym doubts) was.prepared;
-        seats = seats_left (committed s a).sessions (λ u n apart is. seats_same s.sessions (committed s a).sessions (λ k. refl) u is);
-        entered = λ n. subst (λ k. (s.sessions.seats n).txn < k) (sym next) (was.entered n);
+        seats = seats_left (committed s a).sessions (others_seated (committed s a).sessions (λ n. refl));
+        entered = λ n. subst (λ k. ((committed s a).sessions.seats n).txn < k) (sym next) (entered_less (committed s a).sessions (λ k. refl) n);
         names = names_left;
         next = was.next ∙ sym next;
         stream = was.stream ∙ sym stream;

@@ -1,30 +1,28 @@
 -- What the calls that wait tell of a state, and what each step makes of them.
-use Rattle.std.proofs.Common.{◌≡◌, ◌≢◌, ◌<◌, inr, ⊎_elim, ◌++◌, ◌∷◌, [], ℕ, List, None, Some, Bool, true, false, cond, refl, sym, ap, subst, ◌∙◌, append-nil, arith, length, map}
-use Rattle.std.specs.Prelude.{◌==◌, ◌||◌, All, filter, not, reverse}
+use Rattle.std.proofs.Common.{◌≡◌, ◌≢◌, ◌<◌, inr, ⊎_elim, ◌++◌, ◌∷◌, [], ℕ, List, None, Some, Bool, true, false, cond, refl, sym, ap, subst, ◌∙◌, append-nil, arith, map}
+use Rattle.std.specs.Prelude.{◌==◌, All, filter, not, reverse}
 use Rattle.std.specs.List.{cons_option}
-use Rattle.std.proofs.lemmas.Bool.{eq-eqb, eqb-true, eqb-false, ne_eqb}
-use Rattle.std.proofs.lemmas.List.Elements.{filter-append, filter_map-append}
-use Rattle.std.proofs.lemmas.List.{length-map, length-reverse, map-append, reverse-append}
+use Rattle.std.proofs.lemmas.Bool.{ne_eqb}
+use Rattle.std.proofs.lemmas.List.Elements.{filter_map-append}
+use Rattle.std.proofs.lemmas.List.{map-append, reverse-append}
 use Rattle.shore_types.specs.declared.locking.Granule.{Granule}
 use Rattle.shore_model.specs.declared.calls.Call.{Call}
 use Rattle.shore_model.specs.declared.calls.Call.TheVariants as call
 use Rattle.shore_model.specs.declared.calls.Outcome.{Outcome}
-use Rattle.shore_model.specs.declared.sessions.SessionState.{SessionState}
 use Rattle.shore_model.specs.Histories.{free}
-use Rattle.laws_lives.specs.OwnSeats.{HasOwnSeats}
 use Rattle.laws_lives.specs.Sessions.{EachOnce, ResolvedTxn, SessionTxn, in_txn, txns_of, with_undo, without_txn}
 use Rattle.laws_lives.specs.UndoLists.{UndoList}
 use Rattle.laws_lives.specs.Views.{IsAmong}
 use Rattle.laws_lives.proofs.Members.{member_stays}
-use Rattle.laws_calls.specs.StateChanges.{begun, committed, decision_waiting, wait_refused}
-use Rattle.laws_calls.specs.CallSteps.{commit_ended, lock_waiting}
-use Rattle.laws_calls.specs.States.{DoesNotWait, HasSeat, IsOfSession, State, Waiting, next_number, without_waiting}
-use Rattle.shore_model.specs.declared.step.Wait.TheVariants.{Durable, Lock}
+use Rattle.laws_calls.specs.StateChanges.{begun, wait_refused}
+use Rattle.laws_calls.specs.CallSteps.{lock_waiting}
+use Rattle.laws_calls.specs.States.{DoesNotWait, HasSeat, IsOfSession, State, Waiting, without_waiting}
+use Rattle.shore_model.specs.declared.step.Wait.TheVariants.{Lock}
 use Rattle.shore_txn.proofs.OneOfMany.{among_map, map_among, once_same}
-use Rattle.shore_sessions.specs.Calls.{as_resolved, as_waiting, as_waitings, asks_commit, asks_prepare, asks_resolve, awaits_record, caller_of, commits_of, committers_of, is_commit, logs_decision, name_of, names_of, resolved_as, resolved_by}
-use Rattle.shore_sessions.specs.Standing.{HasWaits, abort_ended}
+use Rattle.shore_sessions.specs.Calls.{as_resolved, as_waiting, as_waitings, awaits_record, caller_of, logs_decision, name_of, names_of, resolved_as, resolved_by}
+use Rattle.shore_sessions.specs.Standing.{HasWaits}
 use Rattle.shore_sessions.specs.declared.waits.WaitingCall.{WaitingCall}
-use Rattle.shore_sessions.proofs.Lists.{among_either, among_filtered, among_passing, among_turned, filter-map, filter-reverse, filter_alike, filter_all, filter_both, turned_among}
+use Rattle.shore_sessions.proofs.Lists.{among_either, among_filtered, among_turned, filter-map, filter-reverse, filter_all, turned_among}
 use Rattle.shore_sessions.proofs.Permuted.{among_made, made_among, made_passing}
 use Rattle.shore_sessions.proofs.Taking.{AreApart, among_all, is_other, one_of_session, own_is_not_other}
 
@@ -33,24 +31,9 @@ use Rattle.shore_sessions.proofs.Taking.{AreApart, among_all, is_other, one_of_s
 pub waitings-push : (calls : List WaitingCall) (w : WaitingCall) → as_waitings (calls ++ w ∷ []) ≡ as_waiting w ∷ as_waitings calls
 waitings-push calls w = ap reverse (map-append as_waiting calls (w ∷ [])) ∙ reverse-append (map as_waiting calls) (as_waiting w ∷ [])
 
-pub committers-pushed : (calls : List WaitingCall) (w : WaitingCall) (more : List WaitingCall) → commits_of (w ∷ []) ≡ more
-    → committers_of (calls ++ w ∷ []) ≡ reverse (map caller_of more) ++ committers_of calls
-committers-pushed calls w more is =
-    ap (λ (ws : List WaitingCall). reverse (map caller_of ws)) (filter-append is_commit calls (w ∷ []) ∙ ap (λ ws. commits_of calls ++ ws) is)
-    ∙ ap reverse (map-append caller_of (commits_of calls) more)
-    ∙ reverse-append (map caller_of (commits_of calls)) (map caller_of more)
-
 waitings-taken : (session : ℕ) (calls : List WaitingCall) → without_waiting session (as_waitings calls) ≡ as_waitings (filter (is_other session) calls)
 waitings-taken session calls =
     filter-reverse (λ w. not (w.session == session)) (map as_waiting calls) ∙ ap reverse (filter-map as_waiting (λ w. not (w.session == session)) calls)
-
-abbrev is_other_name : ℕ → ℕ × ℕ → Bool
-is_other_name session n = not (n.0 == session)
-
-committers-taken : (session : ℕ) (calls : List WaitingCall) → filter (is_other_name session) (committers_of calls) ≡ committers_of (filter (is_other session) calls)
-committers-taken session calls =
-    filter-reverse (is_other_name session) (map caller_of (commits_of calls))
-    ∙ ap reverse (filter-map caller_of (is_other_name session) (commits_of calls) ∙ ap (map caller_of) (filter_both (is_other session) is_commit calls))
 
 -- another undo list leaves the names
 pub names-with_undo : (t : ℕ) (undo : UndoList) (xs : List SessionTxn) → names_of (with_undo t undo xs) ≡ names_of xs
@@ -103,14 +86,7 @@ clash e = cc
 clash_some : (r : ResolvedTxn) → None ≡ Some r → ⊥
 clash_some r e = cc
 
-pub or_left : (x y : Bool) → (x || y) ≡ false → x ≡ false
-or_left true y is = cc
-or_left false y is = refl
-
--- a call that logs no decision is no commit, no prepare and no resolve
-pub no_commit : (c : Call) → logs_decision c ≡ false → asks_commit c ≡ false
-no_commit c plain = or_left (asks_commit c) (asks_prepare c || asks_resolve c) plain
-
+-- a call that logs no decision is no prepare and no resolve
 pub never_prepares : (c : Call) → logs_decision c ≡ false → (global : List ℕ) → c ≡ call.Prepare global → ⊥
 never_prepares c plain global is = clash (sym (ap logs_decision is) ∙ plain)
 
@@ -132,44 +108,25 @@ never_resolves t (call.Prepare global) plain = refl
 never_resolves t (call.Resolve global asked) plain = absurd (clash plain)
 never_resolves t call.InDoubt plain = refl
 
--- a call that logs a decision is a commit, a prepare or a resolve
-pub one_of_three : {P : Type 0} (c : Call) → logs_decision c ≡ true → (asks_commit c ≡ true → P) → ((global : List ℕ) → c ≡ call.Prepare global → P)
+-- a call that logs a decision is a prepare or a resolve
+pub one_of_two : {P : Type 0} (c : Call) → logs_decision c ≡ true → ((global : List ℕ) → c ≡ call.Prepare global → P)
     → ((global : List ℕ) (asked : Outcome) → c ≡ call.Resolve global asked → P) → P
-one_of_three call.Commit logs commit prepare resolve = commit refl
-one_of_three (call.Prepare global) logs commit prepare resolve = prepare global refl
-one_of_three (call.Resolve global asked) logs commit prepare resolve = resolve global asked refl
-one_of_three call.Begin logs commit prepare resolve = absurd (clash (sym logs))
-one_of_three (call.Get id) logs commit prepare resolve = absurd (clash (sym logs))
-one_of_three (call.GetForUpdate id) logs commit prepare resolve = absurd (clash (sym logs))
-one_of_three (call.Insert store bytes) logs commit prepare resolve = absurd (clash (sym logs))
-one_of_three (call.Update id bytes) logs commit prepare resolve = absurd (clash (sym logs))
-one_of_three (call.Delete id) logs commit prepare resolve = absurd (clash (sym logs))
-one_of_three (call.Scan store) logs commit prepare resolve = absurd (clash (sym logs))
-one_of_three (call.Lock at mode) logs commit prepare resolve = absurd (clash (sym logs))
-one_of_three (call.TryLock at mode) logs commit prepare resolve = absurd (clash (sym logs))
-one_of_three call.Savepoint logs commit prepare resolve = absurd (clash (sym logs))
-one_of_three (call.BackTo index) logs commit prepare resolve = absurd (clash (sym logs))
-one_of_three call.Abort logs commit prepare resolve = absurd (clash (sym logs))
-one_of_three call.InDoubt logs commit prepare resolve = absurd (clash (sym logs))
-
--- a commit resolves nothing
-pub resolves_none : (t : ℕ) (c : Call) → asks_commit c ≡ true → resolved_as t c ≡ None
-resolves_none t call.Commit is = refl
-resolves_none t call.Begin is = refl
-resolves_none t (call.Get id) is = refl
-resolves_none t (call.GetForUpdate id) is = refl
-resolves_none t (call.Insert store bytes) is = refl
-resolves_none t (call.Update id bytes) is = refl
-resolves_none t (call.Delete id) is = refl
-resolves_none t (call.Scan store) is = refl
-resolves_none t (call.Lock at mode) is = refl
-resolves_none t (call.TryLock at mode) is = refl
-resolves_none t call.Savepoint is = refl
-resolves_none t (call.BackTo index) is = refl
-resolves_none t call.Abort is = refl
-resolves_none t (call.Prepare global) is = refl
-resolves_none t (call.Resolve global asked) is = absurd (clash (sym is))
-resolves_none t call.InDoubt is = refl
+one_of_two (call.Prepare global) logs prepare resolve = prepare global refl
+one_of_two (call.Resolve global asked) logs prepare resolve = resolve global asked refl
+one_of_two call.Begin logs prepare resolve = absurd (clash (sym logs))
+one_of_two (call.Get id) logs prepare resolve = absurd (clash (sym logs))
+one_of_two (call.GetForUpdate id) logs prepare resolve = absurd (clash (sym logs))
+one_of_two (call.Insert store bytes) logs prepare resolve = absurd (clash (sym logs))
+one_of_two (call.Update id bytes) logs prepare resolve = absurd (clash (sym logs))
+one_of_two (call.Delete id) logs prepare resolve = absurd (clash (sym logs))
+one_of_two (call.Scan store) logs prepare resolve = absurd (clash (sym logs))
+one_of_two (call.Lock at mode) logs prepare resolve = absurd (clash (sym logs))
+one_of_two (call.TryLock at mode) logs prepare resolve = absurd (clash (sym logs))
+one_of_two call.Savepoint logs prepare resolve = absurd (clash (sym logs))
+one_of_two (call.BackTo index) logs prepare resolve = absurd (clash (sym logs))
+one_of_two call.Commit logs prepare resolve = absurd (clash (sym logs))
+one_of_two call.Abort logs prepare resolve = absurd (clash (sym logs))
+one_of_two call.InDoubt logs prepare resolve = absurd (clash (sym logs))
 
 -- without the call of a session, which resolves nothing, the same is resolved
 pub resolved_but : (calls : List WaitingCall) → AreApart calls → (session : ℕ) (w : WaitingCall) → IsAmong w calls → w.session ≡ session → as_resolved w ≡ None
@@ -207,36 +164,14 @@ module _ (calls : List WaitingCall) (s : State) (was : HasWaits calls s) where
         its.3,
       )
 
-  -- whose commit waits is committed
-  pub commits : (w : WaitingCall) → IsAmong w calls → is_commit w ≡ true → s.failed ≡ false
-      → (a : SessionTxn) × IsAmong a s.sessions.committing × (a.session ≡ w.session) × (a.txn ≡ w.txn)
-  commits w m is works =
-      let there = among_turned (caller_of w) (map caller_of (commits_of calls)) (among_map caller_of w (commits_of calls) (among_passing is_commit w calls m is)) in
-      let its = map_among name_of (caller_of w) s.sessions.committing (subst (IsAmong (caller_of w)) (sym (was.committing works)) there) in
-      (its.0, its.1, ap (λ (n : ℕ × ℕ). n.0) its.2, ap (λ (n : ℕ × ℕ). n.1) its.2)
-
-  -- .. and who is committed has a commit that waits
-  pub commit_call : s.failed ≡ false → (a : SessionTxn) → IsAmong a s.sessions.committing → (w : WaitingCall) × IsAmong w calls × (w.session ≡ a.session) × (w.txn ≡ a.txn) × (is_commit w ≡ true)
-  commit_call works a m =
-      let named = subst (IsAmong (name_of a)) (was.committing works) (among_map name_of a s.sessions.committing m) in
-      let its = map_among caller_of (name_of a) (commits_of calls) (turned_among (name_of a) (map caller_of (commits_of calls)) named) in
-      let found = among_filtered is_commit its.0 calls its.1 in
-      (its.0, found.0, ap (λ (n : ℕ × ℕ). n.0) its.2, ap (λ (n : ℕ × ℕ). n.1) its.2, found.1)
-
-  pub committing_count : s.failed ≡ false → length s.sessions.committing ≡ length (commits_of calls)
-  committing_count works =
-      sym (length-map s.sessions.committing name_of) ∙ ap length (was.committing works) ∙ length-reverse (map caller_of (commits_of calls)) ∙ length-map (commits_of calls) caller_of
-
   -- ---- steps
 
   -- the names, the seats and who is in doubt stay
-  pub waits_kept : (t : State) → t.waiting ≡ s.waiting → t.sessions.committing ≡ s.sessions.committing → (t.failed ≡ false → s.failed ≡ false)
-      → names_of t.sessions.active ≡ names_of s.sessions.active → ((n : ℕ) → t.sessions.seats n ≡ s.sessions.seats n) → t.sessions.prepared ≡ s.sessions.prepared
+  pub waits_kept : (t : State) → t.waiting ≡ s.waiting → names_of t.sessions.active ≡ names_of s.sessions.active → ((n : ℕ) → t.sessions.seats n ≡ s.sessions.seats n) → t.sessions.prepared ≡ s.sessions.prepared
       → t.sessions.next_txn ≡ s.sessions.next_txn → HasWaits calls t
-  waits_kept t waiting committing works names seats prepared next = record {
+  waits_kept t waiting names seats prepared next = record {
     waiting = waiting ∙ was.waiting;
     kinds = was.kinds;
-    committing = λ f. ap names_of committing ∙ was.committing (works f);
     asking = λ w m is. let its = was.asking w m is in (subst (IsAmong (caller_of w)) (sym names) its.0, seats w.session ∙ its.1);
     preparing = λ w global m is.
         let its = was.preparing w global m is in
@@ -256,7 +191,6 @@ module _ (calls : List WaitingCall) (s : State) (was : HasWaits calls s) where
   waits_asked a c at seat plain = let it : WaitingCall = record { session = a.session; txn = a.txn; call = c; wait = Lock at; cycle = None } in record {
     waiting = ap (λ ws. lock_waiting a c at ∷ ws) was.waiting ∙ sym (waitings-push calls it);
     kinds = λ w n. ⊎_elim (λ old. was.kinds w old) (λ new. ⊎_elim (λ same. subst (λ (v : WaitingCall). awaits_record v ≡ logs_decision v.call) same (sym plain)) (λ none. absurd none) new) (among_either w calls (it ∷ []) n);
-    committing = λ f. was.committing f ∙ sym (committers-pushed calls it [] (ap (λ b. cond b (it ∷ []) []) (no_commit c plain)));
     asking = λ w n is. ⊎_elim (λ old. was.asking w old is)
         (λ new. ⊎_elim
         (λ same. (subst (λ v. IsAmong (caller_of v) (names_of s.sessions.active)) same (among_map name_of a s.sessions.active seat.0), subst (λ (v : WaitingCall). s.sessions.seats v.session ≡ in_txn v.txn) same seat.1))
@@ -276,7 +210,6 @@ module _ (calls : List WaitingCall) (s : State) (was : HasWaits calls s) where
   waits_begun session idle = record {
     waiting = was.waiting;
     kinds = was.kinds;
-    committing = was.committing;
     asking = λ w m is. let its = was.asking w m is in (inr its.0, still w m ∙ its.1);
     preparing = λ w global m is. let its = was.preparing w global m is in (its.0, still w m ∙ its.1);
     ended = λ w r m is.
@@ -315,42 +248,16 @@ module _ (calls : List WaitingCall) (s : State) (was : HasWaits calls s) where
       subst (λ n. IsAmong n (txns_of s.sessions.active)) b.2
       (among_map (λ (x : SessionTxn). x.txn) b.0 s.sessions.active (among_filtered (λ (x : SessionTxn). not (x.txn == a.txn)) b.0 s.sessions.active b.1).0)
 
-  -- a commit waits
-  pub waits_committed : (a : SessionTxn) → IsAmong a s.sessions.active → EachOnce (txns_of s.sessions.active) → All (λ w. w.session ≢ a.session) calls
-      → HasWaits (calls ++ record { session = a.session; txn = a.txn; call = call.Commit; wait = Durable (next_number s); cycle = None } ∷ []) (committed s a)
-  waits_committed a m once free = let it : WaitingCall = record { session = a.session; txn = a.txn; call = call.Commit; wait = Durable (next_number s); cycle = None } in record {
-    waiting = ap (λ ws. decision_waiting a.session call.Commit (next_number s) ∷ ws) was.waiting ∙ sym (waitings-push calls it);
-    kinds = λ w n. ⊎_elim (λ old. was.kinds w old)
-        (λ new. ⊎_elim (λ same. subst (λ (v : WaitingCall). awaits_record v ≡ logs_decision v.call) same refl) (λ none. absurd none) new)
-        (among_either w calls (it ∷ []) n);
-    committing = λ f. ap (λ ns. name_of a ∷ ns) (was.committing f) ∙ sym (committers-pushed calls it (it ∷ []) refl);
-    asking = λ w n is. ⊎_elim (λ old. (still_asks a w old is (other_asks a m once free w old is), (was.asking w old is).1))
-        (λ new. ⊎_elim (λ same. absurd (clash (ap awaits_record same ∙ is))) (λ none. absurd none) new)
-        (among_either w calls (it ∷ []) n);
-    preparing = λ w global n is. ⊎_elim (λ old. was.preparing w global old is)
-        (λ new. ⊎_elim (λ same. absurd (unlike global (ap (λ (v : WaitingCall). v.call) same ∙ is))) (λ none. absurd none) new)
-        (among_either w calls (it ∷ []) n);
-    ended = λ w r n is. ⊎_elim (λ old. let its = was.ended w r old is in ((λ k. its.0 (fewer_active a w.txn k)), its.1, its.2))
-        (λ new. ⊎_elim (λ same. absurd (clash_some r (ap as_resolved same ∙ is))) (λ none. absurd none) new)
-        (among_either w calls (it ∷ []) n);
-    once = subst (λ (rs : List ResolvedTxn). EachOnce (map (λ r. r.txn) rs)) (sym (resolved_still calls it refl)) was.once;
-  }
-    where
-      unlike : (global : List ℕ) → call.Commit ≡ call.Prepare global → ⊥
-      unlike global e = cc
-
   -- ---- a call waits no more
 
   -- the calls of others, of a state with the same names, of whose seats those of others stay
   pub others_wait : (session : ℕ) (t : State) → t.waiting ≡ without_waiting session s.waiting
-      → (t.failed ≡ false → names_of t.sessions.committing ≡ committers_of (filter (is_other session) calls))
       → names_of t.sessions.active ≡ names_of s.sessions.active → t.sessions.next_txn ≡ s.sessions.next_txn → ((n : ℕ) → n ≢ session → t.sessions.seats n ≡ s.sessions.seats n)
       → ((w : WaitingCall) (global : List ℕ) → IsAmong w calls → w.session ≢ session → w.call ≡ call.Prepare global → IsAmong (record { txn = w.txn; global = global; answered = false }) t.sessions.prepared)
       → HasWaits (filter (is_other session) calls) t
-  others_wait session t waiting committing names next seats prepared = record {
+  others_wait session t waiting names next seats prepared = record {
     waiting = waiting ∙ ap (without_waiting session) was.waiting ∙ waitings-taken session calls;
     kinds = λ w m. was.kinds w (old w m);
-    committing = committing;
     asking = λ w m is. let its = was.asking w (old w m) is in (subst (IsAmong (caller_of w)) (sym names) its.0, seats w.session (other w m) ∙ its.1);
     preparing = λ w global m is. (prepared w global (old w m) (other w m) is, seats w.session (other w m) ∙ (was.preparing w global (old w m) is).1);
     ended = λ w r m is. let its = was.ended w r (old w m) is in ((λ n. its.0 (subst (IsAmong w.txn) numbers n)), subst (λ k. w.txn < k) (sym next) its.1, seats w.session (other w m) ∙ its.2);
@@ -366,76 +273,29 @@ module _ (calls : List WaitingCall) (s : State) (was : HasWaits calls s) where
       numbers : txns_of t.sessions.active ≡ txns_of s.sessions.active
       numbers = numbers_named t.sessions.active ∙ ap (map (λ (n : ℕ × ℕ). n.1)) names ∙ sym (numbers_named s.sessions.active)
 
-  module _ (session : ℕ) (apart : AreApart calls) (w : WaitingCall) (m : IsAmong w calls) (own : w.session ≡ session) where
-    others_commit : is_commit w ≡ false → commits_of calls ≡ commits_of (filter (is_other session) calls)
-    others_commit plain =
-        sym (filter_all (is_other session) (commits_of calls) (λ v n.
-        let its = among_filtered is_commit v calls n in
-        ap not (ne_eqb v.session session (λ same. clash (sym its.1 ∙ ap is_commit (one_of_session calls apart v w its.0 m (same ∙ sym own)) ∙ plain)))))
-        ∙ filter_both (is_other session) is_commit calls
+  -- a call that waited is refused, or goes on
+  pub waits_refused : (session : ℕ) → HasWaits (filter (is_other session) calls) (wait_refused s session)
+  waits_refused session = others_wait session (wait_refused s session) refl refl refl (λ n other. refl) (λ v global n other is. (was.preparing v global n is).0)
 
-    -- the commits are the same if it is none
-    pub committers_stay : is_commit w ≡ false → s.failed ≡ false → names_of s.sessions.committing ≡ committers_of (filter (is_other session) calls)
-    committers_stay plain f = was.committing f ∙ ap (λ (ws : List WaitingCall). reverse (map caller_of ws)) (others_commit plain)
-
-    -- a call that waited is refused, or goes on
-    pub waits_refused : (s.failed ≡ false → awaits_record w ≡ false) → HasWaits (filter (is_other session) calls) (wait_refused s session)
-    waits_refused asked = others_wait session (wait_refused s session) refl
-        (λ f. committers_stay (or_left (is_commit w) (asks_prepare w.call || asks_resolve w.call) (sym (was.kinds w m) ∙ asked f)) f) refl refl (λ n other. refl)
-        (λ v global n other is. (was.preparing v global n is).0)
-
-  -- a commit is answered
-  pub waits_ended : (a : SessionTxn) → HasOwnSeats s.sessions → s.failed ≡ false → IsAmong a s.sessions.committing
-      → HasWaits (filter (is_other a.session) calls) (commit_ended s a)
-  waits_ended a seats works m = others_wait a.session (commit_ended s a) refl
-      (λ f.
-      sym (filter-map name_of is_other_number s.sessions.committing)
-      ∙ filter_alike is_other_number (is_other_name a.session) (names_of s.sessions.committing) alike
-      ∙ ap (filter (is_other_name a.session)) (was.committing works)
-      ∙ committers-taken a.session calls)
-      refl refl
-      (λ n other. ap (λ b. cond b free (s.sessions.seats n)) (ne_eqb a.session n (λ same. other (sym same))))
-      (λ v global n other is. (was.preparing v global n is).0)
-    where
-      is_other_number : ℕ × ℕ → Bool
-      is_other_number n = not (n.1 == a.txn)
-
-      seat : (b : SessionTxn) → IsAmong b s.sessions.committing → s.sessions.seats b.session ≡ in_txn b.txn
-      seat b n = seats.own b.session b.txn (inr (among_map name_of b s.sessions.committing n))
-
-      same_number : (b : SessionTxn) → IsAmong b s.sessions.committing → b.session ≡ a.session → b.txn ≡ a.txn
-      same_number b n same = ap (λ (x : SessionState). x.txn) (sym (seat b n) ∙ ap s.sessions.seats same ∙ seat a m)
-
-      number : (b : SessionTxn) → IsAmong b s.sessions.committing → (s.sessions.seats b.session).txn ≡ b.txn
-      number b n = ap (λ (x : SessionState). x.txn) (seat b n)
-
-      same_session : (b : SessionTxn) → IsAmong b s.sessions.committing → b.txn ≡ a.txn → b.session ≡ a.session
-      same_session b n same =
-          let above = seats.above b.session b.txn (inr (among_map name_of b s.sessions.committing n)) in
-          seats.one b.session a.session (subst (λ t. 0 < t) (sym (number b n)) above) (number b n ∙ same ∙ sym (number a m))
-
-      decided : (b : SessionTxn) → IsAmong b s.sessions.committing → (x : Bool) → (b.session == a.session) ≡ x → not (b.txn == a.txn) ≡ not x
-      decided b n true e = ap not (eq-eqb b.txn a.txn (same_number b n (eqb-true b.session a.session e)))
-      decided b n false e = ap not (ne_eqb b.txn a.txn (λ same. eqb-false b.session a.session e (same_session b n same)))
-
-      alike : (n : ℕ × ℕ) → IsAmong n (names_of s.sessions.committing) → is_other_number n ≡ is_other_name a.session n
-      alike n k =
-          let its = map_among name_of n s.sessions.committing k in
-          subst (λ v. is_other_number v ≡ is_other_name a.session v) its.2 (decided its.0 its.1 (its.0.session == a.session) refl)
-
-  -- an abort is answered, of whose session no call waits
-  pub waits_aborted : (a : SessionTxn) → IsAmong a s.sessions.active → EachOnce (txns_of s.sessions.active) → All (λ w. w.session ≢ a.session) calls → (logged : Bool) → HasWaits calls (abort_ended s a logged)
-  waits_aborted a m once free logged = record {
-    waiting = was.waiting;
+  -- a commit or an abort is answered, of whose session no call waits
+  pub waits_freed : (a : SessionTxn) → IsAmong a s.sessions.active → EachOnce (txns_of s.sessions.active) → All (λ w. w.session ≢ a.session) calls → (t : State) → t.waiting ≡ s.waiting
+      → t.sessions.active ≡ without_txn a.txn s.sessions.active → t.sessions.prepared ≡ s.sessions.prepared → t.sessions.next_txn ≡ s.sessions.next_txn
+      → ((n : ℕ) → t.sessions.seats n ≡ cond (a.session == n) free (s.sessions.seats n)) → HasWaits calls t
+  waits_freed a m once none t waiting active prepared next seats = record {
+    waiting = waiting ∙ was.waiting;
     kinds = was.kinds;
-    committing = was.committing;
-    asking = λ w n is. (still_asks a w n is (other_asks a m once free w n is), still w n ∙ (was.asking w n is).1);
-    preparing = λ w global n is. let its = was.preparing w global n is in (its.0, still w n ∙ its.1);
-    ended = λ w r n is. let its = was.ended w r n is in ((λ k. its.0 (fewer_active a w.txn k)), its.1, still w n ∙ its.2);
+    asking = λ w n is.
+        (subst (λ (bs : List SessionTxn). IsAmong (caller_of w) (names_of bs)) (sym active) (still_asks a w n is (other_asks a m once none w n is)), still w n ∙ (was.asking w n is).1);
+    preparing = λ w global n is.
+        let its = was.preparing w global n is in
+        (subst (IsAmong (record { txn = w.txn; global = global; answered = false })) (sym prepared) its.0, still w n ∙ its.1);
+    ended = λ w r n is.
+        let its = was.ended w r n is in
+        ((λ k. its.0 (fewer_active a w.txn (subst (λ bs. IsAmong w.txn (txns_of bs)) active k))), subst (λ k. w.txn < k) (sym next) its.1, still w n ∙ its.2);
     once = was.once;
   }
     where
-      still : (w : WaitingCall) → IsAmong w calls → (abort_ended s a logged).sessions.seats w.session ≡ s.sessions.seats w.session
+      still : (w : WaitingCall) → IsAmong w calls → t.sessions.seats w.session ≡ s.sessions.seats w.session
       still w n =
-          ap (λ b. cond b (record { txn = 0; prepared = false }) (s.sessions.seats w.session))
-          (ne_eqb a.session w.session (λ same. among_all (λ (v : WaitingCall). v.session ≢ a.session) calls free w n (sym same)))
+          seats w.session ∙ ap (λ b. cond b free (s.sessions.seats w.session))
+          (ne_eqb a.session w.session (λ same. among_all (λ (v : WaitingCall). v.session ≢ a.session) calls none w n (sym same)))

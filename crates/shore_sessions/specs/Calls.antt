@@ -1,5 +1,5 @@
 -- Calls that wait, the oldest first, as the state has them: the newest first, and without their transactions.
-use Rattle.std.specs.Prelude.{◌==◌, ◌||◌, ℕ, List, Bool, Option, None, Some, true, false, filter, if◌then◌else◌, map, reverse}
+use Rattle.std.specs.Prelude.{◌==◌, ◌||◌, ℕ, List, Bool, Option, None, Some, true, false, if◌then◌else◌, map, reverse}
 use Rattle.std.specs.List.{filter_map}
 use Rattle.shore_model.specs.declared.calls.Call.{Call}
 use Rattle.shore_model.specs.declared.calls.Call.TheVariants as call
@@ -26,10 +26,6 @@ is_durable (Lock at) = false
 abbrev pub awaits_record : WaitingCall → Bool
 awaits_record w = is_durable w.wait
 
-abbrev pub asks_commit : Call → Bool
-asks_commit call.Commit = true
-asks_commit _ = false
-
 abbrev pub asks_prepare : Call → Bool
 asks_prepare (call.Prepare global) = true
 asks_prepare _ = false
@@ -40,22 +36,11 @@ asks_resolve _ = false
 
 -- the calls that log a decision's record, and are answered once it is durable
 abbrev pub logs_decision : Call → Bool
-logs_decision c = asks_commit c || (asks_prepare c || asks_resolve c)
+logs_decision c = asks_prepare c || asks_resolve c
 
--- .. with which the transaction is decided: one that is prepared is not
-abbrev pub decides : Call → Bool
-decides c = asks_commit c || asks_resolve c
-
--- it is a commit
-abbrev pub is_commit : WaitingCall → Bool
-is_commit w = asks_commit w.call
-
-abbrev pub commits_of : List WaitingCall → List WaitingCall
-commits_of calls = filter is_commit calls
-
--- it is a commit or a resolve
-abbrev pub is_decided : WaitingCall → Bool
-is_decided w = decides w.call
+-- it is a resolve
+abbrev pub is_resolve : WaitingCall → Bool
+is_resolve w = asks_resolve w.call
 
 -- what a call resolves, by the number of the transaction
 abbrev pub resolved_as : ℕ → Call → Option ResolvedTxn
@@ -99,7 +84,3 @@ names_of xs = map name_of xs
 -- .. that of a call that waits
 abbrev pub caller_of : WaitingCall → ℕ × ℕ
 caller_of w = (w.session, w.txn)
-
--- those of the commits, the newest first
-abbrev pub committers_of : List WaitingCall → List (ℕ × ℕ)
-committers_of calls = reverse (map caller_of (commits_of calls))

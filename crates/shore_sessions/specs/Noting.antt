@@ -1,5 +1,5 @@
 -- Victims of cycles of waits, as a control notes them one after another: its transactions and its calls that wait, and no locks.
-use Rattle.std.specs.Prelude.{◌≡◌, ◌≢◌, ◌==◌, ℕ, List, [], ◌∷◌, Option, None, Some, Result, Ok, Err, false, if◌then◌else◌, map}
+use Rattle.std.specs.Prelude.{◌≡◌, ◌≢◌, ◌==◌, ℕ, List, [], ◌∷◌, Option, None, Some, Result, Ok, Err, if◌then◌else◌, map}
 use Rattle.shore_types.specs.declared.faults.Device.{Device}
 use Rattle.shore_types.specs.declared.faults.Fault.{Fault}
 use Rattle.shore_types.specs.declared.faults.Fault.TheVariants as fault
@@ -11,7 +11,6 @@ use Rattle.shore_deadlock.specs.declared.locking.Locked.{Locked}
 use Rattle.shore_deadlock.specs.declared.locking.Locked.TheVariants as locked
 use Rattle.shore_cycles.specs.declared.victims.Victim.{Victim}
 use Rattle.laws_lives.specs.Sessions.{SessionTxn, doomed}
-use Rattle.laws_lives.specs.Views.{IsAmong}
 use Rattle.laws_calls.specs.CallSteps.{with_requests}
 use Rattle.laws_calls.specs.States.{DoesNotWait, HasSeat, State}
 use Rattle.laws_calls.specs.Victims.{with_cycle}
@@ -54,9 +53,6 @@ pub record HasSessionsOf (control : Control) (s : State) : Type 0 where
   pub txns : HasTxns (txns_in control) s
   pub waits : HasWaits (waits_in control) s
   pub resolving : AreResolving (txns_in control) (waits_in control) s
-  pub works : s.failed ≡ false
-  -- a session that is in a transaction under way has no commit that waits
-  pub apart : (a b : SessionTxn) → IsAmong a s.sessions.committing → HasSeat s.sessions b → b.session ≢ a.session
 
 -- what victims leave as it was: the locks; whose the transactions are, their last records, what they may put back and what is reserved; who has no call that
 -- waits

@@ -33,7 +33,7 @@ use Rattle.shore_txn.specs.declared.txn.Txn.{Txn}
 use Rattle.shore_txn.specs.declared.undo.UndoEntry.{UndoEntry}
 use Rattle.shore_sessions.specs.declared.control.Control.{Control}
 use Rattle.shore_sessions.specs.declared.waits.WaitingCall.{WaitingCall}
-use Rattle.shore_sessions.specs.Calls.{as_resolved, as_waitings, awaits_record, caller_of, committers_of, logs_decision, names_of, resolved_by}
+use Rattle.shore_sessions.specs.Calls.{as_resolved, as_waitings, awaits_record, caller_of, logs_decision, names_of, resolved_by}
 use Rattle.shore_sessions.specs.Controls.{locks_in, txns_in, waits_in}
 use Rattle.shore_sessions.specs.Seated.{IsNamed, IsSeated, rolled_in}
 
@@ -69,13 +69,12 @@ pub record HasTxns (txns : Transactions) (s : State) : Type 0 where
 
 -- ---- calls that wait
 
--- As long as no device has failed, a commit waits for each transaction that is committed and not answered. Who waits for a lock is in a transaction under
--- way, and whose prepare waits in one that is in doubt. A resolve that waits has ended its transaction, and its session is in none; no two have ended one.
+-- Who waits for a lock is in a transaction under way, and whose prepare waits in one that is in doubt. A resolve that waits has ended its transaction, and its
+-- session is in none; no two have ended one. No commit waits.
 pub record HasWaits (calls : List WaitingCall) (s : State) : Type 0 where
   pub waiting : s.waiting ≡ as_waitings calls
   -- those that log a decision wait for its record, and all others for a lock
   pub kinds : (w : WaitingCall) → IsAmong w calls → awaits_record w ≡ logs_decision w.call
-  pub committing : s.failed ≡ false → names_of s.sessions.committing ≡ committers_of calls
   pub asking : (w : WaitingCall) → IsAmong w calls → awaits_record w ≡ false
       → IsAmong (caller_of w) (names_of s.sessions.active) × (s.sessions.seats w.session ≡ in_txn w.txn)
   pub preparing : (w : WaitingCall) (global : List ℕ) → IsAmong w calls → w.call ≡ call.Prepare global → IsPreparing s.sessions w.session w.txn global

@@ -15,7 +15,7 @@ ghost use Rattle.shore_txn.specs.Transactions.{AtSeat, HasNoTxnOf, IsSeatIn, nex
 ghost use Rattle.shore_txn.specs.Transactions as table;
 ghost use Rattle.shore_txn.specs.TxnStates.{is_in_doubt};
 ghost use Rattle.shore_txn.specs.Txns.{IsOf, as_session_txn, number_of, state_of};
-ghost use Rattle.shore_sessions.specs.Calls.{as_waiting, awaits_record, is_commit, is_decided, logs_decision};
+ghost use Rattle.shore_sessions.specs.Calls.{as_waiting, awaits_record, is_resolve, logs_decision};
 ghost use Rattle.shore_sessions.specs.Seated.{rolled_in, seat_as};
 
 use crate::waits::{WaitingCall, Waits};
@@ -30,9 +30,9 @@ use std::alloc::{AllocError, Global};
 pub struct Control {
     /// The transactions under way, and the room of the log.
     pub(crate) txns: Transactions,
-    /// The requests of locks, of those under way and of those whose commits wait: no more than a Prepare may list (`few_locks`).
+    /// The requests of locks, of those under way: no more than a Prepare may list (`few_locks`).
     pub(crate) locks: LockTable,
-    /// The calls that wait: for a lock, or for the force of a commit, of a prepare or of a resolve.
+    /// The calls that wait: for a lock, or for the force of a prepare or of a resolve.
     pub(crate) waits: Waits,
     ghost few_locks: { locks.limit ≤ MOST_MAX_LOCKS },
 }
@@ -47,7 +47,7 @@ impl Control {
         ensures txns { txns_in result ≡ txns }
         ensures locks { locks_in result ≡ locks }
         ensures waits { waits_in result ≡ [] }
-        ensures stands { (s : State) → HasTxns txns s → s.sessions.committing ≡ [] → IsPermutation s.sessions.resolving (rolled_in txns) → s.waiting ≡ [] → s.locks ≡ locks → HasControl result s }
+        ensures stands { (s : State) → HasTxns txns s → IsPermutation s.sessions.resolving (rolled_in txns) → s.waiting ≡ [] → s.locks ≡ locks → HasControl result s }
     {
         Control {
             txns,
@@ -91,12 +91,12 @@ impl Control {
         self.txns.txn(seat)
     }
 
-    /// How many transactions there are, with those whose commits or resolves wait.
+    /// How many transactions there are, with those whose resolves wait.
     pub fn count(&self) -> usize
-        ensures number { result ≡ length (undos_in (txns_in self.now)) + length (filter is_decided (waits_in self.now)) }
+        ensures number { result ≡ length (undos_in (txns_in self.now)) + length (filter is_resolve (waits_in self.now)) }
         ensures count { (s : State) → HasControl self.now s → s.failed ≡ false → result ≡ txn_count s }
     {
-        self.txns.count() + self.waits.decided()
+        self.txns.count() + self.waits.resolves_waiting()
     }
 
     /// The number of the next transaction.
@@ -123,7 +123,6 @@ impl Control {
         ensures does_not { IfNone result ((s : State) → HasControl self.now s → DoesNotWait s session) }
         ensures kinds { IfSome result (λ w. (s : State) → HasControl self.now s → awaits_record w.now ≡ logs_decision w.now.call) }
         ensures asks { IfSome result (λ w. awaits_record w.now ≡ false → (s : State) → HasControl self.now s → (a : SessionTxn) × IsOfSession s session a × (a.txn ≡ w.now.txn)) }
-        ensures commits { IfSome result (λ w. is_commit w.now ≡ true → (s : State) → HasControl self.now s → s.failed ≡ false → (a : SessionTxn) × IsAmong a s.sessions.committing × (a.session ≡ session) × (a.txn ≡ w.now.txn)) }
         ensures prepares { IfSome result (λ w. (global : List ℕ) → w.now.call ≡ call.Prepare global → (s : State) → HasControl self.now s → IsPreparing s.sessions session w.now.txn global) }
         ensures resolves { IfSome result (λ w. (global : List ℕ) (asked : Outcome) → w.now.call ≡ call.Resolve global asked → (s : State) → HasControl self.now s → s.failed ≡ false
             → HasEnded s.sessions (record { txn = w.now.txn; global = global; outcome = asked })) }

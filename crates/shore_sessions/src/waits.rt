@@ -2,7 +2,7 @@
 ghost use Rattle.std.specs.Prelude.{◌≡◌, ◌≢◌, ◌<◌, ◌≤◌, ◌^◌, ◌++◌, ◌∷◌, [], ℕ, All, AllPairs, IfNone, IfSome, IsFalse, IsOk, IsSome, IsTrue, OnOk, false, filter, length, not, slice_index_or, true, ◌==◌};
 ghost use Rattle.shore_model.specs.declared.calls.Outcome.{Outcome};
 ghost use Rattle.laws_lives.specs.Views.{IsAmong};
-ghost use Rattle.shore_sessions.specs.Calls.{awaits_record, cycle_noted, decides, is_decided};
+ghost use Rattle.shore_sessions.specs.Calls.{asks_resolve, awaits_record, cycle_noted, is_resolve};
 ghost use Rattle.shore_sessions.specs.declared.waits.WaitingCall.{WaitingCall};
 
 use shore_model::{Call, Wait};
@@ -64,15 +64,15 @@ impl Waits {
         None
     }
 
-    /// How many of them are of decided transactions: commits and resolves.
-    pub(crate) fn decided(&self) -> usize
-        ensures count { result ≡ length (filter is_decided (calls_in self.now)) }
+    /// How many of them are resolves.
+    pub(crate) fn resolves_waiting(&self) -> usize
+        ensures count { result ≡ length (filter is_resolve (calls_in self.now)) }
         ensures few { result ≤ length (calls_in self.now) }
         ensures small { length (calls_in self.now) < 2 ^ 63 }
     {
         let mut count = 0;
         for call in &self.calls {
-            if is_of_decided(&call.call) {
+            if asks_to_resolve(&call.call) {
                 count += 1;
             }
         }
@@ -153,11 +153,11 @@ impl Waits {
     }
 }
 
-// Whether a call is of a transaction that is decided: while a prepare waits, its own is under way.
-fn is_of_decided(call: &Call) -> bool
-    ensures { result ≡ decides call.now }
+// Whether a call is a resolve.
+fn asks_to_resolve(call: &Call) -> bool
+    ensures { result ≡ asks_resolve call.now }
 {
-    matches!(call, Call::Commit | Call::Resolve(..))
+    matches!(call, Call::Resolve(..))
 }
 
 // Whether a call resolves the transaction that has this name.

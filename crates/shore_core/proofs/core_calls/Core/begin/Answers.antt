@@ -8,7 +8,7 @@ use Rattle.laws_lives.specs.UndoLists.{nothing_to_undo}
 use Rattle.laws_calls.specs.StateChanges.{begun}
 use Rattle.laws_calls.specs.States.{State, page_slots}
 use Rattle.shore_heap.proofs.Showing.{shows_same}
-use Rattle.shore_core.proofs.Opening.{in_none}
+use Rattle.shore_sessions.proofs.Seats.{in_no_txn}
 use Rattle.shore_sessions.specs.Controls.{txns_in}
 use Rattle.shore_txn.specs.Transactions.{kept_in}
 use Rattle.shore_core.specs.Cores.{control_of, durable_of, first_of, has_failed, txns_of, waiting_of}
@@ -24,7 +24,7 @@ pub returns-then-count-ge-MAX_TRANSACTIONS-clause-replied : goal.returns-then-co
 returns-then-count-ge-MAX_TRANSACTIONS-clause-replied g c running front disk before s store is safe over idle =
     let old = c.args.self.now in
     let works = is.beside.parts.failed_is ∙ running in
-    let none = in_none (control_of old) s is.beside.parts.stands safe.after.sessions.seats c.args.session works idle c.requires in
+    let none = in_no_txn (txns_of old) s is.beside.parts.stands.txns safe.after.sessions.seats c.args.session c.requires in
     let count = c.count.ensures.count s is.beside.parts.stands works in
     record {
       later = s;
@@ -36,7 +36,7 @@ pub returns-then-not-admits-clause-replied : goal.returns-then-not-admits-clause
 returns-then-not-admits-clause-replied g c running front disk before s store is safe over idle =
     let old = c.args.self.now in
     let works = is.beside.parts.failed_is ∙ running in
-    let none = in_none (control_of old) s is.beside.parts.stands safe.after.sessions.seats c.args.session works idle c.requires in
+    let none = in_no_txn (txns_of old) s is.beside.parts.stands.txns safe.after.sessions.seats c.args.session c.requires in
     let count = c.count.ensures.count s is.beside.parts.stands works in
     elim c.then-not-admits.branch [
       | then-not-admits-via-then-not-admits w ↦ record {
@@ -106,7 +106,7 @@ pub returns-clause-replied : goal.returns-clause-replied
 returns-clause-replied g c running front disk before s store is safe over idle =
     let old = c.args.self.now in
     let works = is.beside.parts.failed_is ∙ running in
-    let none = in_none (control_of old) s is.beside.parts.stands safe.after.sessions.seats c.args.session works idle c.requires in
+    let none = in_no_txn (txns_of old) s is.beside.parts.stands.txns safe.after.sessions.seats c.args.session c.requires in
     let count = c.count.ensures.count s is.beside.parts.stands works in
     let later : State = begun s c.args.session in
     let parts = parts_moved (control_of old) c.begin.new.self (waiting_of old) (durable_of old) (has_failed old) before s later is.beside.parts (c.in_ok-txn.ensures.stands s is.beside.parts.stands idle) refl refl refl in

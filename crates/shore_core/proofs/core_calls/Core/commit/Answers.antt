@@ -1,8 +1,7 @@
-use Rattle.std.proofs.Common.{is_some, ◌≡◌, ◌+◌, ◌<◌, ◌≤◌, ◌++◌, ◌∷◌, [], List, take, length, length-append, Err, inl, inr, refl, sym, ap, subst, ◌∙◌, arith}
+use Rattle.std.proofs.Common.{is_some, ◌≡◌, ◌+◌, ◌<◌, ◌++◌, ◌∷◌, [], List, take, length, length-append, Err, inl, inr, refl, sym, ap, subst, ◌∙◌, arith}
 use Rattle.std.proofs.lemmas.List.{take_more}
 use Rattle.shore_types.specs.declared.faults.Fault.TheVariants as fault
-use Rattle.shore_types.specs.declared.ids.PageId.{PageId}
-use Rattle.shore_types.specs.declared.layout.TheConstants.{LAST_OPENED}
+use Rattle.shore_model.specs.declared.calls.Answer.TheVariants.{Committed}
 use Rattle.shore_model.specs.declared.calls.Call.TheVariants as call
 use Rattle.shore_model.specs.declared.log_records.LogRecord.{LogRecord}
 use Rattle.shore_model.specs.declared.log_records.Payload.TheVariants.{Commit}
@@ -15,12 +14,9 @@ use Rattle.laws_lives.specs.Sessions.{without_txn}
 use Rattle.laws_lives.specs.Views.{IsAmong}
 use Rattle.laws_calls.specs.StateChanges.{committed}
 use Rattle.laws_calls.specs.States.{State, page_slots}
-use Rattle.shore_model.specs.declared.step.Wait.TheVariants.{Durable}
-use Rattle.shore_txn.specs.ActiveTxns.{HasMore, OneLeaves}
-use Rattle.shore_txn.specs.Transactions.{IsSeatIn, kept_in, room_in, undos_in}
+use Rattle.shore_txn.specs.Transactions.{kept_in, undos_in}
 use Rattle.shore_txn.specs.Transactions as table
 use Rattle.shore_txn.specs.Txns.{as_session_txn, last_of}
-use Rattle.shore_txn.specs.UndoEntries.{claims_on}
 use Rattle.shore_txn.specs.declared.txn.Txn.{Txn}
 use Rattle.shore_txn.specs.declared.undo.UndoEntry.{UndoEntry}
 use Rattle.shore_sessions.specs.Controls.{txns_in}
@@ -73,56 +69,33 @@ loop-change-preserved g c =
           (λ L T. c.release.ensures.shows L front disk T) (λ L M T. c.release.ensures.told L M front disk T) (inv.7 K stay front disk S fit shows),
     )
 
-pub invariant_of-self : goal.invariant_of-self
-invariant_of-self g c =
-    let old = c.args.self.now in
-    let txns = sym c.reserve_wait.ensures.txns in
-    let next = first_of old + length (waiting_of old) in
-    record {
-      some_number = old.some_number;
-      forced = old.forced;
-      numbers = subst (λ x. next + (room_in x).reserved ≤ LAST_OPENED) txns old.numbers;
-      earlier = subst (λ x. (t : Txn) → IsAmong t (table.txns_in x) → last_of t < next) txns old.earlier;
-    }
-
-pub returns-in_err-reserve_wait-clause-replied : goal.returns-in_err-reserve_wait-clause-replied
-returns-in_err-reserve_wait-clause-replied g c ready front disk before s store is safe over waits_not =
-    replied_as c.args.self.now _ front before s store c.args.seat.now.session call.Commit c.from_residual-in_err-reserve_wait.result fault.Memory c.from_residual-in_err-reserve_wait.ensures.1 (inl (refl, refl))
-    (inr (comes_lacking c.args.self.now _ front disk before s store refl refl refl refl refl c.reserve_wait.ensures.txns (c.reserve_wait.ensures.stands s is.beside.parts.stands) is over))
-
 pub push-requires-clause-previous : goal.push-requires-clause-previous
 push-requires-clause-previous g c =
     let earlier = c.args.self.now.earlier c.in_ok-txn.txn.now c.in_ok-txn.ensures.some.0 in
     omega (arith, c.last.ensures, earlier)
 
-pub invariant_of-self-in-Err-1 : goal.invariant_of-self-in-Err-1
-invariant_of-self-in-Err-1 g c =
+pub invariant_of-self : goal.invariant_of-self
+invariant_of-self g c =
     let old = c.args.self.now in
-    let txns = sym c.reserve_wait.ensures.txns in
-    let next : first_of old + length (waiting_of old) ≡ g.T.Tail.first c.push.new.self + length (g.T.Tail.records c.push.new.self) =
-    ap (λ n. n + length (waiting_of old)) (sym c.in-Err.ensures.first) ∙ ap (λ (l : List LogRecord). g.T.Tail.first c.push.new.self + length l) (sym c.in-Err.ensures.none_added) in
+    let same = ap length c.in-Err.ensures.none_added in
+    let first = c.push.ensures.first in
     record {
-      some_number = subst (λ n. 1 ≤ n) next old.some_number;
-      forced = subst (λ n. old.durable < n) next old.forced;
-      numbers = subst (λ n. n + (room_in (txns_in c.reserve_wait.new.self)).reserved ≤ LAST_OPENED) next (subst (λ x. first_of old + length (waiting_of old) + (room_in x).reserved ≤ LAST_OPENED) txns old.numbers);
-      earlier = subst (λ n. (t : Txn) → IsAmong t (table.txns_in (txns_in c.reserve_wait.new.self)) → last_of t < n) next
-          (subst (λ x. (t : Txn) → IsAmong t (table.txns_in x) → last_of t < first_of old + length (waiting_of old)) txns old.earlier);
+      some_number = omega (arith, same, first, old.some_number);
+      forced = omega (arith, same, first, old.forced);
+      numbers = omega (arith, same, first, old.numbers);
+      earlier = λ t m. omega (arith, same, first, old.earlier t m);
     }
 
 pub returns-in-Err-clause-replied : goal.returns-in-Err-clause-replied
 returns-in-Err-clause-replied g c ready front disk before s store is safe over waits_not =
     replied_as c.args.self.now _ front before s store c.args.seat.now.session call.Commit (Err c.in-Err.fault) fault.Memory c.in-Err.ensures.refused.0 (inl (refl, refl))
-    (inr (comes_lacking c.args.self.now _ front disk before s store refl c.in-Err.ensures.first c.in-Err.ensures.none_added refl refl c.reserve_wait.ensures.txns
-    (c.reserve_wait.ensures.stands s is.beside.parts.stands) is over))
-
-pub commit-changes-requires-clause-seated : goal.commit-changes-requires-clause-seated
-commit-changes-requires-clause-seated g c = subst (IsSeatIn c.args.seat.now) (sym c.reserve_wait.ensures.txns) c.requires.seated
+    (inr (comes_lacking c.args.self.now _ front disk before s store refl c.push.ensures.first c.in-Err.ensures.none_added refl refl refl is.beside.parts.stands is over))
 
 pub invariant_of-self-2 : goal.invariant_of-self-2
 invariant_of-self-2 g c =
     let old = c.args.self.now in
     let new = txns_in c.commit-changes.new.self in
-    let left = subst (λ x. OneLeaves c.args.seat.now.txn c.commit-changes.result.items (table.txns_in x) (table.txns_in new)) c.reserve_wait.ensures.txns c.commit-changes.ensures.left in
+    let left = c.commit-changes.ensures.left in
     let r : LogRecord = record { txn = c.id.result; previous = c.last.result; payload = Commit } in
     let next : first_of old + length (waiting_of old) + 1 ≡ g.T.Tail.first c.push.new.self + length (g.T.Tail.records c.push.new.self) =
     let long = length-append (waiting_of old) (r ∷ []) in let more = ap length c.in-Ok.ensures.added in omega (arith, long, more, c.in-Ok.ensures.first) in
@@ -144,13 +117,12 @@ returns-clause-replied g c ready front disk before s store is safe over waits_no
     let a = as_session_txn t in
     let es = c.commit-changes.result.items in
     let was = is.beside.parts.stands in
-    let mid = c.reserve_wait.ensures.stands s was in
     let its = c.in_ok-txn.ensures.of_session s was in
     let at_seat = c.in_ok-txn.ensures.some.1 in
     let works = is.beside.parts.failed_is ∙ ready in
     let number = c.in-Ok.ensures.number ∙ sym (next_is (control_of old) (waiting_of old) (durable_of old) (has_failed old) before s is.beside.parts (first_of old) is.beside.first 0) in
     let later = committed s a in
-    let stands = commit.stands s a mid its at_seat number in
+    let stands = commit.stands s a was its at_seat in
     let r : LogRecord = record { txn = a.txn; previous = previous_of a.txn s.log; payload = Commit } in
     let last = each_among (IsLogged s.log) (table.txns_in (txns_of old)) was.txns.each t c.in_ok-txn.ensures.some.0 in
     let added : g.T.Tail.records c.push.new.self ≡ waiting_of old ++ r ∷ [] =
@@ -159,20 +131,18 @@ returns-clause-replied g c ready front disk before s store is safe over waits_no
     let parts = subst (λ l. HasParts c.commit-changes.new.self l (durable_of old) (has_failed old) before later) (sym added)
     (parts_logged (control_of old) c.commit-changes.new.self (waiting_of old) (durable_of old) (has_failed old) before s later r is.beside.parts stands refl refl refl) in
     let out : undos_in (txns_in c.commit-changes.new.self) ≡ without_txn a.txn (undos_in (txns_of old)) = sym stands.txns.active ∙ ap (without_txn a.txn) was.txns.active in
-    let more : (p : PageId) → HasMore (claims_on p es) (kept_in (txns_in c.commit-changes.new.self) p) (kept_in (txns_of old) p) =
-    λ p. subst (λ x. HasMore (claims_on p es) (kept_in (txns_in c.commit-changes.new.self) p) (kept_in x p)) c.reserve_wait.ensures.txns (commit.claims p) in
-    let undone = commit.undone s a mid (its.0.0, at_seat) in
+    let undone = commit.undone s a was (its.0.0, at_seat) in
     let older = table.txns_in (txns_of old) in
     let those = table.txns_in (txns_in c.commit-changes.new.self) in
     let all : take c.loop-change.change-index c.deref-change-items.result.now ≡ es = take-whole c.deref-change-items.result.now c.loop-change.change-index c.loop-change-test.false ∙ c.deref-change-items.ensures.value in
-    let fit = stays_fit s a es older those undone safe.roomy.pages its.0.0 was.txns.active out more in
+    let fit = stays_fit s a es older those undone safe.roomy.pages its.0.0 was.txns.active out commit.claims in
     let left = subst (ShowsLeft (λ p. is_some (frame_of old.heap p)) (kept_in (txns_of old)) (kept_in (txns_in c.commit-changes.new.self)) (page_slots s) new.heap front disk) all
     (inv.7 (kept_in (txns_of old)) (kept_in (txns_in c.commit-changes.new.self)) front disk (page_slots s) fit (is.pages works)) in
-    let shows = all_released s a es older those undone safe.roomy.pages its.0.0 was.txns.active out more new.heap (λ p. is_some (frame_of old.heap p)) front disk left in
+    let shows = all_released s a es older those undone safe.roomy.pages its.0.0 was.txns.active out commit.claims new.heap (λ p. is_some (frame_of old.heap p)) front disk left in
     let pages = appended_without old.heap disk store r (over.pages works) over.kept.recoverable over.kept.redone refl in
     record {
       later = later;
-      replies = inr (inr (inr (inr (inr (inl (works, waits_not, (a, its, inr (inl (c.in_ok-txn.ensures.whole, inr (inr (inl (refl, (ap Durable number, refl)))))))))))));
+      replies = inr (inr (inr (inr (inr (inl (works, waits_not, (a, its, inr (inl (c.in_ok-txn.ensures.whole, inr (inr (inl (refl, (ap Committed (c.of.ensures ∙ number), refl)))))))))))));
       comes = comes_appended new front disk before s later store r over.kept refl refl
           (record {
             beside = record { first = ap g.T.Tail.first inv.0 ∙ c.push.ensures.first ∙ is.beside.first; parts = same_parts inv.0 inv.1 inv.2 inv.3 parts };
@@ -194,9 +164,6 @@ returns-clause-replied g c ready front disk before s store is safe over waits_no
 pub returns-in_err-txn-clause-serves : goal.returns-in_err-txn-clause-serves
 returns-in_err-txn-clause-serves g c =
     refused_still _ _ _ _ _ _ c.from_residual.ensures.1 refl refl refl refl (not_open_aside _ c.in_err-txn.ensures.refused)
-
-pub returns-in_err-reserve_wait-clause-serves : goal.returns-in_err-reserve_wait-clause-serves
-returns-in_err-reserve_wait-clause-serves g c = refused_still _ _ _ _ _ fault.Memory c.from_residual-in_err-reserve_wait.ensures.1 refl refl refl refl tt
 
 pub returns-in-Err-clause-serves : goal.returns-in-Err-clause-serves
 returns-in-Err-clause-serves g c = call_still _ _ _ _ _ refl refl c.in-Err.ensures.first refl (as_aside _ _ c.in-Err.ensures.refused.0 tt) tt

@@ -1,14 +1,14 @@
-use Rattle.std.proofs.Common.{◌≡◌, ◌<◌, ◌≤◌, ◌+◌, length, inl, inr, refl, sym, ap, subst, ◌∙◌, arith}
+use Rattle.std.proofs.Common.{◌<◌, ◌≤◌, ◌+◌, length, inl, inr, refl, sym, ap, subst, ◌∙◌, arith}
 use Rattle.laws_lives.specs.Sessions.{ResolvedTxn}
 use Rattle.laws_lives.specs.Views.{IsAmong}
-use Rattle.laws_calls.specs.CallSteps.{IsPreparing, ResumesWait, commit_ended, prepare_ended}
+use Rattle.laws_calls.specs.CallSteps.{IsPreparing, ResumesWait, prepare_ended}
 use Rattle.laws_calls.specs.Resolves.{resolve_ended}
 use Rattle.laws_calls.specs.States.{State}
 use Rattle.shore_model.specs.declared.step.Step.TheVariants.{Done, Waits}
 use Rattle.shore_model.specs.declared.step.Wait.{Wait}
 use Rattle.shore_model.specs.declared.step.Wait.TheVariants.{Durable}
-use Rattle.shore_model.specs.declared.calls.Answer.TheVariants.{Committed, Prepared, Resolved}
-use Rattle.shore_sessions.specs.Calls.{as_waiting, resolved_as}
+use Rattle.shore_model.specs.declared.calls.Answer.TheVariants.{Prepared, Resolved}
+use Rattle.shore_sessions.specs.Calls.{as_waiting, is_durable, resolved_as}
 use Rattle.shore_sessions.specs.Standing.{HasControl}
 use Rattle.shore_sessions.proofs.EndedWaits.{has_ended}
 use Rattle.shore_sessions.proofs.WaitSteps.{call_waits}
@@ -22,7 +22,7 @@ use Rattle.shore_core.specs.Cores.{control_of, first_of, geometry_of, txns_of, w
 use Rattle.shore_core.specs.Resumes.{IsAwaited}
 use Rattle.shore_core.proofs.Acquiring.{lasts_below}
 use Rattle.shore_core.proofs.Coming.{comes_same}
-use Rattle.shore_core.proofs.Going.{commit_of, commit_waits, spared_commit}
+use Rattle.shore_core.proofs.Going.{decision_spared}
 use Rattle.shore_core.proofs.Settling.{resumed_at_once, resumed_to_nothing}
 use Rattle.shore_core.proofs.Moving.{comes_moved}
 use Rattle.shore_core.proofs.core_calls.Core.resume_durable.Goals as goal
@@ -45,7 +45,7 @@ returns-then-awaits_force-clause-step g c running front disk before s store is s
               works,
               subst (λ (x : Wait). ResumesWait (geometry_of old) s w x (Waits (Durable number)) s) (sym waits)
                   (inl (omega (arith, c.if-awaits_force.ensures.awaits refl, is.beside.parts.durable_is), refl, refl)),
-              spared_commit _ s w number safe.after.waits m waits,
+              decision_spared _ s w number safe.after.waits m waits,
             ),
           )) refl;
       comes = comes_same old front disk before s store is over;
@@ -53,18 +53,6 @@ returns-then-awaits_force-clause-step g c running front disk before s store is s
 
 pub invariant_of-self : goal.invariant_of-self
 invariant_of-self g c =
-    let old = c.args.self.now in
-    let txns = sym c.end_commit.ensures.txns in
-    let next = first_of old + length (waiting_of old) in
-    record {
-      some_number = old.some_number;
-      forced = old.forced;
-      numbers = subst (λ x. next + (room_in x).reserved ≤ LAST_OPENED) txns old.numbers;
-      earlier = subst (λ x. (t : Txn) → IsAmong t (table.txns_in x) → last_of t < next) txns old.earlier;
-    }
-
-pub invariant_of-self-in-Prepare : goal.invariant_of-self-in-Prepare
-invariant_of-self-in-Prepare g c =
     let old = c.args.self.now in
     let next = first_of old + length (waiting_of old) in
     record {
@@ -86,36 +74,6 @@ invariant_of-self-in-Resolve g c =
       earlier = subst (λ x. (t : Txn) → IsAmong t (table.txns_in x) → last_of t < next) txns old.earlier;
     }
 
-pub returns-in-Commit-clause-step : goal.returns-in-Commit-clause-step
-returns-in-Commit-clause-step g c running front disk before s store is safe over v n same waits kind =
-    let old = c.args.self.now in
-    let works = is.beside.parts.failed_is ∙ running in
-    let number = c.args.number in
-    let w = as_waiting v in
-    let m = call_waits (waits_of old) s is.beside.parts.stands.waits v n in
-    let own = commit_of s (commit_waits _ s w number safe.after.waits m waits) (subst (IsAwaited v.call) c.in-Commit.is kind) in
-    let a = own.0 in
-    let of : a.session ≡ c.args.session = own.2 ∙ same in
-    let later : State = commit_ended s a in
-    let stands = c.end_commit.ensures.stands s a safe.after.sessions.seats is.beside.parts.stands works own.1 of in
-    let told : number ≤ s.durable = omega (arith, c.if-awaits_force.ensures.durable refl, is.beside.parts.durable_is) in
-    record {
-      later = later;
-      moves = resumed_at_once (geometry_of old) s later c.args.session (Done Committed) tt
-          (inr (
-            w,
-            m,
-            same,
-            inr (
-              works,
-              subst (λ (x : Wait). ResumesWait (geometry_of old) s w x (Done Committed) later) (sym waits)
-                  (inr (inl (told, refl, (a, own.1, own.2, refl), own.3))),
-              spared_commit _ s w number safe.after.waits m waits,
-            ),
-          ));
-      comes = comes_moved old _ front disk before s later store refl refl refl refl refl (λ p. ap (λ (t : Transactions). kept_in t p) c.end_commit.ensures.txns) stands refl refl refl (λ p. refl) is over;
-    }
-
 pub returns-in-Prepare-clause-step : goal.returns-in-Prepare-clause-step
 returns-in-Prepare-clause-step g c running front disk before s store is safe over v n same waits kind =
     let old = c.args.self.now in
@@ -124,7 +82,7 @@ returns-in-Prepare-clause-step g c running front disk before s store is safe ove
     let stands = is.beside.parts.stands in
     let w = as_waiting v in
     let m = call_waits (waits_of old) s stands.waits v n in
-    let asked = subst (IsAwaited v.call) c.in-Prepare.is kind in
+    let asked = subst (IsAwaited v.call) c.in-Prepare.is kind (sym (stands.waits.kinds v n) ∙ ap is_durable waits) in
     let preparing = stands.waits.preparing v asked.0 n asked.1 in
     let later : State = prepare_ended s v.session v.txn asked.0 in
     let has = subst (λ k. HasControl c.end_prepare.new.self (prepare_ended s k v.txn asked.0)) (sym same)
@@ -140,8 +98,8 @@ returns-in-Prepare-clause-step g c running front disk before s store is safe ove
             inr (
               works,
               subst (λ (x : Wait). ResumesWait (geometry_of old) s w x (Done Prepared) later) (sym waits)
-                  (inr (inr (inl (told, refl, (v.txn, asked.0, preparing, asked.1, refl))))),
-              spared_commit _ s w number safe.after.waits m waits,
+                  (inr (inl (told, refl, (v.txn, asked.0, preparing, asked.1, refl)))),
+              decision_spared _ s w number safe.after.waits m waits,
             ),
           ));
       comes = comes_moved old _ front disk before s later store refl refl refl refl refl c.end_prepare.ensures.claims has refl refl refl (λ p. refl) is over;
@@ -172,8 +130,8 @@ returns-in-Resolve-clause-step g c running front disk before s store is safe ove
             inr (
               works,
               subst (λ (x : Wait). ResumesWait (geometry_of old) s w x (Done Resolved) later) (sym waits)
-                  (inr (inr (inr (told, refl, (r, ended, asked.2, refl))))),
-              spared_commit _ s w number safe.after.waits m waits,
+                  (inr (inr (told, refl, (r, ended, asked.2, refl)))),
+              decision_spared _ s w number safe.after.waits m waits,
             ),
           ));
       comes = comes_moved old _ front disk before s later store refl refl refl refl refl (λ p. ap (λ (t : Transactions). kept_in t p) c.end_resolve.ensures.txns) has refl refl refl (λ p. refl) is over;

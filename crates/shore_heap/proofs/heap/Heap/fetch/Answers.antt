@@ -1,11 +1,16 @@
-use Rattle.std.proofs.Common.{inl, inr, refl, sym, ap, subst, ◌∙◌}
+use Rattle.std.proofs.Common.{◌≡◌, Option, inl, inr, refl, sym, ap, subst, ◌∙◌}
+use Rattle.std.specs.Prelude.{IsSomeAnd}
+use Rattle.shore_types.specs.declared.layout.Geometry.{Geometry}
+use Rattle.shore_pool.specs.declared.frame.Frame.{Frame}
 use Rattle.shore_disk.specs.Device.{DeviceHistory, LeavesOnly, size}
+use Rattle.std.proofs.lemmas.Bool.{cases_eq}
 use Rattle.shore_dwrite.proofs.Moves.{if_err}
 use Rattle.shore_pool.specs.Pools as pools
 use Rattle.shore_pool.proofs.Same.{pages_stay}
 use Rattle.shore_pool.proofs.Steps.{alike, force_from}
-use Rattle.shore_heap.specs.Heaps.{LeavesPages, claims_in, faults_of, history_of}
-use Rattle.shore_heap.proofs.Fetched.{as_read, came_by, clean_by, dirty_of, faults_by, forced_of, geometry_by, history_by, honest_by, kept_of, moment_of, number_is, others_by, there_before, wrote_of}
+use Rattle.shore_heap.specs.Heaps.{IsFreshFrame, LeavesPages, claims_in, faults_of, frame_at, geometry_of, history_of}
+use Rattle.shore_heap.proofs.Fetched.{as_read, came_by, clean_by, dirty_of, faults_by, forced_of, geometry_by, history_by, honest_by, kept_of, moment_of, number_is, others_by, there_before, was_there, wrote_of}
+use Rattle.shore_dwrite.specs.Volumes.{page_number}
 use Rattle.shore_heap.proofs.Going.{hands_on, ok_cause, ok_same}
 use Rattle.shore_heap.proofs.heap.Heap.fetch.Goals as goal
 
@@ -109,21 +114,28 @@ returns-in-Read-clause-reads g c =
       cause = ok_cause _ (faults_of old) (faults_of new) (faults_by new mid device ∙ ok_same _ (faults_of old) (pools.faults_of mid) c.in_ok-fetch.ensures.cause);
     }
 
-pub returns-in_err-fetch-clause-others : goal.returns-in_err-fetch-clause-others
-returns-in_err-fetch-clause-others g c k apart = c.in_err-fetch.ensures.stay k
+pub returns-in_err-fetch-clause-framed : goal.returns-in_err-fetch-clause-framed
+returns-in_err-fetch-clause-framed g c front disk holds k f is = inl (was_there _ _ f (c.in_err-fetch.ensures.stay k) is)
 
-pub returns-in-Held-clause-others : goal.returns-in-Held-clause-others
-returns-in-Held-clause-others g c k apart = inl (c.in_ok-fetch.ensures.all c.in-Held.is k)
+pub returns-in-Held-clause-framed : goal.returns-in-Held-clause-framed
+returns-in-Held-clause-framed g c front disk holds k f is = inl (was_there _ _ f (inl (c.in_ok-fetch.ensures.all c.in-Held.is k)) is)
 
-pub returns-in-Held-clause-asked : goal.returns-in-Held-clause-asked
-returns-in-Held-clause-asked g c front disk holds = inl (c.in_ok-fetch.ensures.held c.in-Held.is).0
-
-pub returns-in-Read-clause-others : goal.returns-in-Read-clause-others
-returns-in-Read-clause-others g c =
+pub returns-in-Read-clause-framed : goal.returns-in-Read-clause-framed
+returns-in-Read-clause-framed g c front disk holds k f is =
+    let old = c.args.self.now in
+    let mid = c.fetch.new.self in
+    let new = c.keep_claims.new.self in
     let id = c.args.page in
-    others_by c.args.self.now c.fetch.new.self c.keep_claims.new.self id (number_is c.fetch.new.self id c.fetch.ensures.geometry) c.fetch.ensures.others c.keep_claims.ensures.others
-
-pub returns-in-Read-clause-asked : goal.returns-in-Read-clause-asked
-returns-in-Read-clause-asked g c front disk holds =
+    let number = number_is mid id c.fetch.ensures.geometry in
+    let geometry : geometry_of new ≡ geometry_of old = geometry_by new mid c.keep_claims.ensures.device ∙ c.fetch.ensures.geometry in
     let read = c.in_ok-fetch.ensures.read front disk holds c.in-Read.is in
-    inr (read.0, as_read c.args.page c.args.ends.now.last (claims_in g.C.Claims c.args.claims.now c.args.page) _ _ read.1 c.keep_claims.ensures.fitting)
+    elim (cases_eq k (page_number (geometry_of old) id)) [
+      | inl same ↦ inr (
+        same,
+        ap (frame_at old) same ∙ read.0,
+        subst (λ (o : Option Frame). IsSomeAnd o (IsFreshFrame (claims_in g.C.Claims c.args.claims.now id) c.args.ends.now.last))
+            (ap (λ (x : Geometry). frame_at new (page_number x id)) geometry ∙ ap (frame_at new) (sym same) ∙ is)
+            (as_read id c.args.ends.now.last (claims_in g.C.Claims c.args.claims.now id) _ _ read.1 c.keep_claims.ensures.fitting),
+      )
+      | inr apart ↦ inl (was_there _ _ f (others_by old mid new id number c.fetch.ensures.others c.keep_claims.ensures.others k apart) is)
+    ]

@@ -14,7 +14,7 @@ pub returns-then-intends-clause-stands : goal.returns-then-intends-clause-stands
 returns-then-intends-clause-stands c s has =
     let new = with_requests s (acquired Refuse s.locks c.args.txn (Record c.args.id.now) EX).requests in record {
       txns = txns_kept (txns_in c.args.self.now) (txns_in c.args.self.now) s new refl refl refl (λ n. refl) refl refl refl has.txns;
-      waits = waits_kept (waits_in c.args.self.now) s has.waits new refl refl (λ f. f) refl (λ n. refl) refl refl;
+      waits = waits_kept (waits_in c.args.self.now) s has.waits new refl refl (λ n. refl) refl refl;
       resolving = has.resolving;
       locks =
           ap (λ (l : Table). record { limit = l.limit; requests = (acquired Refuse l c.args.txn (Record c.args.id.now) EX).requests }) has.locks

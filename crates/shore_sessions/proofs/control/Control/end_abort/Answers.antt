@@ -13,7 +13,7 @@ use Rattle.shore_sessions.proofs.ControlSteps.{resolving_kept}
 use Rattle.shore_sessions.proofs.RollbackSteps.{txns_aborted}
 use Rattle.shore_sessions.proofs.RollingBack.{control_rolled}
 use Rattle.shore_sessions.proofs.TxnSteps.{rolled_left}
-use Rattle.shore_sessions.proofs.WaitSteps.{waits_aborted}
+use Rattle.shore_sessions.proofs.WaitSteps.{waits_freed}
 use Rattle.shore_sessions.proofs.control.Control.end_abort.Goals as goal
 
 left_by : ℕ → Table → Table
@@ -35,7 +35,7 @@ returns-clause-stands c s a was its at =
     let free = subst (λ n. All (λ (w : WaitingCall). w.session ≢ n) calls) (sym its.1) c.requires.free in
     record {
       txns = txns_aborted old new s was.txns c.args.seat.now.txn [] a done.left its.0.0 at (done.undos a here at) done.doubts done.next done.stream its.0.1 c.args.logged done.kept;
-      waits = waits_aborted calls s was.waits a its.0.0 once free c.args.logged;
+      waits = waits_freed calls s was.waits a its.0.0 once free (abort_ended s a c.args.logged) refl refl refl refl (λ n. refl);
       resolving = resolving_kept old new calls calls s (abort_ended s a c.args.logged) (rolled_left old new s was.txns c.args.seat.now.txn [] a done.left its.0.0 at its.0.1) refl refl (λ f. f) was.resolving;
       locks = ap (left_by a.txn) was.locks ∙ ap (λ n. left_by n (locks_in c.args.self.now)) at ∙ sym (returns-clause-locks c);
     }

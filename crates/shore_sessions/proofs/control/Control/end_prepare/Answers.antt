@@ -45,7 +45,7 @@ returns-clause-stands c s t global own was works is =
     let there = subst (IsAmong one.before) (sym one.was) (among_middle one.newer one.older one.before) in
     let same = one_at_number (table.txns_in old) old.numbers one.before c.txn.result.now there c.txn.ensures.among (one.txn ∙ sym c.txn.ensures.number) in
     let waits = ap state_of same ∙ its.1 in
-    control_answered c.args.self.now _ s was works own c.args.self.now.waits.once c.args.session t global is
+    control_answered c.args.self.now _ s was own c.args.self.now.waits.once c.args.session t global is
     (txns_answered old new one waits c.note_answer.ensures.undos c.note_answer.ensures.doubts c.note_answer.ensures.next c.note_answer.ensures.room s was.txns c.args.session t global
     (sym its.0 ∙ c.txn.ensures.number))
     (rolled_answered old new one waits) refl c.take.ensures.left

@@ -34,7 +34,7 @@ returns-clause-stands c s a was its none =
           ∙ ap (λ l. with_undo a.txn (back_at index (record a.undo { images = l })) (undos_in (txns_in c.args.self.now))) (all_left (mark_of a.undo index) a.undo.images none)
           ∙ sym (done.undos a (subst (IsAmong a) was.txns.active its.0) its.1))
           (λ n. refl) refl done.doubts refl refl (ap (and_compensations a.txn s.log) none) done.next done.room;
-      waits = waits_kept (waits_in c.args.self.now) s was.waits new refl refl (λ f. f) (names-with_undo a.txn undo s.sessions.active) (λ n. refl) refl refl;
+      waits = waits_kept (waits_in c.args.self.now) s was.waits new refl (names-with_undo a.txn undo s.sessions.active) (λ n. refl) refl refl;
       resolving = resolving_kept (txns_in c.args.self.now) c.go_back.new.self (waits_in c.args.self.now) (waits_in c.args.self.now) s new (rolled_kept seated) refl refl (λ f. f) was.resolving;
       locks = was.locks;
     }

@@ -114,7 +114,7 @@ returns-in-Waiting-clause-locks c s o found es a call was state works its number
     ap (λ t. answer_of answer (told_cycle t None victims)) number ∙ ap (answer_of answer) (sym c.note_victims-told.ensures.told) ∙ sym c.answer_of.ensures in
     let noted : AreNoted c.args.seat.now.session c.args.txn s victims comes.new =
     subst (λ t. AreNoted c.args.seat.now.session t s victims comes.new) number (subst (λ n. AreNoted n a.txn s victims comes.new) its.1 comes.noted) in
-    let stands = c.note_victims-told.ensures.stands s comes.new (stands_for o found es s state works control _ was.txns was.waits was.resolving c.acquire.ensures.txns c.acquire.ensures.waits)
+    let stands = c.note_victims-told.ensures.stands s comes.new (stands_for control _ s was c.acquire.ensures.txns c.acquire.ensures.waits)
     (subst (All (λ (w : WaitingCall). w.session ≢ c.args.seat.now.session)) (sym c.acquire.ensures.waits) c.requires.free) noted in (
       comes.new,
       subst (λ answered. LocksTo s a call asked answered comes.new) told comes.locks_to,

@@ -1,15 +1,12 @@
-use Rattle.std.proofs.Common.{inl, refl, ◌∙◌}
-use Rattle.shore_sessions.specs.Calls.{as_waiting}
-use Rattle.shore_sessions.specs.Controls.{txns_in, waits_in}
+use Rattle.std.proofs.Common.{inl, refl}
+use Rattle.shore_sessions.specs.Controls.{txns_in}
 use Rattle.shore_sessions.proofs.Named.{may_by_name}
 use Rattle.shore_sessions.proofs.Seats.{in_no_txn}
-use Rattle.shore_sessions.proofs.WaitSteps.{call_waits, commit_call}
 use Rattle.shore_sessions.proofs.control.Control.may_resolve.Goals as goal
 
 pub returns-in-None : goal.returns-in-None
 returns-in-None c s was seats works idle = (
-  λ told. inl (in_no_txn (txns_in c.args.self.now) s was.txns seats c.args.session c.in-None.ensures.none
-      (λ a m same. let its = commit_call (waits_in c.args.self.now) s was.waits works a m in idle (as_waiting its.0) (call_waits (waits_in c.args.self.now) s was.waits its.0 its.1) (its.2 ∙ same))),
+  λ told. inl (in_no_txn (txns_in c.args.self.now) s was.txns seats c.args.session c.in-None.ensures.none),
   λ may. refl,
 )
 

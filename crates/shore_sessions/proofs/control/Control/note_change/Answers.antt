@@ -19,7 +19,7 @@ returns-clause-stands c s a image counts was its number found logged claimed alo
       txns = txns_changed (txns_in c.args.self.now) c.note_change.new.self s was.txns c.args.seat.now.txn entry a image counts done.noted
           (done.undos a (subst (IsAmong a) was.txns.active its.0) its.1) done.doubts done.next (done.kept ∙ ap (λ n. (room_in (txns_in c.args.self.now)).kept + n) logged) done.stream
           its.0 its.1 number found claimed alone claim;
-      waits = waits_kept (waits_in c.args.self.now) s was.waits (changed s a entry.id image counts) refl refl (λ f. f)
+      waits = waits_kept (waits_in c.args.self.now) s was.waits (changed s a entry.id image counts) refl
           (names-with_undo a.txn (with_before_image s.sessions.records a.undo entry.id) s.sessions.active) (λ n. refl) refl refl;
       resolving = resolving_kept (txns_in c.args.self.now) c.note_change.new.self (waits_in c.args.self.now) (waits_in c.args.self.now) s (changed s a entry.id image counts)
           (rolled_kept (becomes_so (change_seated entry) done.noted)) refl refl (λ f. f) was.resolving;

@@ -29,7 +29,7 @@ returns-clause-stands c s a kept was its newest number =
     record {
       txns = txns_put_back (txns_in c.args.self.now) c.note_compensation.new.self s was.txns c.args.seat.now.txn c.args.lsn c.args.rollback undone a kept one its.0 its.1 newest
           c.args.cost (done.undos a here its.1) free done.doubts done.next (c.requires.cost a kept (image_of undone) here its.1 newest) done.kept done.stream number;
-      waits = waits_kept (waits_in c.args.self.now) s was.waits (put_back s a kept (image_of undone) c.args.rollback) refl refl (λ f. f)
+      waits = waits_kept (waits_in c.args.self.now) s was.waits (put_back s a kept (image_of undone) c.args.rollback) refl
           (names-with_undo a.txn (undo_rolled a.undo kept c.args.rollback) s.sessions.active) (λ n. refl) refl refl;
       resolving = resolving_kept (txns_in c.args.self.now) c.note_compensation.new.self (waits_in c.args.self.now) (waits_in c.args.self.now) s (put_back s a kept (image_of undone) c.args.rollback)
           (rolled_kept (becomes_of one (undo_seated c.args.lsn c.args.rollback undone one.before one.after free one.becomes))) refl refl (λ f. f) was.resolving;

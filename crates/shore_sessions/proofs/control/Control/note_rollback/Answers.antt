@@ -24,7 +24,7 @@ returns-clause-stands c s a global was its can number =
     let r : ResolvedTxn = record { txn = a.txn; global = global; outcome = Abort } in
     record {
       txns = txns_decided old new s was.txns a global can c.args.number done.decided its.1 number (done.undos a (subst (IsAmong a) was.txns.active its.0) its.1) done.doubts done.next done.kept done.stream;
-      waits = waits_decided calls s was.waits a (rollback_decided s a global) refl refl (λ f. f) refl refl (λ n. refl) (not_preparing old s was.txns a global can)
+      waits = waits_decided calls s was.waits a (rollback_decided s a global) refl refl refl (λ n. refl) (not_preparing old s was.txns a global can)
           (λ w m is. subst (IsAmong (caller_of w)) (sym (names-with_undo a.txn undo s.sessions.active)) (was.waits.asking w m is).0)
           (λ k m. subst (IsAmong k) (txns_with a.txn undo s.sessions.active) m);
       resolving = λ f. IsPermutation-trans (r ∷ s.sessions.resolving) (r ∷ (rolled_in old ++ resolved_by calls)) (rolled_in new ++ resolved_by calls)

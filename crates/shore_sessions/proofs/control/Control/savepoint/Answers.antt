@@ -38,7 +38,7 @@ returns-clause-stands c = each _ c.savepoint.result c.savepoint.ensures.set c.sa
           record {
             txns = txns_still (txns_in c.args.self.now) c.savepoint.new.self s was.txns new (becomes_so savepoint_logged one) (becomes_so savepoint_seated one)
                 (ap (with_undo a.txn (with_mark a.undo)) was.txns.active ∙ sym (undos a here own.1)) (λ n. refl) refl c.savepoint.ensures.doubts refl refl refl c.savepoint.ensures.next c.savepoint.ensures.room;
-            waits = waits_kept (waits_in c.args.self.now) s was.waits new refl refl (λ f. f) (names-with_undo a.txn (with_mark a.undo) s.sessions.active) (λ n. refl) refl refl;
+            waits = waits_kept (waits_in c.args.self.now) s was.waits new refl (names-with_undo a.txn (with_mark a.undo) s.sessions.active) (λ n. refl) refl refl;
             resolving = resolving_kept (txns_in c.args.self.now) c.savepoint.new.self (waits_in c.args.self.now) (waits_in c.args.self.now) s new (rolled_kept (becomes_so savepoint_seated one)) refl refl (λ f. f) was.resolving;
             locks = was.locks;
           },

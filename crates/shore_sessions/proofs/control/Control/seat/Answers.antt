@@ -1,10 +1,7 @@
-use Rattle.std.proofs.Common.{◌∙◌}
-use Rattle.shore_sessions.specs.Controls.{txns_in, waits_in}
+use Rattle.shore_sessions.specs.Controls.{txns_in}
 use Rattle.shore_sessions.proofs.Answered.{none_so, some_so}
 use Rattle.shore_sessions.proofs.SeatSteps.{seat_of}
 use Rattle.shore_sessions.proofs.Seats.{in_no_txn, in_none_of}
-use Rattle.shore_sessions.proofs.WaitSteps.{call_waits, commit_call}
-use Rattle.shore_sessions.specs.Calls.{as_waiting}
 use Rattle.shore_sessions.proofs.control.Control.seat.Goals as goal
 
 pub returns-clause-of_some : goal.returns-clause-of_some
@@ -15,5 +12,4 @@ returns-clause-of_none c = none_so c.seat.result (λ none s was. in_none_of (txn
 
 pub returns-clause-free : goal.returns-clause-free
 returns-clause-free c = none_so c.seat.result
-    (λ none s was seats works idle. in_no_txn (txns_in c.args.self.now) s was.txns seats c.args.session none
-    (λ a m same. let its = commit_call (waits_in c.args.self.now) s was.waits works a m in idle (as_waiting its.0) (call_waits (waits_in c.args.self.now) s was.waits its.0 its.1) (its.2 ∙ same))) c.seat.ensures.none
+    (λ none s was seats works idle. in_no_txn (txns_in c.args.self.now) s was.txns seats c.args.session none) c.seat.ensures.none

@@ -4,7 +4,7 @@ use Rattle.shore_sessions.specs.Calls.{resolved_as}
 use Rattle.shore_sessions.specs.Controls.{txns_in, waits_in}
 use Rattle.shore_sessions.proofs.Answered.{none_so, some_so}
 use Rattle.shore_sessions.proofs.Seats.{active_above}
-use Rattle.shore_sessions.proofs.WaitSteps.{asks, call_waits, commits, free_waits_not}
+use Rattle.shore_sessions.proofs.WaitSteps.{asks, call_waits, free_waits_not}
 use Rattle.shore_sessions.proofs.EndedWaits.{has_ended}
 use Rattle.shore_sessions.proofs.control.Control.waiting.Goals as goal
 
@@ -21,10 +21,6 @@ pub returns-clause-asks : goal.returns-clause-asks
 returns-clause-asks c = some_so c.of.result
     (λ w found is s stands.
     let its = asks (waits_in c.args.self.now) s stands.waits (active_above (txns_in c.args.self.now) s stands.txns) w.now found.0 is in (its.0, (its.1.0, its.1.1 ∙ found.1), its.2)) c.of.ensures.some
-
-pub returns-clause-commits : goal.returns-clause-commits
-returns-clause-commits c = some_so c.of.result
-    (λ w found is s stands works. let its = commits (waits_in c.args.self.now) s stands.waits w.now found.0 is works in (its.0, its.1, its.2 ∙ found.1, its.3)) c.of.ensures.some
 
 pub returns-clause-prepares : goal.returns-clause-prepares
 returns-clause-prepares c = some_so c.of.result
