@@ -1,6 +1,6 @@
 -- A page is fetched and keeps a claim more: what the pages claim so far, and the work of the store that it is.
 use Rattle.std.proofs.Common.{◌≡◌, ◌≢◌, ◌⊎◌, ◌≤◌, ◌++◌, ◌∷◌, [], ℕ, List, Bool, cond, Option, None, Some, Result, Ok, inl, inr, refl, sym, ap, subst, ◌∙◌, map, arith}
-use Rattle.std.specs.Prelude.{IsSomeAnd}
+use Rattle.std.specs.Prelude.{IsSomeAnd, option_map}
 use Rattle.shore_types.specs.Images.{Image, image_len}
 use Rattle.shore_types.specs.Layout.{HasPage}
 use Rattle.shore_types.specs.declared.ids.PageId.{PageId}
@@ -14,15 +14,14 @@ use Rattle.shore_page.specs.Room.{raised}
 use Rattle.shore_page.specs.Slots.{Slot, settled, with_change}
 use Rattle.shore_page.specs.Text.{images_of}
 use Rattle.shore_pool.specs.declared.frame.Frame.{Frame}
+use Rattle.shore_pool.specs.Changes as changes
 use Rattle.shore_pool.specs.Changes.{reclaimed}
 use Rattle.shore_pool.specs.Pages.{IsPage, SamePages}
 use Rattle.shore_pool.specs.Pools.{PoolHolds, StaysOrGoes}
-use Rattle.shore_pool.specs.Pools as pools
 use Rattle.shore_heap.specs.declared.heap.Heap.{Heap}
 use Rattle.shore_heap.specs.Contents.{AreBounds, CanKeep, ClaimsOfPages, FitIn, KeepWhatFits, claimed_by}
 use Rattle.shore_heap.specs.Heaps as heaps
-use Rattle.shore_heap.specs.Heaps.{IsAsRead, LeavesPages, StayInPlace, frame_at, frame_of, geometry_of, history_of}
-use Rattle.shore_heap.proofs.Bounds.{cases_page}
+use Rattle.shore_heap.specs.Heaps.{FramesWere, IsFreshFrame, LeavesPages, StayInPlace, frame_at, frame_of, geometry_of, history_of}
 use Rattle.shore_heap.proofs.Claimed.{images_kept}
 use Rattle.shore_heap.proofs.Released.{images_claimed}
 use Rattle.laws_heaps.specs.LoggedHeaps.{IsStoreOf, LeavesStore}
@@ -76,10 +75,10 @@ module _ (text later : List ℕ) (p : PageId) (all so_far : List (ℕ × ℕ)) (
       subst (λ (o : Option Frame). ClaimsSoFar o later p all so_far slots) (sym is) (went f (own f refl) (subst (Same (Some f)) is same) claims)
 
   -- as it was read it keeps what fits
-  pub came : (at now : Option Frame) → at ≡ None → IsSomeAnd now (IsAsRead all) → Same at now → ClaimsSoFar at text p all so_far slots → ClaimsSoFar now later p all so_far slots
-  came (Some f) now none read same claims = cc
-  came None None none read same claims = absurd read
-  came None (Some f) none read same (number, images, is, settled_is) =
+  pub came : (at now : Option Frame) (last : ℕ) → at ≡ None → IsSomeAnd now (IsFreshFrame all last) → Same at now → ClaimsSoFar at text p all so_far slots → ClaimsSoFar now later p all so_far slots
+  came (Some f) now last none read same claims = cc
+  came None None last none read same claims = absurd read
+  came None (Some f) last none read same (number, images, is, settled_is) =
       let its = same number images is in
       inr (subst (λ (l : List Slot). KeepWhatFits all l f.page.slots) (ap (map settled) its.2 ∙ sym settled_is) read.slots)
 
@@ -204,8 +203,7 @@ module _ {V : Type 0} {H : Ghosts V} where
 
   module _ (front : List ℕ) (disk left : ℕ → List ℕ) (old mid : Heap V H) (s : RecoveryState) (all so_far : ClaimsOfPages) (slots : PageId → List Slot) (stands : StandsSoFar all so_far slots front disk old s) (page : PageId)
       (there : HasPage (geometry_of old) page) (geometry : geometry_of mid ≡ geometry_of old) (same : SamePages (frame_at old) disk (frame_at mid) left)
-      (others : (k : ℕ) → k ≢ page_number (geometry_of old) page → StaysOrGoes (frame_at old k) (frame_at mid k))
-      (asked : (frame_of mid page ≡ frame_of old page) ⊎ ((frame_of old page ≡ None) × IsSomeAnd (frame_of mid page) (IsAsRead (all page)))) where
+      (last : ℕ) (were : FramesWere all old mid page last) where
     abbrev number_in : PageId → ℕ
     number_in p = page_number (geometry_of old) p
 
@@ -216,27 +214,30 @@ module _ {V : Type 0} {H : Ghosts V} where
     at_mid : (p : PageId) → frame_of mid p ≡ frame_at mid (number_in p)
     at_mid p = ap (λ (g : Geometry). frame_at mid (page_number g p)) geometry
 
-    pub fetched_claims : (p : PageId) → HasPage (geometry_of old) p → ClaimsSoFar (frame_of mid p) (left (number_in p)) p (all p) (so_far p) (slots p)
-    fetched_claims p has = elim (cases_page p page) [
-      | inl is ↦ elim asked [
-        | inl stays ↦ subst (λ (o : Option Frame). ClaimsSoFar o (left (number_in p)) p (all p) (so_far p) (slots p)) (sym (at_mid p)) (by_step (inl (sym (at_mid p) ∙ ap (frame_of mid) is ∙ stays ∙ ap (frame_of old) (sym is))))
-        | inr read ↦
-            came (disk (number_in p)) (left (number_in p)) p (all p) (so_far p) (slots p) bare (frame_of old p) (frame_of mid p) (ap (frame_of old) is ∙ read.0)
-            (subst (λ (q : PageId). IsSomeAnd (frame_of mid q) (IsAsRead (all q))) (sym is) read.1)
-            (λ number images it. subst (λ (o : Option Frame). IsPage o (left (number_in p)) p number images) (sym (at_mid p)) ((same (number_in p) p number images).0 it)) (stands.pages p has)
-      ]
-      | inr apart ↦
-          subst (λ (o : Option Frame). ClaimsSoFar o (left (number_in p)) p (all p) (so_far p) (slots p)) (sym (at_mid p))
-          (by_step (others (number_in p) (λ number. apart (one_page (geometry_of old) p page has there number))))
+    -- a frame has what it had, though it may have become clean, or it goes; or its page was read
+    step_at : (p : PageId) → HasPage (geometry_of old) p → (o : Option Frame) → frame_at mid (number_in p) ≡ o
+        → StaysOrGoes (frame_at old (number_in p)) o ⊎ ((frame_at old (number_in p) ≡ None) × IsSomeAnd o (IsFreshFrame (all p) last))
+    step_at p has None is = inl (inr (inr refl))
+    step_at p has (Some f) is = elim (were (number_in p) f is) [
+      | inl (h, was, inl kept) ↦ inl (inl (ap (λ (x : Frame). Some x) kept ∙ sym was))
+      | inl (h, was, inr clean) ↦ inl (inr (inl (ap (λ (x : Frame). Some x) clean ∙ ap (option_map changes.settled) (sym was))))
+      | inr (here, none, fresh) ↦
+          let own : page ≡ p = sym (one_page (geometry_of old) p page has there here) in
+          inr (none, subst (λ (q : PageId). IsFreshFrame (all q) last f) own fresh)
     ]
+
+    pub fetched_claims : (p : PageId) → HasPage (geometry_of old) p → ClaimsSoFar (frame_of mid p) (left (number_in p)) p (all p) (so_far p) (slots p)
+    fetched_claims p has = subst (λ (o : Option Frame). ClaimsSoFar o (left (number_in p)) p (all p) (so_far p) (slots p)) (sym (at_mid p)) (elim (step_at p has (frame_at mid (number_in p)) refl) [
+      | inl step ↦
+          stays_or_goes (disk (number_in p)) (left (number_in p)) p (all p) (so_far p) (slots p) bare (frame_at old (number_in p)) (frame_at mid (number_in p)) (own_page p has) step
+          (λ number images it. (same (number_in p) p number images).0 it) (stands.pages p has)
+      | inr read ↦
+          came (disk (number_in p)) (left (number_in p)) p (all p) (so_far p) (slots p) bare (frame_at old (number_in p)) (frame_at mid (number_in p)) last read.0 read.1
+          (λ number images it. (same (number_in p) p number images).0 it) (stands.pages p has)
+    ])
       where
         bare : slots p ≡ map settled (images_of (slots p))
         bare = (stands.room p has).bare
-
-        by_step : StaysOrGoes (frame_at old (number_in p)) (frame_at mid (number_in p)) → ClaimsSoFar (frame_at mid (number_in p)) (left (number_in p)) p (all p) (so_far p) (slots p)
-        by_step step =
-            stays_or_goes (disk (number_in p)) (left (number_in p)) p (all p) (so_far p) (slots p) bare (frame_at old (number_in p)) (frame_at mid (number_in p)) (own_page p has) step
-            (λ number images it. (same (number_in p) p number images).0 it) (stands.pages p has)
 
     at_now : (p : PageId) → page_number (geometry_of mid) p ≡ number_in p
     at_now p = ap (λ (g : Geometry). page_number g p) geometry

@@ -1,6 +1,8 @@
 pub mod Paths
 pub mod Standing
 pub mod PageErrors
+pub mod RedoneReads
+pub mod AnyRedo
 pub mod HeldPages
 pub mod LogErrors
 pub mod QuietLogs
@@ -16,6 +18,7 @@ pub mod Causes
 pub mod Turning
 pub mod LogTurns
 pub mod BadNumbers
+pub mod TurnsFit
 pub mod Undoing
 pub mod Found
 pub mod Locks
@@ -38,4 +41,5 @@ pub mod RoomKept
 pub mod ClaimsKept
 pub mod ClaimsMore
 pub mod ClaimsAll
+pub mod AnyClaims
 pub mod Opens

@@ -39,7 +39,6 @@ use Rattle.shore_locks.specs.Orderly.{IsOfUse}
 use Rattle.shore_locks.proofs.Members.{All-In, In, In-All, In-Contains}
 use Rattle.shore_path.specs.Restoring.{NobodyWaits}
 use Rattle.shore_path.proofs.Restored.{wants_none}
-use Rattle.shore_txn.specs.Transactions as table
 use Rattle.shore_txn.specs.Transactions.{next_in, prepared_in, room_in, undos_in}
 use Rattle.shore_txn.specs.TxnStates.{is_in_doubt}
 use Rattle.shore_txn.specs.Txns.{last_of}
@@ -155,7 +154,6 @@ module _ (ready : RecoveryState) (control : Control) (stream_bytes : ℕ) where
     sessions = record {
       records = records_told ready.log;
       active = undos_in (txns_in control);
-      committing = [];
       held = held_by_all (locks_in control).requests;
       next_txn = next_in (txns_in control);
       seats = λ n. free;
@@ -206,7 +204,6 @@ module _ (ready : RecoveryState) (control : Control) (stream_bytes : ℕ) where
     opened_waits = subst (λ (calls : List WaitingCall). HasWaits calls opened_state) (sym back.waits) (record {
       waiting = refl;
       kinds = λ w none. absurd none;
-      committing = λ running. refl;
       asking = λ w none waits. absurd none;
       preparing = λ w global none is. absurd none;
       ended = λ w r none is. absurd none;

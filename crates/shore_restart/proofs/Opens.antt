@@ -10,7 +10,7 @@ use Rattle.shore_model.specs.Logs.{IsTable, Lawful}
 use Rattle.laws_lives.specs.Doubts.{IsOpeningOf, undo_in}
 use Rattle.laws_lives.specs.Recovery.{IsRecoverable, RecoveryState}
 use Rattle.laws_lives.specs.Sessions.{SessionTxn}
-use Rattle.laws_lives.specs.Undo.{HasNoLosers, IsLoser, IsUndoneTo}
+use Rattle.laws_lives.specs.Undo.{HasNoLosers, IsUndoneTo}
 use Rattle.laws_lives.specs.Views.{IsAmong}
 use Rattle.laws_lives.proofs.Invariant.{redone_whole}
 use Rattle.laws_lives.proofs.SessionsAgree.{each_at}
@@ -55,7 +55,6 @@ module _ (ready : RecoveryState) (control : Control) (stream_bytes : ℕ) (g : G
     sessions = record {
       records = λ id. sym (redone_whole ready kept redone id.page id.slot ∙ leaves_told ready.log (undone_lawful found turns ready.log undone lawful) quiet id);
       seats = λ n. refl;
-      committing = refl;
       resolving = refl;
       prepared = prepared_listed found (txns_in control) back.txns o.in_doubt opening.in_doubt;
       active = active_listed found (txns_in control) back.txns o.in_doubt opening.in_doubt;
@@ -79,12 +78,12 @@ module _ {T V : Type 0} {G : tail.Ghosts T} {H : disk.Ghosts V} (core : Core T V
     (found log : List LogRecord) (stream_bytes : ℕ) (ready : RecoveryState) where
   -- what is made of a heap and a control that a restart has left opens over its store
   pub opens_in : (g : Geometry) → AreMeant g found → ready.log ≡ log → Lawful found → (undone : IsUndoneSoFar found log) → HasNoLosers log → ready.redone ≡ length ready.log
-      → ((t : ℕ) → IsLoser log t → ⊥) → StandsWith (kept_in (txns_in control)) front left heap ready → (limit : ℕ) → HasDoubtsBack limit found control → IsNext found (next_in (txns_in control))
+      → StandsWith (kept_in (txns_in control)) front left heap ready → (limit : ℕ) → HasDoubtsBack limit found control → IsNext found (next_in (txns_in control))
       → IsRoomBehind log stream_bytes (room_in (txns_in control)) → (txns : List LogTxn) → IsTable found txns
       → ((s : State) → s.log ≡ ready.log → s.durable ≡ ready.durable → s.failed ≡ false → HasControl control s → Shows (kept_in (txns_in control)) heap front left (page_slots s)
       → IsIn front left s.log core s)
       → ((s : State) (store : RecoveryState) → IsKept s store → IsStoreOf heap left store → IsOver left core s store) → OpensIn core front left found log stream_bytes ready
-  opens_in g meant same lawful undone quiet redone ended stands limit back next room txns entries in_state over_store =
+  opens_in g meant same lawful undone quiet redone stands limit back next room txns entries in_state over_store =
       let s = opened_state ready control stream_bytes in
       let here : IsUndoneTo found undone.0 ready.log = subst (IsUndoneTo found undone.0) (sym same) (in_order_undone found undone.0 log undone.1) in
       let kept = stands.recoverable in
@@ -101,7 +100,6 @@ module _ {T V : Type 0} {G : tail.Ghosts T} {H : disk.Ghosts V} (core : Core T V
             (in_state s refl refl refl (opened_control ready control stream_bytes g found undone.0 limit meant here back next behind)
             (shows_opened (txns_in control) front left heap ready stands (still_told found undone.0 ready.log (txns_in control) here (are_told found (txns_in control) back.txns)) redone still_lawful quiet_here));
         over = over_store s ready (record { stored = record { log = refl; durable = refl }; redone = redone; recoverable = kept }) stands.store;
-        ended = ended;
       }
 
 -- ---- what the core asks

@@ -10,7 +10,7 @@ use Rattle.shore_types.specs.declared.layout.Geometry.{Geometry}
 use Rattle.shore_model.specs.declared.log_records.LogRecord.{LogRecord}
 use Rattle.laws_lives.specs.Doubts.{doubts_in}
 use Rattle.laws_lives.specs.Recovery.{RecoveryState}
-use Rattle.laws_lives.specs.Undo.{IsLoser}
+use Rattle.laws_lives.specs.Undo.{HasNoLosers}
 use Rattle.laws_runs.specs.SlotCounts.{slots_left}
 use Rattle.laws_heaps.proofs.SettledSlots.{shows_only, slots_done}
 use Rattle.shore_analysis.specs.Meant.{AreMeant}
@@ -24,10 +24,10 @@ use Rattle.shore_restart.specs.declared.errors.RestartError.{RestartError}
 use Rattle.shore_restart.specs.declared.errors.RestartError.TheVariants.{BadRecord, Log, Memory, NoRoom, Page}
 use Rattle.shore_restart.specs.declared.passes.Passed.{Passed}
 use Rattle.shore_restart.specs.Doubts.{CanHold, IsTaken, reserved_told}
-use Rattle.shore_restart.specs.GivenBack.{AreGivenBack, FindsNoRoom, HasDoubts, PassesMove}
+use Rattle.shore_restart.specs.GivenBack.{AreGivenBack, CannotKeep, HasDoubts, PassesMove}
 use Rattle.laws_images.specs.Moments.{GivesPrefix}
 use Rattle.shore_restart.specs.Standing.{IsFound, RedoesAll, Stands, log_history}
-use Rattle.shore_restart.specs.Turns.{CannotUndo, IsMisfit, IsUndoneSoFar}
+use Rattle.shore_restart.specs.Turns.{CannotUndo, IsMisfit, IsUndoneSoFar, TurnsFit}
 use Rattle.shore_restart.proofs.DoubtsKept.{same_reserved}
 use Rattle.shore_restart.proofs.Found.{come_redone, found_covered, nothing_moved, passes_stop}
 use Rattle.shore_restart.proofs.PageErrors.{err_with}
@@ -58,14 +58,14 @@ module _ {V : Type 0} {H : Ghosts V} (front : List ℕ) (disk : ℕ → List ℕ
       shows_only heap disk s stands.store stands.settled front stands.slots stands.shows p has ∙ slots_done s p stands.recoverable (stands.store.done p) redone ∙ ap (λ (l : List LogRecord). slots_left l p) same
 
   -- what finds no room there is an image that one in doubt may put back
-  pub misfit_behind : (found log : List LogRecord) (txns : Transactions) (n : ℕ) → s.log ≡ log → IsUndoneSoFar found log → HasDoubts found txns → AreMeant (geometry_of heap) log → ((t : ℕ) → IsLoser log t → ⊥)
-      → FindsNoRoom txns stands.slots n → IsMisfit found n
-  misfit_behind found log txns n same undone back meant none finds =
+  pub misfit_behind : (found log : List LogRecord) (txns : Transactions) (n : ℕ) → s.log ≡ log → IsUndoneSoFar found log → TurnsFit found log → HasDoubts found txns → AreMeant (geometry_of heap) log → HasNoLosers log
+      → CannotKeep txns stands.slots n → IsMisfit found n
+  misfit_behind found log txns n same undone fit back meant none finds =
       let told = still_told found undone.0 log txns (in_order_undone found undone.0 log undone.1) (are_told found txns back) in
-      inr (log, undone, inr (none, unkept log txns told (geometry_of heap) stands.slots meant (bare_left log same) n finds))
+      inr (log, undone, fit, inr (none, unkept log txns told (geometry_of heap) stands.slots meant (bare_left log same) n finds))
 
-pub misfit_turn : (found : List LogRecord) (n : ℕ) → (so_far : List LogRecord) × IsUndoneSoFar found so_far × CannotUndo so_far n → IsMisfit found n
-misfit_turn found n cannot = inr (cannot.0, cannot.1, inl cannot.2)
+pub misfit_turn : (found : List LogRecord) (n : ℕ) → (so_far : List LogRecord) × IsUndoneSoFar found so_far × TurnsFit found so_far × CannotUndo so_far n → IsMisfit found n
+misfit_turn found n cannot = inr (cannot.0, cannot.1, cannot.2, inl cannot.3)
 
 -- ---- before a device is called
 

@@ -79,6 +79,15 @@ module _ {V : Type 0} {H : Ghosts V} where
       at (Some f) same some =
           subst (λ (slots : List Slot). Fits slots id.slot bytes) (sym (framed_whole heap disk s stands.store stands.settled id.page f stands.recoverable there same all)) fits
 
+  -- .. and what fits that fits those slots
+  pub fits_left : (front : List ℕ) (disk : ℕ → List ℕ) (heap : Heap V H) (s : RecoveryState) (id : Rid) (bytes : ℕ) → Stands front disk heap s → s.redone ≡ length s.log → HasPage (geometry_of heap) id.page
+      → IsSomeAnd (frame_of heap id.page) (λ f. Fits f.page.slots id.slot bytes) → Fits (slots_left s.log id.page) id.slot bytes
+  fits_left front disk heap s id bytes stands all there fits = at (frame_of heap id.page) refl fits
+    where
+      at : (o : Option Frame) → frame_of heap id.page ≡ o → IsSomeAnd o (λ f. Fits f.page.slots id.slot bytes) → Fits (slots_left s.log id.page) id.slot bytes
+      at None same none = absurd none
+      at (Some f) same here = subst (λ (slots : List Slot). Fits slots id.slot bytes) (framed_whole heap disk s stands.store stands.settled id.page f stands.recoverable there same all) here
+
   -- a record without an image
   pub without_stands : (front : List ℕ) (disk : ℕ → List ℕ) (heap : Heap V H) (s : RecoveryState) (r : LogRecord) → Stands front disk heap s → s.redone ≡ length s.log → image_in r.payload ≡ None
       → LeadsTo s (AppendRecord r) (after_append s r) × Stands front disk heap (after_append s r)

@@ -4,15 +4,13 @@ use Rattle.std.specs.Prelude.{OnOk}
 use Rattle.shore_types.specs.declared.layout.TheConstants.{LOG_FRONT_BYTES}
 use Rattle.shore_disk.specs.declared.device.Disk.{Ghosts}
 use Rattle.shore_model.specs.declared.log_records.LogRecord.{LogRecord}
-use Rattle.shore_model.specs.Logs.{Lawful}
 use Rattle.shore_log.specs.declared.device.LogDev.{LogDev}
 use Rattle.shore_heap.specs.declared.heap.Heap.{Heap}
 use Rattle.shore_heap.specs.Heaps.{geometry_of, history_of}
 use Rattle.laws_lives.specs.Recovery.{RecoveryState, after_force}
 use Rattle.laws_lives.specs.Undo.{IsLoser, undo_record}
-use Rattle.laws_lives.proofs.UndoRecords.{undone_lawful}
 use Rattle.shore_analysis.specs.Losers.{IsNextToUndo}
-use Rattle.shore_analysis.proofs.InTurn.{in_order_more, in_order_undone}
+use Rattle.shore_analysis.proofs.InTurn.{in_order_more}
 use Rattle.shore_restart.specs.declared.errors.RestartError.{RestartError}
 use Rattle.shore_restart.specs.Standing.{Forces, RestartMoves, SameLog, log_history, moment_of, stream_bytes_of}
 use Rattle.shore_restart.specs.Turns.{IsUndoneSoFar}
@@ -25,14 +23,14 @@ pub undone_and : (found log later : List LogRecord) (t : ℕ) → IsUndoneSoFar 
 undone_and found log later t so_far loser next same =
     subst (IsUndoneSoFar found) (sym same) (so_far.0 ++ t ∷ [], in_order_more found so_far.0 log t so_far.1 loser next)
 
--- turns of undo keep a log lawful
-pub lawful_so_far : (found log : List LogRecord) → IsUndoneSoFar found log → Lawful found → Lawful log
-lawful_so_far found log so_far lawful = undone_lawful found so_far.0 log (in_order_undone found so_far.0 log so_far.1) lawful
-
 -- what holds anyway, holds if it was not refused
 pub on_ok : {T E : Type 0} {P : Type 0} (r : Result T E) → P → OnOk r P
 on_ok (Ok x) is = is
 on_ok (Err e) is = tt
+
+pub ok_then : {T E : Type 0} {P Q : Type 0} (r : Result T E) → OnOk r P → (P → Q) → OnOk r Q
+ok_then (Ok x) is then = then is
+ok_then (Err e) is then = tt
 
 -- ---- the log device
 

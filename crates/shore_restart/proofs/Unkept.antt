@@ -15,7 +15,7 @@ use Rattle.shore_model.specs.declared.log_records.LogRecord.{LogRecord}
 use Rattle.shore_model.specs.declared.unanswered_changes.UnansweredChange.{UnansweredChange}
 use Rattle.shore_model.specs.Logs.{id_in, image_in, unanswered}
 use Rattle.shore_page.specs.Claims.{FitIn, claimed_by}
-use Rattle.shore_page.specs.Slots.{Slot}
+use Rattle.shore_page.specs.Slots.{Slot, settled}
 use Rattle.shore_heap.specs.Contents.{CanKeep}
 use Rattle.laws_lives.specs.Doubts.{LoggedDoubt, doubts_in}
 use Rattle.laws_lives.specs.Undo.{IsUndoneTo}
@@ -36,8 +36,9 @@ use Rattle.shore_txn.specs.UndoEntries.{claims_on, images_of}
 use Rattle.shore_txn.specs.declared.transactions.Transactions.{Transactions}
 use Rattle.shore_txn.specs.declared.txn.Txn.{Txn}
 use Rattle.shore_txn.specs.declared.undo.UndoEntry.{UndoEntry}
+use Rattle.shore_restart.specs.AnyPages.{IsUnkeptOn}
 use Rattle.shore_restart.specs.Doubts.{IsUnkept, changes_in_doubt, changes_of, claims_of}
-use Rattle.shore_restart.specs.GivenBack.{AreGivenBack, FindsNoRoom, HasDoubts}
+use Rattle.shore_restart.specs.GivenBack.{AreGivenBack, CannotKeep, CannotKeepOn, HasDoubts}
 use Rattle.shore_restart.proofs.ChangesBack.{IsLoggedChange, logged_in}
 use Rattle.shore_restart.proofs.DoubtsKept.{same_changes}
 use Rattle.shore_restart.proofs.Redoing.{meant_there}
@@ -175,6 +176,27 @@ module _ (log : List LogRecord) (txns : Transactions) (told : IsTold log txns) w
 
   -- ---- the first that finds no room
 
+  -- on pages as records make them of their texts
+  pub unkept_on : (g : Geometry) (texts : ℕ → List ℕ) (n : ℕ) → CannotKeepOn g txns texts log n → IsUnkeptOn g texts log n
+  unkept_on g texts n none =
+      let newer = reverse (map as_change none.newer) in
+      let older = reverse (map as_change none.older) in
+      let p = none.entry.id.page in
+      record {
+        kept = newer;
+        change = as_change none.entry;
+        later = older;
+        order = told ∙ ap (λ (es : List UndoEntry). reverse (map as_change es)) none.order ∙ turned_append none.older (none.entry ∷ none.newer)
+            ∙ ap (λ (cs : List UnansweredChange). cs ++ older) (turned_push none.entry none.newer) ∙ append_assoc newer (as_change none.entry ∷ []) older;
+        number = none.number;
+        first = λ q page has made. subst (λ (kept : List (ℕ × ℕ)). FitIn kept (map settled page.images)) (sym (claims_same q none.newer)) (none.first q page has made);
+        page = none.page;
+        made = none.made;
+        no_room = λ can. none.no_room (subst (λ (kept : List (ℕ × ℕ)). CanKeep (claimed_by kept (map settled none.page.images)) none.entry.id.slot (image_len none.entry.before)) (claims_same p none.newer) can);
+      }
+
+  -- .. as the log leaves them
+
   module _ (g : Geometry) (slots : PageId → List Slot) (meant : AreMeant g log) (left : (p : PageId) → HasPage g p → slots p ≡ slots_left log p) where
     fit_same : (p : PageId) (es : List UndoEntry) → ((e : UndoEntry) → IsAmong e es → HasPage g e.id.page) → FitIn (claims_on p es) (slots p) → FitIn (claims_on p es) (slots_left log p)
     fit_same p es there fit = ⊎_elim
@@ -190,7 +212,7 @@ module _ (log : List LogRecord) (txns : Transactions) (told : IsTold log txns) w
             by true is rest = inr (subst (HasPage g) (sym (tells_apart exact_pages p e.id.page is)) (there e (inl refl)))
             by false is rest = rest
 
-    pub unkept : (n : ℕ) → FindsNoRoom txns slots n → IsUnkept log n
+    pub unkept : (n : ℕ) → CannotKeep txns slots n → IsUnkept log n
     unkept n none =
         let newer = reverse (map as_change none.newer) in
         let older = reverse (map as_change none.older) in

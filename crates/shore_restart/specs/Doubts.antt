@@ -1,6 +1,6 @@
 -- Those in doubt in a log, as a restart gives back what is theirs: whether they can all hold their locks, what the log owes them, and what pages keep for their
 -- rollbacks. All of it is a function of the log.
-use Rattle.std.specs.Prelude.{◌≡◌, ◌⊎◌, ◌+◌, ◌-◌, ◌<◌, ◌++◌, ℕ, List, [], ◌∷◌, Contains, Option, Some, if◌then◌else◌, length, map, option_map, slice_get, true}
+use Rattle.std.specs.Prelude.{◌≡◌, ◌⊎◌, ◌+◌, ◌-◌, ◌<◌, ◌++◌, ℕ, List, [], ◌∷◌, Contains, Option, Some, if◌then◌else◌, map, option_map, slice_get, true}
 use Rattle.std.specs.List.{AllByRecursion, sum_by}
 use Rattle.std.specs.Ordering.{eq_by_cmp}
 use Rattle.shore_types.specs.Ids.{page_cmp}

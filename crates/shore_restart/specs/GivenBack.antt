@@ -3,6 +3,7 @@ use Rattle.std.specs.Prelude.{◌≡◌, ◌⊎◌, ◌++◌, ◌∷◌, [], ℕ
 use Rattle.shore_types.specs.Images.{Image, image_len}
 use Rattle.shore_types.specs.Layout.{HasPage}
 use Rattle.shore_types.specs.declared.ids.PageId.{PageId}
+use Rattle.shore_types.specs.declared.layout.Geometry.{Geometry}
 use Rattle.shore_disk.specs.declared.device.Disk.{Ghosts}
 use Rattle.shore_dwrite.specs.Volumes.{page_number}
 use Rattle.shore_model.specs.declared.log_records.LogRecord.{LogRecord}
@@ -38,6 +39,7 @@ use Rattle.shore_sessions.specs.Controls.{locks_in, txns_in, waits_in}
 use Rattle.shore_sessions.specs.Standing.{as_change}
 use Rattle.shore_restart.specs.declared.errors.RestartError.{RestartError}
 use Rattle.shore_restart.specs.declared.passes.Passed.{Passed}
+use Rattle.shore_restart.specs.AnyPages.{IsMadeOf, ReadPage}
 use Rattle.shore_restart.specs.Standing.{IsAtRest, SameInPlace, Worked, log_history, moment_of}
 
 -- ---- transactions
@@ -112,7 +114,7 @@ ClaimsSoFar None text p all so_far slots = (number : ℕ) × (images : List Imag
 
 -- The change of this number is the first, the newest of the table first, whose image before does not fit its page any more beside what is kept for the newer
 -- ones, if pages have these slots.
-pub record FindsNoRoom (txns : Transactions) (slots : PageId → List Slot) (n : ℕ) : Type 0 where
+pub record CannotKeep (txns : Transactions) (slots : PageId → List Slot) (n : ℕ) : Type 0 where
   pub older : List UndoEntry
   pub entry : UndoEntry
   pub newer : List UndoEntry
@@ -120,6 +122,18 @@ pub record FindsNoRoom (txns : Transactions) (slots : PageId → List Slot) (n :
   pub number : n ≡ entry.lsn
   pub first : (p : PageId) → FitIn (claims_on p newer) (slots p)
   pub no_room : CanKeep (claimed_by (claims_on entry.id.page newer) (slots entry.id.page)) entry.id.slot (image_len entry.before) → ⊥
+
+-- .. if pages are what these records make of these texts
+pub record CannotKeepOn (g : Geometry) (txns : Transactions) (texts : ℕ → List ℕ) (log : List LogRecord) (n : ℕ) : Type 0 where
+  pub older : List UndoEntry
+  pub entry : UndoEntry
+  pub newer : List UndoEntry
+  pub order : all_changes (table.txns_in txns) ≡ older ++ entry ∷ newer
+  pub number : n ≡ entry.lsn
+  pub first : (p : PageId) (page : ReadPage) → HasPage g p → IsMadeOf (texts (page_number g p)) log p page → FitIn (claims_on p newer) (map settled page.images)
+  pub page : ReadPage
+  pub made : IsMadeOf (texts (page_number g entry.id.page)) log entry.id.page page
+  pub no_room : CanKeep (claimed_by (claims_on entry.id.page newer) (map settled page.images)) entry.id.slot (image_len entry.before) → ⊥
 
 module _ {V : Type 0} {H : Ghosts V} where
   -- The heap is the store's, over a volume that is settled with these texts of its pages behind this front. Each slot claims what its record takes, and what

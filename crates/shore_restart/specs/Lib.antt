@@ -1,4 +1,5 @@
 pub mod Doubts
+pub mod AnyPages
 pub mod Errors
 pub mod GivenBack
 pub mod Held

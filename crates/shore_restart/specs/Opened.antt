@@ -14,7 +14,7 @@ use Rattle.shore_analysis.specs.Tables.{IsNext}
 use Rattle.shore_model.specs.declared.histories.Opening.{Opening}
 use Rattle.laws_lives.specs.Doubts.{IsOpeningOf}
 use Rattle.laws_lives.specs.Recovery.{RecoveryState}
-use Rattle.laws_lives.specs.Undo.{HasNoLosers, IsLoser}
+use Rattle.laws_lives.specs.Undo.{HasNoLosers}
 use Rattle.laws_calls.specs.States.{State}
 use Rattle.laws_runs.specs.StoredRuns.{IsOpenedOver}
 use Rattle.laws_runs.specs.SlotCounts.{slot_count}
@@ -55,8 +55,6 @@ module _ {T V : Type 0} {G : tail.Ghosts T} {H : Ghosts V} where
     pub next : IsNext found first.sessions.next_txn
     pub is_in : IsIn front disk log core first
     pub over : IsOver disk core first ready
-    -- nobody is left to be undone, not even one that has changed nothing
-    pub ended : (t : ℕ) → IsLoser log t → ⊥
 
   -- From the moment of an open a restart has come to another. If it gave a core, and the log is lawful, all records are done then, no loser is
   -- left, all of the log is durable and on its device, and the core has opened over that.

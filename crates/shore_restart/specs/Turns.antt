@@ -1,9 +1,9 @@
 -- The turns of undo: what undo works with, and why it may end before a loser is undone.
-use Rattle.std.specs.Prelude.{◌≡◌, ◌⊎◌, ◌<◌, ◌++◌, ◌∷◌, [], ℕ, List}
+use Rattle.std.specs.Prelude.{◌≡◌, ◌⊎◌, ◌<◌, ◌++◌, ◌∷◌, [], ℕ, List, length}
 use Rattle.shore_types.specs.declared.layout.Geometry.{Geometry}
 use Rattle.shore_model.specs.declared.log_records.LogRecord.{LogRecord}
 use Rattle.shore_model.specs.Logs.{unanswered, undo_next_of}
-use Rattle.laws_lives.specs.Undo.{IsLoser, undo_record}
+use Rattle.laws_lives.specs.Undo.{HasNoLosers, IsLoser, undo_record}
 use Rattle.shore_analysis.specs.Meant.{AreMeant}
 use Rattle.laws_runs.specs.SlotCounts.{FitsBehind}
 use Rattle.shore_analysis.specs.Losers.{HasLosers, IsNextToUndo, IsUndoneInOrder, turns_left}
@@ -38,12 +38,17 @@ HasNoTurnRoom log stream_bytes = (t : ℕ) × IsLoser log t × (LeavesRoom (log 
 abbrev pub CannotUndo : List LogRecord → ℕ → Type 0
 CannotUndo log n = (t : ℕ) × IsLoser log t × IsNextToUndo log t × (n ≡ undo_next_of (unanswered t log)) × (FitsBehind log (undo_record log t).payload → ⊥)
 
+-- each record of undo behind the log that was found fits its page, as the records before it leave that
+abbrev pub TurnsFit : List LogRecord → List LogRecord → Type 0
+TurnsFit found log = (n : ℕ) → length found < n → DoesNotFit log n → ⊥
+
 -- ---- why a restart is refused
 
--- The record of this number does not fit its page; or what its undo brings back does not, behind the records of undo so far; or behind all of them there is no
--- room for the image before it, which one in doubt may put back.
+-- The record of this number does not fit its page; or the records of undo so far fit theirs, and what its undo brings back is the first that does not; or all of them
+-- do, and behind them there is no room for the image before it, which one in doubt may put back.
 abbrev pub IsMisfit : List LogRecord → ℕ → Type 0
-IsMisfit log n = DoesNotFit log n ⊎ ((so_far : List LogRecord) × IsUndoneSoFar log so_far × (CannotUndo so_far n ⊎ (((t : ℕ) → IsLoser so_far t → ⊥) × IsUnkept so_far n)))
+IsMisfit log n = DoesNotFit log n
+    ⊎ ((so_far : List LogRecord) × IsUndoneSoFar log so_far × TurnsFit log so_far × (CannotUndo so_far n ⊎ (HasNoLosers so_far × IsUnkept so_far n)))
 
 -- by it the log itself says that no restart may work on it; or one may, and it is such a misfit
 abbrev pub IsBadRecord : Geometry → List LogRecord → ℕ → Type 0

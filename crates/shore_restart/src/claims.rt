@@ -6,6 +6,7 @@ ghost use Rattle.shore_types.specs.Layout.{HasPage};
 ghost use Rattle.shore_types.specs.declared.faults.Fault.{Fault};
 ghost use Rattle.shore_types.specs.declared.faults.Fault.TheVariants as Fault;
 ghost use Rattle.shore_types.specs.declared.ids.PageId.{PageId};
+ghost use Rattle.shore_model.specs.declared.log_records.LogRecord.{LogRecord};
 ghost use Rattle.shore_page.specs.Slots.{Slot};
 ghost use Rattle.shore_heap.specs.Contents.{CanKeep, claimed_by};
 ghost use Rattle.shore_heap.specs.Heaps.{faults_of, frame_of, geometry_of};
@@ -17,8 +18,8 @@ ghost use Rattle.shore_txn.specs.UndoEntries.{claims_on};
 ghost use Rattle.shore_txn.specs.declared.undo.UndoEntry.{UndoEntry};
 ghost use Rattle.shore_restart.specs.declared.errors.RestartError.TheVariants as RestartError;
 ghost use Rattle.shore_restart.specs.Errors.{volume_answer};
-ghost use Rattle.shore_restart.specs.GivenBack.{FindsNoRoom, Keeps, StandsSoFar, StandsWith};
-ghost use Rattle.shore_restart.specs.Held.{IsHeld, WorksHeld};
+ghost use Rattle.shore_restart.specs.GivenBack.{CannotKeep, CannotKeepOn, Keeps, StandsSoFar, StandsWith};
+ghost use Rattle.shore_restart.specs.Held.{IsHeld, IsHeldSoFar, IsPageFault, KeepsHeld};
 ghost use Rattle.shore_restart.specs.Standing.{SameVolume, Stands};
 
 use crate::errors::{RestartError, page_error};
@@ -40,11 +41,14 @@ pub fn keep_claims<V: Disk>(
     ensures keeps { (front : List ℕ) (disk : ℕ → List ℕ) (s : RecoveryState) → Stands front disk heap.old s → last ≤ s.durable
         → Keeps result front heap.old heap.new s (λ left later. StandsWith (kept_in txns.now) front left heap.new later) }
     ensures bad { (front : List ℕ) (disk : ℕ → List ℕ) (s : RecoveryState) (stands : Stands front disk heap.old s) → last ≤ s.durable
-        → IfErr result (λ error. (n : ℕ) → error ≡ RestartError.BadRecord n → FindsNoRoom txns.now stands.slots n) }
+        → IfErr result (λ error. (n : ℕ) → error ≡ RestartError.BadRecord n → CannotKeep txns.now stands.slots n) }
     ensures device { (front : List ℕ) (disk : ℕ → List ℕ) (s : RecoveryState) → Stands front disk heap.old s → length s.log ≤ last → last ≤ s.durable
         → IfErr result (λ error. (f : Fault) → error ≡ RestartError.Page f → f ≡ Fault.Device) }
     ensures bad_number { IfErr result (λ error. (n : ℕ) → error ≡ RestartError.BadRecord n → IsAmong n (map (λ e. e.lsn) (all_changes (txns_in txns.now)))) }
-    ensures any_pages { (front : List ℕ) (disk : ℕ → List ℕ) → IsHeld front disk heap.old last → WorksHeld result front disk heap.old heap.new last last }
+    ensures any_pages { (front : List ℕ) (first disk : ℕ → List ℕ) (done : List LogRecord) → IsHeld front first disk heap.old done last
+        → IfErr result (λ error. (f : Fault) → error ≡ RestartError.Page f → IsPageFault (geometry_of heap.old) disk last f) }
+    ensures any_bad { (front : List ℕ) (first disk : ℕ → List ℕ) (done : List LogRecord) → IsHeld front first disk heap.old done last
+        → IfErr result (λ error. (n : ℕ) → error ≡ RestartError.BadRecord n → CannotKeepOn (geometry_of heap.old) txns.now first done n) }
     ensures others { IfErr result (λ error. (error ≢ RestartError.NoRoom) × ((f : Fault) → error ≢ RestartError.Log f)) }
     ensures volume { SameVolume heap.old heap.new }
     ensures cause { HasCause (volume_answer result) (faults_of heap.old) (faults_of heap.new) }
@@ -71,12 +75,17 @@ fn keep_changes<V: Disk>(
         → Keeps result front heap.old heap.new s (λ left later. StandsSoFar (kept_in txns.now) (λ p. claims_on p (changes.now ++ newer)) slots front left heap.new later) }
     ensures bad { (older newer : List UndoEntry) (slots : PageId → List Slot) (front : List ℕ) (disk : ℕ → List ℕ) (s : RecoveryState)
         → all_changes (txns_in txns.now) ≡ older ++ (changes.now ++ newer) → ((e : UndoEntry) → IsAmong e newer → HasPage (geometry_of heap.old) e.id.page) → StandsSoFar (kept_in txns.now) (λ p. claims_on p newer) slots front disk heap.old s → last ≤ s.durable
-        → IfErr result (λ error. (n : ℕ) → error ≡ RestartError.BadRecord n → FindsNoRoom txns.now slots n) }
+        → IfErr result (λ error. (n : ℕ) → error ≡ RestartError.BadRecord n → CannotKeep txns.now slots n) }
     ensures device { (older newer : List UndoEntry) (slots : PageId → List Slot) (front : List ℕ) (disk : ℕ → List ℕ) (s : RecoveryState)
         → all_changes (txns_in txns.now) ≡ older ++ (changes.now ++ newer) → StandsSoFar (kept_in txns.now) (λ p. claims_on p newer) slots front disk heap.old s → length s.log ≤ last → last ≤ s.durable
         → IfErr result (λ error. (f : Fault) → error ≡ RestartError.Page f → f ≡ Fault.Device) }
     ensures bad_number { IfErr result (λ error. (n : ℕ) → error ≡ RestartError.BadRecord n → IsAmong n (map (λ e. e.lsn) changes.now)) }
-    ensures any_pages { (front : List ℕ) (disk : ℕ → List ℕ) → IsHeld front disk heap.old last → WorksHeld result front disk heap.old heap.new last last }
+    ensures any_pages { (older newer : List UndoEntry) (front : List ℕ) (first disk : ℕ → List ℕ) (done : List LogRecord) → all_changes (txns_in txns.now) ≡ older ++ (changes.now ++ newer)
+        → IsHeldSoFar (kept_in txns.now) (λ p. claims_on p newer) front first disk heap.old done last
+        → KeepsHeld result (kept_in txns.now) (λ p. claims_on p (changes.now ++ newer)) front first disk heap.old heap.new done last }
+    ensures any_bad { (older newer : List UndoEntry) (front : List ℕ) (first disk : ℕ → List ℕ) (done : List LogRecord) → all_changes (txns_in txns.now) ≡ older ++ (changes.now ++ newer)
+        → IsHeldSoFar (kept_in txns.now) (λ p. claims_on p newer) front first disk heap.old done last
+        → IfErr result (λ error. (n : ℕ) → error ≡ RestartError.BadRecord n → CannotKeepOn (geometry_of heap.old) txns.now first done n) }
     ensures others { IfErr result (λ error. (error ≢ RestartError.NoRoom) × ((f : Fault) → error ≢ RestartError.Log f)) }
     ensures volume { SameVolume heap.old heap.new }
     ensures cause { HasCause (volume_answer result) (faults_of heap.old) (faults_of heap.new) }
@@ -109,7 +118,12 @@ fn keep_claim<V: Disk>(
         → StandsSoFar (kept_in txns.now) so_far slots front disk heap.old s → length s.log ≤ last → last ≤ s.durable
         → IfErr result (λ error. (f : Fault) → error ≡ RestartError.Page f → f ≡ Fault.Device) }
     ensures bad_number { IfErr result (λ error. (n : ℕ) → error ≡ RestartError.BadRecord n → n ≡ entry.now.lsn) }
-    ensures any_pages { (front : List ℕ) (disk : ℕ → List ℕ) → IsHeld front disk heap.old last → WorksHeld result front disk heap.old heap.new last last }
+    ensures any_pages { (older newer : List UndoEntry) (front : List ℕ) (first disk : ℕ → List ℕ) (done : List LogRecord) → all_changes (txns_in txns.now) ≡ older ++ entry.now ∷ newer
+        → IsHeldSoFar (kept_in txns.now) (λ p. claims_on p newer) front first disk heap.old done last
+        → KeepsHeld result (kept_in txns.now) (λ p. claims_on p (entry.now ∷ newer)) front first disk heap.old heap.new done last }
+    ensures any_bad { (older newer : List UndoEntry) (front : List ℕ) (first disk : ℕ → List ℕ) (done : List LogRecord) → all_changes (txns_in txns.now) ≡ older ++ entry.now ∷ newer
+        → IsHeldSoFar (kept_in txns.now) (λ p. claims_on p newer) front first disk heap.old done last
+        → IfErr result (λ error. (n : ℕ) → error ≡ RestartError.BadRecord n → CannotKeepOn (geometry_of heap.old) txns.now first done n) }
     ensures others { IfErr result (λ error. (error ≢ RestartError.NoRoom) × ((f : Fault) → error ≢ RestartError.Log f)) }
     ensures volume { SameVolume heap.old heap.new }
     ensures cause { HasCause (volume_answer result) (faults_of heap.old) (faults_of heap.new) }
@@ -137,7 +151,8 @@ fn fetch_claimed<V: Disk>(
     ensures device { (so_far : PageId → List (ℕ × ℕ)) (slots : PageId → List Slot) (front : List ℕ) (disk : ℕ → List ℕ) (s : RecoveryState)
         → StandsSoFar (kept_in txns.now) so_far slots front disk heap.old s → length s.log ≤ last → last ≤ s.durable
         → IfErr result (λ error. (f : Fault) → error ≡ RestartError.Page f → f ≡ Fault.Device) }
-    ensures any_pages { (front : List ℕ) (disk : ℕ → List ℕ) → IsHeld front disk heap.old last → WorksHeld result front disk heap.old heap.new last last }
+    ensures any_pages { (so_far : PageId → List (ℕ × ℕ)) (front : List ℕ) (first disk : ℕ → List ℕ) (done : List LogRecord) → IsHeldSoFar (kept_in txns.now) so_far front first disk heap.old done last
+        → KeepsHeld result (kept_in txns.now) so_far front first disk heap.old heap.new done last }
     ensures others { IfErr result (λ error. (error ≢ RestartError.NoRoom) × ((n : ℕ) → error ≢ RestartError.BadRecord n) × ((f : Fault) → error ≢ RestartError.Log f)) }
     ensures volume { SameVolume heap.old heap.new }
     ensures cause { HasCause (volume_answer result) (faults_of heap.old) (faults_of heap.new) }

@@ -9,7 +9,6 @@ ghost use Rattle.shore_types.specs.declared.layout.Geometry.{Geometry};
 ghost use Rattle.shore_types.specs.declared.layout.TheConstants.{LONGEST_FRAME};
 ghost use Rattle.shore_types.specs.declared.locking.Granule.{Granule};
 ghost use Rattle.shore_model.specs.declared.log_records.LogRecord.{LogRecord};
-ghost use Rattle.shore_model.specs.declared.log_records.LogTxn.{LogTxn};
 ghost use Rattle.shore_model.specs.Logs.{HasNumbers, is_in_doubt, unanswered, undo_next_of};
 ghost use Rattle.shore_model.specs.Requests.{held_by_all};
 ghost use Rattle.shore_logrec.specs.Text.{Fits};

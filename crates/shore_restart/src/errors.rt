@@ -1,5 +1,5 @@
 //! Why a restart gives no core.
-ghost use Rattle.std.specs.Prelude.{◌≡◌, ◌≢◌};
+ghost use Rattle.std.specs.Prelude.{◌≡◌};
 ghost use Rattle.shore_restart.specs.declared.errors.RestartError.TheVariants.{Memory};
 ghost use Rattle.shore_restart.specs.Errors.{IsLogError, IsPageError};
 

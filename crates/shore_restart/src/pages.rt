@@ -1,5 +1,5 @@
 //! Pages as redo and undo need them: in a frame, and with an image put back.
-ghost use Rattle.std.specs.Prelude.{◌≡◌, ◌≢◌, ◌⊎◌, ◌+◌, ◌<◌, ◌≤◌, ℕ, List, Err, IfErr, IsSomeAnd, IsTrue, OnOk, Some, is_some, length, slice_get};
+ghost use Rattle.std.specs.Prelude.{◌≡◌, ◌≢◌, ◌⊎◌, ◌++◌, ◌+◌, ◌<◌, ◌≤◌, ◌∷◌, [], ℕ, List, Err, IfErr, IsSomeAnd, IsTrue, OnOk, Some, is_some, length, slice_get};
 ghost use Rattle.shore_disk.specs.Cause.{HasCause};
 ghost use Rattle.shore_types.specs.Layout.{HasPage};
 ghost use Rattle.shore_types.specs.declared.faults.Fault.{Fault};
@@ -39,7 +39,8 @@ pub fn fetch<V: Disk>(
     ensures device { (front : List ℕ) (disk : ℕ → List ℕ) (s : RecoveryState) → Stands front disk heap.old s → length s.log ≤ ends.now.last
         → IfErr result (λ error. (f : Fault) → error ≡ RestartError.Page f → (f ≡ Fault.Device) ⊎ ((n : ℕ) × (f ≡ Fault.NeedForce n) × (ends.now.durable < n) × (n ≤ length s.log))) }
     ensures earned { (front : List ℕ) (disk : ℕ → List ℕ) → PoolHolds (pool_of heap.old) front disk → IfErr result (IsEarned (geometry_of heap.old) disk ends.now.last) }
-    ensures any_pages { (front : List ℕ) (disk : ℕ → List ℕ) → IsHeld front disk heap.old ends.now.last → ends.now.durable ≤ ends.now.last → FetchesHeld result front disk heap.old heap.new ends.now.last ends.now.durable }
+    ensures any_pages { (front : List ℕ) (first disk : ℕ → List ℕ) (done : List LogRecord) → IsHeld front first disk heap.old done ends.now.last → ends.now.durable ≤ ends.now.last
+        → FetchesHeld result front first disk heap.old heap.new done ends.now.last ends.now.durable }
     ensures others { IfErr result (λ error. (error ≢ RestartError.NoRoom) × ((n : ℕ) → error ≢ RestartError.BadRecord n) × ((f : Fault) → error ≢ RestartError.Log f)) }
     ensures volume { SameVolume heap.old heap.new }
     ensures cause { HasCause (volume_answer result) (faults_of heap.old) (faults_of heap.new) }
@@ -61,7 +62,9 @@ pub fn put<V: Disk>(heap: &mut Heap<V>, id: Rid, number: Lsn, image: &Option<Byt
     ensures appended { (front : List ℕ) (disk : ℕ → List ℕ) (s : RecoveryState) (r : LogRecord) → Stands front disk heap.old s → s.redone ≡ length s.log
         → image_in r.payload ≡ Some (id, image.now) → number ≡ length s.log + 1
         → LeadsTo s (AppendRecord r) (after_append s r) × Stands front disk heap.new (after_append s r) }
-    ensures any_pages { (front : List ℕ) (disk : ℕ → List ℕ) (last : ℕ) → IsHeld front disk heap.old last → number ≤ last → IsHeld front disk heap.new last }
+    ensures any_pages { (front : List ℕ) (first disk : ℕ → List ℕ) (done : List LogRecord) (last : ℕ) (r : LogRecord) → IsHeld front first disk heap.old done last
+        → image_in r.payload ≡ Some (id, image.now) → number ≡ length done + 1 → IsSomeAnd (frame_of heap.old id.page) (λ f. f.page.number < number) → number ≤ last
+        → IsHeld front first disk heap.new (done ++ r ∷ []) last }
     ensures history { history_of heap.new ≡ history_of heap.old }
     ensures faults { faults_of heap.new ≡ faults_of heap.old }
     ensures volume { SameVolume heap.old heap.new }

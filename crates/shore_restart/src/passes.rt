@@ -1,21 +1,20 @@
 //! The passes of a restart over its two devices: analysis, redo, undo, and the force of undo's records.
-ghost use Rattle.std.specs.Prelude.{◌≡◌, ◌≢◌, ◌⊎◌, ◌<◌, ◌≤◌, ℕ, List, IfErr, IfOk, OnOk, length};
+ghost use Rattle.std.specs.Prelude.{◌≡◌, ◌≢◌, ◌⊎◌, ◌<◌, ◌≤◌, [], ℕ, List, IfErr, IfOk, OnOk, length};
 ghost use Rattle.shore_disk.specs.Cause.{HasCause};
 ghost use Rattle.shore_types.specs.Layout.{LocksInLimits};
 ghost use Rattle.shore_types.specs.declared.faults.Fault.{Fault};
 ghost use Rattle.shore_types.specs.declared.faults.Fault.TheVariants as Fault;
-ghost use Rattle.shore_model.specs.declared.log_records.LogRecord.{LogRecord};
-ghost use Rattle.shore_model.specs.Logs.{Lawful};
 ghost use Rattle.shore_log.specs.Settled.{records_of_log};
 ghost use Rattle.shore_heap.specs.Heaps.{faults_of, geometry_of};
 ghost use Rattle.shore_sessions.specs.Controls.{txns_in};
 ghost use Rattle.shore_txn.specs.Transactions.{next_in, room_in};
 ghost use Rattle.laws_lives.specs.Recovery.{RecoveryState};
-ghost use Rattle.laws_lives.specs.Undo.{HasNoLosers, IsLoser};
+ghost use Rattle.laws_lives.specs.Undo.{HasNoLosers};
 ghost use Rattle.shore_analysis.specs.declared.analysis.NotAnalysed.TheVariants as NotAnalysed;
 ghost use Rattle.shore_analysis.specs.declared.analysis.Tables.{Tables};
 ghost use Rattle.shore_analysis.specs.Meant.{AreMeant, IsFirstUnmeant};
 ghost use Rattle.shore_analysis.specs.Tables.{AreTables, IsNext};
+ghost use Rattle.shore_restart.specs.AnyPages.{AllFindRoom, IsBadOn};
 ghost use Rattle.shore_restart.specs.declared.errors.RestartError.{RestartError};
 ghost use Rattle.shore_restart.specs.declared.errors.RestartError.TheVariants as RestartError;
 ghost use Rattle.shore_restart.specs.Doubts.{IsRefusedBy, IsTaken};
@@ -77,8 +76,7 @@ pub fn run_passes<L: Disk, V: Disk>(
     ensures moves { (log_front front : List ℕ) (disk : ℕ → List ℕ) (s : RecoveryState) → IsFound log_front front disk log.old heap.old s
         → PassesMove result log_front front log.old log.new heap.old heap.new s }
     ensures undone { OnOk result (IsUndoneSoFar (records_of_log log.old) (records_of_log log.new)) }
-    ensures none { OnOk result ((t : ℕ) → IsLoser (records_of_log log.new) t → ⊥) }
-    ensures done { Lawful (records_of_log log.old) → OnOk result (HasNoLosers (records_of_log log.new)) }
+    ensures done { OnOk result (HasNoLosers (records_of_log log.new)) }
     ensures doubts { IfOk result (λ left. HasDoubtsBack (geometry_of heap.old).max_locks (records_of_log log.old) left.control) }
     ensures next { IfOk result (λ left. IsNext (records_of_log log.old) (next_in (txns_in left.control))) }
     ensures room { IfOk result (λ left. IsRoomBehind (records_of_log log.new) (stream_bytes_of log.new) (room_in (txns_in left.control))) }
@@ -95,7 +93,12 @@ pub fn run_passes<L: Disk, V: Disk>(
         → IfErr result (λ error. (f : Fault) → error ≡ RestartError.Page f → f ≡ Fault.Device) }
     ensures log_device { (log_front : List ℕ) → IsQuiet log_front log.old → StaysQuiet result log_front log.old log.new }
     ensures bad_number { IfErr result (λ error. (n : ℕ) → error ≡ RestartError.BadRecord n → (0 < n) × (n ≤ length (records_of_log log.old))) }
-    ensures any_pages { (front : List ℕ) (disk : ℕ → List ℕ) → IsHeld front disk heap.old (length (records_of_log log.old)) → IfErr result (λ error. (f : Fault) → error ≡ RestartError.Page f → IsPageFault (geometry_of heap.old) disk (length (records_of_log log.old)) f) }
+    ensures any_pages { (front : List ℕ) (first disk : ℕ → List ℕ) → IsHeld front first disk heap.old [] (length (records_of_log log.old))
+        → IfErr result (λ error. (f : Fault) → error ≡ RestartError.Page f → IsPageFault (geometry_of heap.old) disk (length (records_of_log log.old)) f) }
+    ensures any_bad { (front : List ℕ) (first disk : ℕ → List ℕ) → IsHeld front first disk heap.old [] (length (records_of_log log.old))
+        → IfErr result (λ error. (n : ℕ) → error ≡ RestartError.BadRecord n → IsBadOn (geometry_of heap.old) first (records_of_log log.old) n) }
+    ensures any_fit { (front : List ℕ) (first disk : ℕ → List ℕ) → IsHeld front first disk heap.old [] (length (records_of_log log.old))
+        → OnOk result (AllFindRoom (geometry_of heap.old) first (records_of_log log.old)) }
     ensures volume { SameVolume heap.old heap.new }
     ensures log { SameLog log.old log.new }
     ensures volume_cause { HasCause (volume_answer result) (faults_of heap.old) (faults_of heap.new) }

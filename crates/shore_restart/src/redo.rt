@@ -1,5 +1,5 @@
 //! Redo: each record of the log that its page does not have is done on it again (ARIES: the redo pass, which repeats history).
-ghost use Rattle.std.specs.Prelude.{◌≡◌, ◌≢◌, ◌+◌, ◌<◌, ◌≤◌, ℕ, List, IfErr, IfOk, Some, length, slice_get};
+ghost use Rattle.std.specs.Prelude.{◌≡◌, ◌≢◌, ◌++◌, ◌+◌, ◌<◌, ◌≤◌, ◌∷◌, [], ℕ, List, IfErr, IfOk, OnOk, Some, length, slice_get};
 ghost use Rattle.shore_disk.specs.Cause.{HasCause};
 ghost use Rattle.shore_disk.specs.Device.{DeviceHistory, may_leave};
 ghost use Rattle.shore_types.specs.Layout.{HasPage, HasSlot};
@@ -7,10 +7,12 @@ ghost use Rattle.shore_types.specs.declared.faults.Fault.{Fault};
 ghost use Rattle.shore_types.specs.declared.faults.Fault.TheVariants as Fault;
 ghost use Rattle.shore_types.specs.declared.ids.Rid.{Rid};
 ghost use Rattle.shore_model.specs.declared.log_records.LogRecord.{LogRecord};
+ghost use Rattle.shore_model.specs.declared.log_records.Payload.{Payload};
 ghost use Rattle.shore_model.specs.Logs.{id_in, image_in};
 ghost use Rattle.shore_heap.specs.Heaps.{faults_of, geometry_of};
 ghost use Rattle.laws_lives.specs.Recovery.{RecoveryState};
 ghost use Rattle.shore_analysis.specs.Meant.{AreMeant};
+ghost use Rattle.shore_restart.specs.AnyPages.{AllFindRoom, FindsNoRoom, IsFirstMisfit};
 ghost use Rattle.shore_restart.specs.declared.errors.RestartError.{RestartError};
 ghost use Rattle.shore_restart.specs.declared.errors.RestartError.TheVariants as RestartError;
 ghost use Rattle.shore_restart.specs.Errors.{DoesNotFit, volume_answer};
@@ -44,7 +46,10 @@ pub fn redo<V: Disk>(
     ensures device { (front : List ℕ) (disk : ℕ → List ℕ) (s : RecoveryState) → Stands front disk heap.old s → s.log ≡ log.now → s.durable ≡ length s.log → s.redone ≡ 0
         → IfErr result (λ error. (f : Fault) → error ≡ RestartError.Page f → f ≡ Fault.Device) }
     ensures bad_number { IfErr result (λ error. (n : ℕ) → error ≡ RestartError.BadRecord n → (0 < n) × (n ≤ length log.now)) }
-    ensures any_pages { (front : List ℕ) (disk : ℕ → List ℕ) → IsHeld front disk heap.old (length log.now) → WorksHeld result front disk heap.old heap.new (length log.now) (length log.now) }
+    ensures any_pages { (front : List ℕ) (first disk : ℕ → List ℕ) → IsHeld front first disk heap.old [] (length log.now) → WorksHeld result front first disk heap.old heap.new (length log.now) log.now (length log.now) }
+    ensures any_bad { (front : List ℕ) (first disk : ℕ → List ℕ) → IsHeld front first disk heap.old [] (length log.now)
+        → IfErr result (λ error. (n : ℕ) → error ≡ RestartError.BadRecord n → IsFirstMisfit (geometry_of heap.old) first log.now n) }
+    ensures any_fit { (front : List ℕ) (first disk : ℕ → List ℕ) → IsHeld front first disk heap.old [] (length log.now) → OnOk result (AllFindRoom (geometry_of heap.old) first log.now) }
     ensures others { IfErr result (λ error. (error ≢ RestartError.NoRoom) × ((f : Fault) → error ≢ RestartError.Log f)) }
     ensures most { IfOk result (λ redone. redone ≤ length log.now) }
     ensures volume { SameVolume heap.old heap.new }
@@ -78,7 +83,12 @@ fn redo_record<V: Disk>(
     ensures device { (front : List ℕ) (disk : ℕ → List ℕ) (s : RecoveryState) → Stands front disk heap.old s → last ≡ length s.log → s.durable ≡ length s.log
         → IfErr result (λ error. (f : Fault) → error ≡ RestartError.Page f → f ≡ Fault.Device) }
     ensures bad_number { IfErr result (λ error. (n : ℕ) → error ≡ RestartError.BadRecord n → n ≡ number) }
-    ensures any_pages { (front : List ℕ) (disk : ℕ → List ℕ) → IsHeld front disk heap.old last → number ≤ last → WorksHeld result front disk heap.old heap.new last last }
+    ensures any_pages { (front : List ℕ) (first disk : ℕ → List ℕ) (done : List LogRecord) → IsHeld front first disk heap.old done last → number ≡ length done + 1 → number ≤ last
+        → WorksHeld result front first disk heap.old heap.new last (done ++ logged.now ∷ []) last }
+    ensures any_bad { (front : List ℕ) (first disk : ℕ → List ℕ) (done : List LogRecord) → IsHeld front first disk heap.old done last
+        → IfErr result (λ error. (n : ℕ) → error ≡ RestartError.BadRecord n → FindsNoRoom (geometry_of heap.old) first done n logged.now.payload) }
+    ensures any_fit { (front : List ℕ) (first disk : ℕ → List ℕ) (done : List LogRecord) → IsHeld front first disk heap.old done last
+        → OnOk result (FindsNoRoom (geometry_of heap.old) first done number logged.now.payload → ⊥) }
     ensures others { IfErr result (λ error. (error ≢ RestartError.NoRoom) × ((f : Fault) → error ≢ RestartError.Log f)) }
     ensures volume { SameVolume heap.old heap.new }
     ensures cause { HasCause (volume_answer result) (faults_of heap.old) (faults_of heap.new) }
@@ -117,7 +127,12 @@ fn redo_image<V: Disk>(
     ensures device { (front : List ℕ) (disk : ℕ → List ℕ) (s : RecoveryState) → Stands front disk heap.old s → last ≡ length s.log → s.durable ≡ length s.log
         → IfErr result (λ error. (f : Fault) → error ≡ RestartError.Page f → f ≡ Fault.Device) }
     ensures bad_number { IfErr result (λ error. (n : ℕ) → error ≡ RestartError.BadRecord n → n ≡ number) }
-    ensures any_pages { (front : List ℕ) (disk : ℕ → List ℕ) → IsHeld front disk heap.old last → number ≤ last → WorksHeld result front disk heap.old heap.new last last }
+    ensures any_pages { (front : List ℕ) (first disk : ℕ → List ℕ) (done : List LogRecord) (r : LogRecord) → IsHeld front first disk heap.old done last
+        → image_in r.payload ≡ Some (id, image.now) → number ≡ length done + 1 → number ≤ last → WorksHeld result front first disk heap.old heap.new last (done ++ r ∷ []) last }
+    ensures any_bad { (front : List ℕ) (first disk : ℕ → List ℕ) (done : List LogRecord) (payload : Payload) → IsHeld front first disk heap.old done last
+        → image_in payload ≡ Some (id, image.now) → IfErr result (λ error. (n : ℕ) → error ≡ RestartError.BadRecord n → FindsNoRoom (geometry_of heap.old) first done n payload) }
+    ensures any_fit { (front : List ℕ) (first disk : ℕ → List ℕ) (done : List LogRecord) (payload : Payload) → IsHeld front first disk heap.old done last
+        → image_in payload ≡ Some (id, image.now) → OnOk result (FindsNoRoom (geometry_of heap.old) first done number payload → ⊥) }
     ensures others { IfErr result (λ error. (error ≢ RestartError.NoRoom) × ((f : Fault) → error ≢ RestartError.Log f)) }
     ensures volume { SameVolume heap.old heap.new }
     ensures cause { HasCause (volume_answer result) (faults_of heap.old) (faults_of heap.new) }

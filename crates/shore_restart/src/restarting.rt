@@ -1,5 +1,5 @@
 //! A restart, from what an open has found to a core.
-ghost use Rattle.std.specs.Prelude.{◌≡◌, ◌≢◌, ◌⊎◌, ◌<◌, ◌≤◌, ◌+◌, ℕ, List, IfErr, IfOk, OnOk, length};
+ghost use Rattle.std.specs.Prelude.{◌≡◌, ◌≢◌, ◌⊎◌, ◌<◌, ◌≤◌, ◌+◌, [], ℕ, List, IfErr, IfOk, OnOk, length};
 ghost use Rattle.shore_disk.specs.Cause.{HasCause};
 ghost use Rattle.shore_types.specs.Layout.{LocksInLimits};
 ghost use Rattle.shore_types.specs.declared.faults.Fault.{Fault};
@@ -8,6 +8,7 @@ ghost use Rattle.shore_log.specs.Settled.{records_of_log, stable};
 ghost use Rattle.shore_heap.specs.Heaps.{faults_of, geometry_of};
 ghost use Rattle.shore_core.specs.Cores.{control_of, durable_of, first_of};
 ghost use Rattle.laws_lives.specs.Recovery.{RecoveryState};
+ghost use Rattle.shore_restart.specs.AnyPages.{AllFindRoom, IsBadOn};
 ghost use Rattle.shore_restart.specs.declared.errors.RestartError.{RestartError};
 ghost use Rattle.shore_restart.specs.declared.errors.RestartError.TheVariants as RestartError;
 ghost use Rattle.shore_restart.specs.Doubts.{IsRefusedBy, IsTaken};
@@ -61,9 +62,16 @@ pub fn restart<L: Disk, V: Disk>(
     ensures meant { IfErr result (λ refused. refused.0 ≢ RestartError.Memory → IsTaken (geometry_of heap) (records_of_log log.old)
         ⊎ ((n : ℕ) × (refused.0 ≡ RestartError.BadRecord n) × IsRefusedBy (geometry_of heap) (records_of_log log.old) n)) }
     ensures taken { OnOk result (IsTaken (geometry_of heap) (records_of_log log.old)) }
-    // .. and a page is named that has no text of it with a number up to the log's last.
+    // .. of its records, and by the first of them that has no room on its page as the records before it leave that; or, if all have, by the first, turn by turn,
+    // whose undo has none; or, if all losers are undone and each record of that has room, by the first Change of one in doubt whose image before has none beside
+    // what is kept for those before it.
     ensures bad_number { IfErr result (λ refused. (n : ℕ) → refused.0 ≡ RestartError.BadRecord n → (0 < n) × (n ≤ length (records_of_log log.old))) }
-    ensures any_pages { (front : List ℕ) (disk : ℕ → List ℕ) → IsHeld front disk heap (length (records_of_log log.old))
+    ensures any_bad { (front : List ℕ) (first disk : ℕ → List ℕ) → IsHeld front first disk heap [] (length (records_of_log log.old))
+        → IfErr result (λ refused. (n : ℕ) → refused.0 ≡ RestartError.BadRecord n → IsBadOn (geometry_of heap) first (records_of_log log.old) n) }
+    ensures any_fit { (front : List ℕ) (first disk : ℕ → List ℕ) → IsHeld front first disk heap [] (length (records_of_log log.old))
+        → OnOk result (AllFindRoom (geometry_of heap) first (records_of_log log.old)) }
+    // .. and a page is named that has no text of it with a number up to the log's last.
+    ensures any_pages { (front : List ℕ) (first disk : ℕ → List ℕ) → IsHeld front first disk heap [] (length (records_of_log log.old))
         → IfErr result (λ refused. (f : Fault) → refused.0 ≡ RestartError.Page f → IsPageFault (geometry_of heap) disk (length (records_of_log log.old)) f) }
     // The core's buffer is empty and begins behind the log, all of which is durable: any core.
     ensures numbers { IfOk result (λ done. (first_of done.0 ≡ 1 + length (records_of_log log.new)) × (durable_of done.0 ≡ length (stable log.new))) }

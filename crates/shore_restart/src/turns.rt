@@ -1,19 +1,21 @@
 //! Undo: the losers' turns, a record of undo in each (ARIES: the undo pass).
-ghost use Rattle.std.specs.Prelude.{◌≡◌, ◌≢◌, ◌<◌, ◌≤◌, ◌+◌, ◌↔◌, ℕ, List, Err, IfErr, IfOk, IsFalse, IsSome, IsTrue, OnOk, Some, is_some, length};
+ghost use Rattle.std.specs.Prelude.{◌≡◌, ◌≢◌, ◌<◌, ◌≤◌, ◌++◌, ◌+◌, ◌∷◌, ◌↔◌, [], ℕ, List, Err, IfErr, IfOk, IsFalse, IsSome, IsTrue, OnOk, Some, is_some, length};
 ghost use Rattle.shore_disk.specs.Cause.{HasCause};
 ghost use Rattle.shore_types.specs.Layout.{HasPage, HasSlot};
 ghost use Rattle.shore_types.specs.declared.faults.Fault.{Fault};
 ghost use Rattle.shore_types.specs.declared.faults.Fault.TheVariants as Fault;
 ghost use Rattle.shore_model.specs.declared.log_records.LogRecord.{LogRecord};
-ghost use Rattle.shore_model.specs.Logs.{Lawful, id_in, image_in, unanswered};
+ghost use Rattle.shore_model.specs.declared.log_records.Payload.{Payload};
+ghost use Rattle.shore_model.specs.Logs.{id_in, image_in, unanswered};
 ghost use Rattle.shore_page.specs.Room.{Fits};
 ghost use Rattle.shore_types.specs.Images.{image_len};
 ghost use Rattle.shore_heap.specs.Heaps.{faults_of, frame_of, geometry_of};
 ghost use Rattle.shore_log.specs.Settled.{HasRecordRoom, records_of_log};
 ghost use Rattle.laws_lives.specs.Recovery.{RecoveryState};
-ghost use Rattle.laws_lives.specs.Undo.{HasNoLosers, IsLoser, undo_payload, undo_record};
+ghost use Rattle.laws_lives.specs.Undo.{HasNoLosers, undo_payload, undo_record};
 ghost use Rattle.laws_runs.specs.SlotCounts.{FitsBehind, slots_left};
 ghost use Rattle.shore_types.specs.declared.ids.Rid.{Rid};
+ghost use Rattle.shore_restart.specs.AnyPages.{AllFindRoom, FindsNoRoom, FindsNoRoomToUndo};
 ghost use Rattle.shore_restart.specs.declared.errors.RestartError.{RestartError};
 ghost use Rattle.shore_restart.specs.declared.errors.RestartError.TheVariants as RestartError;
 ghost use Rattle.shore_restart.specs.Errors.{log_answer, volume_answer};
@@ -21,7 +23,7 @@ ghost use Rattle.shore_restart.specs.Held.{IsHeld, WorksHeld};
 ghost use Rattle.shore_restart.specs.Standing.{Appends, IsAtRest, IsReady, RestartMoves, SameLog, SameVolume, log_faults, log_history, stream_bytes_of};
 ghost use Rattle.shore_restart.specs.Quiet.{IsQuiet, StaysQuiet};
 ghost use Rattle.shore_restart.specs.Room.{LeavesRoom};
-ghost use Rattle.shore_restart.specs.Turns.{CannotUndo, HasNoTurnRoom, IsUndoOf, IsUndoneSoFar, TakesTurn};
+ghost use Rattle.shore_restart.specs.Turns.{CannotUndo, HasNoTurnRoom, IsUndoOf, IsUndoneSoFar, TakesTurn, TurnsFit};
 
 use crate::errors::RestartError;
 use crate::forcing::force;
@@ -56,19 +58,27 @@ impl Undo {
     ) -> Result<(), RestartError>
         requires { IsUndoOf (geometry_of heap.old) (records_of_log log.old) (stream_bytes_of log.old) self.old }
         ensures undone { OnOk result (IsUndoneSoFar (records_of_log log.old) (records_of_log log.new)) }
-        ensures none { OnOk result ((t : ℕ) → IsLoser (records_of_log log.new) t → ⊥) }
-        ensures done { Lawful (records_of_log log.old) → OnOk result (HasNoLosers (records_of_log log.new)) }
+        ensures done { OnOk result (HasNoLosers (records_of_log log.new)) }
         ensures undo { OnOk result (IsUndoOf (geometry_of heap.new) (records_of_log log.new) (stream_bytes_of log.new) self.new) }
         ensures moves { (log_front front : List ℕ) (disk : ℕ → List ℕ) (s : RecoveryState) → IsReady log_front front disk log.old heap.old s
             → RestartMoves result log_front front log.old log.new heap.old heap.new s (λ later. later.durable ≡ length later.log) }
         ensures no_room { IfErr result (λ error. error ≡ RestartError.NoRoom → (so_far : List LogRecord) × IsUndoneSoFar (records_of_log log.old) so_far × HasNoTurnRoom so_far (stream_bytes_of log.old)) }
         ensures bad { (log_front front : List ℕ) (disk : ℕ → List ℕ) (s : RecoveryState) → IsReady log_front front disk log.old heap.old s
-            → IfErr result (λ error. (n : ℕ) → error ≡ RestartError.BadRecord n → (so_far : List LogRecord) × IsUndoneSoFar (records_of_log log.old) so_far × CannotUndo so_far n) }
+            → IfErr result (λ error. (n : ℕ) → error ≡ RestartError.BadRecord n → (so_far : List LogRecord) × IsUndoneSoFar (records_of_log log.old) so_far
+            × TurnsFit (records_of_log log.old) so_far × CannotUndo so_far n) }
+        ensures fits { (log_front front : List ℕ) (disk : ℕ → List ℕ) (s : RecoveryState) → IsReady log_front front disk log.old heap.old s
+            → OnOk result (TurnsFit (records_of_log log.old) (records_of_log log.new)) }
         ensures device { (log_front front : List ℕ) (disk : ℕ → List ℕ) (s : RecoveryState) → IsReady log_front front disk log.old heap.old s
             → IfErr result (λ error. (f : Fault) → error ≡ RestartError.Page f → f ≡ Fault.Device) }
         ensures log_device { (log_front : List ℕ) → IsQuiet log_front log.old → StaysQuiet result log_front log.old log.new }
         ensures bad_number { IfErr result (λ error. (n : ℕ) → error ≡ RestartError.BadRecord n → (0 < n) × (n ≤ length (records_of_log log.old))) }
-        ensures any_pages { (front : List ℕ) (disk : ℕ → List ℕ) → IsHeld front disk heap.old (length (records_of_log log.old)) → WorksHeld result front disk heap.old heap.new (length (records_of_log log.old)) (length (records_of_log log.new)) }
+        ensures any_pages { (front : List ℕ) (first disk : ℕ → List ℕ) → IsHeld front first disk heap.old (records_of_log log.old) (length (records_of_log log.old))
+            → WorksHeld result front first disk heap.old heap.new (length (records_of_log log.old)) (records_of_log log.new) (length (records_of_log log.new)) }
+        ensures any_bad { (front : List ℕ) (first disk : ℕ → List ℕ) → IsHeld front first disk heap.old (records_of_log log.old) (length (records_of_log log.old))
+            → AllFindRoom (geometry_of heap.old) first (records_of_log log.old) → IfErr result (λ error. (n : ℕ) → error ≡ RestartError.BadRecord n → (so_far : List LogRecord)
+            × IsUndoneSoFar (records_of_log log.old) so_far × AllFindRoom (geometry_of heap.old) first so_far × FindsNoRoomToUndo (geometry_of heap.old) first so_far n) }
+        ensures any_fit { (front : List ℕ) (first disk : ℕ → List ℕ) → IsHeld front first disk heap.old (records_of_log log.old) (length (records_of_log log.old))
+            → AllFindRoom (geometry_of heap.old) first (records_of_log log.old) → OnOk result (AllFindRoom (geometry_of heap.old) first (records_of_log log.new)) }
         ensures volume { SameVolume heap.old heap.new }
         ensures log { SameLog log.old log.new }
         ensures volume_cause { HasCause (volume_answer result) (faults_of heap.old) (faults_of heap.new) }
@@ -88,18 +98,24 @@ impl Undo {
         requires { IsUndoOf (geometry_of heap.old) (records_of_log log.old) (stream_bytes_of log.old) self.old }
         ensures turn { IfOk result (λ more. IsTrue more → TakesTurn (records_of_log log.old) (records_of_log log.new) self.old self.new) }
         ensures undo { OnOk result (IsUndoOf (geometry_of heap.new) (records_of_log log.new) (stream_bytes_of log.new) self.new) }
-        ensures none { IfOk result (λ more. IsFalse more → (records_of_log log.new ≡ records_of_log log.old) × ((t : ℕ) → IsLoser (records_of_log log.new) t → ⊥)
-            × (Lawful (records_of_log log.old) → HasNoLosers (records_of_log log.new))) }
+        ensures done { IfOk result (λ more. IsFalse more → (records_of_log log.new ≡ records_of_log log.old) × HasNoLosers (records_of_log log.new)) }
         ensures moves { (log_front front : List ℕ) (disk : ℕ → List ℕ) (s : RecoveryState) → IsReady log_front front disk log.old heap.old s
             → RestartMoves result log_front front log.old log.new heap.old heap.new s (λ later. later.log ≡ records_of_log log.new) }
         ensures no_room { IfErr result (λ error. error ≡ RestartError.NoRoom → HasNoTurnRoom (records_of_log log.old) (stream_bytes_of log.old)) }
         ensures bad { (log_front front : List ℕ) (disk : ℕ → List ℕ) (s : RecoveryState) → IsReady log_front front disk log.old heap.old s
             → IfErr result (λ error. (n : ℕ) → error ≡ RestartError.BadRecord n → CannotUndo (records_of_log log.old) n) }
+        ensures fits { (log_front front : List ℕ) (disk : ℕ → List ℕ) (s : RecoveryState) (found : List LogRecord) → IsReady log_front front disk log.old heap.old s
+            → TurnsFit found (records_of_log log.old) → OnOk result (TurnsFit found (records_of_log log.new)) }
         ensures device { (log_front front : List ℕ) (disk : ℕ → List ℕ) (s : RecoveryState) → IsReady log_front front disk log.old heap.old s
             → IfErr result (λ error. (f : Fault) → error ≡ RestartError.Page f → f ≡ Fault.Device) }
         ensures log_device { (log_front : List ℕ) → IsQuiet log_front log.old → StaysQuiet result log_front log.old log.new }
         ensures bad_number { (found : List LogRecord) → IsUndoneSoFar found (records_of_log log.old) → IfErr result (λ error. (n : ℕ) → error ≡ RestartError.BadRecord n → (0 < n) × (n ≤ length found)) }
-        ensures any_pages { (front : List ℕ) (disk : ℕ → List ℕ) → IsHeld front disk heap.old (length (records_of_log log.old)) → WorksHeld result front disk heap.old heap.new (length (records_of_log log.old)) (length (records_of_log log.new)) }
+        ensures any_pages { (front : List ℕ) (first disk : ℕ → List ℕ) → IsHeld front first disk heap.old (records_of_log log.old) (length (records_of_log log.old))
+            → WorksHeld result front first disk heap.old heap.new (length (records_of_log log.old)) (records_of_log log.new) (length (records_of_log log.new)) }
+        ensures any_bad { (front : List ℕ) (first disk : ℕ → List ℕ) → IsHeld front first disk heap.old (records_of_log log.old) (length (records_of_log log.old))
+            → IfErr result (λ error. (n : ℕ) → error ≡ RestartError.BadRecord n → FindsNoRoomToUndo (geometry_of heap.old) first (records_of_log log.old) n) }
+        ensures any_fit { (front : List ℕ) (first disk : ℕ → List ℕ) → IsHeld front first disk heap.old (records_of_log log.old) (length (records_of_log log.old))
+            → AllFindRoom (geometry_of heap.old) first (records_of_log log.old) → OnOk result (AllFindRoom (geometry_of heap.old) first (records_of_log log.new)) }
         ensures volume { SameVolume heap.old heap.new }
         ensures log { SameLog log.old log.new }
         ensures volume_cause { HasCause (volume_answer result) (faults_of heap.old) (faults_of heap.new) }
@@ -145,6 +161,8 @@ fn append<L: Disk, V: Disk>(
     ensures reserved { OnOk result (HasRecordRoom log.new 1) }
     ensures bad { (log_front front : List ℕ) (disk : ℕ → List ℕ) (s : RecoveryState) → IsReady log_front front disk log.old heap.old s
         → IfErr result (λ error. (n : ℕ) → error ≡ RestartError.BadRecord n → (n ≡ undone) × (FitsBehind s.log payload.now → ⊥)) }
+    ensures fits { (log_front front : List ℕ) (disk : ℕ → List ℕ) (s : RecoveryState) (t : ℕ) → IsReady log_front front disk log.old heap.old s
+        → payload.now ≡ undo_payload (unanswered t s.log) → OnOk result (FitsBehind s.log payload.now) }
     ensures device { (log_front front : List ℕ) (disk : ℕ → List ℕ) (s : RecoveryState) → IsReady log_front front disk log.old heap.old s
         → IfErr result (λ error. (f : Fault) → error ≡ RestartError.Page f → f ≡ Fault.Device) }
     ensures log_device { (log_front : List ℕ) → IsQuiet log_front log.old → StaysQuiet result log_front log.old log.new }
@@ -152,8 +170,15 @@ fn append<L: Disk, V: Disk>(
     ensures same { records_of_log log.new ≡ records_of_log log.old }
     ensures log { SameLog log.old log.new }
     ensures bad_number { IfErr result (λ error. (n : ℕ) → error ≡ RestartError.BadRecord n → (n ≡ undone) × IsSome (id_in payload.now)) }
-    ensures any_pages { (front : List ℕ) (disk : ℕ → List ℕ) → IsHeld front disk heap.old (length (records_of_log log.old)) → number ≤ length (records_of_log log.old) + 1
-        → WorksHeld result front disk heap.old heap.new (length (records_of_log log.old)) (length (records_of_log log.old) + 1) }
+    ensures any_pages { (front : List ℕ) (first disk : ℕ → List ℕ) (r : LogRecord) (t : ℕ) → IsHeld front first disk heap.old (records_of_log log.old) (length (records_of_log log.old))
+        → r.payload ≡ payload.now → payload.now ≡ undo_payload (unanswered t (records_of_log log.old)) → number ≡ length (records_of_log log.old) + 1
+        → WorksHeld result front first disk heap.old heap.new (length (records_of_log log.old)) (records_of_log log.old ++ r ∷ []) (length (records_of_log log.old) + 1) }
+    ensures any_bad { (front : List ℕ) (first disk : ℕ → List ℕ) → IsHeld front first disk heap.old (records_of_log log.old) (length (records_of_log log.old))
+        → IfErr result (λ error. (n : ℕ) → error ≡ RestartError.BadRecord n → (n ≡ undone)
+        × FindsNoRoom (geometry_of heap.old) first (records_of_log log.old) (length (records_of_log log.old) + 1) payload.now) }
+    ensures any_fit { (front : List ℕ) (first disk : ℕ → List ℕ) (t : ℕ) → IsHeld front first disk heap.old (records_of_log log.old) (length (records_of_log log.old))
+        → payload.now ≡ undo_payload (unanswered t (records_of_log log.old))
+        → OnOk result (FindsNoRoom (geometry_of heap.old) first (records_of_log log.old) (length (records_of_log log.old) + 1) payload.now → ⊥) }
     ensures volume { SameVolume heap.old heap.new }
     ensures volume_cause { HasCause (volume_answer result) (faults_of heap.old) (faults_of heap.new) }
     ensures log_cause { HasCause (log_answer result) (log_faults log.old) (log_faults log.new) }
@@ -191,6 +216,8 @@ fn put_back<L: Disk, V: Disk>(
     ensures reserved { OnOk result (HasRecordRoom log.new 1) }
     ensures bad { (log_front front : List ℕ) (disk : ℕ → List ℕ) (s : RecoveryState) → IsReady log_front front disk log.old heap.old s
         → IfErr result (λ error. (n : ℕ) → error ≡ RestartError.BadRecord n → (n ≡ undone) × (Fits (slots_left s.log id.page) id.slot (image_len image.now) → ⊥)) }
+    ensures fits { (log_front front : List ℕ) (disk : ℕ → List ℕ) (s : RecoveryState) → IsReady log_front front disk log.old heap.old s
+        → OnOk result (Fits (slots_left s.log id.page) id.slot (image_len image.now)) }
     ensures device { (log_front front : List ℕ) (disk : ℕ → List ℕ) (s : RecoveryState) → IsReady log_front front disk log.old heap.old s
         → IfErr result (λ error. (f : Fault) → error ≡ RestartError.Page f → f ≡ Fault.Device) }
     ensures log_device { (log_front : List ℕ) → IsQuiet log_front log.old → StaysQuiet result log_front log.old log.new }
@@ -198,8 +225,15 @@ fn put_back<L: Disk, V: Disk>(
     ensures same { records_of_log log.new ≡ records_of_log log.old }
     ensures log { SameLog log.old log.new }
     ensures bad_number { IfErr result (λ error. (n : ℕ) → error ≡ RestartError.BadRecord n → n ≡ undone) }
-    ensures any_pages { (front : List ℕ) (disk : ℕ → List ℕ) → IsHeld front disk heap.old (length (records_of_log log.old)) → number ≤ length (records_of_log log.old) + 1
-        → WorksHeld result front disk heap.old heap.new (length (records_of_log log.old)) (length (records_of_log log.old) + 1) }
+    ensures any_pages { (front : List ℕ) (first disk : ℕ → List ℕ) (r : LogRecord) → IsHeld front first disk heap.old (records_of_log log.old) (length (records_of_log log.old))
+        → image_in r.payload ≡ Some (id, image.now) → number ≡ length (records_of_log log.old) + 1
+        → WorksHeld result front first disk heap.old heap.new (length (records_of_log log.old)) (records_of_log log.old ++ r ∷ []) (length (records_of_log log.old) + 1) }
+    ensures any_bad { (front : List ℕ) (first disk : ℕ → List ℕ) (payload : Payload) → IsHeld front first disk heap.old (records_of_log log.old) (length (records_of_log log.old))
+        → image_in payload ≡ Some (id, image.now) → IfErr result (λ error. (n : ℕ) → error ≡ RestartError.BadRecord n → (n ≡ undone)
+        × FindsNoRoom (geometry_of heap.old) first (records_of_log log.old) (length (records_of_log log.old) + 1) payload) }
+    ensures any_fit { (front : List ℕ) (first disk : ℕ → List ℕ) (payload : Payload) → IsHeld front first disk heap.old (records_of_log log.old) (length (records_of_log log.old))
+        → image_in payload ≡ Some (id, image.now)
+        → OnOk result (FindsNoRoom (geometry_of heap.old) first (records_of_log log.old) (length (records_of_log log.old) + 1) payload → ⊥) }
     ensures volume { SameVolume heap.old heap.new }
     ensures volume_cause { HasCause (volume_answer result) (faults_of heap.old) (faults_of heap.new) }
     ensures log_cause { HasCause (log_answer result) (log_faults log.old) (log_faults log.new) }
@@ -242,7 +276,8 @@ fn bring<L: Disk, V: Disk>(
     ensures others { IfErr result (λ error. error ≢ RestartError.NoRoom) }
     ensures same { records_of_log log.new ≡ records_of_log log.old }
     ensures log { SameLog log.old log.new }
-    ensures any_pages { (front : List ℕ) (disk : ℕ → List ℕ) → IsHeld front disk heap.old (length (records_of_log log.old)) → WorksHeld result front disk heap.old heap.new (length (records_of_log log.old)) (length (records_of_log log.old)) }
+    ensures any_pages { (front : List ℕ) (first disk : ℕ → List ℕ) (done : List LogRecord) → IsHeld front first disk heap.old done (length (records_of_log log.old))
+        → WorksHeld result front first disk heap.old heap.new (length (records_of_log log.old)) done (length (records_of_log log.old)) }
     ensures volume { SameVolume heap.old heap.new }
     ensures volume_cause { HasCause (volume_answer result) (faults_of heap.old) (faults_of heap.new) }
     ensures log_cause { HasCause (log_answer result) (log_faults log.old) (log_faults log.new) }

@@ -3,7 +3,8 @@ use Rattle.shore_types.specs.declared.log_ends.LogEnds.{LogEnds}
 use Rattle.shore_heap.specs.Heaps.{faults_of}
 use Rattle.shore_txn.specs.Transactions.{kept_in}
 use Rattle.shore_restart.proofs.ClaimsKept.{stands_fetched, stopped_there, wrote}
-use Rattle.shore_restart.proofs.HeldPages.{fetch_leaves, fetch_names}
+use Rattle.shore_restart.proofs.AnyClaims.{fetch_keeps}
+use Rattle.shore_restart.proofs.HeldPages.{low_names}
 use Rattle.shore_restart.proofs.PageErrors.{page_cause, refused_page}
 use Rattle.shore_restart.proofs.claims.fetch_claimed.Goals as goal
 
@@ -23,7 +24,7 @@ returns-in-Ok-clause-keeps g c so_far slots front disk s stands low =
       volume = kept.volume;
       stands = (
         left,
-        stands_fetched front disk left old mid s (kept_in c.args.txns.now) so_far slots stands c.args.page c.requires c.fetch.ensures.reads.geometry stay.same c.fetch.ensures.others (c.in-Ok.ensures.asked front disk stands.holds) kept holds
+        stands_fetched front disk left old mid s (kept_in c.args.txns.now) so_far slots stands c.args.page c.requires c.fetch.ensures.reads.geometry stay.same c.args.last (c.fetch.ensures.framed front disk stands.holds) kept holds
             c.fetch.ensures.bounds,
       );
     }
@@ -54,14 +55,15 @@ returns-in-Err-clause-device g c so_far slots front disk s stands long low f is 
     ]
 
 pub returns-in-Ok-clause-any_pages : goal.returns-in-Ok-clause-any_pages
-returns-in-Ok-clause-any_pages g c front disk held = record {
+returns-in-Ok-clause-any_pages g c so_far front first disk done held = record {
   named = tt;
-  stays = fetch_leaves front disk c.args.heap.now c.fetch.new.self c.args.last c.args.last held (omega arith) (c.in-Ok.ensures.reads.wrote front disk held.holds) (c.fetch.ensures.reads.dirty front disk held.holds);
+  stays = fetch_keeps front first done c.args.last (kept_in c.args.txns.now) so_far disk c.args.heap.now c.fetch.new.self c.args.page c.requires c.fetch.ensures.reads.geometry held (c.fetch.ensures.framed front disk held.holds)
+      (c.in-Ok.ensures.reads.wrote front disk held.holds);
 }
 
 pub returns-in-Err-clause-any_pages : goal.returns-in-Err-clause-any_pages
-returns-in-Err-clause-any_pages g c front disk held = record {
-  named = λ f is. elim (fetch_names front disk c.args.heap.now c.args.page (ends_at c.args.last) c.in-Err.fault f c.page_error.result c.requires held (c.in-Err.ensures.refused front disk held.holds) c.page_error.ensures is) [
+returns-in-Err-clause-any_pages g c so_far front first disk done held = record {
+  named = λ f is. elim (low_names disk c.args.heap.now c.args.page (ends_at c.args.last) c.in-Err.fault f c.page_error.result c.requires held.low (c.in-Err.ensures.refused front disk held.holds) c.page_error.ensures is) [
     | inl of ↦ of
     | inr force ↦ let above = force.2 in let within = force.3 in absurd (omega (arith, above, within))
   ];

@@ -1,4 +1,4 @@
-use Rattle.std.proofs.Common.{◌≡◌, ◌<◌, ◌+◌, ◌-◌, ◌++◌, ℕ, List, Result, Ok, Err, Some, inl, inr, refl, sym, ap, subst, ◌∙◌, length, map, take, drop, arith}
+use Rattle.std.proofs.Common.{◌≡◌, ◌<◌, ◌+◌, ◌-◌, ◌++◌, ◌∷◌, ℕ, List, Result, Ok, Some, inl, inr, refl, sym, ap, subst, ◌∙◌, length, map, take, drop, arith}
 use Rattle.std.specs.Prelude.{slice_get}
 use Rattle.std.proofs.lemmas.List.{take-append-drop}
 use Rattle.std.proofs.lemmas.Option.{slice_get_read}
@@ -13,12 +13,13 @@ use Rattle.shore_txn.specs.Transactions.{kept_in, txns_in}
 use Rattle.shore_txn.specs.UndoEntries.{claims_on}
 use Rattle.shore_txn.specs.declared.undo.UndoEntry.{UndoEntry}
 use Rattle.shore_restart.specs.declared.errors.RestartError.{RestartError}
-use Rattle.shore_restart.specs.GivenBack.{Keeps, StandsSoFar}
+use Rattle.shore_restart.specs.GivenBack.{CannotKeepOn, Keeps, StandsSoFar}
+use Rattle.shore_restart.specs.Held.{IsHeldSoFar, KeepsHeld, StaysHeldSoFar}
 use Rattle.shore_restart.proofs.ChangesBack.{among_at}
 use Rattle.shore_restart.proofs.ClaimsAll.{fit_everywhere, in_place_of, keeps_none}
 use Rattle.shore_restart.proofs.ClaimsKept.{keeps_then, so_far_left}
 use Rattle.shore_restart.proofs.DoubtsBack.{from_here}
-use Rattle.shore_restart.proofs.HeldPages.{held_behind, held_err, held_here, held_then}
+use Rattle.shore_restart.proofs.AnyClaims.{so_far_fault, so_far_here, so_far_then}
 use Rattle.shore_restart.proofs.PageErrors.{err_with, passed_cause}
 use Rattle.shore_restart.proofs.RedoAll.{same_again}
 use Rattle.shore_restart.proofs.claims.keep_changes.Goals as goal
@@ -29,7 +30,9 @@ loop-index-init g c = record {
   so_far = λ older newer slots front disk s order stands low.
       subst (λ (xs : List UndoEntry). Keeps (Ok tt) front c.args.heap.now c.args.heap.now s (λ left later. StandsSoFar (kept_in c.args.txns.now) (λ p. claims_on p (xs ++ newer)) slots front left c.args.heap.now later))
       (sym (drop-whole c.args.changes.now)) (keeps_none front disk c.args.heap.now s (so_far_left front disk c.args.heap.now s stands.store stands.holds) stands);
-  any_pages = λ front disk held. held_here front disk c.args.heap.now c.args.last c.args.last (omega arith) held;
+  any_pages = λ older newer front first disk done order held.
+      subst (λ (xs : List UndoEntry). StaysHeldSoFar (kept_in c.args.txns.now) (λ p. claims_on p (xs ++ newer)) front first disk c.args.heap.now c.args.heap.now done c.args.last) (sym (drop-whole c.args.changes.now))
+      (so_far_here front first done c.args.last (kept_in c.args.txns.now) (λ p. claims_on p newer) disk c.args.heap.now held);
   volume = record { geometry = refl; honest = refl; size = refl; frames = refl };
   faults = refl;
 }
@@ -63,9 +66,12 @@ loop-index-preserved g c =
           let kept = c.in_ok-keep_claim.ensures.keeps (older ++ take j es) (drop (j + 1) es ++ newer) slots front first.stands.0 first.later (in_place_of (all_changes (txns_in c.args.txns.now)) older es newer j e here order) st (omega (arith, durable, low)) in
           subst (λ (xs : List UndoEntry). Keeps (Ok tt) front c.args.heap.now new s (λ left later. StandsSoFar (kept_in c.args.txns.now) (λ p. claims_on p (xs ++ newer)) slots front left new later)) (sym (from_here es j e here))
           (keeps_then so.volume.geometry first kept);
-      any_pages = λ front disk held.
-          let s = so.any_pages front disk held in
-          held_then front disk c.args.heap.now mid c.args.last c.args.last s new c.args.last so.volume.geometry (c.in_ok-keep_claim.ensures.any_pages front s.left s.held).stays;
+      any_pages = λ older newer front first disk done order held.
+          let s = so.any_pages older newer front first disk done order held in
+          let st = subst (λ (k : ℕ). IsHeldSoFar (kept_in c.args.txns.now) (λ p. claims_on p (drop k es ++ newer)) front first s.left mid done c.args.last) place s.held in
+          let kept = c.in_ok-keep_claim.ensures.any_pages (older ++ take j es) (drop (j + 1) es ++ newer) front first s.left done (in_place_of (all_changes (txns_in c.args.txns.now)) older es newer j e here order) st in
+          subst (λ (xs : List UndoEntry). StaysHeldSoFar (kept_in c.args.txns.now) (λ p. claims_on p (xs ++ newer)) front first disk c.args.heap.now new done c.args.last) (sym (from_here es j e here))
+          (so_far_then front first done c.args.last (kept_in c.args.txns.now) (λ p. claims_on p (drop c.loop-index.index es ++ newer)) disk c.args.heap.now mid so.volume.geometry s (λ p. claims_on p (e ∷ (drop (j + 1) es ++ newer))) new kept.stays);
       volume = same_again c.args.heap.now mid new so.volume c.keep_claim.ensures.volume;
       faults = c.in_ok-keep_claim.ensures.cause.unreported (λ e. cc) ∙ so.faults;
     }
@@ -144,11 +150,40 @@ returns-in_err-keep_claim-clause-bad_number g c =
     subst (λ (k : ℕ). IsAmong k (map (λ (x : UndoEntry). x.lsn) es)) (sym (c.in_err-keep_claim.ensures.bad_number n (sym same ∙ is))) (among_map (λ (x : UndoEntry). x.lsn) e es (among_at es j e here)))
 
 pub returns-in_err-keep_claim-clause-any_pages : goal.returns-in_err-keep_claim-clause-any_pages
-returns-in_err-keep_claim-clause-any_pages g c front disk held =
+returns-in_err-keep_claim-clause-any_pages g c older newer front first disk done order held =
+    let es = c.args.changes.now in
+    let j = c.loop-index.index - 1 in
+    let e = c.index-changes-index.result in
     let so = c.loop-index.invariant in
-    let s = so.any_pages front disk held in
-    held_err front disk c.args.heap.now c.keep_claim.new.heap c.args.last c.args.last c.args.last c.from_residual.result c.in_err-keep_claim.field-0.0 c.from_residual.ensures.1
-    (held_behind front disk c.args.heap.now c.loop-index.heap c.args.last c.args.last s (Err c.in_err-keep_claim.field-0.0) c.keep_claim.new.heap c.args.last so.volume.geometry (c.in_err-keep_claim.ensures.any_pages front s.left s.held))
+    let within : j < length es = omega (arith, so.within, c.loop-index-test.true) in
+    let here : slice_get es j ≡ Some e = slice_get_read es (length es) j e refl within c.index-changes-index.is in
+    let place : c.loop-index.index ≡ j + 1 = omega (arith, c.loop-index-test.true) in
+    let mid = c.loop-index.heap in
+    let s = so.any_pages older newer front first disk done order held in
+    let st = subst (λ (k : ℕ). IsHeldSoFar (kept_in c.args.txns.now) (λ p. claims_on p (drop k es ++ newer)) front first s.left mid done c.args.last) place s.held in
+    let kept = c.in_err-keep_claim.ensures.any_pages (older ++ take j es) (drop (j + 1) es ++ newer) front first s.left done (in_place_of (all_changes (txns_in c.args.txns.now)) older es newer j e here order) st in
+    subst (λ (result : Result (Unit {0}) RestartError). KeepsHeld result (kept_in c.args.txns.now) (λ p. claims_on p (es ++ newer)) front first disk c.args.heap.now c.keep_claim.new.heap done c.args.last)
+    (sym (err_with c.from_residual.result c.in_err-keep_claim.field-0.0 c.from_residual.ensures.1))
+    (record {
+      named = λ f is. so_far_fault front first done c.args.last (kept_in c.args.txns.now) (λ p. claims_on p (drop c.loop-index.index es ++ newer)) disk c.args.heap.now mid so.volume.geometry s f (kept.named f is);
+      stays = tt;
+    })
+
+pub returns-in_err-keep_claim-clause-any_bad : goal.returns-in_err-keep_claim-clause-any_bad
+returns-in_err-keep_claim-clause-any_bad g c older newer front first disk done order held =
+    let es = c.args.changes.now in
+    let j = c.loop-index.index - 1 in
+    let e = c.index-changes-index.result in
+    let so = c.loop-index.invariant in
+    let within : j < length es = omega (arith, so.within, c.loop-index-test.true) in
+    let here : slice_get es j ≡ Some e = slice_get_read es (length es) j e refl within c.index-changes-index.is in
+    let place : c.loop-index.index ≡ j + 1 = omega (arith, c.loop-index-test.true) in
+    let mid = c.loop-index.heap in
+    let s = so.any_pages older newer front first disk done order held in
+    let st = subst (λ (k : ℕ). IsHeldSoFar (kept_in c.args.txns.now) (λ p. claims_on p (drop k es ++ newer)) front first s.left mid done c.args.last) place s.held in
+    if_err c.from_residual.result c.from_residual.ensures.1 (λ error same n is.
+    subst (λ (k : Geometry). CannotKeepOn k c.args.txns.now first done n) so.volume.geometry
+    (c.in_err-keep_claim.ensures.any_bad (older ++ take j es) (drop (j + 1) es ++ newer) front first s.left done (in_place_of (all_changes (txns_in c.args.txns.now)) older es newer j e here order) st n (sym same ∙ is)))
 
 pub returns-in_err-keep_claim-clause-others : goal.returns-in_err-keep_claim-clause-others
 returns-in_err-keep_claim-clause-others g c =
@@ -173,4 +208,10 @@ returns-clause-keeps g c older newer slots front disk s order stands low =
     none (c.loop-index.invariant.so_far older newer slots front disk s order stands low)
 
 pub returns-clause-any_pages : goal.returns-clause-any_pages
-returns-clause-any_pages g c front disk held = record { named = tt; stays = c.loop-index.invariant.any_pages front disk held }
+returns-clause-any_pages g c older newer front first disk done order held =
+    let none : c.loop-index.index ≡ 0 = omega (arith, c.loop-index-test.false) in
+    record {
+      named = tt;
+      stays = subst (λ (k : ℕ). StaysHeldSoFar (kept_in c.args.txns.now) (λ p. claims_on p (drop k c.args.changes.now ++ newer)) front first disk c.args.heap.now c.loop-index.heap done c.args.last) none
+          (c.loop-index.invariant.any_pages older newer front first disk done order held);
+    }

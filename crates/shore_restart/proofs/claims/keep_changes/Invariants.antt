@@ -1,4 +1,5 @@
 use Rattle.std.proofs.Common.{◌≡◌, ◌≤◌, ◌++◌, ℕ, List, Ok, drop, length}
+use Rattle.shore_model.specs.declared.log_records.LogRecord.{LogRecord}
 use Rattle.shore_page.specs.Slots.{Slot}
 use Rattle.shore_types.specs.declared.ids.PageId.{PageId}
 use Rattle.shore_heap.specs.Heaps.{faults_of}
@@ -8,7 +9,7 @@ use Rattle.shore_txn.specs.Transactions.{kept_in, txns_in}
 use Rattle.shore_txn.specs.UndoEntries.{claims_on}
 use Rattle.shore_txn.specs.declared.undo.UndoEntry.{UndoEntry}
 use Rattle.shore_restart.specs.GivenBack.{Keeps, StandsSoFar}
-use Rattle.shore_restart.specs.Held.{IsHeld, StaysHeld}
+use Rattle.shore_restart.specs.Held.{IsHeldSoFar, StaysHeldSoFar}
 use Rattle.shore_restart.specs.Standing.{SameVolume}
 use Rattle.shore_restart.proofs.claims.keep_changes.Given as goal
 
@@ -18,7 +19,9 @@ invariant-loop-index g l = record {
   so_far : (older newer : List UndoEntry) (slots : PageId → List Slot) (front : List ℕ) (disk : ℕ → List ℕ) (s : RecoveryState) → all_changes (txns_in l.txns) ≡ older ++ (l.changes ++ newer)
       → StandsSoFar (kept_in l.txns) (λ p. claims_on p newer) slots front disk l.initial.heap s → l.last ≤ s.durable
       → Keeps (Ok tt) front l.initial.heap l.heap s (λ left later. StandsSoFar (kept_in l.txns) (λ p. claims_on p (drop l.index l.changes ++ newer)) slots front left l.heap later);
-  any_pages : (front : List ℕ) (disk : ℕ → List ℕ) → IsHeld front disk l.initial.heap l.last → StaysHeld front disk l.initial.heap l.heap l.last l.last;
+  any_pages : (older newer : List UndoEntry) (front : List ℕ) (first disk : ℕ → List ℕ) (done : List LogRecord) → all_changes (txns_in l.txns) ≡ older ++ (l.changes ++ newer)
+      → IsHeldSoFar (kept_in l.txns) (λ p. claims_on p newer) front first disk l.initial.heap done l.last
+      → StaysHeldSoFar (kept_in l.txns) (λ p. claims_on p (drop l.index l.changes ++ newer)) front first disk l.initial.heap l.heap done l.last;
   volume : SameVolume l.initial.heap l.heap;
   faults : faults_of l.heap ≡ faults_of l.initial.heap;
 }

@@ -1,4 +1,4 @@
-use Rattle.std.proofs.Common.{◌≡◌, ◌∷◌, ℕ, Result, true, false, refl, sym, subst, ◌∙◌, arith}
+use Rattle.std.proofs.Common.{◌≡◌, ◌∷◌, ℕ, Result, true, false, refl, sym, subst, ◌∙◌}
 use Rattle.std.specs.Prelude.{IsSomeAnd, option_map}
 use Rattle.shore_types.specs.Layout.{HasPage}
 use Rattle.shore_types.specs.declared.faults.Fault.{Fault}
@@ -13,12 +13,12 @@ use Rattle.shore_txn.specs.Transactions.{kept_in, txns_in}
 use Rattle.shore_txn.specs.UndoEntries.{claims_on}
 use Rattle.shore_restart.specs.declared.errors.RestartError.{RestartError}
 use Rattle.shore_restart.specs.declared.errors.RestartError.TheVariants.{BadRecord, Page}
-use Rattle.shore_restart.specs.GivenBack.{Keeps, StandsSoFar}
+use Rattle.shore_restart.specs.GivenBack.{CannotKeepOn, Keeps, StandsSoFar}
+use Rattle.shore_restart.specs.Held.{KeepsHeld}
 use Rattle.shore_restart.proofs.ClaimsKept.{worked_on}
 use Rattle.shore_restart.proofs.ClaimsMore.{claimed_more, has_place}
-use Rattle.shore_restart.proofs.HeldPages.{claim_held, held_changed, held_err}
+use Rattle.shore_restart.proofs.AnyClaims.{claim_keeps, lacks_room}
 use Rattle.shore_restart.proofs.PageErrors.{err_with, passed_cause}
-use Rattle.shore_restart.proofs.Putting.{same_geometry}
 use Rattle.shore_restart.proofs.claims.keep_claim.Goals as goal
 
 -- ---- the page was not fetched
@@ -43,9 +43,15 @@ returns-in_err-fetch_claimed-clause-bad_number g c =
     if_err c.from_residual.result c.from_residual.ensures.1 (λ error same n is. absurd (c.in_err-fetch_claimed.ensures.others.1 n (sym same ∙ is)))
 
 pub returns-in_err-fetch_claimed-clause-any_pages : goal.returns-in_err-fetch_claimed-clause-any_pages
-returns-in_err-fetch_claimed-clause-any_pages g c front disk held =
-    held_err front disk c.args.heap.now c.fetch_claimed.new.heap c.args.last c.args.last c.args.last c.from_residual.result c.in_err-fetch_claimed.field-0.0 c.from_residual.ensures.1
-    (c.in_err-fetch_claimed.ensures.any_pages front disk held)
+returns-in_err-fetch_claimed-clause-any_pages g c older newer front first disk done order held =
+    let kept = c.in_err-fetch_claimed.ensures.any_pages (λ p. claims_on p newer) front first disk done held in
+    subst
+    (λ (result : Result (Unit {0}) RestartError). KeepsHeld result (kept_in c.args.txns.now) (λ p. claims_on p (c.args.entry.now ∷ newer)) front first disk c.args.heap.now c.fetch_claimed.new.heap done c.args.last)
+    (sym (err_with c.from_residual.result c.in_err-fetch_claimed.field-0.0 c.from_residual.ensures.1)) (record { named = kept.named; stays = tt })
+
+pub returns-in_err-fetch_claimed-clause-any_bad : goal.returns-in_err-fetch_claimed-clause-any_bad
+returns-in_err-fetch_claimed-clause-any_bad g c older newer front first disk done order held =
+    if_err c.from_residual.result c.from_residual.ensures.1 (λ error same n is. absurd (c.in_err-fetch_claimed.ensures.others.1 n (sym same ∙ is)))
 
 pub returns-in_err-fetch_claimed-clause-others : goal.returns-in_err-fetch_claimed-clause-others
 returns-in_err-fetch_claimed-clause-others g c =
@@ -83,10 +89,26 @@ returns-then-not-keep_claim-clause-bad g c older newer slots front disk s order 
     cc
 
 pub returns-then-not-keep_claim-clause-any_pages : goal.returns-then-not-keep_claim-clause-any_pages
-returns-then-not-keep_claim-clause-any_pages g c front disk held = record { named = λ f is. absurd (of_no_page c.args.entry.now.lsn f is); stays = tt }
+returns-then-not-keep_claim-clause-any_pages g c older newer front first disk done order held = record { named = λ f is. absurd (of_no_page c.args.entry.now.lsn f is); stays = tt }
   where
     of_no_page : (n : ℕ) (f : Fault) → BadRecord n ≡ Page f → ⊥
     of_no_page n f is = cc
+
+pub returns-then-not-keep_claim-clause-any_bad : goal.returns-then-not-keep_claim-clause-any_bad
+returns-then-not-keep_claim-clause-any_bad g c older newer front first disk done order held n is =
+    let entry = c.args.entry.now in
+    let mid = c.fetch_claimed.new.heap in
+    let kept = (c.in_ok-fetch_claimed.ensures.any_pages (λ p. claims_on p newer) front first disk done held).stays in
+    let there : HasPage (geometry_of mid) entry.id.page = subst (λ (k : Geometry). HasPage k entry.id.page) (sym c.fetch_claimed.ensures.volume.geometry) c.requires.there in
+    let lacks = lacks_room front first kept.left done c.args.last mid (all_changes (txns_in c.args.txns.now)) older newer entry order there kept.held c.args.txns.now refl c.in_ok-fetch_claimed.ensures.held (λ can.
+    let yes : c.keep_claim.result ≡ true = c.keep_claim.ensures.kept.1 (subst (λ (bytes : ℕ). IsSomeAnd (frame_of mid entry.id.page) (λ f. CanKeep f.page.slots entry.id.slot bytes)) (sym c.image_len.ensures) can) in
+    let clash : true ≡ false = sym yes ∙ c.if-not-keep_claim.true in
+    cc) in
+    subst (λ (k : ℕ). CannotKeepOn (geometry_of c.args.heap.now) c.args.txns.now first done k) (one_number entry.lsn n is)
+    (subst (λ (k : Geometry). CannotKeepOn k c.args.txns.now first done entry.lsn) c.fetch_claimed.ensures.volume.geometry lacks)
+  where
+    one_number : (m n : ℕ) → BadRecord m ≡ BadRecord n → m ≡ n
+    one_number m n is = cc
 
 -- ---- it keeps the claim
 
@@ -117,13 +139,21 @@ returns-clause-keeps g c older newer slots front disk s order stands low =
     }
 
 pub returns-clause-any_pages : goal.returns-clause-any_pages
-returns-clause-any_pages g c front disk held =
+returns-clause-any_pages g c older newer front first disk done order held =
+    let entry = c.args.entry.now in
     let mid = c.fetch_claimed.new.heap in
     let new = c.keep_claim.new.self in
-    let stays = (c.in_ok-fetch_claimed.ensures.any_pages front disk held).stays in
+    let kept = (c.in_ok-fetch_claimed.ensures.any_pages (λ p. claims_on p newer) front first disk done held).stays in
+    let there : HasPage (geometry_of mid) entry.id.page = subst (λ (k : Geometry). HasPage k entry.id.page) (sym c.fetch_claimed.ensures.volume.geometry) c.requires.there in
+    let yes = c.if-not-keep_claim.false in
+    let can = subst (λ (bytes : ℕ). IsSomeAnd (frame_of mid entry.id.page) (λ f. CanKeep f.page.slots entry.id.slot bytes)) c.image_len.ensures (c.keep_claim.ensures.kept.0 yes) in
+    let here = subst (λ (bytes : ℕ). frame_of new entry.id.page ≡ option_map (reclaimed (raised bytes) entry.id.slot) (frame_of mid entry.id.page)) c.image_len.ensures (c.keep_claim.ensures.here yes) in
     record {
       named = tt;
-      stays = held_changed front disk c.args.heap.now mid c.args.last c.args.last stays new c.args.last (omega arith)
-          (claim_held front stays.left mid new c.args.entry.now.id (raised c.image_len.result) c.args.last (same_geometry mid new c.keep_claim.ensures.device) (c.keep_claim.ensures.here c.if-not-keep_claim.false) c.keep_claim.ensures.others
-          c.keep_claim.ensures.untouched stays.held);
+      stays = record {
+        left = kept.left;
+        held = claim_keeps front first kept.left done c.args.last mid (all_changes (txns_in c.args.txns.now)) older newer entry order there kept.held new c.keep_claim.ensures.device can here c.keep_claim.ensures.others
+            (c.keep_claim.ensures.untouched front kept.left kept.held.holds).0 (c.keep_claim.ensures.same kept.left);
+        bad = kept.bad;
+      };
     }

@@ -1,4 +1,4 @@
-use Rattle.std.proofs.Common.{◌≡◌, ◌<◌, ◌+◌, ◌-◌, ◌++◌, [], ℕ, List, Result, Ok, Err, Some, refl, sym, ap, subst, ◌∙◌, length, map, reverse, take, drop, arith}
+use Rattle.std.proofs.Common.{◌≡◌, ◌<◌, ◌+◌, ◌-◌, ◌++◌, [], ℕ, List, Result, Ok, Some, refl, sym, ap, subst, ◌∙◌, length, map, reverse, take, drop, arith}
 use Rattle.std.specs.Prelude.{slice_get}
 use Rattle.std.proofs.lemmas.List.{at_drop_all, length-map, length-reverse}
 use Rattle.shore_types.specs.Layout.{HasPage}
@@ -14,11 +14,12 @@ use Rattle.shore_txn.specs.UndoEntries.{claims_on}
 use Rattle.shore_txn.specs.declared.txn.Txn.{Txn}
 use Rattle.shore_txn.specs.declared.undo.UndoEntry.{UndoEntry}
 use Rattle.shore_restart.specs.declared.errors.RestartError.{RestartError}
-use Rattle.shore_restart.specs.GivenBack.{Keeps, StandsSoFar, StandsWith}
+use Rattle.shore_restart.specs.GivenBack.{CannotKeepOn, Keeps, StandsSoFar, StandsWith}
+use Rattle.shore_restart.specs.Held.{IsHeldSoFar, StaysHeldSoFar}
 use Rattle.shore_restart.proofs.ClaimsAll.{all_flat, all_so_far, flat, flat_here, keeps_none, none_so_far, some_at}
 use Rattle.shore_restart.proofs.ClaimsKept.{keeps_then, so_far_left}
 use Rattle.shore_restart.proofs.DoubtsBack.{from_here}
-use Rattle.shore_restart.proofs.HeldPages.{held_behind, held_err, held_here, held_then}
+use Rattle.shore_restart.proofs.AnyClaims.{held_unclaimed, so_far_fault, so_far_here, so_far_then}
 use Rattle.shore_restart.proofs.PageErrors.{err_with, passed_cause}
 use Rattle.shore_restart.proofs.RedoAll.{same_again}
 use Rattle.shore_restart.proofs.claims.keep_claims.Goals as goal
@@ -59,7 +60,9 @@ loop-index-init g c =
       so_far = λ front disk s stands low.
           subst (λ (xs : List Txn). Keeps (Ok tt) front heap heap s (λ left later. StandsSoFar (kept_in c.args.txns.now) (λ p. claims_on p (flat xs)) stands.slots front left heap later)) (sym none)
           (keeps_none front disk heap s (so_far_left front disk heap s stands.store stands.shows.holds) (none_so_far (kept_in c.args.txns.now) front disk heap s stands));
-      any_pages = λ front disk held. held_here front disk heap c.args.last c.args.last (omega arith) held;
+      any_pages = λ front first disk done held.
+          subst (λ (xs : List Txn). StaysHeldSoFar (kept_in c.args.txns.now) (λ p. claims_on p (flat xs)) front first disk heap heap done c.args.last) (sym none)
+          (so_far_here front first done c.args.last (kept_in c.args.txns.now) (λ p. []) disk heap (held_unclaimed front first done c.args.last (kept_in c.args.txns.now) disk heap held));
       volume = record { geometry = refl; honest = refl; size = refl; frames = refl };
       faults = refl;
     }
@@ -94,9 +97,13 @@ loop-index-preserved g c =
           let kept = c.in_ok-keep_changes.ensures.keeps (flat (take j rs)) (flat (drop (j + 1) rs)) stands.slots front first.stands.0 first.later at.order st (omega (arith, durable, low)) in
           subst (λ (es : List UndoEntry). Keeps (Ok tt) front c.args.heap.now new s (λ left later. StandsSoFar (kept_in c.args.txns.now) (λ p. claims_on p es) stands.slots front left new later)) (sym at.from)
           (keeps_then so.volume.geometry first kept);
-      any_pages = λ front disk held.
-          let s = so.any_pages front disk held in
-          held_then front disk c.args.heap.now mid c.args.last c.args.last s new c.args.last so.volume.geometry (c.in_ok-keep_changes.ensures.any_pages front s.left s.held).stays;
+      any_pages = λ front first disk done held.
+          let s = so.any_pages front first disk done held in
+          let st = subst (λ (k : ℕ). IsHeldSoFar (kept_in c.args.txns.now) (λ p. claims_on p (flat (drop k rs))) front first s.left mid done c.args.last) place s.held in
+          let kept = c.in_ok-keep_changes.ensures.any_pages (flat (take j rs)) (flat (drop (j + 1) rs)) front first s.left done at.order st in
+          subst (λ (es : List UndoEntry). StaysHeldSoFar (kept_in c.args.txns.now) (λ p. claims_on p es) front first disk c.args.heap.now new done c.args.last) (sym at.from)
+          (so_far_then front first done c.args.last (kept_in c.args.txns.now) (λ p. claims_on p (flat (drop c.loop-index.index rs))) disk c.args.heap.now mid so.volume.geometry s (λ p. claims_on p (c.changes.result.now ++ flat (drop (j + 1) rs))) new
+          kept.stays);
       volume = same_again c.args.heap.now mid new so.volume c.keep_changes.ensures.volume;
       faults = c.in_ok-keep_changes.ensures.cause.unreported (λ e. cc) ∙ so.faults;
     }
@@ -168,11 +175,36 @@ returns-in_err-keep_changes-clause-bad_number g c =
     (among_map (λ (x : UndoEntry). x.lsn) e (all_changes ts) (among_all ts (flat (take j rs)) c.changes.result.now (flat (drop (j + 1) rs)) e at.order among)))
 
 pub returns-in_err-keep_changes-clause-any_pages : goal.returns-in_err-keep_changes-clause-any_pages
-returns-in_err-keep_changes-clause-any_pages g c front disk held =
+returns-in_err-keep_changes-clause-any_pages g c front first disk done held =
+    let ts = txns_in c.args.txns.now in
+    let rs = reverse ts in
     let so = c.loop-index.invariant in
-    let s = so.any_pages front disk held in
-    held_err front disk c.args.heap.now c.keep_changes.new.heap c.args.last c.args.last c.args.last c.from_residual.result c.in_err-keep_changes.field-0.0 c.from_residual.ensures.1
-    (held_behind front disk c.args.heap.now c.loop-index.heap c.args.last c.args.last s (Err c.in_err-keep_changes.field-0.0) c.keep_changes.new.heap c.args.last so.volume.geometry (c.in_err-keep_changes.ensures.any_pages front s.left s.held))
+    let j = c.loop-index.index - 1 in
+    let within : j < length ts = omega (arith, so.within, c.loop-index-test.true) in
+    let place : c.loop-index.index ≡ j + 1 = omega (arith, c.loop-index-test.true) in
+    let at = placed ts j c.changes.result.now within c.changes.ensures in
+    let mid = c.loop-index.heap in
+    let s = so.any_pages front first disk done held in
+    let st = subst (λ (k : ℕ). IsHeldSoFar (kept_in c.args.txns.now) (λ p. claims_on p (flat (drop k rs))) front first s.left mid done c.args.last) place s.held in
+    let kept = c.in_err-keep_changes.ensures.any_pages (flat (take j rs)) (flat (drop (j + 1) rs)) front first s.left done at.order st in
+    if_err c.from_residual.result c.from_residual.ensures.1 (λ error same f is.
+    so_far_fault front first done c.args.last (kept_in c.args.txns.now) (λ p. claims_on p (flat (drop c.loop-index.index rs))) disk c.args.heap.now mid so.volume.geometry s f (kept.named f (sym same ∙ is)))
+
+pub returns-in_err-keep_changes-clause-any_bad : goal.returns-in_err-keep_changes-clause-any_bad
+returns-in_err-keep_changes-clause-any_bad g c front first disk done held =
+    let ts = txns_in c.args.txns.now in
+    let rs = reverse ts in
+    let so = c.loop-index.invariant in
+    let j = c.loop-index.index - 1 in
+    let within : j < length ts = omega (arith, so.within, c.loop-index-test.true) in
+    let place : c.loop-index.index ≡ j + 1 = omega (arith, c.loop-index-test.true) in
+    let at = placed ts j c.changes.result.now within c.changes.ensures in
+    let mid = c.loop-index.heap in
+    let s = so.any_pages front first disk done held in
+    let st = subst (λ (k : ℕ). IsHeldSoFar (kept_in c.args.txns.now) (λ p. claims_on p (flat (drop k rs))) front first s.left mid done c.args.last) place s.held in
+    if_err c.from_residual.result c.from_residual.ensures.1 (λ error same n is.
+    subst (λ (k : Geometry). CannotKeepOn k c.args.txns.now first done n) so.volume.geometry
+    (c.in_err-keep_changes.ensures.any_bad (flat (take j rs)) (flat (drop (j + 1) rs)) front first s.left done at.order st n (sym same ∙ is)))
 
 pub returns-in_err-keep_changes-clause-others : goal.returns-in_err-keep_changes-clause-others
 returns-in_err-keep_changes-clause-others g c =
@@ -203,6 +235,3 @@ returns-clause-keeps g c front disk s stands low =
       volume = kept.volume;
       stands = (kept.stands.0, all_so_far (kept_in c.args.txns.now) stands.slots front kept.stands.0 c.loop-index.heap kept.later st);
     }
-
-pub returns-clause-any_pages : goal.returns-clause-any_pages
-returns-clause-any_pages g c front disk held = record { named = tt; stays = c.loop-index.invariant.any_pages front disk held }

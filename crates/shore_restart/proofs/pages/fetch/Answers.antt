@@ -39,17 +39,17 @@ returns-in-Err-clause-cause g c =
     page_cause (Unit {0}) c.in-Err.fault c.page_error.result (faults_of c.args.heap.now) (faults_of c.fetch.new.self) c.page_error.ensures c.in-Err.ensures.reads.cause
 
 pub returns-in-Ok-clause-any_pages : goal.returns-in-Ok-clause-any_pages
-returns-in-Ok-clause-any_pages g c front disk held low = record {
+returns-in-Ok-clause-any_pages g c front first disk done held low = record {
   named = tt;
-  stays = inr (fetch_leaves front disk c.args.heap.now c.fetch.new.self c.args.ends.now.last c.args.ends.now.durable held low (c.in-Ok.ensures.reads.wrote front disk held.holds) (c.fetch.ensures.reads.dirty front disk held.holds));
+  stays = inr (fetch_leaves front first disk c.args.heap.now c.fetch.new.self done c.args.page c.args.ends.now.last c.args.ends.now.durable held low (c.in-Ok.ensures.reads.wrote front disk held.holds) (c.fetch.ensures.framed front disk held.holds) c.fetch.ensures.reads.geometry);
 }
 
 pub returns-in-Err-clause-any_pages : goal.returns-in-Err-clause-any_pages
-returns-in-Err-clause-any_pages g c front disk held low = record {
-  named = λ f is. fetch_names front disk c.args.heap.now c.args.page c.args.ends.now c.in-Err.fault f c.page_error.result c.requires held
+returns-in-Err-clause-any_pages g c front first disk done held low = record {
+  named = λ f is. fetch_names front first disk c.args.heap.now done c.args.page c.args.ends.now c.in-Err.fault f c.page_error.result c.requires held
       (c.in-Err.ensures.refused front disk held.holds) c.page_error.ensures is;
   stays = elim (c.in-Err.ensures.reads.wrote front disk held.holds) [
     | inl device ↦ inl (ap Err (device_error c.in-Err.fault c.page_error.result c.page_error.ensures device))
-    | inr wrote ↦ inr (fetch_leaves front disk c.args.heap.now c.fetch.new.self c.args.ends.now.last c.args.ends.now.durable held low wrote (c.fetch.ensures.reads.dirty front disk held.holds))
+    | inr wrote ↦ inr (fetch_leaves front first disk c.args.heap.now c.fetch.new.self done c.args.page c.args.ends.now.last c.args.ends.now.durable held low wrote (c.fetch.ensures.framed front disk held.holds) c.fetch.ensures.reads.geometry)
   ];
 }

@@ -1,7 +1,8 @@
-use Rattle.std.proofs.Common.{length, Ok, ◌≡◌, ◌+◌, ◌<◌, ◌≤◌, ℕ, List, Err, inl, inr, refl, sym, ap, subst, ◌∙◌, arith}
+use Rattle.std.proofs.Common.{length, Ok, ◌≡◌, ◌+◌, ◌<◌, ◌≤◌, ℕ, List, [], Err, inl, inr, refl, sym, ap, subst, ◌∙◌, arith}
 use Rattle.std.specs.Prelude.{IsPermutation, IsSome, filter}
 use Rattle.shore_dwrite.proofs.Moves.{if_err}
 use Rattle.shore_types.specs.Layout.{HasPage}
+use Rattle.shore_types.specs.declared.faults.Fault.{Fault}
 use Rattle.shore_types.specs.declared.faults.Fault.TheVariants as fault
 use Rattle.shore_types.specs.declared.layout.TheConstants.{LONGEST_FRAME}
 use Rattle.shore_locks.specs.Tables.{Table}
@@ -16,9 +17,10 @@ use Rattle.shore_log.specs.Settled.{records_of_log}
 use Rattle.shore_heap.specs.Heaps.{geometry_of}
 use Rattle.shore_analysis.specs.Meant.{IsFirstUnmeant}
 use Rattle.shore_analysis.specs.Tables.{AreTables, IsNext}
-use Rattle.shore_restart.specs.declared.errors.RestartError.TheVariants.{Memory, NoRoom}
+use Rattle.shore_analysis.proofs.InTurn.{in_order_undone}
+use Rattle.shore_restart.specs.declared.errors.RestartError.TheVariants.{Memory, NoRoom, Page}
 use Rattle.shore_restart.specs.Doubts.{AreEntriesOfDoubts, CannotHold, reserved_told}
-use Rattle.shore_restart.specs.GivenBack.{HasDoubts, HasLocksBack}
+use Rattle.shore_restart.specs.GivenBack.{CannotKeepOn, HasDoubts, HasLocksBack}
 use Rattle.shore_restart.specs.Room.{HasSums, IsRoomBehind}
 use Rattle.shore_restart.specs.Errors.{DoesNotFit}
 use Rattle.shore_restart.specs.Held.{IsHeld, IsPageFault, WorksHeld}
@@ -27,13 +29,14 @@ use Rattle.shore_restart.specs.Standing.{log_history, stream_bytes_of}
 use Rattle.shore_restart.specs.Turns.{IsBadRecord, LacksRoom}
 use Rattle.shore_restart.proofs.BadNumbers.{cannot_within, one_number, unmeant_within}
 use Rattle.shore_restart.proofs.Found.{all_durable, come_undone, found_covered, keep_done, keep_stops, passes_stop, redo_stopped}
-use Rattle.shore_restart.proofs.HeldPages.{held_behind, held_then}
+use Rattle.shore_restart.specs.AnyPages.{AllFindRoom, FindsNoRoomToUndo, IsBadOn, IsFirstMisfit}
+use Rattle.shore_restart.proofs.HeldPages.{fault_back, held_behind, held_then}
 use Rattle.shore_restart.proofs.PageErrors.{err_with}
 use Rattle.shore_restart.proofs.Passing.{back_by, by_record, by_room, come_found, meant_by, misfit_behind, misfit_turn, no_page, no_record, passes_none, passes_refused, reserved_by, taken_by}
 use Rattle.shore_restart.proofs.QuietLogs.{quiet_beside, quiet_err, quiet_of, quiet_other}
 use Rattle.shore_restart.proofs.RoomLeft.{are_entries, as_many_doubts, none_left, none_reserved, room_reserved}
 use Rattle.shore_restart.proofs.Undoing.{come_stop}
-use Rattle.shore_restart.proofs.Unkept.{are_told, entry_there, entry_within}
+use Rattle.shore_restart.proofs.Unkept.{are_told, entry_there, entry_within, still_told, unkept_on}
 use Rattle.shore_restart.proofs.passes.run_passes.Goals as goal
 
 -- ---- analysis
@@ -63,7 +66,7 @@ returns-in_err-tables-clause-meant g c =
     ])
 
 pub returns-in_err-tables-clause-any_pages : goal.returns-in_err-tables-clause-any_pages
-returns-in_err-tables-clause-any_pages g c front disk held = no_page (IsPageFault (geometry_of c.args.heap.now) disk (length (records_of_log c.args.log.now))) c.from_residual.result c.in_err-tables.field-0.0 c.from_residual.ensures.1 (by_record c.in_err-tables.field-0.0 c.in_err-tables.ensures.refused).0.0
+returns-in_err-tables-clause-any_pages g c front first disk held = no_page (IsPageFault (geometry_of c.args.heap.now) disk (length (records_of_log c.args.log.now))) c.from_residual.result c.in_err-tables.field-0.0 c.from_residual.ensures.1 (by_record c.in_err-tables.field-0.0 c.in_err-tables.ensures.refused).0.0
 
 pub returns-in_err-tables-clause-log_device : goal.returns-in_err-tables-clause-log_device
 returns-in_err-tables-clause-log_device g c log_front quiet =
@@ -94,7 +97,7 @@ pub returns-in_err-doubts-clause-meant : goal.returns-in_err-doubts-clause-meant
 returns-in_err-doubts-clause-meant g c = if_err c.from_residual-in_err-doubts.result c.from_residual-in_err-doubts.ensures.1 (λ error same some. absurd (some same))
 
 pub returns-in_err-doubts-clause-any_pages : goal.returns-in_err-doubts-clause-any_pages
-returns-in_err-doubts-clause-any_pages g c front disk held = no_page (IsPageFault (geometry_of c.args.heap.now) disk (length (records_of_log c.args.log.now))) c.from_residual-in_err-doubts.result Memory c.from_residual-in_err-doubts.ensures.1 (λ f is. cc)
+returns-in_err-doubts-clause-any_pages g c front first disk held = no_page (IsPageFault (geometry_of c.args.heap.now) disk (length (records_of_log c.args.log.now))) c.from_residual-in_err-doubts.result Memory c.from_residual-in_err-doubts.ensures.1 (λ f is. cc)
 
 pub returns-in_err-doubts-clause-log_device : goal.returns-in_err-doubts-clause-log_device
 returns-in_err-doubts-clause-log_device g c log_front quiet =
@@ -156,7 +159,7 @@ pub returns-in_err-locks-clause-device : goal.returns-in_err-locks-clause-device
 returns-in_err-locks-clause-device g c log_front front disk s found = no_page (λ f. f ≡ fault.Device) c.from_residual-in_err-locks.result c.in_err-locks.field-0.0 c.from_residual-in_err-locks.ensures.1 (by_record c.in_err-locks.field-0.0 c.in_err-locks.ensures.refused).0.0
 
 pub returns-in_err-locks-clause-any_pages : goal.returns-in_err-locks-clause-any_pages
-returns-in_err-locks-clause-any_pages g c front disk held = no_page (IsPageFault (geometry_of c.args.heap.now) disk (length (records_of_log c.args.log.now))) c.from_residual-in_err-locks.result c.in_err-locks.field-0.0 c.from_residual-in_err-locks.ensures.1 (by_record c.in_err-locks.field-0.0 c.in_err-locks.ensures.refused).0.0
+returns-in_err-locks-clause-any_pages g c front first disk held = no_page (IsPageFault (geometry_of c.args.heap.now) disk (length (records_of_log c.args.log.now))) c.from_residual-in_err-locks.result c.in_err-locks.field-0.0 c.from_residual-in_err-locks.ensures.1 (by_record c.in_err-locks.field-0.0 c.in_err-locks.ensures.refused).0.0
 
 pub returns-in_err-locks-clause-log_device : goal.returns-in_err-locks-clause-log_device
 returns-in_err-locks-clause-log_device g c log_front quiet =
@@ -191,7 +194,7 @@ returns-in_default-clause-no_room g c is =
     (none_left c.records-3.result.now c.stream_bytes.result c.room_of.result c.in_default.is c.room_of.ensures.none))
 
 pub returns-in_default-clause-any_pages : goal.returns-in_default-clause-any_pages
-returns-in_default-clause-any_pages g c front disk held f page = absurd cc
+returns-in_default-clause-any_pages g c front first disk held f page = absurd cc
 
 pub returns-in_default-clause-log_device : goal.returns-in_default-clause-log_device
 returns-in_default-clause-log_device g c log_front quiet = quiet_beside log_front c.args.log.now c.args.log.now _ (λ f is. cc) quiet (omega arith)
@@ -249,7 +252,7 @@ pub returns-in_err-txns-clause-device : goal.returns-in_err-txns-clause-device
 returns-in_err-txns-clause-device g c log_front front disk s found = no_page (λ f. f ≡ fault.Device) c.from_residual-in_err-txns.result c.in_err-txns.field-0.0 c.from_residual-in_err-txns.ensures.1 (by_room c.in_err-txns.field-0.0 c.in_err-txns.ensures.refused).0.0
 
 pub returns-in_err-txns-clause-any_pages : goal.returns-in_err-txns-clause-any_pages
-returns-in_err-txns-clause-any_pages g c front disk held = no_page (IsPageFault (geometry_of c.args.heap.now) disk (length (records_of_log c.args.log.now))) c.from_residual-in_err-txns.result c.in_err-txns.field-0.0 c.from_residual-in_err-txns.ensures.1 (by_room c.in_err-txns.field-0.0 c.in_err-txns.ensures.refused).0.0
+returns-in_err-txns-clause-any_pages g c front first disk held = no_page (IsPageFault (geometry_of c.args.heap.now) disk (length (records_of_log c.args.log.now))) c.from_residual-in_err-txns.result c.in_err-txns.field-0.0 c.from_residual-in_err-txns.ensures.1 (by_room c.in_err-txns.field-0.0 c.in_err-txns.ensures.refused).0.0
 
 pub returns-in_err-txns-clause-log_device : goal.returns-in_err-txns-clause-log_device
 returns-in_err-txns-clause-log_device g c log_front quiet =
@@ -292,16 +295,6 @@ returns-in_err-redone-clause-device g c log_front front disk s found =
     let log_is = found.at_rest.records ∙ sym c.records-6.ensures.log in
     if_err c.from_residual-in_err-redone.result c.from_residual-in_err-redone.ensures.1 (λ error same f is.
     c.in_err-redone.ensures.device front disk s found.stands log_is found.durable found.redone f (sym same ∙ is))
-
-pub returns-in_err-redone-clause-any_pages : goal.returns-in_err-redone-clause-any_pages
-returns-in_err-redone-clause-any_pages g c front disk held =
-    let log = c.args.log.now in
-    let heap = c.args.heap.now in
-    let n = length (records_of_log log) in
-    let found : length c.records-6.result.now ≡ n = ap length c.records-6.ensures.log in
-    let w = subst (λ (last : ℕ). WorksHeld {A = ℕ} (Err c.in_err-redone.field-0.0) front disk heap c.redo.new.heap last last) found
-    (c.in_err-redone.ensures.any_pages front disk (subst (λ (last : ℕ). IsHeld front disk heap last) (sym found) held)) in
-    if_err c.from_residual-in_err-redone.result c.from_residual-in_err-redone.ensures.1 (λ error same f page. w.named f (sym same ∙ page))
 
 pub returns-in_err-redone-clause-log_device : goal.returns-in_err-redone-clause-log_device
 returns-in_err-redone-clause-log_device g c log_front quiet =
@@ -369,20 +362,6 @@ returns-in_err-undo_all-clause-device g c log_front front disk s found =
     if_err c.from_residual-in_err-undo_all.result c.from_residual-in_err-undo_all.ensures.1 (λ error same f is.
     c.in_err-undo_all.ensures.device log_front front come.1.disk come.0 come.1.ready f (sym same ∙ is))
 
-pub returns-in_err-undo_all-clause-any_pages : goal.returns-in_err-undo_all-clause-any_pages
-returns-in_err-undo_all-clause-any_pages g c front disk held =
-    let log = c.args.log.now in
-    let heap = c.args.heap.now in
-    let n = length (records_of_log log) in
-    let found : length c.records-6.result.now ≡ n = ap length c.records-6.ensures.log in
-    let w = subst (λ (last : ℕ). WorksHeld (Ok c.in_ok-redone.redone) front disk heap c.redo.new.heap last last) found
-    (c.in_ok-redone.ensures.any_pages front disk (subst (λ (last : ℕ). IsHeld front disk heap last) (sym found) held)) in
-    let s = w.stays in
-    let later = length (records_of_log c.undo_all.new.log) in
-    let undone = held_behind front disk heap c.redo.new.heap n n s {A = Unit {0}} (Err c.in_err-undo_all.field-0.0) c.undo_all.new.heap later c.redo.ensures.volume.geometry
-    (c.in_err-undo_all.ensures.any_pages front s.left s.held) in
-    if_err c.from_residual-in_err-undo_all.result c.from_residual-in_err-undo_all.ensures.1 (λ error same f page. undone.named f (sym same ∙ page))
-
 pub returns-in_err-undo_all-clause-log_device : goal.returns-in_err-undo_all-clause-log_device
 returns-in_err-undo_all-clause-log_device g c log_front quiet =
     let log = c.args.log.now in
@@ -438,7 +417,7 @@ returns-in_err-keep_claims-clause-bad g c log_front front disk s found =
     if_err c.from_residual-in_err-keep_claims.result c.from_residual-in_err-keep_claims.ensures.1 (λ error same n is. inr (
       (taken_by (geometry_of c.args.heap.now) c.geometry-2.result.now (records_of_log c.args.log.now) c.records-2.result.now c.geometry-2.ensures c.records-2.ensures.log (meant_by (geometry_of c.args.heap.now) c.geometry.result.now (records_of_log c.args.log.now) c.records.result.now c.geometry.ensures c.records.ensures.log c.in_ok-tables.ensures.meant) c.in_ok-locks.ensures.hold),
       misfit_behind front undone.0.1.disk c.undo_all.new.heap undone.0.0 undone.0.1.ready.stands undone.0.1.ready.redone rs (records_of_log c.undo_all.new.log) c.set_room.new.self n
-          undone.0.1.ready.at_rest.records c.in_ok-undo_all.ensures.undone back c.in_ok-undo_all.ensures.undo.meant c.in_ok-undo_all.ensures.none
+          undone.0.1.ready.at_rest.records c.in_ok-undo_all.ensures.undone (c.in_ok-undo_all.ensures.fits log_front front come.1.disk come.0 come.1.ready) back c.in_ok-undo_all.ensures.undo.meant c.in_ok-undo_all.ensures.done
           (c.in_err-keep_claims.ensures.bad front undone.0.1.disk undone.0.0 undone.0.1.ready.stands low.1 n (sym same ∙ is)),
     ))
 
@@ -460,24 +439,6 @@ returns-in_err-keep_claims-clause-device g c log_front front disk s found =
 pub returns-in_err-keep_claims-clause-no_room : goal.returns-in_err-keep_claims-clause-no_room
 returns-in_err-keep_claims-clause-no_room g c =
     if_err c.from_residual-in_err-keep_claims.result c.from_residual-in_err-keep_claims.ensures.1 (λ error same is. absurd (c.in_err-keep_claims.ensures.others.0 (sym same ∙ is)))
-
-pub returns-in_err-keep_claims-clause-any_pages : goal.returns-in_err-keep_claims-clause-any_pages
-returns-in_err-keep_claims-clause-any_pages g c front disk held =
-    let log = c.args.log.now in
-    let heap = c.args.heap.now in
-    let n = length (records_of_log log) in
-    let found : length c.records-6.result.now ≡ n = ap length c.records-6.ensures.log in
-    let w = subst (λ (last : ℕ). WorksHeld (Ok c.in_ok-redone.redone) front disk heap c.redo.new.heap last last) found
-    (c.in_ok-redone.ensures.any_pages front disk (subst (λ (last : ℕ). IsHeld front disk heap last) (sym found) held)) in
-    let s = w.stays in
-    let later = length (records_of_log c.undo_all.new.log) in
-    let undone = held_then front disk heap c.redo.new.heap n n s c.undo_all.new.heap later c.redo.ensures.volume.geometry (c.in_ok-undo_all.ensures.any_pages front s.left s.held).stays in
-    let last : length c.records-7.result.now ≡ later = ap length c.records-7.ensures.log in
-    let keeps = subst (λ (last : ℕ). WorksHeld {A = Unit {0}} (Err c.in_err-keep_claims.field-0.0) front undone.left c.undo_all.new.heap c.keep_claims.new.heap last last) last
-    (c.in_err-keep_claims.ensures.any_pages front undone.left (subst (λ (last : ℕ). IsHeld front undone.left c.undo_all.new.heap last) (sym last) undone.held)) in
-    let whole = held_behind front disk heap c.undo_all.new.heap n later undone {A = Unit {0}} (Err c.in_err-keep_claims.field-0.0) c.keep_claims.new.heap later
-    (c.undo_all.ensures.volume.geometry ∙ c.redo.ensures.volume.geometry) keeps in
-    if_err c.from_residual-in_err-keep_claims.result c.from_residual-in_err-keep_claims.ensures.1 (λ error same f page. whole.named f (sym same ∙ page))
 
 pub returns-in_err-keep_claims-clause-log_device : goal.returns-in_err-keep_claims-clause-log_device
 returns-in_err-keep_claims-clause-log_device g c log_front quiet =
@@ -566,3 +527,130 @@ returns-clause-log_device g c log_front quiet =
     let log = c.args.log.now in
     let on = quiet_of log_front log c.undo_all.new.log c.in_ok-undo_all.field-0 (c.in_ok-undo_all.ensures.log_device log_front quiet) in
     quiet_beside log_front log c.undo_all.new.log _ tt on.0 on.1
+
+-- ---- whatever the pages hold
+
+pub returns-in_err-redone-clause-any_pages : goal.returns-in_err-redone-clause-any_pages
+returns-in_err-redone-clause-any_pages g c front first disk held =
+    let log = records_of_log c.args.log.now in
+    let heap = c.args.heap.now in
+    let found : c.records-6.result.now ≡ log = c.records-6.ensures.log in
+    let before = subst (λ (rs : List LogRecord). IsHeld front first disk heap [] (length rs)) (sym found) held in
+    let w = subst (λ (rs : List LogRecord). WorksHeld {A = ℕ} (Err c.in_err-redone.field-0.0) front first disk heap c.redo.new.heap (length rs) rs (length rs)) found (c.in_err-redone.ensures.any_pages front first disk before) in
+    if_err c.from_residual-in_err-redone.result c.from_residual-in_err-redone.ensures.1 (λ error same f page. w.named f (sym same ∙ page))
+
+pub returns-in_err-undo_all-clause-any_pages : goal.returns-in_err-undo_all-clause-any_pages
+returns-in_err-undo_all-clause-any_pages g c front first disk held =
+    let log = records_of_log c.args.log.now in
+    let heap = c.args.heap.now in
+    let found : c.records-6.result.now ≡ log = c.records-6.ensures.log in
+    let before = subst (λ (rs : List LogRecord). IsHeld front first disk heap [] (length rs)) (sym found) held in
+    let w = subst (λ (rs : List LogRecord). WorksHeld (Ok c.in_ok-redone.redone) front first disk heap c.redo.new.heap (length rs) rs (length rs)) found (c.in_ok-redone.ensures.any_pages front first disk before) in
+    let s = w.stays in
+    let later = records_of_log c.undo_all.new.log in
+    let undone = held_behind front first disk heap c.redo.new.heap (length log) log (length log) s {A = Unit {0}} (Err c.in_err-undo_all.field-0.0) c.undo_all.new.heap later (length later) c.redo.ensures.volume.geometry
+    (c.in_err-undo_all.ensures.any_pages front first s.left s.held) in
+    if_err c.from_residual-in_err-undo_all.result c.from_residual-in_err-undo_all.ensures.1 (λ error same f page. undone.named f (sym same ∙ page))
+
+pub returns-in_err-keep_claims-clause-any_pages : goal.returns-in_err-keep_claims-clause-any_pages
+returns-in_err-keep_claims-clause-any_pages g c front first disk held =
+    let log = records_of_log c.args.log.now in
+    let heap = c.args.heap.now in
+    let found : c.records-6.result.now ≡ log = c.records-6.ensures.log in
+    let before = subst (λ (rs : List LogRecord). IsHeld front first disk heap [] (length rs)) (sym found) held in
+    let w = subst (λ (rs : List LogRecord). WorksHeld (Ok c.in_ok-redone.redone) front first disk heap c.redo.new.heap (length rs) rs (length rs)) found (c.in_ok-redone.ensures.any_pages front first disk before) in
+    let s = w.stays in
+    let later = records_of_log c.undo_all.new.log in
+    let undone = held_then front first disk heap c.redo.new.heap (length log) log (length log) s c.undo_all.new.heap later (length later) c.redo.ensures.volume.geometry (c.in_ok-undo_all.ensures.any_pages front first s.left s.held).stays in
+    let last : c.records-7.result.now ≡ later = c.records-7.ensures.log in
+    let kept = subst (λ (rs : List LogRecord). IsHeld front first undone.left c.undo_all.new.heap later (length rs)) (sym last) undone.held in
+    let named = subst (λ (rs : List LogRecord). (f : Fault) → c.in_err-keep_claims.field-0.0 ≡ Page f → IsPageFault (geometry_of c.undo_all.new.heap) undone.left (length rs) f) last (c.in_err-keep_claims.ensures.any_pages front first undone.left later kept) in
+    if_err c.from_residual-in_err-keep_claims.result c.from_residual-in_err-keep_claims.ensures.1 (λ error same f page.
+    fault_back (geometry_of heap) (geometry_of c.undo_all.new.heap) disk undone.left (length log) (length later) f (c.undo_all.ensures.volume.geometry ∙ c.redo.ensures.volume.geometry) undone.bad (named f (sym same ∙ page)))
+
+-- ---- .. and which record is named
+
+pub returns-in_err-tables-clause-any_bad : goal.returns-in_err-tables-clause-any_bad
+returns-in_err-tables-clause-any_bad g c front first disk held =
+    if_err c.from_residual.result c.from_residual.ensures.1 (λ error same n is. elim c.in_err-tables.ensures.refused [
+      | inl memory ↦ let clash = sym memory ∙ sym same ∙ is in absurd cc
+      | inr bad ↦ inl (inl (subst (λ (g : Geometry). IsFirstUnmeant g (records_of_log c.args.log.now) n) c.geometry.ensures
+          (subst (λ (rs : List LogRecord). IsFirstUnmeant c.geometry.result.now rs n) c.records.ensures.log
+          (subst (λ (k : ℕ). IsFirstUnmeant c.geometry.result.now c.records.result.now k) (one_number bad.0 n (sym bad.1 ∙ sym same ∙ is)) bad.2))))
+    ])
+
+pub returns-in_err-doubts-clause-any_bad : goal.returns-in_err-doubts-clause-any_bad
+returns-in_err-doubts-clause-any_bad g c front first disk held =
+    no_record (IsBadOn (geometry_of c.args.heap.now) first (records_of_log c.args.log.now)) c.from_residual-in_err-doubts.result Memory c.from_residual-in_err-doubts.ensures.1 (λ n is. cc)
+
+pub returns-in_err-locks-clause-any_bad : goal.returns-in_err-locks-clause-any_bad
+returns-in_err-locks-clause-any_bad g c front first disk held =
+    if_err c.from_residual-in_err-locks.result c.from_residual-in_err-locks.ensures.1 (λ error same n is. elim c.in_err-locks.ensures.refused [
+      | inl memory ↦ let clash = sym memory ∙ sym same ∙ is in absurd cc
+      | inr bad ↦ inl (inr (
+        (meant_by (geometry_of c.args.heap.now) c.geometry.result.now (records_of_log c.args.log.now) c.records.result.now c.geometry.ensures c.records.ensures.log c.in_ok-tables.ensures.meant),
+        subst (λ (g : Geometry). CannotHold g.max_locks (records_of_log c.args.log.now) n) c.geometry-2.ensures
+            (subst (λ (rs : List LogRecord). CannotHold c.geometry-2.result.now.max_locks rs n) c.records-2.ensures.log
+            (subst (λ (k : ℕ). CannotHold c.geometry-2.result.now.max_locks c.records-2.result.now k) (one_number bad.0 n (sym bad.1 ∙ sym same ∙ is)) bad.2)),
+      ))
+    ])
+
+pub returns-in_default-clause-any_bad : goal.returns-in_default-clause-any_bad
+returns-in_default-clause-any_bad g c front first disk held n is = absurd cc
+
+pub returns-in_err-txns-clause-any_bad : goal.returns-in_err-txns-clause-any_bad
+returns-in_err-txns-clause-any_bad g c front first disk held =
+    no_record (IsBadOn (geometry_of c.args.heap.now) first (records_of_log c.args.log.now)) c.from_residual-in_err-txns.result c.in_err-txns.field-0.0 c.from_residual-in_err-txns.ensures.1 (by_room c.in_err-txns.field-0.0 c.in_err-txns.ensures.refused).1
+
+pub returns-in_err-redone-clause-any_bad : goal.returns-in_err-redone-clause-any_bad
+returns-in_err-redone-clause-any_bad g c front first disk held =
+    let log = records_of_log c.args.log.now in
+    let heap = c.args.heap.now in
+    let found : c.records-6.result.now ≡ log = c.records-6.ensures.log in
+    let before = subst (λ (rs : List LogRecord). IsHeld front first disk heap [] (length rs)) (sym found) held in
+    if_err c.from_residual-in_err-redone.result c.from_residual-in_err-redone.ensures.1 (λ error same n is. inr (
+      (taken_by (geometry_of c.args.heap.now) c.geometry-2.result.now (records_of_log c.args.log.now) c.records-2.result.now c.geometry-2.ensures c.records-2.ensures.log (meant_by (geometry_of c.args.heap.now) c.geometry.result.now (records_of_log c.args.log.now) c.records.result.now c.geometry.ensures c.records.ensures.log c.in_ok-tables.ensures.meant) c.in_ok-locks.ensures.hold),
+      inl (subst (λ (rs : List LogRecord). IsFirstMisfit (geometry_of heap) first rs n) found (c.in_err-redone.ensures.any_bad front first disk before n (sym same ∙ is))),
+    ))
+
+pub returns-in_err-undo_all-clause-any_bad : goal.returns-in_err-undo_all-clause-any_bad
+returns-in_err-undo_all-clause-any_bad g c front first disk held =
+    let log = records_of_log c.args.log.now in
+    let heap = c.args.heap.now in
+    let found : c.records-6.result.now ≡ log = c.records-6.ensures.log in
+    let before = subst (λ (rs : List LogRecord). IsHeld front first disk heap [] (length rs)) (sym found) held in
+    let w = subst (λ (rs : List LogRecord). WorksHeld (Ok c.in_ok-redone.redone) front first disk heap c.redo.new.heap (length rs) rs (length rs)) found (c.in_ok-redone.ensures.any_pages front first disk before) in
+    let s = w.stays in
+    let here = subst (λ (g : Geometry). AllFindRoom g first log) (sym c.redo.ensures.volume.geometry) (subst (AllFindRoom (geometry_of heap) first) found (c.in_ok-redone.ensures.any_fit front first disk before)) in
+    if_err c.from_residual-in_err-undo_all.result c.from_residual-in_err-undo_all.ensures.1 (λ error same n is.
+    let bad = c.in_err-undo_all.ensures.any_bad front first s.left s.held here n (sym same ∙ is) in
+    inr ((taken_by (geometry_of c.args.heap.now) c.geometry-2.result.now (records_of_log c.args.log.now) c.records-2.result.now c.geometry-2.ensures c.records-2.ensures.log (meant_by (geometry_of c.args.heap.now) c.geometry.result.now (records_of_log c.args.log.now) c.records.result.now c.geometry.ensures c.records.ensures.log c.in_ok-tables.ensures.meant) c.in_ok-locks.ensures.hold), inr (bad.0, bad.1, subst (λ (g : Geometry). AllFindRoom g first bad.0) c.redo.ensures.volume.geometry bad.2, inl (subst (λ (g : Geometry). FindsNoRoomToUndo g first bad.0 n) c.redo.ensures.volume.geometry bad.3))))
+
+pub returns-in_err-keep_claims-clause-any_bad : goal.returns-in_err-keep_claims-clause-any_bad
+returns-in_err-keep_claims-clause-any_bad g c front first disk held =
+    let log = records_of_log c.args.log.now in
+    let heap = c.args.heap.now in
+    let found : c.records-6.result.now ≡ log = c.records-6.ensures.log in
+    let before = subst (λ (rs : List LogRecord). IsHeld front first disk heap [] (length rs)) (sym found) held in
+    let w = subst (λ (rs : List LogRecord). WorksHeld (Ok c.in_ok-redone.redone) front first disk heap c.redo.new.heap (length rs) rs (length rs)) found (c.in_ok-redone.ensures.any_pages front first disk before) in
+    let s = w.stays in
+    let here = subst (λ (g : Geometry). AllFindRoom g first log) (sym c.redo.ensures.volume.geometry) (subst (AllFindRoom (geometry_of heap) first) found (c.in_ok-redone.ensures.any_fit front first disk before)) in
+    let fit = subst (λ (g : Geometry). AllFindRoom g first (records_of_log c.undo_all.new.log)) c.redo.ensures.volume.geometry (c.in_ok-undo_all.ensures.any_fit front first s.left s.held here) in
+    let later = records_of_log c.undo_all.new.log in
+    let undone = held_then front first disk heap c.redo.new.heap (length log) log (length log) s c.undo_all.new.heap later (length later) c.redo.ensures.volume.geometry (c.in_ok-undo_all.ensures.any_pages front first s.left s.held).stays in
+    let last : c.records-7.result.now ≡ later = c.records-7.ensures.log in
+    let kept = subst (λ (rs : List LogRecord). IsHeld front first undone.left c.undo_all.new.heap later (length rs)) (sym last) undone.held in
+    let back = back_by log c.records-4.result.now c.in_ok-txns.txns c.set_room.new.self c.records-4.ensures.log c.set_room.ensures.txns c.in_ok-txns.ensures.back in
+    let turns = c.in_ok-undo_all.ensures.undone in
+    let told = still_told log turns.0 later c.set_room.new.self (in_order_undone log turns.0 later turns.1) (are_told log c.set_room.new.self back) in
+    if_err c.from_residual-in_err-keep_claims.result c.from_residual-in_err-keep_claims.ensures.1 (λ error same n is.
+    let lacks = subst (λ (g : Geometry). CannotKeepOn g c.set_room.new.self first later n) (c.undo_all.ensures.volume.geometry ∙ c.redo.ensures.volume.geometry) (c.in_err-keep_claims.ensures.any_bad front first undone.left later kept n (sym same ∙ is)) in
+    inr ((taken_by (geometry_of c.args.heap.now) c.geometry-2.result.now (records_of_log c.args.log.now) c.records-2.result.now c.geometry-2.ensures c.records-2.ensures.log (meant_by (geometry_of c.args.heap.now) c.geometry.result.now (records_of_log c.args.log.now) c.records.result.now c.geometry.ensures c.records.ensures.log c.in_ok-tables.ensures.meant) c.in_ok-locks.ensures.hold), inr (later, turns, fit, inr (c.in_ok-undo_all.ensures.done, unkept_on later c.set_room.new.self told (geometry_of heap) first n lacks))))
+
+pub returns-clause-any_fit : goal.returns-clause-any_fit
+returns-clause-any_fit g c front first disk held =
+    let log = records_of_log c.args.log.now in
+    let heap = c.args.heap.now in
+    let found : c.records-6.result.now ≡ log = c.records-6.ensures.log in
+    let before = subst (λ (rs : List LogRecord). IsHeld front first disk heap [] (length rs)) (sym found) held in
+    subst (λ (rs : List LogRecord). AllFindRoom (geometry_of heap) first rs) found (c.in_ok-redone.ensures.any_fit front first disk before)

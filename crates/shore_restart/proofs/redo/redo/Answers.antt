@@ -1,4 +1,4 @@
-use Rattle.std.proofs.Common.{◌≡◌, ◌<◌, ◌+◌, ℕ, List, Bool, Some, Result, refl, sym, ap, subst, ◌∙◌, length, arith}
+use Rattle.std.proofs.Common.{◌≡◌, ◌<◌, ◌+◌, ◌++◌, ◌∷◌, [], ℕ, List, Bool, Some, Result, refl, sym, ap, subst, ◌∙◌, length, length-take, take, arith}
 use Rattle.std.specs.Prelude.{if◌then◌else◌, slice_get}
 use Rattle.std.proofs.lemmas.List.{at_drop_all}
 use Rattle.std.proofs.lemmas.Option.{slice_get_read}
@@ -12,6 +12,11 @@ use Rattle.shore_restart.specs.Errors.{DoesNotFit}
 use Rattle.shore_restart.specs.Missing.{missing_behind, missing_on}
 use Rattle.shore_restart.specs.Standing.{RedoesAll}
 use Rattle.shore_restart.proofs.PageErrors.{err_with, passed_cause}
+use Rattle.std.proofs.Math.Seq.{take-length}
+use Rattle.laws_lives.proofs.Redo.{take_next}
+use Rattle.shore_restart.specs.AnyPages.{FindsNoRoom}
+use Rattle.shore_restart.specs.Held.{StaysHeld}
+use Rattle.shore_restart.proofs.AnyRedo.{FirstFindRoom, find_all, find_next, find_none, first_misfit}
 use Rattle.shore_restart.proofs.RedoAll.{Now, all_done, all_durable, long, next_is, none_so_far, now_next, one_more, same_again, stopped}
 use Rattle.shore_restart.proofs.Redoing.{meant_there}
 use Rattle.shore_restart.proofs.HeldPages.{held_behind, held_err, held_here, held_then}
@@ -22,7 +27,8 @@ pub loop-index-init : goal.loop-index-init
 loop-index-init g c = record {
   so_far = λ front disk s stands log durable none h log_front covered. none_so_far h log_front front disk c.args.heap.now s stands none covered;
   now = λ front disk s stands log durable none. record { later = s; log_is = refl; durable = refl; redone = none; left = disk; stands = stands; counted = omega arith };
-  any_pages = λ front disk held. held_here front disk c.args.heap.now (length c.args.log.now) (length c.args.log.now) (omega arith) held;
+  any_pages = λ front first disk held. held_here front first disk c.args.heap.now [] (length c.args.log.now) (length c.args.log.now) (omega arith) held;
+  any_fit = λ front first disk held. find_none (geometry_of c.args.heap.now) first c.args.log.now;
   volume = record { geometry = refl; honest = refl; size = refl; frames = refl };
   faults = refl;
   most = omega arith;
@@ -78,10 +84,16 @@ loop-index-preserved g c =
                 let counted : 0 + c.loop-index.redone ≡ c.if-branch.redone = omega (arith, same) in
                 subst (Now front c.redo_record.new.heap s (i + 1)) (ap (λ (b : Bool). (if b then 1 else 0) + c.loop-index.redone) w.if-branch.false ∙ counted) one
           ];
-      any_pages = λ front disk held.
-          let s = invariant.any_pages front disk held in
-          held_then front disk c.args.heap.now c.loop-index.heap (length rs) (length rs) s c.redo_record.new.heap (length rs) invariant.volume.geometry
-          (c.in_ok-redo_record.ensures.any_pages front s.left s.held (omega (arith, within))).stays;
+      any_pages = λ front first disk held.
+          let s = invariant.any_pages front first disk held in
+          let done = length-take i rs in
+          subst (λ (l : List LogRecord). StaysHeld front first disk c.args.heap.now c.redo_record.new.heap (length rs) l (length rs)) (sym (take_next rs i r at))
+          (held_then front first disk c.args.heap.now c.loop-index.heap (length rs) (take i rs) (length rs) s c.redo_record.new.heap (take i rs ++ r ∷ []) (length rs) invariant.volume.geometry
+          (c.in_ok-redo_record.ensures.any_pages front first s.left (take i rs) s.held (omega (arith, done, within)) (omega (arith, within))).stays);
+      any_fit = λ front first disk held.
+          let s = invariant.any_pages front first disk held in
+          find_next (geometry_of c.args.heap.now) first rs i r at (invariant.any_fit front first disk held)
+          (subst (λ (g : Geometry). FindsNoRoom g first (take i rs) (i + 1) r.payload → ⊥) invariant.volume.geometry (c.in_ok-redo_record.ensures.any_fit front first s.left (take i rs) s.held));
       volume = same_again c.args.heap.now c.loop-index.heap c.redo_record.new.heap invariant.volume c.redo_record.ensures.volume;
       faults = c.in_ok-redo_record.ensures.cause.unreported (λ e. cc) ∙ invariant.faults;
       most = elim c.if-branch.branch [
@@ -155,18 +167,46 @@ pub returns-clause-volume : goal.returns-clause-volume
 returns-clause-volume g c = c.loop-index.invariant.volume
 
 pub returns-in_err-redo_record-clause-any_pages : goal.returns-in_err-redo_record-clause-any_pages
-returns-in_err-redo_record-clause-any_pages g c front disk held =
+returns-in_err-redo_record-clause-any_pages g c front first disk held =
     let rs = c.args.log.now in
     let i = c.loop-index.index in
     let within : i < length rs = omega arith in
+    let r = c.index-log-index.result in
     let invariant = c.loop-index.invariant in
-    let s = invariant.any_pages front disk held in
-    held_err front disk c.args.heap.now c.redo_record.new.heap (length rs) (length rs) (length rs) c.from_residual.result c.in_err-redo_record.field-0.0 c.from_residual.ensures.1
-    (held_behind front disk c.args.heap.now c.loop-index.heap (length rs) (length rs) s _ c.redo_record.new.heap (length rs) invariant.volume.geometry
-    (c.in_err-redo_record.ensures.any_pages front s.left s.held (omega (arith, within))))
+    let s = invariant.any_pages front first disk held in
+    let done = length-take i rs in
+    held_err front first disk c.args.heap.now c.redo_record.new.heap (length rs) (take i rs ++ r ∷ []) (length rs) rs (length rs) c.from_residual.result c.in_err-redo_record.field-0.0 c.from_residual.ensures.1
+    (held_behind front first disk c.args.heap.now c.loop-index.heap (length rs) (take i rs) (length rs) s _ c.redo_record.new.heap (take i rs ++ r ∷ []) (length rs) invariant.volume.geometry
+    (c.in_err-redo_record.ensures.any_pages front first s.left (take i rs) s.held (omega (arith, done, within)) (omega (arith, within))))
 
 pub returns-clause-any_pages : goal.returns-clause-any_pages
-returns-clause-any_pages g c front disk held = record { named = tt; stays = c.loop-index.invariant.any_pages front disk held }
+returns-clause-any_pages g c front first disk held =
+    let rs = c.args.log.now in
+    let all : c.loop-index.index ≡ length rs = omega arith in
+    let whole : take c.loop-index.index rs ≡ rs = ap (λ (n : ℕ). take n rs) all ∙ take-length rs in
+    record {
+      named = tt;
+      stays = subst (λ (l : List LogRecord). StaysHeld front first disk c.args.heap.now c.loop-index.heap (length rs) l (length rs)) whole (c.loop-index.invariant.any_pages front first disk held);
+    }
+
+pub returns-in_err-redo_record-clause-any_bad : goal.returns-in_err-redo_record-clause-any_bad
+returns-in_err-redo_record-clause-any_bad g c front first disk held =
+    let rs = c.args.log.now in
+    let i = c.loop-index.index in
+    let within : i < length rs = omega arith in
+    let r = c.index-log-index.result in
+    let at : slice_get rs i ≡ Some r = slice_get_read rs (length rs) i r refl within c.index-log-index.is in
+    let invariant = c.loop-index.invariant in
+    let s = invariant.any_pages front first disk held in
+    if_err c.from_residual.result c.from_residual.ensures.1 (λ error same n is.
+    first_misfit (geometry_of c.args.heap.now) first rs i n r at (invariant.any_fit front first disk held) (c.in_err-redo_record.ensures.bad_number n (sym same ∙ is))
+    (subst (λ (g : Geometry). FindsNoRoom g first (take i rs) n r.payload) invariant.volume.geometry (c.in_err-redo_record.ensures.any_bad front first s.left (take i rs) s.held n (sym same ∙ is))))
+
+pub returns-clause-any_fit : goal.returns-clause-any_fit
+returns-clause-any_fit g c front first disk held =
+    let rs = c.args.log.now in
+    let all : c.loop-index.index ≡ length rs = omega arith in
+    find_all (geometry_of c.args.heap.now) first rs (subst (FirstFindRoom (geometry_of c.args.heap.now) first rs) all (c.loop-index.invariant.any_fit front first disk held))
 
 pub returns-in_err-redo_record-clause-bad_number : goal.returns-in_err-redo_record-clause-bad_number
 returns-in_err-redo_record-clause-bad_number g c =

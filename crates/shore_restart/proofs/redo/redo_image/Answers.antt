@@ -1,4 +1,4 @@
-use Rattle.std.proofs.Common.{◌≡◌, ◌≤◌, ◌<◌, ℕ, List, Bool, Some, Result, inl, inr, true, false, sym, ap, subst, ◌∙◌, arith}
+use Rattle.std.proofs.Common.{◌≡◌, ◌≤◌, ◌<◌, ◌+◌, ◌++◌, ◌∷◌, [], length, ℕ, List, Bool, Some, Result, inl, inr, true, false, sym, ap, subst, ◌∙◌, arith}
 use Rattle.std.specs.Prelude.{IsSomeAnd, slice_get}
 use Rattle.std.proofs.lemmas.Bool.{le-ltb, lt-ltb}
 use Rattle.shore_page.specs.Room.{Fits}
@@ -10,10 +10,12 @@ use Rattle.shore_types.specs.declared.layout.Geometry.{Geometry}
 use Rattle.laws_lives.specs.Pages.{LoggedPages}
 use Rattle.shore_restart.specs.declared.errors.RestartError.{RestartError}
 use Rattle.shore_restart.specs.declared.errors.RestartError.TheVariants.{BadRecord}
+use Rattle.shore_types.specs.Images.{image_len}
+use Rattle.shore_restart.specs.AnyPages.{FindsNoRoom}
 use Rattle.shore_restart.specs.Standing.{Redoes}
 use Rattle.shore_restart.proofs.PageErrors.{err_with}
 use Rattle.shore_restart.proofs.Redoing.{does_not_fit, number_is, passed_behind, redo_stops, redone_behind, stood}
-use Rattle.shore_restart.proofs.HeldPages.{fetch_done, fetch_seen, held_changed, held_err}
+use Rattle.shore_restart.proofs.HeldPages.{fetch_done, fetch_seen, finds_none_there, finds_some_there, held_changed, held_err, held_passed, some_then}
 use Rattle.shore_restart.proofs.redo.redo_image.Goals as goal
 
 pub returns-in_err-fetch-clause-redone : goal.returns-in_err-fetch-clause-redone
@@ -82,27 +84,89 @@ returns-clause-redone g c front disk s r stands next says number last durable =
     redone_behind front old mid s r f c.put.new.heap true is.0 next m.0 m.1 c.put.ensures.history (c.put.ensures.volume.geometry ∙ c.fetch.ensures.volume.geometry)
 
 pub returns-in_err-fetch-clause-any_pages : goal.returns-in_err-fetch-clause-any_pages
-returns-in_err-fetch-clause-any_pages g c front disk held low =
-    let f = c.in_err-fetch.ensures.any_pages front disk held (omega arith) in
-    held_err front disk c.args.heap.now c.fetch.new.heap c.args.last c.args.last c.args.last c.from_residual.result c.in_err-fetch.field-0.0 c.from_residual.ensures.1
-    (fetch_seen front disk c.args.heap.now c.fetch.new.heap c.args.last _ f)
+returns-in_err-fetch-clause-any_pages g c front first disk done r held says next low =
+    let f = c.in_err-fetch.ensures.any_pages front first disk done held (omega arith) in
+    held_err front first disk c.args.heap.now c.fetch.new.heap c.args.last done c.args.last (done ++ r ∷ []) c.args.last c.from_residual.result c.in_err-fetch.field-0.0 c.from_residual.ensures.1
+    (fetch_seen front first disk c.args.heap.now c.fetch.new.heap done c.args.last _ f)
 
 pub returns-then-found-number-clause-any_pages : goal.returns-then-found-number-clause-any_pages
-returns-then-found-number-clause-any_pages g c front disk held low = record {
-  named = tt;
-  stays = fetch_done front disk c.args.heap.now c.fetch.new.heap c.args.last c.args.last _ (c.in_ok-fetch.ensures.any_pages front disk held (omega arith));
-}
-
-pub returns-then-not-fits-clause-any_pages : goal.returns-then-not-fits-clause-any_pages
-returns-then-not-fits-clause-any_pages g c front disk held low = record { named = λ f is. absurd cc; stays = tt }
-
-pub returns-clause-any_pages : goal.returns-clause-any_pages
-returns-clause-any_pages g c front disk held low =
-    let s = fetch_done front disk c.args.heap.now c.fetch.new.heap c.args.last c.args.last _ (c.in_ok-fetch.ensures.any_pages front disk held (omega arith)) in
+returns-then-found-number-clause-any_pages g c front first disk done r held says next low =
+    let mid = c.fetch.new.heap in
+    let s = fetch_done front first disk c.args.heap.now mid done c.args.last c.args.last _ (c.in_ok-fetch.ensures.any_pages front first disk done held (omega arith)) in
+    let found_is : c.found.inside.0 ≡ c.number-found.result = c.found.view_is in
+    let number_is_this : c.number.inside.0 ≡ c.args.number = c.number.view_is in
+    let ge : c.args.number ≤ c.number-found.result = omega (arith, c.if-found-number.true, found_is, number_is_this) in
+    let passed = some_then (λ f. c.number-found.result ≡ f.page.number) (λ f. length done + 1 ≤ f.page.number) (frame_of mid c.args.id.page) (λ f at. omega (arith, ge, at, next)) c.number-found.ensures in
     record {
       named = tt;
-      stays = held_changed front disk c.args.heap.now c.fetch.new.heap c.args.last c.args.last s c.put.new.heap c.args.last (omega arith) (c.put.ensures.any_pages front s.left c.args.last s.held low);
+      stays = held_changed front first disk c.args.heap.now mid c.args.last done c.args.last s mid (done ++ r ∷ []) c.args.last (omega arith)
+          (held_passed front first s.left mid done c.args.last r c.args.id c.args.image.now s.held says passed);
     }
+
+pub returns-then-not-fits-clause-any_pages : goal.returns-then-not-fits-clause-any_pages
+returns-then-not-fits-clause-any_pages g c front first disk done r held says next low = record { named = λ f is. absurd cc; stays = tt }
+
+pub returns-clause-any_pages : goal.returns-clause-any_pages
+returns-clause-any_pages g c front first disk done r held says next low =
+    let mid = c.fetch.new.heap in
+    let s = fetch_done front first disk c.args.heap.now mid done c.args.last c.args.last _ (c.in_ok-fetch.ensures.any_pages front first disk done held (omega arith)) in
+    let found_is : c.found.inside.0 ≡ c.number-found.result = c.found.view_is in
+    let number_is_this : c.number.inside.0 ≡ c.args.number = c.number.view_is in
+    let lt : c.number-found.result < c.args.number = omega (arith, c.if-found-number.false, found_is, number_is_this) in
+    let below = some_then (λ f. c.number-found.result ≡ f.page.number) (λ f. f.page.number < c.args.number) (frame_of mid c.args.id.page) (λ f at. omega (arith, lt, at)) c.number-found.ensures in
+    record {
+      named = tt;
+      stays = held_changed front first disk c.args.heap.now mid c.args.last done c.args.last s c.put.new.heap (done ++ r ∷ []) c.args.last (omega arith)
+          (c.put.ensures.any_pages front first s.left done c.args.last r s.held says next below low);
+    }
+
+-- ---- the record that is named
+
+pub returns-in_err-fetch-clause-any_bad : goal.returns-in_err-fetch-clause-any_bad
+returns-in_err-fetch-clause-any_bad g c front first disk done payload held says =
+    if_err c.from_residual.result c.from_residual.ensures.1 (λ error same n is. absurd (c.in_err-fetch.ensures.others.1 n (sym same ∙ is)))
+
+pub returns-then-not-fits-clause-any_bad : goal.returns-then-not-fits-clause-any_bad
+returns-then-not-fits-clause-any_bad g c front first disk done payload held says n is =
+    let mid = c.fetch.new.heap in
+    let s = fetch_done front first disk c.args.heap.now mid done c.args.last c.args.last _ (c.in_ok-fetch.ensures.any_pages front first disk done held (omega arith)) in
+    let there = subst (λ (g : Geometry). HasPage g c.args.id.page) (sym c.fetch.ensures.volume.geometry) c.requires in
+    let found_is : c.found.inside.0 ≡ c.number-found.result = c.found.view_is in
+    let number_is_this : c.number.inside.0 ≡ c.args.number = c.number.view_is in
+    let lt : c.number-found.result < c.args.number = omega (arith, c.if-found-number.false, found_is, number_is_this) in
+    let same : c.args.number ≡ n = cc in
+    let below = some_then (λ f. c.number-found.result ≡ f.page.number) (λ f. f.page.number < n) (frame_of mid c.args.id.page) (λ f at. omega (arith, lt, at, same)) c.number-found.ensures in
+    subst (λ (g : Geometry). FindsNoRoom g first done n payload) c.fetch.ensures.volume.geometry
+    (finds_none_there front first s.left mid done c.args.last n payload c.args.id c.args.image.now s.held there says below
+    (λ fits.
+    let yes = c.fits.ensures.framed.1 (subst (λ (b : ℕ). IsSomeAnd (frame_of mid c.args.id.page) (λ f. Fits f.page.slots c.args.id.slot b)) (sym c.bytes_in.ensures) fits) in
+    let no : c.fits.result ≡ false = c.if-not-fits.true in
+    let clash : true ≡ false = sym yes ∙ no in
+    cc))
+
+pub returns-then-found-number-clause-any_fit : goal.returns-then-found-number-clause-any_fit
+returns-then-found-number-clause-any_fit g c front first disk done payload held says =
+    let mid = c.fetch.new.heap in
+    let s = fetch_done front first disk c.args.heap.now mid done c.args.last c.args.last _ (c.in_ok-fetch.ensures.any_pages front first disk done held (omega arith)) in
+    let there = subst (λ (g : Geometry). HasPage g c.args.id.page) (sym c.fetch.ensures.volume.geometry) c.requires in
+    let found_is : c.found.inside.0 ≡ c.number-found.result = c.found.view_is in
+    let number_is_this : c.number.inside.0 ≡ c.args.number = c.number.view_is in
+    let ge : c.args.number ≤ c.number-found.result = omega (arith, c.if-found-number.true, found_is, number_is_this) in
+    let fits = some_then (λ f. c.number-found.result ≡ f.page.number) (λ f. f.page.number < c.args.number → Fits f.page.slots c.args.id.slot (image_len c.args.image.now)) (frame_of mid c.args.id.page)
+    (λ f at low. absurd (omega (arith, ge, at, low))) c.number-found.ensures in
+    subst (λ (g : Geometry). FindsNoRoom g first done c.args.number payload → ⊥) c.fetch.ensures.volume.geometry
+    (finds_some_there front first s.left mid done c.args.last c.args.number payload c.args.id c.args.image.now s.held there says fits)
+
+pub returns-clause-any_fit : goal.returns-clause-any_fit
+returns-clause-any_fit g c front first disk done payload held says =
+    let mid = c.fetch.new.heap in
+    let s = fetch_done front first disk c.args.heap.now mid done c.args.last c.args.last _ (c.in_ok-fetch.ensures.any_pages front first disk done held (omega arith)) in
+    let there = subst (λ (g : Geometry). HasPage g c.args.id.page) (sym c.fetch.ensures.volume.geometry) c.requires in
+    let room = subst (λ (b : ℕ). IsSomeAnd (frame_of mid c.args.id.page) (λ f. Fits f.page.slots c.args.id.slot b)) c.bytes_in.ensures (c.fits.ensures.framed.0 c.if-not-fits.false) in
+    let fits = some_then (λ f. Fits f.page.slots c.args.id.slot (image_len c.args.image.now)) (λ f. f.page.number < c.args.number → Fits f.page.slots c.args.id.slot (image_len c.args.image.now))
+    (frame_of mid c.args.id.page) (λ f at low. at) room in
+    subst (λ (g : Geometry). FindsNoRoom g first done c.args.number payload → ⊥) c.fetch.ensures.volume.geometry
+    (finds_some_there front first s.left mid done c.args.last c.args.number payload c.args.id c.args.image.now s.held there says fits)
 
 pub returns-in_err-fetch-clause-bad_number : goal.returns-in_err-fetch-clause-bad_number
 returns-in_err-fetch-clause-bad_number g c =

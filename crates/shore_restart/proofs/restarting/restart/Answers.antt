@@ -38,7 +38,7 @@ returns-in-Ok-clause-restarts g c log_front front disk s found =
       opens = λ lawful.
           let was : Lawful (records_of_log c.args.log.now) = subst Lawful found.at_rest.records lawful in
           let ready = m.done.1 in
-          let quiet = c.in-Ok.ensures.done was in
+          let quiet = c.in-Ok.ensures.done in
           let same = ready.at_rest.records in (
             ready.redone,
             subst HasNoLosers (sym same) quiet,
@@ -46,7 +46,7 @@ returns-in-Ok-clause-restarts g c log_front front disk s found =
             ready.at_rest,
             m.done.0,
             opens_in c.over.result c.run_passes.new.heap c.in-Ok.field-0.control front m.done.0 (records_of_log c.args.log.now) (records_of_log new) (stream_bytes_of new) m.later
-                (geometry_of c.args.heap) c.in-Ok.ensures.taken.0 same was c.in-Ok.ensures.undone quiet ready.redone c.in-Ok.ensures.none ready.stands (geometry_of c.args.heap).max_locks
+                (geometry_of c.args.heap) c.in-Ok.ensures.taken.0 same was c.in-Ok.ensures.undone quiet ready.redone ready.stands (geometry_of c.args.heap).max_locks
                 c.in-Ok.ensures.doubts c.in-Ok.ensures.next c.in-Ok.ensures.room tables.0.txns tables.1.txns
                 (λ st log durable running control shows. c.over.ensures.state front m.done.0 st
                 (ap length (log ∙ same ∙ sym c.records.ensures.log)) (durable ∙ ready.at_rest.durable ∙ sym c.durable.ensures ∙ sym c.number-durable.ensures) running control shows)
@@ -60,7 +60,13 @@ returns-in-Err-clause-restarts g c log_front front disk s found =
     record { ready = m.later; moments = m.moments; path = m.path; opens = λ lawful. tt }
 
 pub returns-in-Err-clause-any_pages : goal.returns-in-Err-clause-any_pages
-returns-in-Err-clause-any_pages g c front disk held = c.in-Err.ensures.any_pages front disk held
+returns-in-Err-clause-any_pages g c front first disk held = c.in-Err.ensures.any_pages front first disk held
+
+pub returns-in-Err-clause-any_bad : goal.returns-in-Err-clause-any_bad
+returns-in-Err-clause-any_bad g c front first disk held = c.in-Err.ensures.any_bad front first disk held
+
+pub returns-in-Ok-clause-any_fit : goal.returns-in-Ok-clause-any_fit
+returns-in-Ok-clause-any_fit g c front first disk held = c.in-Ok.ensures.any_fit front first disk held
 
 pub returns-in-Ok-clause-log_device : goal.returns-in-Ok-clause-log_device
 returns-in-Ok-clause-log_device g c log_front quiet =

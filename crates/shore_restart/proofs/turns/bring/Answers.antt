@@ -85,7 +85,7 @@ returns-clause-device g c log_front front disk s ready =
     (c.fetch.ensures.device front came.disk f.later came.ready.stands (omega (arith, records, found)))
 
 pub returns-then-not-needs_force-clause-any_pages : goal.returns-then-not-needs_force-clause-any_pages
-returns-then-not-needs_force-clause-any_pages g c front disk held =
+returns-then-not-needs_force-clause-any_pages g c front first disk done held =
     let log = c.args.log.now in
     let heap = c.args.heap.now in
     let n = length (records_of_log log) in
@@ -93,22 +93,22 @@ returns-then-not-needs_force-clause-any_pages g c front disk held =
     let found : length c.records.result.now ≡ n = ap length c.records.ensures.log in
     let short = stable_short log in
     let told = c.number-durable.ensures ∙ c.durable.ensures in
-    let fetched = subst (λ (last : ℕ). FetchesHeld c.fetch-fetched.result front disk heap mid last c.number-durable.result) found
-    (c.fetch-fetched.ensures.any_pages front disk (subst (λ (last : ℕ). IsHeld front disk heap last) (sym found) held) (omega (arith, found, short, told))) in
+    let fetched = subst (λ (last : ℕ). FetchesHeld c.fetch-fetched.result front first disk heap mid done last c.number-durable.result) found
+    (c.fetch-fetched.ensures.any_pages front first disk done (subst (λ (last : ℕ). IsHeld front first disk heap done last) (sym found) held) (omega (arith, found, short, told))) in
     let no : c.needs_force.result ≡ false = c.if-not-needs_force.true in
-    fetch_alone front disk heap mid n c.number-durable.result c.fetch-fetched.result (λ force. let yes : c.needs_force.result ≡ true = c.needs_force.ensures.1 force in let clash : true ≡ false = sym yes ∙ no in cc) fetched
+    fetch_alone front first disk heap mid done n c.number-durable.result c.fetch-fetched.result (λ force. let yes : c.needs_force.result ≡ true = c.needs_force.ensures.1 force in let clash : true ≡ false = sym yes ∙ no in cc) fetched
 
 pub returns-in_err-force-clause-any_pages : goal.returns-in_err-force-clause-any_pages
-returns-in_err-force-clause-any_pages g c front disk held =
+returns-in_err-force-clause-any_pages g c front first disk done held =
     let n = length (records_of_log c.args.log.now) in
-    held_other front disk c.args.heap.now c.fetch-fetched.new.heap n n c.from_residual.result c.in_err-force.field-0.0 c.from_residual.ensures.1 (λ f page. elim c.in_err-force.ensures.refused [
+    held_other front first disk c.args.heap.now c.fetch-fetched.new.heap n done n c.from_residual.result c.in_err-force.field-0.0 c.from_residual.ensures.1 (λ f page. elim c.in_err-force.ensures.refused [
       | inl memory ↦ let clash = sym memory ∙ page in cc
       | inr (inl device) ↦ let clash = sym device ∙ page in cc
       | inr (inr full) ↦ let clash = sym full ∙ page in cc
     ])
 
 pub returns-clause-any_pages : goal.returns-clause-any_pages
-returns-clause-any_pages g c front disk held =
+returns-clause-any_pages g c front first disk done held =
     let log = c.args.log.now in
     let heap = c.args.heap.now in
     let n = length (records_of_log log) in
@@ -116,13 +116,14 @@ returns-clause-any_pages g c front disk held =
     let found : length c.records.result.now ≡ n = ap length c.records.ensures.log in
     let short = stable_short log in
     let told = c.number-durable.ensures ∙ c.durable.ensures in
-    let fetched = subst (λ (last : ℕ). FetchesHeld c.fetch-fetched.result front disk heap mid last c.number-durable.result) found
-    (c.fetch-fetched.ensures.any_pages front disk (subst (λ (last : ℕ). IsHeld front disk heap last) (sym found) held) (omega (arith, found, short, told))) in
+    let fetched = subst (λ (last : ℕ). FetchesHeld c.fetch-fetched.result front first disk heap mid done last c.number-durable.result) found
+    (c.fetch-fetched.ensures.any_pages front first disk done (subst (λ (last : ℕ). IsHeld front first disk heap done last) (sym found) held) (omega (arith, found, short, told))) in
     let needed = c.needs_force.ensures.0 c.if-not-needs_force.false in
-    let s = fetch_forced front disk heap mid n c.number-durable.result c.fetch-fetched.result needed.0 needed.1 fetched in
-    let again = subst (λ (last : ℕ). FetchesHeld c.fetch.result front s.left mid c.fetch.new.heap last last) found
-    (c.fetch.ensures.any_pages front s.left (subst (λ (last : ℕ). IsHeld front s.left mid last) (sym found) s.held) (omega arith)) in
-    held_behind front disk heap mid n n s c.fetch.result c.fetch.new.heap n c.fetch-fetched.ensures.volume.geometry (fetch_seen front s.left mid c.fetch.new.heap n c.fetch.result again)
+    let s = fetch_forced front first disk heap mid done n c.number-durable.result c.fetch-fetched.result needed.0 needed.1 fetched in
+    let again = subst (λ (last : ℕ). FetchesHeld c.fetch.result front first s.left mid c.fetch.new.heap done last last) found
+    (c.fetch.ensures.any_pages front first s.left done (subst (λ (last : ℕ). IsHeld front first s.left mid done last) (sym found) s.held) (omega arith)) in
+    held_behind front first disk heap mid n done n s c.fetch.result c.fetch.new.heap done n c.fetch-fetched.ensures.volume.geometry
+    (fetch_seen front first s.left mid c.fetch.new.heap done n c.fetch.result again)
 
 pub returns-then-not-needs_force-clause-log_device : goal.returns-then-not-needs_force-clause-log_device
 returns-then-not-needs_force-clause-log_device g c log_front quiet =

@@ -1,4 +1,4 @@
-use Rattle.std.proofs.Common.{arith, ◌≡◌, ◌+◌, ℕ, List, Result, Ok, Err, false, true, refl, sym, ap, subst, ◌∙◌, length}
+use Rattle.std.proofs.Common.{arith, ◌≡◌, ◌++◌, ◌∷◌, [], ◌<◌, ◌+◌, ℕ, List, Result, Ok, Err, false, true, refl, sym, ap, subst, ◌∙◌, length}
 use Rattle.std.specs.Prelude.{IsSomeAnd}
 use Rattle.shore_types.specs.Layout.{HasPage}
 use Rattle.shore_types.specs.declared.layout.Geometry.{Geometry}
@@ -15,8 +15,9 @@ use Rattle.shore_restart.specs.declared.errors.RestartError.TheVariants.{BadReco
 use Rattle.shore_restart.specs.Standing.{Appends}
 use Rattle.shore_restart.proofs.Coming.{came_of}
 use Rattle.shore_restart.proofs.PageErrors.{err_with}
-use Rattle.shore_restart.proofs.Turning.{append_stops, appended, fits_whole}
-use Rattle.shore_restart.proofs.HeldPages.{held_changed, held_err, held_other, held_up}
+use Rattle.shore_restart.proofs.Turning.{append_stops, appended, fits_left, fits_whole}
+use Rattle.shore_restart.proofs.HeldPages.{finds_none_there, finds_some_there, frame_below, held_changed, held_err, held_other, held_up, some_then}
+use Rattle.shore_restart.specs.AnyPages.{FindsNoRoom}
 use Rattle.shore_restart.proofs.QuietLogs.{quiet_beside, quiet_err, quiet_of, quiet_then}
 use Rattle.shore_restart.proofs.turns.put_back.Goals as goal
 
@@ -47,6 +48,16 @@ returns-then-not-fits-clause-bad g c log_front front disk s ready n is =
           cc,
     )
 
+pub returns-clause-fits : goal.returns-clause-fits
+returns-clause-fits g c log_front front disk s ready =
+    let mid = c.bring.new.heap in
+    let id = c.args.id in
+    let m = c.in_ok-bring.ensures.moves log_front front disk s ready in
+    let there = subst (λ (g : Geometry). HasPage g id.page) (sym c.bring.ensures.volume.geometry) c.requires.there in
+    let framed = subst (λ (b : ℕ). IsSomeAnd (frame_of mid id.page) (λ f. Fits f.page.slots id.slot b)) c.bytes_in.ensures (c.fits.ensures.framed.0 c.if-not-fits.false) in
+    subst (λ (log : List LogRecord). Fits (slots_left log id.page) id.slot (image_len c.args.image.now)) m.done.0.0
+    (fits_left front m.done.1 mid m.later id (image_len c.args.image.now) m.done.2.stands m.done.2.redone there framed)
+
 pub returns-in_err-reserve-clause-appends : goal.returns-in_err-reserve-clause-appends
 returns-in_err-reserve-clause-appends g c log_front front disk s r ready says number =
     let e = c.in_err-reserve.field-0.0 in
@@ -68,29 +79,77 @@ returns-in_err-bring-clause-device g c log_front front disk s ready =
     if_err c.from_residual.result c.from_residual.ensures.1 (λ error same f is. c.in_err-bring.ensures.device log_front front disk s ready f (sym same ∙ is))
 
 pub returns-in_err-bring-clause-any_pages : goal.returns-in_err-bring-clause-any_pages
-returns-in_err-bring-clause-any_pages g c front disk held number =
-    let n = length (records_of_log c.args.log.now) in
-    held_err front disk c.args.heap.now c.bring.new.heap n n (n + 1) c.from_residual.result c.in_err-bring.field-0.0 c.from_residual.ensures.1 (c.in_err-bring.ensures.any_pages front disk held)
+returns-in_err-bring-clause-any_pages g c front first disk r held says number =
+    let log = records_of_log c.args.log.now in
+    let n = length log in
+    held_err front first disk c.args.heap.now c.bring.new.heap n log n (log ++ r ∷ []) (n + 1) c.from_residual.result c.in_err-bring.field-0.0 c.from_residual.ensures.1
+    (c.in_err-bring.ensures.any_pages front first disk log held)
 
 pub returns-then-not-fits-clause-any_pages : goal.returns-then-not-fits-clause-any_pages
-returns-then-not-fits-clause-any_pages g c front disk held number = record { named = λ f is. absurd cc; stays = tt }
+returns-then-not-fits-clause-any_pages g c front first disk r held says number = record { named = λ f is. absurd cc; stays = tt }
 
 pub returns-in_err-reserve-clause-any_pages : goal.returns-in_err-reserve-clause-any_pages
-returns-in_err-reserve-clause-any_pages g c front disk held number =
-    let n = length (records_of_log c.args.log.now) in
-    held_other front disk c.args.heap.now c.bring.new.heap n (n + 1) c.from_residual-in_err-reserve.result c.in_err-reserve.field-0.0 c.from_residual-in_err-reserve.ensures.1
+returns-in_err-reserve-clause-any_pages g c front first disk r held says number =
+    let log = records_of_log c.args.log.now in
+    let n = length log in
+    held_other front first disk c.args.heap.now c.bring.new.heap n (log ++ r ∷ []) (n + 1) c.from_residual-in_err-reserve.result c.in_err-reserve.field-0.0 c.from_residual-in_err-reserve.ensures.1
     (λ f page. let clash = sym c.in_err-reserve.ensures.refused ∙ page in cc)
 
 pub returns-clause-any_pages : goal.returns-clause-any_pages
-returns-clause-any_pages g c front disk held number =
-    let n = length (records_of_log c.args.log.now) in
+returns-clause-any_pages g c front first disk r held says number =
+    let log = records_of_log c.args.log.now in
+    let n = length log in
     let mid = c.bring.new.heap in
-    let s = (c.in_ok-bring.ensures.any_pages front disk held).stays in
+    let s = (c.in_ok-bring.ensures.any_pages front first disk log held).stays in
+    let below = frame_below front first s.left mid log n s.held c.args.id.page c.args.number (omega (arith, number)) c.in_ok-bring.ensures.held in
     record {
       named = tt;
-      stays = held_changed front disk c.args.heap.now mid n n s c.put.new.heap (n + 1) (omega arith)
-          (c.put.ensures.any_pages front s.left (n + 1) (held_up front s.left mid n (n + 1) (omega arith) s.held) number);
+      stays = held_changed front first disk c.args.heap.now mid n log n s c.put.new.heap (log ++ r ∷ []) (n + 1) (omega arith)
+          (c.put.ensures.any_pages front first s.left log (n + 1) r (held_up front first s.left mid log n (n + 1) (omega arith) s.held) says number below (omega (arith, number)));
     }
+
+-- ---- the record that is named
+
+pub returns-in_err-bring-clause-any_bad : goal.returns-in_err-bring-clause-any_bad
+returns-in_err-bring-clause-any_bad g c front first disk payload held says =
+    if_err c.from_residual.result c.from_residual.ensures.1 (λ error same n is. absurd (c.in_err-bring.ensures.no_record n (sym same ∙ is)))
+
+pub returns-in_err-reserve-clause-any_bad : goal.returns-in_err-reserve-clause-any_bad
+returns-in_err-reserve-clause-any_bad g c front first disk payload held says =
+    if_err c.from_residual-in_err-reserve.result c.from_residual-in_err-reserve.ensures.1 (λ error same n is. let clash = sym c.in_err-reserve.ensures.refused ∙ sym same ∙ is in absurd cc)
+
+pub returns-then-not-fits-clause-any_bad : goal.returns-then-not-fits-clause-any_bad
+returns-then-not-fits-clause-any_bad g c front first disk payload held says n is =
+    let log = records_of_log c.args.log.now in
+    let last = length log in
+    let mid = c.bring.new.heap in
+    let id = c.args.id in
+    let s = (c.in_ok-bring.ensures.any_pages front first disk log held).stays in
+    let there = subst (λ (g : Geometry). HasPage g id.page) (sym c.bring.ensures.volume.geometry) c.requires.there in
+    let below = frame_below front first s.left mid log last s.held id.page (last + 1) (omega arith) c.in_ok-bring.ensures.held in (
+      cc,
+      subst (λ (g : Geometry). FindsNoRoom g first log (last + 1) payload) c.bring.ensures.volume.geometry
+          (finds_none_there front first s.left mid log last (last + 1) payload id c.args.image.now s.held there says below
+          (λ fits.
+          let yes = c.fits.ensures.framed.1 (subst (λ (b : ℕ). IsSomeAnd (frame_of mid id.page) (λ f. Fits f.page.slots id.slot b)) (sym c.bytes_in.ensures) fits) in
+          let no : c.fits.result ≡ false = c.if-not-fits.true in
+          let clash : true ≡ false = sym yes ∙ no in
+          cc)),
+    )
+
+pub returns-clause-any_fit : goal.returns-clause-any_fit
+returns-clause-any_fit g c front first disk payload held says =
+    let log = records_of_log c.args.log.now in
+    let last = length log in
+    let mid = c.bring.new.heap in
+    let id = c.args.id in
+    let s = (c.in_ok-bring.ensures.any_pages front first disk log held).stays in
+    let there = subst (λ (g : Geometry). HasPage g id.page) (sym c.bring.ensures.volume.geometry) c.requires.there in
+    let room = subst (λ (b : ℕ). IsSomeAnd (frame_of mid id.page) (λ f. Fits f.page.slots id.slot b)) c.bytes_in.ensures (c.fits.ensures.framed.0 c.if-not-fits.false) in
+    let fits = some_then (λ f. Fits f.page.slots id.slot (image_len c.args.image.now)) (λ f. f.page.number < last + 1 → Fits f.page.slots id.slot (image_len c.args.image.now)) (frame_of mid id.page)
+    (λ f at low. at) room in
+    subst (λ (g : Geometry). FindsNoRoom g first log (last + 1) payload → ⊥) c.bring.ensures.volume.geometry
+    (finds_some_there front first s.left mid log last (last + 1) payload id c.args.image.now s.held there says fits)
 
 pub returns-in_err-bring-clause-log_device : goal.returns-in_err-bring-clause-log_device
 returns-in_err-bring-clause-log_device g c log_front quiet =

@@ -5,7 +5,7 @@ use Rattle.shore_dwrite.proofs.Moves.{if_err}
 use Rattle.shore_model.specs.declared.log_records.LogRecord.{LogRecord}
 use Rattle.shore_log.specs.Settled.{records_of_log}
 use Rattle.shore_heap.specs.Heaps.{geometry_of}
-use Rattle.laws_lives.specs.Undo.{HasNoLosers, IsLoser, undo_record}
+use Rattle.laws_lives.specs.Undo.{HasNoLosers, undo_record}
 use Rattle.shore_restart.specs.declared.errors.RestartError.{RestartError}
 use Rattle.shore_restart.specs.declared.errors.RestartError.TheVariants.{Memory, NoRoom}
 use Rattle.shore_restart.specs.Standing.{RestartMoves, stream_bytes_of}
@@ -13,7 +13,12 @@ use Rattle.shore_restart.proofs.LogTurns.{if_none, no_some, turn_cannot, turn_fi
 use Rattle.shore_restart.proofs.PageErrors.{err_with}
 use Rattle.shore_restart.proofs.Turning.{moves_none, turn_stops, turned}
 use Rattle.shore_restart.proofs.HeldPages.{held_err, held_here, held_other, one_longer}
+use Rattle.shore_restart.specs.AnyPages.{AllFindRoom, FindsNoRoom}
 use Rattle.shore_restart.specs.Held.{StaysHeld}
+use Rattle.laws_runs.specs.SlotCounts.{FitsBehind}
+use Rattle.shore_restart.specs.Turns.{TurnsFit}
+use Rattle.shore_restart.proofs.TurnsFit.{find_more, turns_fit_more}
+use Rattle.shore_model.specs.declared.log_records.Payload.{Payload}
 use Rattle.shore_restart.proofs.BadNumbers.{undone_within}
 use Rattle.shore_restart.proofs.QuietLogs.{quiet_beside, quiet_err, quiet_kept, quiet_of, quiet_other}
 use Rattle.shore_restart.proofs.turns.Undo.turn.Goals as goal
@@ -26,14 +31,10 @@ returns-in_err-logged-clause-moves g c log_front front disk s ready =
     (sym (err_with c.from_residual.result _ c.from_residual.ensures.1))
     (moves_none log_front front c.args.log.now c.args.heap.now s (Err _) disk (λ later. later.log ≡ records_of_log c.args.log.now) ready ready.at_rest.records)
 
-pub returns-in_default-clause-none : goal.returns-in_default-clause-none
-returns-in_default-clause-none g c none_left =
+pub returns-in_default-clause-done : goal.returns-in_default-clause-done
+returns-in_default-clause-done g c none_left =
     let log = records_of_log c.args.log.now in
-    let has = c.requires.losers in (
-      refl,
-      if_none ((t : ℕ) → IsLoser log t → ⊥) c.in_ok-logged.field-0 c.in_default.is (c.in_ok-logged.ensures.none log has),
-      λ lawful. if_none (HasNoLosers log) c.in_ok-logged.field-0 c.in_default.is (c.in_ok-logged.ensures.done log lawful has),
-    )
+    (refl, if_none (HasNoLosers log) c.in_ok-logged.field-0 c.in_default.is (c.in_ok-logged.ensures.none log c.requires.losers))
 
 pub returns-in_default-clause-moves : goal.returns-in_default-clause-moves
 returns-in_default-clause-moves g c log_front front disk s ready =
@@ -103,6 +104,18 @@ returns-in_err-append-clause-bad g c log_front front disk s ready =
     turn_cannot (geometry_of c.args.heap.now) log bytes c.args.self.now c.requires r turn s.log ready.at_rest.records n
     (bad.0 ∙ c.next_change.ensures log r.txn c.requires.losers turn.loser turn.next) bad.1)
 
+pub returns-clause-fits : goal.returns-clause-fits
+returns-clause-fits g c log_front front disk s found ready all =
+    let log = records_of_log c.args.log.now in
+    let bytes = stream_bytes_of c.args.log.now in
+    let r = c.in-Some.logged in
+    let turn = turn_of (geometry_of c.args.heap.now) log bytes c.args.self.now c.requires c.records.result.now c.records.ensures.log c.in_ok-logged.field-0 r c.in-Some.is
+    c.in_ok-logged.ensures.loser c.in_ok-logged.ensures.turn c.in_ok-logged.ensures.undoes in
+    let records = ready.at_rest.records in
+    let says = turn_says (geometry_of c.args.heap.now) log bytes c.args.self.now c.requires r turn s.log records in
+    let fits = subst (λ (l : List LogRecord). FitsBehind l r.payload) records (c.in_ok-append.ensures.fits log_front front disk s r.txn ready says) in
+    subst (TurnsFit found) (sym (c.take.ensures.taken ∙ ap (λ (rs : List LogRecord). rs ++ r ∷ []) c.append.ensures.same)) (turns_fit_more found log r all fits)
+
 pub returns-in_err-append-clause-device : goal.returns-in_err-append-clause-device
 returns-in_err-append-clause-device g c log_front front disk s ready =
     if_err c.from_residual-in_err-append.result c.from_residual-in_err-append.ensures.1 (λ error same f is. c.in_err-append.ensures.device log_front front disk s ready f (sym same ∙ is))
@@ -170,36 +183,79 @@ returns-clause-moves g c log_front front disk s ready =
 -- ---- whatever the pages hold
 
 pub returns-in_err-logged-clause-any_pages : goal.returns-in_err-logged-clause-any_pages
-returns-in_err-logged-clause-any_pages g c front disk held =
-    let n = length (records_of_log c.args.log.now) in
-    held_other front disk c.args.heap.now c.args.heap.now n n c.from_residual.result Memory c.from_residual.ensures.1 (λ f page. cc)
+returns-in_err-logged-clause-any_pages g c front first disk held =
+    let log = records_of_log c.args.log.now in
+    held_other front first disk c.args.heap.now c.args.heap.now (length log) log (length log) c.from_residual.result Memory c.from_residual.ensures.1 (λ f page. cc)
 
 pub returns-in_default-clause-any_pages : goal.returns-in_default-clause-any_pages
-returns-in_default-clause-any_pages g c front disk held =
-    let n = length (records_of_log c.args.log.now) in
-    record { named = tt; stays = held_here front disk c.args.heap.now n n (omega arith) held }
+returns-in_default-clause-any_pages g c front first disk held =
+    let log = records_of_log c.args.log.now in
+    record { named = tt; stays = held_here front first disk c.args.heap.now log (length log) (length log) (omega arith) held }
 
 pub returns-in_default-room_with-clause-any_pages : goal.returns-in_default-room_with-clause-any_pages
-returns-in_default-room_with-clause-any_pages g c front disk held = record { named = λ f is. absurd cc; stays = tt }
+returns-in_default-room_with-clause-any_pages g c front first disk held = record { named = λ f is. absurd cc; stays = tt }
 
 pub returns-in_err-append-clause-any_pages : goal.returns-in_err-append-clause-any_pages
-returns-in_err-append-clause-any_pages g c front disk held =
-    let n = length (records_of_log c.args.log.now) in
+returns-in_err-append-clause-any_pages g c front first disk held =
+    let log = records_of_log c.args.log.now in
+    let bytes = stream_bytes_of c.args.log.now in
+    let r = c.in-Some.logged in
+    let turn = turn_of (geometry_of c.args.heap.now) log bytes c.args.self.now c.requires c.records.result.now c.records.ensures.log c.in_ok-logged.field-0 r c.in-Some.is
+    c.in_ok-logged.ensures.loser c.in_ok-logged.ensures.turn c.in_ok-logged.ensures.undoes in
+    let n = length log in
     let number = ap (λ (rs : List LogRecord). length rs + 1) c.records-2.ensures.log in
-    held_err front disk c.args.heap.now c.append.new.heap n (n + 1) (length (records_of_log c.append.new.log)) c.from_residual-in_err-append.result c.in_err-append.field-0.0
-    c.from_residual-in_err-append.ensures.1 (c.in_err-append.ensures.any_pages front disk held (omega (arith, number)))
+    let says = turn_says (geometry_of c.args.heap.now) log bytes c.args.self.now c.requires r turn log refl in
+    held_err front first disk c.args.heap.now c.append.new.heap n (log ++ r ∷ []) (n + 1) (records_of_log c.append.new.log) (length (records_of_log c.append.new.log))
+    c.from_residual-in_err-append.result c.in_err-append.field-0.0 c.from_residual-in_err-append.ensures.1 (c.in_err-append.ensures.any_pages front first disk r r.txn held refl says number)
 
 pub returns-clause-any_pages : goal.returns-clause-any_pages
-returns-clause-any_pages g c front disk held =
-    let n = length (records_of_log c.args.log.now) in
+returns-clause-any_pages g c front first disk held =
+    let log = records_of_log c.args.log.now in
+    let bytes = stream_bytes_of c.args.log.now in
     let r = c.in-Some.logged in
+    let turn = turn_of (geometry_of c.args.heap.now) log bytes c.args.self.now c.requires c.records.result.now c.records.ensures.log c.in_ok-logged.field-0 r c.in-Some.is
+    c.in_ok-logged.ensures.loser c.in_ok-logged.ensures.turn c.in_ok-logged.ensures.undoes in
+    let n = length log in
     let number = ap (λ (rs : List LogRecord). length rs + 1) c.records-2.ensures.log in
+    let says = turn_says (geometry_of c.args.heap.now) log bytes c.args.self.now c.requires r turn log refl in
     let taken = c.take.ensures.taken ∙ ap (λ (rs : List LogRecord). rs ++ r ∷ []) c.append.ensures.same in
-    let long = one_longer (records_of_log c.args.log.now) (records_of_log c.take.new.self) r taken in
+    let long = one_longer log (records_of_log c.take.new.self) r taken in
+    let stays = (c.in_ok-append.ensures.any_pages front first disk r r.txn held refl says number).stays in
     record {
       named = tt;
-      stays = subst (λ (later : ℕ). StaysHeld front disk c.args.heap.now c.append.new.heap n later) (sym long) (c.in_ok-append.ensures.any_pages front disk held (omega (arith, number))).stays;
+      stays = subst (λ (later : ℕ). StaysHeld front first disk c.args.heap.now c.append.new.heap n (records_of_log c.take.new.self) later) (sym long)
+          (subst (λ (done : List LogRecord). StaysHeld front first disk c.args.heap.now c.append.new.heap n done (n + 1)) (sym taken) stays);
     }
+
+pub returns-in_err-logged-clause-any_bad : goal.returns-in_err-logged-clause-any_bad
+returns-in_err-logged-clause-any_bad g c front first disk held = if_err c.from_residual.result c.from_residual.ensures.1 (λ error same n is. let clash = sym same ∙ is in absurd cc)
+
+pub returns-in_err-append-clause-any_bad : goal.returns-in_err-append-clause-any_bad
+returns-in_err-append-clause-any_bad g c front first disk held =
+    let log = records_of_log c.args.log.now in
+    let bytes = stream_bytes_of c.args.log.now in
+    let r = c.in-Some.logged in
+    let turn = turn_of (geometry_of c.args.heap.now) log bytes c.args.self.now c.requires c.records.result.now c.records.ensures.log c.in_ok-logged.field-0 r c.in-Some.is
+    c.in_ok-logged.ensures.loser c.in_ok-logged.ensures.turn c.in_ok-logged.ensures.undoes in
+    if_err c.from_residual-in_err-append.result c.from_residual-in_err-append.ensures.1 (λ error same n is.
+    let bad = c.in_err-append.ensures.any_bad front first disk held n (sym same ∙ is) in (
+      r.txn,
+      turn.loser,
+      turn.next,
+      bad.0 ∙ c.next_change.ensures log r.txn c.requires.losers turn.loser turn.next,
+      subst (λ (payload : Payload). FindsNoRoom (geometry_of c.args.heap.now) first log (length log + 1) payload) (ap (λ (x : LogRecord). x.payload) turn.is) bad.1,
+    ))
+
+pub returns-clause-any_fit : goal.returns-clause-any_fit
+returns-clause-any_fit g c front first disk held all =
+    let log = records_of_log c.args.log.now in
+    let bytes = stream_bytes_of c.args.log.now in
+    let r = c.in-Some.logged in
+    let turn = turn_of (geometry_of c.args.heap.now) log bytes c.args.self.now c.requires c.records.result.now c.records.ensures.log c.in_ok-logged.field-0 r c.in-Some.is
+    c.in_ok-logged.ensures.loser c.in_ok-logged.ensures.turn c.in_ok-logged.ensures.undoes in
+    let says = turn_says (geometry_of c.args.heap.now) log bytes c.args.self.now c.requires r turn log refl in
+    subst (AllFindRoom (geometry_of c.args.heap.now) first) (sym (c.take.ensures.taken ∙ ap (λ (rs : List LogRecord). rs ++ r ∷ []) c.append.ensures.same))
+    (find_more (geometry_of c.args.heap.now) first log r all (c.in_ok-append.ensures.any_fit front first disk r.txn held says))
 
 pub returns-in_err-logged-clause-log_device : goal.returns-in_err-logged-clause-log_device
 returns-in_err-logged-clause-log_device g c log_front quiet =

@@ -3,9 +3,9 @@ use Rattle.shore_dwrite.proofs.Moves.{if_err}
 use Rattle.shore_model.specs.declared.log_records.LogRecord.{LogRecord}
 use Rattle.shore_heap.specs.Heaps.{faults_of, geometry_of, history_of}
 use Rattle.shore_log.specs.Settled.{records_of_log}
-use Rattle.laws_lives.specs.Undo.{HasNoLosers, IsLoser}
+use Rattle.laws_lives.specs.Undo.{HasNoLosers}
 use Rattle.shore_restart.specs.Standing.{log_faults, stream_bytes_of}
-use Rattle.shore_restart.specs.Turns.{HasNoTurnRoom, IsUndoOf, IsUndoneSoFar}
+use Rattle.shore_restart.specs.Turns.{HasNoTurnRoom, IsUndoOf, IsUndoneSoFar, TurnsFit}
 use Rattle.shore_disk.specs.Cause.{HasCause}
 use Rattle.shore_restart.specs.Errors.{log_answer}
 use Rattle.shore_restart.proofs.Causes.{err_to, no_page_cause, passed_log_cause}
@@ -14,8 +14,11 @@ use Rattle.shore_restart.proofs.Frames.{same_on}
 use Rattle.shore_restart.proofs.PageErrors.{err_with, passed_cause}
 use Rattle.shore_restart.proofs.RedoAll.{same_again}
 use Rattle.shore_restart.proofs.Standing.{left_by}
-use Rattle.shore_restart.proofs.Undoing.{come_on, come_stop, force_last, lawful_so_far, on_ok, stream_same, undone_and}
+use Rattle.shore_restart.proofs.TurnsFit.{no_turns}
+use Rattle.shore_restart.proofs.Undoing.{come_on, come_stop, force_last, on_ok, stream_same, undone_and}
 use Rattle.shore_restart.proofs.HeldPages.{held_behind, held_beside, held_err, held_here, held_then}
+use Rattle.shore_types.specs.declared.layout.Geometry.{Geometry}
+use Rattle.shore_restart.specs.AnyPages.{AllFindRoom, FindsNoRoomToUndo}
 use Rattle.shore_restart.specs.Held.{StaysHeld}
 use Rattle.shore_restart.proofs.QuietLogs.{quiet_err, quiet_of, quiet_then}
 use Rattle.shore_restart.proofs.turns.Undo.undo_all.Goals as goal
@@ -26,7 +29,9 @@ loop-init g c = record {
   so_far = ([], refl);
   come = λ log_front front disk s ready. (s, came_here log_front front disk c.args.log.now c.args.heap.now s ready);
   quiet = λ log_front quiet. (quiet, omega arith);
-  any_pages = λ front disk held. held_here front disk c.args.heap.now (length (records_of_log c.args.log.now)) (length (records_of_log c.args.log.now)) (omega arith) held;
+  any_pages = λ front first disk held. held_here front first disk c.args.heap.now (records_of_log c.args.log.now) (length (records_of_log c.args.log.now)) (length (records_of_log c.args.log.now)) (omega arith) held;
+  fits = λ log_front front disk s ready. no_turns (records_of_log c.args.log.now);
+  any_fit = λ front first disk held all. all;
   volume = record { geometry = refl; honest = refl; size = refl; frames = refl };
   log = record { honest = refl; size = refl };
   volume_faults = refl;
@@ -50,10 +55,17 @@ loop-preserved g c =
           let more = now.1 in
           let longer = on.1 in
           (on.0, omega (arith, more, longer));
-      any_pages = λ front disk held.
-          let s = invariant.any_pages front disk held in
-          held_then front disk c.args.heap.now c.loop.heap (length (records_of_log c.args.log.now)) (length (records_of_log c.loop.log)) s c.turn.new.heap (length (records_of_log c.turn.new.log))
-          invariant.volume.geometry (c.in_ok-turn.ensures.any_pages front s.left s.held).stays;
+      any_pages = λ front first disk held.
+          let s = invariant.any_pages front first disk held in
+          held_then front first disk c.args.heap.now c.loop.heap (length (records_of_log c.args.log.now)) (records_of_log c.loop.log) (length (records_of_log c.loop.log)) s c.turn.new.heap
+          (records_of_log c.turn.new.log) (length (records_of_log c.turn.new.log)) invariant.volume.geometry (c.in_ok-turn.ensures.any_pages front first s.left s.held).stays;
+      fits = λ log_front front disk s ready.
+          let come = invariant.come log_front front disk s ready in
+          c.in_ok-turn.ensures.fits log_front front come.1.disk come.0 (records_of_log c.args.log.now) come.1.ready (invariant.fits log_front front disk s ready);
+      any_fit = λ front first disk held all.
+          let s = invariant.any_pages front first disk held in
+          let so_far = subst (λ (g : Geometry). AllFindRoom g first (records_of_log c.loop.log)) (sym invariant.volume.geometry) (invariant.any_fit front first disk held all) in
+          subst (λ (g : Geometry). AllFindRoom g first (records_of_log c.turn.new.log)) invariant.volume.geometry (c.in_ok-turn.ensures.any_fit front first s.left s.held so_far);
       volume = same_again c.args.heap.now c.loop.heap c.turn.new.heap invariant.volume c.turn.ensures.volume;
       log = same_on c.args.log.now c.loop.log c.turn.new.log invariant.log c.turn.ensures.log;
       volume_faults = c.in_ok-turn.ensures.volume_cause.unreported (λ e. cc) ∙ invariant.volume_faults;
@@ -90,6 +102,7 @@ returns-in_err-turn-clause-bad g c log_front front disk s ready =
     if_err c.from_residual.result c.from_residual.ensures.1 (λ error same n is. (
       records_of_log c.loop.log,
       c.loop.invariant.so_far,
+      c.loop.invariant.fits log_front front disk s ready,
       c.in_err-turn.ensures.bad log_front front come.1.disk come.0 come.1.ready n (sym same ∙ is),
     ))
 
@@ -118,18 +131,13 @@ returns-in_err-turn-clause-log_cause g c =
 
 pub returns-clause-undone : goal.returns-clause-undone
 returns-clause-undone g c =
-    let none = c.in_ok-turn.ensures.none c.if-branch.false in
-    on_ok c.force.result (subst (IsUndoneSoFar (records_of_log c.args.log.now)) (sym none.0 ∙ sym c.force.ensures.same) c.loop.invariant.so_far)
-
-pub returns-clause-none : goal.returns-clause-none
-returns-clause-none g c =
-    let none = c.in_ok-turn.ensures.none c.if-branch.false in
-    on_ok c.force.result (subst (λ (log : List LogRecord). (t : ℕ) → IsLoser log t → ⊥) (sym c.force.ensures.same) none.1)
+    let last = c.in_ok-turn.ensures.done c.if-branch.false in
+    on_ok c.force.result (subst (IsUndoneSoFar (records_of_log c.args.log.now)) (sym last.0 ∙ sym c.force.ensures.same) c.loop.invariant.so_far)
 
 pub returns-clause-done : goal.returns-clause-done
-returns-clause-done g c lawful =
-    let none = c.in_ok-turn.ensures.none c.if-branch.false in
-    on_ok c.force.result (subst HasNoLosers (sym c.force.ensures.same) (none.2 (lawful_so_far (records_of_log c.args.log.now) (records_of_log c.loop.log) c.loop.invariant.so_far lawful)))
+returns-clause-done g c =
+    let last = c.in_ok-turn.ensures.done c.if-branch.false in
+    on_ok c.force.result (subst HasNoLosers (sym c.force.ensures.same) last.1)
 
 pub returns-clause-undo : goal.returns-clause-undo
 returns-clause-undo g c =
@@ -159,6 +167,11 @@ returns-clause-bad g c log_front front disk s ready = err_to c.force.result c.fo
   | inr (inl device) ↦ let clash = sym device ∙ bad in absurd cc
   | inr (inr full) ↦ let clash = sym full ∙ bad in absurd cc
 ])
+
+pub returns-clause-fits : goal.returns-clause-fits
+returns-clause-fits g c log_front front disk s ready =
+    let last = c.in_ok-turn.ensures.done c.if-branch.false in
+    on_ok c.force.result (subst (TurnsFit (records_of_log c.args.log.now)) (sym last.0 ∙ sym c.force.ensures.same) (c.loop.invariant.fits log_front front disk s ready))
 
 pub returns-clause-device : goal.returns-clause-device
 returns-clause-device g c log_front front disk s ready = err_to c.force.result c.force.ensures.refused (λ error is f page. elim is [
@@ -191,29 +204,56 @@ returns-clause-log_cause g c =
 -- ---- whatever the pages hold
 
 pub returns-in_err-turn-clause-any_pages : goal.returns-in_err-turn-clause-any_pages
-returns-in_err-turn-clause-any_pages g c front disk held =
+returns-in_err-turn-clause-any_pages g c front first disk held =
     let n = length (records_of_log c.args.log.now) in
-    let now = length (records_of_log c.loop.log) in
-    let later = length (records_of_log c.turn.new.log) in
+    let now = records_of_log c.loop.log in
+    let later = records_of_log c.turn.new.log in
     let invariant = c.loop.invariant in
-    let s = invariant.any_pages front disk held in
-    held_err front disk c.args.heap.now c.turn.new.heap n later later c.from_residual.result c.in_err-turn.field-0.0 c.from_residual.ensures.1
-    (held_behind front disk c.args.heap.now c.loop.heap n now s {A = Bool} (Err c.in_err-turn.field-0.0) c.turn.new.heap later invariant.volume.geometry (c.in_err-turn.ensures.any_pages front s.left s.held))
+    let s = invariant.any_pages front first disk held in
+    held_err front first disk c.args.heap.now c.turn.new.heap n later (length later) later (length later) c.from_residual.result c.in_err-turn.field-0.0 c.from_residual.ensures.1
+    (held_behind front first disk c.args.heap.now c.loop.heap n now (length now) s {A = Bool} (Err c.in_err-turn.field-0.0) c.turn.new.heap later (length later) invariant.volume.geometry
+    (c.in_err-turn.ensures.any_pages front first s.left s.held))
 
 pub returns-clause-any_pages : goal.returns-clause-any_pages
-returns-clause-any_pages g c front disk held =
+returns-clause-any_pages g c front first disk held =
     let heap = c.args.heap.now in
     let n = length (records_of_log c.args.log.now) in
-    let now = length (records_of_log c.loop.log) in
-    let later = length (records_of_log c.turn.new.log) in
+    let now = records_of_log c.loop.log in
+    let later = records_of_log c.turn.new.log in
+    let last = records_of_log c.force.new.log in
     let invariant = c.loop.invariant in
-    let s = invariant.any_pages front disk held in
-    let stays = held_then front disk heap c.loop.heap n now s c.turn.new.heap later invariant.volume.geometry (c.in_ok-turn.ensures.any_pages front s.left s.held).stays in
-    held_beside front disk heap c.turn.new.heap n (length (records_of_log c.force.new.log)) c.force.result (err_to c.force.result c.force.ensures.refused (λ error is f page. elim is [
+    let s = invariant.any_pages front first disk held in
+    let stays = held_then front first disk heap c.loop.heap n now (length now) s c.turn.new.heap later (length later) invariant.volume.geometry (c.in_ok-turn.ensures.any_pages front first s.left s.held).stays in
+    held_beside front first disk heap c.turn.new.heap n last (length last) c.force.result (err_to c.force.result c.force.ensures.refused (λ error is f page. elim is [
       | inl memory ↦ let clash = sym memory ∙ page in cc
       | inr (inl device) ↦ let clash = sym device ∙ page in cc
       | inr (inr full) ↦ let clash = sym full ∙ page in cc
-    ])) (subst (λ (log : List LogRecord). StaysHeld front disk heap c.turn.new.heap n (length log)) (sym c.force.ensures.same) stays)
+    ])) (subst (λ (log : List LogRecord). StaysHeld front first disk heap c.turn.new.heap n log (length log)) (sym c.force.ensures.same) stays)
+
+pub returns-in_err-turn-clause-any_bad : goal.returns-in_err-turn-clause-any_bad
+returns-in_err-turn-clause-any_bad g c front first disk held all =
+    let invariant = c.loop.invariant in
+    let s = invariant.any_pages front first disk held in
+    if_err c.from_residual.result c.from_residual.ensures.1 (λ error same n is. (
+      records_of_log c.loop.log,
+      invariant.so_far,
+      invariant.any_fit front first disk held all,
+      subst (λ (g : Geometry). FindsNoRoomToUndo g first (records_of_log c.loop.log) n) invariant.volume.geometry
+          (c.in_err-turn.ensures.any_bad front first s.left s.held n (sym same ∙ is)),
+    ))
+
+pub returns-clause-any_fit : goal.returns-clause-any_fit
+returns-clause-any_fit g c front first disk held all =
+    let invariant = c.loop.invariant in
+    let last = c.in_ok-turn.ensures.done c.if-branch.false in
+    on_ok c.force.result (subst (AllFindRoom (geometry_of c.args.heap.now) first) (sym last.0 ∙ sym c.force.ensures.same) (invariant.any_fit front first disk held all))
+
+pub returns-clause-any_bad : goal.returns-clause-any_bad
+returns-clause-any_bad g c front first disk held all = err_to c.force.result c.force.ensures.refused (λ error is n bad. elim is [
+  | inl memory ↦ let clash = sym memory ∙ bad in absurd cc
+  | inr (inl device) ↦ let clash = sym device ∙ bad in absurd cc
+  | inr (inr full) ↦ let clash = sym full ∙ bad in absurd cc
+])
 
 pub returns-in_err-turn-clause-log_device : goal.returns-in_err-turn-clause-log_device
 returns-in_err-turn-clause-log_device g c log_front quiet =

@@ -1,0 +1,111 @@
+-- Redo and undo on one page, whatever its text is: what they make of the page, and which record finds no room on it.
+use Rattle.std.specs.Prelude.{◌≡◌, ◌⊎◌, ◌+◌, ◌-◌, ◌<◌, ◌&&◌, ◌++◌, ℕ, List, [], ◌∷◌, Option, None, Some, length, map, nat_lt, replicate, slice_get, take, if◌then◌else◌}
+use Rattle.std.specs.Ordering.{eq_by_cmp}
+use Rattle.shore_types.specs.Ids.{page_cmp}
+use Rattle.shore_types.specs.Images.{Image, image_len}
+use Rattle.shore_types.specs.declared.ids.PageId.{PageId}
+use Rattle.shore_types.specs.declared.ids.Rid.{Rid}
+use Rattle.shore_types.specs.declared.layout.Geometry.{Geometry}
+use Rattle.shore_model.specs.declared.log_records.LogRecord.{LogRecord}
+use Rattle.shore_model.specs.declared.log_records.Payload.{Payload}
+use Rattle.shore_model.specs.Logs.{image_in, unanswered, undo_next_of}
+use Rattle.shore_types.specs.Layout.{HasPage}
+use Rattle.shore_model.specs.declared.unanswered_changes.UnansweredChange.{UnansweredChange}
+use Rattle.shore_page.specs.Claims.{FitIn, claimed_by}
+use Rattle.shore_heap.specs.Contents.{CanKeep}
+use Rattle.shore_page.specs.Room.{Fits}
+use Rattle.shore_page.specs.Slots.{settled, with_change}
+use Rattle.shore_page.specs.Text.{IsPageText}
+use Rattle.shore_dwrite.specs.Volumes.{page_number}
+use Rattle.laws_lives.specs.Undo.{HasNoLosers, IsLoser, undo_record}
+use Rattle.shore_analysis.specs.Losers.{IsNextToUndo}
+use Rattle.shore_restart.specs.Doubts.{IsRefusedBy, IsTaken, changes_in_doubt, claims_of}
+use Rattle.shore_restart.specs.Turns.{IsUndoneSoFar}
+
+-- ---- one page
+
+-- what a text says of its page: the number of its last change, and what is in its slots
+pub record ReadPage : Type 0 where
+  pub number : ℕ
+  pub images : List Image
+
+-- the bytes are a text of this page that says so
+abbrev pub IsReadAs : List ℕ → PageId → ReadPage → Type 0
+IsReadAs text p page = IsPageText text p page.number page.images
+
+-- the image in a slot, which is new behind the last, or farther on
+abbrev pub with_image_at : List Image → ℕ → Image → List Image
+with_image_at images slot image = with_change (λ _. image) (images ++ replicate (slot + 1 - length images) None) slot
+
+-- the page after redo of record n, whose image this is: unless it is of this page, and the page has a lower number, it changes nothing
+abbrev pub redone_read : ℕ → Option (Rid × Image) → PageId → ReadPage → ReadPage
+redone_read n None p page = page
+redone_read n (Some e) p page = if eq_by_cmp page_cmp p e.0.page && nat_lt page.number n then record { number = n; images = with_image_at page.images e.0.slot e.1 } else page
+
+-- .. after redo of these records, behind so many others
+abbrev pub redone_from : ℕ → List LogRecord → PageId → ReadPage → ReadPage
+redone_from n [] p page = page
+redone_from n (r ∷ rs) p page = redone_from (n + 1) rs p (redone_read (n + 1) (image_in r.payload) p page)
+
+-- .. of the records of a log, from the first
+abbrev pub redone_by : List LogRecord → PageId → ReadPage → ReadPage
+redone_by log p page = redone_from 0 log p page
+
+-- the page is what redo of these records makes of one with this text
+pub record IsMadeOf (text : List ℕ) (log : List LogRecord) (p : PageId) (page : ReadPage) : Type 0 where
+  pub was : ReadPage
+  pub read : IsReadAs text p was
+  pub redone : page ≡ redone_by log p was
+
+-- ---- the record that is named
+
+module _ (g : Geometry) (texts : ℕ → List ℕ) where
+  -- Record n, behind these, finds no room: its page, as they make it of its text, has a number below n, and no room at the slot for the record's image
+  -- beside what the other slots take.
+  pub record FindsNoRoom (before : List LogRecord) (n : ℕ) (payload : Payload) : Type 0 where
+    pub id : Rid
+    pub image : Image
+    pub changes : image_in payload ≡ Some (id, image)
+    pub page : ReadPage
+    pub made : IsMadeOf (texts (page_number g id.page)) before id.page page
+    pub lacks : page.number < n
+    pub no_room : Fits (map settled page.images) id.slot (image_len image) → ⊥
+
+  -- so does record n of a log, behind those before it
+  abbrev pub IsMisfitAt : List LogRecord → ℕ → Type 0
+  IsMisfitAt log n = (0 < n) × ((r : LogRecord) × (slice_get log (n - 1) ≡ Some r) × FindsNoRoom (take (n - 1) log) n r.payload)
+
+  -- .. and none before it
+  abbrev pub IsFirstMisfit : List LogRecord → ℕ → Type 0
+  IsFirstMisfit log n = IsMisfitAt log n × ((m : ℕ) → m < n → IsMisfitAt log m → ⊥)
+
+  -- each record of the log finds room
+  abbrev pub AllFindRoom : List LogRecord → Type 0
+  AllFindRoom log = (n : ℕ) → IsMisfitAt log n → ⊥
+
+  -- the Change of this number is to be undone next, and the record that undoes it finds no room
+  abbrev pub FindsNoRoomToUndo : List LogRecord → ℕ → Type 0
+  FindsNoRoomToUndo log n = (t : ℕ) × IsLoser log t × IsNextToUndo log t × (n ≡ undo_next_of (unanswered t log)) × FindsNoRoom log (length log + 1) (undo_record log t).payload
+
+  -- The Change of this number is the first of those in doubt whose image before finds no room on its page, as these records make that of its text, beside what is
+  -- kept there for those before it.
+  pub record IsUnkeptOn (log : List LogRecord) (n : ℕ) : Type 0 where
+    pub kept : List UnansweredChange
+    pub change : UnansweredChange
+    pub later : List UnansweredChange
+    pub order : changes_in_doubt log ≡ kept ++ change ∷ later
+    pub number : n ≡ change.number
+    pub first : (p : PageId) (page : ReadPage) → HasPage g p → IsMadeOf (texts (page_number g p)) log p page → FitIn (claims_of p kept) (map settled page.images)
+    pub page : ReadPage
+    pub made : IsMadeOf (texts (page_number g change.id.page)) log change.id.page page
+    pub no_room : CanKeep (claimed_by (claims_of change.id.page kept) (map settled page.images)) change.id.slot (image_len change.before) → ⊥
+
+  -- It is the first that finds no room; or all of the log do, and all records of undo so far, and the next one, which undoes the Change of this number, does not; or,
+  -- with nobody left to be undone, the Change of this number is not kept.
+  abbrev pub IsMisfitOn : List LogRecord → ℕ → Type 0
+  IsMisfitOn log n = IsFirstMisfit log n
+      ⊎ ((so_far : List LogRecord) × IsUndoneSoFar log so_far × AllFindRoom so_far × (FindsNoRoomToUndo so_far n ⊎ (HasNoLosers so_far × IsUnkeptOn so_far n)))
+
+  -- the log is refused by this record for what it says of itself; or it is not, and the record is such a misfit
+  abbrev pub IsBadOn : List LogRecord → ℕ → Type 0
+  IsBadOn log n = IsRefusedBy g log n ⊎ (IsTaken g log × IsMisfitOn log n)
