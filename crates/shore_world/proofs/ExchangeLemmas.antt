@@ -10,7 +10,7 @@ use Rattle.shore_disk.specs.declared.device.Disk.{Ghosts}
 use Rattle.shore_model.specs.declared.calls.Answer.{Answer}
 use Rattle.shore_model.specs.declared.calls.Answer.TheVariants as answer
 use Rattle.shore_model.specs.declared.calls.Call.{Call}
-use Rattle.shore_model.specs.declared.calls.Exchange.{Exchange}
+use Rattle.shore_model.specs.declared.calls.Call.TheVariants as call
 use Rattle.shore_model.specs.declared.histories.Decision.{Decision}
 use Rattle.shore_model.specs.declared.histories.Entry.{Entry}
 use Rattle.shore_model.specs.declared.histories.Entry.TheVariants.{Decided, Exchanged}
@@ -29,7 +29,7 @@ use Rattle.laws_calls.proofs.LockWaits.{MayWait, call_waits_have, resume_waits_h
 use Rattle.laws_calls.proofs.SettledEnds.{idle_in, settled_call_ends}
 use Rattle.laws_calls.specs.CallHistories.{txn_of}
 use Rattle.laws_calls.specs.CallSteps.{CallStep, ResumeStep}
-use Rattle.laws_calls.specs.Events.{Called, Forced, HasFailed, IsStateAfter, ManagerEvent, Resumed, EventMoves, call_waiting, entries_of, entries_of_resume, entries_of_waiting}
+use Rattle.laws_calls.specs.Events.{Called, Forced, HasFailed, IsStateAfter, ManagerEvent, Resumed, TicketAsked, EventMoves, call_waiting, entries_of, entries_of_resume, entries_of_waiting}
 use Rattle.laws_calls.specs.LockedStates.{decisions_made, entries_of_call, entries_of_resumed}
 use Rattle.laws_calls.specs.Settling.{SettledCall, SettledResume, Settles}
 use Rattle.laws_calls.specs.States.{DoesNotWait, State, Waiting}
@@ -39,12 +39,12 @@ use Rattle.laws_runs.specs.StoredRuns.{Manage, StoredEvent, StoredMoves, StoredS
 use Rattle.shore_world.specs.declared.event.Event.{Event}
 use Rattle.shore_world.specs.declared.event.Event.TheVariants as event
 use Rattle.shore_world.specs.declared.world.World.{World}
-use Rattle.shore_world.specs.EventMoves.{failure_by, forced_by, moves_by}
-use Rattle.shore_world.specs.Exchanges.{AreLast, exchange_in, exchanges_in, exchanges_of, last_waited, told_by, told_of, told_of_waiting, waited_after, waited_behind, waits_behind}
+use Rattle.shore_world.specs.EventMoves.{asked_by, failure_by, forced_by, moves_by}
+use Rattle.shore_world.specs.Exchanges.{AreLast, OfTicket, Telling, last_waited, telling_in, tellings_in, tellings_of, told_by, told_of, told_of_ticket, told_of_waiting, waited_after, waited_behind, waits_behind}
 use Rattle.shore_world.specs.Worlds.{Between, Runs}
 
 abbrev pub Told : Type 0
-Told = List (ℕ × Exchange)
+Told = List Telling
 
 abbrev pub Waited : Type 0
 Waited = List (ℕ × Call)
@@ -56,12 +56,14 @@ told_by_move ws (Called session c step) = told_of session c step
 told_by_move ws (Resumed session step) = told_of_waiting session (last_waited session ws) step
 told_by_move ws (Forced n) = []
 told_by_move ws HasFailed = []
+told_by_move ws (TicketAsked ticket answer) = OfTicket ticket answer ∷ []
 
 abbrev waited_behind_move : Waited → ManagerEvent → Waited
 waited_behind_move ws (Called session c step) = waits_behind ws session c step
 waited_behind_move ws (Resumed session step) = ws
 waited_behind_move ws (Forced n) = ws
 waited_behind_move ws HasFailed = ws
+waited_behind_move ws (TicketAsked ticket answer) = ws
 
 abbrev pub told_in : Waited → List ManagerEvent → Told
 told_in ws [] = []
@@ -80,10 +82,18 @@ forced_tells : (ws : Waited) (a : Answer) (later : List ManagerEvent) → told_i
 forced_tells ws (answer.Forced n) later = refl
 forced_tells ws _ later = refl
 
+asked_tells : (ws : Waited) (ticket : ℕ) (a : Answer) (later : List ManagerEvent) → told_in ws (asked_by ticket a ++ later) ≡ told_of_ticket ticket a ++ told_in ws later
+asked_tells ws ticket (answer.IsDurable durable) later = refl
+asked_tells ws ticket _ later = refl
+
 pub event_tells : (ws : Waited) (e : Event) (step : Step) (later : List ManagerEvent)
     → told_in ws (moves_by e step ++ later) ≡ told_by ws e step ++ told_in (waited_behind ws e step) later
 event_tells ws (event.Call session c) step later = refl
 event_tells ws (event.Resume session) step later = refl
+event_tells ws (event.Ask ticket) (Done a) later = asked_tells ws ticket a later
+event_tells ws (event.Ask ticket) (Refused f) later = refl
+event_tells ws (event.Ask ticket) (Waits wait) later = refl
+event_tells ws (event.Ask ticket) Nothing later = refl
 event_tells ws event.ForceStage (Done a) later = refl
 event_tells ws event.ForceStage (Refused f) later = failure_tells ws f later
 event_tells ws event.ForceStage (Waits wait) later = refl
@@ -106,9 +116,17 @@ forced_waits : (ws : Waited) (a : Answer) (later : List ManagerEvent) → waited
 forced_waits ws (answer.Forced n) later = refl
 forced_waits ws _ later = refl
 
+asked_waits : (ws : Waited) (ticket : ℕ) (a : Answer) (later : List ManagerEvent) → waited_in ws (asked_by ticket a ++ later) ≡ waited_in ws later
+asked_waits ws ticket (answer.IsDurable durable) later = refl
+asked_waits ws ticket _ later = refl
+
 pub event_waits : (ws : Waited) (e : Event) (step : Step) (later : List ManagerEvent) → waited_in ws (moves_by e step ++ later) ≡ waited_in (waited_behind ws e step) later
 event_waits ws (event.Call session c) step later = refl
 event_waits ws (event.Resume session) step later = refl
+event_waits ws (event.Ask ticket) (Done a) later = asked_waits ws ticket a later
+event_waits ws (event.Ask ticket) (Refused f) later = refl
+event_waits ws (event.Ask ticket) (Waits wait) later = refl
+event_waits ws (event.Ask ticket) Nothing later = refl
 event_waits ws event.ForceStage (Done a) later = refl
 event_waits ws event.ForceStage (Refused f) later = failure_waits ws f later
 event_waits ws event.ForceStage (Waits wait) later = refl
@@ -129,6 +147,7 @@ module _ {L V : Type 0} {G : Ghosts L} {H : Ghosts V} where
   between_tells old new ws (Called session c step ∷ failures) later between = absurd between
   between_tells old new ws (Resumed session step ∷ failures) later between = absurd between
   between_tells old new ws (Forced n ∷ failures) later between = absurd between
+  between_tells old new ws (TicketAsked ticket answer ∷ failures) later between = absurd between
 
   between_waits : (old new : World L V G H) (ws : Waited) (failures later : List ManagerEvent) → Between old failures new → waited_in ws (failures ++ later) ≡ waited_in ws later
   between_waits old new ws [] later like = refl
@@ -136,6 +155,7 @@ module _ {L V : Type 0} {G : Ghosts L} {H : Ghosts V} where
   between_waits old new ws (Called session c step ∷ failures) later between = absurd between
   between_waits old new ws (Resumed session step ∷ failures) later between = absurd between
   between_waits old new ws (Forced n ∷ failures) later between = absurd between
+  between_waits old new ws (TicketAsked ticket answer ∷ failures) later between = absurd between
 
   pub runs_wait : (old : World L V G H) (ws : Waited) (events : List Event) (steps : List Step) (moves : List ManagerEvent) (new : World L V G H) → Runs old events steps moves new
       → waited_in ws moves ≡ waited_after ws events steps
@@ -147,7 +167,7 @@ module _ {L V : Type 0} {G : Ghosts L} {H : Ghosts V} where
   runs_wait old ws (e ∷ events) [] moves new runs = absurd runs
 
   pub runs_told : (old : World L V G H) (ws : Waited) (events : List Event) (steps : List Step) (moves : List ManagerEvent) (new : World L V G H) → Runs old events steps moves new
-      → told_in ws moves ≡ exchanges_of ws events steps
+      → told_in ws moves ≡ tellings_of ws events steps
   runs_told old ws [] [] moves new between = ap (told_in ws) (sym (append-nil moves)) ∙ between_tells old new ws moves [] between
   runs_told old ws (e ∷ events) (step ∷ steps) moves new (start, mid, failures, later, between, made, rest, is) =
       ap (told_in ws) is ∙ between_tells old start ws failures (moves_by e step ++ later) between ∙ event_tells ws e step later
@@ -235,21 +255,21 @@ waits_so session (x ∷ ws) w some = test (x.session == session) refl some (wait
 
 -- ---- one event
 
-pub exchanges-append : (one two : List Entry) → exchanges_in (one ++ two) ≡ exchanges_in one ++ exchanges_in two
+pub exchanges-append : (one two : List Entry) → tellings_in (one ++ two) ≡ tellings_in one ++ tellings_in two
 exchanges-append [] two = refl
-exchanges-append (e ∷ one) two = by (exchange_in e) (exchanges-append one two)
+exchanges-append (e ∷ one) two = by (telling_in e) (exchanges-append one two)
   where
-    by : (o : Option (ℕ × Exchange)) → exchanges_in (one ++ two) ≡ exchanges_in one ++ exchanges_in two
-        → cons_option o (exchanges_in (one ++ two)) ≡ cons_option o (exchanges_in one) ++ exchanges_in two
+    by : (o : Option Telling) → tellings_in (one ++ two) ≡ tellings_in one ++ tellings_in two
+        → cons_option o (tellings_in (one ++ two)) ≡ cons_option o (tellings_in one) ++ tellings_in two
     by None rest = rest
     by (Some x) rest = ap (λ (l : Told). x ∷ l) rest
 
 -- decisions are no answers
-none_told : (ds : List Decision) → exchanges_in (map Decided ds) ≡ []
+none_told : (ds : List Decision) → tellings_in (map Decided ds) ≡ []
 none_told [] = refl
 none_told (d ∷ ds) = none_told ds
 
-decides_alone : (s new : State) → exchanges_in (decisions_made s new) ≡ []
+decides_alone : (s new : State) → tellings_in (decisions_made s new) ≡ []
 decides_alone s new = none_told (decisions_in (length s.log) new.log)
 
 module _ (g : Geometry) (o : Opening) (found : List LogRecord) (es : List Entry) (s : State) (k : IsStateAfter o found es s) (ws : Waited) (last : AreLast ws s) where
@@ -277,18 +297,20 @@ module _ (g : Geometry) (o : Opening) (found : List LogRecord) (es : List Entry)
   event_last (Resumed session step) new h = resume_waits_have g (IsLastOf ws) (same_lock ws) s new session step h last
   event_last (Forced n) new h = subst (AreLast ws) (sym h.2) last
   event_last HasFailed new h = subst (AreLast ws) (sym h) last
+  event_last (TicketAsked ticket answer) new h = subst (AreLast ws) (sym h.1) last
 
   -- what it adds to the history tells what it told
-  call_told : (session : ℕ) (c : Call) (step : Step) (new : State) → exchanges_in (entries_of_call s session c step new) ≡ told_of session c step
-  call_told session c (Done answer) new = refl
+  call_told : (session : ℕ) (c : Call) (step : Step) (new : State) → tellings_in (entries_of_call s session c step new) ≡ told_of session c step
+  call_told session call.Commit (Done answer) new = refl
+  call_told session _ (Done answer) new = refl
   call_told session c (Refused f) new =
       let told = Exchanged session (txn_of new.sessions session) (exchange c (Err f)) ∷ [] in
-      exchanges-append (decisions_made s new) told ∙ ap (λ (l : Told). l ++ exchanges_in told) (decides_alone s new)
+      exchanges-append (decisions_made s new) told ∙ ap (λ (l : Told). l ++ tellings_in told) (decides_alone s new)
   call_told session c (Waits (Durable n)) new = decides_alone s new
   call_told session c (Waits (Lock at)) new = refl
   call_told session c Nothing new = refl
 
-  resumed_told : (w : Waiting) (step : Step) → exchanges_in (entries_of_resumed s w step) ≡ told_of w.session w.call step
+  resumed_told : (w : Waiting) (step : Step) → tellings_in (entries_of_resumed s w step) ≡ told_of w.session w.call step
   resumed_told w (Done answer) = refl
   resumed_told w (Refused f) = refl
   resumed_told w (Waits wait) = refl
@@ -307,14 +329,14 @@ module _ (g : Geometry) (o : Opening) (found : List LogRecord) (es : List Entry)
       by first mid (inr goes) rounds h = absurd (idle goes.0 goes.1 goes.2)
 
   resume_told : (session : ℕ) (step : Step) (new : State) → SettledResume g s session step new
-      → exchanges_in (entries_of_resume s session step) ≡ told_of_waiting session (last_waited session ws) step
+      → tellings_in (entries_of_resume s session step) ≡ told_of_waiting session (last_waited session ws) step
   resume_told session step new h = by (call_waiting session s.waiting) refl
     where
       told_nothing : (o : Option Call) → told_of_waiting session o Nothing ≡ []
       told_nothing None = refl
       told_nothing (Some c) = refl
 
-      by : (o : Option Waiting) → call_waiting session s.waiting ≡ o → exchanges_in (entries_of_waiting s o step) ≡ told_of_waiting session (last_waited session ws) step
+      by : (o : Option Waiting) → call_waiting session s.waiting ≡ o → tellings_in (entries_of_waiting s o step) ≡ told_of_waiting session (last_waited session ws) step
       by None none =
           sym (told_nothing (last_waited session ws))
           ∙ ap (told_of_waiting session (last_waited session ws)) (sym (nothing_waits session step new (λ w there. waits_not session s.waiting none w there) h))
@@ -323,34 +345,35 @@ module _ (g : Geometry) (o : Opening) (found : List LogRecord) (es : List Entry)
           let which : last_waited session ws ≡ Some w.call = ap (λ n. last_waited n ws) (sym is.1) ∙ last w is.0 in
           resumed_told w step ∙ ap (λ n. told_of n w.call step) is.1 ∙ ap (λ (o : Option Call). told_of_waiting session o step) (sym which)
 
-  pub event_told : (e : ManagerEvent) (new : State) → EventMoves g s e new → exchanges_in (entries_of s e new) ≡ told_by_move ws e
+  pub event_told : (e : ManagerEvent) (new : State) → EventMoves g s e new → tellings_in (entries_of s e new) ≡ told_by_move ws e
   event_told (Called session c step) new h = call_told session c step new
   event_told (Resumed session step) new h = resume_told session step new h
   event_told (Forced n) new h = refl
   event_told HasFailed new h = refl
+  event_told (TicketAsked ticket answer) new h = refl
 
 -- ---- any number of them
 
 -- what the events of a manager tell, and the calls that wait behind them
 pub record HasTold (ws : Waited) (moves : List ManagerEvent) (last : State) (made : List Entry) : Type 0 where
-  pub told : exchanges_in made ≡ told_in ws moves
+  pub told : tellings_in made ≡ told_in ws moves
   pub waits : AreLast (waited_in ws moves) last
 
 module _ (g : Geometry) (stream_bytes : ℕ) (o : Opening) (found : List LogRecord) where
   pub have_told : (es : List Entry) (ws : Waited) (m : StoredState) → IsUnderWay g stream_bytes o found es m → AreLast ws m.state → (events : List StoredEvent) (last : StoredState)
       (made : List Entry) → StoredMoves g m events last made → HasTold ws (managed events) last.state made
-  have_told es ws m k are [] last made h = record { told = ap exchanges_in h.1; waits = subst (λ (x : StoredState). AreLast ws x.state) (sym h.0) are }
+  have_told es ws m k are [] last made h = record { told = ap tellings_in h.1; waits = subst (λ (x : StoredState). AreLast ws x.state) (sym h.0) are }
   have_told es ws m k are (Manage e works ∷ events) last made h =
       let new = h.0 in
       let next = step_under_way g stream_bytes o found es m (Manage e works) new k h.2 in
       let rest = have_told (es ++ entries_of m.state e new.state) (waited_behind_move ws e) new next (event_last g o found es m.state k.state ws are e new.state h.2.0) events last h.1 h.3 in
       record {
-        told = ap exchanges_in h.4 ∙ exchanges-append (entries_of m.state e new.state) h.1
-            ∙ ap (λ (l : Told). l ++ exchanges_in h.1) (event_told g o found es m.state k.state ws are e new.state h.2.0) ∙ ap (λ (l : Told). told_by_move ws e ++ l) rest.told;
+        told = ap tellings_in h.4 ∙ exchanges-append (entries_of m.state e new.state) h.1
+            ∙ ap (λ (l : Told). l ++ tellings_in h.1) (event_told g o found es m.state k.state ws are e new.state h.2.0) ∙ ap (λ (l : Told). told_by_move ws e ++ l) rest.told;
         waits = rest.waits;
       }
   have_told es ws m k are (Tend works ∷ events) last made h =
       let new = h.0 in
       let next = step_under_way g stream_bytes o found es m (Tend works) new k h.2 in
       let rest = have_told (es ++ []) ws new next (subst (AreLast ws) (sym h.2.0) are) events last h.1 h.3 in
-      record { told = ap exchanges_in h.4 ∙ rest.told; waits = rest.waits }
+      record { told = ap tellings_in h.4 ∙ rest.told; waits = rest.waits }

@@ -2,7 +2,7 @@
 use Rattle.std.proofs.Common.{◌≡◌, ◌⊎◌, inl, inr, ⊎_elim, List, [], ◌∷◌, ◌++◌, ℕ, false, true, refl, sym, ap, subst, ◌∙◌}
 use Rattle.shore_types.specs.declared.layout.Geometry.{Geometry}
 use Rattle.shore_types.specs.declared.locking.Granule.{Granule}
-use Rattle.shore_model.specs.declared.calls.Answer.TheVariants.{Committed, Prepared, Resolved}
+use Rattle.shore_model.specs.declared.calls.Answer.TheVariants.{Prepared, Resolved}
 use Rattle.shore_disk.specs.declared.device.Disk.{Ghosts}
 use Rattle.shore_model.specs.declared.calls.Answer.{Answer}
 use Rattle.shore_model.specs.declared.calls.Call.{Call}
@@ -139,9 +139,8 @@ failed_call_stays g s session c step new h fails = by h.rounds h.settles
 
 wait_keeps : (g : Geometry) (s : State) (w : Waiting) (wait : Wait) (step : Step) (new : State) → s.failed ≡ false → ResumesWait g s w wait step new → new.failed ≡ true → HasSameLog s new
 wait_keeps g s w (Durable n) step new running (inl still) failed = same_log_of s new s still.2 (refl, refl)
-wait_keeps g s w (Durable n) step new running (inr (inl answered)) failed = runs_on s new _ running answered.2.3 refl failed
-wait_keeps g s w (Durable n) step new running (inr (inr (inl prepared))) failed = runs_on s new _ running prepared.2.4 refl failed
-wait_keeps g s w (Durable n) step new running (inr (inr (inr resolved))) failed = runs_on s new _ running resolved.2.3 refl failed
+wait_keeps g s w (Durable n) step new running (inr (inl prepared)) failed = runs_on s new _ running prepared.2.4 refl failed
+wait_keeps g s w (Durable n) step new running (inr (inr resolved)) failed = runs_on s new _ running resolved.2.3 refl failed
 wait_keeps g s w (Lock at) step new running moves failed =
     ⊎_elim (λ still. same_log_of s new s still.2 (refl, refl)) (λ goes. goes_keeps g (wait_refused s w.session) new running failed moves.0 w.call step goes.1) moves.2
 
@@ -162,9 +161,6 @@ wait_logs_nothing g s session at new (inl idle) = same_log_of s new s idle.2 (re
 wait_logs_nothing g s session at new (inr resumed) =
     ⊎_elim (λ before. same_log_of s new (wait_refused s resumed.0.session) before.2 (refl, refl)) (λ goes. waits_for resumed.0 resumed.0.wait goes.1) resumed.3
   where
-    durable_or_lock : (n : ℕ) (at : Granule) → ◌≡◌ {A = Step} (Waits (Lock at)) (Done Committed) → ⊥
-    durable_or_lock n at e = cc
-
     prepared_or_lock : (at : Granule) → ◌≡◌ {A = Step} (Waits (Lock at)) (Done Prepared) → ⊥
     prepared_or_lock at e = cc
 
@@ -173,9 +169,8 @@ wait_logs_nothing g s session at new (inr resumed) =
 
     waits_for : (w : Waiting) (wait : Wait) → ResumesWait g s w wait (Waits (Lock at)) new → HasSameLog s new
     waits_for w (Durable n) (inl still) = same_log_of s new s still.2 (refl, refl)
-    waits_for w (Durable n) (inr (inl answered)) = absurd (durable_or_lock n at answered.1)
-    waits_for w (Durable n) (inr (inr (inl prepared))) = absurd (prepared_or_lock at prepared.1)
-    waits_for w (Durable n) (inr (inr (inr resolved))) = absurd (resolved_or_lock at resolved.1)
+    waits_for w (Durable n) (inr (inl prepared)) = absurd (prepared_or_lock at prepared.1)
+    waits_for w (Durable n) (inr (inr resolved)) = absurd (resolved_or_lock at resolved.1)
     waits_for w (Lock on) h = ⊎_elim (λ still. same_log_of s new s still.2 (refl, refl)) (λ goes. same_log_of s new _ goes.1.5 (refl, refl)) h.2
 
 victims_log_nothing : (vs : List Victim) (s : State) (t : ℕ) (new : State) → TakesVictims s t vs new → HasSameLog s new

@@ -6,6 +6,8 @@ pub mod RunLemmas
 pub mod ForceLemmas
 pub mod GrowLemmas
 pub mod CallLemmas
+pub mod DecidedLemmas
+pub mod DecisionLemmas
 pub mod DumpLemmas
 pub mod FuseLemmas
 pub mod LogOpenings

@@ -1,5 +1,5 @@
 -- The world that an open answers, by what its restart has left.
-use Rattle.std.proofs.Common.{◌≡◌, inl, ◌-◌, ◌≤◌, ℕ, List, [], length, refl, subst}
+use Rattle.std.proofs.Common.{◌≡◌, inl, ◌-◌, ◌≤◌, ℕ, List, [], length, refl}
 use Rattle.shore_types.specs.declared.layout.Geometry.{Geometry}
 use Rattle.shore_types.specs.declared.layout.TheConstants.{LOG_FRONT_BYTES}
 use Rattle.shore_disk.specs.Device.{size}
@@ -8,7 +8,7 @@ use Rattle.shore_model.specs.declared.log_records.LogRecord.{LogRecord}
 use Rattle.shore_log.specs.Settled.{records_of_log}
 use Rattle.laws_lives.specs.Recovery.{IsRecoverable, RecoveryState}
 use Rattle.laws_lives.specs.Restarts.{IsRestartOf}
-use Rattle.laws_lives.specs.Undo.{HasNoLosers, IsLoser}
+use Rattle.laws_lives.specs.Undo.{HasNoLosers}
 use Rattle.laws_lives.proofs.Restarts.{events_restart}
 use Rattle.laws_runs.proofs.ManagerLogs.{opened_over}
 use Rattle.laws_heaps.proofs.LoggedLeft.{left_settled}
@@ -56,7 +56,6 @@ module _ {L V : Type 0} {G : Ghosts L} {H : Ghosts V} (w : World L V G H) (g : G
         };
         over = opens.opened;
         from = opened_over g (size (history_in w) - LOG_FRONT_BYTES) o found ready opens.first kept redone restart (opening_logged found) over opens.stream opens.counts opens.next
-            (λ t loser. opens.ended t (subst (λ (l : List LogRecord). IsLoser l t) rest.records loser))
             (locks_in_bounds g found roomy.placed.inside (locks_of w.core) doubts.locks opens.first opens.is_in.beside.parts.stands.locks roomy.locks);
         doubts = doubts;
       }

@@ -55,14 +55,13 @@ pub record HasPrepare (s : State) (session : ℕ) (global : List ℕ) (new : Sta
   pub logged : new.log ≡ and_record txn.txn s.log (payload.Prepare global (granules_in_ex s txn))
 
 prepare_waits : (s : State) (session n : ℕ) (global : List ℕ) (new : State) → WaitsForItsRecord s session (call.Prepare global) n new → HasPrepare s session global new
-prepare_waits s session n global new (inl h) = let clash = h.0 in absurd cc
-prepare_waits s session n global new (inr (inl (name, is, number, (a, of, left)))) = record {
+prepare_waits s session n global new (inl (name, is, number, (a, of, left))) = record {
   txn = a;
   of = of;
   logged = ap (λ (x : State). x.log) left ∙ ap (λ (g : List ℕ). and_record a.txn s.log (payload.Prepare g (granules_in_ex s a))) (same_global global name is);
 }
-prepare_waits s session n global new (inr (inr (inl h))) = let clash = h.1 in absurd cc
-prepare_waits s session n global new (inr (inr (inr h))) = let clash = h.1 in absurd cc
+prepare_waits s session n global new (inr (inl h)) = let clash = h.1 in absurd cc
+prepare_waits s session n global new (inr (inr h)) = let clash = h.1 in absurd cc
 
 -- ---- who is in doubt
 

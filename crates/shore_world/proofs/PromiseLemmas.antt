@@ -1,20 +1,19 @@
 -- What a world that is a manager keeps, by the laws over plain data.
-use Rattle.std.proofs.Common.{◌≡◌, ◌≢◌, ◌<◌, ◌⊎◌, inl, inr, ⊎_elim, List, [], ◌++◌, ℕ, length, map, refl, sym, ap, subst, append-nil, ◌∙◌, arith}
+use Rattle.std.proofs.Common.{◌≡◌, ◌≢◌, ◌<◌, ◌⊎◌, inl, inr, ⊎_elim, List, [], ◌++◌, ℕ, length, map, false, refl, sym, ap, subst, append-nil, ◌∙◌, arith}
 use Rattle.std.proofs.lemmas.Bool.{true≢false}
 use Rattle.std.specs.List.{AllByRecursion}
 use Rattle.shore_types.specs.declared.layout.Geometry.{Geometry}
 use Rattle.shore_disk.specs.declared.device.Disk.{Ghosts}
 use Rattle.shore_model.specs.declared.calls.Call.{Call}
-use Rattle.shore_model.specs.declared.calls.Exchange.{Exchange}
 use Rattle.shore_model.specs.declared.histories.Decision.TheVariants.{Commit, RollBack}
 use Rattle.shore_model.specs.declared.histories.Entry.{Entry}
 use Rattle.shore_model.specs.declared.histories.Opening.{Opening}
 use Rattle.shore_model.specs.Locks.{Harmony, WellRooted}
 use Rattle.shore_model.specs.declared.log_records.LogRecord.{LogRecord}
 use Rattle.shore_model.specs.declared.step.Step.{Step}
-use Rattle.shore_model.specs.Histories.{IsHistory, Sound, decisions, free, in_doubt, session_state, shown}
+use Rattle.shore_model.specs.Histories.{IsHistory, RunsAloneAfter, Sound, decisions, free, in_doubt, session_state, shown}
 use Rattle.shore_model.specs.declared.sessions.SessionState.{SessionState}
-use Rattle.shore_model.specs.Logs.{logged_writes, records_told}
+use Rattle.shore_model.specs.Logs.{is_over, logged_writes, records_told}
 use Rattle.shore_model.specs.Records.{overlays, scan_of}
 use Rattle.shore_model.specs.Requests.{HasNoCycle, held_by_all}
 use Rattle.shore_locks.specs.Tables.{Table}
@@ -24,6 +23,7 @@ use Rattle.laws_lives.specs.OwnSeats.{IsIn, seat_of}
 use Rattle.laws_lives.specs.LogPrefixes.{decisions_in}
 use Rattle.laws_lives.specs.Sessions.{IsFree, PreparedTxn, ResolvedTxn, SessionTxn, Sessions, in_doubt_of, in_prepared, in_txn, pair_of, pairs_of, resolved_of, txns_of}
 use Rattle.laws_lives.specs.Soundness.{decided_txn, history_from, serial_after}
+use Rattle.laws_lives.specs.Undo.{IsLoser}
 use Rattle.laws_lives.specs.Views.{IsAmong}
 use Rattle.laws_lives.proofs.Lists.{among_map, mapped_one}
 use Rattle.laws_lives.proofs.Members.{txn_of_one}
@@ -31,7 +31,7 @@ use Rattle.laws_lives.proofs.WholeSteps.{among_or_not}
 use Rattle.laws_calls.proofs.OwnCycles.{events_begin}
 use Rattle.laws_calls.proofs.RolledDecisions.{rolled_back_decided, rolled_uncommitted}
 use Rattle.laws_calls.proofs.Rooted.{stay_rooted}
-use Rattle.laws_calls.proofs.SessionTells.{all_shown}
+use Rattle.laws_calls.proofs.SessionTells.{all_shown, session_runs_alone}
 use Rattle.laws_calls.proofs.SettledThere.{events_there}
 use Rattle.laws_calls.specs.Events.{EventsMove, IsStateAfter, ManagerEvent}
 use Rattle.laws_runs.proofs.UnderWay.{plain_moves}
@@ -40,7 +40,7 @@ use Rattle.shore_world.specs.declared.event.Event.{Event}
 use Rattle.shore_world.specs.declared.world.World.{World}
 use Rattle.shore_world.specs.EventMoves.{moves_by}
 use Rattle.shore_world.specs.Events.{IsServedEvent}
-use Rattle.shore_world.specs.Exchanges.{AreLast, exchanges_in, exchanges_of, told_by, waited_after, waited_behind}
+use Rattle.shore_world.specs.Exchanges.{AreLast, Telling, tellings_in, tellings_of, told_by, waited_after, waited_behind}
 use Rattle.shore_world.specs.Lives.{DumpsShow}
 use Rattle.shore_world.specs.Promises.{AreUnended, GoesOnAs, IsManagerOf, IsStateOf}
 use Rattle.shore_world.specs.Worlds.{Between, EventStep, Runs, Steps, geometry_in, list_in, requests_in, stream_bytes_in}
@@ -73,10 +73,12 @@ module _ {L V : Type 0} {G : Ghosts L} {H : Ghosts V} (w : World L V G H) (o : O
   as_up = record { disk = k.disk; at = k.at; geometry = refl; long = refl; under_way = k.under_way }
 
   -- what a run has come to is a manager again
-  pub record HasGoneOn (new : World L V G H) (waited : Waited) (told : List (ℕ × Exchange)) : Type 0 where
+  pub record HasGoneOn (new : World L V G H) (waited : Waited) (told : List Telling) : Type 0 where
     pub made : List Entry
     pub manager : IsManagerOf new o (es ++ made) waited
-    pub is_told : exchanges_in made ≡ told
+    pub is_told : tellings_in made ≡ told
+    -- opened on the same log
+    pub same : manager.found ≡ k.found
 
   ran_manager : (moves : List ManagerEvent) (new : World L V G H) (ran : HasRun (geometry_in w) (stream_bytes_in w) o k.found k.log_front k.front es k.now moves new)
       → (waited : Waited) → waited_in ws moves ≡ waited → IsManagerOf new o (es ++ ran.made) waited
@@ -101,19 +103,20 @@ module _ {L V : Type 0} {G : Ghosts L} {H : Ghosts V} (w : World L V G H) (o : O
 
   -- it tells what its moves do
   ran_told : (moves : List ManagerEvent) (new : World L V G H) (ran : HasRun (geometry_in w) (stream_bytes_in w) o k.found k.log_front k.front es k.now moves new)
-      → exchanges_in ran.made ≡ told_in ws moves
+      → tellings_in ran.made ≡ told_in ws moves
   ran_told moves new ran =
       (have_told (geometry_in w) (stream_bytes_in w) o k.found es ws k.now k.under_way k.waited ran.events ran.last ran.made ran.stored).told ∙ ap (told_in ws) ran.same
 
   ran_on : (moves : List ManagerEvent) (new : World L V G H) → HasRun (geometry_in w) (stream_bytes_in w) o k.found k.log_front k.front es k.now moves new
       → HasGoneOn new (waited_in ws moves) (told_in ws moves)
-  ran_on moves new ran = record { made = ran.made; manager = ran_manager moves new ran (waited_in ws moves) refl; is_told = ran_told moves new ran }
+  unfolding ran_manager
+  ran_on moves new ran = record { made = ran.made; manager = ran_manager moves new ran (waited_in ws moves) refl; is_told = ran_told moves new ran; same = refl }
 
   pub goes_on : (events : List Event) (steps : List Step) (moves : List ManagerEvent) (new : World L V G H) → AllByRecursion IsServedEvent events → Runs w events steps moves new
-      → HasGoneOn new (waited_after ws events steps) (exchanges_of ws events steps)
+      → HasGoneOn new (waited_after ws events steps) (tellings_of ws events steps)
   goes_on events steps moves new served runs =
       let ran = run_run (geometry_in w) (stream_bytes_in w) o k.found k.log_front k.front es w k.now as_up events steps moves new served runs in
-      subst (λ (l : Waited). HasGoneOn new l (exchanges_of ws events steps)) (runs_wait w ws events steps moves new runs)
+      subst (λ (l : Waited). HasGoneOn new l (tellings_of ws events steps)) (runs_wait w ws events steps moves new runs)
       (subst (HasGoneOn new (waited_in ws moves)) (runs_told w ws events steps moves new runs) (ran_on moves new ran))
 
   -- ---- between two events
@@ -122,7 +125,7 @@ module _ {L V : Type 0} {G : Ghosts L} {H : Ghosts V} (w : World L V G H) (o : O
   pub record HasMovedBy (moves : List ManagerEvent) (new : World L V G H) : Type 0 where
     pub made : List Entry
     pub manager : IsManagerOf new o (es ++ made) ws
-    pub told : exchanges_in made ≡ []
+    pub told : tellings_in made ≡ []
     pub moved : EventsMove (geometry_in w) k.now.state moves manager.now.state
 
   pub between_on : (failures : List ManagerEvent) (new : World L V G H) → Between w failures new → HasMovedBy failures new
@@ -144,7 +147,7 @@ module _ {L V : Type 0} {G : Ghosts L} {H : Ghosts V} (w : World L V G H) (o : O
 
   pub record HasStepped (e : Event) (step : Step) (new : World L V G H) : Type 0 where
     pub on : GoesOnAs new o es ws e step
-    pub told : exchanges_in on.made ≡ told_by ws e step
+    pub told : tellings_in on.made ≡ told_by ws e step
     pub moves : EventStep g k.now.state e step on.manager.now.state
 
   pub stepped : (e : Event) (step : Step) (new : World L V G H) → IsServedEvent e → Steps w e step new → HasStepped e step new
@@ -212,6 +215,12 @@ module _ {L V : Type 0} {G : Ghosts L} {H : Ghosts V} (w : World L V G H) (o : O
 
   -- ---- those that have not ended
 
+  pub under_way_not_over : (t : ℕ) → IsAmong t under_way_of → is_over t (list_in w) ≡ false
+  under_way_not_over t there = subst (λ (l : List LogRecord). is_over t l ≡ false) same_log (k.under_way.leaves.whole.unended t there)
+
+  pub losers_under_way : (t : ℕ) → IsLoser (list_in w) t → IsAmong t under_way_of
+  losers_under_way t loser = k.under_way.leaves.losers t (subst (λ (l : List LogRecord). IsLoser l t) (sym same_log) loser)
+
   -- one that a session is in
   unended_own : (t : ℕ) → IsAmong t under_way_of → IsFree sessions_now t
       → (session : ℕ) × (session_state session free es ≡ in_txn t) × AllByRecursion (λ d. decided_txn d ≢ t) (decisions es)
@@ -220,7 +229,7 @@ module _ {L V : Type 0} {G : Ghosts L} {H : Ghosts V} (w : World L V G H) (o : O
         a.0.session,
         k.under_way.state.sessions.agree.seats a.0.session
             ∙ k.under_way.state.sessions.seats.own a.0.session t
-            (inl (subst (λ (n : ℕ). IsAmong (a.0.session, n) (map seat_of sessions_now.active)) a.2 (among_map seat_of a.0 sessions_now.active a.1), free.0, free.1)),
+            (subst (λ (n : ℕ). IsAmong (a.0.session, n) (map seat_of sessions_now.active)) a.2 (among_map seat_of a.0 sessions_now.active a.1), free.0, free.1),
         k.under_way.state.sessions.sound.undecided t there free,
       )
 
@@ -250,7 +259,7 @@ module _ {L V : Type 0} {G : Ghosts L} {H : Ghosts V} (w : World L V G H) (o : O
       (among_or_not t (resolved_of sessions_now)))
       (among_or_not t (in_doubt_of sessions_now))
 
-  -- whoever is in a transaction by the history is in one that is under way, or whose commit is
+  -- whoever is in a transaction by the history is in one that is under way
   same_txn : (t u : ℕ) → in_txn t ≡ in_txn u → u ≡ t
   same_txn t u is = ap (λ (x : SessionState). x.txn) (sym is)
 
@@ -259,20 +268,37 @@ module _ {L V : Type 0} {G : Ghosts L} {H : Ghosts V} (w : World L V G H) (o : O
       let a = mapped_one seat_of (session, t) xs there in
       subst (λ (n : ℕ). IsAmong n (txns_of xs)) (ap (λ (p : ℕ × ℕ). p.1) a.2) (among_map (λ (b : SessionTxn). b.txn) a.0 xs a.1)
 
-  pub each_there : (session t : ℕ) → session_state session free es ≡ in_txn t → 0 < t
-      → IsAmong t under_way_of ⊎ IsAmong t (txns_of sessions_now.committing)
-  each_there session t is some = by (k.under_way.state.sessions.seats.there session)
+  abbrev IsSeated : ℕ → ℕ → Type 0
+  IsSeated session t = IsIn (map seat_of sessions_now.active) (in_doubt_of sessions_now) (resolved_of sessions_now) session t
+
+  each_seated : (session t : ℕ) → session_state session free es ≡ in_txn t → 0 < t → IsSeated session t
+  each_seated session t is some = by (k.under_way.state.sessions.seats.there session)
     where
       seat : in_txn t ≡ sessions_now.seats session
       seat = sym is ∙ k.under_way.state.sessions.agree.seats session
 
-      among : (u : ℕ) → IsIn (map seat_of sessions_now.active) (map seat_of sessions_now.committing) (in_doubt_of sessions_now) (resolved_of sessions_now) session u → u ≡ t → IsAmong t (txns_of sessions_now.active) ⊎ IsAmong t (txns_of sessions_now.committing)
-      among u (inl active) same = inl (subst (λ (n : ℕ). IsAmong n (txns_of sessions_now.active)) same (txn_seated session u sessions_now.active active.0))
-      among u (inr commits) same = inr (subst (λ (n : ℕ). IsAmong n (txns_of sessions_now.committing)) same (txn_seated session u sessions_now.committing commits))
-
-      by : (sessions_now.seats session ≡ free)
-          ⊎ (((u : ℕ) × IsIn (map seat_of sessions_now.active) (map seat_of sessions_now.committing) (in_doubt_of sessions_now) (resolved_of sessions_now) session u) ⊎ ((u : ℕ) × IsAmong u (in_doubt_of sessions_now) × (sessions_now.seats session ≡ in_prepared u)))
-          → IsAmong t (txns_of sessions_now.active) ⊎ IsAmong t (txns_of sessions_now.committing)
+      by : (sessions_now.seats session ≡ free) ⊎ (((u : ℕ) × IsSeated session u) ⊎ ((u : ℕ) × IsAmong u (in_doubt_of sessions_now) × (sessions_now.seats session ≡ in_prepared u)))
+          → IsSeated session t
       by (inl none) = absurd (none_is t some (ap (λ (x : SessionState). x.txn) (sym (seat ∙ none))))
-      by (inr (inl (u, there))) = among u there (same_txn t u (seat ∙ k.under_way.state.sessions.seats.own session u there))
+      by (inr (inl (u, there))) = subst (IsSeated session) (same_txn t u (seat ∙ k.under_way.state.sessions.seats.own session u there)) there
       by (inr (inr (u, doubt, prepared))) = absurd (true≢false (sym (ap (λ (x : SessionState). x.prepared) (seat ∙ prepared))))
+
+  pub each_there : (session t : ℕ) → session_state session free es ≡ in_txn t → 0 < t → IsAmong t under_way_of
+  each_there session t is some = txn_seated session t sessions_now.active (each_seated session t is some).0
+
+  -- .. and it has decided nothing
+  pub each_undecided : (session t : ℕ) → session_state session free es ≡ in_txn t → 0 < t → AllByRecursion (λ d. decided_txn d ≢ t) (decisions es)
+  each_undecided session t is some =
+      let seated = each_seated session t is some in
+      k.under_way.state.sessions.sound.undecided t (txn_seated session t sessions_now.active seated.0) (seated.1, seated.2)
+
+  -- .. and what it was answered it might have been answered alone, on what is decided
+  pub each_alone : (session t : ℕ) → session_state session free es ≡ in_txn t → 0 < t → RunsAloneAfter (history_from o es) (decisions es) t
+  each_alone session t is some =
+      let seated = each_seated session t is some in
+      let a = mapped_one seat_of (session, t) sessions_now.active seated.0 in
+      let own = k.under_way.state.sessions.seats.own session t seated in
+      let of : a.0.session ≡ session = ap (λ (p : ℕ × ℕ). p.0) a.2 in
+      let its : a.0.txn ≡ t = ap (λ (p : ℕ × ℕ). p.1) a.2 in
+      subst (RunsAloneAfter (history_from o es) (decisions es)) its
+      (session_runs_alone o k.found es k.now.state k.under_way.state a.0 (a.1, ap sessions_now.seats of ∙ own ∙ ap in_txn (sym its), subst (λ (n : ℕ). 0 < n) (sym its) some))

@@ -1,5 +1,5 @@
 -- What a restart that is refused names.
-use Rattle.std.proofs.Common.{◌≡◌, ◌⊎◌, ◌<◌, ◌≤◌, ℕ, List, Some, None, Result, Err, inl, inr, refl, sym, ap, subst, ◌∙◌, length, arith}
+use Rattle.std.proofs.Common.{◌≡◌, ◌⊎◌, ◌<◌, ◌≤◌, ℕ, List, [], Option, Some, None, Result, Err, inl, inr, refl, sym, ap, subst, ◌∙◌, length, arith}
 use Rattle.shore_types.specs.declared.faults.Device.TheVariants as device
 use Rattle.shore_types.specs.declared.faults.Fault.{Fault}
 use Rattle.shore_types.specs.declared.faults.Fault.TheVariants as fault
@@ -11,6 +11,8 @@ use Rattle.shore_disk.specs.declared.device.Disk.{Ghosts}
 use Rattle.shore_dwrite.specs.Settled as settled_device
 use Rattle.shore_dwrite.specs.Shown.{Shows}
 use Rattle.shore_dwrite.specs.declared.device.PageDev.{PageDev}
+use Rattle.shore_dwrite.specs.Volumes.{page_number}
+use Rattle.shore_pool.specs.Pages.{IsPage}
 use Rattle.shore_pool.specs.declared.frame.Frame.{Frame}
 use Rattle.shore_heap.specs.declared.heap.Heap.{Heap}
 use Rattle.shore_heap.specs.Heaps as heaps
@@ -28,13 +30,19 @@ use Rattle.shore_world.specs.Refusals.{IsNamedFor, NamesAnchor, NamesPage, Names
 
 -- a heap with no page in a frame, over a volume that is settled
 pub held_empty : {V : Type 0} {H : Ghosts V} (front : List ℕ) (disk : ℕ → List ℕ) (heap : Heap V H) (dev : PageDev V H) (last : ℕ) → heaps.device_of heap ≡ dev → ((k : ℕ) → heaps.frame_at heap k ≡ None)
-    → settled_device.IsSettled dev front disk → IsHeld front disk heap last
+    → settled_device.IsSettled dev front disk → IsHeld front disk disk heap [] last
 held_empty front disk heap dev last same none settled = record {
   holds = record {
     settled = subst (λ d. settled_device.IsSettled d front disk) (sym same) settled;
     written = λ k f there clean. absurd (no_frame k f there);
   };
-  low = λ k f there dirty. absurd (no_frame k f there);
+  low = λ k f there. absurd (no_frame k f there);
+  settled = λ k f there. absurd (no_frame k f there);
+  made = λ p page there is. record {
+    was = page;
+    read = subst (λ (o : Option Frame). IsPage o (disk (page_number (heaps.geometry_of heap) p)) p page.number page.images) (none (page_number (heaps.geometry_of heap) p)) is;
+    redone = refl;
+  };
 }
   where
     no_frame : (k : ℕ) (f : Frame) → heaps.frame_at heap k ≡ Some f → ⊥

@@ -22,6 +22,7 @@ use Rattle.shore_analysis.proofs.InTurn.{in_order_undone}
 use Rattle.shore_analysis.specs.Meant.{MayBeNext}
 use Rattle.shore_restart.specs.declared.errors.RestartError.{RestartError}
 use Rattle.shore_restart.specs.declared.errors.RestartError.TheVariants as error
+use Rattle.shore_restart.specs.AnyPages.{IsBadOn, IsMisfitOn}
 use Rattle.shore_restart.specs.Room.{LeavesRoom}
 use Rattle.shore_restart.specs.Turns.{IsBadRecord, IsMisfit, IsUndoneSoFar, LacksRoom}
 use Rattle.shore_restart.specs.Doubts.{CannotHold, IsTaken, undos_told}
@@ -37,6 +38,11 @@ some_bad None P bad each = bad
 pub bad_misfit : (g : Geometry) (log : List LogRecord) (n : ℕ) → IsTaken g log → IsBadRecord g log n → IsMisfit log n
 bad_misfit g log n taken (inl refused) = absurd (taken_or_refused g log n taken refused)
 bad_misfit g log n taken (inr (also, misfit)) = misfit
+
+-- .. over the pages of these texts too
+pub bad_misfit_on : (g : Geometry) (texts : ℕ → List ℕ) (log : List LogRecord) (n : ℕ) → IsTaken g log → IsBadOn g texts log n → IsMisfitOn g texts log n
+bad_misfit_on g texts log n taken (inl refused) = absurd (taken_or_refused g log n taken refused)
+bad_misfit_on g texts log n taken (inr (also, misfit)) = misfit
 
 module _ (g : Geometry) (stream_bytes least : ℕ) (short : stream_bytes ≤ MAX_LOG_BYTES) where
   -- beside what those in doubt have reserved
@@ -73,9 +79,9 @@ module _ (g : Geometry) (stream_bytes least : ℕ) (short : stream_bytes ≤ MAX
       some_bad (slice_get log (n - 1)) (λ r. MayBeNext g (take (n - 1) log) r) unmeant.here (λ r at. meant g stream_bytes least log k lawful (n - 1) r at)
   none_is_bad log n k lawful stand (inl (inr (all, cannot))) = none_without_place log n k lawful stand cannot
   none_is_bad log n k lawful stand (inr (taken, inl (some, (r, at, misfit)))) = misfit (each_fits g stream_bytes least log k (n - 1) r at)
-  none_is_bad log n k lawful stand (inr (taken, inr (so_far, undone, inl (t, loser, next, is, misfit)))) =
+  none_is_bad log n k lawful stand (inr (taken, inr (so_far, undone, fit, inl (t, loser, next, is, misfit)))) =
       misfit (undo_fits g stream_bytes so_far t (whole_roomy g stream_bytes least so_far (undone_so_far log so_far k undone)) loser)
-  none_is_bad log n k lawful stand (inr (taken, inr (so_far, undone, inr (ended, unkept)))) =
+  none_is_bad log n k lawful stand (inr (taken, inr (so_far, undone, fit, inr (ended, unkept)))) =
       none_unkept g stream_bytes so_far (whole_roomy g stream_bytes least so_far (undone_so_far log so_far k undone)) (doubts_once so_far (lawful_so_far log so_far lawful undone)) n unkept
 
   -- so what it is refused with comes from outside

@@ -1,5 +1,6 @@
 -- Events one after another, and the events that are no step of a force.
-use Rattle.std.proofs.Common.{◌≡◌, ◌⊎◌, inl, inr, ℕ, List, IfErr, [], ◌∷◌, ◌++◌, refl, sym, ◌∙◌, ap, subst, arith, append-nil, append_assoc}
+use Rattle.std.proofs.Common.{◌≡◌, ◌⊎◌, ◌≤◌, inl, inr, ℕ, Bool, true, List, IfErr, [], ◌∷◌, ◌++◌, refl, sym, ◌∙◌, ap, subst, arith, append-nil, append_assoc}
+use Rattle.std.specs.Prelude.{◌↔◌}
 use Rattle.shore_types.specs.declared.faults.Fault.TheVariants.{Damaged, Failed, Memory, NeedForce}
 use Rattle.shore_types.specs.declared.faults.Device.{Device}
 use Rattle.shore_types.specs.declared.layout.Geometry.{Geometry}
@@ -7,6 +8,7 @@ use Rattle.shore_disk.specs.Device.{size}
 use Rattle.shore_disk.specs.Cause.{HasCause}
 use Rattle.shore_disk.specs.declared.device.Disk.{Ghosts}
 use Rattle.laws_calls.proofs.SettledAtOnce.{at_once}
+use Rattle.shore_model.specs.declared.calls.Answer.TheVariants.{IsDurable}
 use Rattle.shore_model.specs.declared.step.Step.{Step}
 use Rattle.shore_model.specs.declared.step.Step.TheVariants.{Done, Waits, Refused, Nothing}
 use Rattle.shore_types.specs.declared.faults.Fault.{Fault}
@@ -26,7 +28,7 @@ use Rattle.shore_world.specs.declared.event.Event.TheVariants as event
 use Rattle.shore_world.specs.declared.world.World.{World}
 use Rattle.shore_world.specs.Events.{IsCall, IsOfForce, IsOfNoSession, IsOfPages, ReadBy, force_needed_at}
 use Rattle.shore_world.specs.EventMoves.{all_moves, moves_by}
-use Rattle.shore_world.specs.Worlds.{EventStep, HasFlushed, IsLike, IsUnchanged, EventMovesWorld, Runs, Steps, report_in}
+use Rattle.shore_world.specs.Worlds.{EventStep, HasFlushed, IsLike, IsUnchanged, EventMovesWorld, Runs, Steps, durable_in, report_in}
 use Rattle.shore_world.proofs.VolumeLemmas.{both_still, comes_unworked}
 
 -- ---- a run of events
@@ -83,6 +85,7 @@ module _ {L V : Type 0} {G : Ghosts L} {H : Ghosts V} where
 pub call_is_no_force : (e : Event) → IsCall e → IsOfPages e
 call_is_no_force (event.Call session call) is = tt
 call_is_no_force (event.Resume session) is = absurd is
+call_is_no_force (event.Ask ticket) is = absurd is
 call_is_no_force event.ForceStage is = absurd is
 call_is_no_force event.ForceOpen is = absurd is
 call_is_no_force event.FlushStep is = absurd is
@@ -90,6 +93,7 @@ call_is_no_force event.FlushStep is = absurd is
 of_both : (e : Event) → IsOfPages e → IsOfForce e → ⊥
 of_both (event.Call session call) one other = other
 of_both (event.Resume session) one other = other
+of_both (event.Ask ticket) one other = other
 of_both event.ForceStage one other = one
 of_both event.ForceOpen one other = one
 of_both event.FlushStep one other = other
@@ -100,12 +104,25 @@ call_is_no_flush e call is = subst IsCall is call
 pub call_is_no_own_step : (e : Event) → IsCall e → IsOfNoSession e → ⊥
 call_is_no_own_step (event.Call session call) is other = other
 call_is_no_own_step (event.Resume session) is other = is
+call_is_no_own_step (event.Ask ticket) is other = is
 call_is_no_own_step event.ForceStage is other = is
 call_is_no_own_step event.ForceOpen is other = is
 call_is_no_own_step event.FlushStep is other = is
 
 pub call_is_no_resume : (e : Event) (session : ℕ) → IsCall e → e ≡ event.Resume session → ⊥
 call_is_no_resume e session call is = subst IsCall is call
+
+pub call_is_no_ask : (e : Event) (ticket : ℕ) → IsCall e → e ≡ event.Ask ticket → ⊥
+call_is_no_ask e ticket call is = subst IsCall is call
+
+pub resume_is_no_ask : (session ticket : ℕ) → event.Resume session ≡ event.Ask ticket → ⊥
+resume_is_no_ask session ticket is = absurd cc
+
+pub force_is_no_ask : (e : Event) (ticket : ℕ) → IsOfForce e → e ≡ event.Ask ticket → ⊥
+force_is_no_ask e ticket force is = subst IsOfForce is force
+
+pub flush_is_no_ask : (ticket : ℕ) → event.FlushStep ≡ event.Ask ticket → ⊥
+flush_is_no_ask ticket is = absurd cc
 
 pub own_is_no_resume : (e : Event) (session : ℕ) → IsOfNoSession e → e ≡ event.Resume session → ⊥
 own_is_no_resume e session own is = subst IsOfNoSession is own
@@ -125,6 +142,13 @@ resume_is_no_flush session is = absurd cc
 
 pub stage_is_no_flush : event.ForceStage ≡ event.FlushStep → ⊥
 stage_is_no_flush is = absurd cc
+
+pub ask_is_no_flush : (ticket : ℕ) → event.Ask ticket ≡ event.FlushStep → ⊥
+ask_is_no_flush ticket is = absurd cc
+
+-- an ask for one ticket is none for another
+pub same_ticket : (n ticket : ℕ) → event.Ask n ≡ event.Ask ticket → n ≡ ticket
+same_ticket n ticket is = cc
 
 pub open_is_no_flush : event.ForceOpen ≡ event.FlushStep → ⊥
 open_is_no_flush is = absurd cc
@@ -155,8 +179,9 @@ pub no_force : {L V : Type 0} {G : Ghosts L} {H : Ghosts V} (old new : World L V
     → report_in new ≡ report_in old → EventMovesWorld old e step new → SameVolume old.core new.core → (e ≡ event.FlushStep → HasFlushed old step new)
     → Earns old.core (ReadBy old.core e) (fault_at step) → NeedsForceIn old.core (force_needed_at e old.core new.core) (fault_at step)
     → HasCause (fault_at step) (faults_of old.core) (faults_of new.core) → (IsOfNoSession e → step ≡ Nothing → IsUnchanged old new)
-    → ((session : ℕ) → e ≡ event.Resume session → NoneWaits old.core session → (step ≡ Nothing) × IsUnchanged old new) → Steps old e step new
-no_force {G = G} old new e step other device report moves same flushed earned unforced cause quiet none = record {
+    → ((session : ℕ) → e ≡ event.Resume session → NoneWaits old.core session → (step ≡ Nothing) × IsUnchanged old new)
+    → ((ticket : ℕ) → e ≡ event.Ask ticket → (answer : Bool) × (step ≡ Done (IsDurable answer)) × ((answer ≡ true) ↔ (ticket ≤ durable_in old)) × IsUnchanged old new) → Steps old e step new
+no_force {G = G} old new e step other device report moves same flushed earned unforced cause quiet none asked = record {
   moves = moves;
   still = λ is. device;
   volume = λ is. absurd (of_both e other is);
@@ -167,6 +192,7 @@ no_force {G = G} old new e step other device report moves same flushed earned un
   shut = λ is nothing. absurd (subst IsOfPages is other);
   quiet = quiet;
   none = none;
+  asked = asked;
   full = λ is refused room. subst IsOfPages is other;
   flushed = flushed;
   report = report;
@@ -179,6 +205,7 @@ no_force {G = G} old new e step other device report moves same flushed earned un
 pub not_copied : (g : Geometry) (s : State) (e : Event) → IsCall e → EventStep g s e (Refused Memory) s
 not_copied g s (event.Call session call) is = at_once g s session call (Refused Memory) s (inl (refl, refl)) tt
 not_copied g s (event.Resume session) is = absurd is
+not_copied g s (event.Ask ticket) is = absurd is
 not_copied g s event.ForceStage is = absurd is
 not_copied g s event.ForceOpen is = absurd is
 not_copied g s event.FlushStep is = absurd is

@@ -5,7 +5,7 @@ use Rattle.shore_types.specs.declared.faults.Fault.{Fault}
 use Rattle.shore_types.specs.declared.faults.Fault.TheVariants.{Deadlock}
 use Rattle.shore_types.specs.declared.layout.Geometry.{Geometry}
 use Rattle.shore_disk.specs.declared.device.Disk.{Ghosts}
-use Rattle.shore_model.specs.declared.calls.Answer.TheVariants.{Forced, Staged}
+use Rattle.shore_model.specs.declared.calls.Answer.TheVariants.{Forced, IsDurable, Staged}
 use Rattle.shore_model.specs.declared.histories.Entry.{Entry}
 use Rattle.shore_model.specs.declared.histories.Opening.{Opening}
 use Rattle.shore_model.specs.declared.log_records.LogRecord.{LogRecord}
@@ -26,7 +26,7 @@ use Rattle.shore_world.specs.declared.event.Event.TheVariants as event
 use Rattle.shore_world.specs.declared.world.World.{World}
 use Rattle.shore_world.specs.EventMoves.{moves_by}
 use Rattle.shore_world.specs.Events.{IsServedEvent}
-use Rattle.shore_world.specs.Exchanges.{exchanges_in, exchanges_of, told_by, waited_after, waited_behind}
+use Rattle.shore_world.specs.Exchanges.{tellings_in, tellings_of, told_by, waited_after, waited_behind}
 use Rattle.shore_world.specs.Promises.{HasStood, IsManagerOf, IsToldByItsFirst}
 use Rattle.shore_world.specs.Worlds.{Between, EventStep, ForceRefused, OpenRefused, Runs, Steps, geometry_in}
 use Rattle.shore_world.proofs.ExchangeLemmas.{Told, Waited, exchanges-append}
@@ -79,6 +79,7 @@ module _ (g : Geometry) (o : Opening) (found : List LogRecord) (es : List Entry)
   event_told : (e : Event) (step : Step) → IsServedEvent e → EventStep g s e step new → ToldBefore (moves_by e step)
   event_told (event.Call session c) step served h = by_move (Called session c step) (served, h)
   event_told (event.Resume session) step served h = by_move (Resumed session step) h
+  event_told (event.Ask ticket) (Done (IsDurable answer)) served h = same_waits (calls.TicketAsked ticket answer ∷ []) (ap (λ (y : State). y.waiting) h.1)
   event_told event.ForceStage (Done (Staged n)) served h = same_waits [] (ap (λ (y : State). y.waiting) h.3)
   event_told event.ForceStage Nothing served h = same_waits [] (ap (λ (y : State). y.waiting) h.1)
   event_told event.ForceStage (Refused f) served h = refused_waits (moves_by event.ForceStage (Refused f)) f h
@@ -86,6 +87,7 @@ module _ (g : Geometry) (o : Opening) (found : List LogRecord) (es : List Entry)
   event_told event.ForceOpen Nothing served h = same_waits [] (ap (λ (y : State). y.waiting) h.1)
   event_told event.ForceOpen (Refused f) served h = open_refused_waits (moves_by event.ForceOpen (Refused f)) f h
   event_told event.FlushStep step served h = flush_waits (moves_by event.FlushStep step) step h
+  event_told (event.Ask ticket) step served h = absurd h
   event_told event.ForceStage step served h = absurd h
   event_told event.ForceOpen step served h = absurd h
 
@@ -100,6 +102,7 @@ module _ {L V : Type 0} {G : Ghosts L} {H : Ghosts V} where
   between_waits g old new (Called session c step ∷ failures) between s last h = absurd between
   between_waits g old new (Resumed session step ∷ failures) between s last h = absurd between
   between_waits g old new (calls.Forced n ∷ failures) between s last h = absurd between
+  between_waits g old new (calls.TicketAsked ticket answer ∷ failures) between s last h = absurd between
 
   module _ (o : Opening) where
     -- what a run from a manager has come to: whoever is to be told a cycle was to be told it at first, or it stood on the way
@@ -107,14 +110,14 @@ module _ {L V : Type 0} {G : Ghosts L} {H : Ghosts V} where
       made : List Entry
       entries : List Entry
       goes_on : entries ≡ es ++ made
-      tells : exchanges_in made ≡ exchanges_of ws events steps
+      tells : tellings_in made ≡ tellings_of ws events steps
       manager : IsManagerOf last o entries (waited_after ws events steps)
       told : (x : Waiting) → IsAmong x manager.now.state.waiting → (cycle : List ℕ) → x.cycle ≡ Some cycle
           → IsAmong x k.now.state.waiting ⊎ HasStood w o es ws events steps last x.session cycle
 
     -- of a run that goes on from there
     module _ (w start mid : World L V G H) (failures : List ManagerEvent) (between : Between w failures start) (e : Event) (step : Step) (one : Steps start e step mid)
-        (es first second : List Entry) (ws : Waited) (quiet : exchanges_in first ≡ []) (tells : exchanges_in second ≡ told_by ws e step) (events : List Event) (steps : List Step) (last : World L V G H) (session : ℕ) (cycle : List ℕ) where
+        (es first second : List Entry) (ws : Waited) (quiet : tellings_in first ≡ []) (tells : tellings_in second ≡ told_by ws e step) (events : List Event) (steps : List Step) (last : World L V G H) (session : ℕ) (cycle : List ℕ) where
       stood_later : HasStood mid o ((es ++ first) ++ second) (waited_behind ws e step) events steps last session cycle → HasStood w o es ws (e ∷ events) (step ∷ steps) last session cycle
       stood_later h = record {
         before = e ∷ h.before;
@@ -137,8 +140,8 @@ module _ {L V : Type 0} {G : Ghosts L} {H : Ghosts V} where
         made = first ++ (second ++ h.made);
         entries = h.entries;
         goes_on = h.goes_on ∙ append_assoc (es ++ first) second h.made ∙ append_assoc es first (second ++ h.made);
-        told = exchanges-append first (second ++ h.made) ∙ ap (λ (l : Told). l ++ exchanges_in (second ++ h.made)) quiet ∙ exchanges-append second h.made
-            ∙ ap (λ (l : Told). l ++ exchanges_in h.made) tells ∙ ap (λ (l : Told). told_by ws e step ++ l) h.told;
+        told = exchanges-append first (second ++ h.made) ∙ ap (λ (l : Told). l ++ tellings_in (second ++ h.made)) quiet ∙ exchanges-append second h.made
+            ∙ ap (λ (l : Told). l ++ tellings_in h.made) tells ∙ ap (λ (l : Told). told_by ws e step ++ l) h.told;
         manager = h.manager;
         on = h.on;
         move = h.move;
@@ -168,8 +171,8 @@ module _ {L V : Type 0} {G : Ghosts L} {H : Ghosts V} where
           made = on.made ++ (went.on.made ++ next.made);
           entries = next.entries;
           goes_on = next.goes_on ∙ append_assoc (es ++ on.made) went.on.made next.made ∙ append_assoc es on.made (went.on.made ++ next.made);
-          tells = exchanges-append on.made (went.on.made ++ next.made) ∙ ap (λ (l : Told). l ++ exchanges_in (went.on.made ++ next.made)) on.told
-              ∙ exchanges-append went.on.made next.made ∙ ap (λ (l : Told). l ++ exchanges_in next.made) went.told ∙ ap (λ (l : Told). told_by ws e step ++ l) next.tells;
+          tells = exchanges-append on.made (went.on.made ++ next.made) ∙ ap (λ (l : Told). l ++ tellings_in (went.on.made ++ next.made)) on.told
+              ∙ exchanges-append went.on.made next.made ∙ ap (λ (l : Told). l ++ tellings_in next.made) went.told ∙ ap (λ (l : Told). told_by ws e step ++ l) next.tells;
           manager = next.manager;
           told = λ x there cycle told. ⊎_elim
               (λ before. ⊎_elim

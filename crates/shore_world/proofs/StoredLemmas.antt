@@ -6,7 +6,7 @@ use Rattle.shore_types.specs.declared.layout.Geometry.{Geometry}
 use Rattle.shore_types.specs.declared.layout.TheConstants.{LOG_FRONT_BYTES, LONGEST_FRAME}
 use Rattle.shore_disk.specs.Device.{DeviceHistory, size}
 use Rattle.shore_disk.specs.declared.device.Disk.{Ghosts}
-use Rattle.shore_model.specs.declared.calls.Answer.TheVariants.{Staged, Forced}
+use Rattle.shore_model.specs.declared.calls.Answer.TheVariants.{Staged, Forced, IsDurable}
 use Rattle.shore_model.specs.declared.histories.Entry.{Entry}
 use Rattle.shore_model.specs.declared.histories.Opening.{Opening}
 use Rattle.shore_model.specs.declared.log_records.LogRecord.{LogRecord}
@@ -27,7 +27,7 @@ use Rattle.laws_images.specs.Moments.{GivesPrefix, GivesPrefixOf, ShowsLeft}
 use Rattle.shore_core.specs.Cores.{IsSafe}
 use Rattle.shore_core.specs.Flushing.{FlushMoves}
 use Rattle.shore_world.specs.declared.event.Event.{Event}
-use Rattle.shore_world.specs.declared.event.Event.TheVariants.{Call, Resume, ForceStage, ForceOpen, FlushStep}
+use Rattle.shore_world.specs.declared.event.Event.TheVariants.{Call, Resume, Ask, ForceStage, ForceOpen, FlushStep}
 use Rattle.shore_world.specs.declared.world.World.{World}
 use Rattle.shore_world.specs.Crashes.{AreLeft, AreLeftBetween}
 use Rattle.shore_world.specs.Events.{IsServedEvent}
@@ -73,6 +73,7 @@ module _ (g : Geometry) (m : StoredState) (works : List RecoveryEvent) (store : 
   one_stored : (e : Event) (step : Step) → IsServedEvent e → EventStep g m.state e step new → StoredAs g m new store (moves_by e step)
   one_stored (Call session call) step served p = managed_as (Called session call step) (served, p)
   one_stored (Resume session) step served p = managed_as (Resumed session step) p
+  one_stored (Ask ticket) (Done (IsDurable answer)) served p = managed_as (calls.TicketAsked ticket answer) p
   one_stored ForceStage (Done (Staged n)) served p = tended p.3
   one_stored ForceStage Nothing served p = tended p.1
   one_stored ForceStage (Refused f) served p = refused f p
@@ -80,6 +81,7 @@ module _ (g : Geometry) (m : StoredState) (works : List RecoveryEvent) (store : 
   one_stored ForceOpen Nothing served p = tended p.1
   one_stored ForceOpen (Refused f) served p = open_refused f p
   one_stored FlushStep step served p = flush_stored step p
+  one_stored (Ask ticket) step served p = absurd p
   one_stored ForceStage step served p = absurd p
   one_stored ForceOpen step served p = absurd p
 
@@ -215,6 +217,7 @@ module _ {L V : Type 0} {G : Ghosts L} {H : Ghosts V} (g : Geometry) (stream_byt
   between_run es old m up (Called session call step ∷ failures) new between = absurd between
   between_run es old m up (Resumed session step ∷ failures) new between = absurd between
   between_run es old m up (calls.Forced n ∷ failures) new between = absurd between
+  between_run es old m up (calls.TicketAsked ticket answer ∷ failures) new between = absurd between
 
   pub run_run : (es : List Entry) (old : World L V G H) (m : StoredState) → IsUpAt es old m → (events : List Event) (steps : List Step) (moves : List ManagerEvent)
       (new : World L V G H) → AllByRecursion IsServedEvent events → Runs old events steps moves new → HasRun es m moves new

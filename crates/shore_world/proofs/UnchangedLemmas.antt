@@ -1,9 +1,12 @@
 -- What comes to nothing has changed nothing.
-use Rattle.std.proofs.Common.{◌≡◌, ◌++◌, ℕ, List, Bool, true, false, IsTrue, refl, sym, ◌∙◌, ap, subst}
+use Rattle.std.proofs.Common.{◌≡◌, ◌≤◌, ◌++◌, ℕ, List, Bool, true, false, IsTrue, refl, sym, ◌∙◌, ap, subst, arith}
 use Rattle.std.specs.Prelude.{◌↔◌}
 use Rattle.shore_types.specs.declared.layout.Geometry.{Geometry}
 use Rattle.shore_disk.specs.Device.{DeviceHistory, may_leave}
 use Rattle.shore_disk.specs.declared.device.Disk.{Ghosts}
+use Rattle.shore_model.specs.declared.calls.Answer.TheVariants.{IsDurable}
+use Rattle.shore_model.specs.declared.step.Step.{Step}
+use Rattle.shore_model.specs.declared.step.Step.TheVariants.{Done}
 use Rattle.shore_log.specs.Settled.{records_of_log}
 use Rattle.shore_log.specs.declared.device.LogDev.{LogDev}
 use Rattle.shore_pool.specs.Pools as pools
@@ -14,9 +17,11 @@ use Rattle.laws_images.specs.Moments.{ShowsLeft}
 use Rattle.laws_lives.specs.Recovery.{RecoveryState}
 use Rattle.shore_world.proofs.UnmovedLemmas.{same_in, same_over}
 use Rattle.shore_core.specs.Cores.{IsIn, IsOver, control_of, durable_of, has_failed, heap_of, tail_of, waiting_of}
+use Rattle.shore_world.specs.declared.event.Event.TheVariants as event
 use Rattle.shore_world.specs.declared.world.World.{World}
-use Rattle.shore_world.specs.Worlds.{IsInState, IsOverStore, IsReady, IsUnchanged, durable_in, failed_in, geometry_in, list_in, report_in, volume_history_in}
-use Rattle.shore_world.proofs.WorldLemmas.{kept_as_before, ready_same, same_list}
+use Rattle.shore_world.specs.Worlds.{IsInState, IsOverStore, IsReady, IsUnchanged, Steps, durable_in, failed_in, geometry_in, list_in, report_in, volume_history_in}
+use Rattle.shore_world.proofs.RunLemmas.{ask_is_no_flush, no_force, own_is_no_resume, same_ticket, same_volume}
+use Rattle.shore_world.proofs.WorldLemmas.{kept_as_before, nothing_done, ready_same, same_list}
 
 -- ---- a world
 
@@ -87,3 +92,20 @@ module _ {L V : Type 0} {G : Ghosts L} {H : Ghosts V} where
       (λ front disk s is. same_in old.core new.core pool bounds tails control durable failed front disk (records_of_log new.log) s
       (subst (λ (l : LogDev L G). IsIn front disk (records_of_log l) old.core s) (sym log) is))
       (same_over old.core new.core pool bounds)
+
+-- ---- an ask
+
+-- it is answered, and that is all
+module _ {L V : Type 0} {G : Ghosts L} {H : Ghosts V} (w : World L V G H) (ticket : ℕ) where
+  answered_so : (answer : Bool) → ((answer ≡ true) ↔ (ticket ≤ durable_in w)) → Steps w (event.Ask ticket) (Done (IsDurable answer)) w
+  answered_so answer is =
+      no_force w w (event.Ask ticket) (Done (IsDurable answer)) tt refl refl
+      (nothing_done w (event.Ask ticket) (Done (IsDurable answer)) (ask_is_no_flush ticket)
+      (λ s at. (subst (λ n. (answer ≡ true) ↔ (ticket ≤ n)) (sym at.parts.durable_is) is, refl)))
+      (same_volume w.core w.core refl) (λ flush. absurd (ask_is_no_flush ticket flush)) (λ front disk holds. tt) (λ front disk holds. tt)
+      (record { no_lower = omega arith; reported = λ told. absurd cc; unreported = λ other. refl }) (λ own nothing. let clash = nothing in absurd cc)
+      (λ session resume. absurd (own_is_no_resume (event.Ask ticket) session tt resume))
+      (λ n same. (answer, refl, subst (λ n. (answer ≡ true) ↔ (n ≤ durable_in w)) (same_ticket ticket n same) is, unchanged_itself w))
+
+  pub ask_steps : (step : Step) → (answer : Bool) × (step ≡ Done (IsDurable answer)) × ((answer ≡ true) ↔ (ticket ≤ durable_in w)) → Steps w (event.Ask ticket) step w
+  ask_steps step (answer, same, is) = subst (λ (x : Step). Steps w (event.Ask ticket) x w) (sym same) (answered_so answer is)

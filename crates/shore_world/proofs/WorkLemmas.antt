@@ -74,8 +74,7 @@ waits_again : (g : Geometry) (s new : State) (session : ℕ) (at : Granule) (w :
     → ResumesWait g s w wait (Waits (Lock at)) new → HasWaitingCall new session
 waits_again g s new session at w there of (Durable n) (inl h) = let clash = h.1 in absurd cc
 waits_again g s new session at w there of (Durable n) (inr (inl h)) = let clash = h.1 in absurd cc
-waits_again g s new session at w there of (Durable n) (inr (inr (inl h))) = let clash = h.1 in absurd cc
-waits_again g s new session at w there of (Durable n) (inr (inr (inr h))) = let clash = h.1 in absurd cc
+waits_again g s new session at w there of (Durable n) (inr (inr h)) = let clash = h.1 in absurd cc
 waits_again g s new session at w there of (Lock was) h = ⊎_elim
     (λ still. (w, subst (λ (x : State). IsAmong w x.waiting) (sym still.2) there, of))
     (λ goes. subst (λ (x : State). HasWaitingCall x session) (sym goes.1.5) (lock_waiting h.0 w.call goes.1.1, inl refl, h.1.1 ∙ of))
@@ -265,6 +264,7 @@ module _ {L V : Type 0} {G : Ghosts L} {H : Ghosts V} (w : World L V G H) (o : O
   stays_same (event.Call session c) new served one = absurd (calls_to_nothing session c new served one)
   stays_same (event.Resume session) new served one =
       is_same new (one.none session refl (none_waits w.core (records_of_log w.log) s k.at.is_in.beside session ((resumes_to_nothing session Nothing new one).0 refl))).1
+  stays_same (event.Ask ticket) new served one = is_same new (one.quiet tt refl)
   stays_same event.ForceStage new served one = is_same new (one.quiet tt refl)
   stays_same event.ForceOpen new served one = is_same new (one.quiet tt refl)
   stays_same event.FlushStep new served one = is_same new (one.quiet tt refl)

@@ -1,9 +1,9 @@
 -- An event of the world, as the manager over plain data has it.
-use Rattle.std.specs.Prelude.{List, [], ◌∷◌, ◌++◌}
+use Rattle.std.specs.Prelude.{ℕ, List, [], ◌∷◌, ◌++◌}
 use Rattle.shore_types.specs.declared.faults.Fault.{Fault}
 use Rattle.shore_types.specs.declared.faults.Fault.TheVariants.{Device}
 use Rattle.shore_model.specs.declared.calls.Answer.{Answer}
-use Rattle.shore_model.specs.declared.calls.Answer.TheVariants.{Began, Got, Inserted, Updated, Deleted, Scanned, Locked, Saved, WentBack, Committed, Aborted, Prepared, Resolved, AreInDoubt, Staged, Forced, Flushed, Begun, Ended, Anchored, Moved, Cut}
+use Rattle.shore_model.specs.declared.calls.Answer.TheVariants.{Began, Got, Inserted, Updated, Deleted, Scanned, Locked, Saved, WentBack, Committed, Aborted, Prepared, Resolved, AreInDoubt, Staged, Forced, Flushed, Begun, Ended, Anchored, Moved, Cut, IsDurable}
 use Rattle.shore_model.specs.declared.step.Step.{Step}
 use Rattle.shore_model.specs.declared.step.Step.TheVariants.{Done, Waits, Refused, Nothing}
 use Rattle.laws_calls.specs.Events as calls
@@ -28,7 +28,7 @@ forced_by (Scanned pairs) = []
 forced_by Locked = []
 forced_by (Saved index) = []
 forced_by WentBack = []
-forced_by Committed = []
+forced_by (Committed ticket) = []
 forced_by Aborted = []
 forced_by Prepared = []
 forced_by Resolved = []
@@ -40,11 +40,43 @@ forced_by (Ended n) = []
 forced_by (Anchored checkpoint tail) = []
 forced_by Moved = []
 forced_by Cut = []
+forced_by (IsDurable answer) = []
 
--- a call and a resume with what they came to; of a force the number that it made durable, or the device's failure; of a flush nothing but the volume's
+-- the ticket that was asked for, with its answer
+abbrev pub asked_by : ℕ → Answer → List ManagerEvent
+asked_by ticket (IsDurable answer) = calls.TicketAsked ticket answer ∷ []
+asked_by ticket (Forced n) = []
+asked_by ticket (Began t) = []
+asked_by ticket (Got device_bytes) = []
+asked_by ticket (Inserted id) = []
+asked_by ticket Updated = []
+asked_by ticket Deleted = []
+asked_by ticket (Scanned pairs) = []
+asked_by ticket Locked = []
+asked_by ticket (Saved index) = []
+asked_by ticket WentBack = []
+asked_by ticket (Committed given) = []
+asked_by ticket Aborted = []
+asked_by ticket Prepared = []
+asked_by ticket Resolved = []
+asked_by ticket (AreInDoubt pairs) = []
+asked_by ticket (Staged n) = []
+asked_by ticket (Flushed count) = []
+asked_by ticket (Begun n) = []
+asked_by ticket (Ended n) = []
+asked_by ticket (Anchored checkpoint tail) = []
+asked_by ticket Moved = []
+asked_by ticket Cut = []
+
+-- a call and a resume with what they came to; an ask with its answer; of a force the number that it made durable, or the device's failure; of a flush nothing
+-- but the volume's
 abbrev pub moves_by : Event → Step → List ManagerEvent
 moves_by (event.Call session call) step = calls.Called session call step ∷ []
 moves_by (event.Resume session) step = calls.Resumed session step ∷ []
+moves_by (event.Ask ticket) (Done answer) = asked_by ticket answer
+moves_by (event.Ask ticket) (Refused fault) = []
+moves_by (event.Ask ticket) (Waits wait) = []
+moves_by (event.Ask ticket) Nothing = []
 moves_by event.ForceStage (Done answer) = []
 moves_by event.ForceStage (Refused fault) = failure_by fault
 moves_by event.ForceStage (Waits wait) = []

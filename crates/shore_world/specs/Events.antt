@@ -12,6 +12,7 @@ use Rattle.shore_world.specs.declared.event.Event.TheVariants as event
 abbrev pub IsServedEvent : Event → Type 0
 IsServedEvent (event.Call session call) = IsServed call
 IsServedEvent (event.Resume session) = Unit {0}
+IsServedEvent (event.Ask ticket) = Unit {0}
 IsServedEvent event.ForceStage = Unit {0}
 IsServedEvent event.ForceOpen = Unit {0}
 IsServedEvent event.FlushStep = Unit {0}
@@ -20,14 +21,16 @@ IsServedEvent event.FlushStep = Unit {0}
 abbrev pub IsCall : Event → Type 0
 IsCall (event.Call session call) = Unit {0}
 IsCall (event.Resume session) = ⊥
+IsCall (event.Ask ticket) = ⊥
 IsCall event.ForceStage = ⊥
 IsCall event.ForceOpen = ⊥
 IsCall event.FlushStep = ⊥
 
--- an event that is no step of a force: it calls the volume at most
+-- an event that is no step of a force: it calls the volume at most, and an ask no device
 abbrev pub IsOfPages : Event → Type 0
 IsOfPages (event.Call session call) = Unit {0}
 IsOfPages (event.Resume session) = Unit {0}
+IsOfPages (event.Ask ticket) = Unit {0}
 IsOfPages event.ForceStage = ⊥
 IsOfPages event.ForceOpen = ⊥
 IsOfPages event.FlushStep = Unit {0}
@@ -36,14 +39,16 @@ IsOfPages event.FlushStep = Unit {0}
 abbrev pub IsOfForce : Event → Type 0
 IsOfForce (event.Call session call) = ⊥
 IsOfForce (event.Resume session) = ⊥
+IsOfForce (event.Ask ticket) = ⊥
 IsOfForce event.ForceStage = Unit {0}
 IsOfForce event.ForceOpen = Unit {0}
 IsOfForce event.FlushStep = ⊥
 
--- a step that no session asks for: of a force, or of the flush
+-- a step that no session asks for: an ask, or one of a force or of the flush
 abbrev pub IsOfNoSession : Event → Type 0
 IsOfNoSession (event.Call session call) = ⊥
 IsOfNoSession (event.Resume session) = ⊥
+IsOfNoSession (event.Ask ticket) = Unit {0}
 IsOfNoSession event.ForceStage = Unit {0}
 IsOfNoSession event.ForceOpen = Unit {0}
 IsOfNoSession event.FlushStep = Unit {0}
@@ -52,6 +57,7 @@ IsOfNoSession event.FlushStep = Unit {0}
 abbrev pub ReadBy : {T V : Type 0} {G : tail.Ghosts T} {H : disk.Ghosts V} → Core T V G H → Event → PageId → Type 0
 ReadBy core (event.Call session call) page = Reads call page
 ReadBy core (event.Resume session) page = ReadsWaiting core session page
+ReadBy core (event.Ask ticket) page = ⊥
 ReadBy core event.ForceStage page = ⊥
 ReadBy core event.ForceOpen page = ⊥
 ReadBy core event.FlushStep page = ⊥
@@ -60,6 +66,7 @@ ReadBy core event.FlushStep page = ⊥
 abbrev pub force_needed_at : {T V : Type 0} {G : tail.Ghosts T} {H : disk.Ghosts V} → Event → Core T V G H → Core T V G H → Core T V G H
 force_needed_at (event.Call session call) old new = forced_at call old new
 force_needed_at (event.Resume session) old new = old
+force_needed_at (event.Ask ticket) old new = old
 force_needed_at event.ForceStage old new = old
 force_needed_at event.ForceOpen old new = old
 force_needed_at event.FlushStep old new = old

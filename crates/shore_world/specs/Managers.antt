@@ -18,7 +18,7 @@ use Rattle.shore_world.specs.declared.event.Event.TheVariants as event
 use Rattle.shore_world.specs.declared.world.World.{World}
 use Rattle.shore_world.specs.Crashes.{AreLeft}
 use Rattle.shore_world.specs.Events.{IsServedEvent}
-use Rattle.shore_world.specs.Exchanges.{exchanges_in, exchanges_of}
+use Rattle.shore_world.specs.Exchanges.{tellings_in, tellings_of}
 use Rattle.shore_world.specs.Opens.{HasOpened, LeftByOpen}
 use Rattle.shore_world.specs.Worlds.{IsAt, Runs}
 
@@ -81,7 +81,7 @@ pub record IsRunOf {L V : Type 0} {G : Ghosts L} {H : Ghosts V} (m : Manager L V
   pub last_disk : ℕ → List ℕ
   pub opened : IsAt m.opened log_front front first_disk run.first run.ready
   pub moves : managed run.events ≡ m.moves
-  pub told : exchanges_in run.made ≡ exchanges_of [] m.events m.steps
+  pub told : tellings_in run.made ≡ tellings_of [] m.events m.steps
   pub ended : IsAt m.ended log_front front last_disk run.last.state run.last.store
 
 -- each manager has its run; an open that came to none is part of the run behind it, if it got past its barriers

@@ -1,10 +1,12 @@
 -- What stands behind a world that is a manager: the one hidden state that the promises speak of.
-use Rattle.std.specs.Prelude.{◌≡◌, ◌≢◌, ◌⊎◌, ◌<◌, ◌≤◌, ◌∷◌, ◌++◌, ℕ, List, [], IsTrue, None, false, length, map}
+use Rattle.std.specs.Prelude.{◌≡◌, ◌≢◌, ◌⊎◌, ◌<◌, ◌≤◌, ◌∷◌, ◌++◌, ℕ, List, [], IsTrue, None, Some, false, length, map}
 use Rattle.std.specs.List.{AllByRecursion}
 use Rattle.shore_types.specs.declared.faults.Fault.TheVariants.{Deadlock, Device, Failed, Memory}
 use Rattle.shore_disk.specs.declared.device.Disk.{Ghosts}
-use Rattle.shore_model.specs.declared.calls.Answer.TheVariants.{Flushed, Forced, Staged}
+use Rattle.shore_model.specs.declared.calls.Answer.TheVariants.{Committed, Flushed, Forced, Staged}
 use Rattle.shore_model.specs.declared.calls.Call.{Call}
+use Rattle.shore_model.specs.declared.calls.Call.TheVariants as call
+use Rattle.shore_model.specs.declared.histories.Decision.{Decision}
 use Rattle.shore_model.specs.declared.histories.Decision.TheVariants.{Commit, RollBack}
 use Rattle.shore_model.specs.declared.histories.Entry.{Entry}
 use Rattle.shore_model.specs.declared.histories.Opening.{Opening}
@@ -19,7 +21,7 @@ use Rattle.laws_lives.specs.Doubts.{AreRestored, IsOpeningOf}
 use Rattle.laws_lives.specs.Sessions.{in_txn, txns_of}
 use Rattle.laws_lives.specs.Soundness.{decided_txn, found_in_doubt}
 use Rattle.laws_lives.specs.Views.{IsAmong}
-use Rattle.shore_model.specs.Histories.{decisions, free, in_doubt, session_state}
+use Rattle.shore_model.specs.Histories.{decision_asked_by, decisions, free, in_doubt, session_state}
 use Rattle.shore_model.specs.Requests.{held_by_all}
 use Rattle.laws_runs.specs.SoundStores.{IsUnderWay}
 use Rattle.laws_runs.specs.StoredRuns.{StoredState}
@@ -27,7 +29,7 @@ use Rattle.shore_world.specs.declared.event.Event.{Event}
 use Rattle.shore_world.specs.declared.event.Event.TheVariants as event
 use Rattle.shore_world.specs.declared.world.World.{World}
 use Rattle.shore_world.specs.EventMoves.{moves_by}
-use Rattle.shore_world.specs.Exchanges.{AreLast, exchanges_in, exchanges_of, waited_after, waited_behind}
+use Rattle.shore_world.specs.Exchanges.{AreLast, tellings_in, tellings_of, waited_after, waited_behind}
 use Rattle.laws_calls.specs.Events.{ManagerEvent}
 use Rattle.laws_calls.specs.Midway.{IsItsCycle}
 use Rattle.laws_calls.specs.SessionWaits.{AllBeginWithTheirs, AllWaitThere, HasTheFirst}
@@ -66,6 +68,10 @@ AreUnended o es ts = (t : ℕ) → IsAmong t ts →
     ((session : ℕ) × (session_state session free es ≡ in_txn t) × AllByRecursion (λ d. decided_txn d ≢ t) (decisions es))
     ⊎ ((global : List ℕ) × IsAmong (t, global) (in_doubt o.in_doubt (decisions es)))
     ⊎ (IsAmong (RollBack t) (decisions es) × (IsAmong (Commit t) (decisions es) → ⊥))
+
+-- The call, with what it has come to, asks for this decision of the transaction: a commit for its Commit, and it is answered; a prepare and a resolve for theirs.
+abbrev pub IsAskedFor : ℕ → Call → Step → Decision → Type 0
+IsAskedFor t c step d = (decision_asked_by t c ≡ Some d) ⊎ ((c ≡ call.Commit) × ((ticket : ℕ) × (step ≡ Done (Committed ticket))) × (d ≡ Commit t))
 
 -- The world is in this state, as far as it can be seen: its lock requests, its log, what of it is durable, whether a device has failed, and what dumps show.
 pub record IsStateOf {L V : Type 0} {G : Ghosts L} {H : Ghosts V} (w : World L V G H) (s : State) : Type 0 where
@@ -107,7 +113,7 @@ pub record HasStood {L V : Type 0} {G : Ghosts L} {H : Ghosts V} (w : World L V 
   pub made : List Entry
   pub entries : List Entry
   pub goes_on : entries ≡ es ++ made
-  pub told : exchanges_in made ≡ exchanges_of ws before before_steps
+  pub told : tellings_in made ≡ tellings_of ws before before_steps
   pub manager : IsManagerOf start o entries (waited_after ws before before_steps)
   pub on : GoesOnAs next o entries (waited_after ws before before_steps) during step
   -- the event as the manager over plain data has it

@@ -20,6 +20,7 @@ use Rattle.shore_dwrite.specs.declared.places.TheConstants.{GATE_AT}
 use Rattle.shore_fronts.specs.Pairs.{HaveFronts, RefusesFronts}
 use Rattle.laws_lives.specs.Pages.{AreAsOfOwnNumbers, LoggedPages}
 use Rattle.laws_heaps.specs.LoggedHeaps.{LeavesStore}
+use Rattle.shore_restart.specs.AnyPages.{IsMisfitOn}
 use Rattle.shore_restart.specs.Doubts.{IsRefusedBy, IsTaken}
 use Rattle.shore_restart.specs.Turns.{IsMisfit, LacksRoom}
 use Rattle.laws_images.specs.StandsFor.{StandsFor}
@@ -29,11 +30,17 @@ pub record ShowsLogged (g : Geometry) (rs : List LogRecord) (pages : LoggedPages
   pub shown : LeavesStore rs g (take GATE_AT image) pages image
   pub as_of : AreAsOfOwnNumbers rs pages
 
--- Why record n is named: it is the first that does not mean what it has to; or all do, and it is the Prepare of the first in doubt that cannot hold what is its
--- beside those before it; or they all can, and over pages as the log speaks of them it does not fit its page, or what its undo brings back does not, behind the
--- records of undo so far, or behind all of them what the rollback of one in doubt may bring back.
+-- Over the pages as the volume shows them record n is the first that finds no room on its page behind the records before it. Or all find room, and what its undo brings back
+-- is the first that finds none, behind the records of undo so far; or, if all of that do and nobody is left to be undone, it is the first of those in doubt whose image
+-- before finds none.
+abbrev pub IsMisfitShown : Geometry → List LogRecord → DeviceHistory → ℕ → Type 0
+IsMisfitShown g rs volume n = (texts : ℕ → List ℕ) × Shows g (seen volume) texts × IsMisfitOn g texts rs n
+
+-- Why record n is named: the log is refused by it for what it says of itself. Or the log is taken, and over the pages as the volume shows them the record finds no room;
+-- over pages as the log speaks of them the log alone says so.
 abbrev pub IsNamedFor : Geometry → List LogRecord → DeviceHistory → ℕ → Type 0
-IsNamedFor g rs volume n = IsRefusedBy g rs n ⊎ (IsTaken g rs × ((pages : LoggedPages) → ShowsLogged g rs pages (seen volume) → IsMisfit rs n))
+IsNamedFor g rs volume n = IsRefusedBy g rs n
+    ⊎ (IsTaken g rs × IsMisfitShown g rs volume n × ((pages : LoggedPages) → ShowsLogged g rs pages (seen volume) → IsMisfit rs n))
 
 -- by such a record of the log: its frame is at the offset, on the log device as it is handed back
 abbrev pub NamesRecord : Geometry → List LogRecord → DeviceHistory → DeviceHistory → Fault → Type 0

@@ -1,5 +1,5 @@
 -- What a world is, what an event does to it, and what a crash leaves of it.
-use Rattle.std.specs.Prelude.{◌≡◌, ◌⊎◌, ℕ, ◌+◌, ◌-◌, ◌<◌, ◌≤◌, List, [], ◌∷◌, ◌++◌, Bool, false, IsTrue, IsSome, IsSomeAnd, MatchResult, None, Result, Ok, Err, length, take, drop}
+use Rattle.std.specs.Prelude.{◌≡◌, ◌⊎◌, ◌↔◌, ℕ, ◌+◌, ◌-◌, ◌<◌, ◌≤◌, List, [], ◌∷◌, ◌++◌, Bool, false, true, IsTrue, IsSome, IsSomeAnd, MatchResult, None, Result, Ok, Err, length, take, drop}
 use Rattle.shore_types.specs.declared.faults.Fault.{Fault}
 use Rattle.shore_types.specs.declared.faults.Fault.TheVariants.{Device, Failed, Memory, LogFull}
 use Rattle.shore_types.specs.declared.ids.Rid.{Rid}
@@ -7,7 +7,7 @@ use Rattle.shore_types.specs.declared.layout.Geometry.{Geometry}
 use Rattle.shore_types.specs.declared.layout.TheConstants.{LOG_FRONT_BYTES, LONGEST_FRAME}
 use Rattle.shore_disk.specs.Device.{DeviceHistory, size, may_leave, LeavesOnly}
 use Rattle.shore_disk.specs.declared.device.Disk.{Ghosts}
-use Rattle.shore_model.specs.declared.calls.Answer.TheVariants.{Staged, Forced}
+use Rattle.shore_model.specs.declared.calls.Answer.TheVariants.{Staged, Forced, IsDurable}
 use Rattle.shore_model.specs.declared.log_records.LogRecord.{LogRecord}
 use Rattle.shore_model.specs.Records.{scan_of}
 use Rattle.shore_model.specs.declared.requests.Request.{Request}
@@ -108,10 +108,12 @@ OpenRefused s fault new =
     (IsTrue s.failed × (fault ≡ Failed) × (new ≡ s))
     ⊎ ((s.failed ≡ false) × (fault ≡ Device) × (new ≡ with_failure s))
 
--- A force is made in two steps, and only the second makes records durable. A step of the flush leaves the state, but for a failure of the volume.
+-- An ask tells whether a ticket's Commit is durable, whatever has failed. A force is made in two steps, and only the second makes records durable. A step of
+-- the flush leaves the state, but for a failure of the volume.
 abbrev pub EventStep : Geometry → State → Event → Step → State → Type 0
 EventStep g s (event.Call session call) step new = SettledCall g s session call step new
 EventStep g s (event.Resume session) step new = SettledResume g s session step new
+EventStep g s (event.Ask ticket) (Done (IsDurable answer)) new = ((answer ≡ true) ↔ (ticket ≤ s.durable)) × (new ≡ s)
 EventStep g s event.ForceStage (Done (Staged n)) new = (s.failed ≡ false) × (s.durable < n) × (n ≤ length s.log) × (new ≡ s)
 EventStep g s event.ForceStage Nothing new = (s.failed ≡ false) × (new ≡ s)
 EventStep g s event.ForceStage (Refused fault) new = ForceRefused s fault new
@@ -219,7 +221,7 @@ module _ {L V : Type 0} {G : Ghosts L} {H : Ghosts V} where
   -- One event: what it moves, what a step of a force or of the flush has done, when it may come to nothing, and who tells of a failure.
   pub record Steps (old : World L V G H) (e : Event) (step : Step) (new : World L V G H) : Type 0 where
     pub moves : EventMovesWorld old e step new
-    -- a call, a resume and a step of the flush make no call of the log device, and a step of a force none of the volume
+    -- a call, a resume, an ask and a step of the flush make no call of the log device, and a step of a force none of the volume
     pub still : IsOfPages e → new.log.device ≡ old.log.device
     pub volume : IsOfForce e → cores.heap_of new.core ≡ cores.heap_of old.core
     pub same : SameVolume old.core new.core
@@ -231,6 +233,8 @@ module _ {L V : Type 0} {G : Ghosts L} {H : Ghosts V} where
     -- .. and whatever comes to nothing has changed nothing; so has a resume of a session of which no call waits
     pub quiet : IsOfNoSession e → step ≡ Nothing → IsUnchanged old new
     pub none : (session : ℕ) → e ≡ event.Resume session → NoneWaits old.core session → (step ≡ Nothing) × IsUnchanged old new
+    -- an ask is answered whatever has failed, and changes nothing
+    pub asked : (ticket : ℕ) → e ≡ event.Ask ticket → (answer : Bool) × (step ≡ Done (IsDurable answer)) × ((answer ≡ true) ↔ (ticket ≤ durable_in old)) × IsUnchanged old new
     pub full : e ≡ event.ForceStage → step ≡ Refused LogFull → ¬ HasForceRoom old
     pub flushed : e ≡ event.FlushStep → HasFlushed old step new
     pub report : report_in new ≡ report_in old
@@ -284,6 +288,7 @@ Between {L = L} {V = V} {G = G} {H = H} old (HasFailed ∷ failures) new = (mid 
 Between old (Called session c step ∷ failures) new = ⊥
 Between old (Resumed session step ∷ failures) new = ⊥
 Between old (calls.Forced n ∷ failures) new = ⊥
+Between old (calls.TicketAsked ticket answer ∷ failures) new = ⊥
 
 -- The events, one step each, from a world to another. As moves of the manager over plain data they are these: each event's own, and before them what
 -- failed between it and the event before.

@@ -3,7 +3,7 @@ ghost use Rattle.std.specs.Prelude.{◌≡◌, IfOk, OnErr};
 ghost use Rattle.shore_world.specs.Events.{IsCall};
 
 use shore_model::Call;
-use shore_types::SessionId;
+use shore_types::{SessionId, Ticket};
 use std::alloc::{AllocError, Global};
 
 /// One event.
@@ -13,6 +13,8 @@ pub enum Event {
     Call(SessionId, Call),
     /// A session goes on with its call that waits.
     Resume(SessionId),
+    /// Whether the Commit of a ticket that this manager gave is durable. It changes nothing, and is answered after a failure too.
+    Ask(Ticket),
     /// The longest list of waiting records that one frame holds is written behind a closed gate.
     ForceStage,
     /// The gate of the staged frame is opened.
@@ -30,6 +32,7 @@ impl Event {
         Ok(match self {
             Event::Call(session, call) => Event::Call(*session, call.try_clone(alloc)?),
             Event::Resume(session) => Event::Resume(*session),
+            Event::Ask(ticket) => Event::Ask(*ticket),
             Event::ForceStage => Event::ForceStage,
             Event::ForceOpen => Event::ForceOpen,
             Event::FlushStep => Event::FlushStep,

@@ -54,7 +54,7 @@ pub fn open_volume<D: Disk>(
         → ((id : PageId) → HasPage geometry id → IsPageText (texts (page_number geometry id)) id (number id) (images id))
         → IfOk result (λ heap. heaps.Shows unclaimed heap (take GATE_AT image) texts (λ id. map settled (images id))) }
     ensures held { IsTrue (D.is_honest volume) → (image : List ℕ) (texts : ℕ → List ℕ) → Stands (D.history volume) image → Shows geometry image texts
-        → IfOk result (λ heap. (last : ℕ) → IsHeld (take GATE_AT image) texts heap last) }
+        → IfOk result (λ heap. (last : ℕ) → IsHeld (take GATE_AT image) texts texts heap [] last) }
     ensures any_moment { IsTrue (D.is_honest volume) → (image : List ℕ) (texts : ℕ → List ℕ) → Stands (D.history volume) image → Shows geometry image texts
         → LeavesOnly (D.history volume) (D.history (volume_of result)) (ShowsBehind geometry (take GATE_AT image) texts) }
     ensures none { IfOk result (λ heap. (k : ℕ) → frame_at heap k ≡ None) }

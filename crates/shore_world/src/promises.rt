@@ -5,21 +5,23 @@ ghost use Rattle.std.specs.Cmp.Lexicographic.{slice_cmp};
 ghost use Rattle.std.specs.FinMap.{is_sorted};
 ghost use Rattle.std.specs.List.Sorted.{IsStrictlySortedBy};
 ghost use Rattle.std.specs.Ordering.{nat_cmp};
-ghost use Rattle.std.specs.Prelude.{◌≡◌, ◌≢◌, ◌↔◌, ◌⊎◌, ◌<◌, ◌≤◌, ◌∷◌, ◌++◌, ℕ, List, [], All, IsTrue, None, Some, length, map};
+ghost use Rattle.std.specs.Prelude.{◌≡◌, ◌≢◌, ◌↔◌, ◌⊎◌, ◌<◌, ◌≤◌, ◌∷◌, ◌++◌, ℕ, Bool, List, [], All, IsTrue, None, Some, false, length, map, take, true};
 ghost use Rattle.shore_types.specs.declared.faults.Device.{Device};
 ghost use Rattle.shore_types.specs.declared.faults.Fault.{Fault};
 ghost use Rattle.shore_types.specs.declared.faults.Fault.TheVariants as fault;
 ghost use Rattle.shore_types.specs.Locking.{granule_cmp};
 ghost use Rattle.shore_types.specs.declared.locking.Granule.{Granule};
 ghost use Rattle.shore_model.specs.Calls.{IsServed};
-ghost use Rattle.shore_model.specs.Histories.{IsHistory, Sound, decisions, free, in_doubt, session_state, shown};
+ghost use Rattle.shore_model.specs.Histories.{IsHistory, RunsAloneAfter, Sound, decisions, free, in_doubt, session_state, shown};
 ghost use Rattle.shore_model.specs.Locks.{Harmony, WellRooted};
-ghost use Rattle.shore_model.specs.Logs.{logged_writes, records_told};
+ghost use Rattle.shore_model.specs.Logs.{is_over, logged_writes, records_told};
 ghost use Rattle.shore_model.specs.Records.{overlays};
 ghost use Rattle.shore_model.specs.Requests.{HasNoCycle, held_by_all};
-ghost use Rattle.shore_model.specs.declared.calls.Answer.TheVariants.{Aborted, AreInDoubt, Committed};
-ghost use Rattle.shore_model.specs.declared.calls.Call.TheVariants.{Abort, InDoubt, Prepare};
+ghost use Rattle.shore_model.specs.declared.calls.Answer.TheVariants.{Aborted, AreInDoubt, Committed, IsDurable};
+ghost use Rattle.shore_model.specs.declared.calls.Call.TheVariants.{Abort, Commit, InDoubt, Prepare, Resolve};
 ghost use Rattle.shore_model.specs.declared.calls.Call.{Call};
+ghost use Rattle.shore_model.specs.declared.calls.Outcome.{Outcome};
+ghost use Rattle.shore_model.specs.declared.histories.Decision.{Decision};
 ghost use Rattle.shore_model.specs.declared.histories.Entry.{Entry};
 ghost use Rattle.shore_model.specs.declared.histories.Opening.{Opening};
 ghost use Rattle.shore_model.specs.declared.log_records.Payload.TheVariants as logged;
@@ -27,38 +29,41 @@ ghost use Rattle.shore_model.specs.declared.rollbacks.Rollback.{Rollback};
 ghost use Rattle.shore_model.specs.declared.step.Step.TheVariants.{Done, Nothing, Refused, Waits};
 ghost use Rattle.shore_model.specs.declared.step.Step.{Step};
 ghost use Rattle.shore_model.specs.declared.step.Wait.TheVariants.{Durable, Lock};
+ghost use Rattle.shore_model.specs.declared.step.Wait.{Wait};
 ghost use Rattle.shore_locks.specs.Grants.{released};
 ghost use Rattle.laws_lives.specs.LogPrefixes.{decisions_in};
 ghost use Rattle.laws_lives.specs.Logged.{and_record};
 ghost use Rattle.laws_lives.specs.SessionSteps.{AreExclusive};
 ghost use Rattle.laws_lives.specs.Sessions.{SessionTxn, in_txn, txns_of};
-ghost use Rattle.laws_lives.specs.Soundness.{history_from, serial_after};
+ghost use Rattle.laws_lives.specs.Soundness.{decided_txn, history_from, serial_after};
+ghost use Rattle.laws_lives.specs.Undo.{IsLoser};
 ghost use Rattle.laws_lives.specs.Views.{IsAmong};
 ghost use Rattle.laws_calls.specs.CallSteps.{CallStep};
 ghost use Rattle.laws_calls.specs.Causes.{EarnsRefusal};
 ghost use Rattle.laws_calls.specs.Events.{ManagerEvent};
 ghost use Rattle.laws_calls.specs.LockChanges.{ChangesLocks};
 ghost use Rattle.laws_calls.specs.Midway.{AsksAgainIn, AsksIn, HasItsWait, Interlude, Intervene, IsItsCycle, IsMidway, but_doomed, cycles_among, victims_among};
-ghost use Rattle.laws_calls.specs.Shapes.{IsLackOfRoom, IsNoRefusal, ResolvesTxn, WaitsForItsRecord, rollback_of};
+ghost use Rattle.laws_calls.specs.Shapes.{EndsAtOnce, IsLackOfRoom, IsNoRefusal, ResolvesTxn, WaitsForItsRecord, rollback_of};
 ghost use Rattle.laws_calls.specs.States.{DoesNotWait, IsOfSession, State, Waiting};
 ghost use Rattle.laws_calls.specs.Victims.{TellsVictim};
 ghost use Rattle.shore_world.specs.declared.event.Event.TheVariants as event;
 ghost use Rattle.shore_world.specs.declared.event.Event.{Event};
 ghost use Rattle.shore_world.specs.declared.world.World.{World};
 ghost use Rattle.shore_world.specs.Events.{IsServedEvent};
-ghost use Rattle.shore_world.specs.Exchanges.{exchanges_in, exchanges_of, waited_after};
+ghost use Rattle.shore_world.specs.Exchanges.{tellings_in, tellings_of, waited_after};
 ghost use Rattle.shore_world.specs.Lives.{DumpsShow};
-ghost use Rattle.shore_world.specs.Promises.{AreUnended, FlushesIfAny, GoesOnAs, HasFailedStep, HasStood, IsManagerOf, IsRefusedStep, IsStateOf, IsToldByItsFirst, OpensIfAny, StagesIfAny};
+ghost use Rattle.shore_world.specs.Promises.{AreUnended, FlushesIfAny, GoesOnAs, HasFailedStep, HasStood, IsAskedFor, IsManagerOf, IsRefusedStep, IsStateOf, IsToldByItsFirst, OpensIfAny, StagesIfAny};
 ghost use Rattle.laws_calls.specs.SessionWaits.{HasTheFirst, IsDecisionWait};
 ghost use Rattle.shore_world.specs.Worlds.{IsUnchanged, Runs, Steps, durable_in, failed_in, geometry_in, list_in, requests_in};
 
 use shore_disk::Disk;
 
-/// A run goes on with the history of its manager: what it adds are the calls of its events with the very answers and refusals of their steps, in their order.
+/// A run goes on with the history of its manager: what it adds are the calls of its events with the very answers and refusals of their steps, and the tickets that were
+/// asked for with what was said of them, in their order.
 pub fn runs_are_histories<L: Disk, V: Disk>()
     ensures { (w new : World L V L.Disk V.Disk) (o : Opening) (es : List Entry) (ws : List (ℕ × Call)) (events : List Event) (steps : List Step) (moves : List ManagerEvent) →
         IsManagerOf w o es ws → All IsServedEvent events → Runs w events steps moves new →
-        (made : List Entry) × IsManagerOf new o (es ++ made) (waited_after ws events steps) × (exchanges_in made ≡ exchanges_of ws events steps) }
+        (made : List Entry) × IsManagerOf new o (es ++ made) (waited_after ws events steps) × (tellings_in made ≡ tellings_of ws events steps) }
 {}
 
 /// Locks in harmony: after each event no lock that is held conflicts with another along any path, each has its intentions on all that its granule lies in, and
@@ -77,6 +82,18 @@ pub fn histories_are_sound<L: Disk, V: Disk>()
         IsHistory (history_from o es) × Sound (history_from o es) }
     ensures decided { (w : World L V L.Disk V.Disk) (o : Opening) (es : List Entry) (ws : List (ℕ × Call)) → (k : IsManagerOf w o es ws) →
         decisions es ≡ decisions_in (length k.found) (list_in w) }
+{}
+
+/// Nothing is decided but by the call that asks for it: the records that a call appends decide nothing, or one thing, which it asks for (`IsAskedFor`), of the transaction
+/// that its session is in or that it resolves. A commit decides as it is answered, and a prepare and a resolve before that. A resume, an ask, a force and a flush append no
+/// decision.
+pub fn decisions_come_by_the_calls_that_ask_for_them<L: Disk, V: Disk>()
+    ensures call { (w new : World L V L.Disk V.Disk) (o : Opening) (es : List Entry) (ws : List (ℕ × Call)) (session : ℕ) (c : Call) (step : Step) →
+        (k : IsManagerOf w o es ws) → IsServed c → Steps w (event.Call session c) step new → (decisions_in (length (list_in w)) (list_in new) ≡ [])
+        ⊎ ((a : SessionTxn) × (d : Decision) × (decisions_in (length (list_in w)) (list_in new) ≡ d ∷ []) × IsAskedFor a.txn c step d
+        × (IsOfSession k.now.state session a ⊎ ResolvesTxn k.now.state c a)) }
+    ensures others { (w new : World L V L.Disk V.Disk) (o : Opening) (es : List Entry) (ws : List (ℕ × Call)) (e : Event) (step : Step) →
+        IsManagerOf w o es ws → ((session : ℕ) (c : Call) → e ≢ event.Call session c) → Steps w e step new → decisions_in (length (list_in w)) (list_in new) ≡ [] }
 {}
 
 /// A prepare that waits has appended its record, which lists, rising, all granules that its transaction holds in EX, and no others.
@@ -106,7 +123,7 @@ pub fn the_log_tells_what_is_shown<L: Disk, V: Disk>()
 
 /// Records in place: a dump shows the serial records, overlaid with what each transaction under way has logged last at each id. That is what it has written,
 /// unless a rollback of it is under way. Each of these is undecided, in doubt, or one whose rollback a resolve has decided. Whoever is in a transaction by the
-/// history is in one of these, or its commit is, and all in doubt are among them.
+/// history is in one of these, and all in doubt are among them. By the log none of these is over, and each loser is among them.
 pub fn records_are_in_place<L: Disk, V: Disk>()
     ensures shown { (w : World L V L.Disk V.Disk) (o : Opening) (es : List Entry) (ws : List (ℕ × Call)) → (k : IsManagerOf w o es ws) →
         DumpsShow w (overlays (serial_after o es) (map (logged_writes (list_in w)) (txns_of k.now.state.sessions.active))) }
@@ -114,15 +131,25 @@ pub fn records_are_in_place<L: Disk, V: Disk>()
         AreUnended o es (txns_of k.now.state.sessions.active) }
     ensures all { (w : World L V L.Disk V.Disk) (o : Opening) (es : List Entry) (ws : List (ℕ × Call)) (session t : ℕ) → (k : IsManagerOf w o es ws) →
         session_state session free es ≡ in_txn t → 0 < t →
-        IsAmong t (txns_of k.now.state.sessions.active) ⊎ IsAmong t (txns_of k.now.state.sessions.committing) }
+        IsAmong t (txns_of k.now.state.sessions.active) }
     ensures doubts { (w : World L V L.Disk V.Disk) (o : Opening) (es : List Entry) (ws : List (ℕ × Call)) (t : ℕ) (global : List ℕ) → (k : IsManagerOf w o es ws) →
         IsAmong (t, global) (in_doubt o.in_doubt (decisions es)) → IsAmong t (txns_of k.now.state.sessions.active) }
+    ensures not_over { (w : World L V L.Disk V.Disk) (o : Opening) (es : List Entry) (ws : List (ℕ × Call)) (t : ℕ) → (k : IsManagerOf w o es ws) →
+        IsAmong t (txns_of k.now.state.sessions.active) → is_over t (list_in w) ≡ false }
+    ensures losers { (w : World L V L.Disk V.Disk) (o : Opening) (es : List Entry) (ws : List (ℕ × Call)) (t : ℕ) → (k : IsManagerOf w o es ws) →
+        IsLoser (list_in w) t → IsAmong t (txns_of k.now.state.sessions.active) }
 {}
 
 /// Undo is never refused: neither an abort nor a way back nor a resolve to abort is refused by `StoreFull`, `LogFull`, `LockTableFull` or as a victim.
 pub fn undo_is_never_refused<L: Disk, V: Disk>()
     ensures { (w new : World L V L.Disk V.Disk) (o : Opening) (es : List Entry) (ws : List (ℕ × Call)) (session : ℕ) (c : Call) (r : Rollback) (f : Fault) →
         IsManagerOf w o es ws → IsServed c → Steps w (event.Call session c) (Refused f) new → rollback_of c ≡ Some r → IsLackOfRoom f → ⊥ }
+{}
+
+/// Nor is a resolve, either way, refused so.
+pub fn resolves_are_never_refused_for_room<L: Disk, V: Disk>()
+    ensures { (w new : World L V L.Disk V.Disk) (o : Opening) (es : List Entry) (ws : List (ℕ × Call)) (session : ℕ) (global : List ℕ) (asked : Outcome) (f : Fault) →
+        IsManagerOf w o es ws → Steps w (event.Call session (Resolve global asked)) (Refused f) new → IsLackOfRoom f → ⊥ }
 {}
 
 /// Refusals are earned: `EarnsRefusal` says for each fault what its cause is, in the state in which the call asked last (`AsksIn`, `AsksAgainIn`), from which one
@@ -185,7 +212,7 @@ pub fn refused_calls_change_locks_and_victims_alone<L: Disk, V: Disk>()
         failed_in new ≡ failed_in w }
 {}
 
-/// Waits are true: who waits for a lock has a request that waits at that very granule. Only a commit, a prepare and a resolve wait for a record: for that of their
+/// Waits are true: who waits for a lock has a request that waits at that very granule. Only a prepare and a resolve wait for a record: for that of their
 /// decision, which the log has, and which is not durable then; and as they are resumed they wait on only as long as that is so.
 pub fn waits_are_true<L: Disk, V: Disk>()
     ensures lock { (w new : World L V L.Disk V.Disk) (o : Opening) (es : List Entry) (ws : List (ℕ × Call)) (session : ℕ) (c : Call) (at : Granule) →
@@ -203,22 +230,60 @@ pub fn waits_are_true<L: Disk, V: Disk>()
         × IsDecisionWait (length k.found) k.now.state waited × (durable_in w < n) }
 {}
 
-/// Locks only as asked: by a call the requests stay; or an abort is answered, or a resolve decided and carried out, and all of its transaction's go; or they change as
-/// the call asks, whatever victims were taken on the way (`ChangesLocks`). So it is by a resume, for the call that waited; or a commit is answered, and all of its transaction's go.
+/// Tickets are true: a commit is answered at once, by the number of its record, which is the last of the log; its session is in no transaction then, and its locks are gone. A
+/// ticket is told to be durable just if its record is, whatever has failed, and the world is what it was.
+pub fn tickets_are_true<L: Disk, V: Disk>()
+    ensures commit { (w new : World L V L.Disk V.Disk) (o : Opening) (es : List Entry) (ws : List (ℕ × Call)) (session ticket : ℕ) → (k : IsManagerOf w o es ws) →
+        Steps w (event.Call session Commit) (Done (Committed ticket)) new → (a : SessionTxn) × IsOfSession k.now.state session a × (list_in new ≡ and_record a.txn (list_in w) logged.Commit)
+        × (ticket ≡ length (list_in new)) × (requests_in new ≡ released a.txn (requests_in w))
+        × ((on : GoesOnAs new o es ws (event.Call session Commit) (Done (Committed ticket))) × (session_state session free (es ++ on.made) ≡ free)) }
+    ensures waits { (w new : World L V L.Disk V.Disk) (o : Opening) (es : List Entry) (ws : List (ℕ × Call)) (session : ℕ) (wait : Wait) →
+        IsManagerOf w o es ws → Steps w (event.Call session Commit) (Waits wait) new → ⊥ }
+    ensures asked { (w new : World L V L.Disk V.Disk) (o : Opening) (es : List Entry) (ws : List (ℕ × Call)) (ticket : ℕ) (step : Step) → IsManagerOf w o es ws →
+        Steps w (event.Ask ticket) step new → (answer : Bool) × (step ≡ Done (IsDurable answer)) × ((answer ≡ true) ↔ (ticket ≤ durable_in w))
+        × IsUnchanged w new }
+{}
+
+/// No reader is kept without what it read. All that the transaction has been answered which a session is in now it might have been answered alone, on what the decisions
+/// of now have left, lazy commits too; and a prefix of a later log, such as a crash may leave, that has a decision of it has all of these.
+pub fn readers_are_not_kept_alone<L: Disk, V: Disk>()
+    ensures read { (w : World L V L.Disk V.Disk) (o : Opening) (es : List Entry) (ws : List (ℕ × Call)) (session t : ℕ) → IsManagerOf w o es ws → session_state session free es ≡ in_txn t → 0 < t →
+        RunsAloneAfter (history_from o es) (decisions es) t }
+    ensures kept { (w last : World L V L.Disk V.Disk) (o : Opening) (es : List Entry) (ws : List (ℕ × Call)) (events : List Event) (steps : List Step) (moves : List ManagerEvent) (session t n : ℕ)
+        (d before : Decision) → (k : IsManagerOf w o es ws) → All IsServedEvent events → Runs w events steps moves last → session_state session free es ≡ in_txn t → 0 < t →
+        decided_txn d ≡ t → IsAmong d (decisions_in (length k.found) (take n (list_in last))) → IsAmong before (decisions es) →
+        IsAmong before (decisions_in (length k.found) (take n (list_in last))) }
+{}
+
+/// Locks only as asked: by a call the requests stay; or a commit or an abort is answered, or a resolve decided and carried out, and all of its transaction's go; or they
+/// change as the call asks, whatever victims were taken on the way (`ChangesLocks`). So it is by a resume, for the call that waited.
 pub fn locks_change_only_as_asked<L: Disk, V: Disk>()
     ensures call { (w new : World L V L.Disk V.Disk) (o : Opening) (es : List Entry) (ws : List (ℕ × Call)) (session : ℕ) (c : Call) (step : Step) →
         (k : IsManagerOf w o es ws) → IsServed c → Steps w (event.Call session c) step new → (requests_in new ≡ requests_in w)
-        ⊎ ((((c ≡ Abort) × (step ≡ Done Aborted) × ((a : SessionTxn) × IsOfSession k.now.state session a × (requests_in new ≡ released a.txn (requests_in w))))
+        ⊎ (((EndsAtOnce k.now.state c step × ((a : SessionTxn) × IsOfSession k.now.state session a × (requests_in new ≡ released a.txn (requests_in w))))
         ⊎ ((a : SessionTxn) × ResolvesTxn k.now.state c a × IsNoRefusal step × (requests_in new ≡ released a.txn (requests_in w))))
         ⊎ ((a : SessionTxn) × IsOfSession k.now.state session a × ((between : List Interlude)
         × ((between ≡ []) ⊎ ((mid : State) × IsMidway (geometry_in w) k.now.state session c between mid))
         × ChangesLocks (requests_in w) a.txn c (cycles_among between) (requests_in new)))) }
     ensures resume { (w new : World L V L.Disk V.Disk) (o : Opening) (es : List Entry) (ws : List (ℕ × Call)) (session : ℕ) (step : Step) →
         (k : IsManagerOf w o es ws) → Steps w (event.Resume session) step new → (requests_in new ≡ requests_in w)
-        ⊎ (((step ≡ Done Committed) × ((a : SessionTxn) × IsAmong a k.now.state.sessions.committing × (a.session ≡ session) × (requests_in new ≡ released a.txn (requests_in w))))
         ⊎ ((waited : Waiting) × IsAmong waited k.now.state.waiting × (waited.session ≡ session) × ((a : SessionTxn) × IsOfSession k.now.state session a
         × ((between : List Interlude) × ((mid : State) × Intervene (geometry_in w) session k.now.state between mid)
-        × ChangesLocks (requests_in w) a.txn waited.call (cycles_among between) (requests_in new))))) }
+        × ChangesLocks (requests_in w) a.txn waited.call (cycles_among between) (requests_in new)))) }
+{}
+
+/// Locks go with decisions: a resolve that is not refused leaves no request of the transaction that it resolves, nor does the answer of a commit or of an abort leave
+/// one of its own.
+pub fn locks_go_with_decisions<L: Disk, V: Disk>()
+    ensures resolve { (w new : World L V L.Disk V.Disk) (o : Opening) (es : List Entry) (ws : List (ℕ × Call)) (session : ℕ) (global : List ℕ) (asked : Outcome) (step : Step) →
+        (k : IsManagerOf w o es ws) → Steps w (event.Call session (Resolve global asked)) step new → IsNoRefusal step →
+        (a : SessionTxn) × ResolvesTxn k.now.state (Resolve global asked) a × All (λ r. r.txn ≢ a.txn) (requests_in new) }
+    ensures commit { (w new : World L V L.Disk V.Disk) (o : Opening) (es : List Entry) (ws : List (ℕ × Call)) (session ticket : ℕ) →
+        (k : IsManagerOf w o es ws) → Steps w (event.Call session Commit) (Done (Committed ticket)) new →
+        (a : SessionTxn) × IsOfSession k.now.state session a × All (λ r. r.txn ≢ a.txn) (requests_in new) }
+    ensures abort { (w new : World L V L.Disk V.Disk) (o : Opening) (es : List Entry) (ws : List (ℕ × Call)) (session : ℕ) →
+        (k : IsManagerOf w o es ws) → Steps w (event.Call session Abort) (Done Aborted) new →
+        (a : SessionTxn) × IsOfSession k.now.state session a × All (λ r. r.txn ≢ a.txn) (requests_in new) }
 {}
 
 /// Steps do their work, unless a device has failed or memory is short. A `ForceStage` stages the longest list of the records not yet durable that one frame holds, and

@@ -224,7 +224,7 @@ impl<L: Disk, V: Disk> World<L, V> {
 
     /// One event. A refusal has changed nothing but locks that were taken, and transactions that a call doomed as victims before it was refused; a rollback
     /// that is refused has put some changes back at most; except for
-    /// `Device` and `Damaged`: after them every call is refused by `Failed` or `Memory`, and so is each call that waits, once.
+    /// `Device` and `Damaged`: after them every call is refused by `Failed` or `Memory`, and so is each call that waits, once. An ask is always answered.
     pub fn step(&mut self, alloc: Global, event: Event) -> Step
         requires { IsServedEvent event }
         ensures { Steps self.old event result self.new }
@@ -232,6 +232,7 @@ impl<L: Disk, V: Disk> World<L, V> {
         match event {
             Event::Call(session, call) => self.core.call(alloc, session, call),
             Event::Resume(session) => self.core.resume(alloc, session),
+            Event::Ask(ticket) => self.core.ask(ticket),
             Event::ForceStage => self.force_stage(alloc),
             Event::ForceOpen => self.force_open(),
             Event::FlushStep => self.core.flush_step(alloc),

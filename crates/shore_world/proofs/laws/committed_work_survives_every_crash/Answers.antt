@@ -1,4 +1,3 @@
-use Rattle.std.proofs.Common.{◌-◌}
 use Rattle.shore_disk.proofs.Moments.{seen_left}
 use Rattle.shore_disk.specs.Device.{seen}
 use Rattle.shore_world.proofs.StayLemmas.{at_its_lengths, have_lived, have_stayed, is_last_opening, last_opening, opened_in_harmony, opened_shows, opened_so, opening_shown}

@@ -1,17 +1,14 @@
 use Rattle.std.proofs.Common.{◌≡◌, ◌⊎◌, ◌++◌, List, [], ℕ, subst}
 use Rattle.shore_types.specs.declared.layout.Geometry.{Geometry}
-use Rattle.shore_model.specs.declared.calls.Answer.TheVariants.{Aborted, Committed}
 use Rattle.shore_model.specs.declared.calls.Call.{Call}
-use Rattle.shore_model.specs.declared.calls.Call.TheVariants.{Abort}
 use Rattle.shore_model.specs.declared.requests.Request.{Request}
 use Rattle.shore_model.specs.declared.step.Step.{Step}
-use Rattle.shore_model.specs.declared.step.Step.TheVariants.{Done}
 use Rattle.shore_locks.specs.Grants.{released}
 use Rattle.laws_lives.specs.Sessions.{SessionTxn}
 use Rattle.laws_lives.specs.Views.{IsAmong}
 use Rattle.laws_calls.specs.LockChanges.{ChangesLocks}
 use Rattle.laws_calls.specs.Midway.{Interlude, Intervene, IsMidway, cycles_among}
-use Rattle.laws_calls.specs.Shapes.{IsNoRefusal, ResolvesTxn}
+use Rattle.laws_calls.specs.Shapes.{EndsAtOnce, IsNoRefusal, ResolvesTxn}
 use Rattle.laws_calls.specs.States.{IsOfSession, State, Waiting}
 use Rattle.laws_calls.proofs.SettledLocks.{settled_call_locks, settled_resume_locks}
 use Rattle.shore_world.specs.declared.event.Event.TheVariants as event
@@ -24,7 +21,7 @@ use Rattle.shore_world.proofs.promises.locks_change_only_as_asked.Goals as goal
 abbrev ByCall : Geometry → State → ℕ → Call → Step → List Request → List Request → Type 0
 ByCall g s session c step old new =
     (new ≡ old)
-    ⊎ ((((c ≡ Abort) × (step ≡ Done Aborted) × ((a : SessionTxn) × IsOfSession s session a × (new ≡ released a.txn old)))
+    ⊎ (((EndsAtOnce s c step × ((a : SessionTxn) × IsOfSession s session a × (new ≡ released a.txn old)))
     ⊎ ((a : SessionTxn) × ResolvesTxn s c a × IsNoRefusal step × (new ≡ released a.txn old)))
     ⊎ ((a : SessionTxn) × IsOfSession s session a × ((between : List Interlude) × ((between ≡ []) ⊎ ((mid : State) × IsMidway g s session c between mid))
     × ChangesLocks old a.txn c (cycles_among between) new)))
@@ -32,9 +29,8 @@ ByCall g s session c step old new =
 abbrev ByResume : Geometry → State → ℕ → Step → List Request → List Request → Type 0
 ByResume g s session step old new =
     (new ≡ old)
-    ⊎ (((step ≡ Done Committed) × ((a : SessionTxn) × IsAmong a s.sessions.committing × (a.session ≡ session) × (new ≡ released a.txn old)))
     ⊎ ((waited : Waiting) × IsAmong waited s.waiting × (waited.session ≡ session) × ((a : SessionTxn) × IsOfSession s session a
-    × ((between : List Interlude) × ((mid : State) × Intervene g session s between mid) × ChangesLocks old a.txn waited.call (cycles_among between) new))))
+    × ((between : List Interlude) × ((mid : State) × Intervene g session s between mid) × ChangesLocks old a.txn waited.call (cycles_among between) new)))
 
 pub returns-clause-call : goal.returns-clause-call
 returns-clause-call d f w new o es ws session call step k served one =

@@ -36,7 +36,8 @@ use Rattle.shore_world.proofs.AreaLemmas.{shown_not_refused}
 use Rattle.shore_world.proofs.OpenLemmas.{outside_or_not, pair_still_after, still_after, told_of}
 use Rattle.shore_world.proofs.OpenPaths.{found, have_fronts, log_read, replay_at, restart_outside, shown, shown_at, stopped, texts, texts_at, volume_read, volume_replayed, way_of, way_on}
 use Rattle.shore_world.proofs.OpenedLemmas.{opened_along}
-use Rattle.shore_world.proofs.RestartRefusals.{bad_misfit}
+use Rattle.shore_world.proofs.RestartRefusals.{bad_misfit, bad_misfit_on}
+use Rattle.shore_restart.specs.AnyPages.{IsMisfitOn}
 use Rattle.shore_world.proofs.ShownPages.{found_over, shown_by, texts_shown, texts_told, told_images}
 use Rattle.shore_world.proofs.world.World.open.Goals as goal
 
@@ -358,11 +359,17 @@ returns-in-Err-restart-clause-refused g c of_log of_volume = elim (outside_or_no
               names_of geometry rs (size log - 4096) (offset_of front.0.0.slot) volume (g.L.Disk.history c.into_device-in-Err-restart-2.result) shown.0
               (subst (λ (x : Geometry). Shows x volume_image shown.0) at shown.1) c.in-Err-restart.error c.fault_of-fault.result isnt
               (λ is. subst (λ (n : ℕ). LacksRoom rs (n - 4096)) (c.in-Ok-open.ensures.size ∙ c.read_fronts.ensures.size.0) (e.no_room is)) e.bad_number
-              (λ h is. subst (λ (x : Geometry). IsPageFault x shown.0 (length rs) h) heap_at (e.any_pages (take 4096 volume_image) shown.0 is_held h is)) quiet.named
+              (λ h is. subst (λ (x : Geometry). IsPageFault x shown.0 (length rs) h) heap_at (e.any_pages (take 4096 volume_image) shown.0 shown.0 is_held h is)) quiet.named
               (λ n is. elim (e.meant (λ memory. let clash = sym memory ∙ is in cc)) [
                 | inr refused ↦ inl (subst (λ (k : ℕ). IsRefusedBy geometry rs k) (one_number refused.0 n (sym refused.1 ∙ is)) (subst (λ (x : Geometry). IsRefusedBy x rs refused.0) heap_at refused.2))
                 | inl meant ↦ inr (
                   subst (λ (x : Geometry). IsTaken x rs) heap_at meant,
+                  (
+                    shown.0,
+                    subst (λ (x : Geometry). Shows x volume_image shown.0) at shown.1,
+                    subst (λ (x : Geometry). IsMisfitOn x shown.0 rs n) heap_at
+                        (bad_misfit_on (heaps.geometry_of heap) shown.0 rs n meant (e.any_bad (take 4096 volume_image) shown.0 shown.0 is_held n is)),
+                  ),
                   λ pages logged.
                       let shows = c.in-Ok-open_volume.ensures.shows later volume_image (texts_shown geometry rs pages volume_image logged) (λ p. (pages p).number) (told_images rs pages) held
                       (shown_by geometry rs pages volume_image logged c.in-Ok.fronts.of_pages at) (texts_told geometry rs pages volume_image logged c.in-Ok.fronts.of_pages at) in

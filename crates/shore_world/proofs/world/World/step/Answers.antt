@@ -10,8 +10,8 @@ use Rattle.shore_core.specs.Resumes.{NoneWaits}
 use Rattle.shore_world.specs.declared.event.Event.TheVariants as event
 use Rattle.shore_world.proofs.CallLemmas.{call_moves, flush_moves, resume_moves}
 use Rattle.shore_world.proofs.DumpLemmas.{never_true}
-use Rattle.shore_world.proofs.RunLemmas.{call_is_no_flush, call_is_no_resume, flush_asks_nothing, flush_faults, flush_says_nothing, log_cause, no_force, open_is_no_flush, open_is_no_stage, own_is_no_resume, resume_is_no_flush, same_session, same_volume, stage_is_no_flush, stage_is_no_open}
-use Rattle.shore_world.proofs.UnchangedLemmas.{flush_unchanged, unchanged_parts}
+use Rattle.shore_world.proofs.RunLemmas.{call_is_no_ask, call_is_no_flush, call_is_no_resume, flush_asks_nothing, flush_faults, flush_is_no_ask, flush_says_nothing, force_is_no_ask, log_cause, no_force, open_is_no_flush, open_is_no_stage, own_is_no_resume, resume_is_no_ask, resume_is_no_flush, same_session, same_volume, stage_is_no_flush, stage_is_no_open}
+use Rattle.shore_world.proofs.UnchangedLemmas.{ask_steps, flush_unchanged, unchanged_parts}
 use Rattle.shore_world.proofs.WorldLemmas.{failed_runs}
 use Rattle.shore_world.specs.Worlds.{failed_in}
 use Rattle.shore_world.proofs.world.World.step.Goals as goal
@@ -28,7 +28,8 @@ returns-in-Call g c =
     rw c.in-Call.is (
     no_force old _ _ _ tt refl refl (call_moves old _ _ _ _ e.serves.volume.geometry refl e.step e.serves.any_moment e.still e.serves.durable) e.serves.volume
     (λ is. absurd (call_is_no_flush (event.Call c.in-Call.session c.in-Call.call) tt is)) e.serves.damaged e.serves.forced e.serves.cause
-    (λ own. absurd own) (λ session is. absurd (call_is_no_resume (event.Call c.in-Call.session c.in-Call.call) session tt is)))
+    (λ own. absurd own) (λ session is. absurd (call_is_no_resume (event.Call c.in-Call.session c.in-Call.call) session tt is))
+    (λ ticket is. absurd (call_is_no_ask (event.Call c.in-Call.session c.in-Call.call) ticket tt is)))
 
 pub returns-in-Resume : goal.returns-in-Resume
 returns-in-Resume g c =
@@ -39,7 +40,11 @@ returns-in-Resume g c =
     (λ is. absurd (resume_is_no_flush c.in-Resume.session is)) e.serves.damaged e.serves.forced e.serves.cause (λ own. absurd own)
     (λ session is idle.
     let nothing = e.none (subst (λ (n : ℕ). NoneWaits old.core n) (sym (same_session c.in-Resume.session session is)) idle) in
-    (nothing.0, unchanged_parts old _ nothing.1 refl refl)))
+    (nothing.0, unchanged_parts old _ nothing.1 refl refl))
+    (λ ticket is. absurd (resume_is_no_ask c.in-Resume.session ticket is)))
+
+pub returns-in-Ask : goal.returns-in-Ask
+returns-in-Ask g c = rw c.in-Ask.is (ask_steps c.args.self.now c.in-Ask.ticket c.ask.result c.ask.ensures.answered)
 
 pub returns-in-ForceStage : goal.returns-in-ForceStage
 returns-in-ForceStage g c =
@@ -55,6 +60,7 @@ returns-in-ForceStage g c =
       shut = λ is nothing. absurd (stage_is_no_open is);
       quiet = λ own nothing. e.quiet nothing;
       none = λ session is. absurd (own_is_no_resume _ session tt is);
+      asked = λ ticket is. absurd (force_is_no_ask _ ticket tt is);
       full = λ is refused. e.full refused;
       flushed = λ is. absurd (stage_is_no_flush is);
       report = e.report;
@@ -77,6 +83,7 @@ returns-in-ForceOpen g c =
       shut = λ is nothing. e.shut nothing;
       quiet = λ own nothing. e.quiet nothing;
       none = λ session is. absurd (own_is_no_resume _ session tt is);
+      asked = λ ticket is. absurd (force_is_no_ask _ ticket tt is);
       full = λ is. absurd (open_is_no_stage is);
       flushed = λ is. absurd (open_is_no_flush is);
       report = e.report;
@@ -98,4 +105,4 @@ returns-in-FlushStep g c =
     let answers = subst (λ (x : Step). FlushAnswers old.core x c.flush_step.new.self) nothing e.answers in
     let fails = subst (λ (x : Step). IsTrue (has_failed c.flush_step.new.self) ↔ (IsTrue (has_failed old.core) ⊎ IsErrAnd (fault_at x) (λ f. f ≡ fault.Device))) nothing e.fails in
     flush_unchanged old _ refl refl e.tail e.control e.serves.durable ((λ yes. or_none (fails.0 yes)), (λ was. fails.1 (inl was))) answers.1 answers.2)
-    (λ session is. absurd (own_is_no_resume event.FlushStep session tt is)))
+    (λ session is. absurd (own_is_no_resume event.FlushStep session tt is)) (λ ticket is. absurd (flush_is_no_ask ticket is)))
