@@ -1,19 +1,27 @@
 #!/usr/bin/env python3
 """A server in another language: it runs the built program as a child and talks with it through pipes, a line for a line.
 
-usage: examples/client.py [PROGRAM]
+usage: examples/client.py [PROGRAM] [--batches]
 
 What a server has to know: once it has read `committed`, the transaction is durable; so it answers its own caller then, and not before. Here money
 is moved between accounts, the program is killed by SIGKILL in the midst of a transfer and started again with `format = false`. It has each
 transfer that it acknowledged then, and the one in the midst not at all, or the whole of it if its commit was asked for.
 
+With --batches it serves many clients over the one pipe: each makes transactions in a session of its own, and ends them with `lazy`, which answers a ticket at once. One `force` is
+for all of a batch, and only behind it, as `forced N` reaches their tickets, the clients are answered. The next batch is on its way meanwhile. Killed in the midst, the store has all that
+was acknowledged, and of what was asked behind that the first transactions, each whole, in the order of their commits. How many are acknowledged in a second is printed.
+
 How it talks with the program is in tools/pipes.py, which another server may take over. The program is the proved one, if no other is named by its path.
 
 Status 0: all of it was there. 1: an acknowledged commit was lost, or a transaction was there in part.
 """
+import collections
 import os
+import random
 import sys
 import tempfile
+import threading
+import time
 
 sys.dont_write_bytecode = True
 sys.path.insert(0, f"{os.path.dirname(os.path.realpath(__file__))}/../tools")
@@ -22,13 +30,20 @@ from programs import named_program
 
 SETTINGS = 'devices = "files"\nlog_path = "client.log"\nvolume_path = "client.volume"\nstores = [4]\n'
 ACCOUNTS, ROUNDS, TRANSFERS = 4, 5, 20
+# Of batches: so many clients, and so many batches that are under way at once. What they are answered together fits into a pipe.
+CLIENTS, LIVES, UNDER_WAY = 400, 5, 2
+# A life ends by batches and not by a clock, so that no store, as fast as it may be, fills its log: so many batches are answered at most before the kill is set going, and so many
+# are sent at most from then on until it comes.
+LONGEST_LIFE, LAST_SENT = 40, 16
+# The kill comes so many seconds later at most: in the midst of a batch.
+LONGEST_WAIT = 0.02
 
 
 class Store:
     """The program as it runs on the pair of files in a folder. Each call writes one line and waits for its answer."""
 
-    def __init__(self, program, folder, is_anew):
-        self.child = Child(program, f"format = {str(is_anew).lower()}\n{SETTINGS}", folder)
+    def __init__(self, program, folder, is_anew, settings=SETTINGS):
+        self.child = Child(program, f"format = {str(is_anew).lower()}\n{settings}", folder)
 
     def answer(self):
         try:
@@ -113,9 +128,119 @@ def serve(program, folder):
     store.close()
 
 
+class Clients:
+    """The clients of a store, each with two records that its transactions write the same number to: what is asked, and what is acknowledged."""
+
+    def __init__(self, store):
+        self.records = []
+        for _ in range(CLIENTS):
+            store.ask("begin")
+            self.records.append((store.insert(0), store.insert(0)))
+            store.commit()
+        self.numbers = [0] * CLIENTS
+        self.acknowledged = [0] * CLIENTS
+        # The batches under way: the clients in the order of their commits, and the number that each has written.
+        self.batches = collections.deque()
+
+    def send(self, child, chance):
+        """A batch: a transaction of each client, in some order, some of them side by side."""
+        batch, lines = chance.sample(range(CLIENTS), CLIENTS), []
+        for start in range(0, CLIENTS, 10):
+            side_by_side = batch[start : start + 10]
+            lines += [f"{client + 1} begin" for client in side_by_side]
+            for client in side_by_side:
+                one, other = self.records[client]
+                number = f"{self.numbers[client] + 1:08x}"
+                lines += [f"{client + 1} update {one} {number}", f"{client + 1} update {other} {number}"]
+            lines += [f"{client + 1} lazy" for client in side_by_side]
+        for client in batch:
+            self.numbers[client] += 1
+        self.batches.append([(client, self.numbers[client]) for client in batch])
+        child.send("\n".join([*lines, "force"]))
+
+    def receive(self, child):
+        """The answers of the oldest batch. Behind its force each client is answered. How many are."""
+        tickets = {}
+        while not (line := child.answer()).startswith("forced "):
+            session, said = line.split(": ", 1)
+            if said.startswith("ticket "):
+                tickets[int(session) - 1] = int(said.removeprefix("ticket "))
+            elif "fault" in said:
+                raise SystemExit(f"client: FAILED: the store answered {line!r}")
+        forced = int(line.removeprefix("forced "))
+        for client, number in self.batches.popleft():
+            if tickets[client] <= forced:
+                self.acknowledged[client] = number
+        return sum(ticket <= forced for ticket in tickets.values())
+
+    def check(self, found):
+        """What a store has behind a kill. From there on they go on."""
+        pairs = [(found[one], found[other]) for one, other in self.records]
+        asked = [entry for batch in self.batches for entry in batch]
+        kept = [pairs[client][0] >= number for client, number in asked]
+        if any(one != other for one, other in pairs):
+            raise SystemExit("client: FAILED: a transaction was there in part")
+        if any(one < number for (one, _), number in zip(pairs, self.acknowledged)):
+            raise SystemExit("client: FAILED: an acknowledged commit was lost")
+        if kept != sorted(kept, reverse=True):
+            raise SystemExit("client: FAILED: a commit was there, and one before it was not")
+        self.numbers = [one for one, _ in pairs]
+        self.acknowledged = list(self.numbers)
+        self.batches.clear()
+        return sum(kept), len(kept)
+
+
+def serve_until_killed(store, clients, chance):
+    """Answers how many transactions were acknowledged, and in how many seconds."""
+    count, started = 0, time.monotonic()
+    last = started
+    life = chance.randint(LONGEST_LIFE // 2, LONGEST_LIFE)
+    timer = threading.Timer(chance.uniform(0, LONGEST_WAIT), store.child.kill)
+    sent = answered = 0
+    try:
+        while True:
+            while len(clients.batches) < UNDER_WAY and sent < life + LAST_SENT:
+                clients.send(store.child, chance)
+                sent += 1
+            count += clients.receive(store.child)
+            last = time.monotonic()
+            answered += 1
+            if answered == life:
+                timer.start()
+    except Ended:
+        if answered < life:
+            raise SystemExit("client: FAILED: the store has ended") from None
+        timer.join()
+        store.child.end()
+    return count, last - started
+
+
+def serve_batches(program, folder):
+    settings = f"{SETTINGS}log_bytes = 67108864\n"
+    chance = random.Random()
+    store = Store(program, folder, is_anew=True, settings=settings)
+    clients = Clients(store)
+    total, seconds, shown, under_way = 0, 0.0, 0, 0
+    for _ in range(LIVES):
+        count, took = serve_until_killed(store, clients, chance)
+        total, seconds = total + count, seconds + took
+        store = Store(program, folder, is_anew=False, settings=settings)
+        kept, asked = clients.check(store.records())
+        shown, under_way = shown + kept, under_way + asked
+    store.close()
+    if not total:
+        raise SystemExit("client: FAILED: nothing was acknowledged")
+    print(f"{total} transactions of {CLIENTS} clients were acknowledged over one pipe, {total / seconds:.0f} a second; the store was killed {LIVES} times, and had each of them; "
+          f"{shown} of the {under_way} that were under way were there too, the first ones each time")
+
+
 def main():
+    program, arguments = named_program(sys.argv[1:])
     with tempfile.TemporaryDirectory() as folder:
-        serve(named_program(sys.argv[1:])[0], folder)
+        if arguments == ["--batches"]:
+            serve_batches(program, folder)
+            return
+        serve(program, folder)
     print(f"{ROUNDS * TRANSFERS} transfers were acknowledged, the store was killed {ROUNDS} times, and had each of them")
 
 

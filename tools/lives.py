@@ -67,8 +67,6 @@ def overlaid(records, writes):
 
 def shown(state):
     """What a dump shows of a state, and who is in doubt in it."""
-    if state is None:
-        return None
     records = state.records
     for writes in state.doubts.values():
         records = overlaid(records, writes)
@@ -76,29 +74,41 @@ def shown(state):
 
 
 class Stream:
-    """Transactions, some of which are prepared, and what they come to."""
+    """Transactions, some of which are prepared or committed lazily, and what they come to."""
 
     def __init__(self, seed):
         self.chance = random.Random(seed)
         self.is_full = False
         self.number = 0
-        self.state = self.next = None
+        # What was acknowledged, and what was asked behind it, in its order, each with its ticket if it has one: an open shows one of these.
+        self.acknowledged, self.asked = State({}, {}), []
         self.start(({}, []))
 
     @property
-    def committed(self):
-        """What an open has to show, unless it shows what was asked and not acknowledged."""
-        return shown(self.state)
+    def state(self):
+        """What the next transaction finds."""
+        return self.asked[-1][1] if self.asked else self.acknowledged
 
-    @property
-    def asked(self):
-        return shown(self.next)
+    def may_show(self, found):
+        """Whether an open may show this."""
+        return found in [shown(self.acknowledged), *(shown(state) for _, state in self.asked)]
+
+    def shows_later(self, found):
+        """.. of which not all was acknowledged."""
+        return found != shown(self.acknowledged)
 
     def start(self, found):
-        """An open has shown this: it is one of both, or a pair made anew."""
-        known = [state for state in (self.state, self.next) if shown(state) == found]
-        self.state, self.next = known[0] if known else State(found[0], {}), None
+        """An open has shown this: it is one of these, or a pair made anew."""
+        known = [state for state in (self.acknowledged, *(state for _, state in self.asked)) if shown(state) == found]
+        self.acknowledged, self.asked = known[-1] if known else State(found[0], {}), []
         self.session = 1
+
+    def acknowledge(self, count):
+        """The first of those that were asked are durable, so many. Answers how many."""
+        if count:
+            self.acknowledged = self.asked[count - 1][1]
+            del self.asked[:count]
+        return count
 
     def new_bytes(self):
         self.number += 1
@@ -132,25 +142,45 @@ class Stream:
         others = {key: writes for key, writes in self.state.doubts.items() if key != name}
         is_commit = self.chance.random() < 0.5
         records = overlaid(self.state.records, self.state.doubts[name]) if is_commit else self.state.records
-        self.next = State(records, others)
+        self.asked.append((None, State(records, others)))
         self.demand(run, f"{RESOLVER} resolve {name} {'commit' if is_commit else 'abort'}", f"{RESOLVER}: resolved")
-        self.state, self.next = self.next, None
-        return 1
+        return self.acknowledge(len(self.asked))
 
     def prepare(self, run, writes):
         """The session stays in its transaction until that is decided, so another one goes on."""
         name = f"{self.chance.randrange(2**16):04x}{self.number:08x}"
-        self.next = State(self.state.records, {**self.state.doubts, name: writes})
+        self.asked.append((None, State(self.state.records, {**self.state.doubts, name: writes})))
         said = run.ask(f"{self.session} prepare {name}")
         if "LogFull" in said:
-            self.is_full, self.next = True, None
+            self.is_full = True
+            del self.asked[-1]
             self.demand(run, f"{self.session} abort", f"{self.session}: aborted")
             return 0
         if said != f"{self.session}: prepared":
             raise Failure(f"a prepare was answered by {said!r}")
-        self.state, self.next = self.next, None
         self.session = self.session % (RESOLVER - 1) + 1
-        return 1
+        return self.acknowledge(len(self.asked))
+
+    def commit_lazily(self, run, records):
+        """A commit that is answered by its ticket alone."""
+        self.asked.append((None, State(records, self.state.doubts)))
+        said = run.ask(f"{self.session} lazy")
+        ticket = said.removeprefix(f"{self.session}: ticket ")
+        if not ticket.isdigit():
+            raise Failure(f"a lazy commit was answered by {said!r}")
+        if any(earlier is not None and earlier >= int(ticket) for earlier, _ in self.asked):
+            raise Failure(f"ticket {ticket} came behind a greater one")
+        self.asked[-1] = (int(ticket), self.asked[-1][1])
+
+    def ask_for_tickets(self, run):
+        """Asks whether one of the lazy commits is durable, behind a force at times: then it has to be. Answers how many are acknowledged with it."""
+        if is_forced := self.chance.random() < 0.3:
+            write_back(run)
+        index = self.chance.randrange(len(self.asked))
+        said = run.ask(f"durable {self.asked[index][0]}")
+        if said not in ("durable yes", "durable no") or (is_forced and said != "durable yes"):
+            raise Failure(f"a ticket was answered by {said!r}")
+        return self.acknowledge(index + 1 if said == "durable yes" else 0)
 
     def transaction(self, run):
         """One transaction, behind a resolve of another at times. Answers how many decisions were acknowledged."""
@@ -165,10 +195,13 @@ class Stream:
                 write_back(run)
         if len(self.state.doubts) < MOST_IN_DOUBT and self.chance.random() < 0.3:
             return count + self.prepare(run, writes)
-        self.next = State(overlaid(self.state.records, writes), self.state.doubts)
+        records = overlaid(self.state.records, writes)
+        if self.chance.random() < 0.5:
+            self.commit_lazily(run, records)
+            return count + (self.ask_for_tickets(run) if self.chance.random() < 0.3 else 0)
+        self.asked.append((None, State(records, self.state.doubts)))
         self.demand(run, f"{self.session} commit", f"{self.session}: committed")
-        self.state, self.next = self.next, None
-        return count + 1
+        return count + self.acknowledge(len(self.asked))
 
     def run_until_killed(self, pair):
         """Answers how many decisions were acknowledged."""

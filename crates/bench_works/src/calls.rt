@@ -12,7 +12,7 @@ use shore_types::{Granule, Mode, SessionId};
 use std::io;
 
 /// All works with a manager in memory, by their names.
-pub const WORKS: [(&str, Work); 23] = [
+pub const WORKS: [(&str, Work); 25] = [
     ("call_get", Work::Call(Kind::Get, 1_000, None)),
     (
         "call_get_beside",
@@ -43,6 +43,11 @@ pub const WORKS: [(&str, Work); 23] = [
     (
         "call_ended",
         Work::Preparing(preparing::Work::Ended(Outcome::Commit)),
+    ),
+    ("call_lazy", Work::Preparing(preparing::Work::Lazy)),
+    (
+        "call_lazy_alone",
+        Work::Preparing(preparing::Work::LazyAlone),
     ),
     (
         "call_prepared",
@@ -184,10 +189,8 @@ pub fn measured(host: &Host, work: Work, rounds: u64) -> (u64, u64) {
     let (pages, records) = match work {
         Work::Call(Kind::Scan, records, _) => (16, records),
         Work::Call(_, records, _) => (4_096, records),
-        Work::Abort | Work::Preparing(preparing::Work::Ended(_) | preparing::Work::Prepared(_)) => {
-            (4_096, 1_000)
-        }
         Work::Preparing(preparing::Work::InDoubt(_)) | Work::OpenInDoubt => (4_096, 0),
+        Work::Abort | Work::Preparing(_) => (4_096, 1_000),
         Work::Open => (4_096, rounds),
         Work::Waiting(_) => (16, 2),
     };

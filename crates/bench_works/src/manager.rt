@@ -168,11 +168,10 @@ impl Manager {
         self.commit(SESSION)
     }
 
-    /// Commits the transaction of a session, forces all records of the log and takes the answer.
+    /// Commits the transaction of a session, and forces all records of the log.
     pub fn commit(&mut self, session: SessionId) -> Result<(), Fault> {
         self.ask(session, Call::Commit)?;
-        self.force()?;
-        self.resume(session)
+        self.force()
     }
 
     /// Makes every record of the log durable, as many at a time as a frame holds.

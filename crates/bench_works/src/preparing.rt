@@ -3,6 +3,7 @@
 use crate::manager::{LAST_SESSION, Manager, SESSION};
 use bench_parts::host::Host;
 use bench_parts::layout::STORE;
+use bench_parts::records::record_of;
 use shore_model::{Answer, Call, Outcome};
 use shore_types::{Fault, GlobalId, Granule, Mode, PageId, Sequence, SessionId};
 use shore_world::{Event, Step};
@@ -15,6 +16,10 @@ pub enum Work {
     Ended(Outcome),
     /// .. or prepares, and is committed or rolled back then.
     Prepared(Outcome),
+    /// A transaction begins, gets one of a thousand records for update and updates it, and commits lazily, with no force.
+    Lazy,
+    /// .. or begins and commits lazily, with nothing between.
+    LazyAlone,
     /// A session is told who is in doubt: so many.
     InDoubt(u32),
 }
@@ -25,7 +30,7 @@ pub const CHANGES_OF_EACH: u64 = 40;
 /// Makes a manager ready for the first round, and tells whether it is.
 pub fn prepare(manager: &mut Manager, work: Work) -> bool {
     match work {
-        Work::Ended(_) | Work::Prepared(_) => true,
+        Work::Ended(_) | Work::Prepared(_) | Work::Lazy | Work::LazyAlone => true,
         Work::InDoubt(count) => prepare_each(manager, count, 1),
     }
 }
@@ -57,6 +62,15 @@ pub fn measured(host: &Host, manager: &mut Manager, work: Work, rounds: u64) -> 
                     && has_prepared(manager, SESSION)
                     && has_resolved(manager, SESSION, outcome)
             }
+            Work::Lazy => {
+                manager.has_answered(SESSION, Call::Begin)
+                    && has_changed(manager, round)
+                    && manager.has_answered(SESSION, Call::Commit)
+            }
+            Work::LazyAlone => {
+                manager.has_answered(SESSION, Call::Begin)
+                    && manager.has_answered(SESSION, Call::Commit)
+            }
             Work::InDoubt(count) => has_told(manager, count),
         };
         done = done.saturating_add(u64::from(is_done));
@@ -66,6 +80,11 @@ pub fn measured(host: &Host, manager: &mut Manager, work: Work, rounds: u64) -> 
 
 fn has_updated(manager: &mut Manager, round: u64) -> bool {
     manager.has_answered(SESSION, Call::Begin) && matches!(manager.update(SESSION, round), Ok(true))
+}
+
+fn has_changed(manager: &mut Manager, round: u64) -> bool {
+    manager.has_answered(SESSION, Call::GetForUpdate(record_of(round)))
+        && matches!(manager.update(SESSION, round), Ok(true))
 }
 
 fn has_ended(manager: &mut Manager, outcome: Outcome) -> bool {

@@ -51,7 +51,7 @@ fn force(rt: &HostRuntime, manager: &mut Manager) -> Result<(), Fault> {
     Ok(())
 }
 
-// Makes a call. The log is forced if the call needs that to begin, or waits for it, as a commit does.
+// Makes a call. The log is forced if the call needs that to begin, or waits for it, as a prepare does.
 fn ask(rt: &HostRuntime, manager: &mut Manager, call: Call) -> Result<Option<Answer>, Fault>
     requires { IsServed call }
 {
@@ -65,6 +65,19 @@ fn ask(rt: &HostRuntime, manager: &mut Manager, call: Call) -> Result<Option<Ans
     answer_of(manager.step(rt.alloc(), next))
 }
 
+// Commits. That is answered with a ticket, and the commit is durable once all up to this is forced: a server would force once for the tickets of many.
+fn commit(rt: &HostRuntime, manager: &mut Manager) -> Result<(), Fault> {
+    let answer = ask(rt, manager, Call::Commit)?;
+    let Some(Answer::Committed(ticket)) = &answer else {
+        return Err(Fault::Failed);
+    };
+    force(rt, manager)?;
+    match manager.step(rt.alloc(), Event::Ask(*ticket)) {
+        Step::Done(Answer::IsDurable(true)) => Ok(()),
+        _ => Err(Fault::Failed),
+    }
+}
+
 // Shows all records, and then inserts one in a transaction that is committed.
 fn work(rt: &HostRuntime, manager: &mut Manager) -> Result<()> {
     let records = manager.dump(rt.alloc(), StoreId(0))?;
@@ -76,7 +89,7 @@ fn work(rt: &HostRuntime, manager: &mut Manager) -> Result<()> {
     let record = Sequence::from_vec(Vec::from_slice(rt.alloc(), b"a record")?);
     ask(rt, manager, Call::Begin)?;
     ask(rt, manager, Call::Insert(StoreId(0), record))?;
-    ask(rt, manager, Call::Commit)?;
+    commit(rt, manager)?;
     Ok(())
 }
 

@@ -8,6 +8,8 @@ use Rattle.shore_script.specs.declared.settings.Devices.TheVariants as devices
 -- files have no fuse, and a crash of them picks nothing
 abbrev pub IsForFiles : Command → Type 0
 IsForFiles (command.Ask session call) = Unit {0}
+IsForFiles (command.Lazy session) = Unit {0}
+IsForFiles (command.Durable ticket) = Unit {0}
 IsForFiles command.Nothing = Unit {0}
 IsForFiles command.Force = Unit {0}
 IsForFiles command.Flush = Unit {0}

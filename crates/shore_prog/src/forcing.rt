@@ -1,9 +1,11 @@
 //! Forces.
-ghost use Rattle.std.specs.Prelude.{OnOk};
+ghost use Rattle.std.specs.Prelude.{◌≤◌, OnOk};
+ghost use Rattle.shore_world.specs.Worlds.{durable_in};
 ghost use Rattle.shore_prog.specs.Doing.{AreAllDurable, EndsForce};
 
 use crate::manager::ScriptWorld;
-use shore_types::Fault;
+use shore_model::Answer;
+use shore_types::{Fault, Ticket};
 use shore_world::{Event, Step};
 use std::alloc::Global;
 
@@ -12,6 +14,19 @@ pub fn force(alloc: Global, world: &mut ScriptWorld) -> Result<(), Fault>
     ensures { OnOk result (AreAllDurable world.new) }
 {
     force_frames(alloc, world)
+}
+
+/// Forces every waiting record for a commit, and asks for its ticket: if it answers Ok the commit is durable. The ticket is one that this manager gave, so
+/// a force that was made always reaches it.
+pub fn force_up_to(alloc: Global, world: &mut ScriptWorld, ticket: Ticket) -> Result<(), Fault>
+    ensures { OnOk result (ticket ≤ durable_in world.new) }
+{
+    force(alloc, world)?;
+    match world.step(alloc, Event::Ask(ticket)) {
+        Step::Done(Answer::IsDurable(true)) => Ok(()),
+        Step::Refused(fault) => Err(fault),
+        Step::Done(_) | Step::Waits(_) | Step::Nothing => Err(Fault::Failed),
+    }
 }
 
 // One frame after another, until none is left.

@@ -11,13 +11,13 @@ ghost use Rattle.shore_prog.specs.Doing.{EndsFlush};
 ghost use Rattle.shore_prog.specs.declared.manager.Progress.TheVariants.{Again};
 
 use crate::devices::{ScriptDisk, first_pair, pair_after_crash};
-use crate::forcing::force;
+use crate::forcing::{force, force_up_to};
 use crate::rounds::{WaitingLines, go_first, go_round};
 use shore_disk::Pick;
 use shore_model::{Answer, Call, Wait};
 use shore_script::{Command, Devices, Fuse, Fuses, Settings, render};
 use shore_types::layout::MAX_STORES;
-use shore_types::{Device, Fault, Pairs, SessionId, StoreId};
+use shore_types::{Device, Fault, Pairs, SessionId, StoreId, Ticket};
 use shore_world::{Event, Step, World, crashed};
 use std::alloc::Global;
 use std::fs::{File, Files};
@@ -231,7 +231,7 @@ fn tell<W: Write>(out: &mut W, session: Option<SessionId>, fault: &Fault) -> io:
 // Whose call a line is.
 fn asker_of(command: &Command) -> Option<SessionId> {
     match command {
-        Command::Ask(session, _) => Some(*session),
+        Command::Ask(session, _) | Command::Lazy(session) => Some(*session),
         _ => None,
     }
 }
@@ -248,6 +248,8 @@ fn answer<W: Write>(
 {
     match command {
         Command::Ask(session, call) => return ask(alloc, world, waiting, session, call, line, out),
+        Command::Lazy(session) => lazy(alloc, world, session, out)?,
+        Command::Durable(ticket) => durable(alloc, world, ticket, out)?,
         Command::Dump => return dump(alloc, world, out),
         Command::Force => force_line(alloc, world, out)?,
         Command::Flush => flush_line(alloc, world, out)?,
@@ -288,10 +290,66 @@ fn ask<W: Write>(
             }
         }
         Step::Refused(fault) => return refuse(alloc, world, Some(session), fault, out),
-        Step::Done(answer) => render::answer(out, session, &answer)?,
+        Step::Done(answer) => tell_answer(alloc, world, session, &answer, out)?,
         Step::Nothing => {}
     }
     Ok(Progress::Done)
+}
+
+// A commit is forced before it is told.
+fn tell_answer<W: Write>(
+    alloc: Global,
+    world: &mut ScriptWorld,
+    session: SessionId,
+    answer: &Answer,
+    out: &mut W,
+) -> io::Result<()> {
+    match answer {
+        Answer::Committed(ticket) => commit(alloc, world, session, *ticket, out),
+        answer => render::answer(out, session, answer),
+    }
+}
+
+// The session's commit has its ticket. The log is forced up to it, and the session is answered before any that waited for its locks. A force that fails is
+// the fault of the line: whether the commit is kept the next open shows.
+fn commit<W: Write>(
+    alloc: Global,
+    world: &mut ScriptWorld,
+    session: SessionId,
+    ticket: Ticket,
+    out: &mut W,
+) -> io::Result<()> {
+    match force_up_to(alloc, world, ticket) {
+        Ok(()) => render::committed(out, session),
+        Err(fault) => render::fault(out, Some(session), &fault),
+    }
+}
+
+// A commit that is not forced: its ticket is the answer. It asks for no page, so it needs no force to begin.
+fn lazy<W: Write>(
+    alloc: Global,
+    world: &mut ScriptWorld,
+    session: SessionId,
+    out: &mut W,
+) -> io::Result<()> {
+    match world.step(alloc, Event::Call(session, Call::Commit)) {
+        Step::Done(answer) => render::answer(out, session, &answer),
+        Step::Refused(fault) => render::fault(out, Some(session), &fault),
+        Step::Waits(_) | Step::Nothing => Ok(()),
+    }
+}
+
+fn durable<W: Write>(
+    alloc: Global,
+    world: &mut ScriptWorld,
+    ticket: Ticket,
+    out: &mut W,
+) -> io::Result<()> {
+    match world.step(alloc, Event::Ask(ticket)) {
+        Step::Done(Answer::IsDurable(is_durable)) => render::durable(out, is_durable),
+        // An ask answers nothing else.
+        _ => Ok(()),
+    }
 }
 
 // A line that is refused, of a session's call or another, answers its fault. If it needs a force, which no line answers, the log is forced for

@@ -90,7 +90,7 @@ impl WaitingLines {
     }
 }
 
-/// Forces the log if a call waits for it, and goes on with each call that waits, the lowest session first; again and again until a round changes
+/// Forces the log if a prepare or a resolve waits for it, and goes on with each call that waits, the lowest session first; again and again until a round changes
 /// nothing. If the device fails in the force, that is the answer of the lowest session that waits for it, and all others are refused. A force that was
 /// refused for another cause has changed nothing: the calls wait on, and the next line tries again.
 pub fn go_round<W: Write>(

@@ -6,7 +6,6 @@ use Rattle.shore_disk.specs.declared.memory.Pick.TheVariants as pick
 use Rattle.shore_model.specs.declared.calls.Call.{Call}
 use Rattle.shore_model.specs.declared.calls.Call.TheVariants as call
 use Rattle.shore_model.specs.declared.calls.Outcome.{Outcome}
-use Rattle.shore_model.specs.declared.calls.Outcome.TheVariants as outcome
 use Rattle.shore_types.specs.declared.faults.Device.{Device}
 use Rattle.shore_types.specs.declared.faults.Device.TheVariants as device
 use Rattle.shore_types.specs.declared.ids.Rid.{Rid}
@@ -114,6 +113,8 @@ AskCrash-spaceless words (Some p) h = one-spaceless words (codes "crash") _ h re
 
 pub AskPlain-spaceless : (words : List (List ℕ)) (x : Command) → AskPlain words x → AreSpaceless words
 AskPlain-spaceless words (command.Ask session call) h = absurd h
+AskPlain-spaceless words (command.Lazy session) h = absurd h
+AskPlain-spaceless words (command.Durable ticket) h = one-spaceless words (codes "durable") _ h refl (number-lacks (2 ^ 64) (omega arith) ticket)
 AskPlain-spaceless words command.Nothing h = absurd h
 AskPlain-spaceless words command.Force h = alone-spaceless words (codes "force") h refl
 AskPlain-spaceless words command.Flush h = alone-spaceless words (codes "flush") h refl
@@ -150,6 +151,8 @@ crash-letter first others (Some p) h = one-letter first others (codes "crash") _
 
 pub AskPlain-letter : (first : List ℕ) (others : List (List ℕ)) (x : Command) → AskPlain (first ∷ others) x → 97 ≤ get_or first 0 0
 AskPlain-letter first others (command.Ask session call) h = absurd h
+AskPlain-letter first others (command.Lazy session) h = absurd h
+AskPlain-letter first others (command.Durable ticket) h = one-letter first others (codes "durable") _ h (omega arith)
 AskPlain-letter first others command.Nothing h = absurd h
 AskPlain-letter first others command.Force h = alone-letter first others (codes "force") h (omega arith)
 AskPlain-letter first others command.Flush h = alone-letter first others (codes "flush") h (omega arith)

@@ -1,5 +1,5 @@
 -- Texts as words with spaces between them.
-use Rattle.std.proofs.Common.{◌≡◌, ◌≢◌, inl, inr, ℕ, ◌^◌, ◌<◌, ◌≤◌, eqb, false, List, [], ◌∷◌, ◌++◌, length, get_or, refl, sym, ap, subst, ◌∙◌, Option, None, Some, Result, Ok, Err, arith}
+use Rattle.std.proofs.Common.{◌≡◌, ◌≢◌, inl, inr, ℕ, ◌^◌, ◌<◌, ◌≤◌, eqb, false, List, [], ◌∷◌, ◌++◌, length, get_or, refl, sym, ap, subst, ◌∙◌, codes, Option, None, Some, Result, Ok, Err, arith}
 use Rattle.std.specs.Prelude.{IfOk}
 use Rattle.std.specs.Fmt.{decimal}
 use Rattle.std.specs.Str.{IsUtf8}
@@ -8,7 +8,7 @@ use Rattle.shore_script.specs.declared.command.Command.{Command}
 use Rattle.shore_script.specs.declared.command.Command.TheVariants as command
 use Rattle.shore_script.specs.declared.lines.TheConstants.{MAX_LINE_BYTES}
 use Rattle.shore_script.specs.Ids.{IsSession}
-use Rattle.shore_script.specs.Lines.{AsksOfSession, InWords, IsCallOf, IsLineOf, IsRemark, TextAsks}
+use Rattle.shore_script.specs.Lines.{AsksIn, AsksOfSession, InWords, IsCallOf, IsLineOf, IsRemark, TextAsks}
 use Rattle.shore_script.specs.Reading.{Reads}
 use Rattle.shore_script.specs.Words.{AskCall, AskPlain, spaced}
 use Rattle.shore_script.proofs.Cuts.{Lacks, cut_once, holds_cut}
@@ -125,20 +125,33 @@ no_plain line first rest session e h x p =
     let high = digit.1 in
     omega (arith, high, head, letter)
 
+-- a text that is no lazy commit asks for a call alone
+pub call_asks : (text : List ℕ) (session : ℕ) → text ≢ codes "lazy" → (found : Option Command) → Reads (IsCallOf text session) found → Reads (AsksIn text session) found
+call_asks text session other None none = λ x asks. elim asks [
+  | inl lazy ↦ other lazy.0
+  | inr call ↦ none x call
+]
+call_asks text session other (Some x) call = inr call
+
+-- what asks something of one session asks it of another, too
+of_session : (text rest : List ℕ) (one other : ℕ) (x : Command) → text ≡ rest → AsksIn text one x → (y : Command) × AsksIn rest other y
+of_session text rest one other x e (inl lazy) = (command.Lazy other, inl (sym e ∙ lazy.0, refl))
+of_session text rest one other x e (inr call) = (command.Ask other call.0, inr (call.0, refl, subst (λ (t : List ℕ). InWords AskCall t call.0) e call.2))
+
 -- a line that begins with a session asks for what the rest asks of it
 pub session_line : (line first rest : List ℕ) (session : ℕ) → ¬ (IsRemark line) → line ≡ first ++ (32 ∷ rest) → Lacks 32 first → IsSession first session
-    → (found : Option Command) → Reads (IsCallOf rest session) found → Reads (TextAsks line) found
+    → (found : Option Command) → Reads (AsksIn rest session) found → Reads (TextAsks line) found
 session_line line first rest session remark e lacks h None none = λ x asks. elim asks [
   | inl r ↦ remark r.0
   | inr k ↦ elim k [
     | inl p ↦ no_plain line first rest session e h x p
     | inr s ↦
         let cut = cut_once 32 first rest s.1 s.2 lacks (session-lacks s.1 s.0 s.4) (sym e ∙ s.3) in
-        let other = s.5 in
-        none (command.Ask session other.0) (other.0, refl, subst (λ (t : List ℕ). InWords AskCall t other.0) (sym cut.1) other.2)
+        let here = of_session s.2 rest s.0 session x (sym cut.1) s.5 in
+        none here.0 here.1
   ]
 ]
-session_line line first rest session remark e lacks h (Some x) call = inr (inr (session, first, rest, e, h, call))
+session_line line first rest session remark e lacks h (Some x) asks = inr (inr (session, first, rest, e, h, asks))
 
 pub line_reads : (line : List ℕ) → length line ≤ MAX_LINE_BYTES → IsUtf8 line → (found : Option Command) → Reads (TextAsks line) found → Reads (IsLineOf line) found
 line_reads line fits text None none = λ x h. none x h.asks

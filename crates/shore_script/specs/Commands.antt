@@ -6,6 +6,8 @@ use Rattle.shore_script.specs.declared.command.Command.TheVariants as command
 -- a call that is served to each session, and every other line
 abbrev pub IsServedCommand : Command → Type 0
 IsServedCommand (command.Ask session call) = IsServed call
+IsServedCommand (command.Lazy session) = Unit {0}
+IsServedCommand (command.Durable ticket) = Unit {0}
 IsServedCommand command.Nothing = Unit {0}
 IsServedCommand command.Force = Unit {0}
 IsServedCommand command.Flush = Unit {0}

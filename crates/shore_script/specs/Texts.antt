@@ -1,5 +1,5 @@
 -- What is printed.
-use Rattle.std.specs.Prelude.{ℕ, ◌+◌, ◌^◌, ◌-◌, min, List, [], ◌∷◌, ◌++◌, Option, None, Some, codes, length}
+use Rattle.std.specs.Prelude.{ℕ, ◌+◌, ◌^◌, ◌-◌, min, Bool, List, [], ◌∷◌, ◌++◌, Option, None, Some, codes, false, length, true}
 use Rattle.std.specs.Fmt.{decimal}
 use Rattle.hex.specs.Hex.{encode_lower}
 use Rattle.shore_model.specs.declared.calls.Answer.{Answer}
@@ -56,7 +56,7 @@ answer_text (answer.Scanned pairs) = codes "scan " ++ (decimal (length pairs) ++
 answer_text answer.Locked = codes "ok" ++ line_end
 answer_text (answer.Saved index) = codes "savepoint " ++ (decimal index ++ line_end)
 answer_text answer.WentBack = codes "ok" ++ line_end
-answer_text answer.Committed = codes "committed" ++ line_end
+answer_text (answer.Committed ticket) = codes "ticket " ++ (decimal ticket ++ line_end)
 answer_text answer.Aborted = codes "aborted" ++ line_end
 answer_text answer.Prepared = codes "prepared" ++ line_end
 answer_text answer.Resolved = codes "resolved" ++ line_end
@@ -69,10 +69,20 @@ answer_text (answer.Ended number) = codes "ok" ++ line_end
 answer_text (answer.Anchored checkpoint tail) = codes "ok" ++ line_end
 answer_text answer.Moved = codes "ok" ++ line_end
 answer_text answer.Cut = codes "ok" ++ line_end
+answer_text (answer.IsDurable answered) = codes "ok" ++ line_end
 
 -- the session's number first
 abbrev pub answer_line : ℕ → Answer → List ℕ
 answer_line session answered = decimal session ++ (codes ": " ++ answer_text answered)
+
+-- a session's commit is durable
+abbrev pub committed_line : ℕ → List ℕ
+committed_line session = decimal session ++ (codes ": committed" ++ line_end)
+
+-- the commit of a ticket is durable, or not yet
+abbrev pub durable_line : Bool → List ℕ
+durable_line true = codes "durable yes" ++ line_end
+durable_line false = codes "durable no" ++ line_end
 
 -- a fault of a session's call, or of another line
 abbrev pub fault_line : Option ℕ → Fault → List ℕ

@@ -74,6 +74,8 @@ AskCrash words (Some pick) = HasOne words (codes "crash") (λ word. word ≡ pic
 -- the words ask for what is no call
 abbrev pub AskPlain : List (List ℕ) → Command → Type 0
 AskPlain words (command.Ask session call) = ⊥
+AskPlain words (command.Lazy session) = ⊥
+AskPlain words (command.Durable ticket) = HasOne words (codes "durable") (λ word. IsNumber (2 ^ 64) word ticket)
 AskPlain words command.Nothing = ⊥
 AskPlain words command.Force = IsAlone words (codes "force")
 AskPlain words command.Flush = IsAlone words (codes "flush")

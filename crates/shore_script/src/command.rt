@@ -2,7 +2,7 @@
 ghost use Rattle.std.specs.Prelude.{◌≡◌, ◌≢◌, ◌∷◌, [], IfOk, IfSome, codes};
 ghost use Rattle.shore_model.specs.Calls.{IsServed};
 ghost use Rattle.shore_script.specs.Commands.{IsServedCommand};
-ghost use Rattle.shore_script.specs.Lines.{InWords, IsCallOf, IsLineOf, TextAsks};
+ghost use Rattle.shore_script.specs.Lines.{AsksIn, InWords, IsCallOf, IsLineOf, TextAsks};
 ghost use Rattle.shore_script.specs.Reading.{Reads};
 ghost use Rattle.shore_script.specs.Words.{AskCall, AskPlain, outcome_word, pick_word};
 ghost use Rattle.shore_types.specs.Names.{device_name};
@@ -12,7 +12,7 @@ use crate::lines::MAX_LINE_BYTES;
 use crate::words;
 use shore_disk::Pick;
 use shore_model::{Call, Outcome};
-use shore_types::{Device, SessionId};
+use shore_types::{Device, SessionId, Ticket};
 use std::alloc::{AllocError, Global};
 
 /// What a line of the script asks for.
@@ -22,6 +22,10 @@ pub enum Command {
     Nothing,
     /// A call of a session.
     Ask(SessionId, Call),
+    /// A commit of a session, of which its ticket is told, and which is not forced.
+    Lazy(SessionId),
+    /// Whether the commit of a ticket is durable.
+    Durable(Ticket),
     /// Every waiting record is forced.
     Force,
     /// Every dirty page with a durable number is written back.
@@ -70,8 +74,23 @@ fn parse(alloc: Global, line: &str) -> Result<Option<Command>, AllocError>
     }
 }
 
-// A call of the session.
+// A lazy commit of the session, or a call.
 fn session_command(
+    alloc: Global,
+    session: SessionId,
+    text: &str,
+) -> Result<Option<Command>, AllocError>
+    ensures served { IfOk result (λ found. IfSome found IsServedCommand) }
+    ensures asks { IfOk result (Reads (AsksIn text.now session)) }
+{
+    match text {
+        "lazy" => Ok(Some(Command::Lazy(session))),
+        text => call_command(alloc, session, text),
+    }
+}
+
+// A call of the session.
+fn call_command(
     alloc: Global,
     session: SessionId,
     text: &str,
@@ -93,7 +112,7 @@ fn plain_command(text: &str) -> Option<Command>
     match text.split_once(' ') {
         Some((word, rest)) => match rest.split_once(' ') {
             Some((device, calls)) => fuse_command(word, device, calls),
-            None => crash_command(word, rest),
+            None => command_with_one(word, rest),
         },
         None => command_of_a_word(text),
     }
@@ -114,13 +133,13 @@ fn command_of_a_word(word: &str) -> Option<Command>
     }
 }
 
-fn crash_command(word: &str, pick: &str) -> Option<Command>
+fn command_with_one(word: &str, object: &str) -> Option<Command>
     ensures served { IfSome result IsServedCommand }
-    ensures asks { Reads (AskPlain (word.now ∷ pick.now ∷ [])) result }
+    ensures asks { Reads (AskPlain (word.now ∷ object.now ∷ [])) result }
 {
-    let pick = pick_of(pick)?;
     match word {
-        "crash" => Some(Command::Crash(Some(pick))),
+        "crash" => Some(Command::Crash(Some(pick_of(object)?))),
+        "durable" => Some(Command::Durable(words::ticket(object)?)),
         _ => None,
     }
 }

@@ -2,7 +2,7 @@
 ghost use Rattle.std.specs.Prelude.{◌≡◌, ◌≤◌, ◌+◌, ◌^◌, ◌-◌, IfOk, OnOk, length, min, slice_get};
 ghost use Rattle.std.specs.Io.KnownBytes.{Appends};
 ghost use Rattle.hex.specs.Hex.{encode_lower};
-ghost use Rattle.shore_script.specs.Texts.{answer_line, answer_text, bytes_text, doubt_line, doubt_lines, fault_line, kind_text, lock_line, log_line, log_lines, open_fault_line, record_line, record_lines, some_record_line, waits_line};
+ghost use Rattle.shore_script.specs.Texts.{answer_line, answer_text, bytes_text, committed_line, doubt_line, durable_line, doubt_lines, fault_line, kind_text, lock_line, log_line, log_lines, open_fault_line, record_line, record_lines, some_record_line, waits_line};
 ghost use Rattle.shore_script.specs.declared.render.TheConstants.{PART};
 
 use shore_model::{Answer, LogRecord, Payload, Request};
@@ -29,7 +29,24 @@ pub fn open_fault<W: Write>(out: &mut W, fault: &Fault) -> io::Result<()>
     writeln!(out, "open fault {fault}")
 }
 
-/// Writes the line of a session's answer, and those of a scan's pairs.
+/// Writes the line of a session's commit that is durable.
+pub fn committed<W: Write>(out: &mut W, session: SessionId) -> io::Result<()>
+    ensures { OnOk result (Appends (W.contents out.old) (W.contents out.new) (committed_line session)) }
+{
+    writeln!(out, "{session}: committed")
+}
+
+/// Writes the line that says whether the commit of a ticket is durable.
+pub fn durable<W: Write>(out: &mut W, is_durable: bool) -> io::Result<()>
+    ensures { OnOk result (Appends (W.contents out.old) (W.contents out.new) (durable_line is_durable)) }
+{
+    match is_durable {
+        true => out.write_all(b"durable yes\n"),
+        false => out.write_all(b"durable no\n"),
+    }
+}
+
+/// Writes the line of a session's answer, and those of a scan's pairs. A commit's is its ticket.
 pub fn answer<W: Write>(out: &mut W, session: SessionId, answer: &Answer) -> io::Result<()>
     ensures { OnOk result (Appends (W.contents out.old) (W.contents out.new) (answer_line session answer.now)) }
 {
@@ -47,7 +64,7 @@ fn answer_of<W: Write>(out: &mut W, answer: &Answer) -> io::Result<()>
         Answer::Scanned(pairs) => scanned(out, pairs),
         Answer::AreInDoubt(found) => in_doubt(out, found.as_slice()),
         Answer::Saved(index) => writeln!(out, "savepoint {index}"),
-        Answer::Committed => writeln!(out, "committed"),
+        Answer::Committed(ticket) => writeln!(out, "ticket {}", ticket.number()),
         Answer::Aborted => writeln!(out, "aborted"),
         Answer::Prepared => writeln!(out, "prepared"),
         Answer::Resolved => writeln!(out, "resolved"),

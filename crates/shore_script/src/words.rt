@@ -7,7 +7,9 @@ ghost use Rattle.shore_script.specs.Reading.{Reads};
 ghost use Rattle.shore_types.specs.Names.{mode_name};
 
 use hex::FromHexError;
-use shore_types::{Bytes, GlobalId, Granule, Mode, PageId, Rid, Sequence, SessionId, StoreId};
+use shore_types::{
+    Bytes, GlobalId, Granule, Lsn, Mode, PageId, Rid, Sequence, SessionId, StoreId, Ticket,
+};
 use std::alloc::{AllocError, Global};
 
 /// The most bytes that the form `HH*N` repeats.
@@ -37,6 +39,13 @@ pub fn index(word: &str) -> Option<usize>
     ensures { Reads (IsNumber (2 ^ 64) word.now) result }
 {
     Some(number(word)? as usize)
+}
+
+/// A ticket, by its number.
+pub fn ticket(word: &str) -> Option<Ticket>
+    ensures { Reads (IsNumber (2 ^ 64) word.now) result }
+{
+    Some(Ticket::of(Lsn(number(word)?)))
 }
 
 /// A session, 1 to 999.

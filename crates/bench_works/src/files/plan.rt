@@ -5,8 +5,9 @@ use bench_parts::host::Host;
 const UPDATED_RECORDS: u64 = 1_000;
 
 /// All works over files, by their names, with how many calls are made if nothing is said.
-pub const WORKS: [(&str, (Work, u64)); 8] = [
+pub const WORKS: [(&str, (Work, u64)); 9] = [
     ("durable", (Work::Durable, 1_000)),
+    ("lazy", (Work::Lazy, 100_000)),
     ("insert", (Work::Insert, 100_000)),
     ("scan", (Work::Scan, 100_000)),
     ("crash", (Work::Crash, 1_000)),
@@ -16,11 +17,13 @@ pub const WORKS: [(&str, (Work, u64)); 8] = [
     ("undo", (Work::Undo, 1_000)),
 ];
 
-/// What a run does. The first five make both files anew, with records in one transaction that is committed; the others open what a crash left.
+/// What a run does. The first six make both files anew, with records in one transaction that is committed; the others open what a crash left.
 #[derive(Clone, Copy)]
 pub enum Work {
     /// Updates, each in a transaction that is answered once it is durable, in turns with a plain write and sync of as many bytes.
     Durable,
+    /// Updates, each in a transaction that is committed lazily, and a force behind each hundred.
+    Lazy,
     /// Nothing more: the records are what is measured.
     Insert,
     /// A scan of all records.

@@ -11,6 +11,9 @@ use shore_types::{Fault, Pairs};
 
 const MILLION: u64 = 1_000_000;
 
+// A force carries so many lazy commits.
+const LAZY_COMMITS: u64 = 100;
+
 /// Does a work, and prints its figures. A record that is missing or has other bytes is the fault `NoRecord`.
 pub fn perform(plan: &Plan) -> Result<(), Fault> {
     match plan.work {
@@ -26,6 +29,7 @@ fn on_new(plan: &Plan) -> Result<(), Fault> {
     let written = (log.written(), volume.written());
     match (times, plan.work) {
         (Ok(times), Work::Insert) => tell_inserts(plan, times, written),
+        (Ok((nanos, _)), Work::Lazy) => tell_lazy(plan, nanos, written),
         (Ok(_), _) => Ok(()),
         (Err(fault), _) => Err(fault),
     }
@@ -39,6 +43,7 @@ fn work_on(plan: &Plan, manager: &mut Manager) -> Result<(u64, u64), Fault> {
     let times = timed_fill(plan, manager, records)?;
     match plan.work {
         Work::Insert => {}
+        Work::Lazy => return Ok((timed_lazy(plan, manager)?, 0)),
         Work::Scan => scanned(plan, manager)?,
         _ => updates(plan, manager)?,
     }
@@ -65,6 +70,45 @@ fn tell_inserts(plan: &Plan, times: (u64, u64), written: (u64, u64)) -> Result<(
         Figure::ratio("insert_and_commit", times.1, plan.count, 1, time),
         Figure::ratio("insert_log", written.0, bytes, 1_000, share),
         Figure::ratio("insert_volume", written.1, bytes, 1_000, share),
+    ];
+    tell(&plan.host, plan.size, &figures)
+}
+
+// The nanoseconds of the transactions, with the forces behind them.
+fn timed_lazy(plan: &Plan, manager: &mut Manager) -> Result<u64, Fault> {
+    let pairs = manager.records()?;
+    let start = plan.host.nanos();
+    for number in 0..plan.count {
+        manager.ask(SESSION, Call::Begin)?;
+        update_one(plan, manager, &pairs, number)?;
+        manager.ask(SESSION, Call::Commit)?;
+        if number % LAZY_COMMITS == LAZY_COMMITS - 1 {
+            manager.force()?;
+        }
+    }
+    manager.force()?;
+    Ok(plan.host.nanos_since(start))
+}
+
+// The bytes are those of the records before, too: they are few beside so many transactions.
+fn tell_lazy(plan: &Plan, nanos: u64, written: (u64, u64)) -> Result<(), Fault> {
+    let second = 1_000 * 1_000 * MILLION;
+    let figures = [
+        Figure::ratio("lazy", plan.count, nanos, second, "transactions_per_second"),
+        Figure::ratio(
+            "lazy_log",
+            written.0,
+            plan.count,
+            1_000,
+            "bytes_per_transaction",
+        ),
+        Figure::ratio(
+            "lazy_volume",
+            written.1,
+            plan.count,
+            1_000,
+            "bytes_per_transaction",
+        ),
     ];
     tell(&plan.host, plan.size, &figures)
 }

@@ -106,6 +106,21 @@ const A_VICTIM_TO_TELL: [Turn; 10] = [
     (2, Doing::Update),
 ];
 
+/// One of each that a session with a call that waits is asked.
+const EACH_OF_A_VICTIM: [Doing; 11] = [
+    Doing::Begin,
+    INSERT,
+    Doing::Update,
+    DELETE,
+    Doing::ScanOf(0),
+    Doing::Commit,
+    Doing::Abort,
+    Doing::ForceStage,
+    Doing::ForceOpen,
+    Doing::Resume,
+    Doing::FlushStep,
+];
+
 // Lists of three events are the longest.
 const LONGEST: u32 = 3;
 
@@ -174,7 +189,7 @@ fn with_a_commit_under_way(rt: HostRuntime) -> Result<(), Fail> {
             cut_behind: 2,
             wanted: Counts {
                 lists: 1464,
-                cases: 8141,
+                cases: 8139,
                 cuts: 2500,
             },
         },
@@ -214,7 +229,7 @@ fn with_changes_in_all_frames(rt: HostRuntime) -> Result<(), Fail> {
             cut_behind: 1,
             wanted: Counts {
                 lists: 1464,
-                cases: 57722,
+                cases: 57930,
                 cuts: 6125,
             },
         },
@@ -229,7 +244,7 @@ fn with_a_victim_to_tell(rt: HostRuntime) -> Result<(), Fail> {
             name: "with a victim to tell",
             is_on_a_record: true,
             before: &A_VICTIM_TO_TELL,
-            each: &EACH,
+            each: &EACH_OF_A_VICTIM,
             longest: 1,
             cut_behind: 1,
             wanted: Counts {
@@ -268,7 +283,7 @@ const COMMITS_AND_AN_ABORT: [Turn; 19] = [
     (1, Doing::Commit),
     (1, Doing::ForceStage),
     (1, Doing::ForceOpen),
-    (1, Doing::Resume),
+    (1, Doing::Ask(0)),
     (1, Doing::Begin),
     (1, Doing::Update),
     (1, Doing::InsertOf(1, 0xdd, 1)),
@@ -281,7 +296,7 @@ const COMMITS_AND_AN_ABORT: [Turn; 19] = [
     (1, Doing::Commit),
     (1, Doing::ForceStage),
     (1, Doing::ForceOpen),
-    (1, Doing::Resume),
+    (1, Doing::Ask(0)),
 ];
 
 #[test]

@@ -1,8 +1,10 @@
-use Rattle.std.proofs.Common.{subst}
-use Rattle.shore_script.specs.Lines.{InWords}
+use Rattle.shore_script.specs.Lines.{AsksIn, IsCallOf}
 use Rattle.shore_script.specs.Reading.{Reads}
-use Rattle.shore_script.specs.Words.{AskCall}
+use Rattle.shore_script.proofs.Splits.{call_asks, on_ok}
 use Rattle.shore_script.proofs.command.session_command.Goals as goal
 
-pub returns-in-None-clause-asks : goal.returns-in-None-clause-asks
-returns-in-None-clause-asks c = λ x h. (subst (Reads (InWords AskCall c.args.text.now)) c.in-None.is c.in_ok-call.ensures.asks) h.0 h.2
+pub returns-in_default-clause-asks : goal.returns-in_default-clause-asks
+returns-in_default-clause-asks c =
+    let text = c.args.text.now in
+    let session = c.args.session in
+    on_ok (Reads (IsCallOf text session)) (Reads (AsksIn text session)) (call_asks text session c.in_default.not-lazy) c.call_command.result c.call_command.ensures.asks

@@ -69,7 +69,7 @@ impl Chance {
 
     /// What goes on in all stores, of which not all have their pages in frames.
     fn doing(&mut self) -> Doing {
-        match self.below(15) {
+        match self.below(16) {
             0 | 1 => Doing::Begin,
             2 | 3 | 4 => self.change(),
             5 => Doing::Commit,
@@ -77,8 +77,14 @@ impl Chance {
             8 | 9 => Doing::ForceOpen,
             10 => Doing::Resume,
             11 => Doing::FlushStep,
+            12 => self.asking(),
             _ => self.saving(),
         }
+    }
+
+    // An ask for the ticket of one of the last records.
+    fn asking(&mut self) -> Doing {
+        Doing::Ask(u64::from(self.below(8)))
     }
 
     // A savepoint, a way back to one, which may not be there, or an abort.
@@ -104,7 +110,7 @@ impl Chance {
         if savepoints > 0 && self.below(2) == 0 {
             return self.doing_behind(savepoints);
         }
-        match self.below(30) {
+        match self.below(34) {
             0 | 1 | 2 | 3 => Doing::GetOf(self.near_place()),
             4 | 5 => Doing::GetForUpdateOf(self.near_place()),
             6 | 7 => Doing::InsertOf(self.below(2), self.byte(), self.length()),
@@ -118,6 +124,7 @@ impl Chance {
             19 | 20 => Doing::ForceStage,
             21 | 22 => Doing::ForceOpen,
             23 => Doing::FlushStep,
+            24 | 25 | 26 => self.asking(),
             _ => self.saving(),
         }
     }

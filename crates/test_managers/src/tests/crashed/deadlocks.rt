@@ -190,7 +190,7 @@ impl Victims {
         }
         let is_refused = match asking.doing {
             Doing::ForceStage | Doing::ForceOpen | Doing::FlushStep | Doing::Resume => true,
-            Doing::InDoubt => true,
+            Doing::InDoubt | Doing::Ask(_) => true,
             _ => is_refused(asking, tally),
         };
         require_all(&[

@@ -5,7 +5,9 @@ ghost use Rattle.shore_world.specs.Events.{IsServedEvent};
 
 use super::lock_lists::Lock;
 use shore_model::{Call, Outcome};
-use shore_types::{Bytes, GlobalId, Granule, Mode, PageId, Rid, Sequence, SessionId, StoreId};
+use shore_types::{
+    Bytes, GlobalId, Granule, Lsn, Mode, PageId, Rid, Sequence, SessionId, StoreId, Ticket,
+};
 use shore_world::Event;
 use std::alloc::{AllocError, Global};
 
@@ -50,6 +52,8 @@ pub(super) enum Doing {
     /// The decision on the transaction of a name.
     Resolve(Name, Outcome),
     InDoubt,
+    /// Whether the record so many before the last one is durable.
+    Ask(u64),
     ForceStage,
     ForceOpen,
     Resume,
@@ -76,7 +80,7 @@ pub(super) const EACH: [Doing; 11] = [
     Doing::Abort,
     Doing::ForceStage,
     Doing::ForceOpen,
-    Doing::Resume,
+    Doing::Ask(0),
     Doing::FlushStep,
 ];
 
@@ -87,7 +91,7 @@ pub(super) const ONE_COMMIT: [Turn; 6] = [
     (1, Doing::Commit),
     (1, Doing::ForceStage),
     (1, Doing::ForceOpen),
-    (1, Doing::Resume),
+    (1, Doing::Ask(0)),
 ];
 
 impl Doing {
@@ -127,6 +131,7 @@ impl Doing {
                 Some(Call::TryLock(granule_at(place, depth), mode))
             }
             Doing::ForceStage | Doing::ForceOpen | Doing::Resume | Doing::FlushStep => None,
+            Doing::Ask(_) => None,
         })
     }
 
@@ -150,12 +155,28 @@ impl Doing {
         })
     }
 
-    /// The event that a manager is given, if a session does this.
-    pub(super) fn event(self, alloc: Global, session: SessionId) -> Result<Event, AllocError>
+    /// The ticket that is asked for, if one is, where so many records are logged.
+    pub(super) fn ticket(self, logged: u64) -> Option<Ticket> {
+        match self {
+            Doing::Ask(before) => Some(Ticket::of(Lsn(logged.saturating_sub(before)))),
+            _ => None,
+        }
+    }
+
+    /// The event that a manager is given, if a session does this and so many records are logged.
+    pub(super) fn event(
+        self,
+        alloc: Global,
+        session: SessionId,
+        logged: u64,
+    ) -> Result<Event, AllocError>
         ensures { IfOk result IsServedEvent }
     {
         if let Some(call) = self.call(alloc)? {
             return Ok(Event::Call(session, call));
+        }
+        if let Some(ticket) = self.ticket(logged) {
+            return Ok(Event::Ask(ticket));
         }
         Ok(match self {
             Doing::ForceStage => Event::ForceStage,

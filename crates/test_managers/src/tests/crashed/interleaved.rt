@@ -6,7 +6,7 @@ use super::decided::{Deciding, NO_PREPARES, Prepares, is_rolling_back};
 use super::devices::{Manager, NO_FUSES, cut_off};
 use super::doings::Doing;
 use super::judged_locks::{check_asked, check_locks, waits_at, would_wait};
-use super::lives::{Ground, Life, Pair, Past, formatted, past_of};
+use super::lives::{Ground, Life, Pair, Past, formatted, logged, past_of};
 use super::lock_lists::{has_cycle, in_order, waiting_request};
 use super::losses::{NOTHING_YET, Tally, check_dump, check_loss};
 use super::rollbacks::{check_appended, records_put_back};
@@ -31,6 +31,9 @@ pub(super) struct Meetings {
     pub(super) answered_behind: u64,
     /// Tries that somebody was in the way of.
     pub(super) blocked: u64,
+    /// Asks that were answered by yes, and by no.
+    pub(super) told_durable: u64,
+    pub(super) told_waiting: u64,
     pub(super) deadlocks: Deadlocks,
     pub(super) prepares: Prepares,
 }
@@ -40,7 +43,8 @@ impl Meetings {
     pub(super) fn has_each(&self, events: u64) -> bool {
         let of_locks = self.lock_waits > 0 && self.answered_behind > 0 && self.blocked > 0;
         let of_rollbacks = self.all.rollbacks.has_each() && self.all.losers_begun > 0;
-        self.all.events >= events && of_locks && of_rollbacks && self.all.has_each()
+        let of_tickets = self.told_durable > 0 && self.told_waiting > 0;
+        self.all.events >= events && of_locks && of_rollbacks && of_tickets && self.all.has_each()
     }
 }
 
@@ -49,6 +53,8 @@ pub(super) const NO_MEETINGS: Meetings = Meetings {
     lock_waits: 0,
     answered_behind: 0,
     blocked: 0,
+    told_durable: 0,
+    told_waiting: 0,
     deadlocks: NO_DEADLOCKS,
     prepares: NO_PREPARES,
 };
@@ -183,8 +189,7 @@ impl Meeting {
         if world.has_failed() {
             tally.all.failures = tally.all.failures.saturating_add(1);
         }
-        let (handed_over, _) = world.records();
-        let lost = self.victims.count_with_records(handed_over);
+        let lost = self.victims.count_with_records(world.records().0);
         tally.deadlocks.lost = tally.deadlocks.lost.saturating_add(lost);
         Ok(())
     }
@@ -207,7 +212,8 @@ impl Meeting {
                 let session = self.session_by_chance(party.sessions, chance);
                 let savepoints = self.savepoints(alloc, session)?;
                 let about = self.about_prepared(session, party, chance);
-                let turn = self.turn(session, savepoints, about, chance);
+                let mut turn = self.turn(session, savepoints, about, chance);
+                turn.doing = self.history.with_a_ticket(turn.doing, world);
                 if self.go_on(alloc, ground, world, &turn, tally)? {
                     let records = records_put_back(alloc, ground, &self.history, party.sessions)?;
                     are_in_place(alloc, world, &records)?;
@@ -285,7 +291,8 @@ impl Meeting {
         let opening = &ground.opening;
         let (_, waiting) = world.records();
         let waited = waiting.len();
-        let step = world.step(alloc, turn.doing.event(alloc, turn.session)?);
+        let event = turn.doing.event(alloc, turn.session, logged(world))?;
+        let step = world.step(alloc, event);
         let judged = self.judge(alloc, opening, world, turn, waited, &step, tally);
         let (handed_over, waiting) = world.records();
         let appended = waiting.get(waited..).unwrap_or(&[]);
@@ -293,6 +300,7 @@ impl Meeting {
             || matches!(step, Step::Done(Answer::WentBack | Answer::Aborted));
         let ends_rollback = has_ended && !is_rolling_back(handed_over, waiting);
         self.history.note_decisions(alloc, appended)?;
+        self.history.note_tickets(turn.doing, world, &step)?;
         self.history
             .note(alloc, opening, turn.session, turn.doing, step)?;
         judged?;
@@ -358,7 +366,7 @@ impl Meeting {
         deciding.judge(alloc, tally)
     }
 
-    // Those whose locks an event lets go: a transaction at the answer to its commit or abort, and one that is prepared as its Commit or End is appended.
+    // Those whose locks an event lets go: a transaction at its commit or abort, and one that is prepared as its Commit or End is appended.
     fn over(
         &self,
         alloc: Global,
@@ -367,7 +375,10 @@ impl Meeting {
         told: &Told<'_>,
     ) -> Result<Vec<TxnId>, AllocError> {
         let mut over = Vec::new(alloc);
-        if matches!(told.step, Step::Done(Answer::Committed | Answer::Aborted)) {
+        if matches!(
+            told.step,
+            Step::Done(Answer::Committed(_) | Answer::Aborted)
+        ) {
             over.push(turn.txn)?;
         }
         let made = decisions(alloc, self.history.entries())?;
@@ -465,6 +476,8 @@ fn count(turn: &Turn, step: &Step, tally: &mut Meetings) {
             *flushed = flushed.saturating_add(*pages as u64);
             return;
         }
+        Step::Done(Answer::IsDurable(true)) => &mut tally.told_durable,
+        Step::Done(Answer::IsDurable(false)) => &mut tally.told_waiting,
         Step::Done(_) if goes_on(turn) => &mut tally.answered_behind,
         Step::Refused(Fault::WouldBlock { .. }) => &mut tally.blocked,
         _ => return,
@@ -475,17 +488,12 @@ fn count(turn: &Turn, step: &Step, tally: &mut Meetings) {
 // The turn goes on with a call that waited for a lock.
 fn goes_on(turn: &Turn) -> bool {
     match turn.waited {
-        Some(Doing::Commit | Doing::Prepare(_) | Doing::Resolve(_, _)) | None => false,
+        Some(Doing::Prepare(_) | Doing::Resolve(_, _)) | None => false,
         Some(_) => matches!(turn.doing, Doing::Resume),
     }
 }
 
 // An End is among these records.
 fn ends_one(records: &[LogRecord]) -> bool {
-    for logged in records {
-        if logged.payload.is_end() {
-            return true;
-        }
-    }
-    false
+    records.iter().any(|logged| logged.payload.is_end())
 }

@@ -147,6 +147,12 @@ fn make_behind(
     )
 }
 
+/// How many records the log has.
+pub(super) fn logged(world: &Manager) -> u64 {
+    let (handed_over, waiting) = world.records();
+    (handed_over.len() as u64).saturating_add(waiting.len() as u64)
+}
+
 /// Makes the events, and notes what each comes to.
 pub(super) fn make_each(
     alloc: Global,
@@ -159,9 +165,11 @@ pub(super) fn make_each(
         let (number, doing) = *turn;
         let session = SessionId(number);
         let waited = world.records().1.len();
-        let step = world.step(alloc, doing.event(alloc, session)?);
+        let event = doing.event(alloc, session, logged(world))?;
+        let step = world.step(alloc, event);
         let (_, waiting) = world.records();
         history.note_decisions(alloc, waiting.get(waited..).unwrap_or(&[]))?;
+        history.note_tickets(doing, world, &step)?;
         history.note(alloc, &ground.opening, session, doing, step)?;
     }
     Ok(())

@@ -1,8 +1,10 @@
 //! The history of a manager, noted as plain data from what its sessions asked and were answered.
+use super::devices::Manager;
 use super::doings::Doing;
+use super::lives::logged;
 use super::trouble::{Trouble, require};
 use shore_model::{Answer, Call, Decision, Entry, Exchange, LogRecord, Opening, Payload};
-use shore_types::{Fault, GlobalId, SessionId, TxnId};
+use shore_types::{Fault, GlobalId, Lsn, SessionId, TxnId};
 use shore_world::Step;
 use slow_histories::decisions::{all_prepared, decisions};
 use slow_histories::progress::{enter, start};
@@ -90,6 +92,60 @@ impl ShortHistory {
             }
         }
         Ok(())
+    }
+
+    /// What is done, but most asks are for one of the last tickets that were given.
+    pub(super) fn with_a_ticket(&self, doing: Doing, world: &Manager) -> Doing {
+        let Doing::Ask(nth) = doing else {
+            return doing;
+        };
+        match self.last_ticket(nth / 2) {
+            Some(number) if nth > 0 => Doing::Ask(logged(world).saturating_sub(number)),
+            _ => doing,
+        }
+    }
+
+    // The number of the ticket that was given so many tickets ago.
+    fn last_ticket(&self, ago: u64) -> Option<u64> {
+        let mut left = ago;
+        for entry in self.entries.iter().rev() {
+            let Entry::Exchanged { exchange, .. } = entry else {
+                continue;
+            };
+            if let Ok(Answer::Committed(ticket)) = &exchange.reply {
+                if left == 0 {
+                    return Some(ticket.number().0);
+                }
+                left = left.saturating_sub(1);
+            }
+        }
+        None
+    }
+
+    /// Judges what a step tells of tickets, and notes an ask: a commit's ticket is the number of its record, which is the last one; an ask is answered by what
+    /// is durable, whatever has failed.
+    pub(super) fn note_tickets(
+        &mut self,
+        doing: Doing,
+        world: &Manager,
+        step: &Step,
+    ) -> Result<(), Trouble> {
+        let logged = logged(world);
+        if let Step::Done(Answer::Committed(ticket)) = step {
+            return require(ticket.number() == Lsn(logged), "another ticket");
+        }
+        let Some(ticket) = doing.ticket(logged) else {
+            return Ok(());
+        };
+        let Step::Done(Answer::IsDurable(is_durable)) = step else {
+            return Err(Trouble("an ask without an answer"));
+        };
+        let is_right = *is_durable == (ticket.number() <= world.durable());
+        self.entries.push(Entry::Asked {
+            ticket,
+            durable: *is_durable,
+        })?;
+        require(is_right, "an ask that is not true")
     }
 
     /// Notes what a session did and what it came to, behind its decisions. A force and a flush add nothing.

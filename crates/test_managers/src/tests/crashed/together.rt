@@ -64,6 +64,8 @@ fn tell(rt: &HostRuntime, seed: u64, tally: &Meetings) -> io::Result<()> {
         lock_waits,
         answered_behind,
         blocked,
+        told_durable,
+        told_waiting,
         deadlocks,
         ..
     } = *tally;
@@ -71,7 +73,8 @@ fn tell(rt: &HostRuntime, seed: u64, tally: &Meetings) -> io::Result<()> {
         "seed {seed}: {events} events, {crashes} losses of power, {opens_cut_off} opens cut off, {commits_acknowledged} commits acknowledged\n\
          {losers_undone} losers undone, {losers_begun} of them begun\n\
          {savepoints} savepoints, {aborts} aborts and {ways_back} ways back that put something back\n\
-         {lock_waits} waits for a lock, {answered_behind} answered behind one, {blocked} tries blocked, {deadlocks:?}"
+         {lock_waits} waits for a lock, {answered_behind} answered behind one, {blocked} tries blocked, {deadlocks:?}\n\
+         {told_durable} asks answered by yes, {told_waiting} by no"
     )
 }
 
@@ -81,15 +84,15 @@ fn from_seed_3(rt: HostRuntime) -> Result<(), Fail> {
         &rt,
         3,
         Deadlocks {
-            told_at_once: 89,
+            told_at_once: 85,
             told_going_on: 3,
-            told_behind: 140,
-            let_through: 7,
-            waiting_on: 126,
+            told_behind: 161,
+            let_through: 8,
+            waiting_on: 146,
             of_several: 19,
-            longer: 42,
-            refused: 79,
-            lost: 6,
+            longer: 44,
+            refused: 82,
+            lost: 3,
         },
     )
 }
@@ -100,15 +103,15 @@ fn from_seed_4(rt: HostRuntime) -> Result<(), Fail> {
         &rt,
         4,
         Deadlocks {
-            told_at_once: 94,
+            told_at_once: 86,
             told_going_on: 3,
-            told_behind: 139,
-            let_through: 11,
-            waiting_on: 126,
-            of_several: 14,
-            longer: 47,
-            refused: 76,
-            lost: 7,
+            told_behind: 132,
+            let_through: 12,
+            waiting_on: 119,
+            of_several: 10,
+            longer: 32,
+            refused: 72,
+            lost: 2,
         },
     )
 }
@@ -119,15 +122,15 @@ fn from_seed_5(rt: HostRuntime) -> Result<(), Fail> {
         &rt,
         5,
         Deadlocks {
-            told_at_once: 70,
-            told_going_on: 1,
-            told_behind: 119,
-            let_through: 7,
-            waiting_on: 106,
-            of_several: 15,
-            longer: 37,
-            refused: 86,
-            lost: 6,
+            told_at_once: 116,
+            told_going_on: 5,
+            told_behind: 164,
+            let_through: 9,
+            waiting_on: 146,
+            of_several: 16,
+            longer: 61,
+            refused: 106,
+            lost: 4,
         },
     )
 }
@@ -138,15 +141,15 @@ fn from_seed_6(rt: HostRuntime) -> Result<(), Fail> {
         &rt,
         6,
         Deadlocks {
-            told_at_once: 95,
-            told_going_on: 6,
-            told_behind: 141,
-            let_through: 7,
-            waiting_on: 129,
-            of_several: 13,
-            longer: 47,
-            refused: 102,
-            lost: 6,
+            told_at_once: 112,
+            told_going_on: 2,
+            told_behind: 184,
+            let_through: 13,
+            waiting_on: 167,
+            of_several: 22,
+            longer: 52,
+            refused: 96,
+            lost: 5,
         },
     )
 }
@@ -157,15 +160,15 @@ fn from_seed_7(rt: HostRuntime) -> Result<(), Fail> {
         &rt,
         7,
         Deadlocks {
-            told_at_once: 88,
-            told_going_on: 3,
-            told_behind: 116,
+            told_at_once: 91,
+            told_going_on: 6,
+            told_behind: 139,
             let_through: 13,
-            waiting_on: 102,
-            of_several: 10,
-            longer: 38,
-            refused: 70,
-            lost: 4,
+            waiting_on: 122,
+            of_several: 15,
+            longer: 48,
+            refused: 95,
+            lost: 7,
         },
     )
 }
@@ -176,15 +179,15 @@ fn from_seed_8(rt: HostRuntime) -> Result<(), Fail> {
         &rt,
         8,
         Deadlocks {
-            told_at_once: 72,
-            told_going_on: 3,
-            told_behind: 138,
-            let_through: 5,
-            waiting_on: 125,
-            of_several: 20,
-            longer: 36,
-            refused: 77,
-            lost: 0,
+            told_at_once: 119,
+            told_going_on: 2,
+            told_behind: 156,
+            let_through: 9,
+            waiting_on: 146,
+            of_several: 16,
+            longer: 35,
+            refused: 105,
+            lost: 5,
         },
     )
 }
