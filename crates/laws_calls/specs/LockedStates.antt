@@ -41,8 +41,22 @@ entries_of_wait s new (Lock at) = []
 
 -- what a call has decided that is answered at once: a commit its transaction's
 abbrev pub decided_at_once : ℕ → Call → List Entry
+decided_at_once t call.Begin = []
+decided_at_once t (call.Get id) = []
+decided_at_once t (call.GetForUpdate id) = []
+decided_at_once t (call.Insert store bytes) = []
+decided_at_once t (call.Update id bytes) = []
+decided_at_once t (call.Delete id) = []
+decided_at_once t (call.Scan store) = []
+decided_at_once t (call.Lock granule mode) = []
+decided_at_once t (call.TryLock granule mode) = []
+decided_at_once t call.Savepoint = []
+decided_at_once t (call.BackTo index) = []
 decided_at_once t call.Commit = Decided (decision.Commit t) ∷ []
-decided_at_once t _ = []
+decided_at_once t call.Abort = []
+decided_at_once t (call.Prepare global) = []
+decided_at_once t (call.Resolve global outcome) = []
+decided_at_once t call.InDoubt = []
 
 -- What a call of a session adds to the history: its reply, behind what it has decided; or what it has decided and waits for. A resolve that is interrupted may have
 -- decided to roll back.

@@ -190,8 +190,30 @@ decision_asked_by t call.InDoubt = None
 
 -- the ticket that a reply gives for its transaction's commit: the number of its Commit record
 abbrev pub ticket_for : ℕ → Result Answer Fault → Option (ℕ × ℕ)
+ticket_for t (Ok (Began txn)) = None
+ticket_for t (Ok (Got bytes)) = None
+ticket_for t (Ok (Inserted id)) = None
+ticket_for t (Ok Updated) = None
+ticket_for t (Ok Deleted) = None
+ticket_for t (Ok (Scanned pairs)) = None
+ticket_for t (Ok Locked) = None
+ticket_for t (Ok (Saved index)) = None
+ticket_for t (Ok WentBack) = None
 ticket_for t (Ok (Committed ticket)) = Some (ticket, t)
-ticket_for t _ = None
+ticket_for t (Ok Aborted) = None
+ticket_for t (Ok Prepared) = None
+ticket_for t (Ok Resolved) = None
+ticket_for t (Ok (AreInDoubt pairs)) = None
+ticket_for t (Ok (Staged number)) = None
+ticket_for t (Ok (Forced number)) = None
+ticket_for t (Ok (Flushed count)) = None
+ticket_for t (Ok (Begun number)) = None
+ticket_for t (Ok (Ended number)) = None
+ticket_for t (Ok (Anchored checkpoint tail)) = None
+ticket_for t (Ok Moved) = None
+ticket_for t (Ok Cut) = None
+ticket_for t (Ok (IsDurable durable)) = None
+ticket_for t (Err fault) = None
 
 abbrev pub ticket_in : Entry → Option (ℕ × ℕ)
 ticket_in (Exchanged session txn exchange) = ticket_for txn exchange.reply
