@@ -2,6 +2,7 @@ mod Alone
 pub mod AtOnce
 pub mod Answered
 pub mod Buckets
+mod Cached
 pub mod ExclusiveKeys
 pub mod Exclusives
 mod Firsts

@@ -139,7 +139,7 @@ waits_for_obstacle t g mode rs o is =
       ),
     )
 
-kept_in_place : (r : Request) (xs : List Request) (h : Request) → In h xs → are_alike h r ≡ false → In h (replaced r xs)
+pub kept_in_place : (r : Request) (xs : List Request) (h : Request) → In h xs → are_alike h r ≡ false → In h (replaced r xs)
 kept_in_place r [] h there apart = there
 kept_in_place r (x ∷ xs) h there apart =
     ⊎_elim (λ e. inl (in_place-no r x (subst (λ y. are_alike y r ≡ false) (sym e) apart) ∙ e)) (λ t. inr (kept_in_place r xs h t apart)) there
@@ -149,7 +149,7 @@ replaced_there r [] has = cc
 replaced_there r (x ∷ xs) has =
     ⊎_elim (λ yes. inl (in_place-yes r x yes)) (λ no. let rest : list_any (λ q. are_alike q r) xs ≡ true = rw no at has in inr (replaced_there r xs rest)) (either (are_alike x r))
 
-put_there : (r : Request) (rs : List Request) → In r (put r rs)
+pub put_there : (r : Request) (rs : List Request) → In r (put r rs)
 put_there r rs =
     ⊎_elim (λ yes. subst (In r) (sym (put_in_place r rs yes)) (replaced_there r rs yes))
     (λ none. subst (In r) (sym (put_last r rs none)) (In-right rs (r ∷ []) r (inl refl))) (either (list_any (λ q. are_alike q r) rs))

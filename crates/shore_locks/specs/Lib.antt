@@ -1,3 +1,4 @@
+pub mod Cache
 pub mod Findings
 pub mod Grants
 pub mod Laws

@@ -1,5 +1,5 @@
 //! What requests for locks are answered.
-use shore_types::TxnId;
+use shore_types::{Mode, TxnId};
 
 /// What became of a request. Full: it needs a new node, and the table is at its limit.
 #[derive(Clone, Copy, PartialEq)]
@@ -15,4 +15,15 @@ pub enum Tried {
     Granted,
     Blocked(TxnId),
     Full,
+}
+
+/// The modes in which a transaction holds a page, its store and the volume.
+#[derive(Clone, Copy)]
+pub struct HeldAbove {
+    /// That of the volume.
+    pub volume: Mode,
+    /// That of the store.
+    pub store: Mode,
+    /// That of the page.
+    pub page: Mode,
 }

@@ -2,6 +2,7 @@
 #![tactic(auto)]
 
 pub mod answers;
+mod cache;
 mod changes;
 mod counted;
 mod findings;
@@ -11,7 +12,7 @@ pub mod queues;
 mod searches;
 pub mod table;
 
-pub use answers::{Requested, Tried};
+pub use answers::{HeldAbove, Requested, Tried};
 pub use queues::{Holders, Waiters};
 pub use shore_nodes::judgements::refuses;
 pub use table::LockTable;

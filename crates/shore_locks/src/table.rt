@@ -1,8 +1,9 @@
 //! The lock table.
-ghost use Rattle.std.specs.Prelude.{◌≡◌, ◌↔◌, ◌≤◌, ◌+◌, [], filter, length, Contains, IfOk, IsFalse, false};
+ghost use Rattle.std.specs.Prelude.{◌≡◌, ◌⊎◌, ◌↔◌, ◌≤◌, ◌+◌, [], filter, length, Contains, IfOk, IfSome, IsFalse, None, Some, false};
 ghost use Rattle.std.specs.List.Sorted.{IsPermutation, IsSorted, IsStrictlySortedBy};
 ghost use Rattle.shore_types.specs.Locking.{granule_cmp};
 ghost use Rattle.shore_types.specs.declared.locking.Granule.{Granule};
+ghost use Rattle.shore_types.specs.declared.locking.Granule.TheVariants.{Page, Store, Volume};
 ghost use Rattle.shore_model.specs.declared.requests.Group.TheVariants.{Conversions};
 ghost use Rattle.shore_model.specs.Requests.{is_in_group, requests_at, requests_by};
 ghost use Rattle.shore_locks.specs.Grants.{after_request, after_try, answer_to, answer_to_try, cancelled, in_the_way, released};
@@ -10,14 +11,16 @@ ghost use Rattle.shore_nodes.specs.Tables.{holders_at, is_waiting, mode_held, re
 ghost use Rattle.shore_locks.specs.Listing.{request_cmp};
 ghost use Rattle.shore_nodes.specs.Orderly.{IsOrderly};
 
-use crate::answers::{Requested, Tried};
+use crate::answers::{HeldAbove, Requested, Tried};
+use crate::cache::LockCache;
 use crate::counted::Counted;
 use crate::findings::{Finding, check_request};
 use crate::listings::{append_exclusive, put_in_order};
 use crate::queues::{Holders, Waiters};
 use crate::{changes, findings, searches};
 use shore_model::Request;
-use shore_types::{Granule, Mode, Sequence, TxnId};
+use shore_nodes::judgements::is_enough;
+use shore_types::{Granule, Mode, PageId, Sequence, TxnId};
 use std::alloc::{AllocError, Global};
 use std::marker::Model;
 
@@ -26,6 +29,8 @@ use std::marker::Model;
 pub struct LockTable {
     // The requests with their queues, and a tally for each queue.
     nodes: Counted,
+    // Of some transactions, what they took or were found to hold last above records.
+    cache: LockCache,
 }
 
 impl Model for LockTable {
@@ -34,11 +39,11 @@ impl Model for LockTable {
 
     ghost Value = { Table };
 
-    ghost use Rattle.shore_nodes.specs.Orderly.{IsOrderlyWithin};
+    ghost use Rattle.shore_locks.specs.Cache.{IsSound};
 
     ghost view = { λ t. t.nodes };
 
-    ghost invariant = { λ t. IsOrderlyWithin t.nodes.limit t.nodes.requests };
+    ghost invariant = { λ t. IsSound t.nodes t.cache.entries };
 }
 
 impl LockTable {
@@ -47,7 +52,10 @@ impl LockTable {
         ensures { IfOk result (λ table. table ≡ record { limit = limit; requests = [] }) }
     {
         let nodes = Counted::new(alloc, limit)?;
-        Ok(LockTable { nodes })
+        Ok(LockTable {
+            nodes,
+            cache: LockCache::new(),
+        })
     }
 
     /// How many nodes there are.
@@ -73,11 +81,65 @@ impl LockTable {
         searches::request_for(self.nodes.nodes(), txn, &granule)
     }
 
-    /// The mode in which a transaction holds a granule.
+    /// The mode in which a transaction holds a granule. Above records it is mostly known without a search.
+    #[inline(always)]
     pub fn held(&self, txn: TxnId, granule: Granule) -> Option<Mode>
         ensures { result ≡ mode_held txn granule self.now.requests }
     {
+        if let Some(known) = self.cache.held(txn, &granule) {
+            return Some(known);
+        }
         searches::mode_held(self.nodes.nodes(), txn, &granule)
+    }
+
+    /// The modes in which a transaction that does not wait holds a page, its store and the volume, if it holds all three. What takes a search is known the
+    /// next time, until another page or store takes its place.
+    pub fn held_above(&mut self, txn: TxnId, page: &PageId) -> Option<HeldAbove>
+        requires { is_waiting txn self.old.requests ≡ false }
+        ensures volume { IfSome result (λ held. mode_held txn Volume self.old.requests ≡ Some held.volume) }
+        ensures store { IfSome result (λ held. mode_held txn (Store page.now.store) self.old.requests ≡ Some held.store) }
+        ensures page { IfSome result (λ held. mode_held txn (Page page.now) self.old.requests ≡ Some held.page) }
+        ensures none { result ≡ None → (mode_held txn Volume self.old.requests ≡ None) ⊎ (mode_held txn (Store page.now.store) self.old.requests ≡ None) ⊎ (mode_held txn (Page page.now) self.old.requests ≡ None) }
+        ensures same { self.new ≡ self.old }
+    {
+        if let Some(known) = self.cache.above(txn, page) {
+            return Some(known);
+        }
+        self.find_above(txn, page)
+    }
+
+    // As `held_above`, if not all is known. It stands apart, so that what is mostly run is short.
+    #[inline(never)]
+    fn find_above(&mut self, txn: TxnId, page: &PageId) -> Option<HeldAbove>
+        requires { is_waiting txn self.old.requests ≡ false }
+        ensures volume { IfSome result (λ held. mode_held txn Volume self.old.requests ≡ Some held.volume) }
+        ensures store { IfSome result (λ held. mode_held txn (Store page.now.store) self.old.requests ≡ Some held.store) }
+        ensures page { IfSome result (λ held. mode_held txn (Page page.now) self.old.requests ≡ Some held.page) }
+        ensures none { result ≡ None → (mode_held txn Volume self.old.requests ≡ None) ⊎ (mode_held txn (Store page.now.store) self.old.requests ≡ None) ⊎ (mode_held txn (Page page.now) self.old.requests ≡ None) }
+        ensures same { self.new ≡ self.old }
+    {
+        let volume = self.find(txn, &Granule::Volume)?;
+        let store = self.find(txn, &Granule::Store(page.store))?;
+        let page = self.find(txn, &Granule::Page(*page))?;
+        Some(HeldAbove {
+            volume,
+            store,
+            page,
+        })
+    }
+
+    // The mode in which a transaction holds a granule, which is known from now on.
+    fn find(&mut self, txn: TxnId, granule: &Granule) -> Option<Mode>
+        requires { is_waiting txn self.old.requests ≡ false }
+        ensures held { result ≡ mode_held txn granule.now self.old.requests }
+        ensures same { self.new ≡ self.old }
+    {
+        if let Some(known) = self.cache.held(txn, granule) {
+            return Some(known);
+        }
+        let mode = searches::mode_held(self.nodes.nodes(), txn, granule)?;
+        self.cache.note(txn, granule, mode);
+        Some(mode)
     }
 
     /// Whether a transaction waits.
@@ -123,6 +185,7 @@ impl LockTable {
         ensures table { self.new ≡ record { limit = self.old.limit; requests = after_request self.old txn granule mode } }
     {
         if self.nodes.grant_alone(txn, &granule, mode) {
+            self.cache.note(txn, &granule, mode);
             return Requested::Granted;
         }
         self.request_beside(txn, &granule, mode)
@@ -134,14 +197,19 @@ impl LockTable {
         ensures answer { result ≡ answer_to self.old txn granule.now mode }
         ensures table { self.new ≡ record { limit = self.old.limit; requests = after_request self.old txn granule.now mode } }
     {
+        if is_enough(mode, self.cache.held(txn, granule)) {
+            return Requested::Granted;
+        }
         match check_request(&self.nodes, txn, granule, mode) {
             Finding::Enough => Requested::Granted,
             Finding::Full => Requested::Full,
             Finding::Stopped { request, .. } => {
+                self.cache.note_wait(&request);
                 changes::place_last(&mut self.nodes, &request);
                 Requested::Waiting
             }
             Finding::Free { request, known } => {
+                self.cache.note_grant(&request);
                 changes::grant(&mut self.nodes, &request, known);
                 Requested::Granted
             }
@@ -155,6 +223,7 @@ impl LockTable {
         ensures table { self.new ≡ record { limit = self.old.limit; requests = after_try self.old txn granule mode } }
     {
         if self.nodes.grant_alone(txn, &granule, mode) {
+            self.cache.note(txn, &granule, mode);
             return Tried::Granted;
         }
         self.try_beside(txn, &granule, mode)
@@ -166,11 +235,15 @@ impl LockTable {
         ensures answer { result ≡ answer_to_try self.old txn granule.now mode }
         ensures table { self.new ≡ record { limit = self.old.limit; requests = after_try self.old txn granule.now mode } }
     {
+        if is_enough(mode, self.cache.held(txn, granule)) {
+            return Tried::Granted;
+        }
         match check_request(&self.nodes, txn, granule, mode) {
             Finding::Enough => Tried::Granted,
             Finding::Full => Tried::Full,
             Finding::Stopped { other, .. } => Tried::Blocked(other),
             Finding::Free { request, known } => {
+                self.cache.note_grant(&request);
                 changes::grant(&mut self.nodes, &request, known);
                 Tried::Granted
             }
@@ -236,6 +309,7 @@ impl LockTable {
         ensures table { self.new ≡ record { limit = self.old.limit; requests = released txn self.old.requests } }
         ensures count { result ≡ length (requests_by txn self.old.requests) }
     {
+        self.cache.forget(txn);
         changes::release(&mut self.nodes, txn)
     }
 }

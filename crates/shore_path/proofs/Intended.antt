@@ -107,3 +107,7 @@ module _ (t : ℕ) (id : Rid) (old : Table) (has : IntendsToWrite old.requests t
   pub comes_in_store : (mid new : Table) (answer : Result Acquired Fault) → Passes Refuse t target EX (Page id.page) old mid → answer ≡ answer_at Refuse mid t target EX
       → new ≡ record { limit = mid.limit; requests = after_at Refuse mid t target EX } → HasOutcome old (acquired Refuse old t target EX) answer new
   comes_in_store mid new answer p told left = comes new answer (comes_last Refuse t target EX (Page id.page) old mid new answer p told left)
+
+-- a look that changed nothing came before it
+pub as_before : (t : ℕ) (id : Rid) (old looked new : Table) (answer : Result Acquired Fault) → looked ≡ old → HasOutcome looked (acquired Refuse looked t (Record id) EX) answer new → HasOutcome old (acquired Refuse old t (Record id) EX) answer new
+as_before t id old looked new answer same from = subst (λ (x : Table). HasOutcome x (acquired Refuse x t (Record id) EX) answer new) same from

@@ -1,21 +1,26 @@
 -- One granule above a target that is passed, and the target behind it: how far the walk comes.
-use Rattle.std.proofs.Common.{◌≡◌, ◌++◌, ◌∷◌, ℕ, List, [], inl, inr, true, false, refl, ap, sym, subst, ◌∙◌, reverse}
-use Rattle.std.specs.Prelude.{Result, Ok, Err}
+use Rattle.std.proofs.Common.{◌≡◌, ◌++◌, ◌∷◌, ℕ, List, [], Bool, Some, inl, inr, true, false, refl, ap, sym, subst, ◌∙◌, reverse}
+use Rattle.std.specs.Prelude.{Result, Ok, Err, not}
 use Rattle.shore_types.specs.declared.faults.Fault.{Fault}
 use Rattle.shore_types.specs.declared.locking.Granule.{Granule}
 use Rattle.shore_types.specs.declared.locking.Granule.TheVariants.{Volume, Store, Page, Record}
 use Rattle.shore_types.specs.declared.locking.Mode.{Mode}
 use Rattle.shore_types.specs.Locking.{same_granule}
 use Rattle.shore_model.specs.Locks.{ancestors, path}
+use Rattle.shore_model.specs.Modes.{covers, is_at_most, parent_mode}
+use Rattle.shore_locks.specs.Grants.{is_enough}
 use Rattle.shore_locks.specs.Orderly.{IsOrderly}
-use Rattle.shore_locks.specs.Tables.{Table, is_waiting}
+use Rattle.shore_locks.specs.Tables.{Table, is_waiting, mode_held}
+use Rattle.shore_locks.proofs.Entering.{both_true}
 use Rattle.shore_locks.proofs.Keys.{same_granule-Decides}
 use Rattle.shore_locks.proofs.Tables.{fit_of}
 use Rattle.shore_path.specs.declared.answers.Acquired.{Acquired}
 use Rattle.shore_path.specs.declared.answers.Acquired.TheVariants as acquire
 use Rattle.shore_path.specs.declared.answers.OnConflict.{OnConflict}
+use Rattle.shore_path.specs.declared.answers.OnConflict.TheVariants.{Refuse, Wait}
+use Rattle.shore_path.specs.Intending.{is_intention}
 use Rattle.shore_path.specs.Needs.{EndsAt, HasPassed, Passes}
-use Rattle.shore_path.specs.Walks.{HasOutcome, Outcome, after_at, answer_at, asked_of}
+use Rattle.shore_path.specs.Walks.{HasOutcome, Outcome, after_at, answer_at, asked_of, is_spared}
 use Rattle.shore_path.proofs.Kept.{quiet_after}
 use Rattle.shore_path.proofs.Walking.{done, stop, stops_at, table_of, walk_on}
 
@@ -35,6 +40,22 @@ module _ (c : OnConflict) (t : ℕ) (target : Granule) (mode : Mode) (g : Granul
       let out : walk_on c t target mode old.limit (g ∷ below) old.requests ≡ stop answer (after_at c old t g (asked_of target mode g)) =
       stops_at c t target mode old.limit g below old.requests answer told.0 (sym told.1) told.2 in
       (sym (ap (λ (o : Outcome). o.answer) out), told.3 ∙ ap (λ (o : Outcome). table_of c t target mode old.limit o.requests) (sym out))
+
+-- who holds it with the intention passes it, and nothing changes
+module _ (t : ℕ) (target : Granule) (mode : Mode) (g : Granule) (table : Table) (held : Mode) where
+  passes_as : (c : OnConflict) → is_spared t target mode g table.requests ≡ false → is_enough (asked_of target mode g) (mode_held t g table.requests) ≡ true → Passes c t target mode g table table
+  passes_as Wait spares enough = record { needed = spares; done = rw enough refl; left = rw enough refl }
+  passes_as Refuse spares enough = record { needed = spares; done = rw enough refl; left = rw enough refl }
+
+covers_none : (b : Bool) → not b ≡ true → b ≡ false
+covers_none true e = cc
+covers_none false e = refl
+
+pub intention_passes : (c : OnConflict) (t : ℕ) (target : Granule) (mode : Mode) (g : Granule) (table : Table) (held : Mode) → mode_held t g table.requests ≡ Some held → is_intention mode (Some held) ≡ true
+    → same_granule g target ≡ false → Passes c t target mode g table table
+intention_passes c t target mode g table held holds intends apart =
+    let both = both_true (is_at_most (parent_mode mode) held) (not (covers held mode)) intends in
+    passes_as t target mode g table held c (rw (apart, holds) (covers_none (covers held mode) both.1)) (rw (apart, holds) both.0)
 
 -- ---- the target behind it
 

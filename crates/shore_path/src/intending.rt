@@ -8,7 +8,7 @@ ghost use Rattle.shore_path.specs.Walks as walks;
 ghost use Rattle.shore_path.specs.declared.answers.OnConflict.TheVariants.{Refuse};
 
 use crate::answers::{Acquired, OnConflict};
-use crate::walk::{ask, has_intention, is_intention, pass};
+use crate::walk::{ask, has_page, is_intention, pass};
 use shore_locks::LockTable;
 use shore_locks::laws::tables_are_orderly;
 use shore_types::{Fault, Granule, Mode, PageId, Rid, StoreId, TxnId};
@@ -45,10 +45,19 @@ pub fn acquire_in_store(table: &mut LockTable, txn: TxnId, id: &Rid) -> Result<A
 {
     // For the proof: the requests of any table are orderly. Nothing runs.
     tables_are_orderly(table);
-    let page = &Granule::Page(id.page);
-    if has_intention(table, txn, Mode::EX, page) {
+    walk_in_store(table, txn, id)
+}
+
+// Asks for the page, if it is not held with the intention, and for the record.
+fn walk_in_store(table: &mut LockTable, txn: TxnId, id: &Rid) -> Result<Acquired, Fault>
+    requires quiet { is_waiting txn table.old.requests ≡ false }
+    requires intends { IntendsToWrite table.old.requests txn id.now.page.store }
+    ensures { walks.HasOutcome table.old (walks.acquired Refuse table.old txn (Granule.Record id.now) Mode.EX) result table.new }
+{
+    if has_page(table, txn, Mode::EX, &id.page) {
         return lock_alone(table, txn, id);
     }
+    let page = &Granule::Page(id.page);
     match pass(table, txn, Mode::EX, page, OnConflict::Refuse) {
         Some(answer) => answer,
         None => lock_alone(table, txn, id),

@@ -1,5 +1,5 @@
 //! Locks taken along a path.
-ghost use Rattle.std.specs.Prelude.{◌≡◌, ◌≢◌, ◌↔◌, false, Contains, IfErr, IfNone, IsFalse, IsTrue, MatchOption, reverse};
+ghost use Rattle.std.specs.Prelude.{◌≡◌, ◌≢◌, ◌↔◌, false, true, Contains, IfErr, IfNone, IsFalse, IsTrue, MatchOption, Some, reverse};
 ghost use Rattle.shore_types.specs.declared.locking.Granule.{Granule};
 ghost use Rattle.shore_types.specs.Locking.{level_of, same_granule};
 ghost use Rattle.shore_model.specs.Locks.{ancestors, path};
@@ -13,7 +13,7 @@ ghost use Rattle.shore_path.specs.Walks as walks;
 
 use crate::answers::{Acquired, OnConflict};
 use shore_locks::laws::tables_are_orderly;
-use shore_locks::{LockTable, Requested, Tried};
+use shore_locks::{HeldAbove, LockTable, Requested, Tried};
 use shore_modes::{allowed, covers, is_at_most, parent_mode};
 use shore_types::{Fault, Granule, Mode, PageId, StoreId, TxnId};
 
@@ -72,18 +72,38 @@ fn walk(
 }
 
 // Whether each granule above the target is held in as much as is asked of it, and spares nothing.
-fn has_intentions(table: &LockTable, txn: TxnId, target: &Granule, mode: Mode) -> bool
-    ensures { IsTrue result → (c : OnConflict) → HasPassed c txn target.now mode (reverse (ancestors target.now)) table.now }
+fn has_intentions(table: &mut LockTable, txn: TxnId, target: &Granule, mode: Mode) -> bool
+    requires { is_waiting txn table.old.requests ≡ false }
+    ensures has { IsTrue result → (c : OnConflict) → HasPassed c txn target.now mode (reverse (ancestors target.now)) table.new }
+    ensures same { table.new ≡ table.old }
 {
     match target {
         Granule::Volume => true,
         Granule::Store(_) => has_intention(table, txn, mode, &Granule::Volume),
         Granule::Page(page) => has_store(table, txn, mode, page.store),
-        Granule::Record(id) => {
-            has_store(table, txn, mode, id.page.store)
-                && has_intention(table, txn, mode, &Granule::Page(id.page))
-        }
+        Granule::Record(id) => has_page(table, txn, mode, &id.page),
     }
+}
+
+// .. a page and those above it. Mostly the three are known.
+#[inline(always)]
+pub(crate) fn has_page(table: &mut LockTable, txn: TxnId, mode: Mode, page: &PageId) -> bool
+    requires { is_waiting txn table.old.requests ≡ false }
+    ensures has { IsTrue result → (c : OnConflict) (target : Granule) → AreApart target (reverse (path (Granule.Page page.now))) → HasPassed c txn target mode (reverse (path (Granule.Page page.now))) table.new }
+    ensures same { table.new ≡ table.old }
+{
+    match table.held_above(txn, page) {
+        Some(held) => are_intentions(mode, &held),
+        None => false,
+    }
+}
+
+fn are_intentions(mode: Mode, held: &HeldAbove) -> bool
+    ensures { IsTrue result → (intending.is_intention mode (Some held.now.volume) ≡ true) × (intending.is_intention mode (Some held.now.store) ≡ true) × (intending.is_intention mode (Some held.now.page) ≡ true) }
+{
+    is_intention(mode, Some(held.volume))
+        && is_intention(mode, Some(held.store))
+        && is_intention(mode, Some(held.page))
 }
 
 // .. a store and the volume.
@@ -95,19 +115,21 @@ fn has_store(table: &LockTable, txn: TxnId, mode: Mode, store: StoreId) -> bool
 }
 
 // .. one granule.
-pub(crate) fn has_intention(table: &LockTable, txn: TxnId, mode: Mode, granule: &Granule) -> bool
+#[inline(always)]
+fn has_intention(table: &LockTable, txn: TxnId, mode: Mode, granule: &Granule) -> bool
     ensures { IsTrue result → (c : OnConflict) (target : Granule) → same_granule granule.now target ≡ false → Passes c txn target mode granule.now table.now table.now }
 {
     is_intention(mode, table.held(txn, *granule))
 }
 
-// Whether what is held, if anything, is as much as a mode below it asks for, and does not cover that.
+// Whether what is held, if anything, is as much as a mode below it asks for, and does not cover that. It is run for each call on a record, so the answers
+// stand here and are not put together from the tables of modes.
 pub(crate) fn is_intention(mode: Mode, held: Option<Mode>) -> bool
     ensures { result ≡ intending.is_intention mode held }
 {
-    match held {
-        Some(held) => is_at_most(parent_mode(mode), held) && !covers(held, mode),
-        None => false,
+    match mode {
+        Mode::IS | Mode::SH => matches!(held, Some(Mode::IS | Mode::IX | Mode::UD)),
+        Mode::IX | Mode::SIX | Mode::EX | Mode::UD => matches!(held, Some(Mode::IX | Mode::SIX)),
     }
 }
 

@@ -1,8 +1,17 @@
+use Rattle.std.proofs.Common.{sym, subst}
+use Rattle.shore_locks.specs.Cache.{AreHeld}
 use Rattle.shore_locks.specs.Grants.{released}
+use Rattle.shore_locks.proofs.Cached.{known_without, left_released}
 use Rattle.shore_locks.proofs.Tables.{kept_as, kept_released}
 use Rattle.shore_locks.proofs.table.LockTable.release_all.Goals as goal
 
 pub invariant_of-self : goal.invariant_of-self
 invariant_of-self c =
-    kept_as c.self.inside.nodes c.release.new.nodes (released c.args.txn c.self.inside.nodes.requests) c.release.ensures.limit c.release.ensures.items
-    (kept_released c.self.inside.nodes.limit c.args.txn c.self.inside.nodes.requests c.self.invariant)
+    let rs = c.self.inside.nodes.requests in
+    record {
+      kept = kept_as c.self.inside.nodes c.release.new.nodes (released c.args.txn rs) c.release.ensures.limit c.release.ensures.items
+          (kept_released c.self.inside.nodes.limit c.args.txn rs c.self.invariant.kept);
+      known = subst (AreHeld c.forget.new.self.entries) (sym c.release.ensures.items)
+          (known_without c.self.inside.cache.entries c.forget.new.self.entries rs (released c.args.txn rs) c.args.txn c.forget.ensures c.self.invariant.known
+          (left_released c.args.txn rs c.self.invariant.kept.orderly.one_each));
+    }
