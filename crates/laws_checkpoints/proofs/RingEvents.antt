@@ -1,6 +1,6 @@
 -- Each event of the sessions is one of the steps of a ring's room, or none; and what the records of a checkpoint cost.
-use Rattle.std.proofs.Common.{◌≡◌, ◌⊎◌, inl, inr, ⊎_elim, ◌<◌, ◌≤◌, ◌+◌, ◌-◌, ℕ, zero, suc, List, [], ◌∷◌, ◌++◌, true, Ok, Err, Some, None, refl, sym, ap, subst, ◌∙◌, length, length-append, drop, arith}
-use Rattle.std.specs.Prelude.{◌*◌, flat_map}
+use Rattle.std.proofs.Common.{◌≡◌, ◌⊎◌, inl, inr, ⊎_elim, ◌<◌, ◌≤◌, ◌+◌, ◌-◌, ℕ, zero, suc, List, [], ◌∷◌, ◌++◌, true, Ok, Err, Some, None, refl, sym, ap, subst, ◌∙◌, length, drop, arith}
+use Rattle.std.specs.Prelude.{◌*◌}
 use Rattle.std.specs.FinMap.{get}
 use Rattle.shore_types.specs.Images.{Image}
 use Rattle.shore_types.specs.declared.ids.Rid.{Rid}
@@ -12,7 +12,8 @@ use Rattle.shore_model.specs.declared.calls.Call.TheVariants as call
 use Rattle.shore_model.specs.declared.log_records.DirtyPage.{DirtyPage}
 use Rattle.shore_model.specs.declared.log_records.LogTxn.{LogTxn}
 use Rattle.shore_model.specs.declared.log_records.Payload.TheVariants.{Anchor, CheckpointEnd}
-use Rattle.shore_logrec.specs.Text.{cost_of, dirty_text, txn_text}
+use Rattle.shore_logrec.specs.Text.{cost_of}
+use Rattle.shore_logrec.proofs.TextLengths.{length-checkpoint_text}
 use Rattle.laws_lives.specs.SessionSteps.{AnswerAbort, AnswerInDoubt, AnswerPrepare, AnswerResolve, AppendCommit, AppendPrepare, AppendResolve, AppendRollback, Ask, BeginTxn, Doom, EndRollback, GiveReply, MoveLocks, PutBack, RefuseCall, SessionEvent, StepsTo}
 use Rattle.laws_lives.specs.Sessions.{PreparedTxn, SessionTxn, Sessions}
 use Rattle.laws_lives.specs.UndoLists.{images_since, mark_of}
@@ -172,25 +173,8 @@ module _ (s : Sessions) (r : RingRoom) (h : HasLogRoom 0 (length s.prepared) s.a
 
 -- ---- what the records of a checkpoint cost
 
-txns_bytes : (es : List LogTxn) → length (flat_map txn_text es) ≡ 41 * length es
-txns_bytes [] = refl
-txns_bytes (e ∷ es) =
-    let rest = txns_bytes es in
-    let one : length (txn_text e) ≡ 41 = refl in
-    omega (arith, length-append (txn_text e) (flat_map txn_text es))
-
-pages_bytes : (ds : List DirtyPage) → length (flat_map dirty_text ds) ≡ 16 * length ds
-pages_bytes [] = refl
-pages_bytes (d ∷ ds) =
-    let rest = pages_bytes ds in
-    let one : length (dirty_text d) ≡ 16 = refl in
-    omega (arith, length-append (dirty_text d) (flat_map dirty_text ds))
-
 pub end_bytes : (begin next : ℕ) (txns : List LogTxn) (dirty : List DirtyPage) → cost_of (CheckpointEnd begin next txns dirty) ≡ end_cost (length txns) (length dirty)
-end_bytes begin next txns dirty =
-    let t = txns_bytes txns in
-    let d = pages_bytes dirty in
-    simp length-append (omega arith)
+end_bytes begin next txns dirty = omega (arith, length-checkpoint_text begin next txns dirty)
 
 pub anchor_bytes : (checkpoint tail : ℕ) → cost_of (Anchor checkpoint tail) ≡ ANCHOR_COST
 anchor_bytes checkpoint tail = refl

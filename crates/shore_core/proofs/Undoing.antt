@@ -187,7 +187,7 @@ module _ {V : Type 0} {H : disk.Ghosts V} where
 module _ (table : Transactions) (who : ℕ) (id : Rid) (bytes cost : ℕ) (r : LogRecord) (next : IsNext table who id bytes cost r) where
   pub next_text : RidFits id → last_of next.own < 2 ^ 64 → text.Fits r
   next_text rid last = subst text.Fits (sym next.record_is) (record {
-    some = next.some;
+    owner = next.some;
     txn_fits = next.below;
     previous_fits = last;
     payload_fits = record { rid = subst RidFits next.id_is rid; image = image_short next.entry.before (short_last next.own next.kept next.entry next.entries); next = next.behind };

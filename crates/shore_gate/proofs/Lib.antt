@@ -6,3 +6,4 @@ pub mod LabelLemmas
 pub mod AnchorLemmas
 pub mod ChoiceLemmas
 pub mod WidthLemmas
+pub mod MoveLemmas

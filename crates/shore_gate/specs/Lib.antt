@@ -2,3 +2,4 @@ pub mod Numbers
 pub mod Checks
 pub mod Label
 pub mod Anchor
+pub mod Moves

@@ -110,7 +110,7 @@ impl Anchor {
     }
 }
 
-fn read_slot<D: Disk>(disk: &mut D, slot: Slot) -> Result<[u8; ANCHOR_BYTES], DiskFault>
+pub(crate) fn read_slot<D: Disk>(disk: &mut D, slot: Slot) -> Result<[u8; ANCHOR_BYTES], DiskFault>
     requires { 2088 ≤ size (D.history disk.old) }
     ensures bytes { IsTrue (D.is_honest disk.old) → IfOk result (λ bytes. bytes ≡ slot_bytes slot (seen (D.history disk.old))) }
     ensures same { IsTrue (D.is_honest disk.old) → D.history disk.new ≡ D.history disk.old }

@@ -5,6 +5,7 @@
 mod anchors;
 pub mod gates;
 mod labels;
+mod moves;
 mod numbers;
 
 pub use anchors::{ANCHOR_BYTES, Anchor, Anchors, Slot};

@@ -1,26 +1,19 @@
--- Granules, lists of them, and global ids: what is read is spelled so, and what is spelled so is read.
-use Rattle.std.proofs.Common.{◌≡◌, ℕ, zero, suc, ◌+◌, ◌*◌, ◌<◌, ◌≤◌, Bool, true, false, cond, eqb, ltb, List, [], ◌∷◌, ◌++◌, length, take, drop, Option, Some, None, All, refl, sym, ap, subst, ◌∙◌, append_assoc, arith}
-use Rattle.std.specs.Prelude.{◌&&◌, ◌||◌, flat_map}
-use Rattle.std.specs.Ordering.{is_lt}
-use Rattle.std.specs.declared.cmp.Ordering.{Ordering}
-use Rattle.std.specs.declared.cmp.Ordering.TheVariants.{Less, Equal, Greater}
-use Rattle.std.specs.List.Sorted.{IsStrictlySortedBy}
+-- Granules and global ids: what is read is spelled so, and what is spelled so is read.
+use Rattle.std.proofs.Common.{◌≡◌, ℕ, zero, suc, ◌+◌, ◌<◌, ◌≤◌, true, false, eqb, ltb, List, [], ◌∷◌, ◌++◌, length, take, drop, Some, refl, sym, ap, subst, ◌∙◌, arith}
+use Rattle.std.specs.Prelude.{◌&&◌, ◌||◌}
 use Rattle.std.proofs.lemmas.Bool.{and_parts, or_parts, eqb-true, ltb-false, le-ltb, ne_eqb}
 use Rattle.std.proofs.lemmas.List.{take_at, drop_at, take-append-drop, length-append, length-take}
-use Rattle.std.proofs.lemmas.List.Elements.{All-nil, All-cons, All-head, All-tail, All-weaker, All-from_recursion, recursion_from_All}
-use Rattle.std.proofs.lemmas.Map.Keys.{sorted_head, sorted_tail}
 use Rattle.byteorder.specs.Endian.{little_bytes}
 use Rattle.shore_types.specs.declared.ids.Rid.{Rid}
 use Rattle.shore_types.specs.declared.layout.TheConstants.{MAX_GLOBAL_ID_BYTES}
 use Rattle.shore_types.specs.declared.locking.Granule.{Granule}
 use Rattle.shore_types.specs.declared.locking.Granule.TheVariants.{Volume, Store, Page, Record}
-use Rattle.shore_types.specs.Locking.{depth_of, granule_cmp, granules_total, ids_of, level_of}
+use Rattle.shore_types.specs.Locking.{depth_of, ids_of, level_of}
 use Rattle.shore_logrec.specs.Text.{GranuleFits, RidFits, granule_text, rid_text, string_text}
-use Rattle.shore_logrec.specs.Reading.{◌>>=◌, pair_at, byte_at, global_at, granule_at, granule_of, granules_from, rid_at, rid_of, rises}
+use Rattle.shore_logrec.specs.Reading.{◌>>=◌, pair_at, byte_at, global_at, granule_at, granule_of, rid_at, rid_of}
 use Rattle.shore_logrec.proofs.Numbers.{IsBytes, one_byte}
 use Rattle.shore_logrec.proofs.Puttings.{granule_is}
-use Rattle.shore_logrec.proofs.Readers.{IsReader, IsBytes-behind, bind_some, some_is, guard_some, guard_kept, pair_reads, byte_reads, rid_reads}
-use Rattle.shore_logrec.proofs.TextLengths.{length-granules}
+use Rattle.shore_logrec.proofs.Readers.{IsReader, bind_some, some_is, guard_some, guard_kept, pair_reads, byte_reads, rid_reads}
 
 -- ---- a granule
 
@@ -85,92 +78,6 @@ granule_reads = record { takes = granule_takes; again = granule_again }
     granule_again g rest fits =
         let read = fields_read.again (depth_of (level_of g), ids_of g) rest (shallow g, fits) in
         ap (λ (l : List ℕ). granule_at (l ++ rest)) (granule_is g) ∙ rw (read, of_granule g) refl
-
--- ---- granules that rise
-
--- they rise, behind the last one if there is one
-abbrev pub RiseBehind : Option Granule → List Granule → Type 0
-RiseBehind None gs = IsStrictlySortedBy granule_cmp gs
-RiseBehind (Some last) gs = IsStrictlySortedBy granule_cmp (last ∷ gs)
-
-kept_some : {A : Type 0} (b : Bool) (r : Option A) (y : A) → cond b r None ≡ Some y → (b ≡ true) × (r ≡ Some y)
-kept_some true r y e = (refl, e)
-kept_some false r y e = absurd cc
-
-less : (o : Ordering) → is_lt o ≡ true → o ≡ Less
-less Less e = refl
-less Equal e = absurd cc
-less Greater e = absurd cc
-
-none_behind : (last : Option Granule) → RiseBehind last []
-unfolding IsStrictlySortedBy
-none_behind None = tt
-none_behind (Some last) = (tt, tt)
-
-in_front : (x y : Granule) (ys : List Granule) → granule_cmp x y ≡ Less → IsStrictlySortedBy granule_cmp (y ∷ ys) → IsStrictlySortedBy granule_cmp (x ∷ y ∷ ys)
-unfolding IsStrictlySortedBy
-in_front x y ys e s = ((e, recursion_from_All (λ z. granule_cmp x z ≡ Less) ys (All-weaker (λ z. granule_cmp y z ≡ Less) (λ z. granule_cmp x z ≡ Less) (λ z. granules_total.trans x y z e) ys (All-from_recursion (λ z. granule_cmp y z ≡ Less) ys s.0))), s)
-
-one_more : (last : Option Granule) (g : Granule) (gs : List Granule) → rises last g ≡ true → RiseBehind (Some g) gs → RiseBehind last (g ∷ gs)
-one_more None g gs e behind = behind
-one_more (Some last) g gs e behind = in_front last g gs (less _ e) behind
-
-one_less : (last : Option Granule) (g : Granule) (gs : List Granule) → RiseBehind last (g ∷ gs) → (rises last g ≡ true) × RiseBehind (Some g) gs
-one_less None g gs rise = (refl, rise)
-one_less (Some last) g gs rise = (ap is_lt (sorted_head granule_cmp last (g ∷ gs) rise).0, sorted_tail granule_cmp last (g ∷ gs) rise)
-
--- so many granules, each of which fits, behind the last one
-pub record AreSoMany (last : Option Granule) (n : ℕ) (gs : List Granule) : Type 0 where
-  pub count : length gs ≡ n
-  pub fit : All GranuleFits gs
-  pub rise : RiseBehind last gs
-
-rejoin : (front behind rest bytes later : List ℕ) → bytes ≡ front ++ later → later ≡ behind ++ rest → bytes ≡ (front ++ behind) ++ rest
-rejoin front behind rest bytes later a b = a ∙ ap (λ (l : List ℕ). front ++ l) b ∙ sym (append_assoc front behind rest)
-
-pub granules_read : (last : Option Granule) (n : ℕ) → IsReader (granules_from last n) (flat_map granule_text) (AreSoMany last n)
-unfolding granules_from
-granules_read last n = record { takes = granules_take last n; again = granules_again last n }
-  where
-    granules_take : (last : Option Granule) (n : ℕ) (bytes : List ℕ) (gs : List Granule) (rest : List ℕ)
-        → IsBytes bytes → granules_from last n bytes ≡ Some (gs, rest) → (bytes ≡ flat_map granule_text gs ++ rest) × AreSoMany last n gs
-    granules_take last zero bytes gs rest fits e =
-        let none : List Granule × List ℕ = ([], bytes) in
-        subst (λ (v : List Granule × List ℕ). (bytes ≡ flat_map granule_text v.0 ++ v.1) × AreSoMany last 0 v.0) (some_is none (gs, rest) e)
-        (refl, record { count = refl; fit = All-nil GranuleFits; rise = none_behind last })
-    granules_take last (suc n) bytes gs rest fits e =
-        let x = bind_some (granule_at bytes) (λ first. cond (rises last first.0) (granules_from (Some first.0) n first.1) None >>= λ behind. Some (first.0 ∷ behind.0, behind.1)) (gs, rest) e in
-        let y = bind_some (cond (rises last x.0.0) (granules_from (Some x.0.0) n x.0.1) None) (λ behind. Some (x.0.0 ∷ behind.0, behind.1)) (gs, rest) x.2 in
-        let k = kept_some (rises last x.0.0) (granules_from (Some x.0.0) n x.0.1) y.0 y.1 in
-        let front = granule_reads.takes bytes x.0.0 x.0.1 fits x.1 in
-        let behind = granules_take (Some x.0.0) n x.0.1 y.0.0 y.0.1 (IsBytes-behind (granule_text x.0.0) x.0.1 bytes front.0 fits) k.1 in
-        let parts = rejoin (granule_text x.0.0) (flat_map granule_text y.0.0) y.0.1 bytes x.0.1 front.0 behind.0 in
-        let many : AreSoMany last (suc n) (x.0.0 ∷ y.0.0) = record {
-          count = ap (λ (k : ℕ). suc k) behind.1.count;
-          fit = All-cons GranuleFits x.0.0 y.0.0 front.1 behind.1.fit;
-          rise = one_more last x.0.0 y.0.0 k.0 behind.1.rise;
-        } in
-        let made : List Granule × List ℕ = (x.0.0 ∷ y.0.0, y.0.1) in
-        subst (λ (v : List Granule × List ℕ). (bytes ≡ flat_map granule_text v.0 ++ v.1) × AreSoMany last (suc n) v.0) (some_is made (gs, rest) y.2) (parts, many)
-
-    granules_again : (last : Option Granule) (n : ℕ) (gs : List Granule) (rest : List ℕ) → AreSoMany last n gs → granules_from last n (flat_map granule_text gs ++ rest) ≡ Some (gs, rest)
-    granules_again last zero [] rest many = refl
-    granules_again last zero (g ∷ gs) rest many = absurd (let e = many.count in omega arith)
-    granules_again last (suc n) [] rest many = absurd (let e = many.count in omega arith)
-    granules_again last (suc n) (g ∷ gs) rest many =
-        let rise = one_less last g gs many.rise in
-        let first = granule_reads.again g (flat_map granule_text gs ++ rest) (All-head GranuleFits g gs many.fit) in
-        let later : AreSoMany (Some g) n gs = record { count = let e = many.count in omega arith; fit = All-tail GranuleFits g gs many.fit; rise = rise.1 } in
-        ap (granules_from last (suc n)) (append_assoc (granule_text g) (flat_map granule_text gs) rest)
-        ∙ rw (first, rise.0, granules_again (Some g) n gs rest later) refl
-
--- so many granules take so many bytes
-pub granules_len : (last : Option Granule) (n : ℕ) (bytes : List ℕ) (gs : List Granule) (rest : List ℕ)
-    → IsBytes bytes → granules_from last n bytes ≡ Some (gs, rest) → length bytes ≡ 11 * n + length rest
-granules_len last n bytes gs rest fits e =
-    let t = (granules_read last n).takes bytes gs rest fits e in
-    let count = t.1.count in
-    omega (arith, ap (λ (l : List ℕ). length l) t.0, length-append (flat_map granule_text gs) rest, length-granules gs)
 
 -- ---- a global id
 

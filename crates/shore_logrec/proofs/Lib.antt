@@ -3,5 +3,7 @@ pub mod Numbers
 pub mod Puttings
 pub mod Readers
 pub mod Granules
-pub mod GranulesLeft
+pub mod TableReads
+pub mod EntriesLeft
+pub mod Entries
 pub mod Records

@@ -1,8 +1,8 @@
 -- Bytes that are put one after another.
-use Rattle.std.proofs.Common.{◌≡◌, ℕ, ◌+◌, ◌<◌, ◌≤◌, [], ◌∷◌, ◌++◌, List, length, get_or, take, refl, sym, ap, subst, ◌∙◌, append_assoc, arith}
+use Rattle.std.proofs.Common.{◌≡◌, ℕ, zero, suc, ◌+◌, ◌<◌, ◌≤◌, [], ◌∷◌, ◌++◌, List, length, get_or, take, refl, sym, ap, subst, ◌∙◌, append_assoc, arith}
 use Rattle.std.specs.Prelude.{flat_map}
 use Rattle.std.proofs.lemmas.Grind.{flat_map-append}
-use Rattle.std.proofs.lemmas.List.{append-nil, length-append, length-take, take_all, take_more}
+use Rattle.std.proofs.lemmas.List.{append-nil, length-append, take_all, take_more}
 use Rattle.std.specs.Global.{Vec}
 use Rattle.byteorder.specs.Endian.{little_bytes}
 use Rattle.shore_model.specs.declared.log_records.LogRecord.{LogRecord}
@@ -11,10 +11,11 @@ use Rattle.shore_types.specs.declared.ids.Rid.{Rid}
 use Rattle.shore_types.specs.declared.locking.Granule.{Granule}
 use Rattle.shore_types.specs.declared.locking.Granule.TheVariants.{Volume, Store, Page, Record}
 use Rattle.shore_types.specs.Locking.{depth_of, ids_of, level_of}
-use Rattle.shore_logrec.specs.Text.{granule_text, prepare_text, rid_text, string_text, kind_of, payload_text, head_text}
+use Rattle.shore_model.specs.declared.log_records.DirtyPage.{DirtyPage}
+use Rattle.shore_model.specs.declared.log_records.LogTxn.{LogTxn}
+use Rattle.shore_logrec.specs.Text.{checkpoint_text, dirty_text, state_number, table_text, txn_text, granule_text, prepare_text, rid_text, string_text, kind_of, payload_text, head_text}
 use Rattle.shore_types.specs.declared.layout.TheConstants.{MAX_GLOBAL_ID_BYTES}
 use Rattle.shore_logrec.proofs.Numbers.{one_byte}
-use Rattle.shore_logrec.proofs.TextLengths.{length-granules, length-little_bytes, length-prepare_text, length-string_text}
 
 pub Puts-then : {a b c : Vec ℕ} {x y : List ℕ} → Puts a b x → Puts b c y → Puts a c (x ++ y)
 Puts-then {a = a} {x = x} {y = y} first second = record {
@@ -45,49 +46,73 @@ pub granule_put : {old new : Vec ℕ} (g : Granule) (depth : ℕ) (ids : Rid) �
 granule_put {old = old} {new = new} g depth ids depth_is ids_are put =
     subst (Puts old new) (ap (λ (d : ℕ). d ∷ rid_text ids) depth_is ∙ ap (λ (r : Rid). depth_of (level_of g) ∷ rid_text r) ids_are ∙ sym (granule_is g)) put
 
--- what a Prepare has in front of its granules
-abbrev pub front_of : List ℕ → List Granule → List ℕ
-front_of global granules = string_text 1 global ++ little_bytes 4 (length granules)
+-- ---- entries of a table
 
--- the front of a Prepare is put, and so many of its granules
-abbrev pub PutSoFar : Vec ℕ → Vec ℕ → List ℕ → List Granule → ℕ → Type 0
-PutSoFar old out global granules at = Puts old out (front_of global granules ++ flat_map granule_text (take at granules))
+-- so many of the entries are put
+abbrev pub PutSoFar : {A : Type 0} → (A → List ℕ) → Vec ℕ → Vec ℕ → List A → ℕ → Type 0
+PutSoFar spell old out entries at = Puts old out (flat_map spell (take at entries))
 
--- a length of one byte, a global id, and the count of granules
-pub front_put : {old new : Vec ℕ} (global : List ℕ) (granules : List Granule) (again twice : List ℕ) → again ≡ global → twice ≡ global
-    → length global ≤ MAX_GLOBAL_ID_BYTES → Puts old new (((length again ∷ []) ++ twice) ++ little_bytes 4 (length granules)) → PutSoFar old new global granules 0
-unfolding string_text
-front_put {old = old} {new = new} global granules again twice a b short put =
-    let rest = little_bytes 4 (length granules) in
-    let len : length again ∷ [] ≡ little_bytes 1 (length global) = ap (λ (l : List ℕ). length l ∷ []) a ∙ sym (one_byte (length global) (omega arith)) in
-    let parts : ((length again ∷ []) ++ twice) ++ rest ≡ ((little_bytes 1 (length global) ++ global) ++ rest) ++ [] =
-    ap (λ (l : List ℕ). (l ++ twice) ++ rest) len ∙ ap (λ (l : List ℕ). (little_bytes 1 (length global) ++ l) ++ rest) b ∙ sym (append-nil ((little_bytes 1 (length global) ++ global) ++ rest)) in
-    subst (Puts old new) parts put
+pub none_put : {A : Type 0} (spell : A → List ℕ) (old : Vec ℕ) (entries : List A) → PutSoFar spell old old entries 0
+none_put spell old entries = record { items = sym (append-nil old.items); len = omega arith; capacity = omega arith }
 
-module _ {old out : Vec ℕ} (global : List ℕ) (granules : List Granule) (at : ℕ) (put : PutSoFar old out global granules at) where
-  -- there is room for one more
-  pub granule_room : at < length granules → HasRoom old (length (prepare_text global granules)) → HasRoom out 11
-  granule_room more room =
-      let done = length-granules (take at granules) in
+front_le : {A : Type 0} (spell : A → List ℕ) (entries : List A) (n : ℕ) → length (flat_map spell (take n entries)) ≤ length (flat_map spell entries)
+front_le spell entries zero = omega arith
+front_le spell [] (suc n) = omega arith
+front_le spell (x ∷ entries) (suc n) =
+    let rest = front_le spell entries n in
+    omega (arith, length-append (spell x) (flat_map spell (take n entries)), length-append (spell x) (flat_map spell entries))
+
+module _ {A : Type 0} (spell : A → List ℕ) {old out : Vec ℕ} (entries : List A) (at : ℕ) (put : PutSoFar spell old out entries at) (x : A) (more : at < length entries) (is : x ≡ get_or entries at x) where
+  one_more : flat_map spell (take (at + 1) entries) ≡ flat_map spell (take at entries) ++ spell x
+  one_more =
+      ap (flat_map spell) (take_more entries at x more ∙ ap (λ (y : A). take at entries ++ y ∷ []) (sym is))
+      ∙ flat_map-append spell (take at entries) (x ∷ [])
+      ∙ ap (λ (l : List ℕ). flat_map spell (take at entries) ++ l) (append-nil (spell x))
+
+  -- there is room for it
+  pub entry_room : HasRoom old (length (flat_map spell entries)) → HasRoom out (length (spell x))
+  entry_room room =
       let len = put.len in
       let cap = put.capacity in
-      omega (
-        arith,
-        length-prepare_text global granules,
-        length-append (front_of global granules) (flat_map granule_text (take at granules)),
-        length-append (string_text 1 global) (little_bytes 4 (length granules)),
-        length-string_text 1 global,
-        length-little_bytes 4 (length granules),
-        length-take at granules,
-      )
+      omega (arith, front_le spell entries (at + 1), ap length one_more, length-append (flat_map spell (take at entries)) (spell x))
 
-  pub granule_more : {new : Vec ℕ} (g : Granule) → at < length granules → g ≡ get_or granules at g → Puts out new (granule_text g) → PutSoFar old new global granules (at + 1)
-  granule_more {new = new} g more is next =
-      let one : flat_map granule_text (take (at + 1) granules) ≡ flat_map granule_text (take at granules) ++ granule_text g =
-      ap (flat_map granule_text) (take_more granules at g more ∙ ap (λ (h : Granule). take at granules ++ h ∷ []) (sym is))
-      ∙ flat_map-append granule_text (take at granules) (g ∷ [])
-      ∙ ap (λ (l : List ℕ). flat_map granule_text (take at granules) ++ l) (append-nil (granule_text g)) in
-      subst (Puts old new) (append_assoc (front_of global granules) (flat_map granule_text (take at granules)) (granule_text g) ∙ ap (λ (l : List ℕ). front_of global granules ++ l) (sym one)) (Puts-then put next)
+  pub entry_put : {new : Vec ℕ} → Puts out new (spell x) → PutSoFar spell old new entries (at + 1)
+  entry_put {new = new} next = subst (Puts old new) (sym one_more) (Puts-then put next)
 
-  pub granules_all : length granules ≤ at → Puts old out (prepare_text global granules)
-  granules_all all = subst (λ (gs : List Granule). Puts old out (front_of global granules ++ flat_map granule_text gs)) (take_all at granules all) put
+pub entries_put : {A : Type 0} (spell : A → List ℕ) {old out : Vec ℕ} (entries : List A) (at : ℕ) → PutSoFar spell old out entries at → length entries ≤ at → Puts old out (flat_map spell entries)
+entries_put {A} spell {old = old} {out = out} entries at put all = subst (λ (l : List A). Puts old out (flat_map spell l)) (take_all at entries all) put
+
+-- ---- a Prepare
+
+-- a length of one byte, a global id, and the granules behind their count
+pub prepare_put : {old new : Vec ℕ} (global : List ℕ) (granules : List Granule) (again twice : List ℕ) → again ≡ global → twice ≡ global
+    → length global ≤ MAX_GLOBAL_ID_BYTES → Puts old new ((((length again ∷ []) ++ twice) ++ little_bytes 4 (length granules)) ++ flat_map granule_text granules)
+    → Puts old new (prepare_text global granules)
+unfolding string_text
+prepare_put {old = old} {new = new} global granules again twice a b short put =
+    let len : length again ∷ [] ≡ little_bytes 1 (length global) = ap (λ (l : List ℕ). length l ∷ []) a ∙ sym (one_byte (length global) (omega arith)) in
+    let parts : (((length again ∷ []) ++ twice) ++ little_bytes 4 (length granules)) ++ flat_map granule_text granules ≡ prepare_text global granules =
+    ap (λ (l : List ℕ). ((l ++ twice) ++ little_bytes 4 (length granules)) ++ flat_map granule_text granules) len
+    ∙ ap (λ (l : List ℕ). ((little_bytes 1 (length global) ++ l) ++ little_bytes 4 (length granules)) ++ flat_map granule_text granules) b
+    ∙ append_assoc (little_bytes 1 (length global) ++ global) (little_bytes 4 (length granules)) (flat_map granule_text granules) in
+    subst (Puts old new) parts put
+
+-- ---- a CheckpointEnd
+
+-- an entry, whose state is a byte
+pub txn_put : {old new : Vec ℕ} (t : LogTxn) (state : ℕ) → state ≡ state_number t.state
+    → Puts old new (((((little_bytes 8 t.txn ++ (state ∷ [])) ++ little_bytes 8 t.first) ++ little_bytes 8 t.last) ++ little_bytes 8 t.undo_next) ++ little_bytes 8 t.prepare)
+    → Puts old new (txn_text t)
+txn_put {old = old} {new = new} t state is put =
+    subst (λ (n : ℕ). Puts old new (((((little_bytes 8 t.txn ++ (n ∷ [])) ++ little_bytes 8 t.first) ++ little_bytes 8 t.last) ++ little_bytes 8 t.undo_next) ++ little_bytes 8 t.prepare)) is put
+
+-- two numbers, and two tables, each behind its count
+pub end_put : {old new : Vec ℕ} (begin next : ℕ) (txns : List LogTxn) (dirty : List DirtyPage)
+    → Puts old new (((((little_bytes 8 begin ++ little_bytes 8 next) ++ little_bytes 2 (length txns)) ++ flat_map txn_text txns) ++ little_bytes 2 (length dirty)) ++ flat_map dirty_text dirty)
+    → Puts old new (checkpoint_text begin next txns dirty)
+end_put {old = old} {new = new} begin next txns dirty put =
+    let numbers : List ℕ = little_bytes 8 begin ++ little_bytes 8 next in
+    let parts : (((numbers ++ little_bytes 2 (length txns)) ++ flat_map txn_text txns) ++ little_bytes 2 (length dirty)) ++ flat_map dirty_text dirty ≡ checkpoint_text begin next txns dirty =
+    append_assoc ((numbers ++ little_bytes 2 (length txns)) ++ flat_map txn_text txns) (little_bytes 2 (length dirty)) (flat_map dirty_text dirty)
+    ∙ ap (λ (l : List ℕ). l ++ table_text 2 dirty_text dirty) (append_assoc numbers (little_bytes 2 (length txns)) (flat_map txn_text txns)) in
+    subst (Puts old new) parts put

@@ -1,24 +1,28 @@
 -- The two laws of a record: what is read is spelled so, and what is spelled so is read.
-use Rattle.std.proofs.Common.{◌≡◌, ◌⊎◌, ℕ, zero, suc, ◌^◌, ◌<◌, ◌≤◌, Bool, true, false, cond, eqb, ltb, ◌||◌, List, [], ◌∷◌, ◌++◌, ◌-◌, length, take, Option, Some, None, refl, sym, ap, subst, ◌∙◌, append_assoc, arith, inl, inr}
-use Rattle.std.specs.Prelude.{IsSome, flat_map, is_some}
-use Rattle.std.proofs.lemmas.Bool.{eqb-true, le-ltb, ltb-false}
-use Rattle.std.proofs.lemmas.Bool.Decides.{nat_tests}
+use Rattle.std.proofs.Common.{◌≡◌, ◌⊎◌, ℕ, zero, suc, ◌^◌, ◌<◌, ◌≤◌, Bool, true, false, cond, eqb, not, ◌||◌, List, [], ◌∷◌, ◌++◌, ◌-◌, length, take, Option, Some, None, refl, sym, ap, subst, ◌∙◌, append_assoc, arith, inl, inr}
+use Rattle.std.specs.Prelude.{◌&&◌, IsSome, is_some}
+use Rattle.std.proofs.lemmas.Bool.{and_parts, eqb-true, ne_eqb}
 use Rattle.std.proofs.lemmas.List.{nil_from_length, length-append, take_at}
 use Rattle.byteorder.specs.Endian.{little_bytes}
 use Rattle.shore_types.specs.declared.ids.Rid.{Rid}
 use Rattle.shore_types.specs.Images.{Image}
-use Rattle.shore_types.specs.declared.layout.TheConstants.{MOST_MAX_LOCKS}
+use Rattle.shore_types.specs.declared.layout.TheConstants.{MAX_POOL_FRAMES, MAX_TRANSACTIONS, MOST_MAX_LOCKS}
 use Rattle.shore_types.specs.declared.locking.Granule.{Granule}
+use Rattle.shore_types.specs.Locking.{granule_cmp, granules_total}
+use Rattle.shore_model.specs.declared.log_records.DirtyPage.{DirtyPage}
 use Rattle.shore_model.specs.declared.log_records.LogRecord.{LogRecord}
+use Rattle.shore_model.specs.declared.log_records.LogTxn.{LogTxn}
 use Rattle.shore_model.specs.declared.log_records.Payload.{Payload}
 use Rattle.shore_model.specs.declared.log_records.Payload.TheVariants.{Change, Compensation, Commit, End, Prepare, RollbackDecided, CheckpointBegin, CheckpointEnd, Anchor}
 use Rattle.shore_logrec.specs.declared.reading.Head.{Head}
-use Rattle.shore_logrec.specs.Text.{granule_text, prepare_text, PrepareFits, rid_text, string_text, image_text, change_text, compensation_text, payload_text, kind_of, head_text, text, RidFits, ImageFits, ChangeFits, CompensationFits, PayloadFits, Fits}
-use Rattle.shore_logrec.specs.Reading.{global_at, granules_from, prepare_at, ◌>>=◌, pair_at, made_at, whole, byte_at, number_at, string_at, image_at, rid_at, change_fields_at, change_of, change_at, compensation_fields_at, compensation_of, compensation_at, empty_at, payload_at, head_of, front_at, record_of, record_at}
+use Rattle.shore_logrec.specs.Text.{anchor_text, checkpoint_text, dirty_cmp, dirty_text, granule_text, prepare_text, PrepareFits, rid_text, string_text, image_text, change_text, compensation_text, payload_text, kind_of, head_text, table_text, text, txn_text, RidFits, ImageFits, ChangeFits, CheckpointFits, CompensationFits, DirtyFits, GranuleFits, HasOwner, PayloadFits, TxnFits, Fits}
+use Rattle.shore_logrec.specs.Reading.{anchor_at, anchor_of, dirty_at, dirty_before, end_at, end_fields_at, end_of, global_at, granule_at, granule_before, has_owner, prepare_at, prepare_fields_at, prepare_of, table_at, txn_at, txn_before, ◌>>=◌, pair_at, made_at, whole, byte_at, number_at, string_at, image_at, rid_at, change_fields_at, change_of, change_at, compensation_fields_at, compensation_of, compensation_at, empty_at, payload_at, head_of, front_at, record_of, record_at}
 use Rattle.shore_logrec.proofs.Numbers.{IsBytes}
-use Rattle.shore_logrec.proofs.Readers.{IsReader, IsBytes-behind, IsBytes-front, bind_some, some_is, guard_some, guard_kept, pair_reads, made_reads, whole_takes, whole_again, byte_reads, number_reads, string_reads, image_reads, rid_reads}
-use Rattle.shore_logrec.proofs.Granules.{AreSoMany, global_reads, granules_read}
-use Rattle.shore_logrec.proofs.TextLengths.{length-prepare_text, length-image_text, length-change_text, length-compensation_text}
+use Rattle.shore_logrec.proofs.Readers.{IsReader, IsBytes-behind, IsBytes-front, bind_some, some_is, guard_kept, pair_reads, made_reads, whole_takes, whole_again, byte_reads, number_reads, string_reads, image_reads, rid_reads}
+use Rattle.shore_logrec.proofs.Granules.{IsName, global_reads, granule_reads}
+use Rattle.shore_logrec.proofs.TableReads.{IsTableOf, above_from_rise, rise_from_above, rise_from_sorted, sorted_from_rise, table_reads}
+use Rattle.shore_logrec.proofs.Entries.{above_none, dirty_reads, dirty_total, txn_reads}
+use Rattle.shore_logrec.proofs.TextLengths.{length-checkpoint_text, length-prepare_text, length-image_text, length-change_text, length-compensation_text}
 
 some_one : (a b : Image) → (is_some a || is_some b) ≡ true → IsSome a ⊎ IsSome b
 some_one (Some a) b e = inl refl
@@ -83,48 +87,101 @@ compensation_again id after undo_next fits =
 
 -- ---- a Prepare
 
--- a test that did not fail, and what comes behind it
-none_kept : {A : Type 0} (b : Bool) (r : Option A) (y : A) → cond b None r ≡ Some y → (b ≡ false) × (r ≡ Some y)
-none_kept true r y e = absurd cc
-none_kept false r y e = (refl, e)
+abbrev PrepareParts : List ℕ × List Granule → Type 0
+PrepareParts x = IsName x.0 × IsTableOf MOST_MAX_LOCKS granule_before GranuleFits x.1
+
+prepare_fields_read : IsReader prepare_fields_at (λ x. string_text 1 x.0 ++ table_text 4 granule_text x.1) PrepareParts
+unfolding prepare_fields_at
+prepare_fields_read =
+    pair_reads global_at (table_at 4 MOST_MAX_LOCKS granule_at granule_before) (string_text 1) (table_text 4 granule_text) IsName (IsTableOf MOST_MAX_LOCKS granule_before GranuleFits)
+    global_reads (table_reads granule_at granule_before granule_text GranuleFits granule_reads 4 MOST_MAX_LOCKS (omega arith))
 
 prepare_takes : (bytes : List ℕ) (p : Payload) → IsBytes bytes → prepare_at bytes ≡ Some p → Says 5 bytes p
 unfolding prepare_at
 prepare_takes bytes p fits e =
-    let g = bind_some (global_at bytes) (λ global. number_at 4 global.1 >>= λ count. cond (ltb MOST_MAX_LOCKS count.0) None (whole (granules_from None count.0) count.1) >>= λ gs. Some (Prepare global.0 gs)) p e in
-    let n = bind_some (number_at 4 g.0.1) (λ count. cond (ltb MOST_MAX_LOCKS count.0) None (whole (granules_from None count.0) count.1) >>= λ gs. Some (Prepare g.0.0 gs)) p g.2 in
-    let x = bind_some (cond (ltb MOST_MAX_LOCKS n.0.0) None (whole (granules_from None n.0.0) n.0.1)) (λ gs. Some (Prepare g.0.0 gs)) p n.2 in
-    let k = none_kept (ltb MOST_MAX_LOCKS n.0.0) (whole (granules_from None n.0.0) n.0.1) x.0 x.1 in
-    let global = global_reads.takes bytes g.0.0 g.0.1 fits g.1 in
-    let behind = IsBytes-behind (string_text 1 g.0.0) g.0.1 bytes global.0 fits in
-    let count = (number_reads 4).takes g.0.1 n.0.0 n.0.1 behind n.1 in
-    let last = IsBytes-behind (little_bytes 4 n.0.0) n.0.1 g.0.1 count.0 behind in
-    let gs = whole_takes (granules_from None n.0.0) (flat_map granule_text) (AreSoMany None n.0.0) (granules_read None n.0.0) n.0.1 x.0 last k.1 in
-    let few : n.0.0 ≤ MOST_MAX_LOCKS = ltb-false _ _ k.0 in
-    let parts : bytes ≡ prepare_text g.0.0 x.0 =
-    global.0 ∙ ap (λ (l : List ℕ). string_text 1 g.0.0 ++ l) count.0
-    ∙ sym (append_assoc (string_text 1 g.0.0) (little_bytes 4 n.0.0) n.0.1)
-    ∙ ap (λ (l : List ℕ). (string_text 1 g.0.0 ++ little_bytes 4 n.0.0) ++ l) gs.0
-    ∙ ap (λ (k : ℕ). (string_text 1 g.0.0 ++ little_bytes 4 k) ++ flat_map granule_text x.0) (sym gs.1.count) in
-    let prepare : PrepareFits g.0.0 x.0 = record {
-      some = global.1.some;
-      short = global.1.short;
-      few = let c = gs.1.count in omega arith;
-      granules_fit = gs.1.fit;
-      rising = gs.1.rise;
+    let x = bind_some (whole prepare_fields_at bytes) prepare_of p e in
+    let t = whole_takes prepare_fields_at (λ x. string_text 1 x.0 ++ table_text 4 granule_text x.1) PrepareParts prepare_fields_read bytes x.0 fits x.1 in
+    let prepare : PrepareFits x.0.0 x.0.1 = record {
+      some = t.1.0.some;
+      short = t.1.0.short;
+      few = t.1.1.few;
+      granules_fit = t.1.1.fit;
+      rising = sorted_from_rise granule_cmp granules_total x.0.1 t.1.1.rise;
     } in
-    subst (Says 5 bytes) (some_is (Prepare g.0.0 x.0) p x.2) (record { kind_is = refl; parts = parts; fits = prepare })
+    subst (Says 5 bytes) (some_is (Prepare x.0.0 x.0.1) p x.2) (record { kind_is = refl; parts = t.0; fits = prepare })
 
 prepare_again : (global : List ℕ) (granules : List Granule) → PrepareFits global granules → prepare_at (prepare_text global granules) ≡ Some (Prepare global granules)
 unfolding prepare_at
 prepare_again global granules fits =
-    let all = flat_map granule_text granules in
-    let count = length granules in
-    let name = global_reads.again global (little_bytes 4 count ++ all) (record { some = fits.some; short = fits.short }) in
-    let number = (number_reads 4).again count all (let few = fits.few in omega arith) in
-    let few : ltb MOST_MAX_LOCKS count ≡ false = le-ltb _ _ fits.few in
-    let gs = whole_again (granules_from None count) (flat_map granule_text) (AreSoMany None count) (granules_read None count) granules (record { count = refl; fit = fits.granules_fit; rise = fits.rising }) in
-    ap prepare_at (append_assoc (string_text 1 global) (little_bytes 4 count) all) ∙ rw (name, number, few, gs) refl
+    let read = whole_again prepare_fields_at (λ x. string_text 1 x.0 ++ table_text 4 granule_text x.1) PrepareParts prepare_fields_read (global, granules)
+    (record { some = fits.some; short = fits.short }, record { few = fits.few; fit = fits.granules_fit; rise = rise_from_sorted granule_cmp granules_total granules fits.rising }) in
+    rw read refl
+
+-- ---- an End of a checkpoint
+
+abbrev EndParts : ((ℕ × ℕ) × List LogTxn) × List DirtyPage → Type 0
+EndParts x = (((x.0.0.0 < 2 ^ 64) × (x.0.0.1 < 2 ^ 64)) × IsTableOf MAX_TRANSACTIONS txn_before TxnFits x.0.1) × IsTableOf MAX_POOL_FRAMES dirty_before DirtyFits x.1
+
+abbrev end_spelled : ((ℕ × ℕ) × List LogTxn) × List DirtyPage → List ℕ
+end_spelled x = ((little_bytes 8 x.0.0.0 ++ little_bytes 8 x.0.0.1) ++ table_text 2 txn_text x.0.1) ++ table_text 2 dirty_text x.1
+
+end_fields_read : IsReader end_fields_at end_spelled EndParts
+unfolding end_fields_at
+end_fields_read =
+    let numbers = pair_at (number_at 8) (number_at 8) in
+    let txns = table_at 2 MAX_TRANSACTIONS txn_at txn_before in
+    let two = λ (x : ℕ × ℕ). little_bytes 8 x.0 ++ little_bytes 8 x.1 in
+    let three = λ (x : (ℕ × ℕ) × List LogTxn). (little_bytes 8 x.0.0 ++ little_bytes 8 x.0.1) ++ table_text 2 txn_text x.1 in
+    pair_reads (pair_at numbers txns) (table_at 2 MAX_POOL_FRAMES dirty_at dirty_before) three (table_text 2 dirty_text)
+    (λ x. ((x.0.0 < 2 ^ 64) × (x.0.1 < 2 ^ 64)) × IsTableOf MAX_TRANSACTIONS txn_before TxnFits x.1) (IsTableOf MAX_POOL_FRAMES dirty_before DirtyFits)
+    (pair_reads numbers txns two (table_text 2 txn_text) (λ x. (x.0 < 2 ^ 64) × (x.1 < 2 ^ 64)) (IsTableOf MAX_TRANSACTIONS txn_before TxnFits)
+    (pair_reads (number_at 8) (number_at 8) (little_bytes 8) (little_bytes 8) (λ n. n < 2 ^ 64) (λ n. n < 2 ^ 64) (number_reads 8) (number_reads 8))
+    (table_reads txn_at txn_before txn_text TxnFits txn_reads 2 MAX_TRANSACTIONS (omega arith)))
+    (table_reads dirty_at dirty_before dirty_text DirtyFits dirty_reads 2 MAX_POOL_FRAMES (omega arith))
+
+end_takes : (bytes : List ℕ) (p : Payload) → IsBytes bytes → end_at bytes ≡ Some p → Says 8 bytes p
+unfolding end_at
+end_takes bytes p fits e =
+    let x = bind_some (whole end_fields_at bytes) end_of p e in
+    let t = whole_takes end_fields_at end_spelled EndParts end_fields_read bytes x.0 fits x.1 in
+    let checkpoint : CheckpointFits x.0.0.0.0 x.0.0.0.1 x.0.0.1 x.0.1 = record {
+      begin_fits = t.1.0.0.0;
+      next_fits = t.1.0.0.1;
+      few_txns = t.1.0.1.few;
+      txns_fit = t.1.0.1.fit;
+      txns_rise = above_from_rise x.0.0.1 TxnFits above_none t.1.0.1.fit t.1.0.1.rise;
+      few_pages = t.1.1.few;
+      pages_fit = t.1.1.fit;
+      pages_rise = sorted_from_rise dirty_cmp dirty_total x.0.1 t.1.1.rise;
+    } in
+    subst (Says 8 bytes) (some_is (CheckpointEnd x.0.0.0.0 x.0.0.0.1 x.0.0.1 x.0.1) p x.2) (record { kind_is = refl; parts = t.0; fits = checkpoint })
+
+end_again : (begin next : ℕ) (txns : List LogTxn) (dirty : List DirtyPage) → CheckpointFits begin next txns dirty
+    → end_at (checkpoint_text begin next txns dirty) ≡ Some (CheckpointEnd begin next txns dirty)
+unfolding end_at
+end_again begin next txns dirty fits =
+    let ts : IsTableOf MAX_TRANSACTIONS txn_before TxnFits txns = record { few = fits.few_txns; fit = fits.txns_fit; rise = rise_from_above txns fits.txns_rise } in
+    let ds : IsTableOf MAX_POOL_FRAMES dirty_before DirtyFits dirty = record { few = fits.few_pages; fit = fits.pages_fit; rise = rise_from_sorted dirty_cmp dirty_total dirty fits.pages_rise } in
+    let read = whole_again end_fields_at end_spelled EndParts end_fields_read (((begin, next), txns), dirty) (((fits.begin_fits, fits.next_fits), ts), ds) in
+    rw read refl
+
+-- ---- an Anchor
+
+two_numbers_read : IsReader (pair_at (number_at 8) (number_at 8)) (λ n. little_bytes 8 n.0 ++ little_bytes 8 n.1) (λ n. (n.0 < 2 ^ 64) × (n.1 < 2 ^ 64))
+two_numbers_read = pair_reads (number_at 8) (number_at 8) (little_bytes 8) (little_bytes 8) (λ n. n < 2 ^ 64) (λ n. n < 2 ^ 64) (number_reads 8) (number_reads 8)
+
+anchor_takes : (bytes : List ℕ) (p : Payload) → IsBytes bytes → anchor_at bytes ≡ Some p → Says 9 bytes p
+unfolding anchor_at
+anchor_takes bytes p fits e =
+    let x = bind_some (whole (pair_at (number_at 8) (number_at 8)) bytes) anchor_of p e in
+    let t = whole_takes (pair_at (number_at 8) (number_at 8)) (λ n. little_bytes 8 n.0 ++ little_bytes 8 n.1) (λ n. (n.0 < 2 ^ 64) × (n.1 < 2 ^ 64)) two_numbers_read bytes x.0 fits x.1 in
+    subst (Says 9 bytes) (some_is (Anchor x.0.0 x.0.1) p x.2) (record { kind_is = refl; parts = t.0; fits = t.1 })
+
+anchor_again : (checkpoint tail : ℕ) → checkpoint < 2 ^ 64 → tail < 2 ^ 64 → anchor_at (anchor_text checkpoint tail) ≡ Some (Anchor checkpoint tail)
+unfolding anchor_at
+anchor_again checkpoint tail c t =
+    let read = whole_again (pair_at (number_at 8) (number_at 8)) (λ n. little_bytes 8 n.0 ++ little_bytes 8 n.1) (λ n. (n.0 < 2 ^ 64) × (n.1 < 2 ^ 64)) two_numbers_read (checkpoint, tail) (c, t) in
+    rw read refl
 
 -- ---- payloads
 
@@ -148,7 +205,10 @@ empty_takes kind empty kind_is nothing fits bytes p e =
 payload_takes : (kind : ℕ) (bytes : List ℕ) (p : Payload) → IsBytes bytes → payload_at kind bytes ≡ Some p → Says kind bytes p
 unfolding payload_at
 payload_takes kind bytes p fits e =
-    let sixth = cond (eqb kind 6) (empty_at RollbackDecided bytes) None in
+    let ninth = cond (eqb kind 9) (anchor_at bytes) None in
+    let eighth = cond (eqb kind 8) (end_at bytes) ninth in
+    let seventh = cond (eqb kind 7) (empty_at CheckpointBegin bytes) eighth in
+    let sixth = cond (eqb kind 6) (empty_at RollbackDecided bytes) seventh in
     let fifth = cond (eqb kind 5) (prepare_at bytes) sixth in
     let fourth = cond (eqb kind 4) (empty_at End bytes) fifth in
     let third = cond (eqb kind 3) (empty_at Commit bytes) fourth in
@@ -158,8 +218,11 @@ payload_takes kind bytes p fits e =
     (λ e. by_kind kind 3 bytes p (empty_at Commit bytes) fourth e (empty_takes 3 Commit refl refl tt bytes p)
     (λ e. by_kind kind 4 bytes p (empty_at End bytes) fifth e (empty_takes 4 End refl refl tt bytes p)
     (λ e. by_kind kind 5 bytes p (prepare_at bytes) sixth e (prepare_takes bytes p fits)
-    (λ e. by_kind kind 6 bytes p (empty_at RollbackDecided bytes) None e (empty_takes 6 RollbackDecided refl refl tt bytes p)
-    (λ e. absurd cc))))))
+    (λ e. by_kind kind 6 bytes p (empty_at RollbackDecided bytes) seventh e (empty_takes 6 RollbackDecided refl refl tt bytes p)
+    (λ e. by_kind kind 7 bytes p (empty_at CheckpointBegin bytes) eighth e (empty_takes 7 CheckpointBegin refl refl tt bytes p)
+    (λ e. by_kind kind 8 bytes p (end_at bytes) ninth e (end_takes bytes p fits)
+    (λ e. by_kind kind 9 bytes p (anchor_at bytes) None e (anchor_takes bytes p fits)
+    (λ e. absurd cc)))))))))
 
 payload_again : (p : Payload) → PayloadFits p → payload_at (kind_of p) (payload_text p) ≡ Some p
 unfolding payload_at
@@ -169,9 +232,9 @@ payload_again Commit fits = refl
 payload_again End fits = refl
 payload_again (Prepare global granules) fits = prepare_again global granules fits
 payload_again RollbackDecided fits = refl
-payload_again CheckpointBegin fits = absurd fits
-payload_again (CheckpointEnd begin next txns dirty) fits = absurd fits
-payload_again (Anchor checkpoint tail) fits = absurd fits
+payload_again CheckpointBegin fits = refl
+payload_again (CheckpointEnd begin next txns dirty) fits = end_again begin next txns dirty fits
+payload_again (Anchor checkpoint tail) fits = anchor_again checkpoint tail fits.0 fits.1
 
 image_most : (image : Image) → ImageFits image → length (image_text image) ≤ 4003
 image_most None fits = omega arith
@@ -183,8 +246,12 @@ length-payload_text-le (Change id before after) fits =
     omega (arith, length-change_text id before after, image_most before fits.old, image_most after fits.new)
 length-payload_text-le (Compensation id after undo_next) fits = omega (arith, length-compensation_text id after undo_next, image_most after fits.image)
 length-payload_text-le Commit fits = omega arith
+length-payload_text-le End fits = omega arith
 length-payload_text-le (Prepare global granules) fits = omega (arith, length-prepare_text global granules, fits.short, fits.few)
-length-payload_text-le _ fits = omega arith
+length-payload_text-le RollbackDecided fits = omega arith
+length-payload_text-le CheckpointBegin fits = omega arith
+length-payload_text-le (CheckpointEnd begin next txns dirty) fits = omega (arith, length-checkpoint_text begin next txns dirty, fits.few_txns, fits.few_pages)
+length-payload_text-le (Anchor checkpoint tail) fits = omega arith
 
 -- ---- a head and the bytes of a payload
 
@@ -216,12 +283,54 @@ front_is head bytes p kind_is parts =
     ∙ ap (λ (l : List ℕ). (((kind_of p ∷ []) ++ little_bytes 8 head.txn) ++ little_bytes 8 head.previous) ++ (little_bytes 4 (length l) ++ l)) parts
     ∙ sym (append_assoc (((kind_of p ∷ []) ++ little_bytes 8 head.txn) ++ little_bytes 8 head.previous) (little_bytes 4 (length (payload_text p))) (payload_text p))
 
+-- the records of a checkpoint are of no transaction, and each other is of one
+not_zero : (n : ℕ) → not (eqb n 0) ≡ true → 1 ≤ n
+not_zero zero e = absurd cc
+not_zero (suc n) e = omega arith
+
+zero_not : (n : ℕ) → 1 ≤ n → not (eqb n 0) ≡ true
+zero_not n h = ap not (ne_eqb n 0 (λ e. omega arith))
+
+both_zero : (a b : ℕ) → (eqb a 0 && eqb b 0) ≡ true → (a ≡ 0) × (b ≡ 0)
+both_zero a b e = let k = and_parts _ _ e in (eqb-true _ _ k.0, eqb-true _ _ k.1)
+
+zero_both : (a b : ℕ) → (a ≡ 0) × (b ≡ 0) → (eqb a 0 && eqb b 0) ≡ true
+zero_both a b h = rw (h.0, h.1) refl
+
+owner_kind : (kind txn previous : ℕ) (p : Payload) → kind ≡ kind_of p → has_owner record { kind = kind; txn = txn; previous = previous } ≡ true → HasOwner p txn previous
+owner_kind kind txn previous p is e = by_payload p (sym (ap (λ (k : ℕ). has_owner record { kind = k; txn = txn; previous = previous }) is) ∙ e)
+  where
+    by_payload : (p : Payload) → has_owner record { kind = kind_of p; txn = txn; previous = previous } ≡ true → HasOwner p txn previous
+    by_payload (Change id before after) e = not_zero txn e
+    by_payload (Compensation id after undo_next) e = not_zero txn e
+    by_payload Commit e = not_zero txn e
+    by_payload End e = not_zero txn e
+    by_payload (Prepare global granules) e = not_zero txn e
+    by_payload RollbackDecided e = not_zero txn e
+    by_payload CheckpointBegin e = both_zero txn previous e
+    by_payload (CheckpointEnd begin next txns dirty) e = both_zero txn previous e
+    by_payload (Anchor checkpoint tail) e = both_zero txn previous e
+
+owner_of : (head : Head) (p : Payload) → head.kind ≡ kind_of p → has_owner head ≡ true → HasOwner p head.txn head.previous
+owner_of head p is e = owner_kind head.kind head.txn head.previous p is e
+
+owner_again : (txn previous : ℕ) (p : Payload) → HasOwner p txn previous → has_owner record { kind = kind_of p; txn = txn; previous = previous } ≡ true
+owner_again txn previous (Change id before after) h = zero_not txn h
+owner_again txn previous (Compensation id after undo_next) h = zero_not txn h
+owner_again txn previous Commit h = zero_not txn h
+owner_again txn previous End h = zero_not txn h
+owner_again txn previous (Prepare global granules) h = zero_not txn h
+owner_again txn previous RollbackDecided h = zero_not txn h
+owner_again txn previous CheckpointBegin h = zero_both txn previous h
+owner_again txn previous (CheckpointEnd begin next txns dirty) h = zero_both txn previous h
+owner_again txn previous (Anchor checkpoint tail) h = zero_both txn previous h
+
 pub record_takes : (bytes : List ℕ) (r : LogRecord) (rest : List ℕ) → IsBytes bytes → record_at bytes ≡ Some (r, rest) → (bytes ≡ text r ++ rest) × Fits r
 unfolding record_at string_text
 record_takes bytes r rest fits e =
-    let x = bind_some (front_at bytes) (λ front. payload_at front.0.0.kind front.0.1 >>= λ p. cond (eqb front.0.0.txn 0) None (Some (record_of front.0.0 p, front.1))) (r, rest) e in
-    let y = bind_some (payload_at x.0.0.0.kind x.0.0.1) (λ p. cond (eqb x.0.0.0.txn 0) None (Some (record_of x.0.0.0 p, x.0.1))) (r, rest) x.2 in
-    let g = guard_some (eqb x.0.0.0.txn 0) (record_of x.0.0.0 y.0, x.0.1) (r, rest) y.2 in
+    let x = bind_some (front_at bytes) (λ front. payload_at front.0.0.kind front.0.1 >>= λ p. cond (has_owner front.0.0) (Some (record_of front.0.0 p, front.1)) None) (r, rest) e in
+    let y = bind_some (payload_at x.0.0.0.kind x.0.0.1) (λ p. cond (has_owner x.0.0.0) (Some (record_of x.0.0.0 p, x.0.1)) None) (r, rest) x.2 in
+    let g = guard_kept (has_owner x.0.0.0) (record_of x.0.0.0 y.0, x.0.1) (r, rest) y.2 in
     let front = front_reads.takes bytes x.0.0 x.0.1 fits x.1 in
     let numbers : List ℕ = ((x.0.0.0.kind ∷ []) ++ little_bytes 8 x.0.0.0.txn) ++ little_bytes 8 x.0.0.0.previous in
     let inner : bytes ≡ (numbers ++ little_bytes 4 (length x.0.0.1)) ++ (x.0.0.1 ++ x.0.1) =
@@ -229,28 +338,20 @@ record_takes bytes r rest fits e =
     let payload_fits : IsBytes x.0.0.1 = IsBytes-front x.0.0.1 x.0.1 (IsBytes-behind (numbers ++ little_bytes 4 (length x.0.0.1)) (x.0.0.1 ++ x.0.1) bytes inner fits) in
     let says = payload_takes x.0.0.0.kind x.0.0.1 y.0 payload_fits y.1 in
     let spelled : bytes ≡ text (record_of x.0.0.0 y.0) ++ x.0.1 = front.0 ∙ ap (λ (l : List ℕ). l ++ x.0.1) (front_is x.0.0.0 x.0.0.1 y.0 says.kind_is says.parts) in
-    let there : Fits (record_of x.0.0.0 y.0) = record { some = not_zero x.0.0.0.txn g.0; txn_fits = front.1.0.0.1; previous_fits = front.1.0.1; payload_fits = says.fits } in
+    let there : Fits (record_of x.0.0.0 y.0) = record { owner = owner_of x.0.0.0 y.0 says.kind_is g.0; txn_fits = front.1.0.0.1; previous_fits = front.1.0.1; payload_fits = says.fits } in
     subst (λ (v : LogRecord × List ℕ). (bytes ≡ text v.0 ++ v.1) × Fits v.0) g.1 (spelled, there)
-  where
-    not_zero : (n : ℕ) → eqb n 0 ≡ false → 1 ≤ n
-    not_zero zero e = absurd cc
-    not_zero (suc n) e = omega arith
 
 pub record_again : (r : LogRecord) (rest : List ℕ) → Fits r → record_at (text r ++ rest) ≡ Some (r, rest)
 unfolding record_at
 record_again r rest fits =
     let head : Head = record { kind = kind_of r.payload; txn = r.txn; previous = r.previous } in
     let front = front_reads.again (head, payload_text r.payload) rest (((kind_fits r.payload, fits.txn_fits), fits.previous_fits), omega (arith, length-payload_text-le r.payload fits.payload_fits)) in
-    let some : eqb r.txn 0 ≡ false = is_some_txn r.txn fits.some in
-    ap (λ (l : List ℕ). record_at (l ++ rest)) (sym (front_is head (payload_text r.payload) r.payload refl refl)) ∙ rw (front, payload_again r.payload fits.payload_fits, some) refl
+    let owner : has_owner head ≡ true = owner_again r.txn r.previous r.payload fits.owner in
+    ap (λ (l : List ℕ). record_at (l ++ rest)) (sym (front_is head (payload_text r.payload) r.payload refl refl)) ∙ rw (front, payload_again r.payload fits.payload_fits, owner) refl
   where
     kind_fits : (p : Payload) → kind_of p < 256
     kind_fits (Change id before after) = omega arith
     kind_fits _ = omega arith
-
-    is_some_txn : (n : ℕ) → 1 ≤ n → eqb n 0 ≡ false
-    is_some_txn zero h = absurd (omega arith)
-    is_some_txn (suc n) h = grind (arith, nat_tests)
 
 -- the front that is left when what comes behind it is taken away
 pub front_taken : (bytes front rest : List ℕ) → bytes ≡ front ++ rest → (length bytes - length rest ≤ length bytes) × (take (length bytes - length rest) bytes ≡ front)

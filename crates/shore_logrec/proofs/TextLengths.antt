@@ -2,14 +2,17 @@
 use Rattle.std.proofs.Common.{◌≡◌, ℕ, ◌+◌, ◌≤◌, List, [], ◌∷◌, ◌++◌, length, Some, None, refl, arith}
 use Rattle.std.specs.Prelude.{◌*◌, flat_map, option_map, replicate}
 use Rattle.std.proofs.lemmas.List.{length-append}
+use Rattle.std.proofs.Math.Nat.{mul-suc}
 use Rattle.byteorder.specs.Endian.{little_bytes}
 use Rattle.byteorder.specs.Numbers.{length-bytes_low_first}
 use Rattle.shore_types.specs.declared.ids.Rid.{Rid}
 use Rattle.shore_types.specs.Images.{Image}
 use Rattle.shore_types.specs.declared.locking.Granule.{Granule}
 use Rattle.shore_types.specs.declared.locking.Granule.TheVariants.{Page, Record, Store, Volume}
+use Rattle.shore_model.specs.declared.log_records.DirtyPage.{DirtyPage}
 use Rattle.shore_model.specs.declared.log_records.LogRecord.{LogRecord}
-use Rattle.shore_logrec.specs.Text.{granule_text, prepare_text, rid_text, string_text, image_text, image_text_len, change_text, compensation_text, payload_text, head_text, text}
+use Rattle.shore_model.specs.declared.log_records.LogTxn.{LogTxn}
+use Rattle.shore_logrec.specs.Text.{checkpoint_text, dirty_text, table_text, txn_text, granule_text, prepare_text, rid_text, string_text, image_text, image_text_len, change_text, compensation_text, payload_text, head_text, text}
 
 pub length-little_bytes : (n x : ℕ) → length (little_bytes n x) ≡ n
 length-little_bytes n x = length-bytes_low_first 0 n x
@@ -49,22 +52,38 @@ length-granule_text (Page p) =
     omega (arith, length-append (little_bytes 4 p.store) (little_bytes 4 p.page ++ replicate 2 0), length-append (little_bytes 4 p.page) (replicate 2 0), length-little_bytes 4 p.store, length-little_bytes 4 p.page)
 length-granule_text (Record r) = omega (arith, length-rid_text r)
 
-pub length-granules : (gs : List Granule) → length (flat_map granule_text gs) ≡ 11 * length gs
-length-granules [] = refl
-length-granules (g ∷ gs) =
-    let one = length-granule_text g in
-    let rest = length-granules gs in
-    omega (arith, length-append (granule_text g) (flat_map granule_text gs))
+-- entries that have as many bytes each
+length-entries : {A : Type 0} (spell : A → List ℕ) (size : ℕ) → ((x : A) → length (spell x) ≡ size) → (xs : List A) → length (flat_map spell xs) ≡ size * length xs
+length-entries spell size long [] = omega arith
+length-entries spell size long (x ∷ xs) =
+    omega (arith, length-append (spell x) (flat_map spell xs), long x, length-entries spell size long xs, mul-suc size (length xs))
+
+length-table_text : {A : Type 0} (n : ℕ) (spell : A → List ℕ) (size : ℕ) → ((x : A) → length (spell x) ≡ size) → (xs : List A) → length (table_text n spell xs) ≡ n + size * length xs
+length-table_text n spell size long xs =
+    omega (arith, length-append (little_bytes n (length xs)) (flat_map spell xs), length-little_bytes n (length xs), length-entries spell size long xs)
 
 pub length-prepare_text : (global : List ℕ) (granules : List Granule) → length (prepare_text global granules) ≡ 5 + length global + 11 * length granules
 length-prepare_text global granules =
-    let all = length-granules granules in
     omega (
       arith,
+      length-append (string_text 1 global) (table_text 4 granule_text granules),
       length-string_text 1 global,
-      length-append (string_text 1 global ++ little_bytes 4 (length granules)) (flat_map granule_text granules),
-      length-append (string_text 1 global) (little_bytes 4 (length granules)),
-      length-little_bytes 4 (length granules),
+      length-table_text 4 granule_text 11 length-granule_text granules,
     )
 
-pub ruleset lengths = (length-append, length-little_bytes, length-rid_text, length-string_text, length-image_text, length-change_text, length-compensation_text, length-head_text, length-prepare_text, length-text)
+pub length-checkpoint_text : (begin next : ℕ) (txns : List LogTxn) (dirty : List DirtyPage)
+    → length (checkpoint_text begin next txns dirty) ≡ 20 + 41 * length txns + 16 * length dirty
+length-checkpoint_text begin next txns dirty =
+    let numbers = little_bytes 8 begin ++ little_bytes 8 next in
+    omega (
+      arith,
+      length-append (numbers ++ table_text 2 txn_text txns) (table_text 2 dirty_text dirty),
+      length-append numbers (table_text 2 txn_text txns),
+      length-append (little_bytes 8 begin) (little_bytes 8 next),
+      length-little_bytes 8 begin,
+      length-little_bytes 8 next,
+      length-table_text 2 txn_text 41 (λ t. refl) txns,
+      length-table_text 2 dirty_text 16 (λ d. refl) dirty,
+    )
+
+pub ruleset lengths = (length-append, length-little_bytes, length-rid_text, length-string_text, length-granule_text, length-image_text, length-change_text, length-compensation_text, length-head_text, length-prepare_text, length-checkpoint_text, length-text)

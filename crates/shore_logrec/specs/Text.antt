@@ -1,14 +1,16 @@
 -- The one text (encoding) of each log record.
-use Rattle.std.specs.Prelude.{ℕ, ◌+◌, ◌<◌, ◌≤◌, ◌^◌, ◌⊎◌, List, [], ◌∷◌, ◌++◌, length, replicate, Option, Some, None, IfSome, IsSome}
+use Rattle.std.specs.Prelude.{◌≡◌, ℕ, ◌+◌, ◌<◌, ◌≤◌, ◌^◌, ◌⊎◌, List, [], ◌∷◌, ◌++◌, length, replicate, Option, Some, None, IfSome, IsSome, IsTrue}
 use Rattle.std.specs.List.{All, flat_map}
 use Rattle.std.specs.List.Sorted.{IsStrictlySortedBy}
+use Rattle.std.specs.declared.cmp.Ordering.{Ordering}
 use Rattle.byteorder.specs.Endian.{little_bytes}
 use Rattle.shore_types.specs.declared.ids.Rid.{Rid}
 use Rattle.shore_types.specs.declared.locking.Granule.{Granule}
 use Rattle.shore_types.specs.declared.locking.Granule.TheVariants.{Volume, Store, Page, Record}
 use Rattle.shore_types.specs.declared.locking.Level.{Level}
 use Rattle.shore_types.specs.declared.locking.Level.TheVariants as level
-use Rattle.shore_types.specs.declared.layout.TheConstants.{ENDING_COST, MAX_GLOBAL_ID_BYTES, MAX_RECORD_BYTES, MOST_MAX_LOCKS}
+use Rattle.shore_types.specs.declared.layout.TheConstants.{ENDING_COST, MAX_GLOBAL_ID_BYTES, MAX_POOL_FRAMES, MAX_RECORD_BYTES, MAX_TRANSACTIONS, MOST_MAX_LOCKS}
+use Rattle.shore_types.specs.Ids.{page_cmp}
 use Rattle.shore_types.specs.Images.{Image}
 use Rattle.shore_types.specs.Locking.{granule_cmp, ids_of}
 use Rattle.shore_model.specs.declared.log_records.DirtyPage.{DirtyPage}
@@ -18,6 +20,7 @@ use Rattle.shore_model.specs.declared.log_records.TxnState.{TxnState}
 use Rattle.shore_model.specs.declared.log_records.TxnState.TheVariants.{Active, Prepared, RollingBack}
 use Rattle.shore_model.specs.declared.log_records.Payload.{Payload}
 use Rattle.shore_model.specs.declared.log_records.Payload.TheVariants.{Change, Compensation, Commit, End, Prepare, RollbackDecided, CheckpointBegin, CheckpointEnd, Anchor}
+use Rattle.shore_model.specs.Logs.{rise_above}
 
 -- the number that the text begins with
 abbrev pub kind_of : Payload → ℕ
@@ -65,9 +68,13 @@ granule_text (Store s) = level_number level.Store ∷ (little_bytes 4 s ++ repli
 granule_text (Page p) = level_number level.Page ∷ (little_bytes 4 p.store ++ little_bytes 4 p.page ++ replicate 2 0)
 granule_text (Record r) = level_number level.Record ∷ rid_text r
 
+-- the number of entries in n bytes, and the entries
+abbrev pub table_text : {A : Type 0} → ℕ → (A → List ℕ) → List A → List ℕ
+table_text n spell entries = little_bytes n (length entries) ++ flat_map spell entries
+
 -- the global id behind its length, and the granules behind their count
 abbrev pub prepare_text : List ℕ → List Granule → List ℕ
-prepare_text global granules = string_text 1 global ++ little_bytes 4 (length granules) ++ flat_map granule_text granules
+prepare_text global granules = string_text 1 global ++ table_text 4 granule_text granules
 
 abbrev pub state_number : TxnState → ℕ
 state_number Active = 1
@@ -87,8 +94,11 @@ dirty_text d = little_bytes 4 d.page.store ++ little_bytes 4 d.page.page ++ litt
 -- the number of the checkpoint's begin, the next transaction's number, and the two tables, each behind its count
 abbrev pub checkpoint_text : ℕ → ℕ → List LogTxn → List DirtyPage → List ℕ
 checkpoint_text begin next txns dirty =
-    little_bytes 8 begin ++ little_bytes 8 next ++ little_bytes 2 (length txns) ++ flat_map txn_text txns ++ little_bytes 2 (length dirty)
-    ++ flat_map dirty_text dirty
+    little_bytes 8 begin ++ little_bytes 8 next ++ table_text 2 txn_text txns ++ table_text 2 dirty_text dirty
+
+-- the number of the checkpoint's begin, and of the first record that is kept
+abbrev pub anchor_text : ℕ → ℕ → List ℕ
+anchor_text checkpoint tail = little_bytes 8 checkpoint ++ little_bytes 8 tail
 
 -- the fields of each kind
 abbrev pub payload_text : Payload → List ℕ
@@ -100,7 +110,7 @@ payload_text (Prepare global granules) = prepare_text global granules
 payload_text RollbackDecided = []
 payload_text CheckpointBegin = []
 payload_text (CheckpointEnd begin next txns dirty) = checkpoint_text begin next txns dirty
-payload_text (Anchor checkpoint tail) = little_bytes 8 checkpoint ++ little_bytes 8 tail
+payload_text (Anchor checkpoint tail) = anchor_text checkpoint tail
 
 -- 21 bytes: the kind, the transaction, the number of its record before, and how many bytes the payload has
 unfoldable pub head_text : LogRecord → List ℕ
@@ -148,7 +158,35 @@ pub record PrepareFits (global : List ℕ) (granules : List Granule) : Type 0 wh
   pub granules_fit : All GranuleFits granules
   pub rising : IsStrictlySortedBy granule_cmp granules
 
--- what is written and read: the kinds 1 to 6
+-- an entry is a transaction's, so it has a number above 0
+pub record TxnFits (t : LogTxn) : Type 0 where
+  pub some : 1 ≤ t.txn
+  pub txn : t.txn < 2 ^ 64
+  pub first : t.first < 2 ^ 64
+  pub last : t.last < 2 ^ 64
+  pub undo_next : t.undo_next < 2 ^ 64
+  pub prepare : t.prepare < 2 ^ 64
+
+pub record DirtyFits (d : DirtyPage) : Type 0 where
+  pub store : d.page.store < 2 ^ 32
+  pub page : d.page.page < 2 ^ 32
+  pub recovery : d.recovery < 2 ^ 64
+
+-- entries of dirty pages are in the order of their pages
+abbrev pub dirty_cmp : DirtyPage → DirtyPage → Ordering
+dirty_cmp d e = page_cmp d.page e.page
+
+-- at most 256 transactions, which rise, and at most 1,024 dirty pages, which rise
+pub record CheckpointFits (begin next : ℕ) (txns : List LogTxn) (dirty : List DirtyPage) : Type 0 where
+  pub begin_fits : begin < 2 ^ 64
+  pub next_fits : next < 2 ^ 64
+  pub few_txns : length txns ≤ MAX_TRANSACTIONS
+  pub txns_fit : All TxnFits txns
+  pub txns_rise : IsTrue (rise_above 0 txns)
+  pub few_pages : length dirty ≤ MAX_POOL_FRAMES
+  pub pages_fit : All DirtyFits dirty
+  pub pages_rise : IsStrictlySortedBy dirty_cmp dirty
+
 abbrev pub PayloadFits : Payload → Type 0
 PayloadFits (Change id before after) = ChangeFits id before after
 PayloadFits (Compensation id after undo_next) = CompensationFits id after undo_next
@@ -156,13 +194,25 @@ PayloadFits Commit = Unit {0}
 PayloadFits End = Unit {0}
 PayloadFits (Prepare global granules) = PrepareFits global granules
 PayloadFits RollbackDecided = Unit {0}
-PayloadFits CheckpointBegin = ⊥
-PayloadFits (CheckpointEnd begin next txns dirty) = ⊥
-PayloadFits (Anchor checkpoint tail) = ⊥
+PayloadFits CheckpointBegin = Unit {0}
+PayloadFits (CheckpointEnd begin next txns dirty) = CheckpointFits begin next txns dirty
+PayloadFits (Anchor checkpoint tail) = (checkpoint < 2 ^ 64) × (tail < 2 ^ 64)
+
+-- the records of a checkpoint are of no transaction, and name none before; each other is of one
+abbrev pub HasOwner : Payload → ℕ → ℕ → Type 0
+HasOwner (Change id before after) txn previous = 1 ≤ txn
+HasOwner (Compensation id after undo_next) txn previous = 1 ≤ txn
+HasOwner Commit txn previous = 1 ≤ txn
+HasOwner End txn previous = 1 ≤ txn
+HasOwner (Prepare global granules) txn previous = 1 ≤ txn
+HasOwner RollbackDecided txn previous = 1 ≤ txn
+HasOwner CheckpointBegin txn previous = (txn ≡ 0) × (previous ≡ 0)
+HasOwner (CheckpointEnd begin next txns dirty) txn previous = (txn ≡ 0) × (previous ≡ 0)
+HasOwner (Anchor checkpoint tail) txn previous = (txn ≡ 0) × (previous ≡ 0)
 
 -- what has a text
 pub record Fits (r : LogRecord) : Type 0 where
-  pub some : 1 ≤ r.txn
+  pub owner : HasOwner r.payload r.txn r.previous
   pub txn_fits : r.txn < 2 ^ 64
   pub previous_fits : r.previous < 2 ^ 64
   pub payload_fits : PayloadFits r.payload

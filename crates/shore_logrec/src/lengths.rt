@@ -1,14 +1,14 @@
 //! How many bytes the texts of records and of their parts have.
 ghost use Rattle.std.specs.Prelude.{◌≡◌, ◌≤◌, ◌+◌, ◌*◌, length};
 ghost use Rattle.std.specs.Option.{ForSome};
-ghost use Rattle.shore_types.specs.declared.layout.TheConstants.{FRAME_SHARE, MAX_GLOBAL_ID_BYTES, MAX_RECORD_BYTES, MOST_MAX_LOCKS};
+ghost use Rattle.shore_types.specs.declared.layout.TheConstants.{FRAME_SHARE, MAX_GLOBAL_ID_BYTES, MAX_POOL_FRAMES, MAX_RECORD_BYTES, MAX_TRANSACTIONS, MOST_MAX_LOCKS};
 ghost use Rattle.shore_logrec.specs.Text as spec;
 ghost use Rattle.shore_logrec.specs.Text.{Fits, PayloadFits, payload_text, text, cost_of};
 
 use shore_model::{LogRecord, Payload};
 use shore_types::images;
 
-/// The longest text of the kinds that are served, that of a Prepare with a global id and a list of granules that are as long as may be.
+/// The longest text, that of a Prepare with a global id and a list of granules that are as long as may be.
 pub const MAX_TEXT_BYTES: usize = 45_146;
 /// The bytes of a head.
 pub(crate) const HEAD_BYTES: usize = 21;
@@ -16,8 +16,14 @@ pub(crate) const HEAD_BYTES: usize = 21;
 pub(crate) const RID_BYTES: usize = 10;
 /// The bytes of a granule: its level and its ids.
 pub(crate) const GRANULE_BYTES: usize = 11;
+/// The bytes of an entry of a checkpoint's table of transactions.
+pub(crate) const TXN_BYTES: usize = 41;
+/// The bytes of an entry of its table of dirty pages.
+pub(crate) const DIRTY_BYTES: usize = 16;
 /// The bytes of the number of a record.
 pub(crate) const LSN_BYTES: usize = 8;
+/// The bytes of an Anchor's payload: two numbers of records.
+pub(crate) const ANCHOR_TEXT_BYTES: usize = 2 * LSN_BYTES;
 
 // The bytes of an image's text, by the image's length.
 pub(crate) fn image_text_len(length: Option<usize>) -> usize
@@ -41,6 +47,16 @@ pub(crate) fn prepare_text_len(global: usize, granules: usize) -> usize
     1 + global + 4 + GRANULE_BYTES * granules
 }
 
+// The bytes of a CheckpointEnd's payload, by the numbers of the entries of its tables.
+pub(crate) fn end_text_len(txns: usize, pages: usize) -> usize
+    requires txns { txns ≤ MAX_TRANSACTIONS }
+    requires pages { pages ≤ MAX_POOL_FRAMES }
+    ensures len { result ≡ 20 + 41 * txns + 16 * pages }
+    ensures most { result ≤ 45125 }
+{
+    8 + 8 + 2 + TXN_BYTES * txns + 2 + DIRTY_BYTES * pages
+}
+
 #[tactic(auto, using(crate::proofs::TextLengths::lengths))]
 pub(crate) fn payload_len(payload: &Payload) -> usize
     requires { PayloadFits payload.now }
@@ -59,12 +75,11 @@ pub(crate) fn payload_len(payload: &Payload) -> usize
         Payload::Prepare { global, granules } => {
             prepare_text_len(global.as_slice().len(), granules.as_slice().len())
         }
-        Payload::Commit
-        | Payload::End
-        | Payload::RollbackDecided
-        | Payload::CheckpointBegin
-        | Payload::CheckpointEnd { .. }
-        | Payload::Anchor { .. } => 0,
+        Payload::CheckpointEnd { txns, dirty, .. } => {
+            end_text_len(txns.as_slice().len(), dirty.as_slice().len())
+        }
+        Payload::Anchor { .. } => ANCHOR_TEXT_BYTES,
+        Payload::Commit | Payload::End | Payload::RollbackDecided | Payload::CheckpointBegin => 0,
     }
 }
 

@@ -1,14 +1,14 @@
-//! Log records and their texts, version 1 of the format. Kinds 1 to 6 are served: Change, Compensation, Commit, End, Prepare,
-//! RollbackDecided.
+//! Log records and their texts, version 1 of the format.
 #![tactic(auto)]
 
 mod costs;
 mod laws;
 mod lengths;
 mod reading;
+mod tables;
 mod writing;
 
-pub use costs::{change_cost, compensation_cost, prepare_cost};
+pub use costs::{change_cost, checkpoint_cost, compensation_cost, prepare_cost};
 pub use laws::encoding_is_prefix_free;
 pub use lengths::{MAX_TEXT_BYTES, encoded_len};
 pub use reading::{decode, u32_at, u64_at};

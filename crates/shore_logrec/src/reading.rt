@@ -4,17 +4,19 @@ ghost use Rattle.shore_model.specs.declared.log_records.LogRecord.{LogRecord};
 ghost use Rattle.shore_logrec.specs.Text.{Fits, text};
 ghost use Rattle.shore_logrec.specs.Reading as spec;
 
-use crate::lengths::GRANULE_BYTES;
+use crate::tables::{entries_at, short_table_at};
 use byteorder::{ByteOrder, LittleEndian};
-use shore_model::{LogRecord, Payload};
+use shore_model::{DirtyPage, LogRecord, LogTxn, Payload, TxnState};
 use shore_types::images::copied;
-use shore_types::layout::{MAX_GLOBAL_ID_BYTES, MAX_RECORD_BYTES, MOST_MAX_LOCKS};
-use shore_types::{Granule, Lsn, PageId, Rid, Sequence, StoreId, TxnId, images};
+use shore_types::layout::{
+    MAX_GLOBAL_ID_BYTES, MAX_POOL_FRAMES, MAX_RECORD_BYTES, MAX_TRANSACTIONS, MOST_MAX_LOCKS,
+};
+use shore_types::{Granule, Lsn, PageId, Rid, StoreId, TxnId, images};
 use std::alloc::{AllocError, Global};
 
 // Two bytes as a number, and the bytes behind them; None if there are fewer.
 #[tactic(auto, unfolding(crate::specs::Reading::number_at))]
-fn u16_at(bytes: &[u8]) -> Option<(u16, &[u8])>
+pub(crate) fn u16_at(bytes: &[u8]) -> Option<(u16, &[u8])>
     ensures { option_map (λ x. (x.0, x.1.now)) result ≡ spec.number_at 2 bytes.now }
 {
     if bytes.len() < 2 {
@@ -188,7 +190,7 @@ fn granule_of(level: u8, ids: Rid) -> Option<Granule>
 }
 
 #[tactic(auto, unfolding(crate::specs::Reading::granule_at))]
-fn granule_at(bytes: &[u8]) -> Option<(Granule, &[u8])>
+pub(crate) fn granule_at(bytes: &[u8]) -> Option<(Granule, &[u8])>
     ensures { option_map (λ x. (x.0, x.1.now)) result ≡ spec.granule_at bytes.now }
 {
     let (level, rest) = bytes.split_first()?;
@@ -212,43 +214,7 @@ fn global_at(bytes: &[u8]) -> Option<(&[u8], &[u8])>
     rest.split_at_checked(len)
 }
 
-// Whether a granule comes behind the last one, if there is one.
-fn rises(last: Option<Granule>, granule: &Granule) -> bool
-    ensures { result ≡ spec.rises last granule.now }
-{
-    match last {
-        Some(last) => last < *granule,
-        None => true,
-    }
-}
-
-// So many granules, rising, which are all of the bytes.
-fn read_granules(
-    alloc: Global,
-    bytes: &[u8],
-    count: usize,
-) -> Result<Option<Sequence<Granule>>, AllocError>
-    requires { length bytes.now ≡ 11 * count }
-    ensures { IfOk result (λ found. found ≡ spec.whole (spec.granules_from None count) bytes.now) }
-{
-    let mut granules = Sequence::new(alloc);
-    let mut rest = bytes;
-    let mut last = None;
-    for _ in 0..count {
-        let Some((granule, behind)) = granule_at(rest) else {
-            return Ok(None);
-        };
-        if !rises(last, &granule) {
-            return Ok(None);
-        }
-        granules.push(granule)?;
-        last = Some(granule);
-        rest = behind;
-    }
-    Ok(Some(granules))
-}
-
-#[tactic(auto, unfolding(crate::specs::Reading::prepare_at))]
+#[tactic(auto, unfolding(crate::specs::Reading::prepare_at, crate::specs::Reading::prepare_fields_at, crate::specs::Reading::table_at))]
 fn read_prepare(alloc: Global, bytes: &[u8]) -> Result<Option<Payload>, AllocError>
     ensures { IfOk result (λ found. found ≡ spec.prepare_at bytes.now) }
 {
@@ -258,15 +224,112 @@ fn read_prepare(alloc: Global, bytes: &[u8]) -> Result<Option<Payload>, AllocErr
     let Some((count, rest)) = u32_at(rest) else {
         return Ok(None);
     };
-    let count = count as usize;
-    if count > MOST_MAX_LOCKS as usize || rest.len() != GRANULE_BYTES * count {
+    if count > MOST_MAX_LOCKS {
         return Ok(None);
     }
-    let Some(granules) = read_granules(alloc, rest, count)? else {
+    let Some((granules, rest)) = entries_at(alloc, rest, count as usize)? else {
         return Ok(None);
     };
+    if !rest.is_empty() {
+        return Ok(None);
+    }
     let global = copied(alloc, global)?;
     Ok(Some(Payload::Prepare { global, granules }))
+}
+
+fn state_of(number: u8) -> Option<TxnState>
+    ensures { result ≡ spec.state_of number }
+{
+    match number {
+        1 => Some(TxnState::Active),
+        2 => Some(TxnState::Prepared),
+        3 => Some(TxnState::RollingBack),
+        _ => None,
+    }
+}
+
+// An entry of a checkpoint's table of transactions.
+#[tactic(auto, unfolding(crate::specs::Reading::txn_at, crate::specs::Reading::txn_fields_at))]
+pub(crate) fn txn_at(bytes: &[u8]) -> Option<(LogTxn, &[u8])>
+    ensures { option_map (λ x. (x.0, x.1.now)) result ≡ spec.txn_at bytes.now }
+{
+    let (txn, rest) = u64_at(bytes)?;
+    let (state, rest) = rest.split_first()?;
+    let (first, rest) = u64_at(rest)?;
+    let (last, rest) = u64_at(rest)?;
+    let (undo_next, rest) = u64_at(rest)?;
+    let (prepare, rest) = u64_at(rest)?;
+    let state = state_of(*state)?;
+    if txn == 0 {
+        return None;
+    }
+    let entry = LogTxn {
+        txn: TxnId(txn),
+        state,
+        first: Lsn(first),
+        last: Lsn(last),
+        undo_next: Lsn(undo_next),
+        prepare: Lsn(prepare),
+    };
+    Some((entry, rest))
+}
+
+// An entry of a checkpoint's table of dirty pages.
+#[tactic(auto, unfolding(crate::specs::Reading::dirty_at))]
+pub(crate) fn dirty_at(bytes: &[u8]) -> Option<(DirtyPage, &[u8])>
+    ensures { option_map (λ x. (x.0, x.1.now)) result ≡ spec.dirty_at bytes.now }
+{
+    let (store, rest) = u32_at(bytes)?;
+    let (page, rest) = u32_at(rest)?;
+    let (recovery, rest) = u64_at(rest)?;
+    let page = PageId {
+        store: StoreId(store),
+        page,
+    };
+    let recovery = Lsn(recovery);
+    Some((DirtyPage { page, recovery }, rest))
+}
+
+#[tactic(auto, unfolding(crate::specs::Reading::end_at, crate::specs::Reading::end_fields_at))]
+fn read_end(alloc: Global, bytes: &[u8]) -> Result<Option<Payload>, AllocError>
+    ensures { IfOk result (λ found. found ≡ spec.end_at bytes.now) }
+{
+    let Some((begin, rest)) = u64_at(bytes) else {
+        return Ok(None);
+    };
+    let Some((next, rest)) = u64_at(rest) else {
+        return Ok(None);
+    };
+    let Some((txns, rest)) = short_table_at(alloc, rest, MAX_TRANSACTIONS as u16)? else {
+        return Ok(None);
+    };
+    let Some((dirty, rest)) = short_table_at(alloc, rest, MAX_POOL_FRAMES as u16)? else {
+        return Ok(None);
+    };
+    if !rest.is_empty() {
+        return Ok(None);
+    }
+    Ok(Some(Payload::CheckpointEnd {
+        begin: Lsn(begin),
+        next: TxnId(next),
+        txns,
+        dirty,
+    }))
+}
+
+#[tactic(auto, unfolding(crate::specs::Reading::anchor_at))]
+fn read_anchor(bytes: &[u8]) -> Option<Payload>
+    ensures { result ≡ spec.anchor_at bytes.now }
+{
+    let (checkpoint, rest) = u64_at(bytes)?;
+    let (tail, rest) = u64_at(rest)?;
+    if !rest.is_empty() {
+        return None;
+    }
+    Some(Payload::Anchor {
+        checkpoint: Lsn(checkpoint),
+        tail: Lsn(tail),
+    })
 }
 
 #[tactic(auto, unfolding(crate::specs::Reading::payload_at))]
@@ -280,8 +343,21 @@ fn read_payload(alloc: Global, kind: u8, bytes: &[u8]) -> Result<Option<Payload>
         4 if bytes.is_empty() => Ok(Some(Payload::End)),
         5 => read_prepare(alloc, bytes),
         6 if bytes.is_empty() => Ok(Some(Payload::RollbackDecided)),
+        7 if bytes.is_empty() => Ok(Some(Payload::CheckpointBegin)),
+        8 => read_end(alloc, bytes),
+        9 => Ok(read_anchor(bytes)),
         _ => Ok(None),
     }
+}
+
+// The records of a checkpoint, of the kinds 7 to 9, are of no transaction.
+fn has_owner(head: &Head) -> bool
+    ensures { result ≡ spec.has_owner head.now }
+{
+    if head.kind < 7 {
+        return head.txn != TxnId(0);
+    }
+    head.txn == TxnId(0) && head.previous == Lsn(0)
 }
 
 #[tactic(auto, unfolding(crate::specs::Reading::record_at))]
@@ -292,7 +368,7 @@ fn read_record(alloc: Global, bytes: &[u8]) -> Result<Option<(LogRecord, &[u8])>
     let Some((head, payload, rest)) = front_at(bytes) else {
         return Ok(None);
     };
-    if head.txn == TxnId(0) {
+    if !has_owner(&head) {
         return Ok(None);
     }
     let Some(payload) = read_payload(alloc, head.kind, payload)? else {

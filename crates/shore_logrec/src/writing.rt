@@ -1,14 +1,15 @@
 //! Texts from their records.
 ghost use Rattle.std.specs.Prelude.{◌≡◌, ◌++◌, All, length, OnOk, OnErr};
 ghost use Rattle.byteorder.specs.Endian.{little_bytes};
-ghost use Rattle.shore_logrec.specs.Text.{Fits, GranuleFits, ImageFits, ChangeFits, CompensationFits, PrepareFits, PayloadFits, kind_of};
-ghost use Rattle.shore_logrec.specs.Text.{granule_text, prepare_text, rid_text, image_text, change_text, compensation_text, payload_text, head_text, text};
+ghost use Rattle.shore_logrec.specs.Text.{Fits, GranuleFits, ImageFits, ChangeFits, CheckpointFits, CompensationFits, PrepareFits, PayloadFits, kind_of, state_number};
+ghost use Rattle.shore_logrec.specs.Text.{anchor_text, checkpoint_text, dirty_text, granule_text, prepare_text, rid_text, image_text, change_text, compensation_text, payload_text, head_text, text, txn_text};
 ghost use Rattle.shore_logrec.specs.Room.{HasRoom, Puts};
 
 use crate::lengths::{encoded_len, payload_len};
+use crate::tables::put_entries;
 use byteorder::{ByteOrder, LittleEndian};
-use shore_model::{LogRecord, Payload};
-use shore_types::{Bytes, GlobalId, Granule, Lsn, Rid};
+use shore_model::{DirtyPage, LogRecord, LogTxn, Payload, TxnState};
+use shore_types::{Bytes, GlobalId, Granule, Lsn, Rid, TxnId};
 use std::alloc::AllocError;
 
 // Puts the bytes into room that is there.
@@ -97,8 +98,8 @@ fn put_compensation(out: &mut Vec<u8>, id: Rid, after: &Option<Bytes>, undo_next
 
 // A level is its depth, and the ids below it are 0.
 #[tactic(auto, using(crate::proofs::TextLengths::lengths))]
-fn put_granule(out: &mut Vec<u8>, granule: &Granule)
-    requires { HasRoom out.old 11 }
+pub(crate) fn put_granule(out: &mut Vec<u8>, granule: &Granule)
+    requires { HasRoom out.old (length (granule_text granule.now)) }
     ensures { Puts out.old out.new (granule_text granule.now) }
 {
     put(out, &[granule.depth()]);
@@ -123,9 +124,63 @@ fn put_prepare(out: &mut Vec<u8>, global: &GlobalId, granules: &[Granule])
     put(out, &[global.as_slice().len() as u8]);
     put(out, global.as_slice());
     put_u32(out, granules.len() as u32);
-    for granule in granules {
-        put_granule(out, granule);
+    put_entries(out, granules);
+}
+
+fn state_number(state: TxnState) -> u8
+    ensures { result ≡ state_number state }
+{
+    match state {
+        TxnState::Active => 1,
+        TxnState::Prepared => 2,
+        TxnState::RollingBack => 3,
     }
+}
+
+#[tactic(auto, using(crate::proofs::TextLengths::lengths))]
+pub(crate) fn put_txn(out: &mut Vec<u8>, entry: &LogTxn)
+    requires { HasRoom out.old (length (txn_text entry.now)) }
+    ensures { Puts out.old out.new (txn_text entry.now) }
+{
+    put_u64(out, entry.txn.0);
+    put(out, &[state_number(entry.state)]);
+    put_u64(out, entry.first.0);
+    put_u64(out, entry.last.0);
+    put_u64(out, entry.undo_next.0);
+    put_u64(out, entry.prepare.0);
+}
+
+#[tactic(auto, using(crate::proofs::TextLengths::lengths))]
+pub(crate) fn put_dirty(out: &mut Vec<u8>, entry: &DirtyPage)
+    requires { HasRoom out.old (length (dirty_text entry.now)) }
+    ensures { Puts out.old out.new (dirty_text entry.now) }
+{
+    put_u32(out, entry.page.store.0);
+    put_u32(out, entry.page.page);
+    put_u64(out, entry.recovery.0);
+}
+
+#[tactic(auto, using(crate::proofs::TextLengths::lengths))]
+fn put_end(out: &mut Vec<u8>, begin: Lsn, next: TxnId, txns: &[LogTxn], dirty: &[DirtyPage])
+    requires fits { CheckpointFits begin next txns.now dirty.now }
+    requires room { HasRoom out.old (length (checkpoint_text begin next txns.now dirty.now)) }
+    ensures { Puts out.old out.new (checkpoint_text begin next txns.now dirty.now) }
+{
+    put_u64(out, begin.0);
+    put_u64(out, next.0);
+    put_u16(out, txns.len() as u16);
+    put_entries(out, txns);
+    put_u16(out, dirty.len() as u16);
+    put_entries(out, dirty);
+}
+
+#[tactic(auto, using(crate::proofs::TextLengths::lengths))]
+fn put_anchor(out: &mut Vec<u8>, checkpoint: Lsn, tail: Lsn)
+    requires { HasRoom out.old 16 }
+    ensures { Puts out.old out.new (anchor_text checkpoint tail) }
+{
+    put_u64(out, checkpoint.0);
+    put_u64(out, tail.0);
 }
 
 #[tactic(auto, using(crate::proofs::TextLengths::lengths))]
@@ -142,12 +197,14 @@ fn put_payload(out: &mut Vec<u8>, payload: &Payload)
             undo_next,
         } => put_compensation(out, *id, after, *undo_next),
         Payload::Prepare { global, granules } => put_prepare(out, global, granules.as_slice()),
-        Payload::Commit
-        | Payload::End
-        | Payload::RollbackDecided
-        | Payload::CheckpointBegin
-        | Payload::CheckpointEnd { .. }
-        | Payload::Anchor { .. } => {}
+        Payload::CheckpointEnd {
+            begin,
+            next,
+            txns,
+            dirty,
+        } => put_end(out, *begin, *next, txns.as_slice(), dirty.as_slice()),
+        Payload::Anchor { checkpoint, tail } => put_anchor(out, *checkpoint, *tail),
+        Payload::Commit | Payload::End | Payload::RollbackDecided | Payload::CheckpointBegin => {}
     }
 }
 

@@ -83,7 +83,7 @@ pub push-requires-clause-text : goal.push-requires-clause-text
 push-requires-clause-text g c =
     let old = c.args.self.now in
     record {
-      some = c.id-txn.ensures.some;
+      owner = c.id-txn.ensures.some;
       txn_fits = omega (arith, c.id-txn.ensures.below);
       previous_fits = omega (arith, c.last-previous.ensures, old.earlier c.txn-own.result.now c.txn-own.ensures.among, old.numbers);
       payload_fits = record {

@@ -106,7 +106,7 @@ pub push-requires-clause-text : goal.push-requires-clause-text
 push-requires-clause-text g c =
     let earlier = c.args.self.now.earlier c.in_ok-own.own.now c.in_ok-own.ensures.some.0 in
     record {
-      some = omega (arith, c.id-txn.ensures.some);
+      owner = omega (arith, c.id-txn.ensures.some);
       txn_fits = omega (arith, c.id-txn.ensures.below);
       previous_fits = omega (arith, c.last-previous.ensures, earlier, c.args.self.now.numbers);
       payload_fits = record {
