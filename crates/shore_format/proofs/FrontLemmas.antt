@@ -15,6 +15,8 @@ use Rattle.shore_gate.specs.declared.labels.Label.{Label}
 use Rattle.shore_gate.specs.Label.{HoldsLabel, label_bytes}
 use Rattle.shore_gate.specs.Anchor.{HoldsAnchor, IsOlder, anchor_bytes, other_of, slot_bytes}
 use Rattle.shore_gate.proofs.WidthLemmas.{length-label_bytes, length-anchor_bytes}
+use Rattle.shore_frames.specs.Places.{stream_of}
+use Rattle.shore_frames.proofs.Turns.{whole_stream}
 use Rattle.shore_fronts.specs.Fronts.{HasFront, IsLogLength, first_anchor, log_label}
 use Rattle.shore_format.specs.Fronts.{LogStandsFor, behind_label, IsShut, LeftByFormat}
 
@@ -131,7 +133,7 @@ formatted g device_bytes tail pair fits limits =
           limits = record { some_tail = omega arith; most_tail = omega arith; offset = omega arith; some_sequence = omega arith; most_sequence = omega arith; checkpoint = inl refl };
         };
       };
-      log = ([], (CLOSED, tail, (λ is. absurd (omega (arith, is))), part_stream L Z1 N Z2 Z3 tail l z1 n z2 z3), refl);
+      log = ([], (CLOSED, tail, (λ is. absurd (omega (arith, is))), whole_stream (stream_of (image L Z1 N Z2 Z3 tail l z1 n z2 z3)) ∙ part_stream L Z1 N Z2 Z3 tail l z1 n z2 z3), refl);
       long = fits;
     }
 

@@ -39,6 +39,27 @@ pub joined-push : (gs : List (List LogRecord)) (g : List LogRecord) → joined (
 joined-push [] g = append-nil g
 joined-push (h ∷ gs) g = ap (λ (l : List LogRecord). h ++ l) (joined-push gs g) ∙ sym (append_assoc h (joined gs) g)
 
+-- ---- some frames, and more behind them
+
+pub text-append : (n : ℕ) (gs hs : List (List LogRecord)) → text n (gs ++ hs) ≡ text n gs ++ text (number_behind n gs) hs
+text-append n [] hs = refl
+text-append n (g ∷ gs) hs = ap (λ (l : List ℕ). OPEN ∷ l) (ap (λ (l : List ℕ). behind_gate n (texts g) ++ l) (text-append (n + length g) gs hs)
+    ∙ sym (append_assoc (behind_gate n (texts g)) (text (n + length g) gs) (text (number_behind (n + length g) gs) hs)))
+
+pub groups_behind : (n : ℕ) (gs hs : List (List LogRecord)) → AreGroups n (gs ++ hs) → AreGroups (number_behind n gs) hs
+groups_behind n [] hs are = are
+groups_behind n (g ∷ gs) hs are = groups_behind (n + length g) gs hs are.1
+
+pub joined-append : (gs hs : List (List LogRecord)) → joined (gs ++ hs) ≡ joined gs ++ joined hs
+joined-append [] hs = refl
+joined-append (g ∷ gs) hs = ap (λ (l : List LogRecord). g ++ l) (joined-append gs hs) ∙ sym (append_assoc g (joined gs) (joined hs))
+
+pub number_behind-append : (n : ℕ) (gs hs : List (List LogRecord)) → number_behind n (gs ++ hs) ≡ number_behind (number_behind n gs) hs
+number_behind-append n [] hs = refl
+number_behind-append n (g ∷ gs) hs = number_behind-append (n + length g) gs hs
+
+-- ---- how many they are, and how long
+
 -- the records of some groups, counted
 pub number_behind-joined : (n : ℕ) (gs : List (List LogRecord)) → number_behind n gs ≡ n + length (joined gs)
 number_behind-joined n [] = omega arith

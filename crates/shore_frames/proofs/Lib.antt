@@ -1,7 +1,12 @@
 pub mod FrameLemmas
+pub mod CostLemmas
 pub mod TextTests
 pub mod LoggedLemmas
 pub mod ReadLemmas
 pub mod OffsetLemmas
 pub mod StreamLemmas
-pub mod WalkLemmas
+pub mod Turns
+pub mod RingReads
+pub mod RingWrites
+pub mod RingFrames
+pub mod IndexLemmas

@@ -3,7 +3,7 @@ use Rattle.std.proofs.Common.{◌≡◌, ◌<◌, ◌≤◌, ◌+◌, inl, inr, 
 use Rattle.std.proofs.lemmas.List.{append-nil, take_more, length-take-le}
 use Rattle.std.proofs.lemmas.List.Elements.{All-nil, All-cons, All-head, All-take}
 use Rattle.shore_frames.specs.Frames.{AreNumbered, IsLongest, IsGroup}
-use Rattle.std.specs.Prelude.{All, take, drop, OnOk, OnErr, if◌then◌else◌}
+use Rattle.std.specs.Prelude.{All, take, drop, IfErr, OnOk, OnErr, if◌then◌else◌}
 use Rattle.std.proofs.lemmas.Bool.{cases_lt}
 use Rattle.shore_types.specs.declared.layout.TheConstants.{MAX_FRAME_BYTES}
 use Rattle.shore_model.specs.declared.log_records.LogRecord.{LogRecord}
@@ -145,6 +145,10 @@ Fits-behind rs now n m is le h =
 pub on_ok : {T E : Type 0} (r : Result T E) (P Q : Type 0) → (P → Q) → OnOk r P → OnOk r Q
 on_ok (Ok x) P Q f p = f p
 on_ok (Err e) P Q f p = p
+
+pub if_err : {T E : Type 0} (r : Result T E) (P : E → Type 0) → ((e : E) → P e) → IfErr r P
+if_err (Ok x) P p = tt
+if_err (Err e) P p = p e
 
 pub on_ok_two : {T E : Type 0} (r : Result T E) (P Q R : Type 0) → (P → Q → R) → OnOk r P → OnOk r Q → OnOk r R
 on_ok_two (Ok x) P Q R f p q = f p q

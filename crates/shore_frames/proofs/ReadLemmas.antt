@@ -6,7 +6,7 @@ use Rattle.shore_logrec.specs.Text.{Fits, text, texts}
 use Rattle.shore_logrec.proofs.TextLengths.{length-text}
 use Rattle.shore_frames.specs.declared.reading.ReadError.{ReadError}
 use Rattle.shore_frames.specs.declared.reading.ReadError.TheVariants.{Memory, NoText}
-use Rattle.shore_frames.specs.Frames.{AreNumbered}
+use Rattle.shore_frames.specs.Frames.{AreGroups, AreNumbered, joined}
 use Rattle.shore_frames.specs.Reading.{Reads, ReadsOne}
 
 pub AreNumbered-push : (n : ℕ) (rs : List LogRecord) (r : LogRecord) → AreNumbered n rs → Fits r → r.previous < n + length rs → AreNumbered n (rs ++ r ∷ [])
@@ -62,6 +62,11 @@ not_both false t f = absurd cc
 pub AreNumbered-append : (n : ℕ) (xs ys : List LogRecord) → AreNumbered n xs → AreNumbered (n + length xs) ys → AreNumbered n (xs ++ ys)
 AreNumbered-append n [] ys hx hy = subst (λ k. AreNumbered k ys) (omega arith) hy
 AreNumbered-append n (x ∷ xs) ys hx hy = (hx.0, hx.1, AreNumbered-append (n + 1) xs ys hx.2 (subst (λ k. AreNumbered k ys) (omega arith) hy))
+
+-- the records of all groups
+pub joined_numbered : (n : ℕ) (gs : List (List LogRecord)) → AreGroups n gs → AreNumbered n (joined gs)
+joined_numbered n [] are = tt
+joined_numbered n (g ∷ gs) are = AreNumbered-append n g (joined gs) are.0.numbered (joined_numbered (n + length g) gs are.1)
 
 -- each record has a byte at least
 pub length-texts : (rs : List LogRecord) → length rs ≤ length (texts rs)

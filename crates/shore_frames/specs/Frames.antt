@@ -1,11 +1,12 @@
 -- Frames: the records of a log in groups, each behind a gate of its own, and a closed gate behind the last.
-use Rattle.std.specs.Prelude.{◌≡◌, ◌≢◌, ◌⊎◌, ℕ, ◌+◌, ◌<◌, ◌≤◌, List, [], ◌∷◌, ◌++◌, length, take, drop}
+use Rattle.std.specs.Prelude.{◌≡◌, ◌≢◌, ◌⊎◌, ℕ, ◌+◌, ◌<◌, ◌≤◌, List, [], ◌∷◌, ◌++◌, length, take}
 use Rattle.std.specs.List.{flat_map}
 use Rattle.shore_types.specs.declared.layout.TheConstants.{LOG_FRONT_BYTES, MAX_FRAME_BYTES}
 use Rattle.byteorder.specs.Endian.{little_bytes}
 use Rattle.shore_gate.specs.declared.gates.TheConstants.{OPEN}
 use Rattle.shore_model.specs.declared.log_records.LogRecord.{LogRecord}
 use Rattle.shore_logrec.specs.Text.{Fits, texts}
+use Rattle.shore_frames.specs.Places.{from_place, stream_of}
 
 -- each record has a text, and names a record below its own number as the one before
 abbrev pub AreNumbered : ℕ → List LogRecord → Type 0
@@ -38,17 +39,31 @@ Frames n bytes (g ∷ gs) =
 abbrev pub joined : List (List LogRecord) → List LogRecord
 joined gs = flat_map (λ g. g) gs
 
--- the frames of this image of the device, from byte 4,096 on, give this list of records
+-- Read from a tail on, where the first record has this number: the frames of this image of the device, from this place once around the ring, give
+-- these records. The frames with the byte behind them end within the stream's length.
+abbrev pub GivesFrom : ℕ → ℕ → List LogRecord → List ℕ → Type 0
+GivesFrom tail place rs image = (gs : List (List LogRecord)) × Frames tail (from_place place (stream_of image)) gs × (rs ≡ joined gs)
+
+-- .. behind this front of 4,096 bytes, which no frame reaches
+abbrev pub GivesBehindFrom : List ℕ → ℕ → ℕ → List LogRecord → List ℕ → Type 0
+GivesBehindFrom front tail place rs image = (take LOG_FRONT_BYTES image ≡ front) × GivesFrom tail place rs image
+
+-- .. with one group more, or without it
+abbrev pub GivesWithOrWithoutFrom : List ℕ → ℕ → ℕ → List LogRecord → List LogRecord → List ℕ → Type 0
+GivesWithOrWithoutFrom front tail place rs more image = GivesBehindFrom front tail place rs image ⊎ GivesBehindFrom front tail place (rs ++ more) image
+
+-- ---- a log that nothing was cut from: its first record has number 1, and its first frame is at place 0
+
 abbrev pub Gives : List LogRecord → List ℕ → Type 0
-Gives rs image = (gs : List (List LogRecord)) × Frames 1 (drop LOG_FRONT_BYTES image) gs × (rs ≡ joined gs)
+Gives rs image = GivesFrom 1 0 rs image
 
--- they give this list behind a front of 4,096 bytes, which no frame reaches
 abbrev pub GivesBehind : List ℕ → List LogRecord → List ℕ → Type 0
-GivesBehind front rs image = (take LOG_FRONT_BYTES image ≡ front) × Gives rs image
+GivesBehind front rs image = GivesBehindFrom front 1 0 rs image
 
--- they give it with one group more, or without it
 abbrev pub GivesWithOrWithout : List ℕ → List LogRecord → List LogRecord → List ℕ → Type 0
-GivesWithOrWithout front rs more image = GivesBehind front rs image ⊎ GivesBehind front (rs ++ more) image
+GivesWithOrWithout front rs more image = GivesWithOrWithoutFrom front 1 0 rs more image
+
+-- ---- the next frame
 
 -- the first so many of these records fit one frame, and one more would not
 pub record IsLongest (rs : List LogRecord) (count : ℕ) : Type 0 where

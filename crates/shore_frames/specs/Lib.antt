@@ -1,4 +1,7 @@
+pub mod Places
 pub mod Frames
 pub mod LoggedRecords
 pub mod Offsets
 pub mod Reading
+pub mod Rings
+pub mod Streams

@@ -1,143 +1,232 @@
--- What a crash leaves in each of the two steps of a force.
-use Rattle.std.proofs.Common.{◌≡◌, ◌≢◌, inl, inr, IsTrue, ℕ, ◌+◌, ◌≤◌, List, [], ◌∷◌, ◌++◌, length, take, drop, Some, refl, sym, ◌∙◌, ap, subst, arith, append_assoc, length-append}
-use Rattle.std.proofs.lemmas.Bool.{cases_eq}
-use Rattle.std.proofs.lemmas.List.{take_at, drop_at, take-append-drop, length-take-le}
-use Rattle.shore_disk.specs.Device.{may_leave, overwritten, Torn, Stands}
+-- What a crash leaves of the log device in each of the two steps of a force.
+use Rattle.std.proofs.Common.{◌≡◌, ◌≤◌, ◌<◌, ◌+◌, ◌-◌, IsTrue, ℕ, List, [], ◌∷◌, ◌++◌, Some, refl, sym, ap, subst, ◌∙◌, length, take, drop, arith, append_assoc, length-append, length-drop}
+use Rattle.std.proofs.lemmas.List.{drop-append-le, length-take, length-take-le, take-append-le}
+use Rattle.shore_disk.specs.Device.{Stands, may_leave}
 use Rattle.shore_disk.specs.declared.device.Disk.{Ghosts}
-use Rattle.shore_disk.proofs.Images.{overwritten-append}
 use Rattle.shore_gate.specs.declared.gates.TheConstants.{OPEN}
-use Rattle.shore_logrec.specs.Text.{texts}
 use Rattle.shore_model.specs.declared.log_records.LogRecord.{LogRecord}
-use Rattle.shore_frames.specs.Frames.{AreNumbered, IsGroup, IsLongest, behind_gate, Frames, GivesBehind, GivesWithOrWithout, text, number_behind, AreGroups, joined}
-use Rattle.shore_log.specs.Settled.{IsSettled, IsStaged, stable, waiting}
+use Rattle.shore_logrec.specs.Text.{texts}
+use Rattle.shore_frames.specs.declared.reading.FrameAt.{FrameAt}
+use Rattle.shore_frames.specs.Frames.{AreNumbered, Frames, GivesBehindFrom, GivesFrom, GivesWithOrWithoutFrom, IsGroup, IsLongest, behind_gate, joined, number_behind, text}
+use Rattle.shore_frames.specs.Places.{from_place, stream_of}
+use Rattle.shore_frames.specs.Rings.{IsRingWritten, TornRing}
+use Rattle.shore_frames.specs.Streams.{index_of}
+use Rattle.shore_frames.proofs.FrameLemmas.{AreGroups-push, joined-push, length-behind_gate, length-text-push, number_behind-joined, parts_of}
+use Rattle.shore_frames.proofs.IndexLemmas.{index-push}
+use Rattle.shore_frames.proofs.LoggedLemmas.{AreNumbered-drop, AreNumbered-test, IsGroup-longest, take-more_group}
+use Rattle.shore_frames.proofs.RingFrames.{behind_gate_written, open_torn, ring_gives, ring_opened, ring_some, stage_torn}
+use Rattle.shore_log.specs.Settled.{HoldsFrom, IsSettledFrom, IsStagedFrom, KeepsFrames, forced_from, stable, waiting}
 use Rattle.shore_log.specs.declared.device.LogDev.{LogDev}
-use Rattle.shore_frames.proofs.LoggedLemmas.{AreNumbered-test, AreNumbered-drop, IsGroup-longest, length-stable}
-use Rattle.shore_frames.proofs.FrameLemmas.{AreGroups-push, closed_behind, text-push, joined-push, number_behind-joined, parts_of}
 
-module _ (front : List ℕ) (long : length front ≡ 4096) (gs : List (List LogRecord)) (offset : ℕ) (offset_is : offset ≡ length (text 1 gs)) where
-  -- an image with these frames, and then the rest
-  abbrev pub image : List ℕ → List ℕ
-  image rest = front ++ (text 1 gs ++ rest)
+pub unwrap : {A : Type 0} {x y : A} → Some x ≡ Some y → x ≡ y
+unwrap e = cc
 
-  stream : (rest : List ℕ) → drop 4096 (image rest) ≡ text 1 gs ++ rest
-  stream rest = drop_at front (text 1 gs ++ rest) 4096 long
+-- a settled log: each image that a crash leaves gives its forced records from the tail on
+pub settled_gives : {D : Type 0} {G : Ghosts D} {tail place : ℕ} (log : LogDev D G) (front : List ℕ) → IsSettledFrom tail place log front
+    → (c : List ℕ) → may_leave (G.history log.device) c → GivesBehindFrom front tail place (forced_from tail log) c
+settled_gives {tail = tail} {place = place} log front s c left =
+    subst (GivesBehindFrom front tail place (forced_from tail log)) (sym (s.stands.only c left))
+    (s.is_front, subst (λ rs. GivesFrom tail place rs s.image) (sym s.holds.forced) (ring_gives s.image tail place (ring_some (stream_of s.image) tail place s.groups s.ring) s.groups s.ring))
 
-  stays : (rest : List ℕ) → take 4096 (image rest) ≡ front
-  stays rest = take_at front (text 1 gs ++ rest) 4096 long
+module _ {D : Type 0} {G : Ghosts D} (tail place : ℕ) (log : LogDev D G) (groups : List (List LogRecord)) (h : HoldsFrom tail place log groups) where
+  -- no more is forced than there is from the tail on
+  pub tail_within : tail - 1 ≤ length (stable log)
+  tail_within = omega (arith, h.some, h.number, number_behind-joined tail groups, length-take-le log.forced log.records.items log.forced_inside)
 
-  pub gives : (gate : ℕ) (rest : List ℕ) → AreGroups 1 gs → gate ≢ OPEN → GivesBehind front (joined gs) (image (gate ∷ rest))
-  gives gate rest are shut = (stays (gate ∷ rest), (gs, subst (λ s. Frames 1 s gs) (sym (stream (gate ∷ rest))) (closed_behind 1 gs gate rest are shut), refl))
+  -- what is said of the log is kept where its parts are the same
+  pub still_holds : (new : LogDev D G) → G.is_honest new.device ≡ G.is_honest log.device → new.tail ≡ log.tail → new.head ≡ log.head → new.forced ≡ log.forced → new.frames.items ≡ log.frames.items → stable new ≡ stable log
+      → HoldsFrom tail place new groups
+  still_holds new honest at head forced frames same = record {
+    honest = subst (λ b. IsTrue b) (sym honest) h.honest;
+    some = h.some;
+    first = ap (λ (f : FrameAt). f.first) at ∙ h.first;
+    place_is = ap (λ (f : FrameAt). f.place) at ∙ h.place_is;
+    forced = ap (λ (l : List LogRecord). drop (tail - 1) l) same ∙ h.forced;
+    number = ap (λ n. n + 1) forced ∙ h.number;
+    head = head ∙ h.head;
+    index = frames ∙ h.index;
+  }
 
-  pub gives_more : (g : List LogRecord) (gate : ℕ) (rest : List ℕ) → AreGroups 1 (gs ++ g ∷ []) → gate ≢ OPEN → GivesBehind front (joined gs ++ g) (image (OPEN ∷ (behind_gate (number_behind 1 gs) (texts g) ++ gate ∷ rest)))
-  gives_more g gate rest are shut = (
-    stays (OPEN ∷ (behind_gate (number_behind 1 gs) (texts g) ++ gate ∷ rest)),
-    (
-      gs ++ g ∷ [],
-      subst (λ s. Frames 1 s (gs ++ g ∷ [])) (text-push 1 gs g (gate ∷ rest) ∙ sym (stream (OPEN ∷ (behind_gate (number_behind 1 gs) (texts g) ++ gate ∷ rest))))
-          (closed_behind 1 (gs ++ g ∷ []) gate rest are shut),
-      sym (joined-push gs g),
-    ),
-  )
+-- a log of which frames and device are kept, behind which records were taken at most
+module _ {D : Type 0} {G : Ghosts D} (old new : LogDev D G) (honest : G.is_honest new.device ≡ G.is_honest old.device) (device : IsTrue (G.is_honest old.device) → G.history new.device ≡ G.history old.device)
+    (at : new.tail ≡ old.tail) (head : new.head ≡ old.head) (forced : new.forced ≡ old.forced) (frames : new.frames.items ≡ old.frames.items) (staged : new.staged ≡ old.staged)
+    (more : List LogRecord) (records : new.records.items ≡ old.records.items ++ more) where
+  same_stable : stable new ≡ stable old
+  same_stable = ap (λ n. take n new.records.items) forced ∙ ap (take old.forced) records ∙ take-append-le old.forced old.records.items more old.forced_inside
 
-  -- a write behind the gate
-  pub over_rest : (gate : ℕ) (rest bytes : List ℕ) → overwritten (image (gate ∷ rest)) (4096 + offset + 1) bytes ≡ image (gate ∷ (bytes ++ drop (length bytes) rest))
-  over_rest gate rest bytes =
-      let before = front ++ (text 1 gs ++ gate ∷ []) in
-      let parts : (l : List ℕ) → before ++ l ≡ image (gate ∷ l) = λ l. append_assoc front (text 1 gs ++ gate ∷ []) l ∙ ap (λ (m : List ℕ). front ++ m) (append_assoc (text 1 gs) (gate ∷ []) l) in
-      ap (λ (l : List ℕ). overwritten l (4096 + offset + 1) bytes) (sym (parts rest))
-      ∙ overwritten-append before rest (4096 + offset + 1) bytes (omega (arith, length-append front (text 1 gs ++ gate ∷ []), length-append (text 1 gs) (gate ∷ []), long, offset_is))
-      ∙ parts (bytes ++ drop (length bytes) rest)
+  longer_waiting : waiting new ≡ waiting old ++ more
+  longer_waiting = ap (λ n. drop n new.records.items) forced ∙ ap (drop old.forced) records ∙ drop-append-le old.forced old.records.items more old.forced_inside
 
-  -- a write of the gate
-  pub over_gate : (gate new : ℕ) (rest : List ℕ) → overwritten (image (gate ∷ rest)) (4096 + offset) (new ∷ []) ≡ image (new ∷ rest)
-  over_gate gate new rest =
-      let before = front ++ text 1 gs in
-      ap (λ (l : List ℕ). overwritten l (4096 + offset) (new ∷ [])) (sym (append_assoc front (text 1 gs) (gate ∷ rest)))
-      ∙ overwritten-append before (gate ∷ rest) (4096 + offset) (new ∷ []) (omega (arith, length-append front (text 1 gs), long, offset_is))
-      ∙ append_assoc front (text 1 gs) (new ∷ rest)
+  pub keeps_frames : KeepsFrames old new
+  keeps_frames = record {
+    forced = same_stable;
+    under_way = staged;
+    settled = λ tail place front s. record {
+      image = s.image;
+      stands = subst (λ h. Stands h s.image) (sym (device s.holds.honest)) s.stands;
+      is_front = s.is_front;
+      groups = s.groups;
+      holds = still_holds tail place old s.groups s.holds new honest at head forced frames same_stable;
+      ring = s.ring;
+    };
+    staged = λ tail place front group s. record {
+      image = s.image;
+      stands = subst (λ h. Stands h s.image) (sym (device s.holds.honest)) s.stands;
+      is_front = s.is_front;
+      groups = s.groups;
+      holds = still_holds tail place old s.groups s.holds new honest at head forced frames same_stable;
+      gate = s.gate;
+      rest = s.rest;
+      shut = s.shut;
+      are = s.are;
+      seen = s.seen;
+      first =
+          let within : length group ≤ length (waiting old) = omega (arith, ap length s.first, length-take (length group) (waiting old)) in
+          ap (take (length group)) longer_waiting ∙ take-append-le (length group) (waiting old) more within ∙ s.first;
+      waits = staged ∙ s.waits;
+    };
+  }
 
-  pub torn_rest : (gate : ℕ) (rest : List ℕ) (n : ℕ) (c : List ℕ) → AreGroups 1 gs → gate ≢ OPEN → Torn (4096 + offset + 1) n (image (gate ∷ rest)) c → GivesBehind front (joined gs) c
-  torn_rest gate rest n c are shut (inl same) = subst (GivesBehind front (joined gs)) (sym same) (gives gate rest are shut)
-  torn_rest gate rest n c are shut (inr torn) = subst (GivesBehind front (joined gs)) (sym (torn.2 ∙ over_rest gate rest torn.0)) (gives gate (torn.0 ++ drop (length torn.0) rest) are shut)
-
-  one_byte : (bytes : List ℕ) → length bytes ≡ 1 → (b : ℕ) × (bytes ≡ b ∷ [])
-  one_byte [] is = absurd (omega arith)
-  one_byte (b ∷ []) is = (b, refl)
-  one_byte (b ∷ d ∷ bytes) is = absurd (omega arith)
-
-  -- whatever the gate's byte, the frame counts or it doesn't
-  any_gate : (g : List LogRecord) (gate : ℕ) (rest : List ℕ) → AreGroups 1 gs → AreGroups 1 (gs ++ g ∷ []) → GivesWithOrWithout front (joined gs) g (image (gate ∷ (behind_gate (number_behind 1 gs) (texts g) ++ 0 ∷ rest)))
-  any_gate g gate rest are more = elim (cases_eq gate OPEN) [
-    | inl is_open ↦ inr (subst (λ b. GivesBehind front (joined gs ++ g) (image (b ∷ (behind_gate (number_behind 1 gs) (texts g) ++ 0 ∷ rest)))) (sym is_open) (gives_more g 0 rest more (omega arith)))
-    | inr shut ↦ inl (gives gate (behind_gate (number_behind 1 gs) (texts g) ++ 0 ∷ rest) are shut)
-  ]
-
-  torn_open : (g : List LogRecord) (gate : ℕ) (rest : List ℕ) (c : List ℕ) → AreGroups 1 gs → AreGroups 1 (gs ++ g ∷ []) → Torn (4096 + offset) 1 (image (gate ∷ (behind_gate (number_behind 1 gs) (texts g) ++ 0 ∷ rest))) c → GivesWithOrWithout front (joined gs) g c
-  torn_open g gate rest c are more (inl same) = subst (GivesWithOrWithout front (joined gs) g) (sym same) (any_gate g gate rest are more)
-  torn_open g gate rest c are more (inr torn) =
-      let b = one_byte torn.0 torn.1 in
-      let is : c ≡ image (b.0 ∷ (behind_gate (number_behind 1 gs) (texts g) ++ 0 ∷ rest)) = torn.2 ∙ ap (overwritten (image (gate ∷ (behind_gate (number_behind 1 gs) (texts g) ++ 0 ∷ rest))) (4096 + offset)) b.1 ∙ over_gate gate b.0 (behind_gate (number_behind 1 gs) (texts g) ++ 0 ∷ rest) in
-      subst (GivesWithOrWithout front (joined gs) g) (sym is) (any_gate g b.0 rest are more)
-
-  pub torn_gate : (g : List LogRecord) (gate : ℕ) (rest : List ℕ) (next : ℕ) → next ≡ number_behind 1 gs → (c : List ℕ) → AreGroups 1 gs → AreGroups 1 (gs ++ g ∷ []) → Torn (4096 + offset) 1 (image (gate ∷ (behind_gate next (texts g) ++ 0 ∷ rest))) c → GivesWithOrWithout front (joined gs) g c
-  torn_gate g gate rest next is c are more torn = torn_open g gate rest c are more (subst (λ n. Torn (4096 + offset) 1 (image (gate ∷ (behind_gate n (texts g) ++ 0 ∷ rest))) c) is torn)
-
--- a settled log: each image that a crash leaves gives its stable records
-pub settled_gives : {D : Type 0} {G : Ghosts D} (log : LogDev D G) (front : List ℕ) → IsSettled log front → (c : List ℕ) → may_leave (G.history log.device) c → GivesBehind front (stable log) c
-settled_gives log front s c left =
-    subst (λ rs. GivesBehind front rs c) (sym s.forced) (subst (GivesBehind front (joined s.groups)) (sym (s.stands.only c left)) (gives front s.front_long s.groups log.offset s.offset s.gate s.rest s.are s.shut))
-
--- what frames of a stable image are: the device is settled where its next frame goes behind them
-pub settled_from : {D : Type 0} {G : Ghosts D} (log : LogDev D G) (image : List ℕ) (gs : List (List LogRecord)) → IsTrue (G.is_honest log.device) → Stands (G.history log.device) image → 4096 ≤ length image → Frames 1 (drop 4096 image) gs
-    → log.offset ≡ length (text 1 gs) → stable log ≡ joined gs → IsSettled log (take 4096 image)
-settled_from {G = G} log image gs honest stands long frames offset forced =
-    let p = parts_of 1 (drop 4096 image) gs frames in
-    let is : image ≡ take 4096 image ++ (text 1 gs ++ p.gate ∷ p.rest) = sym (take-append-drop 4096 image) ∙ ap (λ (l : List ℕ). take 4096 image ++ l) p.is in
+-- frames that were read
+pub settled_from : {D : Type 0} {G : Ghosts D} (tail place : ℕ) (log : LogDev D G) (image : List ℕ) (gs : List (List LogRecord)) → Stands (G.history log.device) image
+    → Frames tail (from_place place (stream_of image)) gs → HoldsFrom tail place log gs → IsSettledFrom tail place log (take 4096 image)
+settled_from tail place log image gs stands frames holds =
+    let p = parts_of tail (from_place place (stream_of image)) gs frames in
     record {
-      honest = honest;
+      image = image;
+      stands = stands;
+      is_front = refl;
       groups = gs;
-      gate = p.gate;
-      rest = p.rest;
-      front_long = length-take-le 4096 image long;
-      shut = p.shut;
-      are = p.groups;
-      forced = forced;
-      stands = subst (Stands (G.history log.device)) is stands;
-      offset = offset;
+      holds = holds;
+      ring = record { gate = p.gate; rest = p.rest; shut = p.shut; are = p.groups; stands = p.is };
     }
 
--- the number of the first staged record is the one behind those of the frames
-pub number_of_staged : {D : Type 0} {G : Ghosts D} (log : LogDev D G) (front : List ℕ) (group : List LogRecord) → (s : IsStaged log front group) → log.forced + 1 ≡ number_behind 1 s.groups
-number_of_staged log front group s =
-    omega (arith, number_behind-joined 1 s.groups, ap length s.forced, length-take-le log.forced log.records.items log.forced_inside)
+-- ---- a frame is staged
 
--- a settled log behind whose gate the first so many of its waiting records stand in a frame
-pub staged_from : {D : Type 0} {G : Ghosts D} (old new : LogDev D G) (front : List ℕ) (s : IsSettled old front) (count n len : ℕ) (left : List ℕ) → n ≡ count → 1 ≤ count → IsLongest (waiting old) count
-    → IsTrue (G.is_honest new.device) → new.records ≡ old.records → new.forced ≡ old.forced → new.offset ≡ old.offset
-    → Stands (G.history new.device) (front ++ (text 1 s.groups ++ s.gate ∷ (behind_gate (old.forced + 1) (texts (take count (waiting old))) ++ 0 ∷ left)))
-    → len ≡ length (texts (take count (waiting old))) → new.staged ≡ Some record { count = count; len = len } → IsStaged new front (take n (waiting old))
-staged_from {G = G} old new front s count n len left n_is some longest honest records forced offset stands len_is staged =
-    let rs = waiting old in
-    let group = take count rs in
-    let number = old.forced + 1 in
-    let behind : number ≡ number_behind 1 s.groups = omega (arith, number_behind-joined 1 s.groups, ap length s.forced, length-stable old.records.items old.forced old.forced_inside) in
-    let are : AreNumbered number rs = subst (λ k. AreNumbered k rs) (omega arith) (AreNumbered-drop 1 old.forced old.records.items old.forced_inside (AreNumbered-test 1 old.records.items old.numbered)) in
-    let is_group : IsGroup number group = IsGroup-longest number rs count some are longest in
-    let count_is : length group ≡ count = length-take-le count rs longest.within in
-    let same : stable new ≡ stable old = cc (records, forced) in
-    let wait : waiting new ≡ rs = cc (records, forced) in
-    let made : IsStaged new front group = record {
-      honest = honest;
-      groups = s.groups;
-      gate = s.gate;
-      rest = left;
-      front_long = s.front_long;
-      shut = s.shut;
-      are = AreGroups-push 1 s.groups group s.are (subst (λ k. IsGroup k group) behind is_group);
-      forced = same ∙ s.forced;
-      first = ap (λ (l : List LogRecord). take (length group) l) wait ∙ ap (λ (k : ℕ). take k rs) count_is;
-      stands = subst (λ k. Stands (G.history new.device) (front ++ (text 1 s.groups ++ s.gate ∷ (behind_gate (k + 1) (texts group) ++ 0 ∷ left)))) (sym forced) stands;
-      offset = offset ∙ s.offset;
-      waits = cc (staged, count_is, len_is);
-    } in
-    subst (λ k. IsStaged new front (take k rs)) (sym n_is) made
+module _ {D : Type 0} {G : Ghosts D} (tail place : ℕ) (log : LogDev D G) (front : List ℕ) (s : IsSettledFrom tail place log front) (long : length s.image ≡ 4096 + log.stream_bytes) where
+  abbrev kept : List LogRecord
+  kept = forced_from tail log
+
+  stream_long : length (stream_of s.image) ≡ log.stream_bytes
+  stream_long = omega (arith, length-drop 4096 s.image, long)
+
+  stream_some : 0 < length (stream_of s.image)
+  stream_some = omega (arith, stream_long, log.some)
+
+  -- where the frame goes
+  behind_head : log.head + 1 ≡ place + (length (text tail s.groups) + 1)
+  behind_head = omega (arith, s.holds.head)
+
+  -- any bytes may stand there
+  pub torn_gives : (n : ℕ) → log.head + 1 + n ≤ log.tail.place + log.stream_bytes → (c : List ℕ) → TornRing (log.head + 1) n s.image c → GivesBehindFrom front tail place kept c
+  torn_gives n fits c torn =
+      subst (λ rs. GivesBehindFrom front tail place rs c) (sym s.holds.forced)
+      (stage_torn front s.image s.is_front tail place stream_some s.groups s.ring n c (omega (arith, s.holds.head, s.holds.place_is, stream_long, fits)) (subst (λ p. TornRing p n s.image c) behind_head torn))
+
+  -- the first so many of its waiting records stand there in a frame
+  pub staged_from : (new : LogDev D G) (count n len : ℕ) (bytes image : List ℕ) → n ≡ count → 1 ≤ count → IsLongest (waiting log) count
+      → log.head + 13 + length (texts (take count (waiting log))) < log.tail.place + log.stream_bytes
+      → IsTrue (G.is_honest new.device) → Stands (G.history new.device) image → bytes ≡ behind_gate (log.forced + 1) (texts (take count (waiting log))) ++ 0 ∷ []
+      → IsRingWritten (log.head + 1) bytes s.image image
+      → new.tail ≡ log.tail → new.head ≡ log.head → new.forced ≡ log.forced → new.records ≡ log.records → new.frames.items ≡ log.frames.items
+      → len ≡ length (texts (take count (waiting log))) → new.staged ≡ Some record { count = count; len = len } → IsStagedFrom tail place new front (take n (waiting log))
+  staged_from new count n len bytes image n_is some longest fits honest stands bytes_are written at head forced records frames len_is staged =
+      let rs = waiting log in
+      let group = take count rs in
+      let number = log.forced + 1 in
+      let are : AreNumbered number rs = subst (λ k. AreNumbered k rs) (omega arith) (AreNumbered-drop 1 log.forced log.records.items log.forced_inside (AreNumbered-test 1 log.records.items log.numbered)) in
+      let is_group : IsGroup number group = IsGroup-longest number rs count some are longest in
+      let count_is : length group ≡ count = length-take-le count rs longest.within in
+      let same : stable new ≡ stable log = cc (records, forced) in
+      let wait : waiting new ≡ rs = cc (records, forced) in
+      let exact = behind_gate number (texts group) ++ 0 ∷ [] in
+      let size : length exact ≡ 13 + length (texts group) = omega (arith, length-append (behind_gate number (texts group)) (0 ∷ []), length-behind_gate number (texts group)) in
+      let w : IsRingWritten (place + (length (text tail s.groups) + 1)) exact s.image image =
+      subst (λ p. IsRingWritten p exact s.image image) behind_head (subst (λ b. IsRingWritten (log.head + 1) b s.image image) bytes_are written) in
+      let view = behind_gate_written s.image tail place stream_some s.groups image exact w (omega (arith, size, s.holds.head, s.holds.place_is, stream_long, fits)) s.ring in
+      let left = drop (length exact) s.ring.rest in
+      let h = s.holds in
+      let made : IsStagedFrom tail place new front group = record {
+        image = image;
+        stands = stands;
+        is_front = written.front ∙ s.is_front;
+        groups = s.groups;
+        holds = record {
+          honest = honest;
+          some = h.some;
+          first = ap (λ (f : FrameAt). f.first) at ∙ h.first;
+          place_is = ap (λ (f : FrameAt). f.place) at ∙ h.place_is;
+          forced = ap (λ (l : List LogRecord). drop (tail - 1) l) same ∙ h.forced;
+          number = ap (λ k. k + 1) forced ∙ h.number;
+          head = head ∙ h.head;
+          index = frames ∙ h.index;
+        };
+        gate = s.ring.gate;
+        rest = left;
+        shut = s.ring.shut;
+        are = AreGroups-push tail s.groups group s.ring.are (subst (λ k. IsGroup k group) h.number is_group);
+        seen =
+            view ∙ ap (λ (l : List ℕ). text tail s.groups ++ s.ring.gate ∷ l) (append_assoc (behind_gate number (texts group)) (0 ∷ []) left)
+            ∙ ap (λ (k : ℕ). text tail s.groups ++ s.ring.gate ∷ (behind_gate k (texts group) ++ 0 ∷ left)) h.number;
+        first = ap (λ (l : List LogRecord). take (length group) l) wait ∙ ap (λ (k : ℕ). take k rs) count_is;
+        waits = cc (staged, count_is, len_is);
+      } in
+      subst (λ k. IsStagedFrom tail place new front (take k rs)) (sym n_is) made
+
+-- ---- its gate is opened
+
+module _ {D : Type 0} {G : Ghosts D} (tail place : ℕ) (log : LogDev D G) (front : List ℕ) (group : List LogRecord) (s : IsStagedFrom tail place log front group) (long : length s.image ≡ 4096 + log.stream_bytes) where
+  staged_long : length (stream_of s.image) ≡ log.stream_bytes
+  staged_long = omega (arith, length-drop 4096 s.image, long)
+
+  staged_some : 0 < length (stream_of s.image)
+  staged_some = omega (arith, staged_long, log.some)
+
+  gate_fits : length (text tail s.groups) + 1 ≤ length (stream_of s.image)
+  gate_fits = omega (arith, staged_long, log.head_inside, s.holds.head, s.holds.place_is)
+
+  pub open_gives : (c : List ℕ) → TornRing log.head 1 s.image c → GivesWithOrWithoutFrom front tail place (forced_from tail log) group c
+  open_gives c torn =
+      subst (λ rs. GivesWithOrWithoutFrom front tail place rs group c) (sym s.holds.forced)
+      (open_torn front s.image s.is_front tail place staged_some s.groups group s.are s.gate s.rest s.seen gate_fits c (subst (λ p. TornRing p 1 s.image c) s.holds.head torn))
+
+  -- the records of the frame are forced then
+  pub more_stable : take (log.forced + length group) log.records.items ≡ stable log ++ group
+  more_stable = take-more_group log.records.items log.forced group log.forced_inside s.first
+
+  pub opened_from : (new : LogDev D G) (image : List ℕ) → IsTrue (G.is_honest new.device) → Stands (G.history new.device) image → IsRingWritten log.head (OPEN ∷ []) s.image image
+      → new.tail ≡ log.tail → new.head ≡ log.head + 13 + length (texts group) → new.forced ≡ log.forced + length group → new.records ≡ log.records
+      → new.frames.items ≡ log.frames.items ++ (record { first = log.forced + 1; place = log.head }) ∷ [] → IsSettledFrom tail place new front × (stable new ≡ stable log ++ group)
+  opened_from new image honest stands written at head forced records frames =
+      let h = s.holds in
+      let gs = s.groups ++ group ∷ [] in
+      let w : IsRingWritten (place + length (text tail s.groups)) (OPEN ∷ []) s.image image = subst (λ p. IsRingWritten p (OPEN ∷ []) s.image image) h.head written in
+      let size = length-text-push tail s.groups group in
+      let count : number_behind tail gs ≡ log.forced + length group + 1 =
+      omega (arith, number_behind-joined tail gs, ap length (joined-push s.groups group), length-append (joined s.groups) group, number_behind-joined tail s.groups, h.number) in
+      let longer : stable new ≡ stable log ++ group = ap (λ (n : ℕ). take n new.records.items) forced ∙ ap (λ v. take (log.forced + length group) v.items) records ∙ more_stable in (
+        record {
+          image = image;
+          stands = stands;
+          is_front = written.front ∙ s.is_front;
+          groups = gs;
+          holds = record {
+            honest = honest;
+            some = h.some;
+            first = ap (λ (f : FrameAt). f.first) at ∙ h.first;
+            place_is = ap (λ (f : FrameAt). f.place) at ∙ h.place_is;
+            forced =
+                ap (λ (l : List LogRecord). drop (tail - 1) l) longer ∙ drop-append-le (tail - 1) (stable log) group (tail_within tail place log s.groups h)
+                ∙ ap (λ (l : List LogRecord). l ++ group) h.forced ∙ sym (joined-push s.groups group);
+            number = ap (λ (k : ℕ). k + 1) forced ∙ sym count;
+            head = let e : log.head + 13 + length (texts group) ≡ place + length (text tail gs) = omega (arith, size, h.head) in head ∙ e;
+            index =
+                frames ∙ ap (λ l. l ++ (record { first = log.forced + 1; place = log.head }) ∷ []) h.index
+                ∙ ap (λ (k : ℕ). index_of tail place s.groups ++ (record { first = k; place = log.head }) ∷ []) h.number
+                ∙ ap (λ (p : ℕ). index_of tail place s.groups ++ (record { first = number_behind tail s.groups; place = p }) ∷ []) h.head
+                ∙ sym (index-push tail place s.groups group);
+          };
+          ring = ring_opened s.image tail place staged_some s.groups group s.are s.gate s.rest s.seen gate_fits image w;
+        },
+        longer,
+      )

@@ -1,1 +1,2 @@
 pub mod ForceLemmas
+pub mod CutLemmas

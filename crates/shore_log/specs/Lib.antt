@@ -1,2 +1,3 @@
+pub mod Indexes
 pub mod PlainTails
 pub mod Settled

@@ -6,6 +6,6 @@ mod device;
 mod group;
 mod tail;
 
-pub use device::{Durable, LogDev, STREAM};
+pub use device::{Durable, LogDev};
 pub use shore_logrec::{LogRecord, Payload};
 pub use tail::{PlainTail, Tail};

@@ -47,6 +47,10 @@ log_failed f a b c v w same cause still = record {
   unreported = λ other. (cause.unreported (λ failed. other (ap Err (same_fault _ f fault.Device refl failed))) ∙ same, still);
 }
 
+-- another fault, and the device was not called
+pub no_device : (f : Fault) (n : ℕ) → f ≢ fault.Device → HasCause {T = Unit {0}} (Err f) n n
+no_device f n isnt = record { no_lower = omega arith; reported = λ failed. absurd (isnt (same_fault _ f fault.Device refl failed)); unreported = λ other. refl }
+
 -- .. and one of the volume
 pub volume_failed : {T U : Type 0} (f : Fault) (a b v w u : ℕ) → b ≡ a → w ≡ v → HasCause {T = U} (Err f) w u → HasCauseOfPair {T = T} (Err f) a b v u
 volume_failed f a b v w u still same cause = record {

@@ -4,7 +4,6 @@ use Rattle.shore_types.specs.declared.faults.Device.TheVariants as device
 use Rattle.shore_types.specs.declared.faults.Fault.{Fault}
 use Rattle.shore_types.specs.declared.faults.Fault.TheVariants as fault
 use Rattle.shore_types.specs.declared.layout.Geometry.{Geometry}
-use Rattle.shore_types.specs.declared.layout.TheConstants.{LOG_FRONT_BYTES}
 use Rattle.shore_gate.specs.Checks.{IsFromOutside}
 use Rattle.shore_disk.specs.Device.{DeviceHistory, seen}
 use Rattle.shore_disk.specs.declared.device.Disk.{Ghosts}
@@ -65,15 +64,15 @@ pub names_of : (g : Geometry) (rs : List LogRecord) (stream_bytes anchor : ℕ) 
     → ((h : Fault) → e ≡ error.Log h → h ≡ fault.Device) → ((n : ℕ) → e ≡ error.BadRecord n → IsNamedFor g rs volume n)
     → ((e ≡ error.NoRoom) ⊎ ((h : Fault) × (e ≡ error.Page h)) → IsTaken g rs)
     → (e ≡ error.Memory → f ≡ fault.Memory) → (e ≡ error.NoRoom → f ≡ fault.Damaged device.Log anchor)
-    → ((n : ℕ) → e ≡ error.BadRecord n → (f ≡ fault.Device) ⊎ ((offset : ℕ) × (f ≡ fault.Damaged device.Log offset) × (0 < n → n ≤ length rs → IsFrameOf LOG_FRONT_BYTES (seen left) n offset)))
+    → ((n : ℕ) → e ≡ error.BadRecord n → (offset : ℕ) × (f ≡ fault.Damaged device.Log offset) × (0 < n → n ≤ length rs → IsFrameOf 1 0 (seen left) n offset))
     → ((h : Fault) → e ≡ error.Page h → f ≡ h) → ((h : Fault) → e ≡ error.Log h → f ≡ h)
     → NamesRecord g rs volume left f ⊎ NamesAnchor g rs stream_bytes anchor f ⊎ NamesPage g rs volume f
 names_of g rs stream_bytes anchor volume left pages shows error.Memory f isnt lacks within page force named meant memory room record_of on_page on_log = absurd (isnt (inr (memory refl)))
 names_of g rs stream_bytes anchor volume left pages shows error.NoRoom f isnt lacks within page force named meant memory room record_of on_page on_log = inr (inl (room refl, meant (inl refl), lacks refl))
-names_of g rs stream_bytes anchor volume left pages shows (error.BadRecord n) f isnt lacks within page force named meant memory room record_of on_page on_log = elim (record_of n refl) [
-  | inl device ↦ absurd (isnt (inl device))
-  | inr (offset, is, frame) ↦ let w = within n refl in inl (n, offset, w.0, w.1, is, frame w.0 w.1, named n refl)
-]
+names_of g rs stream_bytes anchor volume left pages shows (error.BadRecord n) f isnt lacks within page force named meant memory room record_of on_page on_log =
+    let r = record_of n refl in
+    let w = within n refl in
+    inl (n, r.0, w.0, w.1, r.1, r.2 w.0 w.1, named n refl)
 names_of g rs stream_bytes anchor volume left pages shows (error.Page h) f isnt lacks within page force named meant memory room record_of on_page on_log = elim (page h refl) [
   | inl device ↦ absurd (isnt (inl (on_page h refl ∙ device)))
   | inr (id, there, is, none) ↦ inr (inr (meant (inr (h, refl)), pages, shows, (id, there, on_page h refl ∙ is, none)))

@@ -67,8 +67,8 @@ module _ {L : Type 0} {G : Ghosts L} where
 
   -- one whose frames are kept
   pub ready_frames : (old new : LogDev L G) → KeepsFrames old new → (front : List ℕ) → IsReadyLog old front → IsReadyLog new front
-  ready_frames old new same front (inl s) = inl (same.settled front s.0, same.under_way ∙ s.1)
-  ready_frames old new same front (inr s) = inr (s.0, same.staged front s.0 s.1)
+  ready_frames old new same front (inl s) = inl (same.settled 1 0 front s.0, same.under_way ∙ s.1)
+  ready_frames old new same front (inr s) = inr (s.0, same.staged 1 0 front s.0 s.1)
 
   pub none_staged : (log : LogDev L G) (is : Bool) → (IsTrue is ↔ IsSome log.staged) → is ≡ false → log.staged ≡ None
   none_staged log is tells isnt = none_where log.staged (λ some. let clash : true ≡ false = sym (tells.1 some) ∙ isnt in absurd cc)

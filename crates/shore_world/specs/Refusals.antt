@@ -44,7 +44,7 @@ IsNamedFor g rs volume n = IsRefusedBy g rs n
 
 -- by such a record of the log: its frame is at the offset, on the log device as it is handed back
 abbrev pub NamesRecord : Geometry → List LogRecord → DeviceHistory → DeviceHistory → Fault → Type 0
-NamesRecord g rs volume left fault = (n : ℕ) × (offset : ℕ) × (0 < n) × (n ≤ length rs) × (fault ≡ Damaged Log offset) × IsFrameOf LOG_FRONT_BYTES (seen left) n offset
+NamesRecord g rs volume left fault = (n : ℕ) × (offset : ℕ) × (0 < n) × (n ≤ length rs) × (fault ≡ Damaged Log offset) × IsFrameOf 1 0 (seen left) n offset
     × IsNamedFor g rs volume n
 
 -- by the anchor that counts: a restart may work on the log, which lacks room for itself and what those in doubt have reserved, or for the records of undo besides
@@ -70,6 +70,6 @@ pub record RefusesRestart (g : Geometry) (anchor : ℕ) (log volume left : Devic
 abbrev pub RefusesOpen : DeviceHistory → DeviceHistory → DeviceHistory → Fault → Type 0
 RefusesOpen log volume left fault =
     RefusesFronts log volume fault
-    ⊎ ((g : Geometry) × (have : HaveFronts g log volume) × (((offset : ℕ) × (fault ≡ Damaged Log offset) × IsBadAt LOG_FRONT_BYTES (seen log) offset)
+    ⊎ ((g : Geometry) × (have : HaveFronts g log volume) × (((offset : ℕ) × (fault ≡ Damaged Log offset) × IsBadAt 1 0 (seen log) offset)
     ⊎ ((part GATE_AT 1 (seen volume) ≡ OPEN ∷ []) × RefusesArea g (seen volume) fault)
     ⊎ RefusesRestart g (offset_of have.0.slot) log volume left fault))

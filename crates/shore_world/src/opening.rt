@@ -4,7 +4,7 @@ ghost use Rattle.shore_types.specs.Images.{Image};
 ghost use Rattle.shore_types.specs.Layout.{HasPage, IsInLimits};
 ghost use Rattle.shore_types.specs.declared.faults.Device.TheVariants as Device;
 ghost use Rattle.shore_types.specs.declared.ids.PageId.{PageId};
-ghost use Rattle.shore_types.specs.declared.layout.TheConstants.{LOG_FRONT_BYTES, MAX_PAGES, MIN_POOL_FRAMES};
+ghost use Rattle.shore_types.specs.declared.layout.TheConstants.{MAX_PAGES, MIN_POOL_FRAMES};
 ghost use Rattle.shore_disk.specs.Cause.{HasCause};
 ghost use Rattle.shore_disk.specs.Device.{LeavesOnly, size, seen, Stands};
 ghost use Rattle.shore_gate.specs.Checks.{IsFromOutside};
@@ -77,26 +77,19 @@ pub fn open_volume<D: Disk>(
 }
 
 /// What an open is refused with, by the place that the error of its restart speaks of.
-pub fn fault_of<D: Disk>(error: RestartError, anchor_offset: u64, log: &mut LogDev<D>) -> Fault
+pub fn fault_of<D: Disk>(error: RestartError, anchor_offset: u64, log: &LogDev<D>) -> Fault
     ensures memory { error ≡ RestartError.Memory → result ≡ Fault.Memory }
     ensures room { error ≡ RestartError.NoRoom → result ≡ Fault.Damaged Device.Log anchor_offset }
-    ensures record_of { (n : ℕ) → error ≡ RestartError.BadRecord n → (result ≡ Fault.Device) ⊎ ((offset : ℕ) × (result ≡ Fault.Damaged Device.Log offset)
-        × ((front : List ℕ) → logs.IsSettled log.old front → 1 ≤ n → n ≤ length (stable log.old) → IsFrameOf LOG_FRONT_BYTES (seen (D.history log.old.device)) n offset)) }
-    ensures page { (fault : Fault) → error ≡ RestartError.Page fault → (result ≡ fault) × (log.new ≡ log.old) }
-    ensures force { (fault : Fault) → error ≡ RestartError.Log fault → (result ≡ fault) × (log.new ≡ log.old) }
-    ensures still { IsTrue (D.is_honest log.old.device) → D.history log.new.device ≡ D.history log.old.device }
-    ensures honest { D.is_honest log.new.device ≡ D.is_honest log.old.device }
-    ensures size { size (D.history log.new.device) ≡ size (D.history log.old.device) }
-    ensures cause { ((fault : Fault) → error ≢ RestartError.Page fault) → ((fault : Fault) → error ≢ RestartError.Log fault)
-        → HasCause {T = Unit {0}} (Err result) (D.faults log.old.device) (D.faults log.new.device) }
+    ensures record_of { (n : ℕ) → error ≡ RestartError.BadRecord n → (offset : ℕ) × (result ≡ Fault.Damaged Device.Log offset)
+        × ((front : List ℕ) → logs.IsSettled log.now front → 1 ≤ n → n ≤ length (stable log.now) → IsFrameOf 1 0 (seen (D.history log.now.device)) n offset) }
+    ensures page { (fault : Fault) → error ≡ RestartError.Page fault → result ≡ fault }
+    ensures force { (fault : Fault) → error ≡ RestartError.Log fault → result ≡ fault }
+    ensures others { ((fault : Fault) → error ≢ RestartError.Page fault) → ((fault : Fault) → error ≢ RestartError.Log fault) → result ≢ Fault.Device }
 {
     match error {
         RestartError::Page(fault) | RestartError::Log(fault) => fault,
         RestartError::Memory => Fault::Memory,
         RestartError::NoRoom => Fault::damaged(Device::Log, anchor_offset),
-        RestartError::BadRecord(number) => match log.frame_of(number) {
-            Ok(offset) => Fault::damaged(Device::Log, offset),
-            Err(fault) => fault,
-        },
+        RestartError::BadRecord(number) => Fault::damaged(Device::Log, log.frame_of(number)),
     }
 }

@@ -134,7 +134,7 @@ impl<L: Disk, V: Disk> World<L, V> {
         match restart(alloc, &mut log, heap) {
             Ok((core, report)) => Ok(World { core, log, report }),
             Err((error, heap)) => {
-                let fault = fault_of(error, anchor_offset, &mut log);
+                let fault = fault_of(error, anchor_offset, &log);
                 let volume = heap.into_device().into_device();
                 Err((fault, log.into_device(), volume))
             }

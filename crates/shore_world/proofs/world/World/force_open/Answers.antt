@@ -40,7 +40,7 @@ returns-in-Err-clause-moves g c =
     let device = c.in-Err.ensures.only_device in
     let list = c.refuse.ensures.list ∙ ap (λ (l : List LogRecord). l ++ waiting_of old.core) c.open_staged.ensures.same in
     let log = opening_gate old new running (some_stands old.log.staged c.in-Err.ensures.waited) list
-    (λ front group s. subst (λ (l : LogDev g.row.L.Denot g.L.Disk). LeavesOnly (g.L.Disk.history old.log.device) (g.L.Disk.history l.device) (GivesWithOrWithout front (stable old.log) group)) (sym c.refuse.ensures.log) (c.open_staged.ensures.any_moment front group s))
+    (λ front group s. subst (λ (l : LogDev g.row.L.Denot g.L.Disk). LeavesOnly (g.L.Disk.history old.log.device) (g.L.Disk.history l.device) (GivesWithOrWithout front (stable old.log) group)) (sym c.refuse.ensures.log) (c.open_staged.ensures.any_moment 1 0 front group s))
     (λ front group s. inl (c.refuse.ensures.durable, failed_runs _ (c.refuse.ensures.failed device))) in
     rw c.refuse.ensures.refused (
     force_moves old new ForceOpen _ open_is_no_flush (ap heaps.geometry_of c.refuse.ensures.heap) (ap heaps.history_of c.refuse.ensures.heap) log
@@ -63,7 +63,7 @@ returns-clause-moves g c =
     let same = c.open_staged.ensures.same in
     force_moves old _ ForceOpen _ open_is_no_flush (ap heaps.geometry_of c.told.ensures.heap) (ap heaps.history_of c.told.ensures.heap)
     (opening_gate old _ running (some_stands old.log.staged (c.in-Ok.ensures.opened.0 (rw c.in-Some.is refl))) (same_list _ _ old.core c.told.new.self same c.told.ensures.tail)
-    c.open_staged.ensures.any_moment (λ front group s. inr ((c.in-Ok.ensures.settled front group s).0, c.in-Ok.ensures.none_staged)))
+    (c.open_staged.ensures.any_moment 1 0) (λ front group s. inr ((c.in-Ok.ensures.settled 1 0 front group s).0, c.in-Ok.ensures.none_staged)))
     (λ front disk s store is over safe.
     let told = c.told.ensures.told front disk (records_of_log old.log) s store is safe over in
     let parts = is.beside.parts in

@@ -76,8 +76,8 @@ returns-in-Ok-Some-clause-moves g c =
     let forced : durable_in old ≡ mid.forced = old.durable_agrees ∙ sym (ap length still.2) ∙ length-stable mid in
     let all : length (mid.records.items) ≤ length (list_in old) = omega (arith, ap length h.list, length-append mid.records.items (waiting_of c.hand_over.new.self)) in
     force_moves old _ ForceStage _ stage_is_no_flush (ap heaps.geometry_of h.heap) (ap heaps.history_of h.heap)
-    (staging old _ mid running none still.0 still.1 still.2 (ap (λ (l : List LogRecord). l ++ waiting_of c.hand_over.new.self) same ∙ h.list) h.durable h.settled c.stage.ensures.any_moment
-    (λ front s run. inr (take (c.in-Ok-Some.number - mid.forced) (waiting mid), rw c.in-Ok-Some.field-0-is at (c.in-Ok-Some.ensures.staged front s (still.1 ∙ none)))))
+    (staging old _ mid running none still.0 still.1 still.2 (ap (λ (l : List LogRecord). l ++ waiting_of c.hand_over.new.self) same ∙ h.list) h.durable h.settled (c.stage.ensures.any_moment 1 0)
+    (λ front s run. inr (take (c.in-Ok-Some.number - mid.forced) (waiting mid), rw c.in-Ok-Some.field-0-is at (c.in-Ok-Some.ensures.staged 1 0 front s (still.1 ∙ none)))))
     (λ front disk s store is over safe.
     let parts = is.beside.parts in
     record {
@@ -111,7 +111,7 @@ returns-in-Err-stage-clause-moves g c =
       | inl device ↦
           force_moves old new ForceStage _ stage_is_no_flush geometry volume
           (staging old new mid running none still.0 still.1 still.2 list durable h.settled
-          (λ front s waits. subst (λ (l : LogDev g.row.L.Denot g.L.Disk). LeavesOnly (g.L.Disk.history mid.device) (g.L.Disk.history l.device) (GivesBehind front (stable mid))) (sym r.log) (c.stage.ensures.any_moment front s waits))
+          (λ front s waits. subst (λ (l : LogDev g.row.L.Denot g.L.Disk). LeavesOnly (g.L.Disk.history mid.device) (g.L.Disk.history l.device) (GivesBehind front (stable mid))) (sym r.log) (c.stage.ensures.any_moment 1 0 front s waits))
           (λ front s run. absurd (failed_runs _ (r.failed device) run)))
           (λ front disk s store is over safe.
           let failed = r.state device front disk s store (subst (λ (l : List LogRecord). IsIn front disk l c.hand_over.new.self s) (sym same) (h.state front disk s is))
@@ -125,12 +125,12 @@ returns-in-Err-stage-clause-moves g c =
       | inr other ↦
           let isnt = other_is_no_device _ other in
           let whole = r.other isnt in
-          let unchanged = r.log ∙ not_left c.in-Err-stage.ensures.refused isnt in
+          let kept = not_left c.in-Err-stage.ensures.refused isnt in
           force_moves old new ForceStage _ stage_is_no_flush geometry volume
-          (handed old new (ap (λ (l : LogDev g.row.L.Denot g.L.Disk). l.device) unchanged ∙ still.0)
+          (handed old new (ap (λ (l : LogDev g.row.L.Denot g.L.Disk). l.device) r.log ∙ kept.1 ∙ still.0)
           list durable (λ run. sym h.running ∙ sym (ap (λ (w : World g.row.L.Denot g.row.V.Denot g.L.Disk g.V.Disk). failed_in w) whole) ∙ run) none
-          (ap (λ (l : LogDev g.row.L.Denot g.L.Disk). l.staged) unchanged ∙ still.1)
-          (λ front s. subst (λ (l : LogDev g.row.L.Denot g.L.Disk). IsSettled l front) (sym unchanged) (h.settled front s)))
+          (ap (λ (l : LogDev g.row.L.Denot g.L.Disk). l.staged) r.log ∙ kept.0.under_way ∙ still.1)
+          (λ front s. subst (λ (l : LogDev g.row.L.Denot g.L.Disk). IsSettled l front) (sym r.log) (kept.0.settled 1 0 front (h.settled front s))))
           (λ front disk s store is over safe. record {
             later = s;
             moves = inr (inr (is.beside.parts.failed_is ∙ running, other, refl));
@@ -172,7 +172,7 @@ returns-in-Ok-Some-clause-staged g c n is =
     let list : mid.records.items ≡ list_in old =
     sym (append-nil mid.records.items) ∙ sym (ap (λ (l : List LogRecord). mid.records.items ++ l) emptied) ∙ c.hand_over.ensures.list in
     has_staged old _ mid n number none same forced list longest.1 (is_some_and _ _ _ frame refl)
-    (λ front k. rw c.in-Ok-Some.field-0-is at (c.in-Ok-Some.ensures.staged front (c.hand_over.ensures.settled front (ready_settled old front none (k.ready running))) waits))
+    (λ front k. rw c.in-Ok-Some.field-0-is at (c.in-Ok-Some.ensures.staged 1 0 front (c.hand_over.ensures.settled front (ready_settled old front none (k.ready running))) waits))
 
 pub returns-then-is_staged-clause-quiet : goal.returns-then-is_staged-clause-quiet
 returns-then-is_staged-clause-quiet g c nothing = unchanged_itself c.args.self.now

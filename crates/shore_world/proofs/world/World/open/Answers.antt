@@ -9,7 +9,6 @@ use Rattle.shore_fronts.specs.Causes.{HasCauseOfPair}
 use Rattle.shore_heap.specs.Heaps as heaps
 use Rattle.shore_frames.specs.Frames.{Gives}
 use Rattle.shore_log.specs.Settled.{device_of, fault_of, records_of_log}
-use Rattle.shore_log.specs.declared.device.LogDev.{LogDev}
 use Rattle.shore_model.specs.declared.log_records.LogRecord.{LogRecord}
 use Rattle.shore_restart.specs.Opened.{OpensIn}
 use Rattle.shore_restart.specs.Standing.{stream_bytes_of}
@@ -33,7 +32,7 @@ use Rattle.shore_restart.specs.Held.{IsPageFault}
 use Rattle.shore_restart.specs.Turns.{IsUndoneSoFar, LacksRoom}
 use Rattle.shore_world.proofs.RestartNames.{names_of, settled_left}
 use Rattle.shore_world.proofs.AreaLemmas.{shown_not_refused}
-use Rattle.shore_world.proofs.OpenLemmas.{outside_or_not, pair_still_after, still_after, told_of}
+use Rattle.shore_world.proofs.OpenLemmas.{no_device, outside_or_not, pair_still_after, still_after, told_of}
 use Rattle.shore_world.proofs.OpenPaths.{found, have_fronts, log_read, replay_at, restart_outside, shown, shown_at, stopped, texts, texts_at, volume_read, volume_replayed, way_of, way_on}
 use Rattle.shore_world.proofs.OpenedLemmas.{opened_along}
 use Rattle.shore_world.proofs.RestartRefusals.{bad_misfit, bad_misfit_on}
@@ -64,7 +63,7 @@ returns-in-Err-open-clause-refused g c honest of_volume =
         inl (
           bad.0,
           bad.1,
-          subst (λ (i : List ℕ). IsBadAt 4096 i bad.0) same (c.in-Err-open.ensures.damaged later (omega (arith, c.in-Ok.ensures.long.0.0, c.read_fronts.ensures.size.0)) (omega (arith, c.in-Ok.ensures.long.0.1, c.read_fronts.ensures.size.0)) bad.0 bad.1),
+          subst (λ (i : List ℕ). IsBadAt 1 0 i bad.0) same (c.in-Err-open.ensures.damaged later (omega (arith, c.in-Ok.ensures.long.0.0, c.read_fronts.ensures.size.0)) (omega (arith, c.in-Ok.ensures.long.0.1, c.read_fronts.ensures.size.0)) bad.0 bad.1),
         ),
       ))
     ]
@@ -291,13 +290,12 @@ returns-in-Err-restart-clause-along g c of_log of_volume geometry rs pages stood
     let went = c.in-Err-restart.ensures.restarts (take 4096 log_image) (take 4096 volume_image) (texts geometry (size log) (size volume) rs pages log_image volume_image stood) (found_state rs pages) is in
     let end : Moment = record { log = g.L.Disk.history c.restart.new.log.device; volume = heaps.history_of c.in-Err-restart.heap; store = went.ready } in
     let on = subst (λ (x : Geometry). Path x (take 4096 log_image) (take 4096 volume_image) (record { log = g.L.Disk.history dev.device; volume = heaps.history_of heap; store = found_state rs pages }) went.moments end) heap_at went.path in
-    let honest_now = subst IsTrue (sym (c.in-Err-restart.ensures.log.honest ∙ c.in-Ok-open.ensures.honest)) log_later in
     let moments = record { log = g.L.Disk.history dev.device; volume = volume_behind; store = found_state rs pages }
     ∷ record { log = g.L.Disk.history dev.device; volume = heaps.history_of heap; store = found_state rs pages } ∷ went.moments in
     let path = way_on geometry (size log) (size volume) rs pages log_image volume_image stood log_behind volume_behind log_held held (g.L.Disk.history dev.device) (heaps.history_of heap) of_dev of_heap went.moments end on in
     inr (
       way_of geometry log volume rs pages log_behind volume_behind (log_barred, volume_barred) moments end path,
-      sym (ap g.L.Disk.history c.into_device-in-Err-restart-2.ensures ∙ c.fault_of-fault.ensures.still honest_now),
+      sym (ap g.L.Disk.history c.into_device-in-Err-restart-2.ensures),
       sym (ap g.V.Disk.history (c.into_device-volume.ensures ∙ ap pages_of.device_of c.into_device-in-Err-restart.ensures)),
     )
 
@@ -340,7 +338,7 @@ returns-in-Err-restart-clause-refused g c of_log of_volume = elim (outside_or_no
               (e.bad (take 4096 log_image) (take 4096 volume_image) (texts geometry (size log) (size volume) rs pages log_image volume_image stood) (found_state rs pages) is) e.no_room
               (e.device (take 4096 log_image) (take 4096 volume_image) (texts geometry (size log) (size volume) rs pages log_image volume_image stood) (found_state rs pages) is)
               (e.log_device (take 4096 log_image) (is.at_rest.settled, is.at_rest.none_staged)).named
-              f.memory (λ h at. (f.page h at).0) (λ h at. (f.force h at).0));
+              f.memory f.page f.force);
           names =
               let later = subst IsTrue (sym c.read_fronts.ensures.honest.1) of_volume in
               let at : c.in-Ok.fronts.of_pages ≡ geometry = c.in-Ok.ensures.limits.1 in
@@ -389,16 +387,13 @@ returns-in-Err-restart-clause-refused g c of_log of_volume = elim (outside_or_no
                 ]
               ])
               f.memory (λ is. f.room is ∙ ap (λ (n : ℕ). Damaged DeviceLog n) front.1)
-              (λ n is. elim (f.record_of n is) [
-                | inl device ↦ inl device
-                | inr (offset, told, frame) ↦ inr (
-                  offset,
-                  told,
-                  λ some most.
-                      let left = settled_left (take 4096 log_image) dev c.restart.new.log c.in-Err-restart.error n is quiet none.1 in
-                      subst (λ (h : DeviceHistory). IsFrameOf 4096 (seen h) n offset) (sym (ap g.L.Disk.history c.into_device-in-Err-restart-2.ensures ∙ f.still left.0.honest)) (frame (take 4096 log_image) left.0 some (left.1 most)),
-                )
-              ]) (λ h is. (f.page h is).0) (λ h is. (f.force h is).0);
+              (λ n is. let told = f.record_of n is in (
+                told.0,
+                told.1,
+                λ some most.
+                    let left = settled_left (take 4096 log_image) dev c.restart.new.log c.in-Err-restart.error n is quiet none.1 in
+                    subst (λ (h : DeviceHistory). IsFrameOf 1 0 (seen h) n told.0) (sym (ap g.L.Disk.history c.into_device-in-Err-restart-2.ensures)) (told.2 (take 4096 log_image) left.0 some (left.1 most)),
+              )) f.page f.force;
         })),
       ))
 ]
@@ -435,7 +430,7 @@ returns-in-Err-restart-clause-stands g c of_log of_volume geometry rs pages stoo
     (e.bad (take 4096 log_image) (take 4096 volume_image) (texts geometry (size log) (size volume) rs pages log_image volume_image stood) (found_state rs pages) is) e.no_room
     (e.device (take 4096 log_image) (take 4096 volume_image) (texts geometry (size log) (size volume) rs pages log_image volume_image stood) (found_state rs pages) is)
     (e.log_device (take 4096 log_image) (is.at_rest.settled, is.at_rest.none_staged)).named
-    f.memory (λ h at. (f.page h at).0) (λ h at. (f.force h at).0)
+    f.memory f.page f.force
 
 pub returns-in-Err-restart-clause-cause : goal.returns-in-Err-restart-clause-cause
 returns-in-Err-restart-clause-cause g c =
@@ -446,17 +441,15 @@ returns-in-Err-restart-clause-cause g c =
     let heap_same : heaps.faults_of c.in-Ok-open_volume.heap ≡ g.V.Disk.faults c.args.volume =
     ap (λ r. g.V.Disk.faults (volumes.volume_of r)) (sym c.in-Ok-open_volume.is) ∙ still_after (volumes.fault_of_volume c.open_volume.result) c.in-Ok-open_volume.heap _ _ (ap volumes.fault_of_volume c.in-Ok-open_volume.is) c.open_volume.ensures.cause ∙ both.1 in
     let volume_now : g.V.Disk.faults c.into_device-volume.result ≡ heaps.faults_of c.in-Err-restart.heap = ap g.V.Disk.faults (c.into_device-volume.ensures ∙ ap pages_of.device_of c.into_device-in-Err-restart.ensures) in
-    let log_now : g.L.Disk.faults c.into_device-in-Err-restart-2.result ≡ g.L.Disk.faults f.new.log.device = ap g.L.Disk.faults c.into_device-in-Err-restart-2.ensures in
+    let log_now : g.L.Disk.faults c.into_device-in-Err-restart-2.result ≡ g.L.Disk.faults c.restart.new.log.device = ap g.L.Disk.faults c.into_device-in-Err-restart-2.ensures in
     let e = c.in-Err-restart.ensures in
-    let told = told_of (Unit {0}) (World g.row.L.Denot g.row.V.Denot g.L.Disk g.V.Disk) f.result (g.L.Disk.faults c.in-Ok-open.log.device) (g.L.Disk.faults c.restart.new.log.device) (g.L.Disk.faults f.new.log.device)
+    let told = told_of (Unit {0}) (World g.row.L.Denot g.row.V.Denot g.L.Disk g.V.Disk) f.result (g.L.Disk.faults c.in-Ok-open.log.device) (g.L.Disk.faults c.restart.new.log.device) (g.L.Disk.faults c.restart.new.log.device)
     (heaps.faults_of c.in-Ok-open_volume.heap) (heaps.faults_of c.in-Err-restart.heap) c.in-Err-restart.error e.volume_cause e.log_cause
-    (λ h at. let is = f.ensures.page h at in (is.0, ap (λ (l : LogDev g.row.L.Denot g.L.Disk). g.L.Disk.faults l.device) is.1))
-    (λ h at. let is = f.ensures.force h at in (is.0, ap (λ (l : LogDev g.row.L.Denot g.L.Disk). g.L.Disk.faults l.device) is.1))
-    f.ensures.cause in
+    (λ h at. (f.ensures.page h at, refl)) (λ h at. (f.ensures.force h at, refl)) (λ page log. no_device f.result (g.L.Disk.faults c.restart.new.log.device) (f.ensures.others page log)) in
     subst (λ n. HasCauseOfPair {T = World g.row.L.Denot g.row.V.Denot g.L.Disk g.V.Disk} (Err f.result) (g.L.Disk.faults c.args.log) n (g.V.Disk.faults c.args.volume) (g.V.Disk.faults c.into_device-volume.result)) (sym log_now)
-    (subst (λ n. HasCauseOfPair {T = World g.row.L.Denot g.row.V.Denot g.L.Disk g.V.Disk} (Err f.result) (g.L.Disk.faults c.args.log) (g.L.Disk.faults f.new.log.device) (g.V.Disk.faults c.args.volume) n) (sym volume_now)
-    (subst (λ n. HasCauseOfPair {T = World g.row.L.Denot g.row.V.Denot g.L.Disk g.V.Disk} (Err f.result) n (g.L.Disk.faults f.new.log.device) (g.V.Disk.faults c.args.volume) (heaps.faults_of c.in-Err-restart.heap)) log_same
-    (subst (λ n. HasCauseOfPair {T = World g.row.L.Denot g.row.V.Denot g.L.Disk g.V.Disk} (Err f.result) (g.L.Disk.faults c.in-Ok-open.log.device) (g.L.Disk.faults f.new.log.device) n (heaps.faults_of c.in-Err-restart.heap)) heap_same told)))
+    (subst (λ n. HasCauseOfPair {T = World g.row.L.Denot g.row.V.Denot g.L.Disk g.V.Disk} (Err f.result) (g.L.Disk.faults c.args.log) (g.L.Disk.faults c.restart.new.log.device) (g.V.Disk.faults c.args.volume) n) (sym volume_now)
+    (subst (λ n. HasCauseOfPair {T = World g.row.L.Denot g.row.V.Denot g.L.Disk g.V.Disk} (Err f.result) n (g.L.Disk.faults c.restart.new.log.device) (g.V.Disk.faults c.args.volume) (heaps.faults_of c.in-Err-restart.heap)) log_same
+    (subst (λ n. HasCauseOfPair {T = World g.row.L.Denot g.row.V.Denot g.L.Disk g.V.Disk} (Err f.result) (g.L.Disk.faults c.in-Ok-open.log.device) (g.L.Disk.faults c.restart.new.log.device) n (heaps.faults_of c.in-Err-restart.heap)) heap_same told)))
 
 pub returns-in-Err-clause-kept : goal.returns-in-Err-clause-kept
 returns-in-Err-clause-kept g c of_log of_volume none = (c.read_fronts.ensures.log_before of_log, c.read_fronts.ensures.volume_before of_volume)
