@@ -250,7 +250,7 @@ pub has_none : (t : Txn) → entries_of t ≡ [] → HasSome [] t t
 has_none t none = record {
   txn = refl;
   session = refl;
-  name = record { seated = refl; global = refl; decided = refl };
+  name = record { seated = refl; global = refl; prepare = refl; decided = refl };
   changes = ap (map as_change) none;
   claims = ap (map (λ (e : UndoEntry). e.claim)) none ∙ sym (ap (λ es. claims_before (images_of es)) none);
   marks = refl;
@@ -276,7 +276,7 @@ has_more cs c e old mid new is claim has after =
     record {
       txn = after.txn ∙ has.txn;
       session = after.session ∙ has.session;
-      name = record { seated = after.name.seated ∙ has.name.seated; global = after.name.global ∙ has.name.global; decided = after.name.decided ∙ has.name.decided };
+      name = record { seated = after.name.seated ∙ has.name.seated; global = after.name.global ∙ has.name.global; prepare = after.name.prepare ∙ has.name.prepare; decided = after.name.decided ∙ has.name.decided };
       changes = ap (map as_change) after.entries ∙ map-push as_change (entries_of mid) e ∙ (λ i. has.changes i ++ is i ∷ []);
       claims = ap (map (λ (x : UndoEntry). x.claim)) after.entries ∙ map-push (λ (x : UndoEntry). x.claim) (entries_of mid) e
           ∙ (λ i. has.claims i ++ (claim ∙ ap (λ xs. claim_before xs (image_of e)) (sym told)) i ∷ [])

@@ -39,9 +39,9 @@ head_becomes n Q t ts new none one = by one.newer one.was one.is
     by (x ∷ newer) was is =
         absurd (none one.before (subst (IsAmong one.before) (sym (ap tail_of was)) (among_right one.before newer (one.before ∷ one.older) (inl refl))) one.txn)
 
-pub given_back : (log : List LogRecord) (d : LoggedDoubt) (n : ℕ) (name : List ℕ) (lsn : ℕ) (t mid new : Txn) → d.txn ≡ n → IsFound n t → HasChangesBack log t mid → IsFoundPrepared name lsn mid new → name ≡ d.global
+pub given_back : (log : List LogRecord) (d : LoggedDoubt) (n first : ℕ) (name : List ℕ) (lsn : ℕ) (t mid new : Txn) → d.txn ≡ n → IsFound n first t → HasChangesBack log t mid → IsFoundPrepared name lsn mid new → name ≡ d.global
     → lsn ≡ prepare_number d.txn log → IsGivenBack log d new
-given_back log d n name lsn t mid new same found back prepared named number = record {
+given_back log d n first name lsn t mid new same found back prepared named number = record {
   txn = prepared.txn ∙ back.txn ∙ found.txn ∙ sym same;
   session = prepared.session ∙ back.session ∙ found.session;
   unseated = prepared.seated ∙ back.name.seated ∙ found.seated;

@@ -40,7 +40,7 @@ module _ {L : Type 0} {G : Ghosts L} (log_front : List ℕ) where
 
   -- records were taken into memory at most
   pub quiet_kept : (old new : LogDev L G) → KeepsFrames old new → IsQuiet log_front old → IsQuiet log_front new × (length (stable old) ≤ length (stable new))
-  quiet_kept old new kept quiet = ((kept.settled log_front quiet.0, kept.under_way ∙ quiet.1), let same = ap length kept.forced in omega (arith, same))
+  quiet_kept old new kept quiet = ((kept.settled 1 0 log_front quiet.0, kept.under_way ∙ quiet.1), let same = ap length kept.forced in omega (arith, same))
 
   -- if it was not refused
   pub quiet_of : {A : Type 0} (old new : LogDev L G) (x : A) → StaysQuiet (Ok x) log_front old new → IsQuiet log_front new × (length (stable old) ≤ length (stable new))

@@ -62,7 +62,7 @@ module _ {L : Type 0} {G : Ghosts L} where
   pub rest_taken : (log_front : List ℕ) (old new : LogDev L G) (s : RecoveryState) (r : LogRecord) → KeepsFrames old new → records_of_log new ≡ records_of_log old ++ r ∷ [] → IsAtRest log_front old s
       → IsAtRest log_front new (after_append s r)
   rest_taken log_front old new s r frames taken rest = record {
-    settled = frames.settled log_front rest.settled;
+    settled = frames.settled 1 0 log_front rest.settled;
     none_staged = frames.under_way ∙ rest.none_staged;
     records = ap (λ (rs : List LogRecord). rs ++ r ∷ []) rest.records ∙ sym taken;
     durable = rest.durable ∙ ap length (sym frames.forced);

@@ -11,7 +11,7 @@ use Rattle.shore_model.specs.declared.unanswered_changes.UnansweredChange.{Unans
 use Rattle.shore_model.specs.declared.log_records.LogRecord.{LogRecord}
 use Rattle.shore_model.specs.declared.log_records.Payload.TheVariants.{Change}
 use Rattle.shore_model.specs.Logs.{first_number, id_in, last_of, unanswered, undo_next_of}
-use Rattle.shore_logrec.specs.Text.{Fits, PayloadFits}
+use Rattle.shore_logrec.specs.Text.{Fits, HasOwner, PayloadFits}
 use Rattle.laws_lives.specs.Undo.{IsLoser, undo_payload, undo_record}
 use Rattle.laws_lives.specs.UndoChains.{IsUndoChain}
 use Rattle.laws_lives.proofs.Numbers.{last_own, newest_other}
@@ -56,12 +56,16 @@ module _ (log : List LogRecord) (t : ℕ) (fit : All Fits log) (short : length l
       let change : PayloadFits (Change c.id c.before k.after) = subst PayloadFits k.says (all_at Fits log (c.number - 1) k.found fit k.here).payload_fits in
       record { rid = change.rid; image = change.old; next = next_low cs chain.1 }
 
+  has_owner : (cs : List UnansweredChange) (previous : ℕ) → 1 ≤ t → HasOwner (undo_payload cs) t previous
+  has_owner [] previous some = some
+  has_owner (c ∷ cs) previous some = some
+
   pub undo_fits : IsLoser log t → Fits (undo_record log t)
   undo_fits loser =
       let one = last_is_one log t loser.known in
       let last = last_low log t in
       record {
-        some = loser.is_one;
+        owner = has_owner (unanswered t log) (last_of t log) loser.is_one;
         txn_fits = subst (λ u. u < 2 ^ 64) one.own (all_at Fits log one.at one.found fit one.here).txn_fits;
         previous_fits = omega (arith, last, short);
         payload_fits = payload_fits (unanswered t log) (unanswered_chain log t);

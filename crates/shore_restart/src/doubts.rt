@@ -202,7 +202,7 @@ fn restore_txn(
     if !txns.holds(ENDING_COST) {
         return Err(RestartError::NoRoom);
     }
-    let seat = txns.restore(alloc, entry.txn)?;
+    let seat = txns.restore(alloc, entry.txn, entry.first)?;
     restore_changes(alloc, txns, &seat, log, entry.undo_next)?;
     if !txns.holds(ENDING_COST) {
         return Err(RestartError::NoRoom);

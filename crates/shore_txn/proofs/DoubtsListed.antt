@@ -26,7 +26,7 @@ filter_map-reverse {X} {Y} h (x ∷ xs) =
     at None = append-nil (reverse (filter_map h xs))
     at (Some y) = sym (reverse-append (y ∷ []) (filter_map h xs))
 
-take_whole : {A : Type 0} (n : ℕ) (xs : List A) → length xs ≤ n → take n xs ≡ xs
+pub take_whole : {A : Type 0} (n : ℕ) (xs : List A) → length xs ≤ n → take n xs ≡ xs
 take_whole zero [] least = refl
 take_whole zero (x ∷ xs) least = absurd (omega arith)
 take_whole (suc n) [] least = refl

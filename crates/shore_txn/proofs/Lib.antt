@@ -13,3 +13,4 @@ pub mod ActiveKept
 pub mod ActiveOthers
 pub mod DoubtSteps
 pub mod Lending
+pub mod LogTables

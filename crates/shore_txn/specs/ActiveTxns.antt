@@ -11,7 +11,7 @@ use Rattle.shore_txn.specs.declared.txn_state.TxnState.TheVariants as state
 use Rattle.shore_txn.specs.declared.undo.UndoEntry.{UndoEntry}
 use Rattle.shore_txn.specs.Chains.{IsOfBucket}
 use Rattle.shore_txn.specs.Places.{HasLinkRoom, buckets_in}
-use Rattle.shore_txn.specs.Txns.{HasEntryRoom, IsOf, as_session_txn, decided_of, entries_of, global_of, last_of, marks_of, number_of, state_of}
+use Rattle.shore_txn.specs.Txns.{HasEntryRoom, IsOf, as_session_txn, decided_of, entries_of, first_of, global_of, last_of, marks_of, number_of, prepare_of, state_of}
 use Rattle.shore_txn.specs.UndoEntries.{image_of}
 
 -- the transactions of a list that has the oldest first: the newest first
@@ -47,22 +47,26 @@ pub record IsBegun (number who : ℕ) (t : Txn) : Type 0 where
   pub session : t.session ≡ who
   pub seated : t.is_seated ≡ true
   pub last : last_of t ≡ 0
+  pub first : first_of t ≡ 0
   pub entries : entries_of t ≡ []
   pub marks : marks_of t ≡ []
   pub state : state_of t ≡ state.Active
   pub global : global_of t ≡ None
+  pub prepare : prepare_of t ≡ 0
   pub decided : decided_of t ≡ 0
 
--- .. that an open has found: no session is in it
-pub record IsFound (number : ℕ) (t : Txn) : Type 0 where
+-- .. that an open has found, with the number of its first record: no session is in it
+pub record IsFound (number since : ℕ) (t : Txn) : Type 0 where
   pub txn : number_of t ≡ number
   pub session : t.session ≡ 0
   pub seated : t.is_seated ≡ false
   pub last : last_of t ≡ 0
+  pub first : first_of t ≡ since
   pub entries : entries_of t ≡ []
   pub marks : marks_of t ≡ []
   pub state : state_of t ≡ state.Active
   pub global : global_of t ≡ None
+  pub prepare : prepare_of t ≡ 0
   pub decided : decided_of t ≡ 0
 
 -- the transaction of this number is another one then, and all others are as they were

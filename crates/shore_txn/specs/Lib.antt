@@ -1,6 +1,8 @@
+pub mod Numbers
 pub mod UndoEntries
 pub mod TxnStates
 pub mod Txns
+pub mod LogEntries
 pub mod Chains
 pub mod Places
 pub mod ActiveTxns

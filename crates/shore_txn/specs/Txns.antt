@@ -13,6 +13,7 @@ use Rattle.shore_txn.specs.declared.txn.Txn.{Txn}
 use Rattle.shore_txn.specs.declared.txn_state.TxnState.{TxnState}
 use Rattle.shore_txn.specs.declared.txn_state.TxnState.TheVariants.{Active, Prepared, Preparing, RollingBack}
 use Rattle.shore_txn.specs.declared.undo.UndoEntry.{UndoEntry}
+use Rattle.shore_txn.specs.Numbers.{first_with}
 use Rattle.shore_txn.specs.TxnStates.{second_ending}
 use Rattle.shore_txn.specs.UndoEntries.{images_of}
 
@@ -47,6 +48,14 @@ number_of t = t.txn
 -- the number of its last record, 0 for none
 abbrev pub last_of : Txn → ℕ
 last_of t = t.last
+
+-- the number of its first record, 0 for none
+abbrev pub first_of : Txn → ℕ
+first_of t = t.first
+
+-- the number of its Prepare, 0 for none
+abbrev pub prepare_of : Txn → ℕ
+prepare_of t = t.prepare
 
 -- the name that its coordinator gave it, from its Prepare on
 abbrev pub global_of : Txn → Option (List ℕ)
@@ -86,10 +95,11 @@ HasEntryRoom t = vec_len t.undo < vec_capacity t.undo
 abbrev pub HasMarkRoom : Txn → Type 0
 HasMarkRoom t = HasRoomFor t.marks 1
 
--- whether its session is in it, its name and its Rollback decided are as they were
+-- whether its session is in it, its name, its Prepare and its Rollback decided are as they were
 pub record KeepsName (old new : Txn) : Type 0 where
   pub seated : new.is_seated ≡ old.is_seated
   pub global : global_of new ≡ global_of old
+  pub prepare : prepare_of new ≡ prepare_of old
   pub decided : decided_of new ≡ decided_of old
 
 -- a transaction with one change more
@@ -98,6 +108,7 @@ pub record IsAfterChange (old : Txn) (entry : UndoEntry) (new : Txn) : Type 0 wh
   pub session : new.session ≡ old.session
   pub name : KeepsName old new
   pub last : last_of new ≡ entry.lsn
+  pub first : first_of new ≡ first_with (first_of old) entry.lsn
   pub entries : entries_of new ≡ entries_of old ++ entry ∷ []
   pub marks : marks_of new ≡ marks_of old
   pub state : state_of new ≡ state_of old
@@ -108,6 +119,7 @@ pub record SameTxn (old new : Txn) : Type 0 where
   pub session : new.session ≡ old.session
   pub name : KeepsName old new
   pub last : last_of new ≡ last_of old
+  pub first : first_of new ≡ first_of old
   pub entries : entries_of new ≡ entries_of old
   pub marks : marks_of new ≡ marks_of old
   pub state : state_of new ≡ state_of old
@@ -120,6 +132,7 @@ pub record IsAfterSavepoint (old new : Txn) : Type 0 where
   pub session : new.session ≡ old.session
   pub name : KeepsName old new
   pub last : last_of new ≡ last_of old
+  pub first : first_of new ≡ first_of old
   pub entries : entries_of new ≡ entries_of old
   pub marks : marks_of new ≡ marks_of old ++ length (entries_of old) ∷ []
   pub state : state_of new ≡ state_of old
@@ -130,6 +143,7 @@ pub record IsAfterUndo (lsn : ℕ) (rollback : Rollback) (undone : UndoEntry) (o
   pub session : new.session ≡ old.session
   pub name : KeepsName old new
   pub last : last_of new ≡ lsn
+  pub first : first_of new ≡ first_with (first_of old) lsn
   pub entries : entries_of old ≡ entries_of new ++ undone ∷ []
   pub marks : marks_of new ≡ marks_kept rollback (marks_of old)
   pub state : state_of new ≡ RollingBack rollback
@@ -140,6 +154,7 @@ pub record IsBackAt (index : ℕ) (old new : Txn) : Type 0 where
   pub session : new.session ≡ old.session
   pub name : KeepsName old new
   pub last : last_of new ≡ last_of old
+  pub first : first_of new ≡ first_of old
   pub entries : entries_of new ≡ entries_of old
   pub marks : marks_of new ≡ take (index + 1) (marks_of old)
   pub state : state_of new ≡ Active
@@ -150,6 +165,7 @@ pub record IsDoomed (old new : Txn) : Type 0 where
   pub session : new.session ≡ old.session
   pub name : KeepsName old new
   pub last : last_of new ≡ last_of old
+  pub first : first_of new ≡ first_of old
   pub entries : entries_of new ≡ entries_of old
   pub reserved : new.reserved ≡ old.reserved
   pub marks : marks_of new ≡ []
@@ -163,10 +179,12 @@ pub record IsAfterPrepare (name : List ℕ) (lsn : ℕ) (old new : Txn) : Type 0
   pub session : new.session ≡ old.session
   pub seated : new.is_seated ≡ old.is_seated
   pub last : last_of new ≡ lsn
+  pub first : first_of new ≡ first_with (first_of old) lsn
   pub entries : entries_of new ≡ entries_of old
   pub marks : marks_of new ≡ marks_of old
   pub state : state_of new ≡ Preparing
   pub global : global_of new ≡ Some name
+  pub prepare : prepare_of new ≡ lsn
   pub decided : decided_of new ≡ decided_of old
 
 -- a transaction whose prepare is answered
@@ -175,6 +193,7 @@ pub record IsAfterAnswer (old new : Txn) : Type 0 where
   pub session : new.session ≡ old.session
   pub name : KeepsName old new
   pub last : last_of new ≡ last_of old
+  pub first : first_of new ≡ first_of old
   pub entries : entries_of new ≡ entries_of old
   pub marks : marks_of new ≡ marks_of old
   pub state : state_of new ≡ Prepared
@@ -185,10 +204,12 @@ pub record IsFoundPrepared (name : List ℕ) (lsn : ℕ) (old new : Txn) : Type 
   pub session : new.session ≡ old.session
   pub seated : new.is_seated ≡ old.is_seated
   pub last : last_of new ≡ lsn
+  pub first : first_of new ≡ first_with (first_of old) lsn
   pub entries : entries_of new ≡ entries_of old
   pub marks : marks_of new ≡ marks_of old
   pub state : state_of new ≡ Prepared
   pub global : global_of new ≡ Some name
+  pub prepare : prepare_of new ≡ lsn
   pub decided : decided_of new ≡ decided_of old
 
 -- A transaction whose Rollback decided was logged under this number: it can only be rolled back, whole, and no session is in it.
@@ -197,8 +218,10 @@ pub record IsAfterDecision (lsn : ℕ) (old new : Txn) : Type 0 where
   pub session : new.session ≡ old.session
   pub seated : new.is_seated ≡ false
   pub last : last_of new ≡ lsn
+  pub first : first_of new ≡ first_with (first_of old) lsn
   pub entries : entries_of new ≡ entries_of old
   pub marks : marks_of new ≡ []
   pub state : state_of new ≡ RollingBack Whole
   pub global : global_of new ≡ global_of old
+  pub prepare : prepare_of new ≡ prepare_of old
   pub decided : decided_of new ≡ lsn

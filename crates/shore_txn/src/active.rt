@@ -45,14 +45,14 @@ impl ActiveTxn {
         }
     }
 
-    /// A transaction that an open has found, with none of its changes yet: no session is in it.
-    pub(crate) fn found(alloc: Global, number: TxnId) -> ActiveTxn
+    /// A transaction that an open has found, whose first record has this number, with none of its changes yet: no session is in it.
+    pub(crate) fn found(alloc: Global, number: TxnId, first: Lsn) -> ActiveTxn
         requires some { 1 ≤ number }
         requires below { number < LAST_TXN }
-        ensures { IsFound number result.txn }
+        ensures { IsFound number first result.txn }
     {
         let mut txn = Txn::new(alloc, number, NOBODY);
-        txn.unseat();
+        txn.start_at(first);
         ActiveTxn {
             txn,
             chains: PageChains::new(alloc),

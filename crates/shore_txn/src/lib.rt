@@ -8,6 +8,7 @@ mod claims;
 mod guesses;
 pub mod laws;
 mod log_room;
+mod log_table;
 mod prepared;
 mod savepoints;
 mod seat;

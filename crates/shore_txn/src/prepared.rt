@@ -121,16 +121,16 @@ impl Transactions {
         self.room.holds(cost)
     }
 
-    /// A transaction that the log has, with no session in it and none of its changes yet: they are noted next, and then its Prepare. The room of its
-    /// ending is reserved. If memory is short nothing has changed.
-    pub fn restore(&mut self, alloc: Global, txn: TxnId) -> Result<Seat, AllocError>
+    /// A transaction that the log has from this number on, with no session in it and none of its changes yet: they are noted next, and then its Prepare.
+    /// Its first record may be one that is undone, so they do not tell it. The room of its ending is reserved. If memory is short nothing has changed.
+    pub fn restore(&mut self, alloc: Global, txn: TxnId, first: Lsn) -> Result<Seat, AllocError>
         requires some { 1 ≤ txn }
         requires last { txn < LAST_TXN }
         requires below { txn < next_in self.old }
         requires new { (t : Txn) → IsAmong t (txns_in self.old) → number_of t ≢ txn }
         requires room { (room_in self.old).kept + (room_in self.old).reserved + ENDING_COST ≤ (room_in self.old).stream_bytes }
         ensures seated { IfOk result (λ seat. IsSeatIn seat self.new × (seat.txn ≡ txn)) }
-        ensures found { OnOk result ((t : Txn) × (txns_in self.new ≡ t ∷ txns_in self.old) × IsFound txn t) }
+        ensures found { OnOk result ((t : Txn) × (txns_in self.new ≡ t ∷ txns_in self.old) × IsFound txn first t) }
         ensures undos { OnOk result (undos_in self.new ≡ record { session = 0; txn = txn; undo = nothing_to_undo } ∷ undos_in self.old) }
         ensures claims { (p : PageId) → kept_in self.new p ≡ kept_in self.old p }
         ensures doubts { prepared_in self.new ≡ prepared_in self.old }
@@ -143,7 +143,8 @@ impl Transactions {
     {
         self.active.reserve(1)?;
         let index = self.active.len();
-        self.active.push_reserved(ActiveTxn::found(alloc, txn));
+        self.active
+            .push_reserved(ActiveTxn::found(alloc, txn, first));
         self.room.reserve(ENDING_COST);
         Ok(self.seat_at(NOBODY, index))
     }

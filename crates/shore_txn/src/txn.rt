@@ -1,5 +1,5 @@
 //! A transaction under way.
-ghost use Rattle.std.specs.Prelude.{◌≡◌, ◌↔◌, ◌+◌, ◌<◌, ◌≤◌, ◌++◌, ◌∷◌, [], List, IfNone, IfOk, IfSome, IsOk, IsTrue, MatchOption, None, OnErr, OnOk, Some, false, is_some, length, option_to_list, slice_get, true};
+ghost use Rattle.std.specs.Prelude.{◌≡◌, ◌↔◌, ◌+◌, ◌<◌, ◌≤◌, ◌++◌, ◌∷◌, [], List, IfNone, IfOk, IfSome, IsOk, IsTrue, MatchOption, None, OnErr, OnOk, Some, false, is_some, length, option_to_list, reverse, slice_get, true};
 ghost use Rattle.shore_types.specs.declared.layout.TheConstants.{ENDING_COST, LAST_TXN, MAX_LOG_BYTES, MAX_RECORD_BYTES, MAX_SAVEPOINTS};
 ghost use Rattle.shore_types.specs.Images.{image_len};
 ghost use Rattle.laws_room.specs.LogRooms.{compensation_cost, compensation_costs};
@@ -8,14 +8,15 @@ ghost use Rattle.shore_model.specs.declared.rollbacks.Rollback.TheVariants.{Whol
 ghost use Rattle.laws_lives.specs.Sessions.{PreparedTxn};
 ghost use Rattle.laws_lives.specs.UndoLists.{marks_kept};
 ghost use Rattle.shore_txn.specs.TxnStates as states;
+ghost use Rattle.shore_txn.specs.Numbers as numbers;
 ghost use Rattle.shore_txn.specs.TxnStates.{second_ending};
-ghost use Rattle.shore_txn.specs.UndoEntries.{AreShort, claims_on, images_of, number_behind};
+ghost use Rattle.shore_txn.specs.UndoEntries.{AreShort, claims_on, first_number, images_of, number_behind};
 ghost use Rattle.shore_txn.specs.declared.txn_state.TxnState.TheVariants as state;
 ghost use Rattle.shore_txn.specs.declared.undo.UndoEntry.{UndoEntry};
 
 use crate::txn_state::TxnState;
 use crate::undo::UndoEntry;
-use shore_model::Rollback;
+use shore_model::{LogTxn, Rollback};
 use shore_types::layout::ENDING_COST;
 use shore_types::{GlobalId, Lsn, PageId, SessionId, TxnId};
 use smallvec::SmallVec;
@@ -35,6 +36,8 @@ pub struct Txn {
     is_seated: bool,
     /// The number of its last record, 0 if it has logged none.
     last: Lsn,
+    /// That of its first, 0 if it has logged none: nothing of the log from there on may be cut off while it is under way.
+    first: Lsn,
     /// Its changes that are not undone, the oldest first.
     undo: Vec<UndoEntry>,
     /// For each savepoint that stands, how many changes there were when it was set.
@@ -43,6 +46,8 @@ pub struct Txn {
     state: TxnState,
     /// The name that its coordinator gave it, from its Prepare on.
     global: Option<GlobalId>,
+    /// The number of its Prepare, 0 if it has none.
+    prepare: Lsn,
     /// The number of its RollbackDecided, 0 if it has none.
     decided: Lsn,
     /// What is reserved for its ending and for the undo of its changes (`owed`): each change adds to it, and each undo takes from it. While it is in doubt
@@ -57,7 +62,8 @@ pub struct Txn {
 }
 
 impl Txn {
-    ghost use Rattle.shore_txn.specs.Txns.{HasEntryRoom, HasMarkRoom, IsAfterAnswer, IsAfterChange, IsAfterDecision, IsAfterPrepare, IsAfterSavepoint, IsAfterUndo, IsBackAt, IsDoomed, IsFoundPrepared, IsOf, SameTxn, as_prepared, decided_of, entries_of, global_of, last_of, marks_of, number_of, reserved_for, state_of};
+    ghost use Rattle.shore_txn.specs.LogEntries.{entry_of, has_logged};
+    ghost use Rattle.shore_txn.specs.Txns.{HasEntryRoom, HasMarkRoom, IsAfterAnswer, IsAfterChange, IsAfterDecision, IsAfterPrepare, IsAfterSavepoint, IsAfterUndo, IsBackAt, IsDoomed, IsFoundPrepared, IsOf, SameTxn, as_prepared, decided_of, entries_of, first_of, global_of, last_of, marks_of, number_of, prepare_of, reserved_for, state_of};
 
     /// A transaction that has logged nothing.
     pub fn new(alloc: Global, txn: TxnId, session: SessionId) -> Txn
@@ -67,10 +73,12 @@ impl Txn {
         ensures session { result.session ≡ session }
         ensures seated { result.is_seated ≡ true }
         ensures last { last_of result ≡ 0 }
+        ensures first { first_of result ≡ 0 }
         ensures nothing { entries_of result ≡ [] }
         ensures marks { marks_of result ≡ [] }
         ensures state { state_of result ≡ state.Active }
         ensures global { global_of result ≡ None }
+        ensures prepare { prepare_of result ≡ 0 }
         ensures decided { decided_of result ≡ 0 }
         ensures reserved { result.reserved ≡ ENDING_COST }
     {
@@ -79,10 +87,12 @@ impl Txn {
             session,
             is_seated: true,
             last: Lsn(0),
+            first: Lsn(0),
             undo: Vec::new(alloc),
             marks: SmallVec::new(alloc),
             state: TxnState::Active,
             global: None,
+            prepare: Lsn(0),
             decided: Lsn(0),
             reserved: ENDING_COST,
         }
@@ -108,6 +118,13 @@ impl Txn {
         ensures { result ≡ last_of self.now }
     {
         self.last
+    }
+
+    /// The number of its first record, 0 if it has logged none.
+    pub fn first(&self) -> Lsn
+        ensures { result ≡ first_of self.now }
+    {
+        self.first
     }
 
     /// What is reserved for its endings and its undo, in bytes of the log.
@@ -177,6 +194,37 @@ impl Txn {
         self.undo[count - 2].lsn
     }
 
+    /// Whether it has logged a record.
+    pub fn has_logged(&self) -> bool
+        ensures { result ≡ has_logged self.now }
+    {
+        0 < self.first.0
+    }
+
+    /// Its entry in the table of a checkpoint.
+    pub fn entry(&self) -> LogTxn
+        ensures { result ≡ entry_of self.now }
+    {
+        LogTxn {
+            txn: self.txn,
+            state: self.state.listed(),
+            first: self.first,
+            last: self.last,
+            undo_next: self.newest_number(),
+            prepare: self.prepare,
+        }
+    }
+
+    // The number of its newest change, 0 if there is none.
+    fn newest_number(&self) -> Lsn
+        ensures { result ≡ first_number (reverse (entries_of self.now)) }
+    {
+        match self.undo.last() {
+            Some(entry) => entry.lsn,
+            None => Lsn(0),
+        }
+    }
+
     /// Takes the memory for an entry more. If that fails nothing has changed.
     pub fn reserve_entry(&mut self) -> Result<(), AllocError>
         ensures room { OnOk result (HasEntryRoom self.new) }
@@ -197,6 +245,7 @@ impl Txn {
         ensures noted { IsAfterChange self.old entry self.new }
         ensures reserved { self.new.reserved ≡ self.old.reserved + cost }
     {
+        self.first = first_with(self.first, entry.lsn);
         self.last = entry.lsn;
         self.undo.push_reserved(entry);
         self.reserved += cost;
@@ -230,6 +279,7 @@ impl Txn {
         keep_marks(&mut self.marks, rollback);
         self.state = TxnState::RollingBack(rollback);
         self.reserved -= cost;
+        self.first = first_with(self.first, lsn);
         self.last = lsn;
         undone
     }
@@ -271,6 +321,14 @@ impl Txn {
         ensures { self.new ≡ record self.old { is_seated = false } }
     {
         self.is_seated = false;
+    }
+
+    /// The log has it from this number on, and no session is in it.
+    pub(crate) fn start_at(&mut self, first: Lsn)
+        ensures { self.new ≡ record self.old { is_seated = false; first = first } }
+    {
+        self.unseat();
+        self.first = first;
     }
 
     /// Whether its coordinator gave it this name.
@@ -320,6 +378,8 @@ impl Txn {
         self.global = Some(global);
         self.state = TxnState::Preparing;
         self.reserved += ENDING_COST;
+        self.prepare = number;
+        self.first = first_with(self.first, number);
         self.last = number;
     }
 
@@ -342,6 +402,7 @@ impl Txn {
         self.state = doomed(&mut self.marks);
         self.reserved -= ENDING_COST;
         self.decided = number;
+        self.first = first_with(self.first, number);
         self.last = number;
     }
 
@@ -351,6 +412,13 @@ impl Txn {
     {
         self.undo
     }
+}
+
+// The number of the first record once one more is logged under this number: it stays, if there was one.
+fn first_with(first: Lsn, lsn: Lsn) -> Lsn
+    ensures { result ≡ numbers.first_with first lsn }
+{
+    if first.0 == 0 { lsn } else { first }
 }
 
 // What may be done from now on is a whole rollback: no savepoint is left.

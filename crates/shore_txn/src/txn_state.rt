@@ -1,5 +1,7 @@
 //! What a transaction under way may do.
-use shore_model::Rollback;
+ghost use Rattle.std.specs.Prelude.{◌≡◌};
+
+use shore_model::{Rollback, TxnState as ListedState};
 
 #[derive(Clone, Copy)]
 pub enum TxnState {
@@ -11,4 +13,19 @@ pub enum TxnState {
     Preparing,
     /// Its prepare is answered, or was found in the log: it waits for its decision.
     Prepared,
+}
+
+impl TxnState {
+    ghost use Rattle.shore_txn.specs.TxnStates.{listed_state};
+
+    /// What a checkpoint says of it.
+    pub fn listed(self) -> ListedState
+        ensures { result ≡ listed_state self }
+    {
+        match self {
+            TxnState::Active => ListedState::Active,
+            TxnState::RollingBack(_) => ListedState::RollingBack,
+            TxnState::Preparing | TxnState::Prepared => ListedState::Prepared,
+        }
+    }
 }

@@ -74,7 +74,7 @@ returns-clause-back c =
       last.after,
       told.among,
       told.txn,
-      given_back log told.doubt entry.txn name entry.prepare found.0 head.after last.after told.txn found.2 head.becomes last.becomes (c.in_ok-try_clone.ensures ∙ alike.global_is)
+      given_back log told.doubt entry.txn entry.first name entry.prepare found.0 head.after last.after told.txn found.2 head.becomes last.becomes (c.in_ok-try_clone.ensures ∙ alike.global_is)
           (c.requires.numbers.prepare ∙ ap (λ (u : ℕ). prepare_number u log) (sym told.txn)),
       last.is,
     )

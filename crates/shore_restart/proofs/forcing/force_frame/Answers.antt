@@ -1,29 +1,26 @@
-use Rattle.std.proofs.Common.{length, arith, subst, inl, inr, sym, ap, ◌∙◌, Err}
+use Rattle.std.proofs.Common.{inl, inr, sym, ap, ◌∙◌, Err}
 use Rattle.shore_types.specs.declared.faults.Fault.{Fault}
-use Rattle.shore_log.specs.Settled.{stable}
-use Rattle.shore_log.specs.declared.device.LogDev.{LogDev}
-use Rattle.shore_restart.specs.Quiet.{IsQuiet}
 use Rattle.shore_restart.proofs.Frames.{frame_forced, frame_stopped}
 use Rattle.shore_restart.proofs.LogErrors.{log_is}
 use Rattle.shore_restart.proofs.Rooms.{fits_frame}
-use Rattle.shore_restart.proofs.QuietLogs.{log_device_error, longer_stable}
+use Rattle.shore_restart.proofs.QuietLogs.{log_device_error, longer_stable, quiet_kept}
 use Rattle.shore_restart.proofs.forcing.force_frame.Goals as goal
 
 pub returns-in-Ok-clause-forces : goal.returns-in-Ok-clause-forces
 returns-in-Ok-clause-forces g c log_front s rest geometry front volume covered =
-    let settled = c.in-Ok.ensures.settled log_front rest.settled rest.none_staged in
-    frame_forced geometry log_front front volume c.args.log.now c.append_frame.new.self s rest covered c.is_some.result (c.in-Ok.ensures.any_moment log_front rest.settled rest.none_staged)
-    (c.in-Ok.ensures.forced log_front rest.settled rest.none_staged) c.append_frame.ensures.same settled.0 settled.1
+    let settled = c.in-Ok.ensures.settled 1 0 log_front rest.settled rest.none_staged in
+    frame_forced geometry log_front front volume c.args.log.now c.append_frame.new.self s rest covered c.is_some.result (c.in-Ok.ensures.any_moment 1 0 log_front rest.settled rest.none_staged)
+    (c.in-Ok.ensures.forced 1 0 log_front rest.settled rest.none_staged) c.append_frame.ensures.same settled.0 settled.1
 
 pub returns-in-Err-clause-forces : goal.returns-in-Err-clause-forces
 returns-in-Err-clause-forces g c log_front s rest geometry front volume covered =
     frame_stopped geometry log_front front volume c.args.log.now c.append_frame.new.self s rest covered c.log_error.result
-    (c.in-Err.ensures.any_moment log_front rest.settled rest.none_staged) c.append_frame.ensures.same
+    (c.in-Err.ensures.any_moment 1 0 log_front rest.settled rest.none_staged) c.append_frame.ensures.same
 
 pub returns-in-Ok-clause-log_device : goal.returns-in-Ok-clause-log_device
 returns-in-Ok-clause-log_device g c log_front quiet = record {
   named = tt;
-  quiet = inr (c.in-Ok.ensures.settled log_front quiet.0 quiet.1, longer_stable c.args.log.now c.append_frame.new.self (c.in-Ok.ensures.forced log_front quiet.0 quiet.1));
+  quiet = inr (c.in-Ok.ensures.settled 1 0 log_front quiet.0 quiet.1, longer_stable c.args.log.now c.append_frame.new.self (c.in-Ok.ensures.forced 1 0 log_front quiet.0 quiet.1));
 }
 
 pub returns-in-Err-clause-log_device : goal.returns-in-Err-clause-log_device
@@ -39,6 +36,6 @@ returns-in-Err-clause-log_device g c log_front quiet = record {
       ];
   quiet = elim c.in-Err.ensures.refused [
     | inl device ↦ inl (ap Err (log_device_error c.in-Err.fault c.log_error.result c.log_error.ensures device))
-    | inr same ↦ inr (subst (IsQuiet log_front) (sym same) quiet, let stays = ap (λ (log : LogDev g.row.L.Denot g.L.Disk). length (stable log)) same in omega (arith, stays))
+    | inr same ↦ inr (quiet_kept log_front c.args.log.now c.append_frame.new.self same.0 quiet)
   ];
 }
