@@ -1,6 +1,7 @@
-"""The formats of the two files of a pair, as docs/DEFINITIONS.md has them under "Bytes": made for tools/check-formats, and read as an open reads them.
+"""The formats of the two files of a pair, as docs/DEFINITIONS.md has them under "Bytes": made for tools/check-formats, and read as an open reads them. What it makes of them is in
+tools/opening.py.
 
-Nothing here comes from the code of the program, nor from what it wrote. An open's order of checks is that of "Refuses an open", and what a record has to mean that of "Meant record".
+Nothing here comes from the code of the program, nor from what it wrote.
 """
 import collections
 import struct
@@ -10,11 +11,23 @@ LETTERS = {"log": b"\x4c", "volume": b"\x56"}
 ANCHORS_AT, STREAM_AT = (1_024, 2_048), 4_096
 GATE_AT, TABLE_AT, IMAGES_AT, PAGES_AT = 4_096, 4_100, 8_192, 270_336
 PAGE, MOST_SLOTS, MOST_OF_A_BATCH, LONGEST_FRAME = 8_192, 2_042, 32, 65_549
-CHANGE, COMPENSATION, COMMIT, END, PREPARE, ROLLBACK_DECIDED = 1, 2, 3, 4, 5, 6
-MOST_OF_A_NAME, MOST_GRANULES = 64, 4_096
+CHANGE, COMPENSATION, COMMIT, END, PREPARE, ROLLBACK_DECIDED, CHECKPOINT_BEGIN, CHECKPOINT_END, ANCHOR = 1, 2, 3, 4, 5, 6, 7, 8, 9
+ACTIVE, PREPARED, ROLLING_BACK = 1, 2, 3
+MOST_OF_A_NAME, MOST_GRANULES, MOST_TXNS, MOST_DIRTY, LAST_OPENED = 64, 4_096, 256, 1_024, 2**46 + 2**32
 
 Geometry = collections.namedtuple("Geometry", "pair log_bytes locks stores")
-Record = collections.namedtuple("Record", "kind txn previous at before after following name granules", defaults=[None] * 2)
+Record = collections.namedtuple("Record", "kind txn previous at before after following name granules table named", defaults=[None] * 4)
+# What a CheckpointEnd has, with an entry for each transaction and for each dirty page.
+Table = collections.namedtuple("Table", "begin next txns dirty")
+Txn = collections.namedtuple("Txn", "txn state first last following prepare")
+Dirty = collections.namedtuple("Dirty", "store page recovery")
+# What an Anchor record names.
+Named = collections.namedtuple("Named", "checkpoint tail")
+# An anchor behind its gate, and what it is in a log that no checkpoint has moved it in.
+Anchor = collections.namedtuple("Anchor", "sequence checkpoint tail place")
+FIRST_ANCHOR = Anchor(sequence=1, checkpoint=0, tail=1, place=0)
+# What stands at a place of a log: a frame, with the number of its first record, its records and how many bytes they have; or none, and why that is no closed gate.
+Frame = collections.namedtuple("Frame", "place first records length why", defaults=[None])
 
 
 # What is written.
@@ -30,8 +43,8 @@ def label(device, length, geometry):
     return (OPEN + fields + stores).ljust(512, b"\0")
 
 
-def anchor(sequence=1, checkpoint=0, tail=1, offset=0):
-    return OPEN + bytes(7) + b"".join(number(8, it) for it in (sequence, checkpoint, tail, offset))
+def anchor(sequence=1, checkpoint=0, tail=1, place=0, gate=OPEN):
+    return gate + bytes(7) + b"".join(number(8, it) for it in (sequence, checkpoint, tail, place))
 
 
 def image(content):
@@ -65,19 +78,55 @@ def prepare(txn, previous, name, granules):
     return record(PREPARE, txn, previous, number(1, len(name)) + name + number(4, len(granules)) + b"".join(map(granule, granules)))
 
 
+def checkpoint_begin():
+    return record(CHECKPOINT_BEGIN, 0, 0)
+
+
+def checkpoint_end(begin, following, txns=(), dirty=()):
+    """The number of its begin, that of the next transaction, a Txn for each transaction, and for each dirty page its name with its recovery number."""
+    entries = [number(8, it.txn) + number(1, it.state) + b"".join(number(8, number_of) for number_of in it[2:]) for it in txns]
+    pages = [rid(f"{page}.0")[:8] + number(8, recovery) for page, recovery in dirty]
+    tables = [number(2, len(them)) + b"".join(them) for them in (entries, pages)]
+    return record(CHECKPOINT_END, 0, 0, number(8, begin) + number(8, following) + b"".join(tables))
+
+
+def anchor_record(checkpoint, tail):
+    return record(ANCHOR, 0, 0, number(8, checkpoint) + number(8, tail))
+
+
 def frame(first, records):
     texts = b"".join(records)
     return OPEN + number(4, len(texts)) + number(8, first) + texts
 
 
-def log_file(geometry, *groups, label_of=None):
-    content = label("log", geometry.log_bytes, label_of or geometry).ljust(ANCHORS_AT[0], b"\0") + anchor()
-    content = content.ljust(STREAM_AT, b"\0")
-    first = 1
+def byte_of(log, place):
+    """The byte of a log at which a place of its stream stands."""
+    return STREAM_AT + place % max(len(log) - STREAM_AT, 1)
+
+
+def row_from(log, place):
+    """The stream of a log once around, from a place on."""
+    at = byte_of(log, place)
+    return log[at:] + log[STREAM_AT:at]
+
+
+def laid_at(log, place, content):
+    """A log in which this stands from a place on: in two parts if the end of the stream lies between."""
+    row, before_end = row_from(log, place), len(log) - byte_of(log, place)
+    row = (content + row[len(content) :])[: len(row)]
+    return log[:STREAM_AT] + row[before_end:] + row[:before_end]
+
+
+def log_file(geometry, *groups, label_of=None, anchors=(anchor(),), first=1, place=0, older=b""):
+    """The log with these anchors, and a frame for each group of records, the first of which has this number and place. The stream had these older bytes."""
+    content = label("log", geometry.log_bytes, label_of or geometry).ljust(ANCHORS_AT[0], b"\0") + anchors[0]
+    content = content.ljust(ANCHORS_AT[1], b"\0") + b"".join(anchors[1:])
+    content = (content.ljust(STREAM_AT, b"\0") + older).ljust(geometry.log_bytes, b"\0")
+    frames = b""
     for group in groups:
-        content += frame(first, group)
+        frames += frame(first, group)
         first += len(group)
-    return content.ljust(geometry.log_bytes, b"\0")
+    return laid_at(content, place, frames + SHUT)
 
 
 def page(place, last=0, entries=(), pieces=()):
@@ -150,19 +199,25 @@ def read_label(device, content):
     return pair, locks, stores
 
 
+def anchor_in(log, at):
+    """The anchor that stands here, whether or not its gate is open."""
+    return Anchor(*(field(log, at + it, 8) for it in (8, 16, 24, 32)))
+
+
 def read_anchors(log):
-    """Where the one is that counts. It has to be the first: no checkpoint is made yet, so its sequence is 1, and the log begins at its first record."""
-    slots = [(at, log[at : at + 40]) for at in ANCHORS_AT if log[at : at + 1] == OPEN]
-    for at, slot in slots:
-        if any(slot[1:8]):
+    """Where the one is that counts, and what it says: of the open ones that of the greater sequence."""
+    slots = [at for at in ANCHORS_AT if log[at : at + 1] == OPEN]
+    for at in slots:
+        if any(log[at + 1 : at + 8]):
             raise damaged("log", at)
-    counting = sorted((field(slot, 8, 8), at, slot) for at, slot in slots)
-    if not counting or [it[0] for it in counting].count(counting[-1][0]) > 1:
+    counting = sorted((anchor_in(log, at), at) for at in slots)
+    if not counting or [it.sequence for it, _ in counting].count(counting[-1][0].sequence) > 1:
         raise damaged("log", ANCHORS_AT[len(counting) // 2])
-    _, at, slot = counting[-1]
-    if slot != anchor():
-        raise damaged("log", at)
-    return at
+    counts, at = counting[-1]
+    has_tail = 1 <= counts.tail <= LAST_OPENED and counts.place <= LONGEST_FRAME * (counts.tail - 1)
+    if not (has_tail and 1 <= counts.sequence <= counts.checkpoint + 1 and (counts.checkpoint == 0 or counts.checkpoint >= counts.tail)):
+        raise damaged("log", at, "it is out of its limits")
+    return at, counts
 
 
 class Text:
@@ -202,6 +257,27 @@ class Text:
         demand(all(a < b for a, b in zip(granules, granules[1:])), "the granules of a Prepare do not rise")
         return name, granules
 
+    def txn(self):
+        entry = Txn(self.number(8), self.number(1), *(self.number(8) for _ in range(4)))
+        demand(entry.txn > 0, "an entry of a CheckpointEnd has the transaction 0")
+        demand(ACTIVE <= entry.state <= ROLLING_BACK, f"an entry of a CheckpointEnd has the state {entry.state}")
+        return entry
+
+    def dirty(self):
+        return Dirty(self.number(4), self.number(4), self.number(8))
+
+    def entries(self, what, most, read, key):
+        count = self.number(2)
+        demand(count <= most, f"a CheckpointEnd has {count} {what}")
+        entries = [read() for _ in range(count)]
+        keys = [it[:key] for it in entries]
+        demand(all(a < b for a, b in zip(keys, keys[1:])), f"the {what} of a CheckpointEnd do not rise")
+        return entries
+
+    def table(self):
+        begin, following = self.number(8), self.number(8)
+        return Table(begin, following, self.entries("transactions", MOST_TXNS, self.txn, 1), self.entries("dirty pages", MOST_DIRTY, self.dirty, 2))
+
     def record(self):
         kind, txn, previous = self.number(1), self.number(8), self.number(8)
         payload = Text(self.take(self.number(4)))
@@ -210,16 +286,21 @@ class Text:
         after = payload.image() if at else None
         following = payload.number(8) if kind == COMPENSATION else None
         name, granules = payload.prepare() if kind == PREPARE else (None, None)
-        demand(CHANGE <= kind <= ROLLBACK_DECIDED, f"a record has the kind {kind}")
-        demand(txn > 0, "a record has the transaction 0")
+        table = payload.table() if kind == CHECKPOINT_END else None
+        named = Named(payload.number(8), payload.number(8)) if kind == ANCHOR else None
+        demand(CHANGE <= kind <= ANCHOR, f"a record has the kind {kind}")
+        if kind >= CHECKPOINT_BEGIN:
+            demand((txn, previous) == (0, 0), f"a record of a checkpoint has the transaction {txn} and the previous number {previous}")
+        else:
+            demand(txn > 0, "a record has the transaction 0")
         demand(not payload.rest, f"{len(payload.rest)} bytes of a record's payload belong to nothing")
         demand(kind != CHANGE or before is not None or after is not None, "a Change has no image")
-        return Record(kind, txn, previous, at, before, after, following, name, granules)
+        return Record(kind, txn, previous, at, before, after, following, name, granules, table, named)
 
 
-def read_frame(log, at, first):
-    """The records of the frame at an offset, the first of which has this number, and where the next frame is."""
-    head = Text(log[at + 1 : at + 1 + LONGEST_FRAME])
+def read_frame(row, at, first):
+    """The records of the frame at an offset of a stream in a row, the first of which has this number, and where the next frame is."""
+    head = Text(row[at + 1 : at + 1 + LONGEST_FRAME])
     length, number_of_first = head.number(4), head.number(8)
     demand(number_of_first == first, f"its first record has the number {number_of_first}, and {first} is to come")
     demand(1 <= length <= 65_536, f"its records have {length} bytes")
@@ -231,17 +312,26 @@ def read_frame(log, at, first):
     return records, at + 13 + length
 
 
-def read_frames(log):
-    """Each record with the offset of its frame, and where the closed gate after the last frame is."""
-    at, records = STREAM_AT, []
-    while log[at : at + 1] == OPEN:
+def frames_of(log, counts):
+    """Each frame from the tail on, and what stands behind the last."""
+    row, at, first = row_from(log, counts.place), 0, counts.tail
+    while row[at : at + 1] == OPEN:
         try:
-            read, following = read_frame(log, at, len(records) + 1)
+            read, following = read_frame(row, at, first)
         except NoText as why:
-            raise damaged("log", at, str(why)) from None
-        records += [(at, it) for it in read]
-        at = following
-    return records, at
+            yield Frame(counts.place + at, first, [], 0, str(why))
+            return
+        yield Frame(counts.place + at, first, read, following - at - 13)
+        at, first = following, first + len(read)
+    yield Frame(counts.place + at, first, [], 0)
+
+
+def read_frames(log, counts):
+    """Each record with the offset of its frame, and the place of the closed gate after the last frame."""
+    frames = list(frames_of(log, counts))
+    if frames[-1].why:
+        raise damaged("log", byte_of(log, frames[-1].place), frames[-1].why)
+    return [(byte_of(log, it.place), read) for it in frames for read in it.records], frames[-1].place
 
 
 def read_entries(content, place, last):
@@ -269,215 +359,3 @@ def read_page(content, place, last):
     except NoText:
         return None
     return [None if it == (0, 0) else content[it[0] : it[0] + it[1]] for it in entries]
-
-
-class Opening:
-    """What an open has to make of two files: it is refused, or shows pages, and leaves these files."""
-
-    def __init__(self, log, volume):
-        self.log, self.volume, self.shown = log, volume, {}
-        # The records that are done again, by their numbers, and the numbers of the changes that are undone, by their transactions.
-        self.redone, self.undone = [], {}
-        # Those in doubt, in the order of their Prepares, and the locks that are given back to them: by granule and transaction.
-        self.doubts, self.locks = [], {}
-        try:
-            self.open()
-            self.lines = ["opened", *self.dumped()]
-            has_failed = any(it.startswith("fault") for it in self.lines)
-            self.lines_of_doubts = ["1: fault 24 Failed", "fault 24 Failed"] if has_failed else self.told_in_doubt()
-        except Refused as refusal:
-            self.lines, self.why = [f"open fault {refusal}", "fault 24 Failed"], refusal.why
-            self.lines_of_doubts = ["1: fault 24 Failed", "fault 24 Failed"]
-
-    def open(self):
-        of_log = read_label("log", self.log)
-        if of_log != read_label("volume", self.volume):
-            raise Refused("30 WrongPair")
-        _, self.most_locks, self.stores = of_log
-        self.places = places_of(self.stores)
-        anchor_at = read_anchors(self.log)
-        self.records, self.end = read_frames(self.log)
-        self.replay()
-        self.last, self.unanswered = {}, collections.defaultdict(list)
-        # The number of the Prepare of each transaction that has one, and those that have a RollbackDecided.
-        self.prepared, self.decided = {}, set()
-        for count, (at, read) in enumerate(self.records, 1):
-            if not self.is_meant(count, read):
-                raise damaged("log", at, f"record {count} does not go with those before it, or with the volume")
-            self.note(count, read)
-        self.doubts = sorted((it for it in self.prepared if it not in self.decided and self.last[it] > 0), key=self.prepared.get)
-        for index, txn in enumerate(self.doubts):
-            self.give_back_locks(txn, [self.prepare_of(it).name for it in self.doubts[:index]])
-        # Each record takes of the room what it would in a frame of its own; and for each in doubt its undo is reserved for, and two records more.
-        reserved = sum(68 + sum(52 + self.cost_of_image(self.records[it - 1][1].before) for it in self.unanswered[txn]) for txn in self.doubts)
-        kept = self.end - STREAM_AT + 13 * (len(self.records) - len({at for at, _ in self.records}))
-        if kept + reserved + LONGEST_FRAME > len(self.log) - STREAM_AT:
-            raise damaged("log", anchor_at, "the records leave no room for the longest frame")
-        for count, (at, read) in enumerate(self.records, 1):
-            if read.at and self.page(read.at)[0] < count:
-                self.put(count, at, read)
-                self.redone.append(count)
-        self.undo()
-        self.keep_claims()
-
-    def replay(self):
-        """Lays the images of an open area into place."""
-        if self.volume[GATE_AT : GATE_AT + 1] != OPEN:
-            return
-        table = [field(self.volume, TABLE_AT + 4 * it, 4) for it in range(MOST_OF_A_BATCH + 1)]
-        count, least = table[0], 0
-        if not 1 <= count <= MOST_OF_A_BATCH:
-            raise damaged("volume", TABLE_AT, f"a batch has {count} pages")
-        for index, entry in enumerate(table[1:]):
-            if not (least <= entry < len(self.places) if index < count else entry == 0):
-                raise damaged("volume", TABLE_AT + 4 * (index + 1), f"entry {index} of a batch of {count} is {entry}")
-            least = entry + 1
-        after = bytearray(self.volume)
-        for index, entry in enumerate(table[1 : count + 1]):
-            text = self.volume[IMAGES_AT + PAGE * index : IMAGES_AT + PAGE * (index + 1)]
-            self.judge_page(IMAGES_AT + PAGE * index, text, self.places[entry], 2**64)
-            after[PAGES_AT + PAGE * entry : PAGES_AT + PAGE * (entry + 1)] = text
-        after[GATE_AT : GATE_AT + 1] = SHUT
-        self.volume = bytes(after)
-
-    def judge_page(self, offset, content, place, last):
-        """The bytes at this offset of the volume have to be a text of the page."""
-        try:
-            read_entries(content, place, last)
-        except NoText as why:
-            raise damaged("volume", offset, str(why)) from None
-
-    @staticmethod
-    def cost_of_image(content):
-        return 1 if content is None else 3 + len(content)
-
-    def prepare_of(self, txn):
-        return self.records[self.prepared[txn] - 1][1]
-
-    def has(self, granule):
-        """Whether the volume has a granule."""
-        level, store, index, slot = granule
-        return level == 0 or store < len(self.stores) and (level == 1 or index < self.stores[store] and (level == 2 or slot < MOST_SLOTS))
-
-    def is_covered(self, at, granules):
-        """Whether a record is one of these granules, or lies in one."""
-        return any(it in granules for it in [(3, *at), (2, *at[:2], 0), (1, at[0], 0, 0), (0, 0, 0, 0)])
-
-    def is_meant(self, count, read):
-        """Whether a record means what it has to, behind those that were noted."""
-        if read.txn >= 2**62 or read.previous != self.last.get(read.txn, 0):
-            return False
-        if read.at and (read.at[:2] not in self.places or read.at[2] >= MOST_SLOTS):
-            return False
-        is_prepared, is_decided = read.txn in self.prepared, read.txn in self.decided
-        if read.kind == PREPARE:
-            changed = [it.at for _, it in self.records[: count - 1] if it.txn == read.txn and it.kind == CHANGE]
-            return not is_prepared and all(map(self.has, read.granules)) and all(self.is_covered(it, set(read.granules)) for it in changed)
-        if read.kind == ROLLBACK_DECIDED:
-            return is_prepared and not is_decided
-        # Behind a Prepare comes a decision, and behind one to roll back only that.
-        if is_prepared and read.kind not in ((COMPENSATION, END) if is_decided else (COMMIT,)):
-            return False
-        changes = self.unanswered[read.txn]
-        if read.kind == COMPENSATION:
-            answered = self.records[changes[-1] - 1][1] if changes else None
-            return bool(changes) and (answered.at, answered.before, (changes[:-1] or [0])[-1]) == (read.at, read.after, read.following)
-        return read.kind != END or not changes
-
-    def note(self, count, read):
-        # A transaction that has ended names no record that one of it could name.
-        self.last[read.txn] = -1 if read.kind in (COMMIT, END) else count
-        if read.kind == CHANGE:
-            self.unanswered[read.txn].append(count)
-        elif read.kind == COMPENSATION:
-            self.unanswered[read.txn].pop()
-        elif read.kind == PREPARE:
-            self.prepared[read.txn] = count
-        elif read.kind == ROLLBACK_DECIDED:
-            self.decided.add(read.txn)
-
-    def give_back_locks(self, txn, names):
-        """EX on each granule of a Prepare, and IX above it; or that Prepare is refused."""
-        at, read = self.records[self.prepared[txn] - 1]
-        if read.name in names:
-            raise damaged("log", at, f"two in doubt have the global id {read.name.hex()}")
-        for level, *ids in read.granules:
-            for above in range(level + 1):
-                granule = (above, *ids[:above], *[0] * (3 - above))
-                modes = self.locks.setdefault(granule, {})
-                mode = "EX" if above == level or modes.get(txn) == "EX" else "IX"
-                if any("EX" in (mode, held) for other, held in modes.items() if other != txn):
-                    raise damaged("log", at, f"two in doubt cannot both hold {granule}")
-                modes[txn] = mode
-        if sum(map(len, self.locks.values())) > self.most_locks:
-            raise damaged("log", at, f"those in doubt need more than {self.most_locks} lock nodes")
-
-    def keep_claims(self):
-        """Each page keeps what those in doubt may put back, and has to have the room."""
-        claims = collections.defaultdict(int)
-        for number_of_change in (it for txn in self.doubts for it in self.unanswered[txn]):
-            at, read = self.records[number_of_change - 1]
-            slots = self.page(read.at)[1]
-            least = [max(len(it or b""), claims[*read.at[:2], slot]) for slot, it in enumerate(slots)]
-            slot, wanted = read.at[2], len(read.before or b"")
-            if slot >= len(slots) or wanted - least[slot] > PAGE - 24 - 4 * len(slots) - sum(least):
-                raise damaged("log", at, f"what record {number_of_change} put away has no room on its page")
-            claims[read.at] = max(claims[read.at], wanted)
-
-    def told_in_doubt(self):
-        """What 'indoubt' of session 1 and 'locks' print."""
-        names = sorted((self.prepare_of(txn).name, txn) for txn in self.doubts)
-        lines = [f"1: indoubt {len(names)}", *(f"{name.hex()} {txn}" for name, txn in names)]
-        held = [(granule, txn, mode) for granule, modes in self.locks.items() for txn, mode in modes.items()]
-        for (level, *ids), txn, mode in sorted(held):
-            lines.append(f"{'.'.join(map(str, ids[:level])) or 'v'} {txn} {mode}")
-        return lines if held else [*lines, "no locks"]
-
-    def page(self, at):
-        """The number and the slots of a page, as it is in memory."""
-        if at[:2] not in self.shown:
-            offset = PAGES_AT + PAGE * self.places.index(at[:2])
-            content = self.volume[offset : offset + PAGE]
-            self.judge_page(offset, content, at[:2], len(self.records))
-            self.shown[at[:2]] = [field(self.volume, offset + 8, 8), read_page(content, at[:2], len(self.records))]
-        return self.shown[at[:2]]
-
-    def put(self, count, at, read):
-        """Does a record on its page, or refuses the one at this frame if there is no room."""
-        shown = self.page(read.at)
-        slots, slot = shown[1], read.at[2]
-        after = slots + [None] * (slot + 1 - len(slots))
-        took = len(after[slot] or b"")
-        free = PAGE - 24 - 4 * len(after) - sum(len(it or b"") for it in after)
-        if max(len(read.after or b"") - took, 0) > free:
-            raise damaged("log", at, f"record {count} has no room on its page")
-        after[slot] = read.after
-        shown[:] = count, after
-
-    def undo(self):
-        """Undoes the one loser that the logs of this script have at most, and puts the records of that behind the others."""
-        losers = [txn for txn, last in self.last.items() if last > 0 and txn not in self.doubts]
-        texts = []
-        self.undone = {txn: self.unanswered[txn][::-1] for txn in losers}
-        for txn in losers:
-            while self.unanswered[txn]:
-                at, undone = self.records[self.unanswered[txn][-1] - 1]
-                following = (self.unanswered[txn][:-1] or [0])[-1]
-                read = Record(COMPENSATION, txn, self.last[txn], undone.at, None, undone.before, following)
-                self.put(len(self.records) + 1, at, read)
-                texts.append(compensation(txn, read.previous, ".".join(map(str, read.at)), read.after, following))
-                self.records.append((self.end, read))
-                self.note(len(self.records), read)
-            texts.append(record(END, txn, self.last[txn]))
-            self.records.append((self.end, Record(END, txn, self.last[txn], None, None, None, None)))
-        if texts:
-            text = frame(len(self.records) - len(texts) + 1, texts) + SHUT
-            self.log = self.log[: self.end] + text + self.log[self.end + len(text) :]
-
-    def dumped(self):
-        try:
-            slots = [(place, self.page(place)[1]) for place in self.places]
-        except Refused as refusal:
-            return [f"fault {refusal}"]
-        lines = [f"{store}.{index}.{slot} {content.hex() or '-'}" for (store, index), them in slots for slot, content in enumerate(them) if content is not None]
-        return lines or ["empty"]
