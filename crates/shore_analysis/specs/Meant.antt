@@ -32,7 +32,7 @@ pub record AreGranules (g : Geometry) (granules : List Granule) : Type 0 where
 abbrev pub MeansPrepare : Geometry → List LogRecord → ℕ → List Granule → Type 0
 MeansPrepare g before t granules = AreGranules g granules × MayPrepare before t granules
 
--- what a transaction's next record says; the kinds that no reader of the log serves mean nothing
+-- what a transaction's next record says; the kinds that no restart serves mean nothing
 abbrev pub Means : Geometry → List LogRecord → ℕ → Payload → Type 0
 Means g before t (Change id was image) = MeansChange g before t id
 Means g before t (Compensation id image undo_next) = MeansCompensation g before t id image undo_next
