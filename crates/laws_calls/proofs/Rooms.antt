@@ -61,5 +61,5 @@ module _ (o : Opening) (found : List LogRecord) (s : State) (h : IsOpened o foun
       let last : length s.log ≡ length found = ap length h.log in
       record {
         pages = record { room = pages; behind = behind; within = within; owned = owned_by_locks; once = h.on.once };
-        log = record { sum = refl; fits = omega (arith, kept, room); lsns = omega (arith, last, numbers); short = short };
+        log = record { sum = refl; fits = omega (arith, kept, room); lsns = omega (arith, last, numbers); short = omega (arith, short) };
       }

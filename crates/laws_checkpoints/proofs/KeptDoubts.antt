@@ -19,6 +19,7 @@ use Rattle.laws_lives.specs.Pages.{LoggedPages}
 use Rattle.laws_lives.specs.Views.{IsAmong}
 use Rattle.laws_lives.proofs.Booleans.{and_true, or_none, or_true}
 use Rattle.laws_lives.proofs.DoubtRecords.{doubt_has_prepare, doubt_txns, filter_same}
+use Rattle.laws_lives.proofs.LawfulPrepares.{HasPassing, doubts_stand, not_of_checkpoint, one_passing, prepared_is_one}
 use Rattle.laws_lives.proofs.Lists.{map-push}
 use Rattle.laws_lives.proofs.UndoRecords.{lawful_front}
 use Rattle.laws_lives.proofs.Writers.{never_true}
@@ -29,28 +30,9 @@ use Rattle.laws_checkpoints.proofs.Lists.{front_of, get-drop}
 
 -- ---- a record of a kind
 
--- among the records is one of the transaction that passes
-record HasPassing (p : Payload → Bool) (rs : List LogRecord) (t : ℕ) : Type 0 where
-  pub at : ℕ
-  pub found : LogRecord
-  pub here : slice_get rs at ≡ Some found
-  pub own : found.txn ≡ t
-  pub passes : p found.payload ≡ true
-
 module _ (p : Payload → Bool) (t : ℕ) where
-  one_passing : (rs : List LogRecord) → has p t rs ≡ true → HasPassing p rs t
-  one_passing [] h = cc
-  one_passing (x ∷ rs) h = ⊎_elim
-      (λ this. let parts = and_true (x.txn == t) (p x.payload) this in record { at = 0; found = x; here = refl; own = eqb-true x.txn t parts.0; passes = parts.1 })
-      (λ later. let one = one_passing rs later in record { at = suc one.at; found = one.found; here = one.here; own = one.own; passes = one.passes })
-      (or_true ((x.txn == t) && p x.payload) (has p t rs) h)
-
   has_front : (log : List LogRecord) (n : ℕ) → has p t log ≡ false → has p t (take n log) ≡ false
   has_front log n h = (or_none (has p t (take n log)) (has p t (drop n log)) (sym (list_any-append (λ r. (r.txn == t) && p r.payload) (take n log) (drop n log)) ∙ ap (has p t) (take-append-drop n log) ∙ h)).0
-
-not_of_checkpoint : (p : Payload) → is_prepare p ≡ true → is_of_checkpoint p ≡ false
-not_of_checkpoint (Prepare global granules) h = refl
-not_of_checkpoint _ h = cc
 
 -- ---- in a lawful log
 
@@ -67,18 +49,6 @@ rolled_in_doubt log t RollbackDecided h says = says
 rolled_in_doubt log t _ h says = cc
 
 module _ (log : List LogRecord) (lawful : Lawful log) (t : ℕ) where
-  -- who has a Prepare is a transaction
-  pub prepared_is_one : has is_prepare t log ≡ true → 0 < t
-  prepared_is_one h =
-      let one = one_passing is_prepare t log h in
-      let of : (one.found.txn == 0) ≡ false = sym (lawful one.at one.found one.here).of ∙ not_of_checkpoint one.found.payload one.passes in
-      let some : one.found.txn ≡ 0 → ⊥ = λ e. true≢false (sym (eq-eqb one.found.txn 0 e) ∙ of) in
-      above t (λ e. some (one.own ∙ e))
-    where
-      above : (n : ℕ) → (n ≡ 0 → ⊥) → 0 < n
-      above zero h = absurd (h refl)
-      above (suc n) h = omega arith
-
   -- who is rolled back as decided had prepared
   rolled_prepared : has is_rollback t log ≡ true → has is_prepare t log ≡ true
   rolled_prepared h =
@@ -283,12 +253,6 @@ module _ (log : List LogRecord) (lawful : Lawful log) (volume : LoggedPages) (cu
       (ap (λ es. unanswered_in (reverse es)) kept.1, writes_kept log cut t kept.0, undo_list_kept log cut t kept.0 kept.1)
 
 -- ---- what holds of those in doubt depends on their list alone
-
-pub doubts_stand : (log more : List LogRecord) → doubts_in log ≡ doubts_in more → DoubtsStand log → DoubtsStand more
-doubts_stand log more same h = record {
-  apart = λ d e g k d_is e_is. h.apart d e g k (subst (IsAmong d) (sym same) d_is) (subst (IsAmong e) (sym same) e_is);
-  differ = λ d e d_is e_is. h.differ d e (subst (IsAmong d) (sym same) d_is) (subst (IsAmong e) (sym same) e_is);
-}
 
 are_restored : (log more : List LogRecord) (held : List Hold) → doubts_in log ≡ doubts_in more → AreRestored log held → AreRestored more held
 are_restored log more held same h = record {

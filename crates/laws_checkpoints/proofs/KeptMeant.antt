@@ -21,7 +21,7 @@ use Rattle.laws_checkpoints.proofs.Numbers.{last_in, last_is, last_low, some_fil
 
 -- ---- the first kept record
 
-first_names : (t k : ℕ) (xs : List LogRecord) (at : ℕ) (f : LogRecord) → slice_get xs at ≡ Some f → f.txn ≡ t → has_record t (take at xs) ≡ false
+pub first_names : (t k : ℕ) (xs : List LogRecord) (at : ℕ) (f : LogRecord) → slice_get xs at ≡ Some f → f.txn ≡ t → has_record t (take at xs) ≡ false
     → first_previous (filter (its t) (enumerate_from k xs)) ≡ f.previous
 first_names t k [] at f here own none = cc
 first_names t k (x ∷ xs) zero f here own none =
@@ -32,7 +32,7 @@ first_names t k (x ∷ xs) (suc at) f here own none =
     let parts = or_none (x.txn == t) (has_record t (take at xs)) none in
     ap (λ b. first_previous (cond b ((k, x) ∷ filter (its t) (enumerate_from (k + 1) xs)) (filter (its t) (enumerate_from (k + 1) xs)))) parts.0 ∙ first_names t (k + 1) xs at f here own parts.1
 
-chained : (log : List LogRecord) → Lawful log → (n : ℕ) (r : LogRecord) → slice_get log n ≡ Some r → 0 < r.txn → r.previous ≡ last_of r.txn (take n log)
+pub chained : (log : List LogRecord) → Lawful log → (n : ℕ) (r : LogRecord) → slice_get log n ≡ Some r → 0 < r.txn → r.previous ≡ last_of r.txn (take n log)
 chained log lawful n r at one = (lawful n r at).previous ∙ ap (λ b. cond b 0 (last_of r.txn (take n log))) (ne_eqb r.txn 0 (λ e. omega arith))
 
 -- of one with a record that is cut off, the first kept record names the last of those

@@ -23,11 +23,11 @@ use Rattle.laws_checkpoints.proofs.Kept.{losers_kept}
 use Rattle.laws_checkpoints.proofs.KeptRestarts.{Goes, all_steps, one_step, whole_length}
 use Rattle.laws_checkpoints.proofs.Orders.{order_kept}
 
-goes_in_order : (s : CheckpointedStore) → IsInOrder s → Goes (cut_of s.anchored) s.store
+pub goes_in_order : (s : CheckpointedStore) → IsInOrder s → Goes (cut_of s.anchored) s.store
 goes_in_order s k = record { recoverable = k.recoverable; lawful = k.lawful; may = cut_now s k; behind = k.redone }
 
 -- what a restart does is beside checkpoints
-beside : (s : RecoveryState) (e : RecoveryEvent) (cut : ℕ) (new : KeptStore) → KeptLeadsTo (seen_behind cut s) e new → IsRestartStep s e → IsBesideCheckpoints s e
+pub beside : (s : RecoveryState) (e : RecoveryEvent) (cut : ℕ) (new : KeptStore) → KeptLeadsTo (seen_behind cut s) e new → IsRestartStep s e → IsBesideCheckpoints s e
 beside s (AppendRecord r) cut new h (t, loser, same) =
     let follows = undo_follows s.log t loser in
     let one = loser.is_one in

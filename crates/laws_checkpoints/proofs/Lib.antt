@@ -1,24 +1,23 @@
-mod Lists
-mod Kept
-mod KeptDoubts
-mod Numbers
-mod Rising
-mod KeptTables
-mod KeptEnds
-mod KeptMeant
-mod KeptRestarts
-mod Ends
-mod Cuts
-mod PageTables
-mod RecoveryNumbers
-mod Begins
-mod StoreEvents
-mod CheckpointSteps
-mod Crashes
-mod Orders
-mod Points
-mod RingRooms
-mod RingEvents
-mod TellNothing
-mod WorkedCheckpoint
-mod KeptOrders
+pub mod Lists
+pub mod Kept
+pub mod KeptDoubts
+pub mod Numbers
+pub mod Rising
+pub mod KeptTables
+pub mod KeptEnds
+pub mod KeptMeant
+pub mod KeptRestarts
+pub mod Ends
+pub mod Cuts
+pub mod PageTables
+pub mod RecoveryNumbers
+pub mod Begins
+pub mod StoreEvents
+pub mod CheckpointSteps
+pub mod Crashes
+pub mod Orders
+pub mod Points
+pub mod RingRooms
+pub mod RingEvents
+pub mod WorkedCheckpoint
+pub mod KeptOrders

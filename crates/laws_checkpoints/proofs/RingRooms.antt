@@ -7,16 +7,16 @@ use Rattle.laws_checkpoints.specs.RingRooms.{AdmitsCheckpoint, CutFront, HasRing
 
 pub ring_step : (r : RingRoom) (e : RingStep) (new : RingRoom) → HasRingRoom r → RingLeadsTo r e new → HasRingRoom new
 ring_step r (LogCalls cost more records) new h (admits, is) = subst HasRingRoom (sym is) (
-    let f = admits.fits in let n = admits.numbers in let s = h.short in let m = h.most in record { fits = omega arith; numbers = omega arith; short = h.short; most = h.most })
+    let f = admits.fits in let n = admits.numbers in let s = h.short in let m = h.most in let z = h.short in record { fits = omega arith; numbers = omega arith; short = omega arith; most = h.most })
 ring_step r (PayRecords cost freed records) new h (le, within, each, is) = subst HasRingRoom (sym is) (
-    let f = h.fits in let n = h.numbers in record { fits = omega arith; numbers = omega arith; short = h.short; most = h.most })
+    let f = h.fits in let n = h.numbers in let z = h.short in record { fits = omega arith; numbers = omega arith; short = omega arith; most = h.most })
 ring_step r (LogBegin txns pages freed) new h (none, most, admits, is) = subst HasRingRoom (sym is) (
-    let f = admits.fits in let n = admits.numbers in let s = h.short in record { fits = omega arith; numbers = omega arith; short = h.short; most = omega arith })
+    let f = admits.fits in let n = admits.numbers in let s = h.short in record { fits = omega arith; numbers = omega arith; short = (let z = h.short in omega arith); most = omega arith })
 ring_step r (LogEnd cost) new h (some, e, is) = subst HasRingRoom (sym is) (
-    let f = h.fits in let n = h.numbers in let m = h.most in record { fits = omega arith; numbers = omega arith; short = h.short; most = omega arith })
+    let f = h.fits in let n = h.numbers in let m = h.most in record { fits = omega arith; numbers = omega arith; short = (let z = h.short in omega arith); most = omega arith })
 ring_step r LogAnchor new h (e, is) = subst HasRingRoom (sym is) (
-    let f = h.fits in let n = h.numbers in record { fits = omega arith; numbers = omega arith; short = h.short; most = omega arith })
-ring_step r (CutFront freed) new h (le, is) = subst HasRingRoom (sym is) (let f = h.fits in record { fits = omega arith; numbers = h.numbers; short = h.short; most = h.most })
+    let f = h.fits in let n = h.numbers in record { fits = omega arith; numbers = omega arith; short = (let z = h.short in omega arith); most = omega arith })
+ring_step r (CutFront freed) new h (le, is) = subst HasRingRoom (sym is) (let f = h.fits in record { fits = omega arith; numbers = h.numbers; short = le; most = h.most })
 
 pub ring_steps : (r : RingRoom) (steps : List RingStep) (last : RingRoom) → HasRingRoom r → RingLeadTo r steps last → HasRingRoom last
 ring_steps r [] last h is = subst HasRingRoom (sym is) h
@@ -25,7 +25,7 @@ ring_steps r (e ∷ steps) last h go = ring_steps go.0 steps last (ring_step r e
 -- ---- beside the room of the transactions
 
 pub ring_opens : (doubts : ℕ) (undos : List SessionTxn) (room : LogRoom) → HasLogRoom LONGEST_FRAME doubts undos room → HasRingRoom (record { room = room; to_log = 0 })
-ring_opens doubts undos room h = let f = h.fits in let n = h.lsns in record { fits = omega arith; numbers = omega arith; short = h.short; most = omega arith }
+ring_opens doubts undos room h = let f = h.fits in let n = h.lsns in record { fits = omega arith; numbers = omega arith; short = (let z = h.short in omega arith); most = omega arith }
 
 pub ring_spares : (doubts : ℕ) (undos : List SessionTxn) (r : RingRoom) → HasLogRoom 0 doubts undos r.room → HasRingRoom r → HasLogRoom (LONGEST_FRAME + r.to_log) doubts undos r.room
 ring_spares doubts undos r h ring = let f = ring.fits in record { sum = h.sum; fits = omega arith; lsns = h.lsns; short = h.short }

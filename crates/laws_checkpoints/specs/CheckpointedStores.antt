@@ -1,6 +1,6 @@
 -- Fuzzy checkpoints in the life of a store: begin, End, Anchor record, move of the anchor, with any other events between them, and power lost at
 -- any moment. No page is flushed for one.
-use Rattle.std.specs.Prelude.{◌≡◌, ◌<◌, ◌≤◌, ◌+◌, ℕ, List, [], ◌∷◌, false, All, length, take}
+use Rattle.std.specs.Prelude.{◌≡◌, ◌<◌, ◌≤◌, ◌+◌, ℕ, List, [], ◌∷◌, Option, None, Some, false, All, length, take}
 use Rattle.shore_model.specs.declared.log_records.DirtyPage.{DirtyPage}
 use Rattle.shore_model.specs.declared.log_records.LogTxn.{LogTxn}
 use Rattle.shore_model.specs.declared.log_records.Payload.TheVariants.{CheckpointBegin, Anchor}
@@ -16,6 +16,13 @@ pub data CheckpointStage : Type 0 where
   BeginLogged : Checkpoint → CheckpointStage
   EndLogged : Checkpoint → ℕ → CheckpointStage
   AnchorLogged : Checkpoint → ℕ → CheckpointStage
+
+-- the number of the record that has to be durable before the next step, if there is one
+abbrev pub awaited_by : CheckpointStage → Option ℕ
+awaited_by NoCheckpoint = None
+awaited_by (BeginLogged c) = None
+awaited_by (EndLogged c n) = Some n
+awaited_by (AnchorLogged c n) = Some n
 
 pub record CheckpointedStore : Type 0 where
   pub store : RecoveryState

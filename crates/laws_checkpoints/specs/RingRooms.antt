@@ -2,10 +2,11 @@
 -- checkpoint still has to log.
 use Rattle.std.specs.Prelude.{◌≡◌, ◌<◌, ◌≤◌, ◌+◌, ◌-◌, ◌*◌, ℕ, List, [], ◌∷◌}
 use Rattle.shore_types.specs.declared.layout.TheConstants.{ENDING_COST, GREATEST_CHECKPOINT, LAST_LSN, LAST_OPENED, LONGEST_FRAME, MAX_LOG_BYTES}
+use Rattle.laws_room.specs.CutRooms.{cut_room}
 use Rattle.laws_room.specs.LogRooms.{LogRoom}
 
 pub record RingRoom : Type 0 where
-  -- its kept records are those from the tail number on
+  -- of all records, those cut off among them: what these cost more may be logged
   pub room : LogRoom
   -- what the checkpoint under way still has to log: its End and its Anchor record, or the latter; 0 if none is under way
   pub to_log : ℕ
@@ -35,7 +36,8 @@ pub record AdmitsCheckpoint (room : LogRoom) (cost freed : ℕ) : Type 0 where
   pub leaves : room.kept + room.reserved + cost + LONGEST_FRAME + GREATEST_CHECKPOINT ≤ room.stream_bytes + freed
 
 -- `LogCalls cost more records`: admitted calls. `PayRecords cost freed records`: records that were reserved for, and at least as much is no longer
--- reserved; no record costs less than a byte. Then the steps of a checkpoint; `CutFront` frees frames, once the anchor has moved.
+-- reserved; no record costs less than a byte. Then the steps of a checkpoint; `CutFront` frees frames, once the anchor has moved: as much more may be logged,
+-- and no more room is left than the longest stream has.
 pub data RingStep : Type 0 where
   LogCalls : ℕ → ℕ → ℕ → RingStep
   PayRecords : ℕ → ℕ → ℕ → RingStep
@@ -57,7 +59,7 @@ RingLeadsTo r (LogBegin txns pages freed) new = (r.to_log ≡ 0) × (checkpoint_
     × (new ≡ record { room = checkpoint_logged ENDING_COST r.room; to_log = end_cost txns pages + ANCHOR_COST })
 RingLeadsTo r (LogEnd cost) new = (ENDING_COST ≤ cost) × (cost + ANCHOR_COST ≡ r.to_log) × (new ≡ record { room = checkpoint_logged cost r.room; to_log = ANCHOR_COST })
 RingLeadsTo r LogAnchor new = (r.to_log ≡ ANCHOR_COST) × (new ≡ record { room = checkpoint_logged ANCHOR_COST r.room; to_log = 0 })
-RingLeadsTo r (CutFront freed) new = (freed ≤ r.room.kept) × (new ≡ record r { room = record r.room { kept = r.room.kept - freed } })
+RingLeadsTo r (CutFront freed) new = (r.room.stream_bytes + freed ≤ r.room.kept + MAX_LOG_BYTES) × (new ≡ record r { room = cut_room freed r.room })
 
 abbrev pub RingLeadTo : RingRoom → List RingStep → RingRoom → Type 0
 RingLeadTo r [] last = last ≡ r
@@ -67,7 +69,7 @@ RingLeadTo r (e ∷ steps) last = (new : RingRoom) × RingLeadsTo r e new × Rin
 pub record HasRingRoom (r : RingRoom) : Type 0 where
   pub fits : r.room.kept + r.room.reserved + r.to_log + LONGEST_FRAME ≤ r.room.stream_bytes
   pub numbers : r.room.last_lsn + r.room.reserved + r.to_log < LAST_OPENED
-  pub short : r.room.stream_bytes ≤ MAX_LOG_BYTES
+  pub short : r.room.stream_bytes ≤ r.room.kept + MAX_LOG_BYTES
   pub most : r.to_log + ENDING_COST ≤ GREATEST_CHECKPOINT
 
 -- ---- a ring that is full

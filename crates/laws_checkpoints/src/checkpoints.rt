@@ -1,5 +1,5 @@
 //! The laws of fuzzy checkpoints, each stated as the contract of an empty function.
-ghost use Rattle.std.specs.Prelude.{◌≡◌, ◌⊎◌, ◌≤◌, ◌<◌, ◌+◌, ◌-◌, ◌++◌, ◌↔◌, ℕ, List, [], ◌∷◌, Some, true, drop, length, map, take, slice_get};
+ghost use Rattle.std.specs.Prelude.{◌≡◌, ◌⊎◌, ◌≤◌, ◌<◌, ◌+◌, ◌-◌, ◌++◌, ◌↔◌, ℕ, List, [], ◌∷◌, None, Some, true, drop, length, map, take, slice_get};
 ghost use Rattle.std.specs.FinMap.{get};
 ghost use Rattle.std.specs.List.{AllByRecursion};
 ghost use Rattle.std.specs.Ordering.{eq_by_cmp};
@@ -24,7 +24,7 @@ ghost use Rattle.laws_lives.specs.Tickets.{AreTickets};
 ghost use Rattle.laws_lives.specs.Undo.{IsLoser};
 ghost use Rattle.laws_lives.specs.WholeLogs.{IsWholeLog};
 ghost use Rattle.laws_checkpoints.specs.Checkpoints.{Checkpoint, TableIsRight, cut_of, cut_point, end_among, redo_behind};
-ghost use Rattle.laws_checkpoints.specs.CheckpointedStores.{AreTablesNow, CheckpointedEvent, CheckpointedLeadTo, CheckpointedLeadsTo, CheckpointedStore, StoreEvent, begun_now, formatted_store};
+ghost use Rattle.laws_checkpoints.specs.CheckpointedStores.{AreTablesNow, BeginCheckpoint, CheckpointedEvent, CheckpointedLeadTo, CheckpointedLeadsTo, CheckpointedStore, EndCheckpoint, MoveAnchor, NameCheckpoint, StoreEvent, awaited_by, begun_now, formatted_store};
 ghost use Rattle.laws_checkpoints.specs.KeptLogs.{KeepsNoLosers, MayBeCut};
 ghost use Rattle.laws_checkpoints.specs.KeptRestarts.{KeptLeadTo, KeptStore, seen_behind};
 ghost use Rattle.laws_checkpoints.specs.MeantBehind.{AreMeantBehind};
@@ -39,6 +39,18 @@ pub fn checkpoints_keep_order()
     ensures kept { (s : CheckpointedStore) (events : List CheckpointedEvent) (last : CheckpointedStore) → IsInOrder s → CheckpointedLeadTo s events last → IsInOrder last }
     ensures moves { (s : CheckpointedStore) (e : CheckpointedEvent) (new : CheckpointedStore) → IsInOrder s → CheckpointedLeadsTo s e new →
         (new.store ≡ s.store) ⊎ ((m : RecoveryEvent) × LeadsTo s.store m new.store) }
+{}
+
+/// The naming of a checkpoint and the move of the anchor each wait for the record that the step before it has logged, which is the log's last then; a begin and an
+/// End wait for nothing.
+pub fn steps_await_the_record_before()
+    ensures ended { (s new : CheckpointedStore) → CheckpointedLeadsTo s EndCheckpoint new → awaited_by new.stage ≡ Some (length new.store.log) }
+    ensures named { (s new : CheckpointedStore) → CheckpointedLeadsTo s NameCheckpoint new → awaited_by new.stage ≡ Some (length new.store.log) }
+    ensures begun { (s new : CheckpointedStore) (next : ℕ) (txns : List LogTxn) (dirty : List DirtyPage) → CheckpointedLeadsTo s (BeginCheckpoint next txns dirty) new →
+        awaited_by new.stage ≡ None }
+    ensures moved { (s new : CheckpointedStore) (tail : ℕ) → CheckpointedLeadsTo s (MoveAnchor tail) new → awaited_by new.stage ≡ None }
+    ensures goes_on { (s new : CheckpointedStore) (n : ℕ) → CheckpointedLeadsTo s NameCheckpoint new ⊎ ((tail : ℕ) × CheckpointedLeadsTo s (MoveAnchor tail) new) →
+        awaited_by s.stage ≡ Some n → n ≤ s.store.durable }
 {}
 
 /// Whenever power is lost, what is left may be opened from the anchor's tail on: no page lacks a record from before it, nobody from before it is still to

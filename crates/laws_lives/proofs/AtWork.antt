@@ -1,11 +1,13 @@
 -- A manager at work: what holds of it, event by event.
-use Rattle.std.proofs.Common.{◌≡◌, ◌≤◌, ◌++◌, ℕ, List, [], ◌∷◌, sym, subst, ◌∙◌, length, take, arith, append-nil}
+use Rattle.std.proofs.Common.{◌≡◌, ◌≤◌, ◌++◌, ℕ, List, [], ◌∷◌, true, sym, subst, ◌∙◌, length, take, arith, append-nil}
 use Rattle.std.specs.FinMap.{get}
 use Rattle.std.specs.List.{AllByRecursion}
 use Rattle.shore_types.specs.declared.ids.Rid.{Rid}
 use Rattle.shore_model.specs.declared.histories.Opening.{Opening}
 use Rattle.shore_model.specs.declared.histories.Entry.{Entry}
+use Rattle.shore_model.specs.declared.log_records.LogRecord.{LogRecord}
 use Rattle.shore_model.specs.Histories.{acknowledged}
+use Rattle.shore_model.specs.Logs.{MayFollow, is_of_checkpoint}
 use Rattle.laws_lives.proofs.Invariant.{redone_whole}
 use Rattle.laws_lives.specs.Recovery.{IsRecoverable, RecoveryState}
 use Rattle.laws_lives.proofs.Lists.{recursion-weaker}
@@ -16,13 +18,14 @@ use Rattle.laws_lives.specs.SessionSteps.{SessionEvent, StepsTo, entries_by}
 use Rattle.laws_lives.specs.Sessions.{Sessions}
 use Rattle.laws_lives.specs.Views.{IsAmong}
 use Rattle.laws_lives.proofs.AcknowledgedOwn.{acknowledges_own}
-use Rattle.laws_lives.proofs.Tickets.{event_tickets}
+use Rattle.laws_lives.proofs.CheckpointRecords.{stays_after, stays_decided, stays_tracked, stays_whole}
+use Rattle.laws_lives.proofs.Tickets.{event_tickets, still_tickets}
 use Rattle.laws_lives.specs.Tickets.{AreTickets}
 use Rattle.laws_lives.proofs.Acknowledged.{NumbersAreNew, event_acknowledges, new_in_longer, numbers_stay_new, still_decided}
 use Rattle.laws_lives.proofs.WholeLogs.{image_in_place}
 use Rattle.laws_lives.proofs.WholeRuns.{AllHold, event_keeps_all}
 use Rattle.laws_lives.proofs.Works.{HasWorked, all_work}
-use Rattle.laws_lives.specs.ManagerSteps.{AnswersTruly, ManagerState, StretchEvent, ManagerRunsTo, ManagerStepsTo, Serve, Tend, entries_made}
+use Rattle.laws_lives.specs.ManagerSteps.{AnswersTruly, ManagerState, StretchEvent, ManagerRunsTo, ManagerStepsTo, Note, Serve, Tend, entries_made}
 
 -- each decision that is acknowledged is in the durable part of the log
 abbrev pub AcknowledgedAreDurable : ℕ → List Entry → RecoveryState → Type 0
@@ -88,12 +91,41 @@ module _ (base floor : ℕ) (o : Opening) (es : List Entry) (m : ManagerState) (
         tickets = subst (λ log. AreTickets base log es) (sym log) k.tickets;
       }
 
+  -- a record of a checkpoint changes nothing that ties the log to the sessions
+  noted : (r : LogRecord) (new : ManagerState) → MayFollow m.store.log r → is_of_checkpoint r.payload ≡ true → new.sessions ≡ m.sessions → HasWorked m.store new.store
+      → new.store.log ≡ m.store.log ++ r ∷ [] → IsAtWork base floor o es new
+  noted r new follows its same w log =
+      let least = k.durable in
+      let more = w.durable in
+      let all = k.sessions in
+      let longer : AllHold o es m.sessions (m.store.log ++ r ∷ []) =
+      record {
+        sound = all.sound;
+        agree = all.agree;
+        logged = stays_after m.store.log r its all.whole.lawful follows o es m.sessions all.whole.some all.logged;
+        tracks = stays_tracked m.store.log r its all.whole.lawful follows m.sessions all.tracks;
+        whole = stays_whole m.store.log r its all.whole.lawful follows m.sessions all.whole;
+      } in
+      record {
+        sessions = subst (λ s. AllHold o es s new.store.log) (sym same) (subst (AllHold o es m.sessions) (sym log) longer);
+        decides = subst (LogDecides base o es) (sym log) (stays_decided m.store.log r its all.whole.lawful follows base o es k.decides);
+        recoverable = w.recoverable;
+        redone = w.redone;
+        durable = omega arith;
+        numbers = subst (λ s. NumbersAreNew base floor s new.store.log) (sym same) (numbers_after_work new.store w m.sessions k.numbers);
+        acknowledged = durable_after_work base es m.store new.store k.recoverable.durable w k.acknowledged;
+        tickets = subst (λ log. AreTickets base log es) (sym log) (still_tickets base m.store.log (r ∷ []) es k.tickets);
+      }
+
   pub stays_at_work : (e : StretchEvent) (new : ManagerState) → ManagerStepsTo m e new → IsAtWork base floor o (es ++ entries_made m e) new
   stays_at_work (Serve e works) new steps =
       served e new steps.0 steps.1 (all_work m.store works new.store k.recoverable k.redone steps.2) steps.3
   stays_at_work (Tend works) new steps =
       subst (λ es. IsAtWork base floor o es new) (sym (append-nil es))
       (tended new steps.0 (all_work m.store works new.store k.recoverable k.redone steps.1) steps.2)
+  stays_at_work (Note r works) new steps =
+      subst (λ es. IsAtWork base floor o es new) (sym (append-nil es))
+      (noted r new steps.0 steps.1 steps.2 (all_work m.store works new.store k.recoverable k.redone steps.3) steps.4)
 
   pub pages_have_records : (id : Rid) → (m.store.in_place id.page).slots id.slot ≡ get m.sessions.records id
   pages_have_records id =

@@ -8,6 +8,7 @@ use Rattle.shore_types.specs.declared.ids.Rid.{Rid}
 use Rattle.shore_model.specs.declared.histories.Entry.{Entry}
 use Rattle.shore_model.specs.declared.histories.Opening.{Opening}
 use Rattle.shore_model.specs.Histories.{free}
+use Rattle.shore_model.specs.Logs.{MayFollow, is_of_checkpoint}
 use Rattle.laws_lives.specs.Doubts.{AreRestored, undo_in}
 use Rattle.laws_lives.specs.Soundness.{found_in_doubt}
 use Rattle.shore_model.specs.declared.histories.Decision.{Decision}
@@ -40,10 +41,11 @@ WorksTo s (e ∷ works) last = IsWork e × (new : RecoveryState) × LeadsTo s e 
 -- ---- events
 
 -- `Serve`: an event of the sessions, and the work that appends its records, with forces and flushes anywhere between.
--- `Tend`: work that appends nothing
+-- `Tend`: work that appends nothing. `Note`: work that appends this record of a checkpoint, of which the sessions know nothing
 pub data StretchEvent : Type 0 where
   Serve : SessionEvent → List RecoveryEvent → StretchEvent
   Tend : List RecoveryEvent → StretchEvent
+  Note : LogRecord → List RecoveryEvent → StretchEvent
 
 -- the decision of a resolve
 abbrev pub decision_resolved : ResolvedTxn → Decision
@@ -95,10 +97,13 @@ abbrev pub ManagerStepsTo : ManagerState → StretchEvent → ManagerState → T
 ManagerStepsTo m (Serve e works) new =
     StepsTo m.sessions e new.sessions × AnswersTruly m.store.durable m.store.log e × WorksTo m.store works new.store × (new.store.log ≡ log_after m.store.log m.sessions e)
 ManagerStepsTo m (Tend works) new = (new.sessions ≡ m.sessions) × WorksTo m.store works new.store × (new.store.log ≡ m.store.log)
+ManagerStepsTo m (Note r works) new =
+    MayFollow m.store.log r × (is_of_checkpoint r.payload ≡ true) × (new.sessions ≡ m.sessions) × WorksTo m.store works new.store × (new.store.log ≡ m.store.log ++ r ∷ [])
 
 abbrev pub entries_made : ManagerState → StretchEvent → List Entry
 entries_made m (Serve e works) = entries_by m.sessions e
 entries_made m (Tend works) = []
+entries_made m (Note r works) = []
 
 abbrev pub ManagerRunsTo : ManagerState → List StretchEvent → List Entry → ManagerState → List Entry → Type 0
 ManagerRunsTo m [] es last made = (last ≡ m) × (made ≡ es)

@@ -64,7 +64,7 @@ module _ (spare doubts : ℕ) (undos : List SessionTxn) (room : LogRoom) (h : Ha
       let fits = admits.1 in
       let few = admits.0 in
       let short = h.short in
-      record { sum = omega arith; fits = omega arith; lsns = omega arith; short = h.short }
+      record { sum = omega arith; fits = omega arith; lsns = omega arith; short = omega arith }
 
   -- a Prepare asks for its record and for an ending more
   pub prepared_has : spare ≤ LONGEST_FRAME + GREATEST_CHECKPOINT → (global : List ℕ) (granules : List Granule)
@@ -74,7 +74,7 @@ module _ (spare doubts : ℕ) (undos : List SessionTxn) (room : LogRoom) (h : Ha
       let fits = admits.1 in
       let few = admits.0 in
       let short = h.short in
-      record { sum = omega arith; fits = omega arith; lsns = omega arith; short = h.short }
+      record { sum = omega arith; fits = omega arith; lsns = omega arith; short = omega arith }
 
   module _ (once : EachOnce (txns_of undos)) (a : SessionTxn) (m : IsAmong a undos) where
     s : IsSplit undos a
@@ -92,7 +92,7 @@ module _ (spare doubts : ℕ) (undos : List SessionTxn) (room : LogRoom) (h : Ha
         let fits = admits.1 in
         let few = admits.0 in
         let short = h.short in
-        record { sum = omega arith; fits = omega arith; lsns = omega arith; short = h.short }
+        record { sum = omega arith; fits = omega arith; lsns = omega arith; short = omega arith }
 
     -- a Compensation uses what was reserved for it
     pub undone_takes : (kept : List (Rid × Image)) (e : Rid × Image) (marks : List ℕ) (rolling : Option Rollback) → a.undo.images ≡ kept ++ e ∷ []
@@ -104,7 +104,8 @@ module _ (spare doubts : ℕ) (undos : List SessionTxn) (room : LogRoom) (h : Ha
         let sum = h.sum in
         let fits = h.fits in
         let lsns = h.lsns in
-        ((omega arith, omega arith, omega arith), record { sum = omega arith; fits = omega arith; lsns = omega arith; short = h.short })
+        let short = h.short in
+        ((omega arith, omega arith, omega arith), record { sum = omega arith; fits = omega arith; lsns = omega arith; short = omega arith })
 
     -- so does an ending
     pub ended_takes : Takes spare room ENDING_COST × HasLogRoom spare doubts (without_txn a.txn undos) (ended_room (owed a) room) × HasLogRoom spare doubts (without_txn a.txn undos) (left_room (owed a) room)
@@ -114,8 +115,8 @@ module _ (spare doubts : ℕ) (undos : List SessionTxn) (room : LogRoom) (h : Ha
         let fits = h.fits in
         let lsns = h.lsns in (
           (omega arith, omega arith, omega arith),
-          record { sum = omega arith; fits = omega arith; lsns = omega arith; short = h.short },
-          record { sum = omega arith; fits = omega arith; lsns = omega arith; short = h.short },
+          record { sum = omega arith; fits = omega arith; lsns = omega arith; short = omega arith },
+          record { sum = omega arith; fits = omega arith; lsns = omega arith; short = omega arith },
         )
 
     -- so does the Commit of one in doubt
@@ -125,7 +126,8 @@ module _ (spare doubts : ℕ) (undos : List SessionTxn) (room : LogRoom) (h : Ha
         let sum = h.sum in
         let fits = h.fits in
         let lsns = h.lsns in
-        ((omega arith, omega arith, omega arith), record { sum = omega arith; fits = omega arith; lsns = omega arith; short = h.short })
+        let short = h.short in
+        ((omega arith, omega arith, omega arith), record { sum = omega arith; fits = omega arith; lsns = omega arith; short = omega arith })
 
     -- and its Rollback decided
     pub rolled_takes : (undo : UndoList) (d : ℕ) → undo.images ≡ a.undo.images → doubts ≡ suc d
@@ -136,7 +138,8 @@ module _ (spare doubts : ℕ) (undos : List SessionTxn) (room : LogRoom) (h : Ha
         let sum = h.sum in
         let fits = h.fits in
         let lsns = h.lsns in
-        ((omega arith, omega arith, omega arith), record { sum = omega arith; fits = omega arith; lsns = omega arith; short = h.short })
+        let short = h.short in
+        ((omega arith, omega arith, omega arith), record { sum = omega arith; fits = omega arith; lsns = omega arith; short = omega arith })
 
     pub marked_has : (undo : UndoList) → undo.images ≡ a.undo.images → HasLogRoom spare doubts (with_undo a.txn undo undos) room
     marked_has undo same =

@@ -53,12 +53,12 @@ pub record LogRoom : Type 0 where
   pub last_lsn : ℕ
 
 -- What is reserved is what is owed, and for each one in doubt an ending more: a rollback of it logs a Rollback decided besides. Beside so many bytes to spare it has its room, and there are numbers for it: no record costs less
--- than a byte.
+-- than a byte. No more room is left than the longest stream has, however much of what is kept is cut off.
 pub record HasLogRoom (spare doubts : ℕ) (undos : List SessionTxn) (room : LogRoom) : Type 0 where
   pub sum : room.reserved ≡ owed_by_all undos + ENDING_COST * doubts
   pub fits : room.kept + room.reserved + spare ≤ room.stream_bytes
   pub lsns : room.last_lsn + room.reserved < LAST_OPENED
-  pub short : room.stream_bytes ≤ MAX_LOG_BYTES
+  pub short : room.stream_bytes ≤ room.kept + MAX_LOG_BYTES
 
 -- so much more is not LogFull
 abbrev pub Admits : LogRoom → ℕ → Type 0

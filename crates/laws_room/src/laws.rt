@@ -4,7 +4,7 @@ ghost use Rattle.std.specs.FinMap.{get};
 ghost use Rattle.shore_types.specs.Images.{Image, image_len};
 ghost use Rattle.shore_types.specs.declared.ids.PageId.{PageId};
 ghost use Rattle.shore_types.specs.declared.ids.Rid.{Rid};
-ghost use Rattle.shore_types.specs.declared.layout.TheConstants.{ENDING_COST, GREATEST_CHECKPOINT, LONGEST_FRAME, MAX_SLOTS, PAGE_ROOM, SLOT_ENTRY_BYTES};
+ghost use Rattle.shore_types.specs.declared.layout.TheConstants.{ENDING_COST, GREATEST_CHECKPOINT, LONGEST_FRAME, MAX_LOG_BYTES, MAX_SLOTS, PAGE_ROOM, SLOT_ENTRY_BYTES};
 ghost use Rattle.shore_model.specs.declared.histories.Entry.{Entry};
 ghost use Rattle.shore_model.specs.declared.histories.Opening.{Opening};
 ghost use Rattle.shore_types.specs.declared.locking.Granule.{Granule};
@@ -25,6 +25,7 @@ ghost use Rattle.laws_room.specs.Choosing.{IsChoice, Serves, first_of};
 ghost use Rattle.laws_room.specs.Claims.{Claimed, Grows, NoOthers, SlotCounts, befores_at, befores_in, rid_on, slots_of, undecided_on};
 ghost use Rattle.laws_room.specs.Entries.{claim_before, claims_before};
 ghost use Rattle.laws_room.specs.Events.{ChangeFitsPage, EventFits};
+ghost use Rattle.laws_room.specs.CutRooms.{cut_room, kept_room};
 ghost use Rattle.laws_room.specs.LogRooms.{Admits, ChangeAdmits, EventAdmits, HasLogRoom, LogRoom, RoomAfter, Takes, TurnsTake, begun_room, change_cost, changed_room, compensation_cost, ended_room, left_room, owed, prepare_cost, prepared_room, undone_room};
 ghost use Rattle.laws_room.specs.RolledBack.{all_rolled_back, images_on};
 ghost use Rattle.laws_room.specs.Settling.{AllReservesFit, let_go, reserved_for_all, settled_slots};
@@ -211,6 +212,17 @@ pub fn steps_keep_log_room()
         HasLogRoom spare doubts undos room → EachOnce (txns_of undos) → IsAmong a undos →
         Takes spare room ENDING_COST
         × HasLogRoom spare doubts (without_txn a.txn undos) (ended_room (owed a) room) × HasLogRoom spare doubts (without_txn a.txn undos) (left_room (owed a) room) }
+{}
+
+/// A cut changes no sum: by what is kept alone, and by the stream's own bytes, just the same is admitted, taken and left. Once more is cut off, what was there
+/// is there still, and there is more room by what was cut off.
+pub fn cuts_leave_room()
+    ensures admits { (room : LogRoom) (cut need : ℕ) → cut ≤ room.kept → cut ≤ room.stream_bytes → Admits room need ↔ Admits (kept_room cut room) need }
+    ensures takes { (spare cost cut : ℕ) (room : LogRoom) → cut ≤ room.kept → cut ≤ room.stream_bytes → Takes spare room cost ↔ Takes spare (kept_room cut room) cost }
+    ensures has { (spare doubts cut : ℕ) (undos : List SessionTxn) (room : LogRoom) → cut ≤ room.kept → cut ≤ room.stream_bytes →
+        HasLogRoom spare doubts undos room ↔ HasLogRoom spare doubts undos (kept_room cut room) }
+    ensures more { (spare doubts freed : ℕ) (undos : List SessionTxn) (room : LogRoom) → HasLogRoom spare doubts undos room →
+        room.stream_bytes + freed ≤ room.kept + MAX_LOG_BYTES → HasLogRoom (spare + freed) doubts undos (cut_room freed room) }
 {}
 
 /// Rollbacks of any transactions, in steps that take turns as they like, and the endings after them, have their room in the log.

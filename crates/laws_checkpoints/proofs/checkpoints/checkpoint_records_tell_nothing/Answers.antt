@@ -1,6 +1,6 @@
 use Rattle.std.proofs.Common.{[], ◌∷◌}
 use Rattle.laws_lives.proofs.Tickets.{still_tickets}
-use Rattle.laws_checkpoints.proofs.TellNothing.{doubts_are, image_is, loser_stays, loser_was, records_are, stays_after, stays_decided, stays_tracked, stays_whole, told_are}
+use Rattle.laws_lives.proofs.CheckpointRecords.{doubts_are, image_is, loser_stays, loser_was, records_are, stays_after, stays_decided, stays_tracked, stays_whole, told_are}
 use Rattle.laws_checkpoints.proofs.checkpoints.checkpoint_records_tell_nothing.Goals as goal
 
 pub returns-clause-told : goal.returns-clause-told

@@ -37,10 +37,10 @@ use Rattle.laws_lives.proofs.UnansweredChanges.{unanswered_other}
 use Rattle.laws_lives.proofs.UndoRecords.{lawful_next}
 use Rattle.laws_lives.proofs.Writers.{never_true}
 use Rattle.laws_lives.proofs.WritersTold.{in_doubt_parts}
-use Rattle.laws_checkpoints.proofs.KeptDoubts.{doubts_stand, prepared_is_one}
+use Rattle.laws_lives.proofs.LawfulPrepares.{doubts_stand, prepared_is_one}
 
 -- what the payload is not
-record IsPlain (p : Payload) : Type 0 where
+pub record IsPlain (p : Payload) : Type 0 where
   pub decides : is_decision p ≡ false
   pub commit : is_commit p ≡ false
   pub ends : is_end p ≡ false
@@ -49,7 +49,7 @@ record IsPlain (p : Payload) : Type 0 where
   pub image : image_in p ≡ None
   pub id : id_in p ≡ None
 
-plain_of : (p : Payload) → is_of_checkpoint p ≡ true → IsPlain p
+pub plain_of : (p : Payload) → is_of_checkpoint p ≡ true → IsPlain p
 plain_of CheckpointBegin h = record { decides = refl; commit = refl; ends = refl; prepare = refl; rollback = refl; image = refl; id = refl }
 plain_of (CheckpointEnd begin next txns dirty) h = record { decides = refl; commit = refl; ends = refl; prepare = refl; rollback = refl; image = refl; id = refl }
 plain_of (Anchor checkpoint tail) h = record { decides = refl; commit = refl; ends = refl; prepare = refl; rollback = refl; image = refl; id = refl }
@@ -119,7 +119,7 @@ module _ (log : List LogRecord) (r : LogRecord) (its : is_of_checkpoint r.payloa
   -- ---- beside the sessions
 
   module _ (lawful : Lawful log) (follows : MayFollow log r) where
-    no_one : r.txn ≡ 0
+    pub no_one : r.txn ≡ 0
     no_one = eqb-true r.txn 0 (sym follows.of ∙ its)
 
     pub stays_whole : (s : Sessions) → IsWholeLog log s → IsWholeLog after s
