@@ -11,8 +11,8 @@ use Rattle.shore_model.specs.declared.log_records.Payload.{Payload}
 use Rattle.shore_model.specs.declared.log_records.Payload.TheVariants.{Change, Compensation, Commit, End, Prepare, RollbackDecided, CheckpointBegin, CheckpointEnd, Anchor}
 use Rattle.shore_model.specs.Logs.{Answers, has, is_prepare, last_of, previous_of, unanswered, undo_next_of}
 use Rattle.laws_lives.specs.UndoChains.{IsUndoChain, next_named_by}
-use Rattle.shore_analysis.specs.Meant.{IsChange, IsMeant, Means, AreMeant, IsChangeFrom}
-use Rattle.shore_analysis.proofs.MeantLogs.{AreMeant-take, get_in_take, next_by_last, nothing_unanswered, taken_within}
+use Rattle.shore_analysis.specs.Meant.{IsChange, IsMeant, Means, AreMeantOf, IsChangeFrom}
+use Rattle.shore_analysis.proofs.MeantLogs.{AreMeantOf-take, get_in_take, next_by_last, nothing_unanswered, taken_within}
 
 pub one_or_none : (n : ℕ) → (n ≡ 0) ⊎ (0 < n)
 one_or_none zero = inl refl
@@ -46,16 +46,16 @@ change_free g log t CheckpointBegin change says = absurd change
 change_free g log t (CheckpointEnd begin next txns dirty) change says = absurd change
 change_free g log t (Anchor checkpoint tail) change says = absurd change
 
-module _ (g : Geometry) (log : List LogRecord) (meant : AreMeant g log) where
-  pub next_behind : (n : ℕ) (r : LogRecord) (o : Option LogRecord) → slice_get log n ≡ Some r → IsChange r.payload → (0 < r.previous → o ≡ slice_get log (r.previous - 1)) → (r.previous ≡ 0 → o ≡ None)
+module _ (g : Geometry) (log : List LogRecord) where
+  pub next_behind : (n : ℕ) (r : LogRecord) → AreMeantOf g r.txn log → (o : Option LogRecord) → slice_get log n ≡ Some r → IsChange r.payload → (0 < r.previous → o ≡ slice_get log (r.previous - 1)) → (r.previous ≡ 0 → o ≡ None)
       → named r.previous o ≡ undo_next_of (unanswered r.txn (take n log))
-  next_behind n r o at change some none =
-      let here : IsMeant g (take n log) r = (meant n r at).0 in
+  next_behind n r meant o at change some none =
+      let here : IsMeant g (take n log) r = meant n r at refl in
       let names : r.previous ≡ last_of r.txn (take n log) = here.previous ∙ last_named (take n log) r.txn here.some in
       elim (one_or_none r.previous) [
         | inl first ↦ ap (named r.previous) (none first) ∙ sym (ap undo_next_of (nothing_unanswered (take n log) r.txn (sym names ∙ first)))
         | inr later ↦
-            let next = next_by_last g (take n log) (AreMeant-take g log n meant) r.txn here.not_over (change_free g (take n log) r.txn r.payload change here.says) (omega (arith, names)) in
+            let next = next_by_last g r.txn (take n log) (AreMeantOf-take g r.txn log n meant) here.not_over (change_free g (take n log) r.txn r.payload change here.says) (omega (arith, names)) in
             let there : slice_get log (last_of r.txn (take n log) - 1) ≡ Some next.found =
             sym (get_in_take log n (last_of r.txn (take n log) - 1) (taken_within log n (last_of r.txn (take n log) - 1) next.found next.here)) ∙ next.here in
             ap (named r.previous) (some later ∙ ap (λ k. slice_get log (k - 1)) names ∙ there) ∙ ap (λ k. next_named_by k next.found.payload) names ∙ sym next.next
@@ -69,7 +69,7 @@ pub record Tells (cs : List UnansweredChange) (found : LogRecord) (behind : ℕ)
 module _ (log : List LogRecord) (t : ℕ) (id : Rid) (image : Image) (undo_next : ℕ) where
   pub answer_told : (newest : ℕ) (cs : List UnansweredChange) → IsUndoChain log t cs → newest ≡ undo_next_of cs → (found : LogRecord) (behind : ℕ)
       → (0 < newest → Some found ≡ slice_get log (newest - 1)) → (newest ≡ 0 → ⊥)
-      → ((n : ℕ) → slice_get log n ≡ Some found → IsChange found.payload → behind ≡ undo_next_of (unanswered found.txn (take n log)))
+      → ((n : ℕ) → slice_get log n ≡ Some found → found.txn ≡ t → IsChange found.payload → behind ≡ undo_next_of (unanswered found.txn (take n log)))
       → Tells cs found behind id image undo_next
   answer_told newest [] chain is found behind some none names = absurd (none is)
   answer_told newest (c ∷ cs) chain is found behind some none names =
@@ -81,7 +81,7 @@ module _ (log : List LogRecord) (t : ℕ) (id : Rid) (image : Image) (undo_next 
       let own : found.txn ≡ t = ap (λ r. r.txn) (sym same) ∙ k.own in
       let says : IsChangeFrom id image found.payload ≡ ((c.id ≡ id) × (c.before ≡ image)) = ap (λ r. IsChangeFrom id image r.payload) (sym same) ∙ ap (IsChangeFrom id image) k.says in
       let is_change : IsChange found.payload = subst IsChange (sym k.says ∙ ap (λ r. r.payload) same) tt in
-      let next : behind ≡ undo_next_of cs = names (c.number - 1) at_number is_change ∙ ap (λ u. undo_next_of (unanswered u (take (c.number - 1) log))) own ∙ ap undo_next_of k.before in
+      let next : behind ≡ undo_next_of cs = names (c.number - 1) at_number own is_change ∙ ap (λ u. undo_next_of (unanswered u (take (c.number - 1) log))) own ∙ ap undo_next_of k.before in
       record {
         needs = λ a. (a.0 ∙ sym next, subst (λ P. P) (sym says) (sym a.1, sym a.2));
         enough = λ e change. let both : (c.id ≡ id) × (c.before ≡ image) = subst (λ P. P) says change in (e ∙ next, sym both.0, sym both.1);

@@ -13,6 +13,9 @@ use Rattle.laws_lives.proofs.UnansweredChanges.{unanswered_other, unanswered_own
 use Rattle.laws_lives.proofs.UndoChains.{unanswered_chain}
 use Rattle.laws_lives.proofs.Writers.{same_or_not}
 use Rattle.shore_analysis.specs.Meant.{IsChange}
+use Rattle.shore_analysis.specs.Padded.{padded}
+use Rattle.shore_analysis.proofs.KeptMeans.{unanswered_padded}
+use Rattle.shore_analysis.proofs.Padding.{behind_cut, length_padded, padded-push}
 
 abbrev pub numbers_of : List UnansweredChange → List ℕ
 numbers_of cs = map (λ c. c.number) cs
@@ -78,6 +81,21 @@ module _ (t : ℕ) (log : List LogRecord) where
         none [] e = refl
         none (c ∷ cs) e = absurd (omega (arith, e))
 
+    -- the next one is the transaction's
+    pub listed_own : 0 < next → (r : LogRecord) → slice_get log (next - 1) ≡ Some r → r.txn ≡ t
+    listed_own some r there = by listed.left listed.chain listed.first
+      where
+        value : LogRecord → Option LogRecord → LogRecord
+        value d None = d
+        value d (Some x) = x
+
+        by : (left : List UnansweredChange) → IsUndoChain log t left → next ≡ undo_next_of left → r.txn ≡ t
+        by [] chain first = absurd (omega (arith, first, some))
+        by (c ∷ cs) chain first =
+            let k = chain.0 in
+            let same : k.found ≡ r = ap (value r) (sym k.here ∙ ap (λ n. slice_get log (n - 1)) (sym first) ∙ there) in
+            ap (λ (x : LogRecord). x.txn) (sym same) ∙ k.own
+
     -- one more
     pub one_listed : 0 < next → (r : LogRecord) → slice_get log (next - 1) ≡ Some r → (behind : ℕ)
         → (slice_get log (next - 1) ≡ Some r → IsChange r.payload → behind ≡ undo_next_of (unanswered r.txn (take (next - 1) log))) → AreListed (numbers ++ next ∷ []) behind (counter + 1)
@@ -105,3 +123,42 @@ module _ (t : ℕ) (log : List LogRecord) where
                   ∙ ap (λ n. undo_next_of (unanswered t (take (n - 1) log))) first ∙ ap undo_next_of k.before;
               few = omega (arith, few);
             }
+
+-- ---- in a log whose front is cut off
+
+module _ (t : ℕ) (one : 0 < t) (cut : ℕ) where
+  kept_most : (kept : List LogRecord) → length (unanswered t (padded cut kept)) ≤ length kept
+  kept_most = by_push (λ kept. length (unanswered t (padded cut kept)) ≤ length kept) (let none = ap length (unanswered_padded t one cut []) in omega (arith, none)) one_more
+    where
+      one_more : (kept : List LogRecord) (r : LogRecord) → length (unanswered t (padded cut kept)) ≤ length kept
+          → length (unanswered t (padded cut (kept ++ r ∷ []))) ≤ length (kept ++ r ∷ [])
+      one_more kept r known =
+          let push = ap (λ xs. length (unanswered t xs)) (padded-push cut kept r) in
+          let long = length-append kept (r ∷ []) in
+          ⊎_elim
+          (λ own.
+          let most = answered_most (1 + length (padded cut kept)) r.payload (unanswered t (padded cut kept)) in
+          omega (arith, known, most, push, long, ap length (unanswered_own t (padded cut kept) r own)))
+          (λ ne. omega (arith, known, push, long, ap length (unanswered_other t (padded cut kept) r ne)))
+          (same_or_not r.txn t)
+
+  module _ (kept : List LogRecord) where
+    pub none_kept_listed : (newest : ℕ) → newest ≡ undo_next_of (unanswered t (padded cut kept)) → AreListed t (padded cut kept) [] newest (cut + 0)
+    none_kept_listed newest is = record {
+      left = unanswered t (padded cut kept);
+      all = refl;
+      chain = unanswered_chain (padded cut kept) t;
+      first = is;
+      few = let most = kept_most kept in let long = length_padded cut kept in omega (arith, most, long);
+    }
+
+    -- the next one is not cut off
+    pub listed_behind : (numbers : List ℕ) (next counter : ℕ) → AreListed t (padded cut kept) numbers next counter → 0 < next → cut < next
+    listed_behind numbers next counter listed some = by listed.left listed.chain listed.first
+      where
+        by : (left : List UnansweredChange) → IsUndoChain (padded cut kept) t left → next ≡ undo_next_of left → cut < next
+        by [] chain first = absurd (omega (arith, first, some))
+        by (c ∷ cs) chain first =
+            let k = chain.0 in
+            let le = behind_cut cut (c.number - 1) kept k.found k.here (subst (λ u. 0 < u) (sym k.own) one) in
+            omega (arith, first, some, le)

@@ -12,7 +12,7 @@ use Rattle.laws_lives.proofs.Numbers.{last_own, newest_other}
 use Rattle.laws_lives.proofs.OneMore.{by_push}
 use Rattle.laws_lives.proofs.Redo.{slice_get_last}
 use Rattle.laws_lives.proofs.Writers.{no_place, same_or_not}
-use Rattle.shore_analysis.specs.Meant.{AreMeant}
+use Rattle.shore_analysis.specs.Meant.{AreMeantOf}
 use Rattle.shore_analysis.proofs.Answered.{last_named}
 use Rattle.shore_analysis.proofs.MeantLogs.{before_last, get_in_take, longer_get, take_in_take}
 
@@ -141,11 +141,11 @@ module _ (t : ℕ) (gs : List Granule) where
     pub own_back : 0 < number → (r : LogRecord) → slice_get log (number - 1) ≡ Some r → r.txn ≡ t
     own_back some r there = (next_back some r there).own
 
-    pub one_back : (g : Geometry) → AreMeant g log → 0 < t → 0 < number → (r : LogRecord) → slice_get log (number - 1) ≡ Some r → KeepsUnder t gs r
+    pub one_back : (g : Geometry) → AreMeantOf g t log → 0 < t → 0 < number → (r : LogRecord) → slice_get log (number - 1) ≡ Some r → KeepsUnder t gs r
         → SeenBack log r.previous (counter + 1)
     one_back g meant some_txn some r there keeps =
         let back = next_back some r there in
-        let here = (meant (number - 1) r there).0 in
+        let here = meant (number - 1) r there back.own in
         let few = seen.few in
         let before = take (number - 1) log in
         let last : r.previous ≡ last_of t before = here.previous ∙ last_named before r.txn here.some ∙ ap (λ u. last_of u before) back.own in

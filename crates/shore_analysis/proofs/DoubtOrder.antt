@@ -8,23 +8,21 @@ use Rattle.std.proofs.lemmas.List.{get_or-map, length-map}
 use Rattle.std.proofs.lemmas.List.Elements.{All-from_recursion, recursion_from_All}
 use Rattle.std.proofs.lemmas.List.Sorted.{All-permutation, Contains-permutation, IsPermutation-map}
 use Rattle.std.proofs.lemmas.Map.Keys.{IsDistinct-IsPermutation, IsStrictlyIncreasing-from_distinct, sorted_from_strictly_increasing}
-use Rattle.shore_types.specs.declared.layout.Geometry.{Geometry}
 use Rattle.shore_model.specs.declared.log_records.LogRecord.{LogRecord}
 use Rattle.shore_model.specs.declared.log_records.LogTxn.{LogTxn}
 use Rattle.shore_model.specs.Logs.{IsEntry, IsTable, in_doubt_in, is_in_doubt, is_prepared, prepare_number, rise_above}
 use Rattle.laws_lives.specs.Views.{IsAmong}
 use Rattle.laws_lives.proofs.Booleans.{and_true}
 use Rattle.laws_lives.proofs.DoubtRecords.{among_filter}
-use Rattle.shore_analysis.specs.Meant.{AreMeant}
 use Rattle.shore_analysis.specs.Passes.{begun}
 use Rattle.laws_lives.specs.Doubts.{doubts_in}
 use Rattle.shore_analysis.specs.Doubts.{doubt_at}
 use Rattle.shore_analysis.proofs.Counted.{Among, doubt_listed}
-use Rattle.shore_analysis.proofs.DoubtsTold.{doubts_told}
-use Rattle.shore_analysis.proofs.InOrder.{Rises, all_among, among_contains, among_map, contains_among, filter_among, is_among, map_among, one_of_all, prepares, prepares_rise, rises_filter, rises_from, same_rising, txn_at, txn_is}
+use Rattle.shore_analysis.proofs.DoubtsTold.{once_told}
+use Rattle.shore_analysis.proofs.InOrder.{PrepareOnce, Rises, all_among, among_contains, among_map, contains_among, filter_among, is_among, map_among, once_rise, one_of_all, prepares, rises_filter, rises_from, same_rising, txn_at, txn_is}
 use Rattle.shore_analysis.proofs.MeantLogs.{in_doubt_prepared}
 use Rattle.shore_analysis.proofs.OneMore.{prepare_known}
-use Rattle.shore_analysis.proofs.Phases.{in_doubt_runs}
+use Rattle.shore_analysis.proofs.Phases.{IsUndecided}
 
 eqb_comm : (m n : ℕ) → eqb m n ≡ eqb n m
 eqb_comm m n = ⊎_elim (λ same. eq-eqb m n same ∙ sym (eq-eqb n m (sym same))) (λ other. ne_eqb m n other ∙ sym (ne_eqb n m (λ same. other (sym same)))) (cases_eq m n)
@@ -35,7 +33,7 @@ is_doubtful e = is_prepared e.state
 abbrev prepare_of : LogTxn → ℕ
 prepare_of e = e.prepare
 
-module _ (g : Geometry) (log : List LogRecord) (meant : AreMeant g log) where
+module _ (log : List LogRecord) (once : PrepareOnce log) (running : (t : ℕ) → is_in_doubt t log ≡ true → IsUndecided log t) where
   abbrev number : ℕ → ℕ
   number t = prepare_number t log
 
@@ -50,7 +48,7 @@ module _ (g : Geometry) (log : List LogRecord) (meant : AreMeant g log) where
   is_in_doubt_in t doubts = filter_among in_doubt t (prepares log) (is_among t log (in_doubt_prepared t log doubts)) doubts
 
   doubts_rise : Rises (map number (in_doubt_in log))
-  doubts_rise = rises_filter number in_doubt (prepares log) (prepares_rise g log meant).rise
+  doubts_rise = rises_filter number in_doubt (prepares log) (once_rise log once).rise
 
   -- an entry of one in doubt
   record IsDoubt (e : LogTxn) : Type 0 where
@@ -140,7 +138,7 @@ module _ (g : Geometry) (log : List LogRecord) (meant : AreMeant g log) where
       to_found n a =
           let at = map_among number n (in_doubt_in log) a in
           let doubts = (among_filter in_doubt at.0 (prepares log) at.1).1 in
-          let runs = in_doubt_runs g log meant at.0 doubts in
+          let runs = running at.0 doubts in
           let one = among_of at.0 picked (doubt_listed log txns table at.0 runs.some runs.known runs.runs doubts) in
           let d = one_of_all IsDoubt one.0 picked all_doubts one.1 in
           let is : one.0.prepare ≡ n = d.prepare ∙ ap number one.2 ∙ at.2 in
@@ -178,4 +176,4 @@ module _ (g : Geometry) (log : List LogRecord) (meant : AreMeant g log) where
       by_txns (t ∷ ts) = ap (λ ds. doubt_at log (number t) ∷ ds) (by_txns ts)
 
       pub say_the_doubts : map (λ e. doubt_at log e.prepare) found ≡ map (λ d. Some d) (doubts_in log)
-      say_the_doubts = by_numbers found ∙ ap (map (doubt_at log)) same_numbers ∙ by_txns (in_doubt_in log) ∙ doubts_told g log meant
+      say_the_doubts = by_numbers found ∙ ap (map (doubt_at log)) same_numbers ∙ by_txns (in_doubt_in log) ∙ once_told log once

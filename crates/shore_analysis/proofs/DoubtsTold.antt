@@ -13,9 +13,9 @@ use Rattle.shore_model.specs.Logs.{in_doubt_in, is_in_doubt, is_prepare, prepare
 use Rattle.laws_lives.specs.Doubts.{LoggedDoubt, doubt_by, doubt_of, doubts_in}
 use Rattle.laws_lives.proofs.Redo.{slice_get_last}
 use Rattle.shore_analysis.specs.Doubts.{doubt_at}
-use Rattle.shore_analysis.specs.Meant.{AreMeant, IsMeant}
-use Rattle.shore_analysis.proofs.InOrder.{number_kept, number_new_own, prepare_is, prepares, prepares-push, prepares_rise}
-use Rattle.shore_analysis.proofs.MeantLogs.{by_meant, longer_get}
+use Rattle.shore_analysis.specs.Meant.{AreMeant}
+use Rattle.shore_analysis.proofs.InOrder.{PrepareOnce, PreparesOnce, meant_once, number_kept, number_once, once_rise, prepare_is, prepares, prepares-push}
+use Rattle.shore_analysis.proofs.MeantLogs.{by_each, longer_get}
 
 -- ---- what a Prepare says
 
@@ -65,9 +65,9 @@ some_doubt d = Some d
 AreTold : List LogRecord → Type 0
 AreTold log = map some_doubt (filter_map doubt_of log) ≡ map (told log) (prepares log)
 
-are_told : (g : Geometry) (log : List LogRecord) → AreMeant g log → AreTold log
+are_told : (log : List LogRecord) → PrepareOnce log → AreTold log
 unfolding AreTold
-are_told g log meant = (by_meant g (λ log. AreTold log × AllByRecursion (λ t. 0 < prepare_number t log) (prepares log)) (refl, tt) one_more log meant).0
+are_told log once = (by_each PreparesOnce (λ log. AreTold log × AllByRecursion (λ t. 0 < prepare_number t log) (prepares log)) (refl, tt) one_more log once).0
   where
     kept : (log : List LogRecord) (r : LogRecord) (ts : List ℕ) → AllByRecursion (λ t. 0 < prepare_number t log) ts → map (told (log ++ r ∷ [])) ts ≡ map (told log) ts
     kept log r [] h = refl
@@ -87,12 +87,12 @@ are_told g log meant = (by_meant g (λ log. AreTold log × AllByRecursion (λ t.
     push P [] t h last = (last, tt)
     push P (u ∷ ts) t h last = (h.0, push P ts t h.1 last)
 
-    one_more : (log : List LogRecord) (r : LogRecord) → IsMeant g log r → AreTold log × AllByRecursion (λ t. 0 < prepare_number t log) (prepares log)
+    one_more : (log : List LogRecord) (r : LogRecord) → PreparesOnce log r → AreTold log × AllByRecursion (λ t. 0 < prepare_number t log) (prepares log)
         → AreTold (log ++ r ∷ []) × AllByRecursion (λ t. 0 < prepare_number t (log ++ r ∷ [])) (prepares (log ++ r ∷ []))
-    one_more log r meant known = ⊎_elim
+    one_more log r once known = ⊎_elim
         (λ is.
         let one = one_told r.txn r.payload is in
-        let number : prepare_number r.txn (log ++ r ∷ []) ≡ 1 + length log = number_new_own g log r meant is in
+        let number : prepare_number r.txn (log ++ r ∷ []) ≡ 1 + length log = number_once log r (once is) is in
         let at : prepare_number r.txn (log ++ r ∷ []) - 1 ≡ length log = omega (arith, number) in
         let last : told (log ++ r ∷ []) r.txn ≡ Some one.0 =
         doubt_there (log ++ r ∷ []) (prepare_number r.txn (log ++ r ∷ [])) r (omega (arith, number)) (ap (slice_get (log ++ r ∷ [])) at ∙ slice_get_last log r) ∙ one.1 in
@@ -141,12 +141,15 @@ picked_told q f (d ∷ ds) (t ∷ ts) own same =
     by false true e head rest = cc
 
 -- what the log says of those in doubt is told under the numbers of their Prepares
-pub doubts_told : (g : Geometry) (log : List LogRecord) → AreMeant g log → map (λ t. doubt_at log (prepare_number t log)) (in_doubt_in log) ≡ map (λ d. Some d) (doubts_in log)
+pub once_told : (log : List LogRecord) → PrepareOnce log → map (λ t. doubt_at log (prepare_number t log)) (in_doubt_in log) ≡ map (λ d. Some d) (doubts_in log)
 unfolding AreTold
-doubts_told g log meant = sym (picked_told (λ t. is_in_doubt t log) (told log) (filter_map doubt_of log) (prepares log) (own (prepares log) (prepares_rise g log meant).some) (are_told g log meant))
+once_told log once = sym (picked_told (λ t. is_in_doubt t log) (told log) (filter_map doubt_of log) (prepares log) (own (prepares log) (once_rise log once).some) (are_told log once))
   where
     own : (ts : List ℕ) → AllByRecursion (λ t. 0 < prepare_number t log) ts → AllByRecursion (λ t. (d : LoggedDoubt) → told log t ≡ Some d → d.txn ≡ t) ts
     own [] h = tt
     own (t ∷ ts) h =
         let one = prepare_is t log h.0 in
         (λ d is. told_txn one.found.txn one.found.payload d (sym (doubt_there log (prepare_number t log) one.found h.0 one.here) ∙ is) ∙ one.own, own ts h.1)
+
+pub doubts_told : (g : Geometry) (log : List LogRecord) → AreMeant g log → map (λ t. doubt_at log (prepare_number t log)) (in_doubt_in log) ≡ map (λ d. Some d) (doubts_in log)
+doubts_told g log meant = once_told log (meant_once g log meant)

@@ -10,7 +10,7 @@ use Rattle.shore_model.specs.declared.unanswered_changes.UnansweredChange.{Unans
 use Rattle.shore_model.specs.declared.log_records.LogRecord.{LogRecord}
 use Rattle.shore_model.specs.declared.log_records.LogTxn.{LogTxn}
 use Rattle.shore_model.specs.declared.log_records.Payload.TheVariants.{Compensation}
-use Rattle.shore_model.specs.Logs.{IsEntry, is_over, is_commit, is_end, is_prepare, is_prepared, is_rollback, first_number, last_of, answered_by, unanswered, undo_next_of}
+use Rattle.shore_model.specs.Logs.{IsEntry, IsTable, is_over, is_commit, is_end, is_prepare, is_prepared, is_rollback, first_number, last_of, answered_by, unanswered, undo_next_of}
 use Rattle.laws_lives.specs.Views.{IsAmong}
 use Rattle.laws_lives.proofs.EndedTxns.{over_now, over_other, over_same}
 use Rattle.laws_lives.proofs.UnansweredChanges.{unanswered_other, unanswered_own}
@@ -18,15 +18,13 @@ use Rattle.laws_lives.specs.Undo.{IsLoser, undo_payload, undo_record}
 use Rattle.laws_lives.proofs.Numbers.{last_own, newest_other}
 use Rattle.laws_lives.proofs.OneMore.{has-not_this}
 use Rattle.laws_lives.proofs.Writers.{same_or_not}
-use Rattle.shore_analysis.specs.declared.analysis.Tables.{Tables}
-use Rattle.shore_analysis.specs.Tables.{AreTables}
 use Rattle.shore_analysis.proofs.Counted.{Among, loser_listed}
 use Rattle.shore_analysis.proofs.Phases.{doubt-by, doubt_other}
 use Rattle.shore_analysis.specs.Losers.{AreEntriesOfLosers, IsEntryOfLoser, IsNextToUndo, NeedNotWait, is_another, is_of_loser, with_numbers}
 
 -- ---- the table of a log
 
-module _ (log : List LogRecord) (tables : Tables) (are : AreTables log tables) where
+module _ (log : List LogRecord) (txns : List LogTxn) (table : IsTable log txns) where
   among_map : (t : ℕ) (es : List LogTxn) → Among t es → IsAmong t (map (λ e. e.txn) es)
   among_map t [] h = h
   among_map t (e ∷ es) (inl own) = inl own
@@ -50,10 +48,10 @@ module _ (log : List LogRecord) (tables : Tables) (are : AreTables log tables) w
       (λ no. subst (λ b. AllByRecursion (IsEntryOfLoser log) (cond b (e ∷ filter is_of_loser es) (filter is_of_loser es))) (sym no) (entries es h.1))
       (cases_Bool (is_of_loser e))
 
-  pub of_tables : AreEntriesOfLosers log (filter is_of_loser tables.txns)
-  of_tables = record {
-    each = entries tables.txns (recursion_from_All (IsEntry log) tables.txns are.txns.each);
-    every = λ t loser. among_map t (filter is_of_loser tables.txns) (loser_listed log tables.txns are.txns t loser);
+  pub of_table : AreEntriesOfLosers log (filter is_of_loser txns)
+  of_table = record {
+    each = entries txns (recursion_from_All (IsEntry log) txns table.each);
+    every = λ t loser. among_map t (filter is_of_loser txns) (loser_listed log txns table t loser);
   }
 
 -- ---- one record more
@@ -70,7 +68,7 @@ module _ (log : List LogRecord) (r : LogRecord) (u : ℕ) (ne : r.txn ≢ u) whe
     not_in_doubt = doubt_other log r u ne ∙ h.not_in_doubt;
   }
 
-  was_loser : IsLoser (log ++ r ∷ []) u → IsLoser log u
+  pub was_loser : IsLoser (log ++ r ∷ []) u → IsLoser log u
   was_loser h = record {
     is_one = h.is_one;
     known = subst (λ n. 0 < n) last_other h.known;

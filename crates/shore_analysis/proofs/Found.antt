@@ -45,13 +45,13 @@ module _ (found : List LogRecord) (ts : List ℕ) (log : List LogRecord) (undone
       change_found found ts log undone t c cs chain.0
 
   -- its record is found
-  record Stands (c : UnansweredChange) (cs : List UnansweredChange) : Type 0 where
+  pub record Stands (c : UnansweredChange) (cs : List UnansweredChange) : Type 0 where
     pub some : 0 < change
     pub at : IsChangeAt found t c cs
     pub here : slice_get found (change - 1) ≡ Some at.found
     pub below : unanswered at.found.txn (take (change - 1) found) ≡ cs
 
-  stands : (c : UnansweredChange) (cs : List UnansweredChange) → unanswered t log ≡ c ∷ cs → Stands c cs
+  pub stands : (c : UnansweredChange) (cs : List UnansweredChange) → unanswered t log ≡ c ∷ cs → Stands c cs
   stands c cs e =
       let at = newest_found c cs e in
       let same : c.number ≡ change = sym (next_is ∙ ap undo_next_of e) in

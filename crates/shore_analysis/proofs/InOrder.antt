@@ -1,5 +1,5 @@
 -- Those in doubt, in the order of their Prepares: by the log, and by their entries.
-use Rattle.std.proofs.Common.{◌≡◌, inl, inr, ⊎_elim, ◌+◌, ◌-◌, ◌<◌, ◌≤◌, ℕ, zero, suc, List, [], ◌∷◌, ◌++◌, Bool, true, false, cond, Option, Some, None, map, refl, sym, ap, subst, ◌∙◌, length, length-append, arith}
+use Rattle.std.proofs.Common.{◌≡◌, inl, inr, ⊎_elim, ◌+◌, ◌-◌, ◌<◌, ◌≤◌, ℕ, zero, suc, List, [], ◌∷◌, ◌++◌, Bool, true, false, cond, Option, Some, None, map, refl, sym, ap, subst, ◌∙◌, length, length-append, take, arith}
 use Rattle.std.specs.Prelude.{◌==◌, ◌&&◌, Contains, filter, slice_get, slice_index_or}
 use Rattle.std.specs.List.{AllByRecursion, cons_option, filter_map}
 use Rattle.std.specs.List.Sorted.{IsStrictlySortedBy}
@@ -10,7 +10,9 @@ use Rattle.std.proofs.lemmas.List.{append-nil, map-append}
 use Rattle.std.proofs.lemmas.List.Elements.{filter_map-append}
 use Rattle.shore_types.specs.declared.layout.Geometry.{Geometry}
 use Rattle.shore_model.specs.declared.log_records.LogRecord.{LogRecord}
-use Rattle.shore_model.specs.Logs.{has, is_prepare, prepare_number, prepare_of}
+use Rattle.shore_model.specs.declared.log_records.Payload.{Payload}
+use Rattle.shore_model.specs.declared.log_records.Payload.TheVariants.{Change, Compensation, Commit, End, Prepare, RollbackDecided, CheckpointBegin, CheckpointEnd, Anchor}
+use Rattle.shore_model.specs.Logs.{Lawful, MaySay, has, is_prepare, prepare_number, prepare_of}
 use Rattle.laws_lives.specs.Views.{IsAmong}
 use Rattle.laws_lives.proofs.Booleans.{and_true, or_true}
 use Rattle.laws_lives.proofs.OneMore.{by_push}
@@ -18,9 +20,9 @@ use Rattle.laws_lives.proofs.Redo.{slice_get_last}
 use Rattle.shore_analysis.specs.Meant.{AreMeant, IsMeant}
 use Rattle.shore_analysis.proofs.Answered.{one_or_none}
 use Rattle.shore_analysis.proofs.Listed.{below}
-use Rattle.shore_analysis.proofs.MeantLogs.{by_meant, longer_get}
+use Rattle.shore_analysis.proofs.MeantLogs.{by_each, longer_get}
 use Rattle.shore_analysis.proofs.OneMore.{first-push, prepare_none}
-use Rattle.shore_analysis.proofs.Phases.{prepare_free}
+use Rattle.shore_analysis.proofs.Phases.{no_prepare, prepare_free}
 
 -- ---- lists
 
@@ -203,10 +205,37 @@ prepare_is t = by_push (λ log. 0 < prepare_number t log → PrepareIs log t) (�
         })
         (one_or_none (prepare_number t log))
 
--- a Prepare gives its transaction its own number
+-- a Prepare is its transaction's first
+abbrev pub PreparesOnce : List LogRecord → LogRecord → Type 0
+PreparesOnce log r = is_prepare r.payload ≡ true → has is_prepare r.txn log ≡ false
+
+-- so is each of a log
+abbrev pub PrepareOnce : List LogRecord → Type 0
+PrepareOnce log = (n : ℕ) (r : LogRecord) → slice_get log n ≡ Some r → PreparesOnce (take n log) r
+
+pub meant_once : (g : Geometry) (log : List LogRecord) → AreMeant g log → PrepareOnce log
+meant_once g log meant n r at is = prepare_free g (take n log) r.txn r.payload is (meant n r at).0.says
+
+pub lawful_once : (log : List LogRecord) → Lawful log → PrepareOnce log
+lawful_once log lawful n r at is = free (take n log) r.txn r.payload is (lawful n r at).says
+  where
+    free : (rs : List LogRecord) (t : ℕ) (p : Payload) → is_prepare p ≡ true → MaySay rs t p → has is_prepare t rs ≡ false
+    free rs t (Prepare global granules) e says = no_prepare t rs says.0
+    free rs t (Change id before after) e says = cc
+    free rs t (Compensation id after undo_next) e says = cc
+    free rs t Commit e says = cc
+    free rs t End e says = cc
+    free rs t RollbackDecided e says = cc
+    free rs t CheckpointBegin e says = cc
+    free rs t (CheckpointEnd begin next txns dirty) e says = cc
+    free rs t (Anchor checkpoint tail) e says = cc
+
+-- it gives its transaction its own number
+pub number_once : (log : List LogRecord) (r : LogRecord) → has is_prepare r.txn log ≡ false → is_prepare r.payload ≡ true → prepare_number r.txn (log ++ r ∷ []) ≡ 1 + length log
+number_once log r free is = number_new r.txn log r (prepare_none r.txn log free) (ap (λ b. b && is_prepare r.payload) (eq-eqb r.txn r.txn refl) ∙ is)
+
 pub number_new_own : (g : Geometry) (log : List LogRecord) (r : LogRecord) → IsMeant g log r → is_prepare r.payload ≡ true → prepare_number r.txn (log ++ r ∷ []) ≡ 1 + length log
-number_new_own g log r meant is =
-    number_new r.txn log r (prepare_none r.txn log (prepare_free g log r.txn r.payload is meant.says)) (ap (λ b. b && is_prepare r.payload) (eq-eqb r.txn r.txn refl) ∙ is)
+number_new_own g log r meant is = number_once log r (prepare_free g log r.txn r.payload is meant.says) is
 
 -- whose record this number is
 pub txn_of : Option LogRecord → ℕ
@@ -225,8 +254,8 @@ pub record PreparesRise (log : List LogRecord) : Type 0 where
   pub rise : Rises (map (λ t. prepare_number t log) (prepares log))
   pub some : AllByRecursion (λ t. 0 < prepare_number t log) (prepares log)
 
-pub prepares_rise : (g : Geometry) (log : List LogRecord) → AreMeant g log → PreparesRise log
-prepares_rise g = by_meant g PreparesRise (record { rise = tt; some = tt }) one_more
+pub once_rise : (log : List LogRecord) → PrepareOnce log → PreparesRise log
+once_rise = by_each PreparesOnce PreparesRise (record { rise = tt; some = tt }) one_more
   where
     kept : (log : List LogRecord) (r : LogRecord) (ts : List ℕ) → AllByRecursion (λ t. 0 < prepare_number t log) ts
         → map (λ t. prepare_number t (log ++ r ∷ [])) ts ≡ map (λ t. prepare_number t log) ts
@@ -245,11 +274,11 @@ prepares_rise g = by_meant g PreparesRise (record { rise = tt; some = tt }) one_
     push P [] t h last = (last, tt)
     push P (u ∷ ts) t h last = (h.0, push P ts t h.1 last)
 
-    one_more : (log : List LogRecord) (r : LogRecord) → IsMeant g log r → PreparesRise log → PreparesRise (log ++ r ∷ [])
-    one_more log r meant known = ⊎_elim
+    one_more : (log : List LogRecord) (r : LogRecord) → PreparesOnce log r → PreparesRise log → PreparesRise (log ++ r ∷ [])
+    one_more log r once known = ⊎_elim
         (λ is.
         let ts : prepares (log ++ r ∷ []) ≡ prepares log ++ r.txn ∷ [] = prepares-push log r ∙ ap (λ b. prepares log ++ cond b (r.txn ∷ []) []) is in
-        let number : prepare_number r.txn (log ++ r ∷ []) ≡ 1 + length log = number_new_own g log r meant is in
+        let number : prepare_number r.txn (log ++ r ∷ []) ≡ 1 + length log = number_once log r (once is) is in
         let numbers : map (λ t. prepare_number t (log ++ r ∷ [])) (prepares log ++ r.txn ∷ []) ≡ map (λ t. prepare_number t log) (prepares log) ++ (1 + length log) ∷ [] =
         map-append (λ t. prepare_number t (log ++ r ∷ [])) (prepares log) (r.txn ∷ []) ∙ (λ i. kept log r (prepares log) known.some i ++ number i ∷ []) in
         record {
@@ -267,3 +296,6 @@ prepares_rise g = by_meant g PreparesRise (record { rise = tt; some = tt }) one_
           some = subst (AllByRecursion (λ t. 0 < prepare_number t (log ++ r ∷ []))) (sym ts) (still log r (prepares log) known.some);
         })
         (cases_Bool (is_prepare r.payload))
+
+pub prepares_rise : (g : Geometry) (log : List LogRecord) → AreMeant g log → PreparesRise log
+prepares_rise g log meant = once_rise log (meant_once g log meant)

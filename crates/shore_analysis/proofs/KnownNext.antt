@@ -17,7 +17,7 @@ use Rattle.shore_model.specs.Logs.{has, id_in, is_commit, is_end, is_over, is_pr
 use Rattle.laws_lives.proofs.Booleans.{is_equal, or_none, or_true}
 use Rattle.laws_lives.proofs.EndedTxns.{over_now, over_other, over_same}
 use Rattle.shore_analysis.specs.declared.passes.Pass.{Pass}
-use Rattle.shore_analysis.specs.Meant.{IsMeant, AreMeant}
+use Rattle.shore_analysis.specs.Meant.{IsMeant, AreMeantOf}
 use Rattle.shore_analysis.specs.Passes.{Knows, entry_after, entry_at, entry_of, is_ending, noted, over_after, phase_by, phase_of, progress_at, progress_by, txn_after}
 use Rattle.shore_analysis.specs.declared.progress.Phase.TheVariants.{Decided, Free, InDoubt}
 use Rattle.shore_analysis.specs.Tables.{IsNext, is_on_page}
@@ -88,29 +88,15 @@ progress_told rs t e there =
     ∙ (λ i. Some (record { last = last_of t rs; newest = undo_next_of (unanswered t rs); phase = phase_told rs t i }))
     ∙ sym (ap (λ b. cond b None (Some (record { last = last_of t rs; newest = undo_next_of (unanswered t rs); phase = phase_of t rs }))) runs.runs)
 
-module _ (g : Geometry) (rs : List LogRecord) (r : LogRecord) (all : AreMeant g rs) (meant : IsMeant g rs r) where
-  abbrev after : List LogRecord
-  after = rs ++ r ∷ []
+-- who has ended, and the next number, by one record more
+module _ (rs : List LogRecord) (r : LogRecord) where
+  abbrev behind : List LogRecord
+  behind = rs ++ r ∷ []
 
-  -- its own entry
-  own_txn : (n : ℕ) → n ≡ 1 + length rs → txn_after n r (entry_at r.txn rs) ≡ entry_at r.txn after
-  own_txn n is = ⊎_elim
-      (λ ends. ap (λ b. cond b None (Some (entry_after n r (entry_at r.txn rs)))) ends ∙ sym (over_none r.txn after (over_now rs r (or_true (is_commit r.payload) (is_end r.payload) ends))))
-      (λ stays.
-      let none = or_none (is_commit r.payload) (is_end r.payload) stays in
-      ap (λ b. cond b None (Some (entry_after n r (entry_at r.txn rs)))) stays ∙ ap (λ k. Some (entry_after k r (entry_at r.txn rs))) is ∙ goes_on g rs all r meant none.0 none.1)
-      (cases_Bool (is_ending r.payload))
-
-  running_next : (n : ℕ) → n ≡ 1 + length rs → (t : ℕ) → cond (is_at (nat_cmp r.txn) t) (txn_after n r (entry_at r.txn rs)) (entry_at t rs) ≡ entry_at t after
-  running_next n is t = ⊎_elim
-      (λ own. ap (λ b. cond b (txn_after n r (entry_at r.txn rs)) (entry_at t rs)) own.0 ∙ own_txn n is ∙ ap (λ u. entry_at u after) own.1)
-      (λ other. ap (λ b. cond b (txn_after n r (entry_at r.txn rs)) (entry_at t rs)) other.0 ∙ sym (entry-other rs r t other.1))
-      (key_cases r.txn t)
-
-  over_next : (t : ℕ) → over_after r t (is_over t rs) ≡ is_over t after
+  pub over_next : (t : ℕ) → over_after r t (is_over t rs) ≡ is_over t behind
   over_next t = ⊎_elim
       (λ own. ⊎_elim
-      (λ ends. rw (ends, own.0) (sym (ap (λ u. is_over u after) (sym own.1) ∙ over_now rs r (or_true (is_commit r.payload) (is_end r.payload) ends))))
+      (λ ends. rw (ends, own.0) (sym (ap (λ u. is_over u behind) (sym own.1) ∙ over_now rs r (or_true (is_commit r.payload) (is_end r.payload) ends))))
       (λ stays. let none = or_none (is_commit r.payload) (is_end r.payload) stays in rw (stays) (sym (over_same rs r none.0 none.1 t)))
       (cases_Bool (is_ending r.payload)))
       (λ other. ap (λ b. (is_ending r.payload && b) || is_over t rs) other.0 ∙ never (is_ending r.payload) (is_over t rs) ∙ sym (over_other rs r t other.1))
@@ -120,16 +106,35 @@ module _ (g : Geometry) (rs : List LogRecord) (r : LogRecord) (all : AreMeant g 
       never true b = refl
       never false b = refl
 
-  next_next : (old new : ℕ) → IsNext rs old → new ≡ max old (r.txn + 1) → IsNext after new
+  pub next_next : (old new : ℕ) → IsNext rs old → new ≡ max old (r.txn + 1) → IsNext behind new
   next_next old new known is = record {
     some = (let one = known.some in omega (arith, is));
     above = All-push (λ x. x.txn < new) rs r (All-weaker (λ x. x.txn < old) (λ x. x.txn < new) (λ x h. omega (arith, is, h)) rs known.above) (omega (arith, is));
     least = λ n one every.
-        let parts = All-pop (λ x. x.txn < n) after rs (Some r) refl every in
+        let parts = All-pop (λ x. x.txn < n) behind rs (Some r) refl every in
         let before = known.least n one parts.0 in
         let here : r.txn < n = parts.1 in
         omega (arith, is, before, here);
   }
+
+module _ (g : Geometry) (rs : List LogRecord) (r : LogRecord) (all : AreMeantOf g r.txn rs) (meant : IsMeant g rs r) where
+  abbrev after : List LogRecord
+  after = rs ++ r ∷ []
+
+  -- its own entry
+  own_txn : (n : ℕ) → n ≡ 1 + length rs → txn_after n r (entry_at r.txn rs) ≡ entry_at r.txn after
+  own_txn n is = ⊎_elim
+      (λ ends. ap (λ b. cond b None (Some (entry_after n r (entry_at r.txn rs)))) ends ∙ sym (over_none r.txn after (over_now rs r (or_true (is_commit r.payload) (is_end r.payload) ends))))
+      (λ stays.
+      let none = or_none (is_commit r.payload) (is_end r.payload) stays in
+      ap (λ b. cond b None (Some (entry_after n r (entry_at r.txn rs)))) stays ∙ ap (λ k. Some (entry_after k r (entry_at r.txn rs))) is ∙ goes_on g rs r all meant none.0 none.1)
+      (cases_Bool (is_ending r.payload))
+
+  running_next : (n : ℕ) → n ≡ 1 + length rs → (t : ℕ) → cond (is_at (nat_cmp r.txn) t) (txn_after n r (entry_at r.txn rs)) (entry_at t rs) ≡ entry_at t after
+  running_next n is t = ⊎_elim
+      (λ own. ap (λ b. cond b (txn_after n r (entry_at r.txn rs)) (entry_at t rs)) own.0 ∙ own_txn n is ∙ ap (λ u. entry_at u after) own.1)
+      (λ other. ap (λ b. cond b (txn_after n r (entry_at r.txn rs)) (entry_at t rs)) other.0 ∙ sym (entry-other rs r t other.1))
+      (key_cases r.txn t)
 
   pub knows_next : (n : ℕ) → n ≡ 1 + length rs → (old new : Pass) → Knows rs old
       → ((t : ℕ) → get nat_cmp new.running t ≡ cond (is_at (nat_cmp r.txn) t) (txn_after n r (get nat_cmp old.running r.txn)) (get nat_cmp old.running t))
@@ -139,7 +144,7 @@ module _ (g : Geometry) (rs : List LogRecord) (r : LogRecord) (all : AreMeant g 
       → Knows after new
   knows_next n is old new known running over dirty next = record {
     running = λ t. running t ∙ (λ i. cond (is_at (nat_cmp r.txn) t) (txn_after n r (known.running r.txn i)) (known.running t i)) ∙ running_next n is t;
-    over = λ t. over t ∙ ap (over_after r t) (known.over t) ∙ over_next t;
+    over = λ t. over t ∙ ap (over_after r t) (known.over t) ∙ over_next rs r t;
     dirty = λ p. dirty p ∙ (λ i. noted (is_on_page p (id_in r.payload)) (is i) (known.dirty p i)) ∙ recovery-push p rs r;
-    next = next_next old.next new.next known.next next;
+    next = next_next rs r old.next new.next known.next next;
   }

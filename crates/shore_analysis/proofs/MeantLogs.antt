@@ -1,5 +1,5 @@
 -- What is so in every log whose records mean what they have to.
-use Rattle.std.proofs.Common.{◌≡◌, ⊎_elim, ◌⊎◌, inl, inr, ◌+◌, ◌-◌, ◌<◌, ◌≤◌, ℕ, zero, suc, List, [], ◌∷◌, ◌++◌, Bool, true, false, Option, Some, None, refl, sym, ap, subst, ◌∙◌, length, take, drop, take_all, arith}
+use Rattle.std.proofs.Common.{◌≡◌, ◌≢◌, ⊎_elim, ◌⊎◌, inl, inr, ◌+◌, ◌-◌, ◌<◌, ◌≤◌, ℕ, zero, suc, List, [], ◌∷◌, ◌++◌, Bool, true, false, Option, Some, None, refl, sym, ap, subst, ◌∙◌, length, take, drop, take_all, arith}
 use Rattle.std.specs.Prelude.{◌==◌, ◌&&◌, not, slice_get, All, IsSomeAnd}
 use Rattle.std.proofs.lemmas.List.{take-append-le}
 use Rattle.std.proofs.lemmas.Option.{slice_get_within, get_or_from_slice_get}
@@ -21,7 +21,7 @@ use Rattle.laws_lives.proofs.Writers.{no_place, same_or_not}
 use Rattle.laws_lives.proofs.Booleans.{and_true}
 use Rattle.laws_lives.proofs.OneMore.{by_push, has-more, has-not_its, has-this}
 use Rattle.shore_analysis.specs.Passes.{undo_next_after}
-use Rattle.shore_analysis.specs.Meant.{AreGranules, granules_in, Means, IsMeant, IsCrowded, MayBeNext, AreMeant, IsFirstUnmeant, IsServedKind, IsInBounds}
+use Rattle.shore_analysis.specs.Meant.{AreGranules, granules_in, Means, IsMeant, IsCrowded, MayBeNext, AreMeant, AreMeantOf, IsFirstUnmeant, IsServedKind, IsInBounds}
 
 -- ---- lists
 
@@ -66,6 +66,23 @@ module _ {A : Type 0} where
   before_last [] x = refl
   before_last (y ∷ xs) x = ap (λ zs. y ∷ zs) (before_last xs x)
 
+-- ---- logs record by record
+
+-- P holds of a log if it holds of the empty one, and each record that is so behind those before it keeps it
+pub by_each : (Q : List LogRecord → LogRecord → Type 0) (P : List LogRecord → Type 0) → P [] → ((xs : List LogRecord) (r : LogRecord) → Q xs r → P xs → P (xs ++ r ∷ []))
+    → (log : List LogRecord) → ((n : ℕ) (r : LogRecord) → slice_get log n ≡ Some r → Q (take n log) r) → P log
+by_each Q P none more log each = subst P (take_all (length log) log (omega arith)) (up_to (length log) (omega arith))
+  where
+    one_more : (n : ℕ) → n < length log → (o : Option LogRecord) → slice_get log n ≡ o → P (take n log) → P (take (suc n) log)
+    one_more n lt None e h = absurd (no_place log n lt e)
+    one_more n lt (Some r) e h =
+        let on : n + 1 ≡ suc n = omega arith in
+        subst P (sym (take_next log n r e) ∙ ap (λ k. take k log) on) (more (take n log) r (each n r e) h)
+
+    up_to : (n : ℕ) → n ≤ length log → P (take n log)
+    up_to zero le = none
+    up_to (suc n) le = one_more n (omega arith) (slice_get log n) refl (up_to n (omega arith))
+
 -- ---- logs whose records mean what they have to
 
 module _ (g : Geometry) where
@@ -86,13 +103,29 @@ module _ (g : Geometry) where
   -- P holds of every such log, if it holds of the empty one and each record that means what it has to keeps it
   pub by_meant : (P : List LogRecord → Type 0) → P [] → ((xs : List LogRecord) (r : LogRecord) → IsMeant g xs r → P xs → P (xs ++ r ∷ []))
       → (log : List LogRecord) → AreMeant g log → P log
-  by_meant P none more log meant = subst P (take_all (length log) log (omega arith)) (up_to (length log) (omega arith))
+  by_meant P none more log meant = by_each (IsMeant g) P none more log (λ n r at. (meant n r at).0)
+
+  -- those of one transaction among them
+  pub meant_of : (log : List LogRecord) → AreMeant g log → (t : ℕ) → AreMeantOf g t log
+  meant_of log meant t n r at own = (meant n r at).0
+
+  pub AreMeantOf-take : (t : ℕ) (rs : List LogRecord) (n : ℕ) → AreMeantOf g t rs → AreMeantOf g t (take n rs)
+  AreMeantOf-take t rs n all k r h own =
+      let lt = taken_within rs n k r h in
+      subst (λ xs. IsMeant g xs r) (sym (take_in_take rs n k (omega arith))) (all k r (sym (get_in_take rs n k lt) ∙ h) own)
+
+  -- P holds of every log in which a transaction's records mean what they have to, if it holds of the empty one, each such record keeps it, and so does
+  -- any record of another
+  pub by_own : (t : ℕ) (P : List LogRecord → Type 0) → P [] → ((xs : List LogRecord) (r : LogRecord) → r.txn ≡ t → IsMeant g xs r → P xs → P (xs ++ r ∷ []))
+      → ((xs : List LogRecord) (r : LogRecord) → r.txn ≢ t → P xs → P (xs ++ r ∷ [])) → (log : List LogRecord) → AreMeantOf g t log → P log
+  by_own t P none own other log meant = subst P (take_all (length log) log (omega arith)) (up_to (length log) (omega arith))
     where
       one_more : (n : ℕ) → n < length log → (o : Option LogRecord) → slice_get log n ≡ o → P (take n log) → P (take (suc n) log)
       one_more n lt None e h = absurd (no_place log n lt e)
       one_more n lt (Some r) e h =
           let on : n + 1 ≡ suc n = omega arith in
-          subst P (sym (take_next log n r e) ∙ ap (λ k. take k log) on) (more (take n log) r (meant n r e).0 h)
+          subst P (sym (take_next log n r e) ∙ ap (λ k. take k log) on)
+          (⊎_elim (λ is. own (take n log) r is (meant n r e is) h) (λ ne. other (take n log) r ne h) (same_or_not r.txn t))
 
       up_to : (n : ℕ) → n ≤ length log → P (take n log)
       up_to zero le = none
@@ -126,9 +159,9 @@ pub in_doubt_prepared : (t : ℕ) (log : List LogRecord) → is_in_doubt t log �
 in_doubt_prepared t log h =
     (and_true (has is_prepare t log) (not (has is_commit t log)) (and_true (has is_prepare t log && not (has is_commit t log)) (not (has is_rollback t log)) h).0).0
 
--- of those that have neither ended nor prepared
-abbrev LastsNameNext : List LogRecord → Type 0
-LastsNameNext log = (t : ℕ) → is_over t log ≡ false → has is_prepare t log ≡ false → 0 < last_of t log → LastNamesNext log t
+-- of one that has neither ended nor prepared
+abbrev LastNamesNextOf : ℕ → List LogRecord → Type 0
+LastNamesNextOf t log = is_over t log ≡ false → has is_prepare t log ≡ false → 0 < last_of t log → LastNamesNext log t
 
 next_answered : (cs : List UnansweredChange) (id : Rid) (image : Image) (next : ℕ) → Answers cs id image next → undo_next_of (drop 1 cs) ≡ next
 next_answered [] id image next a = absurd a
@@ -164,36 +197,38 @@ module _ (g : Geometry) (log : List LogRecord) (r : LogRecord) (meant : IsMeant 
   nexts_own (CheckpointEnd begin next txns dirty) e says runs free = absurd says
   nexts_own (Anchor checkpoint tail) e says runs free = absurd says
 
-  nexts_push : LastsNameNext log → LastsNameNext (log ++ r ∷ [])
-  nexts_push h t runs free known = ⊎_elim
-      (λ own.
+  next_own : LastNamesNextOf r.txn (log ++ r ∷ [])
+  next_own runs free known =
       let number = last_own log r in
       let at : last_of r.txn (log ++ r ∷ []) - 1 ≡ length log = omega arith in
-      subst (LastNamesNext (log ++ r ∷ [])) own (record {
+      record {
         is_one = (omega arith);
         found = r;
         here = ap (slice_get (log ++ r ∷ [])) at ∙ slice_get_last log r;
         own = refl;
         next =
             ap undo_next_of (unanswered_own r.txn log r refl)
-            ∙ nexts_own r.payload refl meant.says (ap (λ u. is_over u (log ++ r ∷ [])) own ∙ runs) (ap (λ u. has is_prepare u (log ++ r ∷ [])) own ∙ free)
+            ∙ nexts_own r.payload refl meant.says runs free
             ∙ ap (λ n. next_named_by n r.payload) (sym number);
-      }))
-      (λ ne.
-      let records = newest_other log r t ne in
-      let before = h t (sym (over_other log r t ne) ∙ runs) (sym (has-not_its log r is_prepare t ne) ∙ free) (subst (λ es. 0 < first_number es) records known) in
-      let same : last_of t (log ++ r ∷ []) ≡ last_of t log = ap (λ es. first_number es) records in
-      record {
-        is_one = known;
-        found = before.found;
-        here = ap (λ n. slice_get (log ++ r ∷ []) (n - 1)) same ∙ longer_get log (r ∷ []) (last_of t log - 1) before.found before.here;
-        own = before.own;
-        next = ap undo_next_of (unanswered_other t log r ne) ∙ before.next ∙ ap (λ n. next_named_by n before.found.payload) (sym same);
-      })
-      (same_or_not r.txn t)
+      }
 
-pub next_by_last : (g : Geometry) (log : List LogRecord) → AreMeant g log → LastsNameNext log
-next_by_last g = by_meant g LastsNameNext (λ t runs free known. absurd (omega arith)) (λ xs r meant h. nexts_push g xs r meant h)
+next_other : (t : ℕ) (log : List LogRecord) (r : LogRecord) → r.txn ≢ t → LastNamesNextOf t log → LastNamesNextOf t (log ++ r ∷ [])
+next_other t log r ne h runs free known =
+    let records = newest_other log r t ne in
+    let before = h (sym (over_other log r t ne) ∙ runs) (sym (has-not_its log r is_prepare t ne) ∙ free) (subst (λ es. 0 < first_number es) records known) in
+    let same : last_of t (log ++ r ∷ []) ≡ last_of t log = ap (λ es. first_number es) records in
+    record {
+      is_one = known;
+      found = before.found;
+      here = ap (λ n. slice_get (log ++ r ∷ []) (n - 1)) same ∙ longer_get log (r ∷ []) (last_of t log - 1) before.found before.here;
+      own = before.own;
+      next = ap undo_next_of (unanswered_other t log r ne) ∙ before.next ∙ ap (λ n. next_named_by n before.found.payload) (sym same);
+    }
+
+pub next_by_last : (g : Geometry) (t : ℕ) (log : List LogRecord) → AreMeantOf g t log → LastNamesNextOf t log
+next_by_last g t = by_own g t (LastNamesNextOf t) (λ runs free known. absurd (omega arith))
+    (λ xs r own meant h. subst (λ u. LastNamesNextOf u (xs ++ r ∷ [])) own (next_own g xs r meant))
+    (λ xs r ne h. next_other t xs r ne h)
 
 -- ---- lawful logs
 
@@ -219,17 +254,18 @@ served_of (CheckpointEnd begin next txns dirty) served = absurd served
 served_of (Anchor checkpoint tail) served = absurd served
 served_of _ served = refl
 
-follows_meant : (g : Geometry) (rs : List LogRecord) (r : LogRecord) → IsInBounds g r → MayFollow rs r → IsMeant g rs r
-follows_meant g rs r bounds follows = record {
-  some = not_zero r.txn (sym follows.of ∙ served_of r.payload bounds.served);
+follows_meant : (g : Geometry) (rs : List LogRecord) (r : LogRecord) → IsInBounds g r → IsServedKind r.payload → MayFollow rs r → IsMeant g rs r
+follows_meant g rs r bounds served follows = record {
+  some = not_zero r.txn (sym follows.of ∙ served_of r.payload served);
   number = bounds.number;
   previous = follows.previous;
   not_over = follows.not_over;
-  says = served_says g rs r.txn r.payload bounds.served bounds.id bounds.granules follows.says;
+  says = served_says g rs r.txn r.payload served bounds.id bounds.granules follows.says;
 }
 
-pub lawful_meant : (g : Geometry) (rs : List LogRecord) → Lawful rs → All (IsInBounds g) rs → ((n : ℕ) → IsCrowded (take n rs) → ⊥) → AreMeant g rs
-lawful_meant g rs lawful bounds few n r at =
+pub lawful_meant : (g : Geometry) (rs : List LogRecord) → Lawful rs → All (IsInBounds g) rs → All (λ r. IsServedKind r.payload) rs → ((n : ℕ) → IsCrowded (take n rs) → ⊥) → AreMeant g rs
+lawful_meant g rs lawful bounds kinds few n r at =
     let within = slice_get_within rs n r at in
     let here : IsInBounds g r = subst (IsInBounds g) (get_or_from_slice_get rs n r r at) (bounds n r within) in
-    (follows_meant g (take n rs) r here (lawful n r at), λ crowded. few (n + 1) (subst IsCrowded (sym (take_next rs n r at)) crowded))
+    let served : IsServedKind r.payload = subst (λ (q : LogRecord). IsServedKind q.payload) (get_or_from_slice_get rs n r r at) (kinds n r within) in
+    (follows_meant g (take n rs) r here served (lawful n r at), λ crowded. few (n + 1) (subst IsCrowded (sym (take_next rs n r at)) crowded))

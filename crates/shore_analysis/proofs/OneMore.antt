@@ -16,7 +16,7 @@ use Rattle.laws_lives.proofs.OneMore.{by_push, has-not_its, has-push}
 use Rattle.laws_lives.proofs.Writers.{same_or_not}
 use Rattle.laws_lives.proofs.EndedTxns.{over_other, over_same}
 use Rattle.laws_lives.proofs.UnansweredChanges.{unanswered_other, unanswered_own}
-use Rattle.shore_analysis.specs.Meant.{IsMeant, AreMeant}
+use Rattle.shore_analysis.specs.Meant.{IsMeant, AreMeantOf}
 use Rattle.shore_analysis.specs.Passes.{begun, entry_after, entry_at, entry_of, noted, prepare_after, recovery_at, state_after, undo_next_after}
 use Rattle.shore_analysis.specs.Tables.{first_change, is_on_page, newest_is_undo, state_of}
 use Rattle.shore_analysis.proofs.Answered.{one_or_none}
@@ -183,7 +183,7 @@ module _ (rs : List LogRecord) (r : LogRecord) (t : ℕ) (other : r.txn ≢ t) w
   entry-other = λ i. cond (nat_lt 0 t && nat_lt 0 (last-other i) && not (over_other rs r t other i)) (Some (entry_of-other i)) None
 
 -- its own entry goes on
-module _ (g : Geometry) (rs : List LogRecord) (all : AreMeant g rs) (r : LogRecord) (meant : IsMeant g rs r) where
+module _ (g : Geometry) (rs : List LogRecord) (r : LogRecord) (all : AreMeantOf g r.txn rs) (meant : IsMeant g rs r) where
   abbrev t : ℕ
   t = r.txn
 
@@ -244,7 +244,7 @@ module _ (g : Geometry) (rs : List LogRecord) (all : AreMeant g rs) (r : LogReco
       newest-push t rs r ∙ ap (λ b. cond b ((n, r) ∷ reverse (records_of t rs)) (reverse (records_of t rs))) (eq-eqb t t refl) in
       let next : undo_next_after n r.payload (undo_next_of (unanswered t rs)) ≡ undo_next_of (unanswered t after) =
       sym (ap undo_next_of (unanswered_own t rs r refl) ∙ nexts_after g rs r meant r.payload refl meant.says runs) in
-      let state : state_after r.payload ≡ state_of t after = state_then g rs all r meant no_commit no_end newest in
+      let state : state_after r.payload ≡ state_of t after = state_then g rs r all meant no_commit no_end newest in
       (λ i. Some (record {
         txn = before.txn i;
         state = state i;

@@ -1,7 +1,6 @@
 -- Which records of a transaction may follow: whether it has prepared, is in doubt, or has a Rollback decided.
 use Rattle.std.proofs.Common.{◌≡◌, ◌≢◌, ⊎_elim, ◌+◌, ◌<◌, ℕ, List, [], ◌∷◌, ◌++◌, Bool, true, false, cond, refl, sym, ap, subst, ◌∙◌, length, arith}
 use Rattle.std.specs.Prelude.{◌==◌, ◌&&◌, ◌||◌, not, IsTrue, reverse}
-use Rattle.std.proofs.lemmas.Bool.{eqb-true}
 use Rattle.shore_types.specs.declared.layout.Geometry.{Geometry}
 use Rattle.shore_model.specs.declared.log_records.LogRecord.{LogRecord}
 use Rattle.shore_model.specs.declared.log_records.Payload.{Payload}
@@ -16,10 +15,10 @@ use Rattle.laws_lives.proofs.Numbers.{last_own, newest_other}
 use Rattle.laws_lives.proofs.Writers.{never_true, same_or_not}
 use Rattle.shore_analysis.specs.declared.progress.Phase.{Phase}
 use Rattle.shore_analysis.specs.declared.progress.Phase.TheVariants.{Decided, Free, InDoubt}
-use Rattle.shore_analysis.specs.Meant.{AreMeant, IsMeant, Means}
+use Rattle.shore_analysis.specs.Meant.{AreMeant, AreMeantOf, IsMeant, Means}
 use Rattle.shore_analysis.specs.Passes.{is_decided, is_doubtful, is_free, phase_of, state_after}
 use Rattle.shore_analysis.specs.Tables.{is_undo, newest_is_undo, state_of}
-use Rattle.shore_analysis.proofs.MeantLogs.{by_meant, in_doubt_prepared}
+use Rattle.shore_analysis.proofs.MeantLogs.{by_meant, by_own, in_doubt_prepared}
 
 -- ---- by three tests: whether it has a Prepare, a Commit, a Rollback decided
 
@@ -134,25 +133,29 @@ prepare_free g log t (CheckpointEnd begin next txns dirty) e says = cc
 prepare_free g log t (Anchor checkpoint tail) e says = cc
 
 -- who has a Rollback decided has a Prepare
-pub rolled_prepared : (g : Geometry) (log : List LogRecord) → AreMeant g log → (t : ℕ) → has is_rollback t log ≡ true → has is_prepare t log ≡ true
-rolled_prepared g = by_meant g (λ log. (t : ℕ) → has is_rollback t log ≡ true → has is_prepare t log ≡ true) (λ t h. cc) one_more
+pub rolled_prepared : (g : Geometry) (t : ℕ) (log : List LogRecord) → AreMeantOf g t log → has is_rollback t log ≡ true → has is_prepare t log ≡ true
+rolled_prepared g t = by_own g t (λ log. has is_rollback t log ≡ true → has is_prepare t log ≡ true) (λ h. cc) own other
   where
-    one_more : (xs : List LogRecord) (r : LogRecord) → IsMeant g xs r → ((t : ℕ) → has is_rollback t xs ≡ true → has is_prepare t xs ≡ true)
-        → (t : ℕ) → has is_rollback t (xs ++ r ∷ []) ≡ true → has is_prepare t (xs ++ r ∷ []) ≡ true
-    one_more xs r meant known t h = ⊎_elim
-        (λ before. has-more xs r is_prepare t (known t before))
+    own : (xs : List LogRecord) (r : LogRecord) → r.txn ≡ t → IsMeant g xs r → (has is_rollback t xs ≡ true → has is_prepare t xs ≡ true)
+        → has is_rollback t (xs ++ r ∷ []) ≡ true → has is_prepare t (xs ++ r ∷ []) ≡ true
+    own xs r is meant known h = ⊎_elim
+        (λ before. has-more xs r is_prepare t (known before))
         (λ here.
-        let own = and_true (r.txn == t) (is_rollback r.payload) here in
-        let doubts : is_in_doubt r.txn xs ≡ true = rollback_says g xs r.txn r.payload own.1 meant.says in
-        has-more xs r is_prepare t (ap (λ u. has is_prepare u xs) (sym (eqb-true r.txn t own.0)) ∙ in_doubt_prepared r.txn xs doubts))
+        let rolled = (and_true (r.txn == t) (is_rollback r.payload) here).1 in
+        let doubts : is_in_doubt r.txn xs ≡ true = rollback_says g xs r.txn r.payload rolled meant.says in
+        has-more xs r is_prepare t (ap (λ u. has is_prepare u xs) (sym is) ∙ in_doubt_prepared r.txn xs doubts))
         (or_true (has is_rollback t xs) ((r.txn == t) && is_rollback r.payload) (sym (has-push xs r is_rollback t) ∙ h))
 
-pub unrolled : (g : Geometry) (log : List LogRecord) → AreMeant g log → (t : ℕ) → has is_prepare t log ≡ false → has is_rollback t log ≡ false
-unrolled g log all t none = never_true (has is_rollback t log) (λ rolled. let prepared = rolled_prepared g log all t rolled in cc)
+    other : (xs : List LogRecord) (r : LogRecord) → r.txn ≢ t → (has is_rollback t xs ≡ true → has is_prepare t xs ≡ true)
+        → has is_rollback t (xs ++ r ∷ []) ≡ true → has is_prepare t (xs ++ r ∷ []) ≡ true
+    other xs r ne known h = has-more xs r is_prepare t (known (sym (has-not_its xs r is_rollback t ne) ∙ h))
+
+pub unrolled : (g : Geometry) (t : ℕ) (log : List LogRecord) → AreMeantOf g t log → has is_prepare t log ≡ false → has is_rollback t log ≡ false
+unrolled g t log all none = never_true (has is_rollback t log) (λ rolled. let prepared = rolled_prepared g t log all rolled in cc)
 
 -- ---- behind one record more of a transaction that has not ended
 
-module _ (g : Geometry) (rs : List LogRecord) (all : AreMeant g rs) (r : LogRecord) (meant : IsMeant g rs r) where
+module _ (g : Geometry) (rs : List LogRecord) (r : LogRecord) (all : AreMeantOf g r.txn rs) (meant : IsMeant g rs r) where
   abbrev after : List LogRecord
   after = rs ++ r ∷ []
 
@@ -173,7 +176,7 @@ module _ (g : Geometry) (rs : List LogRecord) (all : AreMeant g rs) (r : LogReco
   doubt_then End e says no_commit no_end = cc
   doubt_then (Prepare global granules) e says no_commit no_end =
       by_three true false false (has-this rs r is_prepare (ap is_prepare e)) (has-not_this rs r is_commit t (ap is_commit e) ∙ uncommitted t rs meant.not_over)
-      (has-not_this rs r is_rollback t (ap is_rollback e) ∙ unrolled g rs all t (no_prepare t rs says.1.0))
+      (has-not_this rs r is_rollback t (ap is_rollback e) ∙ unrolled g t rs all (no_prepare t rs says.1.0))
   doubt_then RollbackDecided e says no_commit no_end =
       by_three (has is_prepare t after) (has is_commit t after) true refl refl (has-this rs r is_rollback (ap is_rollback e)) ∙ never (has is_prepare t after && not (has is_commit t after))
     where
@@ -195,11 +198,11 @@ state_by CheckpointBegin = refl
 state_by (CheckpointEnd begin next txns dirty) = refl
 state_by (Anchor checkpoint tail) = refl
 
-pub state_then : (g : Geometry) (rs : List LogRecord) → AreMeant g rs → (r : LogRecord) → IsMeant g rs r → is_commit r.payload ≡ false → is_end r.payload ≡ false
+pub state_then : (g : Geometry) (rs : List LogRecord) (r : LogRecord) → AreMeantOf g r.txn rs → IsMeant g rs r → is_commit r.payload ≡ false → is_end r.payload ≡ false
     → reverse (records_of r.txn (rs ++ r ∷ [])) ≡ (1 + length rs, r) ∷ reverse (records_of r.txn rs) → state_after r.payload ≡ state_of r.txn (rs ++ r ∷ [])
-state_then g rs all r meant no_commit no_end newest =
+state_then g rs r all meant no_commit no_end newest =
     state_by r.payload
-    ∙ sym (λ i. cond (doubt_then g rs all r meant r.payload refl meant.says no_commit no_end i) Prepared (cond (newest_is_undo (newest i)) RollingBack Active))
+    ∙ sym (λ i. cond (doubt_then g rs r all meant r.payload refl meant.says no_commit no_end i) Prepared (cond (newest_is_undo (newest i)) RollingBack Active))
 
 -- ---- who is in doubt
 
@@ -228,24 +231,27 @@ module _ (g : Geometry) (rs : List LogRecord) (r : LogRecord) (meant : IsMeant g
   runs_own (CheckpointEnd begin next txns dirty) e says doubts = absurd says
   runs_own (Anchor checkpoint tail) e says doubts = absurd says
 
+-- another's record leaves it so
+pub undecided_other : (rs : List LogRecord) (r : LogRecord) (t : ℕ) → r.txn ≢ t → IsUndecided rs t → IsUndecided (rs ++ r ∷ []) t
+undecided_other rs r t ne before = record {
+  some = before.some;
+  known = subst (λ es. 0 < first_number es) (sym (newest_other rs r t ne)) before.known;
+  runs = over_other rs r t ne ∙ before.runs;
+}
+
+-- behind one record more
+pub runs_behind : (g : Geometry) (rs : List LogRecord) (r : LogRecord) → IsMeant g rs r → ((t : ℕ) → is_in_doubt t rs ≡ true → IsUndecided rs t)
+    → (t : ℕ) → is_in_doubt t (rs ++ r ∷ []) ≡ true → IsUndecided (rs ++ r ∷ []) t
+runs_behind g rs r meant known t doubts = ⊎_elim
+    (λ own.
+    let number = last_own rs r in
+    subst (IsUndecided (rs ++ r ∷ [])) own (record {
+      some = meant.some;
+      known = omega (arith, number);
+      runs = runs_own g rs r meant r.payload refl meant.says (ap (λ u. is_in_doubt u (rs ++ r ∷ [])) own ∙ doubts);
+    }))
+    (λ ne. undecided_other rs r t ne (known t (sym (doubt_other rs r t ne) ∙ doubts)))
+    (same_or_not r.txn t)
+
 pub in_doubt_runs : (g : Geometry) (log : List LogRecord) → AreMeant g log → (t : ℕ) → is_in_doubt t log ≡ true → IsUndecided log t
-in_doubt_runs g = by_meant g (λ log. (t : ℕ) → is_in_doubt t log ≡ true → IsUndecided log t) (λ t h. cc) one_more
-  where
-    one_more : (rs : List LogRecord) (r : LogRecord) → IsMeant g rs r → ((t : ℕ) → is_in_doubt t rs ≡ true → IsUndecided rs t)
-        → (t : ℕ) → is_in_doubt t (rs ++ r ∷ []) ≡ true → IsUndecided (rs ++ r ∷ []) t
-    one_more rs r meant known t doubts = ⊎_elim
-        (λ own.
-        let number = last_own rs r in
-        subst (IsUndecided (rs ++ r ∷ [])) own (record {
-          some = meant.some;
-          known = omega (arith, number);
-          runs = runs_own g rs r meant r.payload refl meant.says (ap (λ u. is_in_doubt u (rs ++ r ∷ [])) own ∙ doubts);
-        }))
-        (λ ne.
-        let before = known t (sym (doubt_other rs r t ne) ∙ doubts) in
-        record {
-          some = before.some;
-          known = subst (λ es. 0 < first_number es) (sym (newest_other rs r t ne)) before.known;
-          runs = over_other rs r t ne ∙ before.runs;
-        })
-        (same_or_not r.txn t)
+in_doubt_runs g = by_meant g (λ log. (t : ℕ) → is_in_doubt t log ≡ true → IsUndecided log t) (λ t h. cc) (runs_behind g)

@@ -20,22 +20,22 @@ use Rattle.laws_lives.proofs.Redo.{slice_get_last}
 use Rattle.laws_lives.proofs.UndoChains.{unanswered_chain}
 use Rattle.laws_lives.proofs.Writers.{same_or_not}
 use Rattle.laws_lives.proofs.EndedTxns.{over_other}
-use Rattle.shore_analysis.specs.Meant.{AreMeant, MayBeNext, IsCrowded, IsMeant, Means, MeansChange}
+use Rattle.shore_analysis.specs.Meant.{AreMeant, AreMeantOf, MayBeNext, IsCrowded, IsMeant, Means, MeansChange}
 use Rattle.shore_analysis.specs.Passes.{entry_of}
 use Rattle.shore_analysis.proofs.Answered.{last_named}
 use Rattle.shore_analysis.proofs.Counted.{Among, among_listed, cases_lt, last_is_one, listed_among, rise_first}
 use Rattle.shore_analysis.proofs.Listed.{is_entry}
-use Rattle.shore_analysis.proofs.MeantLogs.{before_last}
+use Rattle.shore_analysis.proofs.MeantLogs.{before_last, meant_of}
 use Rattle.shore_analysis.proofs.Phases.{loser_undoable}
 
 -- ---- a loser's next record of undo means what it has to
 
-module _ (g : Geometry) (rs : List LogRecord) (t : ℕ) (all : AreMeant g rs) (loser : IsLoser rs t) where
+module _ (g : Geometry) (rs : List LogRecord) (t : ℕ) (all : AreMeantOf g t rs) (loser : IsLoser rs t) where
   says_undo : (cs : List UnansweredChange) → unanswered t rs ≡ cs → IsUndoChain rs t cs → Means g rs t (undo_payload cs)
   says_undo [] is chain = (loser_undoable t rs loser, is)
   says_undo (c ∷ cs) is chain =
       let k = chain.0 in
-      let change : MeansChange g (take (c.number - 1) rs) k.found.txn c.id = subst (λ P. P) (ap (Means g (take (c.number - 1) rs) k.found.txn) k.says) (all (c.number - 1) k.found k.here).0.says in
+      let change : MeansChange g (take (c.number - 1) rs) k.found.txn c.id = subst (λ P. P) (ap (Means g (take (c.number - 1) rs) k.found.txn) k.says) (all (c.number - 1) k.found k.here k.own).says in
       (change.0, (loser_undoable t rs loser, subst (λ xs. Answers xs c.id c.before (undo_next_of cs)) (sym is) (refl, refl, refl)))
 
   pub undo_meant : IsMeant g rs (undo_record rs t)
@@ -43,7 +43,7 @@ module _ (g : Geometry) (rs : List LogRecord) (t : ℕ) (all : AreMeant g rs) (l
       let one = last_is_one rs t loser.known in
       record {
         some = loser.is_one;
-        number = subst (λ u. u < LAST_TXN) one.own (all one.at one.found one.here).0.number;
+        number = subst (λ u. u < LAST_TXN) one.own (all one.at one.found one.here one.own).number;
         previous = sym (last_named rs t loser.is_one);
         not_over = loser.not_over;
         says = says_undo (unanswered t rs) refl (unanswered_chain rs t);
@@ -196,4 +196,4 @@ pub undo_goes_on : (g : Geometry) (rs : List LogRecord) (t : ℕ) → AreMeant g
 undo_goes_on g rs t all loser =
     let one = last_is_one rs t loser.known in
     let within = slice_get_within rs one.at one.found one.here in
-    (undo_meant g rs t all loser, λ crowded. uncrowded g rs all (omega (arith, within)) (was_crowded rs t loser (undo_record rs t) refl crowded))
+    (undo_meant g rs t (meant_of g rs all t) loser, λ crowded. uncrowded g rs all (omega (arith, within)) (was_crowded rs t loser (undo_record rs t) refl crowded))

@@ -1,5 +1,9 @@
 pub mod Doubts
+pub mod KeptMeant
+pub mod KeptPasses
+pub mod KeptTables
 pub mod Losers
 pub mod Meant
+pub mod Padded
 pub mod Passes
 pub mod Tables

@@ -1,11 +1,12 @@
 -- What undo knows of the transactions that it still has to end, by the log as it has become.
-use Rattle.std.specs.Prelude.{◌≡◌, ◌⊎◌, ◌<◌, ◌≤◌, ◌+◌, ◌==◌, ◌++◌, ℕ, List, [], ◌∷◌, Bool, length, map, not, if◌then◌else◌}
+use Rattle.std.specs.Prelude.{◌≡◌, ◌⊎◌, ◌<◌, ◌≤◌, ◌+◌, ◌==◌, ◌++◌, ℕ, List, [], ◌∷◌, Bool, length, map, not, take, true, if◌then◌else◌}
 use Rattle.std.specs.List.{AllByRecursion}
 use Rattle.shore_model.specs.declared.log_records.LogRecord.{LogRecord}
 use Rattle.shore_model.specs.declared.log_records.LogTxn.{LogTxn}
-use Rattle.shore_model.specs.Logs.{is_prepared, last_of, unanswered, undo_next_of}
+use Rattle.shore_model.specs.Logs.{is_over, is_prepared, last_of, unanswered, undo_next_of}
 use Rattle.laws_lives.specs.Views.{IsAmong}
 use Rattle.laws_lives.specs.Undo.{IsLoser, undo_record}
+use Rattle.laws_checkpoints.specs.KeptLogs.{has_record}
 use Rattle.shore_analysis.specs.declared.losers.Losers.{Losers}
 
 -- the entry is a loser's, with the numbers of its last record and of its Change to be undone next
@@ -13,6 +14,10 @@ pub record IsEntryOfLoser (log : List LogRecord) (e : LogTxn) : Type 0 where
   pub loser : IsLoser log e.txn
   pub last : e.last ≡ last_of e.txn log
   pub undo_next : e.undo_next ≡ undo_next_of (unanswered e.txn log)
+
+-- whoever has a record among so many first ones has ended
+abbrev pub CutsOffEnded : ℕ → List LogRecord → Type 0
+CutsOffEnded cut log = (cut ≤ length log) × ((t : ℕ) → 0 < t → has_record t (take cut log) ≡ true → is_over t log ≡ true)
 
 -- the entries are those of the losers, of each one
 pub record AreEntriesOfLosers (log : List LogRecord) (entries : List LogTxn) : Type 0 where

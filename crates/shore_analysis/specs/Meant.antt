@@ -1,14 +1,16 @@
 -- What a record has to mean, given the records before it, for a restart to work on the log. It can be seen without the pages: whether a
 -- Change's before image is right, and whether its record was free, is not asked.
-use Rattle.std.specs.Prelude.{◌≡◌, ◌<◌, ◌-◌, ◌++◌, ℕ, List, [], ◌∷◌, false, Some, All, IsTrue, IsSomeAnd, length, take, slice_get}
+use Rattle.std.specs.Prelude.{◌≡◌, ◌<◌, ◌≤◌, ◌-◌, ◌++◌, ℕ, List, [], ◌∷◌, false, Some, All, IsTrue, IsSomeAnd, length, take, slice_get}
+use Rattle.std.specs.List.{AllByRecursion}
 use Rattle.std.specs.List.Sorted.{IsStrictlySortedBy}
 use Rattle.shore_types.specs.Images.{Image}
-use Rattle.shore_types.specs.Layout.{HasGranule, HasSlot}
+use Rattle.shore_types.specs.Layout.{HasGranule, HasPage, HasSlot}
 use Rattle.shore_types.specs.declared.ids.Rid.{Rid}
 use Rattle.shore_types.specs.declared.layout.Geometry.{Geometry}
 use Rattle.shore_types.specs.declared.layout.TheConstants.{LAST_TXN, MAX_TRANSACTIONS}
 use Rattle.shore_types.specs.declared.locking.Granule.{Granule}
 use Rattle.shore_types.specs.Locking.{granule_cmp}
+use Rattle.shore_model.specs.declared.log_records.DirtyPage.{DirtyPage}
 use Rattle.shore_model.specs.declared.log_records.LogRecord.{LogRecord}
 use Rattle.shore_model.specs.declared.log_records.LogTxn.{LogTxn}
 use Rattle.shore_model.specs.declared.log_records.Payload.{Payload}
@@ -32,7 +34,7 @@ pub record AreGranules (g : Geometry) (granules : List Granule) : Type 0 where
 abbrev pub MeansPrepare : Geometry → List LogRecord → ℕ → List Granule → Type 0
 MeansPrepare g before t granules = AreGranules g granules × MayPrepare before t granules
 
--- what a transaction's next record says; the kinds that no restart serves mean nothing
+-- what a transaction's next record says; the records of checkpoints mean nothing here
 abbrev pub Means : Geometry → List LogRecord → ℕ → Payload → Type 0
 Means g before t (Change id was image) = MeansChange g before t id
 Means g before t (Compensation id image undo_next) = MeansCompensation g before t id image undo_next
@@ -88,6 +90,10 @@ MayBeNext g before r = IsMeant g before r × (IsCrowded (before ++ r ∷ []) →
 abbrev pub AreMeant : Geometry → List LogRecord → Type 0
 AreMeant g rs = (n : ℕ) (r : LogRecord) → slice_get rs n ≡ Some r → MayBeNext g (take n rs) r
 
+-- the records of one transaction mean what they have to
+abbrev pub AreMeantOf : Geometry → ℕ → List LogRecord → Type 0
+AreMeantOf g t rs = (n : ℕ) (r : LogRecord) → slice_get rs n ≡ Some r → r.txn ≡ t → IsMeant g (take n rs) r
+
 -- the record of this number is the first by which the log may not go on
 pub record IsFirstUnmeant (g : Geometry) (rs : List LogRecord) (n : ℕ) : Type 0 where
   pub some : 0 < n
@@ -118,9 +124,39 @@ granules_in CheckpointBegin = []
 granules_in (CheckpointEnd begin next txns dirty) = []
 granules_in (Anchor checkpoint tail) = []
 
--- an id that the record changes may be one, and so may granules that it names, its transaction has a number that one may have, and its kind is served
+-- the next transaction's number that an End names, 0 for any other record
+abbrev pub next_in : Payload → ℕ
+next_in (Change id was image) = 0
+next_in (Compensation id image undo_next) = 0
+next_in Commit = 0
+next_in End = 0
+next_in (Prepare global granules) = 0
+next_in RollbackDecided = 0
+next_in CheckpointBegin = 0
+next_in (CheckpointEnd begin next txns dirty) = next
+next_in (Anchor checkpoint tail) = 0
+
+-- a page that an End lists is there, and its recovery number is below the begin's
+abbrev pub IsPageListed : Geometry → ℕ → DirtyPage → Type 0
+IsPageListed g begin d = HasPage g d.page × (d.recovery < begin)
+
+-- the pages that the record lists may stand in an End's table
+abbrev pub ListsInBounds : Geometry → Payload → Type 0
+ListsInBounds g (Change id was image) = Unit {0}
+ListsInBounds g (Compensation id image undo_next) = Unit {0}
+ListsInBounds g Commit = Unit {0}
+ListsInBounds g End = Unit {0}
+ListsInBounds g (Prepare global granules) = Unit {0}
+ListsInBounds g RollbackDecided = Unit {0}
+ListsInBounds g CheckpointBegin = Unit {0}
+ListsInBounds g (CheckpointEnd begin next txns dirty) = AllByRecursion (IsPageListed g begin) dirty
+ListsInBounds g (Anchor checkpoint tail) = Unit {0}
+
+-- An id that the record changes may be one, and so may granules that it names, its transaction has a number that one may have, and so has the next one that it
+-- names, and pages that it lists are there.
 pub record IsInBounds (g : Geometry) (r : LogRecord) : Type 0 where
   pub number : r.txn < LAST_TXN
-  pub served : IsServedKind r.payload
+  pub next : next_in r.payload ≤ LAST_TXN
+  pub lists : ListsInBounds g r.payload
   pub id : (id : Rid) → id_in r.payload ≡ Some id → HasSlot g id
   pub granules : AreGranules g (granules_in r.payload)

@@ -2,15 +2,16 @@
 ghost use Rattle.std.specs.Prelude.{◌≡◌, ℕ, List, Some, IfOk, IsPermutation, filter, map, option_map, reverse};
 ghost use Rattle.shore_types.specs.declared.layout.Geometry.{Geometry};
 ghost use Rattle.shore_model.specs.declared.log_records.LogRecord.{LogRecord};
-ghost use Rattle.shore_model.specs.Logs.{in_doubt_in, is_prepared, unanswered, undo_next_of};
+ghost use Rattle.shore_model.specs.Logs.{IsTable, Lawful, in_doubt_in, is_prepared, unanswered, undo_next_of};
 ghost use Rattle.laws_lives.specs.Doubts.{doubts_in};
 ghost use Rattle.shore_analysis.specs.declared.analysis.Tables.{Tables};
 ghost use Rattle.shore_analysis.specs.Doubts.{doubt_at, said_at};
+ghost use Rattle.shore_analysis.specs.KeptMeant.{AreMeantKept};
 ghost use Rattle.shore_analysis.specs.Meant.{AreMeant};
 ghost use Rattle.shore_analysis.specs.Tables.{AreTables};
 
-use crate::chains::{next_behind, record_at};
-use shore_model::{LogRecord, LogTxn, Payload};
+use crate::kept_doubts::{prepare_behind, to_be_undone_behind};
+use shore_model::{LogRecord, LogTxn};
 use shore_types::{GlobalId, Granule, Lsn};
 use std::alloc::{AllocError, Global};
 
@@ -20,6 +21,12 @@ pub fn in_doubt(alloc: Global, txns: &[LogTxn]) -> Result<Vec<LogTxn>, AllocErro
     ensures order { IfOk result (λ found. (g : Geometry) (log : List LogRecord) (tables : Tables) → AreMeant g log → AreTables log tables → tables.txns ≡ txns.now
         → map (λ e. e.txn) found.items ≡ in_doubt_in log) }
     ensures prepares { IfOk result (λ found. (g : Geometry) (log : List LogRecord) (tables : Tables) → AreMeant g log → AreTables log tables → tables.txns ≡ txns.now
+        → map (λ e. doubt_at log e.prepare) found.items ≡ map (λ d. Some d) (doubts_in log)) }
+    ensures kept_order { IfOk result (λ found. (g : Geometry) (log : List LogRecord) → AreMeantKept g 0 log → IsTable log txns.now → map (λ e. e.txn) found.items ≡ in_doubt_in log) }
+    ensures kept_prepares { IfOk result (λ found. (g : Geometry) (log : List LogRecord) → AreMeantKept g 0 log → IsTable log txns.now
+        → map (λ e. doubt_at log e.prepare) found.items ≡ map (λ d. Some d) (doubts_in log)) }
+    ensures lawful_order { IfOk result (λ found. (log : List LogRecord) → Lawful log → IsTable log txns.now → map (λ e. e.txn) found.items ≡ in_doubt_in log) }
+    ensures lawful_prepares { IfOk result (λ found. (log : List LogRecord) → Lawful log → IsTable log txns.now
         → map (λ e. doubt_at log e.prepare) found.items ≡ map (λ d. Some d) (doubts_in log)) }
 {
     let mut found = entries_in_doubt(alloc, txns)?;
@@ -40,17 +47,7 @@ fn entries_in_doubt(alloc: Global, txns: &[LogTxn]) -> Result<Vec<LogTxn>, Alloc
 pub fn prepare_at(log: &[LogRecord], number: Lsn) -> Option<(&GlobalId, &[Granule])>
     ensures { option_map (λ found. (found.0.now, found.1.now)) result ≡ said_at log.now number }
 {
-    match &record_at(log, number)?.payload {
-        Payload::Prepare { global, granules } => Some((global, granules.as_slice())),
-        Payload::Change { .. }
-        | Payload::Compensation { .. }
-        | Payload::Commit
-        | Payload::End
-        | Payload::RollbackDecided
-        | Payload::CheckpointBegin
-        | Payload::CheckpointEnd { .. }
-        | Payload::Anchor { .. } => None,
-    }
+    prepare_behind(0, log, number)
 }
 
 /// The numbers of a transaction's Changes that are still to be undone, the oldest first, if the newest has this number, 0 for none.
@@ -58,23 +55,5 @@ pub fn to_be_undone(alloc: Global, log: &[LogRecord], newest: Lsn) -> Result<Vec
     ensures { IfOk result (λ numbers. (g : Geometry) (t : ℕ) → AreMeant g log.now → newest ≡ undo_next_of (unanswered t log.now)
         → numbers.items ≡ reverse (map (λ c. c.number) (unanswered t log.now))) }
 {
-    let mut numbers = newest_first(alloc, log, newest)?;
-    numbers.reverse();
-    Ok(numbers)
-}
-
-fn newest_first(alloc: Global, log: &[LogRecord], newest: Lsn) -> Result<Vec<Lsn>, AllocError>
-    ensures { IfOk result (λ numbers. (g : Geometry) (t : ℕ) → AreMeant g log.now → newest ≡ undo_next_of (unanswered t log.now)
-        → numbers.items ≡ map (λ c. c.number) (unanswered t log.now)) }
-{
-    let mut numbers = Vec::new(alloc);
-    let mut next = newest;
-    for _ in 0..log.len() {
-        let Some(change) = record_at(log, next) else {
-            return Ok(numbers);
-        };
-        numbers.push(next)?;
-        next = next_behind(log, change);
-    }
-    Ok(numbers)
+    to_be_undone_behind(alloc, 0, log, newest)
 }

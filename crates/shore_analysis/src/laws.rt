@@ -1,17 +1,26 @@
 //! Laws of analysis, each as a function that does nothing.
-ghost use Rattle.std.specs.Prelude.{◌≡◌, ◌<◌, ◌↔◌, ◌++◌, ◌∷◌, [], ℕ, All, IsTrue, List, filter, take};
+ghost use Rattle.std.specs.Prelude.{◌≡◌, ◌<◌, ◌↔◌, ◌++◌, ◌∷◌, [], ℕ, All, IsTrue, List, drop, false, filter, take};
 ghost use Rattle.shore_types.specs.declared.layout.Geometry.{Geometry};
 ghost use Rattle.shore_model.specs.declared.log_records.LogRecord.{LogRecord};
-ghost use Rattle.shore_model.specs.Logs.{Lawful, Lists, is_in_doubt, is_prepared, unanswered, undo_next_of};
+ghost use Rattle.shore_model.specs.declared.log_records.LogTxn.{LogTxn};
+ghost use Rattle.shore_model.specs.Logs.{IsTable, Lawful, Lists, is_in_doubt, is_of_checkpoint, is_prepared, unanswered, undo_next_of};
 ghost use Rattle.laws_lives.specs.Undo.{IsLoser, IsUndoneTo, undo_record};
+ghost use Rattle.laws_lives.specs.Pages.{LoggedPages};
+ghost use Rattle.laws_checkpoints.specs.KeptLogs.{IsKeptUnended, MayBeCut};
+ghost use Rattle.laws_checkpoints.specs.KeptTables.{IsKeptTable};
 ghost use Rattle.shore_analysis.specs.declared.analysis.Tables.{Tables};
+ghost use Rattle.shore_analysis.specs.declared.kept_tables.KeptTables.{KeptTables};
+ghost use Rattle.shore_analysis.specs.Doubts.{doubt_at, kept_doubt_at, kept_said_at, said_at};
+ghost use Rattle.shore_analysis.specs.KeptMeant.{AreInLimits, AreMeantKept, IsFirstUnmeantKept, IsWholeIn};
+ghost use Rattle.shore_analysis.specs.KeptTables.{AreKeptTables};
 ghost use Rattle.shore_analysis.specs.Losers.{IsNextToUndo, IsUndoneInOrder, is_of_loser};
-ghost use Rattle.shore_analysis.specs.Meant.{AreMeant, MayBeNext, IsCrowded, IsFirstUnmeant, IsInBounds};
+ghost use Rattle.shore_analysis.specs.Meant.{AreMeant, MayBeNext, IsCrowded, IsFirstUnmeant, IsInBounds, IsServedKind};
+ghost use Rattle.shore_analysis.specs.Padded.{padded};
 ghost use Rattle.shore_analysis.specs.Tables.{AreTables};
 
-/// Each record of a lawful log in bounds means what it has to: no record of such a log is refused.
+/// Each record of a lawful log in bounds means what it has to, if its kinds are served: no record of such a log is refused.
 pub fn lawful_logs_are_meant()
-    ensures meant { (g : Geometry) (rs : List LogRecord) → Lawful rs → All (IsInBounds g) rs → ((n : ℕ) → IsCrowded (take n rs) → ⊥)
+    ensures meant { (g : Geometry) (rs : List LogRecord) → Lawful rs → All (IsInBounds g) rs → All (λ r. IsServedKind r.payload) rs → ((n : ℕ) → IsCrowded (take n rs) → ⊥)
         → AreMeant g rs }
     ensures none { (g : Geometry) (rs : List LogRecord) (n : ℕ) → AreMeant g rs → IsFirstUnmeant g rs n → ⊥ }
 {}
@@ -46,4 +55,37 @@ pub fn turns_of_undo_go_on()
 pub fn ends_follow_at_once()
     ensures { (log : List LogRecord) (t u : ℕ) → IsLoser log t → IsNextToUndo log t → 0 < undo_next_of (unanswered t log)
         → unanswered t (log ++ undo_record log t ∷ []) ≡ [] → IsLoser (log ++ undo_record log t ∷ []) u → IsNextToUndo (log ++ undo_record log t ∷ []) u → u ≡ t }
+{}
+
+/// Where nothing is cut off, and no record is a checkpoint's, what is kept is judged as a whole log is, and its table is the whole log's.
+pub fn whole_logs_are_kept_whole()
+    ensures meant { (g : Geometry) (rs : List LogRecord) → AreMeant g rs → AreMeantKept g 0 rs }
+    ensures back { (g : Geometry) (rs : List LogRecord) → All (λ r. is_of_checkpoint r.payload ≡ false) rs → AreMeantKept g 0 rs → AreMeant g rs }
+    ensures table { (rs : List LogRecord) (txns : List LogTxn) → IsKeptTable 0 rs txns ↔ IsTable rs txns }
+{}
+
+/// The table of what is kept of a lawful log that may be cut is that of the whole log. So the losers of the one are those of the other.
+pub fn kept_tables_are_of_the_whole()
+    ensures { (log : List LogRecord) (volume : LoggedPages) (cut checkpoint : ℕ) (tables : KeptTables) → Lawful log → MayBeCut log volume cut
+        → AreKeptTables cut checkpoint (drop cut log) tables → IsTable log tables.txns }
+{}
+
+/// No lawful log that may be cut is refused: each kept record means what it has to. Beside the log's own law its ids, granules, pages and numbers have to
+/// lie in their bounds, and no more transactions may be unended at once than there may be.
+pub fn kept_records_are_not_refused()
+    ensures meant { (g : Geometry) (log : List LogRecord) (volume : LoggedPages) (cut : ℕ) → Lawful log → AreInLimits g log → ((n : ℕ) → IsCrowded (take n log) → ⊥)
+        → MayBeCut log volume cut → AreMeantKept g cut (drop cut log) }
+    ensures none { (g : Geometry) (cut : ℕ) (kept : List LogRecord) (n : ℕ) → AreMeantKept g cut kept → IsFirstUnmeantKept g cut kept n → ⊥ }
+    ensures whole { (g : Geometry) (cut : ℕ) (kept : List LogRecord) (t : ℕ) → AreMeantKept g cut kept → IsKeptUnended cut kept t → IsWholeIn cut kept t }
+{}
+
+/// Records of undo may go on kept ones: each means what it has to behind those before it.
+pub fn records_of_undo_are_kept()
+    ensures { (g : Geometry) (cut : ℕ) (kept : List LogRecord) (t : ℕ) → AreMeantKept g cut kept → IsLoser (padded cut kept) t
+        → AreMeantKept g cut (kept ++ undo_record (padded cut kept) t ∷ []) }
+{}
+
+/// What a record says that is not cut off is said under its number by what is kept: of one in doubt its Prepare is not.
+pub fn kept_prepares_say_the_same()
+    ensures { (log : List LogRecord) (cut n : ℕ) → cut < n → (kept_doubt_at cut (drop cut log) n ≡ doubt_at log n) × (kept_said_at cut (drop cut log) n ≡ said_at log n) }
 {}

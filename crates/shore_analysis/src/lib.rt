@@ -5,6 +5,11 @@
 mod analysis;
 mod chains;
 mod doubts;
+mod kept_analysis;
+mod kept_doubts;
+mod kept_meaning;
+mod kept_passes;
+mod kept_tables;
 pub mod laws;
 mod losers;
 mod passes;
@@ -12,6 +17,9 @@ mod prepares;
 mod progress;
 
 pub use analysis::{NotAnalysed, Tables, analyse};
-pub use chains::{next_behind, record_at};
+pub use chains::{record_at, record_behind};
 pub use doubts::{in_doubt, prepare_at, to_be_undone};
+pub use kept_analysis::analyse_kept;
+pub use kept_doubts::{prepare_behind, to_be_undone_behind};
+pub use kept_tables::{KeptTables, RedoTable};
 pub use losers::Losers;

@@ -1,21 +1,24 @@
 //! The transactions that undo still has to end, and the record that it appends next.
-ghost use Rattle.std.specs.Prelude.{◌≡◌, ◌≢◌, ◌<◌, ◌+◌, ◌++◌, ◌∷◌, [], ℕ, List, IfOk, IfNone, IfSome, IsFalse, IsTrue, MatchOption, filter, length, map};
+ghost use Rattle.std.specs.Prelude.{◌≡◌, ◌≢◌, ◌<◌, ◌≤◌, ◌+◌, ◌++◌, ◌∷◌, [], ℕ, List, IfOk, IfNone, IfSome, IsFalse, IsTrue, MatchOption, drop, false, filter, length, map, take};
 ghost use Rattle.std.specs.List.{AllByRecursion};
 ghost use Rattle.shore_types.specs.Images.{Image};
 ghost use Rattle.shore_types.specs.declared.ids.Rid.{Rid};
 ghost use Rattle.shore_types.specs.declared.layout.Geometry.{Geometry};
 ghost use Rattle.shore_model.specs.declared.log_records.LogRecord.{LogRecord};
 ghost use Rattle.shore_model.specs.declared.log_records.Payload.TheVariants.{Change, Compensation};
-ghost use Rattle.shore_model.specs.Logs.{Lawful, unanswered, undo_next_of};
+ghost use Rattle.shore_model.specs.Logs.{IsTable, Lawful, unanswered, undo_next_of};
 ghost use Rattle.laws_lives.specs.Views.{IsAmong};
 ghost use Rattle.laws_lives.specs.Undo.{HasNoLosers, IsLoser, IsUndoneTo, undo_payload, undo_record};
+ghost use Rattle.laws_checkpoints.specs.KeptLogs.{has_record};
 ghost use Rattle.shore_analysis.specs.declared.analysis.Tables.{Tables};
-ghost use Rattle.shore_analysis.specs.Meant.{AreMeant};
+ghost use Rattle.shore_analysis.specs.KeptMeant.{AreMeantKept};
+ghost use Rattle.shore_analysis.specs.Meant.{AreMeant, AreMeantOf};
+ghost use Rattle.shore_analysis.specs.Padded.{padded};
 ghost use Rattle.shore_analysis.specs.Tables.{AreTables};
 ghost use Rattle.shore_analysis.specs.Losers as losers;
-ghost use Rattle.shore_analysis.specs.Losers.{HasLosers, IsNextToUndo, NeedNotWait, is_another, is_of_loser, turns_left};
+ghost use Rattle.shore_analysis.specs.Losers.{CutsOffEnded, HasLosers, IsNextToUndo, NeedNotWait, is_another, is_of_loser, turns_left};
 
-use crate::{next_behind, record_at};
+use crate::chains::{next_behind, record_behind};
 use shore_model::{LogRecord, LogTxn, Payload};
 use shore_types::images::copy_of;
 use shore_types::{Bytes, Lsn, Rid, Sequence, TxnId};
@@ -29,10 +32,11 @@ pub struct Losers {
 }
 
 impl Losers {
-    /// The losers of a log, by the transactions in its tables: all but those in doubt.
+    /// The losers of a log, by its table of transactions: all but those in doubt.
     pub fn of(txns: Sequence<LogTxn>) -> Losers
         ensures losers { (g : Geometry) (found : List LogRecord) (tables : Tables) → AreMeant g found → AreTables found tables → tables.txns ≡ txns
             → HasLosers found result }
+        ensures table { (log : List LogRecord) → IsTable log txns → HasLosers log result }
         ensures entries { result.entries.items ≡ filter is_of_loser txns }
     {
         let mut entries = txns.into_vec();
@@ -61,10 +65,27 @@ impl Losers {
         ensures undoes { (g : Geometry) (turns : List ℕ) (log : List LogRecord) → AreMeant g found.now → IsUndoneTo found.now turns log
             → HasLosers log self.now → IfOk result (λ next. IfSome next (λ r. r ≡ undo_record log r.txn)) }
     {
+        self.next_record_behind(alloc, 0, found)
+    }
+
+    /// The next record of undo, as above, where the records that the restart found are those of the log behind the first `cut`. All records of a loser are
+    /// among them.
+    pub fn next_record_behind(
+        &self,
+        alloc: Global,
+        cut: u64,
+        found: &[LogRecord],
+    ) -> Result<Option<LogRecord>, AllocError>
+        ensures none { (log : List LogRecord) → HasLosers log self.now → IfOk result (λ next. IfNone next (HasNoLosers log)) }
+        ensures loser { (log : List LogRecord) → HasLosers log self.now → IfOk result (λ next. IfSome next (λ r. IsLoser log r.txn)) }
+        ensures turn { (log : List LogRecord) → HasLosers log self.now → IfOk result (λ next. IfSome next (λ r. IsNextToUndo log r.txn)) }
+        ensures undoes { (g : Geometry) (whole : List LogRecord) (turns : List ℕ) (log : List LogRecord) → CutsOffEnded cut whole → found.now ≡ drop cut whole
+            → AreMeantKept g cut found.now → IsUndoneTo whole turns log → HasLosers log self.now → IfOk result (λ next. IfSome next (λ r. r ≡ undo_record log r.txn)) }
+    {
         let Some(loser) = next_in_turn(self.entries.as_slice()) else {
             return Ok(None);
         };
-        let payload = undo_of(alloc, found, loser.undo_next)?;
+        let payload = undo_of(alloc, cut, found, loser.undo_next)?;
         Ok(Some(LogRecord {
             txn: loser.txn,
             previous: loser.last,
@@ -135,19 +156,21 @@ fn has_to_wait(one: Lsn, other: Lsn) -> bool
     one.0 != 0 && (other.0 == 0 || one.0 < other.0)
 }
 
-// What undo of the Change with this number says; at 0 nothing is left to be undone.
-fn undo_of(alloc: Global, found: &[LogRecord], change: Lsn) -> Result<Payload, AllocError>
-    ensures { (g : Geometry) (turns : List ℕ) (log : List LogRecord) (t : ℕ) → AreMeant g found.now → IsUndoneTo found.now turns log
-        → change ≡ undo_next_of (unanswered t log) → IfOk result (λ payload. payload ≡ undo_payload (unanswered t log)) }
+// What undo of the Change with this number says; at 0 nothing is left to be undone. The records are those of a whole log behind the first `cut`, among them
+// all of the transaction.
+fn undo_of(alloc: Global, cut: u64, found: &[LogRecord], change: Lsn) -> Result<Payload, AllocError>
+    ensures { (g : Geometry) (whole : List LogRecord) (turns : List ℕ) (log : List LogRecord) (t : ℕ) → 0 < t → cut ≤ length whole → has_record t (take cut whole) ≡ false
+        → found.now ≡ drop cut whole → AreMeantOf g t (padded cut found.now) → IsUndoneTo whole turns log → change ≡ undo_next_of (unanswered t log)
+        → IfOk result (λ payload. payload ≡ undo_payload (unanswered t log)) }
 {
-    let Some(logged) = record_at(found, change) else {
+    let Some(logged) = record_behind(cut, found, change) else {
         return Ok(Payload::End);
     };
     match change_in(&logged.payload) {
         Some((id, before)) => Ok(Payload::Compensation {
             id,
             after: copy_of(alloc, before)?,
-            undo_next: next_behind(found, logged),
+            undo_next: next_behind(cut, found, logged),
         }),
         None => Ok(Payload::End),
     }

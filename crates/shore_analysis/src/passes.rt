@@ -10,7 +10,8 @@ ghost use Rattle.shore_types.specs.declared.layout.TheConstants.{LAST_TXN};
 ghost use Rattle.shore_model.specs.declared.log_records.LogRecord.{LogRecord};
 ghost use Rattle.shore_analysis.specs.Tables.{AreTables, is_on_page};
 ghost use Rattle.shore_model.specs.Logs.{id_in};
-ghost use Rattle.shore_analysis.specs.Meant.{AreMeant, MayBeNext, IsMeant, Means, MeansCompensation};
+ghost use Rattle.shore_analysis.specs.Meant.{AreMeant, AreMeantOf, MayBeNext, IsMeant, Means, MeansCompensation};
+ghost use Rattle.shore_analysis.specs.Padded.{padded};
 ghost use Rattle.shore_analysis.specs.Passes.{Knows, as_dirty, entry_after, noted, over_after, progress_at, txn_after};
 
 use crate::analysis::Tables;
@@ -90,7 +91,7 @@ impl Pass {
         }
         match self.progress(txn) {
             Some(progress) => logged.previous == progress.last
-                && means(geometry, before, &progress, &logged.payload),
+                && means(geometry, 0, before, &progress, &logged.payload),
             None => false,
         }
     }
@@ -123,8 +124,11 @@ impl Pass {
     }
 }
 
-// The entries, rising by number.
-fn list_txns(alloc: Global, running: &BTreeMap<u64, LogTxn>) -> Result<Sequence<LogTxn>, AllocError>
+/// The entries, rising by number.
+pub(crate) fn list_txns(
+    alloc: Global,
+    running: &BTreeMap<u64, LogTxn>,
+) -> Result<Sequence<LogTxn>, AllocError>
     ensures listed { IfOk result (λ txns. txns ≡ values running.now) }
     ensures ordered { IsOrdered nat_cmp running.now }
 {
@@ -153,10 +157,16 @@ fn list_pages(
     Ok(pages)
 }
 
-// Whether the payload means what it has to behind the records before it, with its transaction so far.
-fn means(geometry: &Geometry, before: &[LogRecord], progress: &Progress, payload: &Payload) -> bool
-    requires { AreMeant geometry.now before.now }
-    ensures { (t : ℕ) → 0 < t → Some progress.now ≡ progress_at t before.now → (IsTrue result ↔ Means geometry.now before.now t payload.now) }
+/// Whether the payload means what it has to behind the kept records before it, with its transaction so far, of which all records are kept.
+pub(crate) fn means(
+    geometry: &Geometry,
+    cut: u64,
+    before: &[LogRecord],
+    progress: &Progress,
+    payload: &Payload,
+) -> bool
+    ensures { (t : ℕ) → 0 < t → AreMeantOf geometry.now t (padded cut before.now) → Some progress.now ≡ progress_at t (padded cut before.now)
+        → (IsTrue result ↔ Means geometry.now (padded cut before.now) t payload.now) }
 {
     match payload {
         Payload::Change { id, .. } => progress.phase.is_free() && geometry.has_slot(*id),
@@ -164,12 +174,12 @@ fn means(geometry: &Geometry, before: &[LogRecord], progress: &Progress, payload
             id,
             after,
             undo_next,
-        } => compensates(geometry, before, progress, id, after, *undo_next),
+        } => compensates(geometry, cut, before, progress, id, after, *undo_next),
         Payload::Commit => !progress.phase.is_decided(),
         Payload::End => !progress.phase.is_doubtful() && progress.newest.0 == 0,
         Payload::Prepare { granules, .. } => {
             progress.phase.is_free()
-                && may_prepare(geometry, before, progress.last, granules.as_slice())
+                && may_prepare(geometry, cut, before, progress.last, granules.as_slice())
         }
         Payload::RollbackDecided => progress.phase.is_doubtful(),
         Payload::CheckpointBegin | Payload::CheckpointEnd { .. } | Payload::Anchor { .. } => false,
@@ -179,15 +189,15 @@ fn means(geometry: &Geometry, before: &[LogRecord], progress: &Progress, payload
 // Whether a Compensation means what it has to.
 fn compensates(
     geometry: &Geometry,
+    cut: u64,
     before: &[LogRecord],
     progress: &Progress,
     id: &Rid,
     after: &Option<Bytes>,
     undo_next: Lsn,
 ) -> bool
-    requires { AreMeant geometry.now before.now }
-    ensures { (t : ℕ) → Some progress.now ≡ progress_at t before.now
-        → (IsTrue result ↔ MeansCompensation geometry.now before.now t id.now after.now undo_next) }
+    ensures { (t : ℕ) → 0 < t → AreMeantOf geometry.now t (padded cut before.now) → Some progress.now ≡ progress_at t (padded cut before.now)
+        → (IsTrue result ↔ MeansCompensation geometry.now (padded cut before.now) t id.now after.now undo_next) }
 {
     if progress.phase.is_doubtful() {
         return false;
@@ -195,7 +205,7 @@ fn compensates(
     if !geometry.has_slot(*id) {
         return false;
     }
-    is_answer(before, progress.newest, id, after, undo_next)
+    is_answer(cut, before, progress.newest, id, after, undo_next)
 }
 
 // Notes the page that the record of this number changes, unless an earlier one has changed it.
@@ -234,8 +244,8 @@ fn note_txn(
     }
 }
 
-// Ends a transaction.
-fn end(
+/// Ends a transaction.
+pub(crate) fn end(
     running: &mut BTreeMap<u64, LogTxn>,
     over: &mut BTreeSet<u64>,
     txn: TxnId,

@@ -6,9 +6,10 @@ ghost use Rattle.std.specs.declared.cmp.Ordering.TheVariants.{Less};
 ghost use Rattle.shore_types.specs.Locking.{granule_cmp};
 ghost use Rattle.shore_types.specs.declared.layout.Geometry.{Geometry};
 ghost use Rattle.shore_model.specs.Logs.{LieUnder, LiesUnder, id_in, last_of};
-ghost use Rattle.shore_analysis.specs.Meant.{AreGranules, AreMeant};
+ghost use Rattle.shore_analysis.specs.Meant.{AreGranules, AreMeantOf};
+ghost use Rattle.shore_analysis.specs.Padded.{padded};
 
-use crate::chains::record_at;
+use crate::chains::record_behind;
 use shore_model::LogRecord;
 use shore_types::{Geometry, Granule, Lsn, Rid};
 
@@ -16,21 +17,28 @@ use shore_types::{Geometry, Granule, Lsn, Rid};
 /// each, and each id that it has changed lies at or under one of them.
 pub(crate) fn may_prepare(
     geometry: &Geometry,
+    cut: u64,
     before: &[LogRecord],
     last: Lsn,
     granules: &[Granule],
 ) -> bool
-    requires { AreMeant geometry.now before.now }
-    ensures { (t : ℕ) → 0 < t → last ≡ last_of t before.now
-        → (IsTrue result ↔ (AreGranules geometry.now granules.now × LieUnder before.now t granules.now)) }
+    ensures { (t : ℕ) → 0 < t → AreMeantOf geometry.now t (padded cut before.now) → last ≡ last_of t (padded cut before.now)
+        → (IsTrue result ↔ (AreGranules geometry.now granules.now × LieUnder (padded cut before.now) t granules.now)) }
+{
+    if !are_granules(geometry, granules) {
+        return false;
+    }
+    cover_changes(cut, before, last, granules)
+}
+
+/// Whether the geometry has each granule, and they rise.
+pub(crate) fn are_granules(geometry: &Geometry, granules: &[Granule]) -> bool
+    ensures { IsTrue result ↔ AreGranules geometry.now granules.now }
 {
     if !are_inside(geometry, granules) {
         return false;
     }
-    if !rise(granules) {
-        return false;
-    }
-    cover_changes(before, last, granules)
+    rise(granules)
 }
 
 fn are_inside(geometry: &Geometry, granules: &[Granule]) -> bool
@@ -74,14 +82,14 @@ fn is_below(one: &Granule, other: &Granule) -> bool
 }
 
 // Whether each id that a transaction has changed lies at or under one of these granules. Each record names the one before it.
-fn cover_changes(before: &[LogRecord], last: Lsn, granules: &[Granule]) -> bool
+fn cover_changes(cut: u64, before: &[LogRecord], last: Lsn, granules: &[Granule]) -> bool
     requires { IsStrictlySortedBy granule_cmp granules.now }
-    ensures { (g : Geometry) (t : ℕ) → AreMeant g before.now → 0 < t → last ≡ last_of t before.now
-        → (IsTrue result ↔ LieUnder before.now t granules.now) }
+    ensures { (g : Geometry) (t : ℕ) → AreMeantOf g t (padded cut before.now) → 0 < t → last ≡ last_of t (padded cut before.now)
+        → (IsTrue result ↔ LieUnder (padded cut before.now) t granules.now) }
 {
     let mut number = last;
     for _ in 0..before.len() {
-        let Some(logged) = record_at(before, number) else {
+        let Some(logged) = record_behind(cut, before, number) else {
             return true;
         };
         if !covers(granules, logged) {

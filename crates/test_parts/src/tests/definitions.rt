@@ -2,6 +2,7 @@
 mod analysis;
 mod histories;
 mod history_lines;
+mod kept_logs;
 mod limits;
 mod locks;
 mod log_lines;

@@ -4,13 +4,17 @@ use Rattle.std.proofs.lemmas.List.Sorted.{IsNonDecreasingBy-from_sort_by_key}
 use Rattle.shore_model.specs.declared.log_records.LogTxn.{LogTxn}
 use Rattle.shore_model.specs.Logs.{IsTable}
 use Rattle.shore_analysis.proofs.DoubtOrder.{in_order, say_the_doubts}
+use Rattle.shore_analysis.proofs.DoubtsLawful.{lawful_runs}
+use Rattle.shore_analysis.proofs.InOrder.{lawful_once, meant_once}
+use Rattle.shore_analysis.proofs.Phases.{in_doubt_runs}
+use Rattle.shore_analysis.proofs.WholeRecords.{doubts_run, prepares_once}
 use Rattle.shore_analysis.proofs.doubts.in_doubt.Goals as goal
 
 pub returns-clause-order : goal.returns-clause-order
 returns-clause-order c g log tables meant are is =
     let found = c.sort_unstable_by_key.new.self.items in
     let table = subst (IsTable log) is are.txns in
-    in_order g log meant c.args.txns.now table found
+    in_order log (meant_once g log meant) (in_doubt_runs g log meant) c.args.txns.now table found
     (subst (λ (es : List LogTxn). IsPermutation es found) c.in_ok-found.ensures c.sort_unstable_by_key.ensures.permutation)
     (IsNonDecreasingBy-from_sort_by_key (λ (e : LogTxn). e.prepare) found c.sort_unstable_by_key.ensures.sorted (λ a r q k. search rules))
 
@@ -18,6 +22,34 @@ pub returns-clause-prepares : goal.returns-clause-prepares
 returns-clause-prepares c g log tables meant are is =
     let found = c.sort_unstable_by_key.new.self.items in
     let table = subst (IsTable log) is are.txns in
-    say_the_doubts g log meant c.args.txns.now table found
+    say_the_doubts log (meant_once g log meant) (in_doubt_runs g log meant) c.args.txns.now table found
+    (subst (λ (es : List LogTxn). IsPermutation es found) c.in_ok-found.ensures c.sort_unstable_by_key.ensures.permutation)
+    (IsNonDecreasingBy-from_sort_by_key (λ (e : LogTxn). e.prepare) found c.sort_unstable_by_key.ensures.sorted (λ a r q k. search rules))
+
+pub returns-clause-lawful_order : goal.returns-clause-lawful_order
+returns-clause-lawful_order c log lawful table =
+    let found = c.sort_unstable_by_key.new.self.items in
+    in_order log (lawful_once log lawful) (lawful_runs log lawful) c.args.txns.now table found
+    (subst (λ (es : List LogTxn). IsPermutation es found) c.in_ok-found.ensures c.sort_unstable_by_key.ensures.permutation)
+    (IsNonDecreasingBy-from_sort_by_key (λ (e : LogTxn). e.prepare) found c.sort_unstable_by_key.ensures.sorted (λ a r q k. search rules))
+
+pub returns-clause-lawful_prepares : goal.returns-clause-lawful_prepares
+returns-clause-lawful_prepares c log lawful table =
+    let found = c.sort_unstable_by_key.new.self.items in
+    say_the_doubts log (lawful_once log lawful) (lawful_runs log lawful) c.args.txns.now table found
+    (subst (λ (es : List LogTxn). IsPermutation es found) c.in_ok-found.ensures c.sort_unstable_by_key.ensures.permutation)
+    (IsNonDecreasingBy-from_sort_by_key (λ (e : LogTxn). e.prepare) found c.sort_unstable_by_key.ensures.sorted (λ a r q k. search rules))
+
+pub returns-clause-kept_order : goal.returns-clause-kept_order
+returns-clause-kept_order c g log meant table =
+    let found = c.sort_unstable_by_key.new.self.items in
+    in_order log (prepares_once g log meant) (doubts_run g log meant) c.args.txns.now table found
+    (subst (λ (es : List LogTxn). IsPermutation es found) c.in_ok-found.ensures c.sort_unstable_by_key.ensures.permutation)
+    (IsNonDecreasingBy-from_sort_by_key (λ (e : LogTxn). e.prepare) found c.sort_unstable_by_key.ensures.sorted (λ a r q k. search rules))
+
+pub returns-clause-kept_prepares : goal.returns-clause-kept_prepares
+returns-clause-kept_prepares c g log meant table =
+    let found = c.sort_unstable_by_key.new.self.items in
+    say_the_doubts log (prepares_once g log meant) (doubts_run g log meant) c.args.txns.now table found
     (subst (λ (es : List LogTxn). IsPermutation es found) c.in_ok-found.ensures c.sort_unstable_by_key.ensures.permutation)
     (IsNonDecreasingBy-from_sort_by_key (λ (e : LogTxn). e.prepare) found c.sort_unstable_by_key.ensures.sorted (λ a r q k. search rules))

@@ -184,7 +184,8 @@ fn refused_at(alloc: Global, list: &[LogRecord]) -> Result<u64, AllocError> {
     }
 }
 
-fn number_in(refusal: NotAnalysed) -> Result<u64, AllocError> {
+/// The number of the record that is refused.
+pub(super) fn number_in(refusal: NotAnalysed) -> Result<u64, AllocError> {
     match refusal {
         NotAnalysed::Unlawful(number) => Ok(number.0),
         NotAnalysed::Memory => Err(AllocError),

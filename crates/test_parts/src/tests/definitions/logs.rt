@@ -1,5 +1,6 @@
 //! Logs of worked runs, written out by hand, with what they tell, and lists that no run leaves.
 use super::analysis::{add_crowd, gives, is_refused_as};
+use super::kept_logs::{is_refused_behind, keeps};
 use super::steps::{add, is_remark};
 use super::words::Words;
 use shore_model::LogRecord;
@@ -214,6 +215,8 @@ fn judge(
         "crowd" => add_crowd(list, &mut words),
         "gives" => gives(alloc, list, &mut words),
         "tells" => tells(alloc, list, &mut words),
+        "keeps" => keeps(alloc, list, &mut words),
+        "behind" => judge_behind(alloc, list, rest),
         _ => judge_with(alloc, list, verb, rest),
     }
 }
@@ -227,6 +230,16 @@ fn judge_with(
 ) -> Result<bool, AllocError> {
     let length = list.len();
     let is_right = add(alloc, list, rest)? && is_as(verb, alloc, list)?;
+    list.truncate(length);
+    Ok(is_right)
+}
+
+// Judges what is kept of the list with these records too, which are then taken back.
+fn judge_behind(alloc: Global, list: &mut Vec<LogRecord>, rest: &str) -> Result<bool, AllocError> {
+    let (told, records) = rest.split_once(';').unwrap_or((rest, ""));
+    let length = list.len();
+    let is_right = add(alloc, list, records)?
+        && is_refused_behind(alloc, list, &mut Words::of(told))?;
     list.truncate(length);
     Ok(is_right)
 }
