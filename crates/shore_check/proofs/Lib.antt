@@ -1,0 +1,5 @@
+mod Least
+mod Sorting
+mod TablesTaken
+mod Costs
+pub mod Listing
