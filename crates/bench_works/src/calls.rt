@@ -23,7 +23,7 @@ pub const WORKS: [(&str, Work); 25] = [
         "call_insert_beside",
         Work::Call(Kind::Insert, 0, Some(Mode::IX)),
     ),
-    ("call_insert_far", Work::Call(Kind::Insert, 78_000, None)),
+    ("call_insert_far", Work::Call(Kind::Insert, 23_400, None)),
     ("call_update", Work::Call(Kind::Update, 1_000, None)),
     (
         "call_update_beside",

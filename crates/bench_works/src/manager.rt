@@ -1,13 +1,14 @@
 //! A manager over two devices, in memory or over files, its sessions, and the calls that the works make.
 ghost use Rattle.std.specs.Prelude.{◌≤◌};
 ghost use Rattle.shore_model.specs.Calls.{IsServed};
-ghost use Rattle.shore_types.specs.declared.layout.TheConstants.{MAX_PAGES, MIN_POOL_FRAMES};
+ghost use Rattle.shore_types.specs.declared.layout.TheConstants.{MAX_POOL_FRAMES, MIN_POOL_FRAMES};
 ghost use Rattle.shore_world.specs.Events.{IsServedEvent};
 
 use bench_parts::counted::CountDisk;
 use bench_parts::layout::{STORE, geometry, volume_bytes};
 use bench_parts::records::{hundred_bytes, record_of};
 use shore_model::{Answer, Call};
+use shore_types::layout::MAX_POOL_FRAMES;
 use shore_types::{Fault, Geometry, Granule, Mode, Pairs, SessionId};
 use shore_world::{Event, Step, World, format};
 use std::alloc::Global;
@@ -20,8 +21,8 @@ pub const LAST_SESSION: u32 = 256;
 
 const LOG_BYTES: u64 = 1 << 26;
 
-/// As many as the greatest store has pages, so that each call is measured with its pages in memory.
-pub const FRAMES: usize = 4_096;
+/// As many as there may be, so that each call is measured with its pages in memory.
+pub const FRAMES: usize = MAX_POOL_FRAMES;
 
 /// The devices of the log and of the volume.
 pub type Pair = (CountDisk, CountDisk);
@@ -51,7 +52,7 @@ pub fn formatted(
     frames: usize,
 ) -> Result<Manager, Fault>
     requires some { MIN_POOL_FRAMES ≤ frames }
-    requires most { frames ≤ MAX_PAGES }
+    requires most { frames ≤ MAX_POOL_FRAMES }
 {
     let (mut log, mut volume) = pair;
     format(alloc, &mut log, &mut volume, geometry)?;
@@ -61,7 +62,7 @@ pub fn formatted(
 /// The manager of a pair of devices, with so many frames for pages.
 pub fn opened(alloc: Global, pair: Pair, frames: usize) -> Result<Manager, Fault>
     requires some { MIN_POOL_FRAMES ≤ frames }
-    requires most { frames ≤ MAX_PAGES }
+    requires most { frames ≤ MAX_POOL_FRAMES }
 {
     let (log, volume) = pair;
     match World::open(alloc, log, volume, frames) {

@@ -186,7 +186,7 @@ module _ (Made : List ℕ → Type 0) where
 slot_within : (p m : ℕ) (image : List ℕ) → 40 ≤ m → take 40 (drop p image) ≡ take 40 (drop p (take (p + m) image))
 slot_within p m image le = sym (ap (take 40) (drop-take p m image) ∙ take-take 40 m (drop p image) le)
 
-same_slot : (slot : Slot) (image c : List ℕ) → take 4096 c ≡ take 4096 image → slot_bytes slot c ≡ slot_bytes slot image
+pub same_slot : (slot : Slot) (image c : List ℕ) → take 4096 c ≡ take 4096 image → slot_bytes slot c ≡ slot_bytes slot image
 same_slot A image c same = slot_within 1024 3072 c (omega arith) ∙ ap (λ (l : List ℕ). take 40 (drop 1024 l)) same ∙ sym (slot_within 1024 3072 image (omega arith))
 same_slot B image c same = slot_within 2048 2048 c (omega arith) ∙ ap (λ (l : List ℕ). take 40 (drop 2048 l)) same ∙ sym (slot_within 2048 2048 image (omega arith))
 

@@ -15,10 +15,11 @@ use Rattle.shore_page.specs.Text.{images_of}
 use Rattle.shore_pool.specs.declared.frame.Frame.{Frame}
 use Rattle.shore_pool.specs.declared.pool.Pool.{Pool}
 use Rattle.shore_pool.specs.Changes as changes
-use Rattle.shore_pool.specs.Pages.{SamePages}
+use Rattle.shore_pool.specs.Pages.{SamePages, WereDirty}
 use Rattle.shore_pool.specs.Pools as pools
 use Rattle.shore_pool.specs.Pools.{PoolHolds, NeedsForce}
 use Rattle.shore_pool.proofs.Same.{pages_on}
+use Rattle.shore_pool.proofs.Unwritten.{none_written, unwritten_on, were_but}
 use Rattle.shore_heap.specs.declared.heap.Heap.{Heap}
 use Rattle.shore_heap.specs.Contents.{AreBounds, AreKept, FitIn, KeepWhatFits, ClaimsOfPages, claimed_frame, with_page_slots}
 use Rattle.shore_heap.specs.Heaps.{IsFreshFrame, KeepsSlots, LeavesPages, Shows, StayInPlace, WroteBack, bounds_of, faults_of, frame_at, frame_of, geometry_of, history_of, honesty_of}
@@ -92,19 +93,34 @@ there_before was now f (inr (inl clean)) is dirty = absurd (dirty (each was (sym
     each (Some e) same = let it : f ≡ changes.settled e = cc in ap (λ (f : Frame). f.recovery) it
 there_before was now f (inr (inr gone)) is dirty = let clash : None ≡ Some f = sym gone ∙ is in absurd cc
 
+-- the page that came is clean, and what is dirty in another frame was so before
+pub were_kept : {D : Type 0} {G : Ghosts D} (old : Heap D G) (mid : Pool D G) (new : Heap D G) (id : PageId) → page_number (pools.geometry_of mid) id ≡ page_number (geometry_of old) id
+    → ((k : ℕ) → k ≢ page_number (pools.geometry_of mid) id → frame_at new k ≡ pools.frame_at mid k) → IsSomeAnd (pools.frame_at mid (page_number (geometry_of old) id)) (λ f. f.recovery ≡ None)
+    → option_map (λ f. f.recovery) (frame_at new (page_number (geometry_of old) id)) ≡ option_map (λ f. f.recovery) (pools.frame_at mid (page_number (geometry_of old) id)) → WereDirty (pools.frame_at mid) (frame_at new)
+were_kept old mid new id number others clean dirt =
+    let n = page_number (geometry_of old) id in
+    were_but (pools.frame_at mid) (frame_at new) n (λ k apart. others k (λ is. apart (is ∙ number))) (λ f is. each f (pools.frame_at mid n) (frame_at new n) is clean dirt)
+  where
+    each : (f : Frame) (o e : Option Frame) → e ≡ Some f → IsSomeAnd o (λ f. f.recovery ≡ None) → option_map (λ f. f.recovery) e ≡ option_map (λ f. f.recovery) o → f.recovery ≡ None
+    each f None e is clean dirt = absurd clean
+    each f (Some g) None is clean dirt = cc
+    each f (Some g) (Some e) is clean dirt = let same : e.recovery ≡ g.recovery = cc in let it : e ≡ f = cc in ap (λ (f : Frame). f.recovery) (sym it) ∙ same ∙ clean
+
 -- ---- a call
 
 module _ {D : Type 0} {G : Ghosts D} (old : Heap D G) (mid : Pool D G) (durable : ℕ) where
-  stay_of : (new : Heap D G) (front : List ℕ) (disk : ℕ → List ℕ) (w : pools.WroteBack old.pool mid durable front disk) → SamePages (pools.frame_at mid) w.left (frame_at new) w.left → StayInPlace old new durable disk w.left
-  stay_of new front disk w more = record {
+  stay_of : (new : Heap D G) (front : List ℕ) (disk : ℕ → List ℕ) (w : pools.WroteBack old.pool mid durable front disk) → SamePages (pools.frame_at mid) w.left (frame_at new) w.left → WereDirty (pools.frame_at mid) (frame_at new)
+      → StayInPlace old new durable disk w.left
+  stay_of new front disk w more were = record {
     may = may_be (geometry_of old) (frame_at old) durable disk old.pool.in_order w.left w.may;
     same = pages_on (frame_at old) (pools.frame_at mid) (frame_at new) disk w.left w.left w.same more;
+    unwritten = unwritten_on (frame_at old) (pools.frame_at mid) (frame_at new) disk w.left w.left w.unwritten (none_written (pools.frame_at mid) (frame_at new) w.left were);
   }
 
   -- the volume, and what is in place
   pub wrote_of : (new : Heap D G) (front : List ℕ) (disk : ℕ → List ℕ) (w : pools.WroteBack old.pool mid durable front disk) → PoolHolds new.pool front w.left × SamePages (pools.frame_at mid) w.left (frame_at new) w.left
-      → WroteBack old new durable front disk
-  wrote_of new front disk w more = (w.left, more.0, stay_of new front disk w more.1)
+      → WereDirty (pools.frame_at mid) (frame_at new) → WroteBack old new durable front disk
+  wrote_of new front disk w more were = (w.left, more.0, stay_of new front disk w more.1 were)
 
   pub moment_of : (later : DeviceHistory) (front : List ℕ) (disk : ℕ → List ℕ) → LeavesOnly (history_of old) later (pools.LeavesPages old.pool durable front disk) → LeavesOnly (history_of old) later (LeavesPages old durable front disk)
   moment_of later front disk leaves = widened (history_of old) later (pools.LeavesPages old.pool durable front disk) (LeavesPages old durable front disk) leaves
@@ -121,9 +137,10 @@ module _ {D : Type 0} {G : Ghosts D} (old : Heap D G) (mid : Pool D G) (durable 
     pub kept_of : ((k : ℕ) → k ≢ page_number (geometry_of old) id → pools.StaysOrGoes (frame_at old k) (frame_at new k))
         → pools.StaysOrGoes (frame_at old (page_number (geometry_of old) id)) (frame_at new (page_number (geometry_of old) id)) ⊎ Came (frame_at old) (pools.frame_at mid) (frame_at new) (page_number (geometry_of old) id) id (K id) last
         → (front : List ℕ) (disk : ℕ → List ℕ) (S : PageId → List Slot) → Shows K old front disk S → AreKept (geometry_of old) K S
-        → (w : pools.WroteBack old.pool mid durable front disk) → PoolHolds new.pool front w.left × SamePages (pools.frame_at mid) w.left (frame_at new) w.left → KeepsSlots K old new durable front disk S
-    kept_of others come front disk S shows are w more =
-        let stay = stay_of new front disk w more.1 in
+        → (w : pools.WroteBack old.pool mid durable front disk) → PoolHolds new.pool front w.left × SamePages (pools.frame_at mid) w.left (frame_at new) w.left → WereDirty (pools.frame_at mid) (frame_at new)
+        → KeepsSlots K old new durable front disk S
+    kept_of others come front disk S shows are w more were =
+        let stay = stay_of new front disk w more.1 were in
         let have = have_fetched (geometry_of old) (frame_at old) (frame_at new) disk w.left K S old.pool.in_order stay.same shows.pages are (pools.frame_at mid) id last there w.same others come in
         (w.left, shows_by new.pool new (geometry_of old) K front w.left S refl geometry more.0 have (bounds_stay S shows.bounds), stay)
 

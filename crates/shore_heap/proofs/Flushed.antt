@@ -67,7 +67,7 @@ module _ (at now : ℕ → Option Frame) where
 
 module _ {D : Type 0} {G : Ghosts D} (old new : Heap D G) (durable : ℕ) where
   wrote_by : (front : List ℕ) (disk : ℕ → List ℕ) → pools.WroteBack old.pool new.pool durable front disk → WroteBack old new durable front disk
-  wrote_by front disk w = wrote_of old new.pool durable new front disk w (w.holds, pages_stay (frame_at new) (frame_at new) w.left (λ k. refl))
+  wrote_by front disk w = wrote_of old new.pool durable new front disk w (w.holds, pages_stay (frame_at new) (frame_at new) w.left (λ k. refl)) (λ k f is dirty. is)
 
   -- the volume, and what is in place
   pub flush_wrote : (r : Result ℕ Fault) (front : List ℕ) (disk : ℕ → List ℕ)

@@ -19,10 +19,11 @@ use Rattle.shore_page.specs.Text.{IsPageText, images_of}
 use Rattle.shore_pool.specs.declared.frame.Frame.{Frame}
 use Rattle.shore_pool.specs.declared.pool.Pool.{Pool}
 use Rattle.shore_pool.specs.Pages as pages
-use Rattle.shore_pool.specs.Pages.{AreInOrder, IsPage, IsTextOf, SamePages}
+use Rattle.shore_pool.specs.Pages.{AreInOrder, IsPage, IsTextOf, SamePages, StayUnwritten}
 use Rattle.shore_pool.specs.Pools as pools
 use Rattle.shore_pool.specs.Pools.{PoolHolds, NeedsForce}
 use Rattle.shore_pool.proofs.Same.{pages_on, pages_stay}
+use Rattle.shore_pool.proofs.Unwritten.{unwritten_on}
 use Rattle.shore_heap.specs.declared.heap.Heap.{Heap}
 use Rattle.shore_heap.specs.Contents.{AreBounds, AreKept, ClaimsOfPages}
 use Rattle.shore_heap.specs.Heaps.{AsksForForce, KeepsSlots, LeavesPages, MayBeLeft, ReadsPages, RefusesPage, Shows, StayInPlace, WroteBack, faults_of, frame_at, geometry_of, history_of}
@@ -88,8 +89,8 @@ module _ {D : Type 0} {G : Ghosts D} (K : ClaimsOfPages) (durable : ℕ) where
   -- nothing was called
   pub goes_nowhere : (heap : Heap D G) → Goes heap heap
   goes_nowhere heap = record {
-    kept = λ front disk S shows are. (disk, shows, record { may = λ id has. inl refl; same = pages_stay (frame_at heap) (frame_at heap) disk (λ k. refl) });
-    wrote = λ front disk holds. (disk, holds, record { may = λ id has. inl refl; same = pages_stay (frame_at heap) (frame_at heap) disk (λ k. refl) });
+    kept = λ front disk S shows are. (disk, shows, record { may = λ id has. inl refl; same = pages_stay (frame_at heap) (frame_at heap) disk (λ k. refl); unwritten = λ k f is dirty. (is, refl) });
+    wrote = λ front disk holds. (disk, holds, record { may = λ id has. inl refl; same = pages_stay (frame_at heap) (frame_at heap) disk (λ k. refl); unwritten = λ k f is dirty. (is, refl) });
     any_moment = λ front disk holds.
         let s = holds.settled in
         stands_still (history_of heap) s.image (LeavesPages heap durable front disk) s.stands (disk, (s.front_is, inl (s.shut, s.in_place)), λ id has. inl refl);
@@ -166,7 +167,7 @@ module _ {D : Type 0} {G : Ghosts D} (K : ClaimsOfPages) (durable : ℕ) where
   -- the same pool, of which the maps have learned
   module _ {T : Type 0} (x : T) (old mid new : Heap D G) (same : new.pool ≡ mid.pool) where
     stay_on : (disk left : ℕ → List ℕ) → StayInPlace old mid durable disk left → StayInPlace old new durable disk left
-    stay_on disk left stay = record { may = stay.may; same = subst (λ (p : Pool D G). SamePages (frame_at old) disk (pools.frame_at p) left) (sym same) stay.same }
+    stay_on disk left stay = record { may = stay.may; same = subst (λ (p : Pool D G). SamePages (frame_at old) disk (pools.frame_at p) left) (sym same) stay.same; unwritten = subst (λ (p : Pool D G). StayUnwritten (frame_at old) disk (pools.frame_at p) left) (sym same) stay.unwritten }
 
     pub learns : {U : Type 0} (y : U) → ReadsPages K old mid durable (Ok x)
         → ((front : List ℕ) (disk : ℕ → List ℕ) (S : PageId → List Slot) → Shows K mid front disk S → AreBounds (geometry_of mid) new.free.items S) → ReadsPages K old new durable (Ok y)
@@ -203,6 +204,7 @@ module _ {D : Type 0} {G : Ghosts D} (K : ClaimsOfPages) (durable : ℕ) where
     stay_then disk between left first second = record {
       may = may_then (geometry_of old) (frame_at old) durable disk (frame_at mid) between left first.may first.same (may_mid between left second.may);
       same = pages_on (frame_at old) (frame_at mid) (frame_at new) disk between left first.same second.same;
+      unwritten = unwritten_on (frame_at old) (frame_at mid) (frame_at new) disk between left first.unwritten second.unwritten;
     }
 
     kept_then : {U : Type 0} (r : Result U Fault) (front : List ℕ) (disk : ℕ → List ℕ) (S : PageId → List Slot) (first : KeepsSlots K old mid durable front disk S)

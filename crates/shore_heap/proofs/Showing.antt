@@ -1,5 +1,7 @@
 -- What a heap shows, put together.
-use Rattle.std.proofs.Common.{◌≡◌, ℕ, List, Option, None, Some, refl, sym, ap, subst, ◌∙◌}
+use Rattle.std.proofs.Common.{◌≡◌, ◌≢◌, ℕ, List, Option, None, Some, inl, inr, option_map, refl, sym, ap, subst, ◌∙◌}
+use Rattle.std.proofs.lemmas.Bool.{cases_eq}
+use Rattle.shore_pool.specs.Changes.{reclaimed}
 use Rattle.shore_disk.specs.declared.device.Disk.{Ghosts}
 use Rattle.shore_types.specs.declared.ids.PageId.{PageId}
 use Rattle.shore_types.specs.declared.layout.Geometry.{Geometry}
@@ -51,3 +53,15 @@ module _ {D : Type 0} {G : Ghosts D} where
       each : (id : PageId) (o : Option Frame) → (o ≡ None → L id ≡ K id) → HasSlots o (disk (page_number (geometry_of heap) id)) id (K id) (S id) → HasSlots o (disk (page_number (geometry_of heap) id)) id (L id) (S id)
       each id None is has = subst (λ (kept : List (ℕ × ℕ)). HasSlots None (disk (page_number (geometry_of heap) id)) id kept (S id)) (sym (is refl)) has
       each id (Some f) is has = has
+
+-- a page whose claims fall stays dirty, or clean
+pub same_dirt : (at now : ℕ → Option Frame) (n slot : ℕ) (claim : Slot → Slot) → now n ≡ option_map (reclaimed claim slot) (at n) → ((k : ℕ) → k ≢ n → now k ≡ at k)
+    → (k : ℕ) → option_map (λ (f : Frame). f.recovery) (now k) ≡ option_map (λ (f : Frame). f.recovery) (at k)
+same_dirt at now n slot claim here others k = elim (cases_eq k n) [
+  | inl same ↦ subst (λ (i : ℕ). option_map (λ (f : Frame). f.recovery) (now i) ≡ option_map (λ (f : Frame). f.recovery) (at i)) (sym same) (ap (option_map (λ (f : Frame). f.recovery)) here ∙ each (at n))
+  | inr other ↦ ap (option_map (λ (f : Frame). f.recovery)) (others k other)
+]
+  where
+    each : (o : Option Frame) → option_map (λ (f : Frame). f.recovery) (option_map (reclaimed claim slot) o) ≡ option_map (λ (f : Frame). f.recovery) o
+    each None = refl
+    each (Some f) = refl

@@ -21,7 +21,7 @@ use Rattle.shore_pool.specs.declared.frame.Frame.{Frame}
 use Rattle.shore_pool.specs.declared.pool.Pool.{Pool}
 use Rattle.shore_pool.specs.Changes as changes
 use Rattle.shore_pool.specs.Pools as pools
-use Rattle.shore_pool.specs.Pages.{SamePages}
+use Rattle.shore_pool.specs.Pages.{SamePages, StayUnwritten}
 use Rattle.shore_pool.specs.Pools.{HasInPlace, PoolHolds, NeedsForce}
 use Rattle.shore_page.specs.declared.undecided.Claims as claims
 use Rattle.shore_heap.specs.declared.choices.Places as choices
@@ -89,10 +89,11 @@ abbrev pub MayBeLeft : {D : Type 0} {G : Ghosts D} → Heap D G → ℕ → (ℕ
 MayBeLeft heap durable disk left = (id : PageId) → HasPage (geometry_of heap) id → (left (page_number (geometry_of heap) id) ≡ disk (page_number (geometry_of heap) id))
     ⊎ ((number : ℕ) × (images : List Image) × HasInPlace heap.pool disk id number images × (number ≤ durable) × IsPageText (left (page_number (geometry_of heap) id)) id number images)
 
--- Pages may have been written back, one after another, and all are in place as they were.
+-- Pages may have been written back, one after another, and all are in place as they were. A page that is still dirty was not written.
 pub record StayInPlace {D : Type 0} {G : Ghosts D} (old new : Heap D G) (durable : ℕ) (disk left : ℕ → List ℕ) : Type 0 where
   pub may : MayBeLeft old durable disk left
   pub same : SamePages (frame_at old) disk (frame_at new) left
+  pub unwritten : StayUnwritten (frame_at old) disk (frame_at new) left
 
 -- .. over a volume that is settled with the texts that this leaves
 abbrev pub WroteBack : {D : Type 0} {G : Ghosts D} → Heap D G → Heap D G → ℕ → List ℕ → (ℕ → List ℕ) → Type 0

@@ -20,6 +20,7 @@ use std::alloc::Global;
 
 impl<D: Disk> Heap<D> {
     ghost use Rattle.shore_pool.specs.declared.frame.Frame.{Frame};
+    ghost use Rattle.shore_heap.specs.Dirty.{SameDirt};
     ghost use Rattle.shore_heap.specs.Heaps.{FramesWere, KeepsVolume, ReadsPages, RefusesPage, Shows, bounds_of, claims_in, device_of, frame_at, frame_of, geometry_of, limit_of, pool_of};
 
     /// Brings a page into a frame, if it is in none. Another may be written back and leave its own for it.
@@ -64,7 +65,7 @@ impl<D: Disk> Heap<D> {
         ensures others { (k : ℕ) → k ≢ page_number (geometry_of self.old) id.now.page → frame_at self.new k ≡ frame_at self.old k }
         ensures unchanged { IsFalse result → self.new ≡ self.old }
         ensures same { (disk : ℕ → List ℕ) → SamePages (frame_at self.old) disk (frame_at self.new) disk }
-        ensures dirt { (k : ℕ) → option_map (λ f. f.recovery) (frame_at self.new k) ≡ option_map (λ f. f.recovery) (frame_at self.old k) }
+        ensures dirt { SameDirt self.old self.new }
         ensures untouched { KeepsVolume self.old self.new }
         ensures bounds { bounds_of self.new ≡ bounds_of self.old }
         ensures limit { limit_of self.new ≡ limit_of self.old }
@@ -84,7 +85,7 @@ impl<D: Disk> Heap<D> {
             → (slots : List Slot) × KeepWhatFits (claims_in C.Claims claims.now id.now) f.page.slots slots × (frame_of self.new id.now ≡ Some (with_page_slots slots f)) }
         ensures here { (f : Frame) → frame_of self.old id.now ≡ Some f → FitIn (claims_in C.Claims claims.now id.now) f.page.slots
             → frame_of self.new id.now ≡ Some (claimed_frame (claims_in C.Claims claims.now id.now) f) }
-        ensures dirt { (k : ℕ) → option_map (λ f. f.recovery) (frame_at self.new k) ≡ option_map (λ f. f.recovery) (frame_at self.old k) }
+        ensures dirt { SameDirt self.old self.new }
         ensures others { (k : ℕ) → k ≢ page_number (geometry_of self.old) id.now → frame_at self.new k ≡ frame_at self.old k }
         ensures kept { (front : List ℕ) (disk : ℕ → List ℕ) → PoolHolds (pool_of self.old) front disk
             → PoolHolds (pool_of self.new) front disk × SamePages (frame_at self.old) disk (frame_at self.new) disk }
@@ -109,7 +110,7 @@ impl<D: Disk> Heap<D> {
             → frame_of self.new id.now ≡ Some (reclaimed (raised bytes) slot f) }
         ensures either { (f : Frame) → frame_of self.old id.now ≡ Some f → (CanKeep f.page.slots slot bytes × (frame_of self.new id.now ≡ Some (reclaimed (raised bytes) slot f)))
             ⊎ ((CanKeep f.page.slots slot bytes → ⊥) × (frame_of self.new id.now ≡ Some f)) }
-        ensures dirt { (k : ℕ) → option_map (λ f. f.recovery) (frame_at self.new k) ≡ option_map (λ f. f.recovery) (frame_at self.old k) }
+        ensures dirt { SameDirt self.old self.new }
         ensures others { (k : ℕ) → k ≢ page_number (geometry_of self.old) id.now → frame_at self.new k ≡ frame_at self.old k }
         ensures kept { (front : List ℕ) (disk : ℕ → List ℕ) → PoolHolds (pool_of self.old) front disk
             → PoolHolds (pool_of self.new) front disk × SamePages (frame_at self.old) disk (frame_at self.new) disk }

@@ -11,7 +11,7 @@ ghost use Rattle.shore_pool.specs.Pages.{SamePages};
 ghost use Rattle.shore_pool.specs.Pools as pools;
 ghost use Rattle.shore_types.specs.Layout.{HasPage};
 ghost use Rattle.shore_types.specs.declared.ids.PageId.{PageId};
-ghost use Rattle.shore_types.specs.declared.layout.TheConstants.{MAX_PAGES, MAX_RECORD_BYTES, MIN_POOL_FRAMES};
+ghost use Rattle.shore_types.specs.declared.layout.TheConstants.{MAX_POOL_FRAMES, MAX_RECORD_BYTES, MIN_POOL_FRAMES};
 ghost use Rattle.shore_heap.specs.Contents.{FitIn, ClaimsOfPages, bound_of, claimed_by, unclaimed, with_slots};
 
 use crate::free_map::FreeMap;
@@ -35,13 +35,14 @@ pub struct Heap<D: Disk> {
 }
 
 impl<D: Disk> Heap<D> {
+    ghost use Rattle.shore_heap.specs.Dirty.{SameDirt};
     ghost use Rattle.shore_heap.specs.Heaps.{KeepsVolume, Shows, device_of, frame_at, frame_of, geometry_of, limit_of};
 
     /// The heap of a volume, with no page in a frame, over a pool of so many frames. All memory is taken but that of pages. The device is handed
     /// back if an allocation failed.
     pub fn new(alloc: Global, device: PageDev<D>, frames: usize) -> Result<Heap<D>, PageDev<D>>
         requires some { MIN_POOL_FRAMES ≤ frames }
-        requires most { frames ≤ MAX_PAGES }
+        requires most { frames ≤ MAX_POOL_FRAMES }
         ensures device { IfOk result (λ heap. device_of heap ≡ device) }
         ensures none { IfOk result (λ heap. (k : ℕ) → frame_at heap k ≡ None) }
         ensures shows { (front : List ℕ) (disk : ℕ → List ℕ) (number : PageId → ℕ) (images : PageId → List Image) → settled_device.IsSettled device front disk
@@ -152,6 +153,7 @@ impl<D: Disk> Heap<D> {
             → frame_of self.old id.page ≡ None → ((p : PageId) → p ≢ id.page → L p ≡ K p) → FitIn (L id.page) (map settled (images_of (S id.page)))
             → Shows L self.new front disk (with_slots S id.page (λ slots. claimed_by (L id.page) (map settled (images_of slots)))) }
         ensures same { (disk : ℕ → List ℕ) → SamePages (frame_at self.old) disk (frame_at self.new) disk }
+        ensures dirt { SameDirt self.old self.new }
         ensures untouched { KeepsVolume self.old self.new }
         ensures held { (k : ℕ) → is_some (frame_at self.new k) ≡ is_some (frame_at self.old k) }
         ensures limit { limit_of self.new ≡ limit_of self.old }
@@ -176,6 +178,7 @@ impl<D: Disk> Heap<D> {
         ensures frames { (frame_at self.new (page_number (geometry_of self.old) id.page) ≡ option_map (reclaimed (lowered bytes) id.slot) (frame_of self.old id.page))
             × ((k : ℕ) → k ≢ page_number (geometry_of self.old) id.page → frame_at self.new k ≡ frame_at self.old k) }
         ensures same { (disk : ℕ → List ℕ) → SamePages (frame_at self.old) disk (frame_at self.new) disk }
+        ensures dirt { SameDirt self.old self.new }
         ensures untouched { KeepsVolume self.old self.new }
         ensures held { (k : ℕ) → is_some (frame_at self.new k) ≡ is_some (frame_at self.old k) }
         ensures limit { limit_of self.new ≡ limit_of self.old }

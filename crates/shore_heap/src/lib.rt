@@ -2,6 +2,7 @@
 #![tactic(auto)]
 
 mod choices;
+mod dirty;
 mod fetching;
 mod flushing;
 mod free_map;

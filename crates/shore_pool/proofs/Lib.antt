@@ -5,6 +5,9 @@ pub mod Orders
 pub mod Written
 pub mod Moments
 pub mod Same
+pub mod Dirty
+pub mod Counts
+pub mod Unwritten
 pub mod Steps
 pub mod Choices
 pub mod Freeing

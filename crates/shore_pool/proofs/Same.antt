@@ -23,7 +23,7 @@ one_text bytes a b m n images others first second =
     (id, sym first.header.last ∙ second.header.last, sym (images_are bytes a m images first) ∙ ap (images_in bytes) count ∙ images_are bytes b n others second)
 
 -- a clean frame and the volume have one page
-one_page : (f : Frame) (text : List ℕ) → IsTextOf f text → (id : PageId) (number : ℕ) (images : List Image) → IsPage (Some f) text id number images ↔ IsPage None text id number images
+pub one_page : (f : Frame) (text : List ℕ) → IsTextOf f text → (id : PageId) (number : ℕ) (images : List Image) → IsPage (Some f) text id number images ↔ IsPage None text id number images
 one_page f text is id number images = (
   (λ p. subst (λ (a : PageId). IsPageText text a number images) p.0 (subst (λ (n : ℕ). IsPageText text f.page.id n images) p.1 (subst (λ (l : List Image). IsPageText text f.page.id f.page.number l) p.2 is))),
   (λ p. one_text text f.page.id id f.page.number number (images_of f.page.slots) images is p),

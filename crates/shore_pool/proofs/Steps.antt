@@ -5,9 +5,10 @@ use Rattle.shore_types.specs.declared.faults.Device.TheVariants as Device
 use Rattle.shore_types.specs.declared.faults.Fault.{Fault}
 use Rattle.shore_pool.specs.declared.frame.Frame.{Frame}
 use Rattle.shore_pool.specs.declared.pool.Pool.{Pool}
-use Rattle.shore_pool.specs.Pages.{IsTextOf, MayBeLeft, SamePages}
+use Rattle.shore_pool.specs.Pages.{IsTextOf, MayBeLeft, SamePages, StayUnwritten, WereDirty}
 use Rattle.shore_pool.specs.Pools.{PoolHolds, NeedsForce, WroteBack, frame_at}
 use Rattle.shore_pool.proofs.Same.{pages_on}
+use Rattle.shore_pool.proofs.Unwritten.{none_written, unwritten_on}
 
 -- what a map of frames says, as one equation
 pub alike : (at now : ℕ → Option Frame) → ((k : ℕ) → now k ≡ at k) → now ≡ at
@@ -21,6 +22,7 @@ module _ {D : Type 0} {G : Ghosts D} (old mid new : Pool D G) (same : frame_at m
     holds = w.holds;
     may = subst (λ at. MayBeLeft at durable disk w.left) same w.may;
     same = subst (λ at. SamePages at disk (frame_at new) w.left) same w.same;
+    unwritten = subst (λ at. StayUnwritten at disk (frame_at new) w.left) same w.unwritten;
   }
 
   pub kept_from : {T : Type 0} (r : Result T Fault) → MatchResult r (λ _. WroteBack mid new durable front disk) (λ fault. (fault ≡ Fault.Device) ⊎ WroteBack mid new durable front disk)
@@ -46,12 +48,13 @@ module _ {D : Type 0} {G : Ghosts D} (old mid : Pool D G) (same : frame_at mid �
 
 -- one more page comes behind a call that wrote back
 pub wrote_then : {D : Type 0} {G : Ghosts D} (old mid new : Pool D G) (durable : ℕ) (front : List ℕ) (disk : ℕ → List ℕ) (w : WroteBack old mid durable front disk)
-    → PoolHolds new front w.left × SamePages (frame_at mid) w.left (frame_at new) w.left → WroteBack old new durable front disk
-wrote_then old mid new durable front disk w more = record {
+    → WereDirty (frame_at mid) (frame_at new) → PoolHolds new front w.left × SamePages (frame_at mid) w.left (frame_at new) w.left → WroteBack old new durable front disk
+wrote_then old mid new durable front disk w were more = record {
   left = w.left;
   holds = more.0;
   may = w.may;
   same = pages_on (frame_at old) (frame_at mid) (frame_at new) disk w.left w.left w.same more.1;
+  unwritten = unwritten_on (frame_at old) (frame_at mid) (frame_at new) disk w.left w.left w.unwritten (none_written (frame_at mid) (frame_at new) w.left were);
 }
 
 pub match_err : {T E : Type 0} {B P : E → Type 0} (C : Type 0) (r : Result T E) → IsErrAnd r P → ((e : E) → P e → B e) → MatchResult r (λ _. C) B

@@ -1,5 +1,5 @@
 -- The frames of a pool as a map from the numbers of pages.
-use Rattle.std.specs.Prelude.{◌≡◌, ◌≢◌, ◌<◌, ◌≤◌, ℕ, List, Option, None, Some, Contains, IsSomeAnd, length, unwrap_or}
+use Rattle.std.specs.Prelude.{◌≡◌, ◌≢◌, ◌⊎◌, ◌<◌, ◌≤◌, ◌++◌, ℕ, zero, suc, List, [], Option, None, Some, Contains, IsSomeAnd, length, option_map, option_to_list, unwrap_or}
 use Rattle.shore_model.specs.declared.log_records.DirtyPage.{DirtyPage}
 use Rattle.slab.specs.Slab.{get, slab_len}
 use Rattle.shore_pool.specs.declared.frame.Frame.{Frame}
@@ -90,6 +90,24 @@ IsDirtyPage frames entry = (k : ℕ) × IsSomeAnd (frame_at frames k) (λ f. (f.
 abbrev pub HasDirty : Frames → List DirtyPage → Type 0
 HasDirty frames list = (k : ℕ) (f : Frame) (recovery : ℕ) → frame_at frames k ≡ Some f → f.recovery ≡ Some recovery → Contains list (dirty_page f recovery)
 
--- .. that of a key, if it has one
-abbrev pub HasDirtyAt : Frames → ℕ → List DirtyPage → Type 0
-HasDirtyAt frames key list = (f : Frame) (recovery : ℕ) → get frames.slots key ≡ Some f → f.recovery ≡ Some recovery → Contains list (dirty_page f recovery)
+-- the entry of a page in a frame, if it is dirty
+abbrev pub dirty_entry : Option Frame → Option DirtyPage
+dirty_entry None = None
+dirty_entry (Some f) = option_map (dirty_page f) f.recovery
+
+-- those of the first so many pages of the volume
+abbrev pub dirty_below : (ℕ → Option Frame) → ℕ → List DirtyPage
+dirty_below at zero = []
+dirty_below at (suc n) = dirty_below at n ++ option_to_list (dirty_entry (at n))
+
+-- The least of a number and of the recovery numbers of the dirty pages: it is one of them.
+pub record IsLeastRecovery (at : ℕ → Option Frame) (number least : ℕ) : Type 0 where
+  pub most : least ≤ number
+  pub below : (k : ℕ) (f : Frame) (recovery : ℕ) → at k ≡ Some f → f.recovery ≡ Some recovery → least ≤ recovery
+  pub one : (least ≡ number) ⊎ ((k : ℕ) × IsSomeAnd (at k) (λ f. f.recovery ≡ Some least))
+
+-- .. so far, of the frames of the first so many keys
+pub record IsLeastSoFar (frames : Frames) (number count least : ℕ) : Type 0 where
+  pub most : least ≤ number
+  pub below : (key : ℕ) (f : Frame) (recovery : ℕ) → key < count → get frames.slots key ≡ Some f → f.recovery ≡ Some recovery → least ≤ recovery
+  pub one : (least ≡ number) ⊎ ((k : ℕ) × IsSomeAnd (frame_at frames k) (λ f. f.recovery ≡ Some least))

@@ -1,5 +1,5 @@
 -- The pages of a volume as frames and the volume have them together: a page in a frame is the frame's, any other is what the volume has.
-use Rattle.std.specs.Prelude.{◌≡◌, ◌⊎◌, ◌≤◌, ◌↔◌, ℕ, List, Option, Some, None, IsSomeAnd, All}
+use Rattle.std.specs.Prelude.{◌≡◌, ◌≢◌, ◌⊎◌, ◌≤◌, ◌↔◌, ℕ, List, Option, Some, None, IsSomeAnd, All}
 use Rattle.shore_types.specs.declared.ids.PageId.{PageId}
 use Rattle.shore_types.specs.declared.layout.Geometry.{Geometry}
 use Rattle.shore_types.specs.Images.{Image}
@@ -37,6 +37,14 @@ module _ (at : ℕ → Option Frame) where
   -- these pages have frames, with numbers up to this one
   abbrev pub AreUpTo : ℕ → List ℕ → Type 0
   AreUpTo durable numbers = All (λ k. IsSomeAnd (at k) (λ f. f.page.number ≤ durable)) numbers
+
+-- a page that is dirty now was so before, in the same frame
+abbrev pub WereDirty : (ℕ → Option Frame) → (ℕ → Option Frame) → Type 0
+WereDirty at now = (k : ℕ) (f : Frame) → now k ≡ Some f → f.recovery ≢ None → at k ≡ Some f
+
+-- .. and it was not written: the volume has it as it had it
+abbrev pub StayUnwritten : (ℕ → Option Frame) → (ℕ → List ℕ) → (ℕ → Option Frame) → (ℕ → List ℕ) → Type 0
+StayUnwritten at disk now left = (k : ℕ) (f : Frame) → now k ≡ Some f → f.recovery ≢ None → (at k ≡ Some f) × (left k ≡ disk k)
 
 -- The pages are the same, wherever each of them is: those that have a frame now and those that had one.
 abbrev pub SamePages : (ℕ → Option Frame) → (ℕ → List ℕ) → (ℕ → Option Frame) → (ℕ → List ℕ) → Type 0

@@ -15,7 +15,7 @@ use Rattle.shore_pool.specs.declared.pool.Pool.{Pool}
 use Rattle.shore_pool.specs.Changes.{settled}
 use Rattle.shore_pool.specs.FrameMaps as frames
 use Rattle.shore_pool.specs.FrameMaps.{AllDirty, IsChangedFirst, IsDue}
-use Rattle.shore_pool.specs.Pages.{AreWritten, IsPage, MayBeLeft, SamePages}
+use Rattle.shore_pool.specs.Pages.{AreWritten, IsPage, MayBeLeft, SamePages, StayUnwritten}
 
 abbrev pub geometry_of : {D : Type 0} {G : Ghosts D} → Pool D G → Geometry
 geometry_of pool = device.geometry_of pool.device
@@ -60,12 +60,13 @@ HasInPlace pool disk id number images =
     IsPage (frame_at pool k) (disk k) id number images
 
 -- What a call leaves that may have written pages back: all pages in place are what they were, and on the volume each is as it was, or
--- as it was in its frame, with a number up to this one.
+-- as it was in its frame, with a number up to this one. A page that is still dirty was not written: so what was written is dirty no more.
 pub record WroteBack {D : Type 0} {G : Ghosts D} (old new : Pool D G) (durable : ℕ) (front : List ℕ) (disk : ℕ → List ℕ) : Type 0 where
   pub left : ℕ → List ℕ
   pub holds : PoolHolds new front left
   pub may : MayBeLeft (frame_at old) durable disk left
   pub same : SamePages (frame_at old) disk (frame_at new) left
+  pub unwritten : StayUnwritten (frame_at old) disk (frame_at new) left
 
 -- .. and an image of the volume that a crash leaves in the midst of it: it shows such pages behind the same front
 abbrev pub LeavesPages : {D : Type 0} {G : Ghosts D} → Pool D G → ℕ → List ℕ → (ℕ → List ℕ) → List ℕ → Type 0

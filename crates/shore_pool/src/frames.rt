@@ -2,7 +2,6 @@
 //! four bytes for each of them, where the page itself has 8,192.
 ghost use Rattle.std.specs.Prelude.{◌≡◌, ◌≢◌, ◌⊎◌, ◌+◌, ◌^◌, ◌<◌, ◌≤◌, ◌↔◌, ℕ, None, Some, All, Contains, IfOk, OnOk, IfSome, IfNone, IsSomeAnd, IsTrue, length, nat_le, count_by, is_some, option_copied, option_map};
 ghost use Rattle.slab.specs.Slab.{slab_len};
-ghost use Rattle.shore_model.specs.declared.log_records.DirtyPage.{DirtyPage};
 ghost use Rattle.shore_types.specs.Images.{Image, image_len};
 ghost use Rattle.shore_page.specs.Room.{Fits, lowered, raised};
 ghost use Rattle.shore_page.specs.Slots.{PageState};
@@ -62,7 +61,8 @@ fn older(oldest: Option<Due>, due: Due) -> Due
 }
 
 impl Frames {
-    ghost use Rattle.shore_pool.specs.FrameMaps.{HasDirty, HasDirtyAt, IsDirtyPage, frame_at, count_of, limit_of, pages_of, key_of, AllDirty, HasRecovery, IsChangedFirst, IsDue, IsNotClean, IsNotDue, IsOfNumber, KeepsShape, NoneDue, NoneDueIn, SameFrames};
+    ghost use Rattle.slab.specs.Slab.{get};
+    ghost use Rattle.shore_pool.specs.FrameMaps.{IsLeastRecovery, dirty_below, dirty_entry, frame_at, count_of, limit_of, pages_of, key_of, AllDirty, HasRecovery, IsChangedFirst, IsDue, IsNotClean, IsNotDue, IsOfNumber, KeepsShape, NoneDue, NoneDueIn, SameFrames};
 
     /// No frames, with the memory for as many as the limit, of a volume of so many pages.
     pub fn new(alloc: Global, pages: usize, limit: usize) -> Result<Frames, AllocError>
@@ -322,35 +322,61 @@ impl Frames {
         })
     }
 
-    /// The dirty pages, each with its recovery number, in no order.
+    /// The dirty pages, each with its recovery number, rising by their numbers on the volume.
     pub fn dirty_pages(&self, alloc: Global) -> Result<Vec<DirtyPage>, AllocError>
-        ensures listed { IfOk result (λ list. All (IsDirtyPage self.now) list.items) }
-        ensures all { IfOk result (λ list. HasDirty self.now list.items) }
+        ensures { IfOk result (λ list. list.items ≡ dirty_below (frame_at self.now) (pages_of self.now)) }
     {
         let mut list = Vec::new(alloc);
-        for key in 0..self.slots.capacity() {
-            self.list_dirty(key, &mut list)?;
+        for place in 0..self.table.len() {
+            if let Some(entry) = self.dirty_in(place) {
+                list.push(entry)?;
+            }
         }
         Ok(list)
     }
 
-    // The page of the frame of a key goes on the list if it is dirty.
-    fn list_dirty(&self, key: usize, list: &mut Vec<DirtyPage>) -> Result<(), AllocError>
-        ensures listed { All (IsDirtyPage self.now) list.old.items → OnOk result (All (IsDirtyPage self.now) list.new.items) }
-        ensures here { OnOk result (HasDirtyAt self.now key list.new.items) }
-        ensures stay { OnOk result ((entry : DirtyPage) → Contains list.old.items entry → Contains list.new.items entry) }
+    // The entry of the page at a place of the table, if it is dirty.
+    fn dirty_in(&self, place: usize) -> Option<DirtyPage>
+        ensures { result ≡ dirty_entry (frame_at self.now place) }
     {
-        let Some(frame) = self.slots.get(key) else {
-            return Ok(());
-        };
-        let Some(recovery) = frame.recovery else {
-            return Ok(());
-        };
-        list.push(DirtyPage {
+        let frame = self.slots.get(self.key_in(place)?)?;
+        let recovery = frame.recovery?;
+        Some(DirtyPage {
             page: frame.page.id(),
             recovery,
-        })?;
-        Ok(())
+        })
+    }
+
+    /// The least of a number and of the recovery numbers of the dirty pages.
+    pub fn least_recovery(&self, number: Lsn) -> Lsn
+        ensures { IsLeastRecovery (frame_at self.now) number result }
+    {
+        let mut least = number;
+        for key in 0..self.slots.capacity() {
+            least = self.lesser(key, least);
+        }
+        least
+    }
+
+    // The lesser of a number and of the recovery number of the page in the frame of a key, if it is dirty.
+    fn lesser(&self, key: usize, least: Lsn) -> Lsn
+        ensures most { result ≤ least }
+        ensures below { (f : Frame) (recovery : ℕ) → get self.now.slots key ≡ Some f → f.recovery ≡ Some recovery → result ≤ recovery }
+        ensures one { (result ≡ least) ⊎ ((k : ℕ) × IsSomeAnd (frame_at self.now k) (λ f. f.recovery ≡ Some result)) }
+    {
+        let Some(frame) = self.slots.get(key) else {
+            return least;
+        };
+        match frame.recovery {
+            Some(recovery) => {
+                if recovery.0 < least.0 {
+                    recovery
+                } else {
+                    least
+                }
+            }
+            None => least,
+        }
     }
 
     /// The number of the last change of a page that has a frame; None if none has one.

@@ -1,6 +1,8 @@
 //! The pool: pages of a volume, of which as many as there are frames are in memory.
-ghost use Rattle.std.specs.Prelude.{◌≡◌, ◌≢◌, ◌⊎◌, ◌+◌, ◌-◌, ◌*◌, ◌<◌, ◌≤◌, ℕ, [], List, All, Contains, IfErr, IfNone, IfOk, IfSome, IsErrAnd, IsSomeAnd, IsTrue, MatchResult, None, OnErr, OnOk, Some, is_some, length, option_copied, option_map};
+ghost use Rattle.std.specs.Prelude.{◌≡◌, ◌≢◌, ◌⊎◌, ◌+◌, ◌-◌, ◌*◌, ◌<◌, ◌≤◌, ℕ, [], List, All, Contains, IfErr, IfNone, IfOk, IfSome, IsErrAnd, IsSomeAnd, IsTrue, MatchResult, None, OnErr, OnOk, Some, is_some, length, map, option_copied, option_map};
 ghost use Rattle.std.proofs.Props.{props};
+ghost use Rattle.std.specs.List.Sorted.{IsStrictlySortedBy};
+ghost use Rattle.shore_types.specs.Ids.{page_cmp};
 ghost use Rattle.shore_disk.specs.Cause.{HasCause};
 ghost use Rattle.shore_disk.specs.Device.{CountsFault, LeavesOnly, size};
 ghost use Rattle.shore_dwrite.specs.Settled as settled_device;
@@ -13,12 +15,12 @@ ghost use Rattle.shore_page.specs.Text.{images_of, settled_page};
 ghost use Rattle.shore_types.specs.Layout.{HasPage};
 ghost use Rattle.shore_types.specs.declared.faults.Device.TheVariants as Device;
 ghost use Rattle.shore_types.specs.declared.faults.Fault.TheVariants as Fault;
-ghost use Rattle.shore_types.specs.declared.layout.TheConstants.{MAX_BATCH_PAGES, MAX_PAGES, MIN_POOL_FRAMES};
+ghost use Rattle.shore_types.specs.declared.layout.TheConstants.{MAX_BATCH_PAGES, MAX_PAGES, MAX_POOL_FRAMES, MIN_POOL_FRAMES};
 ghost use Rattle.shore_pool.specs.Changes.{changed, reclaimed, settled};
 ghost use Rattle.shore_pool.specs.FrameMaps as maps;
 ghost use Rattle.shore_pool.specs.FrameMaps.{IsDue};
 ghost use Rattle.shore_pool.specs.declared.frame.Frame.{Frame};
-ghost use Rattle.shore_pool.specs.Pages.{AreInOrder, AreUpTo, SamePages};
+ghost use Rattle.shore_pool.specs.Pages.{AreInOrder, AreUpTo, SamePages, WereDirty};
 ghost use Rattle.shore_pool.specs.declared.pool.Fetched.TheVariants as Fetched;
 
 use crate::frame::Frame;
@@ -53,6 +55,7 @@ pub struct Pool<D: Disk> {
     batch: PageImages,
     ghost in_order: { AreInOrder (maps.frame_at frames) (settled_device.geometry_of device) } by { Prim.hlevel props },
     ghost some: { MIN_POOL_FRAMES ≤ maps.limit_of frames },
+    ghost few: { maps.limit_of frames ≤ MAX_POOL_FRAMES },
     ghost pages: { maps.pages_of frames ≡ page_count (settled_device.geometry_of device) },
 }
 
@@ -62,7 +65,7 @@ impl<D: Disk> Pool<D> {
 
     /// A pool of so many frames, with all its memory but that of pages. The device is handed back if an allocation failed.
     pub fn new(alloc: Global, device: PageDev<D>, frames: usize) -> Result<Pool<D>, PageDev<D>>
-        requires few { frames ≤ MAX_PAGES }
+        requires few { frames ≤ MAX_POOL_FRAMES }
         requires some { MIN_POOL_FRAMES ≤ frames }
         ensures device { IfOk result (λ pool. device_of pool ≡ device) }
         ensures empty { IfOk result (λ pool. (k : ℕ) → frame_at pool k ≡ None) }
@@ -194,6 +197,7 @@ impl<D: Disk> Pool<D> {
         ensures read { (front : List ℕ) (disk : ℕ → List ℕ) → PoolHolds self.old front disk → OnOk result (IsSomeAnd (frame_of self.new id)
             (λ f. (f.page ≡ settled_page id f.page.number (images_of f.page.slots)) × (f.page.number ≤ last) × (f.recovery ≡ None))) }
         ensures others { (k : ℕ) → k ≢ page_number (geometry_of self.old) id → frame_at self.new k ≡ frame_at self.old k }
+        ensures dirty { WereDirty (frame_at self.old) (frame_at self.new) }
         ensures kept { (front : List ℕ) (disk : ℕ → List ℕ) → PoolHolds self.old front disk → PoolHolds self.new front disk × SamePages (frame_at self.old) disk (frame_at self.new) disk }
         ensures refused { (front : List ℕ) (disk : ℕ → List ℕ) → PoolHolds self.old front disk → IfErr result (λ fault. (fault ≡ Fault.Device) ⊎ (fault ≡ Fault.Memory)
             ⊎ ((fault ≡ Fault.Damaged Device.Volume (page_offset (page_number (geometry_of self.old) id))) × HasNoPage (disk (page_number (geometry_of self.old) id)) id last)) }
@@ -263,12 +267,21 @@ impl<D: Disk> Pool<D> {
         self.frames.unreserve(number, slot, bytes);
     }
 
-    /// The dirty pages, each with its recovery number, in no order: the table of a checkpoint has them.
+    /// The dirty pages, each with its recovery number, rising by store and page: the dirty page table of a checkpoint that begins now.
     pub fn dirty_pages(&self, alloc: Global) -> Result<Vec<DirtyPage>, AllocError>
         ensures listed { IfOk result (λ list. All (maps.IsDirtyPage self.now.frames) list.items) }
         ensures all { IfOk result (λ list. maps.HasDirty self.now.frames list.items) }
+        ensures rising { IfOk result (λ list. IsStrictlySortedBy page_cmp (map (λ d. d.page) list.items)) }
+        ensures few { IfOk result (λ list. length list.items ≤ MAX_POOL_FRAMES) }
     {
         self.frames.dirty_pages(alloc)
+    }
+
+    /// The least of a number and of the recovery numbers of the dirty pages: the volume has each page with all changes before it.
+    pub fn least_recovery(&self, number: Lsn) -> Lsn
+        ensures { maps.IsLeastRecovery (frame_at self.now) number result }
+    {
+        self.frames.least_recovery(number)
     }
 
     /// The dirty page that comes next on the volume from a number on, of those with numbers up to the durable one.

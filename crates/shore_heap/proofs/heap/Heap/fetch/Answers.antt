@@ -9,7 +9,7 @@ use Rattle.shore_pool.specs.Pools as pools
 use Rattle.shore_pool.proofs.Same.{pages_stay}
 use Rattle.shore_pool.proofs.Steps.{alike, force_from}
 use Rattle.shore_heap.specs.Heaps.{IsFreshFrame, LeavesPages, claims_in, faults_of, frame_at, geometry_of, history_of}
-use Rattle.shore_heap.proofs.Fetched.{as_read, came_by, clean_by, dirty_of, faults_by, forced_of, geometry_by, history_by, honest_by, kept_of, moment_of, number_is, others_by, there_before, was_there, wrote_of}
+use Rattle.shore_heap.proofs.Fetched.{as_read, came_by, clean_by, dirty_of, faults_by, forced_of, geometry_by, history_by, honest_by, kept_of, moment_of, number_is, others_by, there_before, was_there, were_kept, wrote_of}
 use Rattle.shore_dwrite.specs.Volumes.{page_number}
 use Rattle.shore_heap.proofs.Going.{hands_on, ok_cause, ok_same}
 use Rattle.shore_heap.proofs.heap.Heap.fetch.Goals as goal
@@ -22,11 +22,11 @@ returns-in_err-fetch-clause-reads g c =
     hands_on K c.args.ends.now.durable old _ c.from_residual.result _ c.from_residual.ensures.1 (record {
       kept = λ front disk S shows are. elim (c.in_err-fetch.ensures.kept front disk shows.holds) [
         | inl device ↦ inl device
-        | inr w ↦ inr (kept_of old mid c.args.ends.now.durable c.args.page K c.args.ends.now.last c.requires _ c.fetch.ensures.geometry refl (λ k apart. c.in_err-fetch.ensures.stay k) (inl (c.in_err-fetch.ensures.stay _)) front disk S shows are w (w.holds, pages_stay _ _ _ (λ k. refl)))
+        | inr w ↦ inr (kept_of old mid c.args.ends.now.durable c.args.page K c.args.ends.now.last c.requires _ c.fetch.ensures.geometry refl (λ k apart. c.in_err-fetch.ensures.stay k) (inl (c.in_err-fetch.ensures.stay _)) front disk S shows are w (w.holds, pages_stay _ _ _ (λ k. refl)) (λ k f is dirty. is))
       ];
       wrote = λ front disk holds. elim (c.in_err-fetch.ensures.kept front disk holds) [
         | inl device ↦ inl device
-        | inr w ↦ inr (wrote_of old mid c.args.ends.now.durable _ front disk w (w.holds, pages_stay _ _ _ (λ k. refl)))
+        | inr w ↦ inr (wrote_of old mid c.args.ends.now.durable _ front disk w (w.holds, pages_stay _ _ _ (λ k. refl)) (λ k f is dirty. is))
       ];
       any_moment = λ front disk holds. moment_of old mid c.args.ends.now.durable _ front disk (c.fetch.ensures.any_moment front disk holds);
       dirty = λ front disk holds k f is dirty. there_before _ _ f (c.in_err-fetch.ensures.stay k) is dirty;
@@ -63,10 +63,10 @@ returns-in-Held-clause-reads g c =
     record {
       kept = λ front disk S shows are.
           let w = c.in_ok-fetch.ensures.kept front disk shows.holds in
-          kept_of old mid c.args.ends.now.durable c.args.page K c.args.ends.now.last c.requires _ c.fetch.ensures.geometry refl (λ k apart. inl (all k)) (inl (inl (all _))) front disk S shows are w (w.holds, pages_stay _ _ _ (λ k. refl));
+          kept_of old mid c.args.ends.now.durable c.args.page K c.args.ends.now.last c.requires _ c.fetch.ensures.geometry refl (λ k apart. inl (all k)) (inl (inl (all _))) front disk S shows are w (w.holds, pages_stay _ _ _ (λ k. refl)) (λ k f is dirty. is);
       wrote = λ front disk holds.
           let w = c.in_ok-fetch.ensures.kept front disk holds in
-          wrote_of old mid c.args.ends.now.durable _ front disk w (w.holds, pages_stay _ _ _ (λ k. refl));
+          wrote_of old mid c.args.ends.now.durable _ front disk w (w.holds, pages_stay _ _ _ (λ k. refl)) (λ k f is dirty. is);
       any_moment = λ front disk holds. moment_of old mid c.args.ends.now.durable _ front disk (c.fetch.ensures.any_moment front disk holds);
       dirty = λ front disk holds k f is dirty. there_before _ _ f (inl (all k)) is dirty;
       forced = λ front disk holds number needs. force_from old.pool mid (alike (pools.frame_at old.pool) (pools.frame_at mid) all) c.args.ends.now.durable number needs;
@@ -93,10 +93,13 @@ returns-in-Read-clause-reads g c =
           let w = c.in_ok-fetch.ensures.kept front disk shows.holds in
           let read = c.in_ok-fetch.ensures.read front disk shows.holds c.in-Read.is in
           let come = came_by old mid new id K c.args.ends.now.last number read c.keep_claims.ensures.here (geometry_by new mid device) in
-          kept_of old mid c.args.ends.now.durable id K c.args.ends.now.last c.requires new geometry c.keep_claims.ensures.bounds others (inr come) front disk S shows are w (c.keep_claims.ensures.kept front w.left w.holds);
+          let were = were_kept old mid new id number c.keep_claims.ensures.others (clean_by old mid id c.args.ends.now.last number read) (c.keep_claims.ensures.dirt _) in
+          kept_of old mid c.args.ends.now.durable id K c.args.ends.now.last c.requires new geometry c.keep_claims.ensures.bounds others (inr come) front disk S shows are w (c.keep_claims.ensures.kept front w.left w.holds) were;
       wrote = λ front disk holds.
           let w = c.in_ok-fetch.ensures.kept front disk holds in
-          wrote_of old mid c.args.ends.now.durable new front disk w (c.keep_claims.ensures.kept front w.left w.holds);
+          let read = c.in_ok-fetch.ensures.read front disk holds c.in-Read.is in
+          let were = were_kept old mid new id number c.keep_claims.ensures.others (clean_by old mid id c.args.ends.now.last number read) (c.keep_claims.ensures.dirt _) in
+          wrote_of old mid c.args.ends.now.durable new front disk w (c.keep_claims.ensures.kept front w.left w.holds) were;
       any_moment = λ front disk holds. subst (λ (h : DeviceHistory). LeavesOnly (history_of old) h (LeavesPages old c.args.ends.now.durable front disk)) (sym (history_by new mid device))
           (moment_of old mid c.args.ends.now.durable (pools.history_of mid) front disk (c.fetch.ensures.any_moment front disk holds));
       dirty = λ front disk holds.

@@ -1,4 +1,5 @@
-use Rattle.std.proofs.Common.{List, map, refl, sym, ap, subst}
+use Rattle.std.proofs.Common.{List, map, option_map, refl, sym, ap, subst}
+use Rattle.shore_pool.specs.declared.frame.Frame.{Frame}
 use Rattle.shore_dwrite.specs.Volumes.{page_number}
 use Rattle.shore_page.specs.Room.{lowered}
 use Rattle.shore_page.specs.Slots.{Slot, settled, with_change}
@@ -43,3 +44,6 @@ returns-else-has_slot-clause-untouched g c front disk holds = (
   subst (λ (p : Pool _ g.D.Disk). pools.PoolHolds p front disk) (sym c.forget.ensures.pool) holds,
   ap (λ (p : Pool _ g.D.Disk). pools.history_of p) c.forget.ensures.pool,
 )
+
+pub returns-else-has_slot-clause-dirt : goal.returns-else-has_slot-clause-dirt
+returns-else-has_slot-clause-dirt g c k = ap (λ (p : Pool _ g.D.Disk). option_map (λ (f : Frame). f.recovery) (pools.frame_at p k)) c.forget.ensures.pool

@@ -1,4 +1,5 @@
-use Rattle.std.proofs.Common.{List, refl, sym, ap, subst, ◌∙◌}
+use Rattle.std.proofs.Common.{List, option_map, refl, sym, ap, subst, ◌∙◌}
+use Rattle.shore_pool.specs.declared.frame.Frame.{Frame}
 use Rattle.shore_dwrite.specs.Settled as settled_device
 use Rattle.shore_page.specs.Room.{lowered}
 use Rattle.shore_page.specs.Slots.{Slot, with_change}
@@ -12,7 +13,7 @@ use Rattle.shore_pool.proofs.Same.{claims_stay, there_is}
 use Rattle.shore_heap.specs.Contents.{with_slots}
 use Rattle.shore_heap.proofs.Bounds.{bounds_forgot}
 use Rattle.shore_heap.proofs.Frames.{have_changed}
-use Rattle.shore_heap.proofs.Showing.{frame_is, shows_by}
+use Rattle.shore_heap.proofs.Showing.{frame_is, same_dirt, shows_by}
 use Rattle.shore_heap.proofs.heap.Heap.release_to.Goals as goal
 
 pub returns-clause-shows : goal.returns-clause-shows
@@ -42,3 +43,12 @@ returns-clause-same g c disk =
     let here = frame_is c.unreserve.new.self volume id _ (ap settled_device.geometry_of c.unreserve.ensures.device) c.unreserve.ensures.here in
     subst (λ (p : Pool _ g.D.Disk). SamePages (pools.frame_at old.pool) disk (pools.frame_at p) disk) (sym c.forget.ensures.pool)
     (claims_stay (pools.frame_at old.pool) (pools.frame_at c.unreserve.new.self) disk (page_number volume id) c.args.id.slot (lowered c.args.bytes) (λ s. refl) here c.unreserve.ensures.others)
+
+pub returns-clause-dirt : goal.returns-clause-dirt
+returns-clause-dirt g c k =
+    let old = c.args.self.now in
+    let volume = pools.geometry_of old.pool in
+    let id = c.args.id.page in
+    let here = frame_is c.unreserve.new.self volume id _ (ap settled_device.geometry_of c.unreserve.ensures.device) c.unreserve.ensures.here in
+    ap (λ (p : Pool _ g.D.Disk). option_map (λ (f : Frame). f.recovery) (pools.frame_at p k)) c.forget.ensures.pool
+    ∙ same_dirt (pools.frame_at old.pool) (pools.frame_at c.unreserve.new.self) (page_number volume id) c.args.id.slot (lowered c.args.bytes) here c.unreserve.ensures.others k

@@ -1,7 +1,7 @@
-use Rattle.std.proofs.Common.{◌≡◌, ◌<◌, ◌≤◌, ℕ, IfNone, IfSome, Option, None, Some, IsSomeAnd, arith, ap, subst, unwrap_or}
+use Rattle.std.proofs.Common.{◌≡◌, ◌<◌, ℕ, IfNone, IfSome, Option, None, Some, IsSomeAnd, arith, ap, subst, unwrap_or}
 use Rattle.shore_pool.specs.declared.frame.Frame.{Frame}
 use Rattle.shore_pool.specs.declared.frames.Due.{Due}
-use Rattle.shore_pool.specs.FrameMaps.{IsChangedFirst, IsNotBefore, IsNotDue, frame_at, recovery_of}
+use Rattle.shore_pool.specs.FrameMaps.{IsNotBefore, IsNotDue, frame_at, recovery_of}
 use Rattle.shore_pool.proofs.Indexes.{key_of_frame}
 use Rattle.shore_pool.proofs.frames.Frames.oldest_due.Goals as goal
 

@@ -11,5 +11,6 @@ invariant_of-self g c =
     record {
       in_order = λ k f there. subst (λ (x : Geometry). HasPage x f.page.id × (page_number x f.page.id ≡ k)) same (old.in_order k f there);
       some = old.some;
+      few = old.few;
       pages = old.pages ∙ ap page_count same;
     }

@@ -4,10 +4,11 @@ use Rattle.shore_dwrite.specs.declared.device.PageDev.{PageDev}
 use Rattle.shore_dwrite.specs.Settled as settled_device
 use Rattle.shore_pool.specs.declared.frame.Frame.{Frame}
 use Rattle.shore_pool.specs.FrameMaps as maps
-use Rattle.shore_pool.specs.Pages.{AreInOrder, AreWritten, SamePages}
+use Rattle.shore_pool.specs.Pages.{AreInOrder, AreWritten, SamePages, StayUnwritten}
 use Rattle.shore_pool.specs.Pools.{LeavesPages, frame_at, history_of}
 use Rattle.shore_pool.proofs.Moments.{Leaves, as_it_was, while_still}
 use Rattle.shore_pool.proofs.Steps.{alike, kept_from, refusal_says, refused_from}
+use Rattle.shore_pool.proofs.Unwritten.{none_written, were_gone}
 use Rattle.shore_pool.proofs.pool.Pool.evict.Goals as goal
 
 pub invariant_of-self-clause-in_order : goal.invariant_of-self-clause-in_order
@@ -27,6 +28,8 @@ returns-in-Some-clause-kept g c front disk holds =
       holds = freed.0;
       may = as_it_was (settled_device.geometry_of old.device) at c.args.durable front disk;
       same = subst (λ (now : ℕ → Option Frame). SamePages now disk (frame_at c.free.new.self) disk) same freed.1;
+      unwritten = subst (λ (now : ℕ → Option Frame). StayUnwritten now disk (frame_at c.free.new.self) disk) same
+          (none_written (maps.frame_at c.cold.new.self) (frame_at c.free.new.self) disk (were_gone (maps.frame_at c.cold.new.self) (frame_at c.free.new.self) c.in-Some.number c.free.ensures.others c.free.ensures.gone));
     }
 
 pub returns-in-Some-clause-any_moment : goal.returns-in-Some-clause-any_moment

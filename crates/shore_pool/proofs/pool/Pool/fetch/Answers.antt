@@ -14,6 +14,7 @@ use Rattle.shore_pool.proofs.Freeing.{writes_from}
 use Rattle.shore_pool.proofs.Moments.{Leaves, as_it_was, while_still}
 use Rattle.shore_pool.proofs.Same.{pages_stay}
 use Rattle.shore_pool.proofs.Steps.{alike, force_from, left_alone, match_err, no_force, none_is, wrote_from, wrote_then}
+use Rattle.shore_pool.proofs.Unwritten.{none_written, were_same}
 use Rattle.shore_pool.proofs.pool.Pool.fetch.Goals as goal
 
 pub invariant_of-self-clause-in_order : goal.invariant_of-self-clause-in_order
@@ -33,6 +34,7 @@ returns-then-touch-clause-kept g c front disk holds =
       holds = record { settled = holds.settled; written = subst (λ (a : ℕ → Option Frame). AreWritten a disk) (sym same) holds.written };
       may = as_it_was (settled_device.geometry_of old.device) at c.args.ends.now.durable front disk;
       same = pages_stay at now disk c.touch.ensures.same;
+      unwritten = none_written at now disk (were_same at now c.touch.ensures.same);
     }
 
 pub returns-then-touch-clause-any_moment : goal.returns-then-touch-clause-any_moment
@@ -72,7 +74,7 @@ returns-in_err-read-clause-kept g c front disk holds =
     let same = alike (maps.frame_at old.frames) (maps.frame_at c.touch.new.self) c.touch.ensures.same in
     let w = c.in_ok-make_room.ensures.kept front disk (record { settled = holds.settled; written = subst (λ (a : ℕ → Option Frame). AreWritten a disk) (sym same) holds.written }) in
     match_err (WroteBack old c.read.new.self c.args.ends.now.durable front disk) c.from_residual-in_err-read.result c.from_residual-in_err-read.ensures.1
-    (λ fault is. inr (wrote_from old _ c.read.new.self same c.args.ends.now.durable front disk (wrote_then _ c.make_room.new.self c.read.new.self c.args.ends.now.durable front disk w (c.read.ensures.kept front w.left w.holds))))
+    (λ fault is. inr (wrote_from old _ c.read.new.self same c.args.ends.now.durable front disk (wrote_then _ c.make_room.new.self c.read.new.self c.args.ends.now.durable front disk w c.read.ensures.dirty (c.read.ensures.kept front w.left w.holds))))
 
 pub returns-in_err-read-clause-refused : goal.returns-in_err-read-clause-refused
 returns-in_err-read-clause-refused g c front disk holds =
@@ -120,7 +122,7 @@ returns-clause-kept g c front disk holds =
     let old = c.args.self.now in
     let same = alike (maps.frame_at old.frames) (maps.frame_at c.touch.new.self) c.touch.ensures.same in
     let w = c.in_ok-make_room.ensures.kept front disk (record { settled = holds.settled; written = subst (λ (a : ℕ → Option Frame). AreWritten a disk) (sym same) holds.written }) in
-    wrote_from old _ c.read.new.self same c.args.ends.now.durable front disk (wrote_then _ c.make_room.new.self c.read.new.self c.args.ends.now.durable front disk w (c.read.ensures.kept front w.left w.holds))
+    wrote_from old _ c.read.new.self same c.args.ends.now.durable front disk (wrote_then _ c.make_room.new.self c.read.new.self c.args.ends.now.durable front disk w c.read.ensures.dirty (c.read.ensures.kept front w.left w.holds))
 
 pub returns-clause-any_moment : goal.returns-clause-any_moment
 returns-clause-any_moment g c front disk holds =

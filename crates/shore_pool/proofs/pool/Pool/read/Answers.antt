@@ -12,12 +12,14 @@ use Rattle.shore_pool.specs.FrameMaps as maps
 use Rattle.shore_pool.specs.Pages.{AreInOrder, IsTextOf}
 use Rattle.shore_pool.proofs.Orders.{order_added}
 use Rattle.shore_pool.proofs.Same.{page_comes, written_comes}
+use Rattle.shore_pool.proofs.Unwritten.{were_added}
 use Rattle.shore_pool.proofs.pool.Pool.read.Goals as goal
 
 pub invariant_of-self : goal.invariant_of-self
 invariant_of-self g c = record {
   in_order = subst (AreInOrder (maps.frame_at c.args.self.now.frames)) (sym c.read_page.ensures.geometry) c.args.self.now.in_order;
   some = c.args.self.now.some;
+  few = c.args.self.now.few;
   pages = c.args.self.now.pages ∙ ap page_count (sym c.read_page.ensures.geometry);
 }
 
@@ -65,3 +67,8 @@ returns-clause-kept g c front disk holds =
       },
       page_comes at now disk n c.add.ensures.others f text (ap at c.number-number.ensures.number ∙ c.requires.none) c.add.ensures.here,
     )
+
+pub returns-clause-dirty : goal.returns-clause-dirty
+returns-clause-dirty g c =
+    let f : Frame = record { number = c.number-number.result; page = c.in_ok-page.page; recovery = None } in
+    were_added (maps.frame_at c.args.self.now.frames) (maps.frame_at c.add.new.self) c.number-number.result f c.add.ensures.others c.add.ensures.here refl

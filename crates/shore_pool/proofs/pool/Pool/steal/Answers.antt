@@ -10,6 +10,7 @@ use Rattle.shore_pool.proofs.Moments.{while_still}
 use Rattle.shore_pool.proofs.Choices.{are_there, cases_contains, has_first, up_to}
 use Rattle.shore_pool.proofs.Freeing.{oldest_may, one_goes}
 use Rattle.shore_pool.proofs.Same.{all_above, one_above, pages_on, settled_clean}
+use Rattle.shore_pool.proofs.Unwritten.{none_written, unwritten_on, were_gone}
 use Rattle.shore_pool.proofs.pool.Pool.steal.Goals as goal
 
 pub returns-in_err-pages-clause-any_moment : goal.returns-in_err-pages-clause-any_moment
@@ -56,6 +57,8 @@ returns-in-Some-clause-kept g c front disk holds =
       holds = freed.0;
       may = wrote.may;
       same = pages_on old (frame_at c.write.new.self) (frame_at c.free.new.self) disk wrote.left wrote.left wrote.same freed.1;
+      unwritten = unwritten_on old (frame_at c.write.new.self) (frame_at c.free.new.self) disk wrote.left wrote.left wrote.unwritten
+          (none_written (frame_at c.write.new.self) (frame_at c.free.new.self) wrote.left (were_gone (frame_at c.write.new.self) (frame_at c.free.new.self) n c.free.ensures.others c.free.ensures.gone));
     }
 
 pub returns-in-Some-clause-any_moment : goal.returns-in-Some-clause-any_moment

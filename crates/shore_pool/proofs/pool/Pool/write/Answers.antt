@@ -11,6 +11,7 @@ use Rattle.shore_pool.proofs.Moments.{while_still, while_written}
 use Rattle.shore_pool.proofs.Orders.{order_settled}
 use Rattle.shore_pool.proofs.Settling.{settled_here, not_settled}
 use Rattle.shore_pool.proofs.Written.{is_batch, may_be_left, all_written, same_pages}
+use Rattle.shore_pool.proofs.Unwritten.{others_unwritten}
 use Rattle.shore_pool.proofs.pool.Pool.write.Goals as goal
 
 pub write_batch-requires : goal.write_batch-requires
@@ -30,6 +31,7 @@ pub invariant_of-self-in-Break-branch-2 : goal.invariant_of-self-in-Break-branch
 invariant_of-self-in-Break-branch-2 g c = record {
   in_order = subst (AreInOrder (maps.frame_at c.args.self.now.frames)) (sym c.write_batch.ensures.geometry) c.args.self.now.in_order;
   some = c.args.self.now.some;
+  few = c.args.self.now.few;
   pages = c.args.self.now.pages ∙ ap page_count (sym c.write_batch.ensures.geometry);
 }
 
@@ -85,4 +87,5 @@ returns-clause-kept g c front disk durable holds up_to =
       };
       may = may_be_left at durable numbers texts disk are up_to;
       same = same_pages at now numbers texts disk are c.settle_all.ensures.settled;
+      unwritten = others_unwritten at now numbers texts disk are c.settle_all.ensures.settled;
     }
