@@ -36,7 +36,7 @@ module _ (g : Geometry) (log_bytes volume_bytes : ℕ) where
       }
 
   -- the label stands where it stood
-  label_stays : (image c : List ℕ) → HoldsLabel Volume volume_bytes (take 512 image) (volume_label g) → take GATE_AT c ≡ take GATE_AT image
+  pub label_stays : (image c : List ℕ) → HoldsLabel Volume volume_bytes (take 512 image) (volume_label g) → take GATE_AT c ≡ take GATE_AT image
       → HoldsLabel Volume volume_bytes (take 512 c) (volume_label g)
   label_stays image c holds same =
       subst (λ bytes. HoldsLabel Volume volume_bytes bytes (volume_label g))

@@ -1,2 +1,4 @@
 pub mod Left
 pub mod Paths
+pub mod LeftBehind
+pub mod PathsBehind

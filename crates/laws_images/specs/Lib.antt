@@ -1,2 +1,4 @@
 pub mod Moments
 pub mod StandsFor
+pub mod StandsBehind
+pub mod MomentsBehind

@@ -30,7 +30,7 @@ use Rattle.laws_lives.proofs.Restarts.{events_restart}
 use Rattle.laws_lives.proofs.UndoRecords.{undone_lawful}
 use Rattle.laws_lives.specs.Recovery.{AppendRecord, FlushPage, ForceLog, IsRecoverable, LeadsTo, LosePower, RecoveryEvent, RecoveryState, RedoRecord, after_redo}
 use Rattle.shore_model.specs.Logs.{Lawful}
-use Rattle.laws_lives.specs.Undo.{IsLoser, IsUndoneTo, undo_record}
+use Rattle.laws_lives.specs.Undo.{IsUndoneTo, undo_record}
 use Rattle.laws_lives.specs.Views.{IsAmong}
 use Rattle.laws_lives.specs.Restarts.{IsRestartOf, IsRestartStep, RestartsTo}
 use Rattle.laws_runs.proofs.Runs.{events_come, found_next, opened, opens_next}

@@ -1,6 +1,6 @@
 -- What undo asks of a roomy log, what an open makes of one, and that analysis takes it.
 use Rattle.std.proofs.Common.{◌≡◌, inl, inr, ⊎_elim, ◌++◌, ◌+◌, ◌<◌, ◌≤◌, ℕ, nat_lt, List, [], ◌∷◌, true, false, cond, Option, Some, None, refl, sym, ap, subst, ◌∙◌, length, take, take_all, arith}
-use Rattle.std.specs.Prelude.{map, unwrap_or}
+use Rattle.std.specs.Prelude.{All, map, unwrap_or}
 use Rattle.std.specs.FinMap.{empty, get, get-empty, same_map}
 use Rattle.std.specs.List.{AllByRecursion, filter_map}
 use Rattle.std.specs.Ordering.{eq_by_cmp}
@@ -14,25 +14,25 @@ use Rattle.shore_types.specs.declared.ids.Rid.{Rid}
 use Rattle.shore_types.specs.declared.layout.Geometry.{Geometry}
 use Rattle.shore_types.specs.declared.layout.TheConstants.{LAST_OPENED, LAST_TXN, LONGEST_FRAME, MAX_LOG_BYTES, MAX_TRANSACTIONS}
 use Rattle.shore_model.proofs.Maps.{get_id}
+use Rattle.shore_types.specs.declared.ids.PageId.{PageId}
 use Rattle.shore_model.specs.declared.log_records.LogRecord.{LogRecord}
 use Rattle.shore_model.specs.declared.log_records.LogTxn.{LogTxn}
 use Rattle.shore_model.specs.declared.log_records.Payload.{Payload}
 use Rattle.shore_model.specs.declared.log_records.Payload.TheVariants.{Change, Compensation}
-use Rattle.shore_model.specs.Logs.{IsEntry, IsTable, Lawful, id_in, image_in, image_of_record, is_in_doubt, unanswered}
+use Rattle.shore_model.specs.Logs.{IsEntry, IsTable, Lawful, has, id_in, image_in, image_of_record, is_commit, is_in_doubt, is_over, is_prepare, is_rollback, unanswered}
 use Rattle.shore_model.specs.Records.{AreRecords, Records}
 use Rattle.shore_logrec.specs.Text.{cost_of}
 use Rattle.shore_analysis.proofs.InOrder.{among_map, map_among}
-use Rattle.shore_analysis.proofs.MeantLogs.{lawful_meant}
-use Rattle.shore_analysis.proofs.Phases as phases
-use Rattle.shore_analysis.proofs.Phases.{in_doubt_runs}
-use Rattle.shore_analysis.specs.Meant.{AreMeant, IsCrowded, IsInBounds}
+use Rattle.shore_analysis.specs.Meant.{IsCrowded, IsInBounds}
 use Rattle.laws_calls.specs.CallHistories.{IsRoomyState}
 use Rattle.laws_calls.specs.States.{State, cost_of_log}
 use Rattle.shore_types.specs.declared.locking.Granule.{Granule}
 use Rattle.laws_lives.proofs.DoubtRecords.{among_filter}
 use Rattle.laws_lives.proofs.DoubtsShown.{doubts_once}
 use Rattle.laws_lives.proofs.Members.{txn_among}
-use Rattle.laws_lives.specs.Doubts.{LoggedDoubt, NeedMore, doubt_of, doubts_in, pair_logged}
+use Rattle.laws_lives.specs.Doubts.{LoggedDoubt, NeedMore, doubt_of, doubts_in, pair_logged, undo_in}
+use Rattle.laws_lives.proofs.LawfulPrepares.{prepared_is_one}
+use Rattle.laws_lives.proofs.WritersTold.{doubt_not_over, in_doubt_parts}
 use Rattle.laws_lives.specs.LogTells.{MatchesUndo}
 use Rattle.laws_lives.specs.UndoLists.{UndoList}
 use Rattle.shore_model.specs.declared.unanswered_changes.UnansweredChange.{UnansweredChange}
@@ -48,7 +48,7 @@ use Rattle.laws_room.proofs.RolledBack.{rolled_room}
 use Rattle.laws_room.specs.Claims.{Claimed, rid_on}
 use Rattle.laws_room.specs.Settling.{settled_slots}
 use Rattle.laws_lives.proofs.Lists.{length-push, recursion-weaker}
-use Rattle.laws_lives.specs.Sessions.{EachOnce, SessionTxn, pair_of, txns_of}
+use Rattle.laws_lives.specs.Sessions.{EachOnce, SessionTxn, pair_of, pairs_of, txns_of}
 use Rattle.laws_lives.specs.Views.{IsAmong}
 use Rattle.laws_runs.proofs.DoubtsThere.{doubt_there}
 use Rattle.laws_runs.proofs.Prefixes.{whole_placed}
@@ -57,7 +57,7 @@ use Rattle.laws_runs.proofs.SlotCounts.{same_claimed}
 use Rattle.laws_runs.proofs.Undecided.{some_claimed, some_owe_no_more}
 use Rattle.laws_runs.proofs.Undoing.{cost_pushed, undone_roomy}
 use Rattle.laws_runs.specs.RoomyLogs.{AreRoomy, IsPlacedLog, IsRoomyLog, IsUndecided}
-use Rattle.laws_runs.specs.RoomyStates.{IsOpenedFrom, LeavesRoomyLogsFrom}
+use Rattle.laws_runs.specs.RoomyStates.{HasLocksInBounds, IsOpenedFrom, LeavesRoomyLogsFrom}
 use Rattle.laws_runs.specs.SlotCounts.{FitsBehind, slot_count}
 
 -- ---- the empty log
@@ -95,7 +95,7 @@ empty_is_placed g = record {
 
 empty_is_roomy : (g : Geometry) (stream_bytes : ℕ) → LONGEST_FRAME ≤ stream_bytes → stream_bytes ≤ MAX_LOG_BYTES → IsRoomyLog g stream_bytes []
 unfolding empty_is_placed
-empty_is_roomy g stream_bytes least most = record { placed = empty_is_placed g; room = record { sum = omega arith; fits = omega arith; lsns = omega arith; short = most }; locks = none_more }
+empty_is_roomy g stream_bytes least most = record { placed = empty_is_placed g; room = record { sum = omega arith; fits = omega arith; lsns = omega arith; short = omega (arith, most) }; locks = none_more }
   where
     none_more : NeedMore g.max_locks [] → ⊥
     none_more more = no_node more.0 more.2 more.3
@@ -193,12 +193,38 @@ module _ (g : Geometry) where
 
 -- ---- analysis
 
-pub meant : (g : Geometry) (stream_bytes least : ℕ) (log : List LogRecord) → AreRoomy g stream_bytes least log → Lawful log → AreMeant g log
-meant g stream_bytes least log k lawful = lawful_meant g log lawful (whole_placed g stream_bytes least log k).inside (λ n. (k.placed n).few)
+-- who is in doubt is a transaction
+doubt_is_one : (log : List LogRecord) → Lawful log → (t : ℕ) → is_in_doubt t log ≡ true → 0 < t
+doubt_is_one log lawful t doubt = prepared_is_one log lawful t (in_doubt_parts (has is_prepare t log) (has is_commit t log) (has is_rollback t log) doubt).0
 
 -- ---- the state that an open makes
 
-module _ (g : Geometry) (stream_bytes : ℕ) (log : List LogRecord) (s : State) (opened : IsOpenedFrom g stream_bytes log s) where
+-- what an open makes of a log, whatever its next number is
+pub record IsOpenedAs (g : Geometry) (stream_bytes : ℕ) (found : List LogRecord) (s : State) : Type 0 where
+  pub log : s.log ≡ found
+  pub as_long : s.stream_bytes ≡ stream_bytes
+  pub records : (id : Rid) → get s.sessions.records id ≡ image_of_record found id
+  pub prepared : pairs_of s.sessions.prepared ≡ map pair_logged (doubts_in found)
+  pub active : txns_of s.sessions.active ≡ map (λ d. d.txn) (doubts_in found)
+  pub undo_lists : (a : SessionTxn) → IsAmong a s.sessions.active → a.undo ≡ undo_in found a.txn
+  pub counts : (p : PageId) → s.counts p ≡ slot_count found p
+  pub some : 0 < s.sessions.next_txn
+  pub locks : HasLocksInBounds g s
+
+pub from_as : (g : Geometry) (stream_bytes : ℕ) (found : List LogRecord) (s : State) → IsOpenedFrom g stream_bytes found s → IsOpenedAs g stream_bytes found s
+from_as g stream_bytes found s h = record {
+  log = h.log;
+  as_long = h.as_long;
+  records = h.records;
+  prepared = h.prepared;
+  active = h.active;
+  undo_lists = h.undo_lists;
+  counts = h.counts;
+  some = h.some;
+  locks = h.locks;
+}
+
+module _ (g : Geometry) (stream_bytes : ℕ) (log : List LogRecord) (s : State) (opened : IsOpenedAs g stream_bytes log s) where
   -- who is under way is in doubt in the log, and the other way round
   in_doubt : (t : ℕ) → IsAmong t (txns_of s.sessions.active) → is_in_doubt t log ≡ true
   in_doubt t m =
@@ -220,8 +246,8 @@ module _ (g : Geometry) (stream_bytes : ℕ) (log : List LogRecord) (s : State) 
   once : Lawful log → EachOnce (txns_of s.sessions.active)
   once lawful = subst EachOnce (sym opened.active) (doubts_once log lawful)
 
-  pub opens_roomy : IsRoomyLog g stream_bytes log → Lawful log → IsRoomyState s
-  opens_roomy k lawful =
+  pub as_roomy : IsRoomyLog g stream_bytes log → Lawful log → IsRoomyState s
+  as_roomy k lawful =
       let same : k.placed.records ≡ s.sessions.records = same_map rids_total exact_rids k.placed.records s.sessions.records (λ id. k.placed.shown id ∙ sym (opened.records id)) in
       let claimed : Claimed k.placed.records s.sessions.active (slot_count log) = some_claimed g log k.placed s.sessions.active (once lawful) each_undecided in
       let placed : Claimed s.sessions.records s.sessions.active s.counts =
@@ -237,22 +263,19 @@ module _ (g : Geometry) (stream_bytes : ℕ) (log : List LogRecord) (s : State) 
       let long = opened.as_long in
       record {
         pages = placed;
-        log = record { sum = refl; fits = omega (arith, fits, less, many, kept, long); lsns = omega (arith, lsns, less, many, last); short = omega (arith, short, long) };
+        log = record { sum = refl; fits = omega (arith, fits, less, many, kept, long); lsns = omega (arith, lsns, less, many, last); short = omega (arith, short, long, kept) };
       }
 
-  pub opens_leaving : (least : ℕ) → AreRoomy g stream_bytes least log → Lawful log → HasNoLosers log → LeavesRoomyLogsFrom g stream_bytes least s
-  opens_leaving least k lawful ended =
-      let whole = whole_placed g stream_bytes least log k in
-      let numbers : AllByRecursion (λ r. r.txn < LAST_TXN) log =
-      recursion-weaker (IsInBounds g) (λ r. r.txn < LAST_TXN) (λ r h. h.number) log (recursion_from_All (IsInBounds g) log whole.inside) in
-      let runs : (t : ℕ) → IsAmong t (txns_of s.sessions.active) → phases.IsUndecided log t =
-      λ t m. in_doubt_runs g log (meant g stream_bytes least log k lawful) t (in_doubt t m) in
+  pub as_leaving : (least : ℕ) → AreRoomy g stream_bytes least log → Lawful log → HasNoLosers log → s.sessions.next_txn ≤ LAST_TXN → LeavesRoomyLogsFrom g stream_bytes least s
+  as_leaving least k lawful ended numbers =
+      let runs : (t : ℕ) → IsAmong t (txns_of s.sessions.active) → (0 < t) × (is_over t log ≡ false) =
+      λ t m. (doubt_is_one log lawful t (in_doubt t m), doubt_not_over log lawful t (in_doubt t m)) in
       let is_whole : IsWholeLog log s.sessions =
       record {
         lawful = lawful;
         writers = λ t id changed not_over. is_under_way t (writers_in_doubt log lawful ended t id changed not_over);
-        unended = λ t m. (runs t m).runs;
-        above = λ t m. (runs t m).some;
+        unended = λ t m. (runs t m).1;
+        above = λ t m. (runs t m).0;
         undo_lists = matches;
         some = opened.some;
       } in
@@ -262,6 +285,19 @@ module _ (g : Geometry) (stream_bytes : ℕ) (log : List LogRecord) (s : State) 
         counts = λ p. opened.counts p ∙ ap (λ l. slot_count l p) (sym opened.log);
         whole = subst (λ l. IsWholeLog l s.sessions) (sym opened.log) is_whole;
         losers = λ t loser. absurd (ended t (subst (λ l. IsLoser l t) opened.log loser));
-        txns = opened.least LAST_TXN (omega arith) numbers;
+        txns = numbers;
         locks = opened.locks;
       }
+
+pub numbers_below : (g : Geometry) (stream_bytes least : ℕ) (log : List LogRecord) → AreRoomy g stream_bytes least log → AllByRecursion (λ r. r.txn < LAST_TXN) log
+numbers_below g stream_bytes least log k =
+    recursion-weaker (IsInBounds g) (λ r. r.txn < LAST_TXN) (λ r h. h.number) log (recursion_from_All (IsInBounds g) log (whole_placed g stream_bytes least log k).inside)
+
+module _ (g : Geometry) (stream_bytes : ℕ) (log : List LogRecord) (s : State) (opened : IsOpenedFrom g stream_bytes log s) where
+  pub opens_roomy : IsRoomyLog g stream_bytes log → Lawful log → IsRoomyState s
+  opens_roomy k lawful = as_roomy g stream_bytes log s (from_as g stream_bytes log s opened) k lawful
+
+  pub opens_leaving : (least : ℕ) → AreRoomy g stream_bytes least log → Lawful log → HasNoLosers log → LeavesRoomyLogsFrom g stream_bytes least s
+  opens_leaving least k lawful ended =
+      as_leaving g stream_bytes log s (from_as g stream_bytes log s opened) least k lawful ended
+      (opened.least LAST_TXN (omega arith) (numbers_below g stream_bytes least log k))

@@ -28,7 +28,7 @@ use Rattle.shore_model.specs.declared.step.Step.{Step}
 use Rattle.shore_model.specs.declared.step.Step.TheVariants.{Waits}
 use Rattle.shore_model.specs.declared.step.Wait.{Wait}
 use Rattle.shore_cycles.specs.declared.victims.Victim.{Victim}
-use Rattle.shore_analysis.specs.Meant.{AreGranules, IsInBounds, IsServedKind, granules_in}
+use Rattle.shore_analysis.specs.Meant.{AreGranules, IsInBounds, IsServedKind, ListsInBounds, granules_in, next_in}
 use Rattle.laws_calls.proofs.Comings.{goes_keeps, like_keeps}
 use Rattle.laws_calls.proofs.LockWaits.{waits_may_ask}
 use Rattle.laws_calls.proofs.PrepareSteps.{prepare_goes, with_prepare}
@@ -76,7 +76,7 @@ use Rattle.laws_runs.specs.SlotCounts.{slot_count, slots_behind}
 
 -- ---- what an event appends
 
-last_follows : (log : List LogRecord) (r : LogRecord) → Lawful (log ++ r ∷ []) → MayFollow log r
+pub last_follows : (log : List LogRecord) (r : LogRecord) → Lawful (log ++ r ∷ []) → MayFollow log r
 last_follows log r lawful =
     subst (λ l. MayFollow l r) (take-append-le (length log) log (r ∷ []) (omega arith) ∙ take-length log) (lawful (length log) r (slice_get_last log r))
 
@@ -89,8 +89,25 @@ record AppendsOne (g : Geometry) (log new : List LogRecord) (old counts : SlotCo
   granules : AreGranules g (granules_in appended.payload)
   grown : (p : PageId) → counts p ≡ slots_behind p (image_in appended.payload) (old p)
 
+-- only an End names a next number
+served_names_none : (p : Payload) → IsServedKind p → next_in p ≡ 0
+served_names_none (payload.CheckpointEnd begin next txns dirty) served = absurd served
+served_names_none _ served = refl
+
+-- .. and lists pages
+served_lists_none : (g : Geometry) (p : Payload) → IsServedKind p → ListsInBounds g p
+served_lists_none g (payload.CheckpointEnd begin next txns dirty) served = absurd served
+served_lists_none g (payload.Change id was image) served = tt
+served_lists_none g (payload.Compensation id image undo_next) served = tt
+served_lists_none g payload.Commit served = tt
+served_lists_none g payload.End served = tt
+served_lists_none g (payload.Prepare global granules) served = tt
+served_lists_none g payload.RollbackDecided served = tt
+served_lists_none g payload.CheckpointBegin served = tt
+served_lists_none g (payload.Anchor checkpoint tail) served = tt
+
 -- a record that is no Prepare names no granules
-names_none : (g : Geometry) → AreGranules g []
+pub names_none : (g : Geometry) → AreGranules g []
 unfolding IsStrictlySortedBy
 names_none g = record { inside = All-nil (HasGranule g); rise = tt }
 
@@ -238,7 +255,7 @@ module _ (g : Geometry) (stream_bytes least base : ℕ) (o : Opening) (es : List
         let inside : All (IsInBounds g) new.log =
         subst (All (IsInBounds g)) (sym one.is)
         (All-push (IsInBounds g) s.log one.appended (whole_placed g stream_bytes least s.log h.prefixes).inside
-        (record { number = omega arith; served = one.served; id = one.inside; granules = one.granules })) in
+        (record { number = omega arith; next = (let none = served_names_none one.appended.payload one.served in omega (arith, none)); lists = served_lists_none g one.appended.payload one.served; id = one.inside; granules = one.granules })) in
         let roomy = state_is_roomy g base o later new new_sessions new_roomy few whole counts inside losers places in
         record {
           as_long = stream ∙ h.as_long;

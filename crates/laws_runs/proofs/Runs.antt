@@ -34,7 +34,7 @@ use Rattle.laws_runs.specs.StoredRuns.{AreStoredRuns, IsStored, IsStoredRun, Man
 
 -- ---- events one after another
 
-runs_join : (m : ManagerState) (events : List StretchEvent) (es : List Entry) (mid : ManagerState) (made : List Entry) (later : List StretchEvent) (last : ManagerState) (all : List Entry)
+pub runs_join : (m : ManagerState) (events : List StretchEvent) (es : List Entry) (mid : ManagerState) (made : List Entry) (later : List StretchEvent) (last : ManagerState) (all : List Entry)
     → ManagerRunsTo m events es mid made → ManagerRunsTo mid later made last all → ManagerRunsTo m (events ++ later) es last all
 runs_join m [] es mid made later last all h k =
     subst (λ m. ManagerRunsTo m later es last all) h.0 (subst (λ es. ManagerRunsTo mid later es last all) h.1 k)
@@ -48,7 +48,7 @@ pub record HasCome (o : Opening) (found : List LogRecord) (es : List Entry) (m l
   pub runs : ManagerRunsTo (over m.state m.store) events es (over last.state last.store) (es ++ made)
 
 module _ (g : Geometry) (o : Opening) (found : List LogRecord) where
-  manage_comes : (es : List Entry) (m new : StoredState) → IsStored m.state m.store → IsStateAfter o found es m.state → (e : StoredEvent)
+  pub manage_comes : (es : List Entry) (m new : StoredState) → IsStored m.state m.store → IsStateAfter o found es m.state → (e : StoredEvent)
       → StoredSteps g m e new → HasCome o found es m new (entries_made m e new)
   manage_comes es m new stored k (Manage e works) h =
       let come = event_comes m stored o found es k g new.state e h.0 works new.store h.1 h.2 in

@@ -2,6 +2,7 @@
 use Rattle.std.proofs.Common.{◌≡◌, ◌≤◌, inl, ⊎_elim, ◌++◌, ℕ, List, [], ◌∷◌, refl, sym, ap, subst, ◌∙◌, length, take, take_all, arith, append-nil, append_assoc}
 use Rattle.std.proofs.Math.Seq.{take-length}
 use Rattle.shore_types.specs.declared.layout.Geometry.{Geometry}
+use Rattle.shore_types.specs.declared.layout.TheConstants.{LAST_TXN}
 use Rattle.shore_model.specs.declared.histories.Entry.{Entry}
 use Rattle.shore_model.specs.declared.histories.Opening.{Opening}
 use Rattle.shore_model.specs.declared.log_records.LogRecord.{LogRecord}
@@ -28,7 +29,7 @@ use Rattle.laws_calls.specs.States.{State}
 use Rattle.laws_runs.proofs.Runs.{events_come, opened}
 use Rattle.laws_runs.specs.StoredRuns.{IsOpenedOver, IsStoredRun, Manage, StoredEvent, StoredMoves, StoredRun, StoredState, StoredSteps, Tend, entries_made}
 use Rattle.laws_runs.proofs.ManagerLogs.{moves_leaving, restart_roomy}
-use Rattle.laws_runs.proofs.Opens.{opens_leaving, opens_roomy, records_inside}
+use Rattle.laws_runs.proofs.Opens.{IsOpenedAs, as_leaving, as_roomy, from_as, numbers_below, records_inside}
 use Rattle.laws_runs.proofs.Prefixes.{whole_placed, whole_roomy}
 use Rattle.laws_runs.specs.RoomyLogs.{AreRoomy}
 use Rattle.laws_runs.specs.RoomyStates.{IsOpenedFrom}
@@ -38,7 +39,7 @@ use Rattle.laws_runs.specs.SoundStores.{IsSoundStore, IsUnderWay, managed}
 
 module _ (g : Geometry) (stream_bytes : ℕ) (o : Opening) (s : RecoveryState) (f : MayBeFound s) (opening : IsOpeningOf s.log o) (roomy : AreRoomy g stream_bytes s.durable s.log) (works : List RecoveryEvent) (ready : RecoveryState)
     (first : State) (restarts : RestartsTo s works ready) (redone : ready.redone ≡ length ready.log) (no_losers : HasNoLosers ready.log)
-    (opens : IsOpenedOver o ready first) (from : IsOpenedFrom g stream_bytes ready.log first) where
+    (opens : IsOpenedOver o ready first) (from : IsOpenedAs g stream_bytes ready.log first) (numbers : first.sessions.next_txn ≤ LAST_TXN) where
   restarted : IsRecoverable ready × IsRestartOf s.log ready
   restarted = events_restart s.log s works ready f.recoverable (record { turns = []; undone = refl; durable = f.durable }) restarts
 
@@ -71,19 +72,26 @@ module _ (g : Geometry) (stream_bytes : ℕ) (o : Opening) (s : RecoveryState) (
     );
   }
 
-  pub opens_under_way : IsUnderWay g stream_bytes o s.log [] (record { state = first; store = ready })
-  opens_under_way =
+  pub as_under_way : IsUnderWay g stream_bytes o s.log [] (record { state = first; store = ready })
+  as_under_way =
       let room = restart_roomy g stream_bytes s works ready roomy restarts in
       record {
         state = opened g o s f opening no_run is_no_run;
         asks = λ w there. absurd (subst (IsAmong w) opens.waiting there);
         no_cycle = none_in_none first.locks.requests opens.locks.nobody_waits;
         stored = opens.stored;
-        roomy = opens_roomy g stream_bytes ready.log first from (whole_roomy g stream_bytes ready.durable ready.log room) (undone_lawful s.log restarted.1.turns ready.log restarted.1.undone f.lawful);
-        leaves = opens_leaving g stream_bytes ready.log first from first.durable (subst (λ n. AreRoomy g stream_bytes n ready.log) opens.stored.durable room) (undone_lawful s.log restarted.1.turns ready.log restarted.1.undone f.lawful) no_losers;
+        roomy = as_roomy g stream_bytes ready.log first from (whole_roomy g stream_bytes ready.durable ready.log room) (undone_lawful s.log restarted.1.turns ready.log restarted.1.undone f.lawful);
+        leaves = as_leaving g stream_bytes ready.log first from first.durable (subst (λ n. AreRoomy g stream_bytes n ready.log) opens.stored.durable room) (undone_lawful s.log restarted.1.turns ready.log restarted.1.undone f.lawful) no_losers numbers;
         recoverable = restarted.0;
         redone = redone;
       }
+
+pub opens_under_way : (g : Geometry) (stream_bytes : ℕ) (o : Opening) (s : RecoveryState) → MayBeFound s → IsOpeningOf s.log o → AreRoomy g stream_bytes s.durable s.log
+    → (works : List RecoveryEvent) (ready : RecoveryState) (first : State) → RestartsTo s works ready → ready.redone ≡ length ready.log → HasNoLosers ready.log → IsOpenedOver o ready first
+    → IsOpenedFrom g stream_bytes ready.log first → IsUnderWay g stream_bytes o s.log [] (record { state = first; store = ready })
+opens_under_way g stream_bytes o s f opening roomy works ready first restarts redone no_losers opens from =
+    as_under_way g stream_bytes o s f opening roomy works ready first restarts redone no_losers opens (from_as g stream_bytes ready.log first from)
+    (from.least LAST_TXN (omega arith) (numbers_below g stream_bytes ready.durable ready.log (restart_roomy g stream_bytes s works ready roomy restarts)))
 
 -- ---- events
 

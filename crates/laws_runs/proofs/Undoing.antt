@@ -22,7 +22,7 @@ use Rattle.shore_model.specs.Records.{Records, put_image}
 use Rattle.shore_logrec.specs.Text.{cost_of}
 use Rattle.shore_analysis.proofs.Counted.{last_is_one}
 use Rattle.shore_analysis.proofs.Undone.{was_crowded}
-use Rattle.shore_analysis.specs.Meant.{AreGranules, IsCrowded, IsInBounds, IsServedKind, granules_in}
+use Rattle.shore_analysis.specs.Meant.{AreGranules, IsCrowded, IsInBounds, ListsInBounds, granules_in, next_in}
 use Rattle.laws_calls.specs.States.{cost_of_log}
 use Rattle.laws_lives.proofs.DoubtRecords.{doubts_same}
 use Rattle.laws_lives.proofs.OneMore.{id_itself}
@@ -68,7 +68,7 @@ as_room_of_log stream_bytes log undos room h kept stream last =
     let fits = h.fits in
     let lsns = h.lsns in
     let short = h.short in
-    record { sum = refl; fits = omega (arith, sum, fits, kept, stream); lsns = omega (arith, sum, lsns, last); short = omega (arith, short, stream) }
+    record { sum = refl; fits = omega (arith, sum, fits, kept, stream); lsns = omega (arith, sum, lsns, last); short = omega (arith, short, stream, kept) }
 
 -- what is put back is in place
 pub put_shown : (R : Records) (log : List LogRecord) (r : LogRecord) (e : Rid × Image) → image_in r.payload ≡ Some e
@@ -97,9 +97,13 @@ module _ (g : Geometry) (stream_bytes : ℕ) (log : List LogRecord) (k : IsRoomy
       let one = last_is_one log t loser.known in
       subst (λ u. u < LAST_TXN) one.own (all_at (IsInBounds g) log one.at one.found k.placed.inside one.here).number
 
-  undo_served : (cs : List UnansweredChange) → IsServedKind (undo_payload cs)
-  undo_served [] = tt
-  undo_served (c ∷ cs) = tt
+  undo_next_none : (cs : List UnansweredChange) → next_in (undo_payload cs) ≡ 0
+  undo_next_none [] = refl
+  undo_next_none (c ∷ cs) = refl
+
+  undo_lists : (cs : List UnansweredChange) → ListsInBounds g (undo_payload cs)
+  undo_lists [] = tt
+  undo_lists (c ∷ cs) = tt
 
   undo_inside : (cs : List UnansweredChange) → IsUndoChain log t cs → (id : Rid) → id_in (undo_payload cs) ≡ Some id → HasSlot g id
   undo_inside [] chain id e = cc
@@ -116,7 +120,8 @@ module _ (g : Geometry) (stream_bytes : ℕ) (log : List LogRecord) (k : IsRoomy
   undo_in_bounds : IsInBounds g r
   undo_in_bounds = record {
     number = number_below;
-    served = undo_served (unanswered t log);
+    next = (let none = undo_next_none (unanswered t log) in omega (arith, none));
+    lists = undo_lists (unanswered t log);
     id = undo_inside (unanswered t log) (unanswered_chain log t);
     granules = undo_granules (unanswered t log);
   }

@@ -6,3 +6,7 @@ pub mod SoundStores
 pub mod Stays
 pub mod StoredRuns
 pub mod WorkedLogs
+pub mod CheckpointSteps
+pub mod CheckpointedStates
+pub mod CheckpointedStays
+pub mod WorkedCheckpoints

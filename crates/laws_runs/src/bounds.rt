@@ -1,13 +1,17 @@
 //! The laws of the room that restart needs, each stated as the contract of an empty function.
-ghost use Rattle.std.specs.Prelude.{◌≡◌, ◌≤◌, ◌<◌, ◌+◌, ◌*◌, ◌++◌, ◌∷◌, ℕ, List, [], Some, length, take};
+ghost use Rattle.std.specs.Prelude.{◌≡◌, ◌≤◌, ◌<◌, ◌+◌, ◌*◌, ◌++◌, ◌∷◌, ℕ, List, [], Some, drop, length, slice_get, take};
 ghost use Rattle.std.specs.FinMap.{get};
+ghost use Rattle.std.specs.List.{AllByRecursion};
 ghost use Rattle.shore_types.specs.Layout.{HasPage, HasStore, LocksInLimits};
 ghost use Rattle.shore_types.specs.declared.ids.PageId.{PageId};
 ghost use Rattle.shore_types.specs.declared.layout.Geometry.{Geometry};
-ghost use Rattle.shore_types.specs.declared.layout.TheConstants.{ENDING_COST, LAST_OPENED, LONGEST_FRAME, MAX_LOG_BYTES, MAX_RECORD_BYTES, PAGE_ROOM, SLOT_ENTRY_BYTES};
+ghost use Rattle.shore_types.specs.declared.layout.TheConstants.{ENDING_COST, LAST_OPENED, LAST_TXN, LONGEST_FRAME, MAX_LOG_BYTES, MAX_RECORD_BYTES, PAGE_ROOM, SLOT_ENTRY_BYTES};
 ghost use Rattle.shore_model.specs.declared.histories.Entry.{Entry};
 ghost use Rattle.shore_model.specs.declared.histories.Opening.{Opening};
+ghost use Rattle.shore_model.specs.declared.log_records.DirtyPage.{DirtyPage};
 ghost use Rattle.shore_model.specs.declared.log_records.LogRecord.{LogRecord};
+ghost use Rattle.shore_model.specs.declared.log_records.LogTxn.{LogTxn};
+ghost use Rattle.shore_model.specs.declared.log_records.Payload.TheVariants.{CheckpointEnd};
 ghost use Rattle.shore_model.specs.Logs.{Lawful};
 ghost use Rattle.shore_model.specs.Records.{AreRecords};
 ghost use Rattle.shore_logrec.specs.Text.{cost_of};
@@ -17,11 +21,13 @@ ghost use Rattle.laws_lives.specs.Recovery.{IsRecoverable, RecoveryEvent, Recove
 ghost use Rattle.laws_lives.specs.Restarts.{IsRestartOf, RestartsTo};
 ghost use Rattle.laws_lives.specs.LogTells.{MatchesUndo};
 ghost use Rattle.laws_lives.specs.Sessions.{EachOnce, SessionTxn, txns_of};
+ghost use Rattle.laws_lives.specs.Pages.{LoggedPages};
 ghost use Rattle.laws_lives.specs.Views.{IsAmong};
 ghost use Rattle.laws_room.specs.Claims.{Claimed};
 ghost use Rattle.laws_room.specs.LogRooms.{owed_by_all};
 ghost use Rattle.laws_lives.specs.Undo.{HasNoLosers, IsLoser, IsUndoneTo, undo_record};
-ghost use Rattle.shore_analysis.specs.Meant.{AreMeant};
+ghost use Rattle.shore_analysis.specs.KeptMeant.{AreMeantKept};
+ghost use Rattle.shore_analysis.specs.Meant.{IsPageListed};
 ghost use Rattle.shore_analysis.specs.Tables.{IsNext};
 ghost use Rattle.laws_lives.specs.Stretches.{MayBeFound};
 ghost use Rattle.laws_calls.specs.CallHistories.{IsRoomyState, KeepsDurable};
@@ -29,6 +35,8 @@ ghost use Rattle.laws_calls.specs.Events.{IsStateAfter, ManagerEvent, EventMoves
 ghost use Rattle.laws_calls.specs.Shapes.{LockWaitsMayAsk};
 ghost use Rattle.laws_calls.specs.States.{State, cost_of_log};
 ghost use Rattle.laws_calls.specs.WorkedRun.{first_id, first_page, one_insert, opened_empty};
+ghost use Rattle.laws_checkpoints.specs.KeptLogs.{MayBeCut};
+ghost use Rattle.laws_checkpoints.specs.RecoveryNumbers.{EndsListChanges};
 ghost use Rattle.laws_runs.specs.StoredRuns.{AreStoredRuns, IsOpenedOver, IsStoredRun, StoredEvent, StoredMoves, StoredRun, StoredState};
 ghost use Rattle.laws_runs.specs.RoomyLogs.{AreRoomy, IsPlacedLog, IsRoomyLog, IsUndecided};
 ghost use Rattle.laws_runs.specs.RoomyRuns.{AreOpenedFrom};
@@ -149,9 +157,11 @@ pub fn opens_have_room()
         IsNext found s.sessions.next_txn → HasLocksInBounds g s → IsOpenedFrom g stream_bytes ready.log s }
 {}
 
-/// Analysis refuses no record of a lawful log that may be left.
+/// Analysis refuses no record of a lawful log that may be left, whatever of its front may be cut off.
 pub fn roomy_logs_are_meant()
-    ensures { (g : Geometry) (stream_bytes least : ℕ) (log : List LogRecord) → AreRoomy g stream_bytes least log → Lawful log → AreMeant g log }
+    ensures whole { (g : Geometry) (stream_bytes least : ℕ) (log : List LogRecord) → AreRoomy g stream_bytes least log → Lawful log → AreMeantKept g 0 log }
+    ensures kept { (g : Geometry) (stream_bytes least : ℕ) (log : List LogRecord) (volume : LoggedPages) (cut : ℕ) → AreRoomy g stream_bytes least log → Lawful log →
+        MayBeCut log volume cut → AreMeantKept g cut (drop cut log) }
 {}
 
 /// The conditions can be met: over an empty volume and an empty log, a transaction inserts a record and commits, and each prefix of the log
@@ -173,4 +183,12 @@ pub fn logs_without_room_are_not_roomy()
         3 * SLOT_ENTRY_BYTES + length new + length other ≤ PAGE_ROOM → HasRoom (slots_left (room_taken old new other) first_page) }
     ensures room_taken { (g : Geometry) (stream_bytes : ℕ) (old new other : List ℕ) →
         PAGE_ROOM < 3 * SLOT_ENTRY_BYTES + length old + length new + length other → IsRoomyLog g stream_bytes (room_taken old new other) → ⊥ }
+{}
+
+/// What an End of a roomy log lists lies in bounds, if it lists pages with records from before its begin, as each does that a manager logs: its next number is
+/// one that an open may go on from, and its pages lie in the geometry.
+pub fn ends_of_roomy_logs_are_in_bounds()
+    ensures { (g : Geometry) (stream_bytes least : ℕ) (log : List LogRecord) (n : ℕ) (r : LogRecord) (begin next : ℕ) (txns : List LogTxn) (dirty : List DirtyPage) →
+        AreRoomy g stream_bytes least log → EndsListChanges log → slice_get log n ≡ Some r → r.payload ≡ CheckpointEnd begin next txns dirty →
+        (next ≤ LAST_TXN) × AllByRecursion (IsPageListed g begin) dirty }
 {}

@@ -4,5 +4,6 @@
 #![tactic(auto)]
 
 pub mod bounds;
+pub mod checkpoints;
 pub mod managers;
 pub mod stays;

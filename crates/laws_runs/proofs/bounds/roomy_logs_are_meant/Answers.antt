@@ -1,5 +1,8 @@
-use Rattle.laws_runs.proofs.Opens.{meant}
+use Rattle.laws_runs.proofs.RoomyMeant.{all_kept_meant, kept_meant}
 use Rattle.laws_runs.proofs.bounds.roomy_logs_are_meant.Goals as goal
 
-pub returns : goal.returns
-returns c g stream_bytes least log k lawful = meant g stream_bytes least log k lawful
+pub returns-clause-whole : goal.returns-clause-whole
+returns-clause-whole c g stream_bytes least log k lawful = all_kept_meant g stream_bytes least log k lawful
+
+pub returns-clause-kept : goal.returns-clause-kept
+returns-clause-kept c g stream_bytes least log volume cut k lawful may = kept_meant g stream_bytes least log k lawful volume cut may
