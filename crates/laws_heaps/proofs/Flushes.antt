@@ -23,13 +23,13 @@ use Rattle.laws_heaps.proofs.AllPages.{all_pages, has_or_not, page_among}
 use Rattle.laws_heaps.proofs.Stores.{store_over, text_in_place}
 
 -- a page that is written, and any other
-written_or_not : (pages : LoggedPages) (q : PageId) (page : LoggedPage) (p : PageId) → ((p ≡ q) × (with_page_written pages q page p ≡ page)) ⊎ (with_page_written pages q page p ≡ pages p)
+pub written_or_not : (pages : LoggedPages) (q : PageId) (page : LoggedPage) (p : PageId) → ((p ≡ q) × (with_page_written pages q page p ≡ page)) ⊎ (with_page_written pages q page p ≡ pages p)
 written_or_not pages q page p = elim (cases_Bool (eq_by_cmp page_cmp p q)) [
   | inl equal ↦ inl (equal_pages p q equal, ap (λ b. cond b page (pages p)) equal)
   | inr apart ↦ inr (ap (λ b. cond b page (pages p)) apart)
 ]
 
-written_here : (pages : LoggedPages) (q : PageId) (page : LoggedPage) → with_page_written pages q page q ≡ page
+pub written_here : (pages : LoggedPages) (q : PageId) (page : LoggedPage) → with_page_written pages q page q ≡ page
 written_here pages q page = ap (λ b. cond b page (pages q)) ((eq_by_cmp_equiv pages_total).refl q)
 
 module _ (g : Geometry) (log : List LogRecord) (left : ℕ → List ℕ) where

@@ -9,3 +9,6 @@ pub mod SettledSlots
 pub mod SlotImages
 pub mod StaySettled
 pub mod Stores
+pub mod Noted
+pub mod Cleaned
+pub mod DirtyTables

@@ -1,1 +1,2 @@
 pub mod LoggedHeaps
+pub mod HeapRecoveries
