@@ -1,7 +1,7 @@
 //! The manager that a script works with: a world over two devices in memory or in files, each behind a fuse.
 ghost use Rattle.std.specs.Prelude.{◌≡◌, ◌≤◌, ◌↔◌, ℕ, IsTrue, IfOk, OnOk, length, min, vec_len};
 ghost use Rattle.shore_types.specs.declared.faults.Fault.TheVariants.{NeedForce};
-ghost use Rattle.shore_types.specs.declared.layout.TheConstants.{MAX_PAGES, MAX_STORES, MIN_POOL_FRAMES};
+ghost use Rattle.shore_types.specs.declared.layout.TheConstants.{MAX_POOL_FRAMES, MAX_STORES, MIN_POOL_FRAMES};
 ghost use Rattle.shore_world.specs.Worlds.{geometry_in};
 ghost use Rattle.shore_model.specs.Calls.{IsServed};
 ghost use Rattle.shore_script.specs.Commands.{IsServedCommand};
@@ -39,7 +39,7 @@ pub struct Manager {
     // The manager itself, or the devices that it left.
     access: Access,
     ghost some: { MIN_POOL_FRAMES ≤ frames },
-    ghost few: { frames ≤ MAX_PAGES },
+    ghost few: { frames ≤ MAX_POOL_FRAMES },
 }
 
 // A manager that is open, or was refused at its last open.
@@ -198,7 +198,7 @@ fn open(
     frames: usize,
 ) -> (Access, Option<Fault>)
     requires some { MIN_POOL_FRAMES ≤ frames }
-    requires few { frames ≤ MAX_PAGES }
+    requires few { frames ≤ MAX_POOL_FRAMES }
 {
     match World::open(alloc, log, volume, frames) {
         Ok(world) => boxed(alloc, world),

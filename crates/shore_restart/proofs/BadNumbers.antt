@@ -1,5 +1,5 @@
 -- The record that a restart names is one of those that were found.
-use Rattle.std.proofs.Common.{take, ◌≡◌, ⊎_elim, ◌-◌, ◌<◌, ◌≤◌, ℕ, List, [], ◌∷◌, ◌++◌, Option, Some, None, inl, refl, sym, ap, subst, ◌∙◌, length, arith}
+use Rattle.std.proofs.Common.{◌≡◌, ⊎_elim, ◌-◌, ◌<◌, ◌≤◌, ℕ, List, [], ◌∷◌, ◌++◌, Option, Some, None, inl, refl, sym, ap, subst, ◌∙◌, length, arith}
 use Rattle.std.specs.Prelude.{IsSome, IsSomeAnd, slice_get}
 use Rattle.std.proofs.lemmas.Option.{slice_get_within}
 use Rattle.shore_types.specs.Images.{Image}
@@ -16,10 +16,10 @@ use Rattle.laws_lives.proofs.UndoChains.{unanswered_chain}
 use Rattle.laws_lives.specs.Doubts.{doubts_in}
 use Rattle.laws_lives.specs.Views.{IsAmong}
 use Rattle.laws_lives.proofs.Lists.{among_right}
-use Rattle.shore_analysis.specs.Meant.{AreMeant, MayBeNext, IsFirstUnmeant}
-use Rattle.shore_analysis.proofs.Phases.{in_doubt_runs}
+use Rattle.shore_analysis.specs.KeptMeant.{AreMeantKept, IsFirstUnmeantKept, MayBeKept}
 use Rattle.shore_analysis.proofs.InTurn.{in_order_undone}
 use Rattle.shore_analysis.proofs.MeantLogs.{own_or_last}
+use Rattle.shore_analysis.proofs.WholeRecords.{doubts_run}
 use Rattle.shore_restart.specs.declared.errors.RestartError.TheVariants.{BadRecord}
 use Rattle.shore_restart.specs.Doubts.{CannotHold}
 use Rattle.shore_restart.specs.Turns.{IsUndoneSoFar}
@@ -64,20 +64,20 @@ pub one_number : (n m : ℕ) → BadRecord n ≡ BadRecord m → n ≡ m
 one_number n m is = cc
 
 -- .. and a record that analysis refuses is one
-pub unmeant_within : (g : Geometry) (log : List LogRecord) (n : ℕ) → IsFirstUnmeant g log n → (0 < n) × (n ≤ length log)
-unmeant_within g log n of = (of.some, at (slice_get log (n - 1)) refl of.here)
+pub unmeant_within : (g : Geometry) (log : List LogRecord) (n : ℕ) → IsFirstUnmeantKept g 0 log n → (0 < n) × (n ≤ length log)
+unmeant_within g log n of = (of.behind, at (slice_get log (n - 1)) refl of.here)
   where
-    at : (o : Option LogRecord) → slice_get log (n - 1) ≡ o → IsSomeAnd o (λ r. MayBeNext g (take (n - 1) log) r → ⊥) → n ≤ length log
+    at : (o : Option LogRecord) → slice_get log (n - 1) ≡ o → IsSomeAnd o (λ r. MayBeKept g 0 log (n - 1) r → ⊥) → n ≤ length log
     at None is none = absurd none
-    at (Some r) is here = let within = slice_get_within log (n - 1) r is in let some = of.some in omega (arith, within, some)
+    at (Some r) is here = let within = slice_get_within log (n - 1) r is in let some = of.behind in omega (arith, within, some)
 
 -- .. and a Prepare of one in doubt is one
-pub cannot_within : (g : Geometry) (limit : ℕ) (log : List LogRecord) (n : ℕ) → AreMeant g log → CannotHold limit log n → (0 < n) × (n ≤ length log)
+pub cannot_within : (g : Geometry) (limit : ℕ) (log : List LogRecord) (n : ℕ) → AreMeantKept g 0 log → CannotHold limit log n → (0 < n) × (n ≤ length log)
 cannot_within g limit log n meant cannot =
     let d = cannot.doubt in
     let among : IsAmong d (doubts_in log) = subst (IsAmong d) (sym cannot.order) (among_right d cannot.before (d ∷ cannot.later) (inl refl)) in
     let doubt = in_doubt_here log d among in
-    let known = (in_doubt_runs g log meant d.txn doubt).known in
+    let known = (doubts_run g log meant d.txn doubt).known in
     let number = cannot.number in
     let last = last_is_prepare g log meant d.txn doubt in
     let low = last_low log d.txn in

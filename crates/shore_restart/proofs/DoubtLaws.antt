@@ -10,7 +10,8 @@ use Rattle.shore_types.specs.declared.locking.Granule.{Granule}
 use Rattle.shore_model.specs.declared.log_records.LogRecord.{LogRecord}
 use Rattle.shore_model.specs.Locks.{OnOnePath}
 use Rattle.shore_model.specs.Logs.{prepare_number}
-use Rattle.shore_analysis.specs.Meant.{AreMeant, MayBeNext}
+use Rattle.shore_analysis.specs.KeptMeant.{AreMeantKept}
+use Rattle.shore_analysis.proofs.KeptLawful.{none_unmeant}
 use Rattle.laws_lives.specs.Doubts.{DoubtsStand, LoggedDoubt, NeedMore, doubts_in, locks_for, node_of, restored_locks, undo_in}
 use Rattle.laws_lives.specs.Views.{IsAmong}
 use Rattle.laws_lives.proofs.Lists.{among_left}
@@ -101,7 +102,7 @@ none_need : (limit : ℕ) → NeedMore limit [] → ⊥
 none_need limit ([], once, each, more) = absurd (omega (arith, more))
 none_need limit (n ∷ nodes, once, each, more) = each n (inl refl)
 
-module _ (g : Geometry) (log : List LogRecord) (limit : ℕ) (meant : AreMeant g log) where
+module _ (g : Geometry) (log : List LogRecord) (limit : ℕ) (meant : AreMeantKept g 0 log) where
   -- two of them that clash are one
   pub clash_is_one : CanHold limit (doubts_in log) → (d e : LoggedDoubt) → IsAmong d (doubts_in log) → IsAmong e (doubts_in log) → Clash d e → d ≡ e
   clash_is_one hold d e a b clash = elim (in_turn (doubts_in log) d e a b) [
@@ -149,11 +150,7 @@ one_cannot log limit n m a b = elim (two_places a.before b.before a.later b.late
 
 pub taken_or_refused : (g : Geometry) (log : List LogRecord) (n : ℕ) → IsTaken g log → IsRefusedBy g log n → ⊥
 taken_or_refused g log n taken (inr cannot) = none_cannot log g.max_locks n taken.1 cannot.1
-taken_or_refused g log n taken (inl first) = by (slice_get log (n - 1)) refl first.here
-  where
-    by : (o : Option LogRecord) → slice_get log (n - 1) ≡ o → IsSomeAnd o (λ r. MayBeNext g (take (n - 1) log) r → ⊥) → ⊥
-    by None is none = none
-    by (Some r) is refuses = refuses (taken.0 (n - 1) r is)
+taken_or_refused g log n taken (inl first) = none_unmeant g 0 log n taken.0 first
 
 -- ---- as sessions
 

@@ -29,12 +29,15 @@ use Rattle.laws_lives.proofs.Redo.{slice_get_last}
 use Rattle.laws_lives.proofs.Writers.{same_or_not}
 use Rattle.laws_lives.proofs.WritersTold.{in_doubt_parts}
 use Rattle.laws_room.specs.LogRooms.{compensation_costs}
-use Rattle.shore_analysis.specs.Meant.{AreMeant, IsMeant, MayBeNext, Means}
+use Rattle.shore_analysis.specs.KeptMeant.{AreMeantKept, IsKeptCrowded}
+use Rattle.shore_analysis.specs.Meant.{IsMeant, Means}
 use Rattle.shore_analysis.proofs.Counted.{Among, cases_lt, doubt_listed}
 use Rattle.shore_analysis.proofs.InOrder.{number_kept, number_new_own}
-use Rattle.shore_analysis.proofs.MeantLogs.{before_last, by_meant, in_doubt_prepared}
+use Rattle.shore_analysis.proofs.KeptWholes.{kept_table}
+use Rattle.shore_analysis.proofs.MeantLogs.{before_last, by_each, in_doubt_prepared}
 use Rattle.shore_analysis.proofs.OneMore.{prepare_known}
-use Rattle.shore_analysis.proofs.Phases.{doubt-by, doubt_other, in_doubt_runs, no_prepare, undoable_no_doubt}
+use Rattle.shore_analysis.proofs.Phases.{doubt-by, doubt_other, no_prepare, undoable_no_doubt}
+use Rattle.shore_analysis.proofs.WholeRecords.{IsMeantOrNobodys, doubts_run, meant_or_nobodys}
 use Rattle.shore_restart.specs.Doubts.{changes_in_doubt, changes_of, owed_in, reserved_told}
 
 undo_decides_none : (cs : List UnansweredChange) → is_decision (undo_payload cs) ≡ false
@@ -134,18 +137,25 @@ module _ (g : Geometry) (log : List LogRecord) (r : LogRecord) (meant : IsMeant 
   own_last : last_of r.txn (log ++ r ∷ []) ≡ prepare_number r.txn (log ++ r ∷ [])
   own_last = last_own log r ∙ sym (number_new_own g log r meant (prepares r.payload refl meant.says))
 
-pub last_is_prepare : (g : Geometry) (log : List LogRecord) → AreMeant g log → (t : ℕ) → is_in_doubt t log ≡ true → last_of t log ≡ prepare_number t log
-last_is_prepare g = by_meant g (λ log. (t : ℕ) → is_in_doubt t log ≡ true → last_of t log ≡ prepare_number t log) (λ t h. cc) one_more
+pub last_is_prepare : (g : Geometry) (log : List LogRecord) → AreMeantKept g 0 log → (t : ℕ) → is_in_doubt t log ≡ true → last_of t log ≡ prepare_number t log
+last_is_prepare g log meant t doubts =
+    by_each (IsMeantOrNobodys g) (λ log. (t : ℕ) → 0 < t → is_in_doubt t log ≡ true → last_of t log ≡ prepare_number t log) (λ t one h. cc) one_more log (meant_or_nobodys g log meant) t
+    (doubts_run g log meant t doubts).some doubts
   where
-    one_more : (log : List LogRecord) (r : LogRecord) → IsMeant g log r → ((t : ℕ) → is_in_doubt t log ≡ true → last_of t log ≡ prepare_number t log)
-        → (t : ℕ) → is_in_doubt t (log ++ r ∷ []) ≡ true → last_of t (log ++ r ∷ []) ≡ prepare_number t (log ++ r ∷ [])
-    one_more log r meant known t doubt = ⊎_elim
-        (λ own.
+    by_own : (log : List LogRecord) (r : LogRecord) (t : ℕ) → 0 < t → IsMeantOrNobodys g log r → r.txn ≡ t → is_in_doubt t (log ++ r ∷ []) ≡ true
+        → last_of t (log ++ r ∷ []) ≡ prepare_number t (log ++ r ∷ [])
+    by_own log r t one (inl none) own doubt = let zero = none.nobody in absurd (omega (arith, one, own, zero))
+    by_own log r t one (inr meant) own doubt =
         subst (λ (u : ℕ). last_of u (log ++ r ∷ []) ≡ prepare_number u (log ++ r ∷ [])) own
-        (own_last g log r meant (ap (λ (u : ℕ). is_in_doubt u (log ++ r ∷ [])) own ∙ doubt)))
+        (own_last g log r meant (ap (λ (u : ℕ). is_in_doubt u (log ++ r ∷ [])) own ∙ doubt))
+
+    one_more : (log : List LogRecord) (r : LogRecord) → IsMeantOrNobodys g log r → ((t : ℕ) → 0 < t → is_in_doubt t log ≡ true → last_of t log ≡ prepare_number t log)
+        → (t : ℕ) → 0 < t → is_in_doubt t (log ++ r ∷ []) ≡ true → last_of t (log ++ r ∷ []) ≡ prepare_number t (log ++ r ∷ [])
+    one_more log r meant known t one doubt = ⊎_elim
+        (λ own. by_own log r t one meant own doubt)
         (λ other.
         let before = sym (doubt_other log r t other) ∙ doubt in
-        ap first_number (newest_other log r t other) ∙ known t before
+        ap first_number (newest_other log r t other) ∙ known t one before
         ∙ sym (number_kept t log r (ltb-true 0 (prepare_number t log) (prepare_known t log ∙ in_doubt_prepared t log before))))
         (same_or_not r.txn t)
 
@@ -161,17 +171,17 @@ among_some p t (e ∷ es) a = by (p e) a (among_some p t es)
     by false later rest = inr (rest later)
 
 -- so many entries of a table are no crowd
-few_entries : (g : Geometry) (txns : List LogTxn) (log : List LogRecord) → AreMeant g log → IsTable log txns → length txns ≤ MAX_TRANSACTIONS
-few_entries g txns = by_push (λ log. AreMeant g log → IsTable log txns → length txns ≤ MAX_TRANSACTIONS) (λ meant table. none txns table) one_more
+few_entries : (g : Geometry) (txns : List LogTxn) (log : List LogRecord) → AreMeantKept g 0 log → IsTable log txns → length txns ≤ MAX_TRANSACTIONS
+few_entries g txns = by_push (λ log. AreMeantKept g 0 log → IsTable log txns → length txns ≤ MAX_TRANSACTIONS) (λ meant table. none txns table) one_more
   where
     none : (es : List LogTxn) → IsTable [] es → length es ≤ MAX_TRANSACTIONS
     none [] table = omega arith
     none (e ∷ es) table = absurd (let known = (recursion_from_All (IsEntry []) (e ∷ es) table.each).0.0.known in omega (arith, known))
 
-    one_more : (log : List LogRecord) (r : LogRecord) → (AreMeant g log → IsTable log txns → length txns ≤ MAX_TRANSACTIONS) → AreMeant g (log ++ r ∷ []) → IsTable (log ++ r ∷ []) txns → length txns ≤ MAX_TRANSACTIONS
+    one_more : (log : List LogRecord) (r : LogRecord) → (AreMeantKept g 0 log → IsTable log txns → length txns ≤ MAX_TRANSACTIONS) → AreMeantKept g 0 (log ++ r ∷ []) → IsTable (log ++ r ∷ []) txns → length txns ≤ MAX_TRANSACTIONS
     one_more log r known meant table =
-        let may = subst (λ (l : List LogRecord). MayBeNext g l r) (before_last log r) (meant (length log) r (slice_get_last log r)) in
-        ⊎_elim (λ few. few) (λ many. absurd (may.1 (txns, table, many))) (few_or_many (length txns))
+        let few = subst (λ (l : List LogRecord). IsKeptCrowded 0 (l ++ r ∷ []) → ⊥) (before_last log r) (meant (length log) r (slice_get_last log r)).few in
+        ⊎_elim (λ few. few) (λ many. absurd (few (txns, kept_table (log ++ r ∷ []) txns table, many))) (few_or_many (length txns))
       where
         few_or_many : (n : ℕ) → (n ≤ MAX_TRANSACTIONS) ⊎ (MAX_TRANSACTIONS < n)
         few_or_many n = elim (cases_lt MAX_TRANSACTIONS n) [
@@ -179,12 +189,12 @@ few_entries g txns = by_push (λ log. AreMeant g log → IsTable log txns → le
           | inr rest ↦ elim rest [ inl same ↦ inl (omega (arith, same)) | inr few ↦ inl (omega (arith, few)) ]
         ]
 
-pub few_doubts : (g : Geometry) (log : List LogRecord) → AreMeant g log → Lawful log → (txns : List LogTxn) → IsTable log txns → length (doubts_in log) ≤ MAX_TRANSACTIONS
+pub few_doubts : (g : Geometry) (log : List LogRecord) → AreMeantKept g 0 log → Lawful log → (txns : List LogTxn) → IsTable log txns → length (doubts_in log) ≤ MAX_TRANSACTIONS
 few_doubts g log meant lawful txns table =
     let inside : (t : ℕ) → IsAmong t (map (λ (d : LoggedDoubt). d.txn) (doubts_in log)) → IsAmong t (map (λ (e : LogTxn). e.txn) txns) = λ t among.
     let d = mapped_one (λ (d : LoggedDoubt). d.txn) t (doubts_in log) among in
     let doubt = ap (λ (u : ℕ). is_in_doubt u log) (sym d.2) ∙ in_doubt_here log d.0 d.1 in
-    let runs = in_doubt_runs g log meant t doubt in
+    let runs = doubts_run g log meant t doubt in
     among_some (λ e. is_prepared e.state) t txns (doubt_listed log txns table t runs.some runs.known runs.runs doubt) in
     let fewer = no_longer (map (λ (d : LoggedDoubt). d.txn) (doubts_in log)) (map (λ (e : LogTxn). e.txn) txns) (doubts_once log lawful) inside in
     let few = few_entries g txns log meant table in

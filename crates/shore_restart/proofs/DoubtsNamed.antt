@@ -19,11 +19,12 @@ use Rattle.laws_lives.proofs.DoubtLocks.{contained_among}
 use Rattle.laws_lives.proofs.DoubtRecords.{among_filter, doubt_txns}
 use Rattle.laws_lives.proofs.Lists.{among_contained, among_map, map-take, mapped_one, recursion-at}
 use Rattle.shore_analysis.specs.Doubts.{doubt_at}
-use Rattle.shore_analysis.specs.Meant.{AreMeant}
-use Rattle.shore_analysis.proofs.DoubtsTold.{doubts_told}
-use Rattle.shore_analysis.proofs.InOrder.{Rises, filter_among, is_among, one_of_all, prepare_is, prepares, prepares_rise, rises_filter}
+use Rattle.shore_analysis.specs.KeptMeant.{AreMeantKept}
+use Rattle.shore_analysis.proofs.DoubtsTold.{once_told}
+use Rattle.shore_analysis.proofs.InOrder.{Rises, filter_among, is_among, once_rise, one_of_all, prepare_is, prepares, rises_filter}
 use Rattle.shore_analysis.proofs.MeantLogs.{in_doubt_prepared}
 use Rattle.shore_analysis.proofs.OneMore.{prepare_known}
+use Rattle.shore_analysis.proofs.WholeRecords.{doubts_run, prepares_once}
 use Rattle.shore_restart.specs.Doubts.{AreEntriesOfDoubts, name_at}
 
 -- ---- lists
@@ -66,12 +67,12 @@ says_alike global name granules others is = record { global_is = ap name_said is
 
 -- ---- those in doubt
 
-module _ (g : Geometry) (log : List LogRecord) (meant : AreMeant g log) where
+module _ (g : Geometry) (log : List LogRecord) (meant : AreMeantKept g 0 log) where
   -- each is one transaction
   pub doubts_once : EachOnce (map (λ d. d.txn) (doubts_in log))
   doubts_once =
       subst EachOnce (doubt_txns log)
-      (once_rises (λ t. prepare_number t log) (in_doubt_in log) (rises_filter (λ t. prepare_number t log) (λ t. is_in_doubt t log) (prepares log) (prepares_rise g log meant).rise))
+      (once_rises (λ t. prepare_number t log) (in_doubt_in log) (rises_filter (λ t. prepare_number t log) (λ t. is_in_doubt t log) (prepares log) (once_rise log (prepares_once g log meant)).rise))
 
   -- one in doubt, as its Prepare tells it
   pub record IsToldDoubt (t : ℕ) : Type 0 where
@@ -82,7 +83,7 @@ module _ (g : Geometry) (log : List LogRecord) (meant : AreMeant g log) where
 
   pub told_doubt : (t : ℕ) → is_in_doubt t log ≡ true → IsToldDoubt t
   told_doubt t doubts = as_told (
-      pick (in_doubt_in log) (doubts_in log) (doubts_told g log meant) (doubt_txns log)
+      pick (in_doubt_in log) (doubts_in log) (once_told log (prepares_once g log meant)) (doubt_txns log)
       (filter_among (λ u. is_in_doubt u log) t (prepares log) (is_among t log (in_doubt_prepared t log doubts)) doubts))
     where
       as_told : (d : LoggedDoubt) × IsAmong d (doubts_in log) × (d.txn ≡ t) × (doubt_at log (prepare_number t log) ≡ Some d) → IsToldDoubt t
@@ -106,12 +107,11 @@ module _ (g : Geometry) (log : List LogRecord) (meant : AreMeant g log) where
   number_of_one t doubts =
       let n = prepare_number t log in
       let one = prepare_is t log (ltb-true 0 n (prepare_known t log ∙ in_doubt_prepared t log doubts)) in
-      let its = (meant (n - 1) one.found one.here).0 in
       let own = one.own in
-      let above = its.some in
-      let most = its.number in
+      let above = (doubts_run g log meant t doubts).some in
+      let most = (meant (n - 1) one.found one.here).now.number in
       record {
-        some = omega (arith, own, above);
+        some = omega (arith, above);
         last = omega (arith, own, most);
         below = λ next all.
             let less : one.found.txn < next =
@@ -128,7 +128,7 @@ module _ (g : Geometry) (log : List LogRecord) (meant : AreMeant g log) where
     by_prepare (e ∷ es) numbers = (λ i. doubt_at log (numbers.0.prepare i) ∷ by_prepare es numbers.1 i)
 
     told : map says es ≡ map (λ d. Some d) (doubts_in log)
-    told = by_prepare es are.numbers ∙ ap (map (λ t. doubt_at log (prepare_number t log))) are.order ∙ doubts_told g log meant
+    told = by_prepare es are.numbers ∙ ap (map (λ t. doubt_at log (prepare_number t log))) are.order ∙ once_told log (prepares_once g log meant)
 
     txns : map (λ e. e.txn) es ≡ map (λ d. d.txn) (doubts_in log)
     txns = are.order ∙ doubt_txns log

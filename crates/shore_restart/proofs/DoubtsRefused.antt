@@ -9,12 +9,12 @@ use Rattle.shore_model.specs.Requests.{held_by_all}
 use Rattle.shore_locks.specs.Orderly.{IsOrderly}
 use Rattle.laws_lives.specs.Doubts.{LoggedDoubt, doubts_in}
 use Rattle.laws_lives.specs.Sessions.{EachOnce}
-use Rattle.shore_analysis.specs.Meant.{AreMeant}
+use Rattle.shore_analysis.specs.KeptMeant.{AreMeantKept}
 use Rattle.shore_restart.specs.Doubts.{AreEntriesOfDoubts, AreLocksOf, CannotHold, HasNoPlace}
 use Rattle.shore_restart.proofs.DoubtsHeld.{can_hold, once_front}
 use Rattle.shore_restart.proofs.DoubtsNamed.{doubt_of_entry, doubts_once, split_here}
 
-pub refused_here : (g : Geometry) (log : List LogRecord) (meant : AreMeant g log) (es : List LogTxn) (are : AreEntriesOfDoubts log es) (rs : List Request) (i : ℕ) (e : LogTxn) (here : slice_get es i ≡ Some e) (limit : ℕ)
+pub refused_here : (g : Geometry) (log : List LogRecord) (meant : AreMeantKept g 0 log) (es : List LogTxn) (are : AreEntriesOfDoubts log es) (rs : List Request) (i : ℕ) (e : LogTxn) (here : slice_get es i ≡ Some e) (limit : ℕ)
     → IsOrderly rs → length rs ≤ limit → AreLocksOf (take i (doubts_in log)) (held_by_all rs) → EachOnce (map (λ d. d.global) (take i (doubts_in log)))
     → HasNoPlace limit (take i (doubts_in log)) (doubt_of_entry g log meant es are i e here).doubt → CannotHold limit log e.prepare
 refused_here g log meant es are rs i e here limit orderly within held names no_place =

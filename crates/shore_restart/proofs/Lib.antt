@@ -24,6 +24,7 @@ pub mod Found
 pub mod Locks
 pub mod LockRefusals
 pub mod DoubtsKept
+pub mod NoAnchor
 pub mod PageClaims
 pub mod Unkept
 pub mod DoubtsTold

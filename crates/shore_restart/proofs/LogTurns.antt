@@ -1,5 +1,5 @@
 -- A turn of undo over the log alone: the loser's next record, and what undo works with behind it.
-use Rattle.std.proofs.Common.{◌≡◌, ◌<◌, ◌+◌, ℕ, List, [], ◌∷◌, ◌++◌, Option, None, Some, refl, sym, ap, subst, ◌∙◌, length, arith}
+use Rattle.std.proofs.Common.{◌≡◌, ◌<◌, ◌+◌, ℕ, List, [], ◌∷◌, ◌++◌, Option, None, Some, refl, sym, ap, subst, ◌∙◌, length, drop, arith}
 use Rattle.std.specs.Prelude.{All, IfNone, IfSome, IsSome}
 use Rattle.shore_types.specs.Layout.{HasSlot}
 use Rattle.shore_types.specs.declared.ids.Rid.{Rid}
@@ -9,9 +9,10 @@ use Rattle.shore_model.specs.Logs.{id_in, last_of, unanswered, undo_next_of}
 use Rattle.shore_logrec.specs.Text.{Fits}
 use Rattle.shore_txn.specs.declared.log_room.LogRoom.{LogRoom}
 use Rattle.laws_lives.specs.Undo.{IsLoser, IsUndoneTo, undo_payload, undo_record}
-use Rattle.shore_analysis.specs.Meant.{AreMeant}
+use Rattle.shore_analysis.specs.KeptMeant.{AreMeantKept}
+use Rattle.shore_analysis.proofs.KeptWholes.{none_is_cut}
 use Rattle.laws_runs.specs.SlotCounts.{FitsBehind}
-use Rattle.shore_analysis.specs.Losers.{HasLosers, IsNextToUndo, turns_left}
+use Rattle.shore_analysis.specs.Losers.{CutsOffEnded, HasLosers, IsNextToUndo, turns_left}
 use Rattle.shore_restart.specs.declared.turns.Undo.{Undo}
 use Rattle.shore_restart.specs.Doubts.{reserved_told}
 use Rattle.shore_restart.specs.Room.{IsRoomBehind, LeavesRoom}
@@ -40,12 +41,12 @@ pub turn_of : (g : Geometry) (log : List LogRecord) (stream_bytes : ℕ) (undo :
     → (next : Option LogRecord) (r : LogRecord) → next ≡ Some r
     → ((log : List LogRecord) → HasLosers log undo.losers → IfSome next (λ r. IsLoser log r.txn))
     → ((log : List LogRecord) → HasLosers log undo.losers → IfSome next (λ r. IsNextToUndo log r.txn))
-    → ((g : Geometry) (turns : List ℕ) (log : List LogRecord) → AreMeant g found → IsUndoneTo found turns log → HasLosers log undo.losers → IfSome next (λ r. r ≡ undo_record log r.txn))
+    → ((g : Geometry) (whole : List LogRecord) (turns : List ℕ) (log : List LogRecord) → CutsOffEnded 0 whole → found ≡ drop 0 whole → AreMeantKept g 0 found → IsUndoneTo whole turns log → HasLosers log undo.losers → IfSome next (λ r. r ≡ undo_record log r.txn))
     → IsTurn log r
 turn_of g log stream_bytes undo of found same next r is loser greatest undoes = record {
   loser = if_some (λ r. IsLoser log r.txn) next r is (loser log of.losers);
   next = if_some (λ r. IsNextToUndo log r.txn) next r is (greatest log of.losers);
-  is = if_some (λ r. r ≡ undo_record log r.txn) next r is (undoes g [] log (subst (AreMeant g) (sym same) of.meant) (sym same) of.losers);
+  is = if_some (λ r. r ≡ undo_record log r.txn) next r is (undoes g found [] log (none_is_cut found) refl (subst (AreMeantKept g 0) (sym same) of.meant) (sym same) of.losers);
 }
 
 module _ (g : Geometry) (log : List LogRecord) (stream_bytes : ℕ) (undo : Undo) (of : IsUndoOf g log stream_bytes undo) (r : LogRecord) (turn : IsTurn log r) where
@@ -82,7 +83,7 @@ module _ (g : Geometry) (log : List LogRecord) (stream_bytes : ℕ) (undo : Undo
       subst (λ (x : Geometry). IsUndoOf x later bytes new) (sym there)
       (subst (λ (n : ℕ). IsUndoOf g later n new) (sym long)
       (subst (λ (l : List LogRecord). IsUndoOf g l stream_bytes new) (sym same) (record {
-        meant = subst (λ (x : LogRecord). AreMeant g (log ++ x ∷ [])) (sym turn.is) (undo_kept_meant g log r.txn of.meant turn.loser);
+        meant = subst (λ (x : LogRecord). AreMeantKept g 0 (log ++ x ∷ [])) (sym turn.is) (undo_kept_meant g log r.txn of.meant turn.loser);
         losers = losers;
         room = room;
       })))

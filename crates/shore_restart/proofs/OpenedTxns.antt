@@ -30,11 +30,11 @@ use Rattle.laws_calls.specs.CallHistories.{HasGrantedLocks}
 use Rattle.laws_calls.specs.Resolves.{rollback_number}
 use Rattle.laws_calls.specs.States.{State}
 use Rattle.laws_runs.specs.SlotCounts.{slot_count}
-use Rattle.shore_analysis.specs.Meant.{AreMeant}
+use Rattle.shore_analysis.specs.KeptMeant.{AreMeantKept}
 use Rattle.shore_analysis.specs.Tables.{IsNext}
 use Rattle.shore_analysis.proofs.Answered.{last_named}
 use Rattle.shore_analysis.proofs.Counted.{last_is_one}
-use Rattle.shore_analysis.proofs.Phases.{in_doubt_runs}
+use Rattle.shore_analysis.proofs.WholeRecords.{doubts_run}
 use Rattle.shore_locks.specs.Orderly.{IsOfUse}
 use Rattle.shore_locks.proofs.Members.{All-In, In, In-All, In-Contains}
 use Rattle.shore_path.specs.Restoring.{NobodyWaits}
@@ -68,9 +68,9 @@ below_undone n log (t ∷ turns) last undone all =
     (recursion-push (λ (r : LogRecord). r.txn < n) log (undo_record log t) all (subst (λ k. k < n) one.own here))
 
 -- so are those in doubt
-pub doubt_below : (g : Geometry) (log : List LogRecord) (n : ℕ) → AreMeant g log → AllByRecursion (λ r. r.txn < n) log → (d : LoggedDoubt) → IsAmong d (doubts_in log) → (0 < d.txn) × (d.txn < n)
+pub doubt_below : (g : Geometry) (log : List LogRecord) (n : ℕ) → AreMeantKept g 0 log → AllByRecursion (λ r. r.txn < n) log → (d : LoggedDoubt) → IsAmong d (doubts_in log) → (0 < d.txn) × (d.txn < n)
 doubt_below g log n meant all d among =
-    let runs = in_doubt_runs g log meant d.txn (in_doubt_here log d among) in
+    let runs = doubts_run g log meant d.txn (in_doubt_here log d among) in
     let one = last_is_one log d.txn runs.known in
     (runs.some, subst (λ (k : ℕ). k < n) one.own (recursion-at (λ (r : LogRecord). r.txn < n) log one.at one.found all one.here))
 
@@ -85,13 +85,13 @@ no_rollback t = by_push (λ log. has is_rollback t log ≡ false → rollback_nu
 
 -- ---- one in doubt, over the log that undo leaves
 
-module _ (g : Geometry) (found : List LogRecord) (turns : List ℕ) (last : List LogRecord) (meant : AreMeant g found) (undone : IsUndoneTo found turns last) (d : LoggedDoubt) (t : Txn)
+module _ (g : Geometry) (found : List LogRecord) (turns : List ℕ) (last : List LogRecord) (meant : AreMeantKept g 0 found) (undone : IsUndoneTo found turns last) (d : LoggedDoubt) (t : Txn)
     (among : IsAmong d (doubts_in found)) (of : IsGivenBack found d t) where
   doubt : logs.is_in_doubt d.txn found ≡ true
   doubt = in_doubt_here found d among
 
   some : 0 < d.txn
-  some = (in_doubt_runs g found meant d.txn doubt).some
+  some = (doubts_run g found meant d.txn doubt).some
 
   -- its Prepare is its last record, and it has no decision
   given_logged : IsLogged last t
@@ -170,7 +170,7 @@ module _ (ready : RecoveryState) (control : Control) (stream_bytes : ℕ) where
   }
 
   -- the control stands for it
-  module _ (g : Geometry) (found : List LogRecord) (turns : List ℕ) (limit : ℕ) (meant : AreMeant g found) (undone : IsUndoneTo found turns ready.log) (back : HasDoubtsBack limit found control)
+  module _ (g : Geometry) (found : List LogRecord) (turns : List ℕ) (limit : ℕ) (meant : AreMeantKept g 0 found) (undone : IsUndoneTo found turns ready.log) (back : HasDoubtsBack limit found control)
       (next : IsNext found (next_in (txns_in control))) where
     abbrev below : AllByRecursion (λ r. r.txn < next_in (txns_in control)) found
     below = recursion_from_All (λ (r : LogRecord). r.txn < next_in (txns_in control)) found next.above

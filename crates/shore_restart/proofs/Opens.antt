@@ -19,7 +19,7 @@ use Rattle.laws_lives.proofs.WritersTold.{leaves_told}
 use Rattle.laws_calls.specs.States.{State, page_slots}
 use Rattle.laws_runs.specs.StoredRuns.{IsOpenedOver}
 use Rattle.laws_heaps.specs.LoggedHeaps.{IsStoreOf}
-use Rattle.shore_analysis.specs.Meant.{AreMeant}
+use Rattle.shore_analysis.specs.KeptMeant.{AreMeantKept}
 use Rattle.shore_analysis.specs.Tables.{IsNext}
 use Rattle.shore_analysis.proofs.InTurn.{in_order_undone}
 use Rattle.shore_heap.specs.declared.heap.Heap.{Heap}
@@ -47,7 +47,7 @@ use Rattle.shore_restart.proofs.Unkept.{are_told, still_told}
 
 -- ---- the state
 
-module _ (ready : RecoveryState) (control : Control) (stream_bytes : ℕ) (g : Geometry) (found : List LogRecord) (turns : List ℕ) (limit : ℕ) (meant : AreMeant g found)
+module _ (ready : RecoveryState) (control : Control) (stream_bytes : ℕ) (g : Geometry) (found : List LogRecord) (turns : List ℕ) (limit : ℕ) (meant : AreMeantKept g 0 found)
     (undone : IsUndoneTo found turns ready.log) (back : HasDoubtsBack limit found control) (next : IsNext found (next_in (txns_in control))) where
   opened_over : IsRecoverable ready → ready.redone ≡ length ready.log → Lawful found → HasNoLosers ready.log → IsRoomBehind ready.log stream_bytes (room_in (txns_in control))
       → (txns : List LogTxn) → IsTable found txns → (o : Opening) → IsOpeningOf found o → IsOpenedOver o ready (opened_state ready control stream_bytes)
@@ -77,7 +77,7 @@ module _ (ready : RecoveryState) (control : Control) (stream_bytes : ℕ) (g : G
 module _ {T V : Type 0} {G : tail.Ghosts T} {H : disk.Ghosts V} (core : Core T V G H) (heap : Heap V H) (control : Control) (front : List ℕ) (left : ℕ → List ℕ)
     (found log : List LogRecord) (stream_bytes : ℕ) (ready : RecoveryState) where
   -- what is made of a heap and a control that a restart has left opens over its store
-  pub opens_in : (g : Geometry) → AreMeant g found → ready.log ≡ log → Lawful found → (undone : IsUndoneSoFar found log) → HasNoLosers log → ready.redone ≡ length ready.log
+  pub opens_in : (g : Geometry) → AreMeantKept g 0 found → ready.log ≡ log → Lawful found → (undone : IsUndoneSoFar found log) → HasNoLosers log → ready.redone ≡ length ready.log
       → StandsWith (kept_in (txns_in control)) front left heap ready → (limit : ℕ) → HasDoubtsBack limit found control → IsNext found (next_in (txns_in control))
       → IsRoomBehind log stream_bytes (room_in (txns_in control)) → (txns : List LogTxn) → IsTable found txns
       → ((s : State) → s.log ≡ ready.log → s.durable ≡ ready.durable → s.failed ≡ false → HasControl control s → Shows (kept_in (txns_in control)) heap front left (page_slots s)
@@ -104,7 +104,7 @@ module _ {T V : Type 0} {G : tail.Ghosts T} {H : disk.Ghosts V} (core : Core T V
 
 -- ---- what the core asks
 
-module _ (g : Geometry) (found log : List LogRecord) (undone : IsUndoneSoFar found log) (meant : AreMeant g found) (limit : ℕ) (control : Control) (back : HasDoubtsBack limit found control) where
+module _ (g : Geometry) (found log : List LogRecord) (undone : IsUndoneSoFar found log) (meant : AreMeantKept g 0 found) (limit : ℕ) (control : Control) (back : HasDoubtsBack limit found control) where
   -- the last record of each is one of the log's
   pub are_earlier : (t : Txn) → IsAmong t (table.txns_in (txns_in control)) → last_of t ≤ length log
   are_earlier t among =

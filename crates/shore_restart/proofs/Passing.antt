@@ -13,7 +13,7 @@ use Rattle.laws_lives.specs.Recovery.{RecoveryState}
 use Rattle.laws_lives.specs.Undo.{HasNoLosers}
 use Rattle.laws_runs.specs.SlotCounts.{slots_left}
 use Rattle.laws_heaps.proofs.SettledSlots.{shows_only, slots_done}
-use Rattle.shore_analysis.specs.Meant.{AreMeant}
+use Rattle.shore_analysis.specs.KeptMeant.{AreMeantKept}
 use Rattle.shore_analysis.proofs.InTurn.{in_order_undone}
 use Rattle.shore_heap.specs.Heaps.{geometry_of}
 use Rattle.shore_heap.specs.declared.heap.Heap.{Heap}
@@ -36,10 +36,10 @@ use Rattle.shore_restart.proofs.Unkept.{are_told, still_told, unkept}
 
 -- ---- the log that was found
 
-pub meant_by : (g h : Geometry) (log rs : List LogRecord) → h ≡ g → rs ≡ log → AreMeant h rs → AreMeant g log
-meant_by g h log rs geometry same meant = subst (λ (x : Geometry). AreMeant x log) geometry (subst (AreMeant h) same meant)
+pub meant_by : (g h : Geometry) (log rs : List LogRecord) → h ≡ g → rs ≡ log → AreMeantKept h 0 rs → AreMeantKept g 0 log
+meant_by g h log rs geometry same meant = subst (λ (x : Geometry). AreMeantKept x 0 log) geometry (subst (AreMeantKept h 0) same meant)
 
-pub taken_by : (g h : Geometry) (log rs : List LogRecord) → h ≡ g → rs ≡ log → AreMeant g log → CanHold h.max_locks (doubts_in rs) → IsTaken g log
+pub taken_by : (g h : Geometry) (log rs : List LogRecord) → h ≡ g → rs ≡ log → AreMeantKept g 0 log → CanHold h.max_locks (doubts_in rs) → IsTaken g log
 taken_by g h log rs geometry same meant hold = (meant, subst (λ (x : Geometry). CanHold x.max_locks (doubts_in log)) geometry (subst (λ (l : List LogRecord). CanHold h.max_locks (doubts_in l)) same hold))
 
 -- its table, with another room
@@ -58,7 +58,7 @@ module _ {V : Type 0} {H : Ghosts V} (front : List ℕ) (disk : ℕ → List ℕ
       shows_only heap disk s stands.store stands.settled front stands.slots stands.shows p has ∙ slots_done s p stands.recoverable (stands.store.done p) redone ∙ ap (λ (l : List LogRecord). slots_left l p) same
 
   -- what finds no room there is an image that one in doubt may put back
-  pub misfit_behind : (found log : List LogRecord) (txns : Transactions) (n : ℕ) → s.log ≡ log → IsUndoneSoFar found log → TurnsFit found log → HasDoubts found txns → AreMeant (geometry_of heap) log → HasNoLosers log
+  pub misfit_behind : (found log : List LogRecord) (txns : Transactions) (n : ℕ) → s.log ≡ log → IsUndoneSoFar found log → TurnsFit found log → HasDoubts found txns → AreMeantKept (geometry_of heap) 0 log → HasNoLosers log
       → CannotKeep txns stands.slots n → IsMisfit found n
   misfit_behind found log txns n same undone fit back meant none finds =
       let told = still_told found undone.0 log txns (in_order_undone found undone.0 log undone.1) (are_told found txns back) in

@@ -1,10 +1,11 @@
 -- Redo of one record: a page that is fetched, and the record done on it if it is missing there.
-use Rattle.std.proofs.Common.{◌≡◌, ◌≤◌, ◌<◌, ◌+◌, ◌-◌, ◌⊎◌, ℕ, List, [], ◌∷◌, ◌++◌, Bool, Option, Some, None, Result, Ok, Err, inl, inr, refl, sym, ap, subst, ◌∙◌, take, arith}
+use Rattle.std.proofs.Common.{◌≡◌, ◌≤◌, ◌<◌, ◌+◌, ◌-◌, ◌⊎◌, ℕ, List, [], ◌∷◌, ◌++◌, Bool, Option, Some, None, Result, Ok, Err, inl, inr, refl, sym, ap, subst, ◌∙◌, length, take, arith}
 use Rattle.std.specs.Prelude.{IsSomeAnd, slice_get}
 use Rattle.shore_types.specs.Images.{Image, image_len}
 use Rattle.shore_types.specs.Layout.{HasPage, HasSlot}
 use Rattle.shore_types.specs.declared.layout.Geometry.{Geometry}
-use Rattle.shore_analysis.specs.Meant.{AreMeant, Means}
+use Rattle.shore_analysis.specs.KeptMeant.{AreMeantKept, SaysInBounds}
+use Rattle.shore_analysis.specs.Meant.{Means}
 use Rattle.shore_types.specs.declared.ids.PageId.{PageId}
 use Rattle.shore_types.specs.declared.ids.Rid.{Rid}
 use Rattle.shore_disk.specs.Device.{DeviceHistory, LeavesOnly}
@@ -76,8 +77,20 @@ id_meant g before t payload.CheckpointBegin id means is = absurd means
 id_meant g before t (payload.CheckpointEnd begin next txns dirty) id means is = absurd means
 id_meant g before t (payload.Anchor checkpoint tail) id means is = absurd means
 
-pub meant_there : (g : Geometry) (log : List LogRecord) (n : ℕ) (r : LogRecord) (id : Rid) → AreMeant g log → slice_get log n ≡ Some r → id_in r.payload ≡ Some id → HasSlot g id
-meant_there g log n r id meant at is = id_meant g (take n log) r.txn r.payload id (meant n r at).0.says is
+-- .. so does that of a record in bounds
+id_inside : (g : Geometry) (n : ℕ) (p : Payload) (id : Rid) → SaysInBounds g n p → id_in p ≡ Some id → HasSlot g id
+id_inside g n (payload.Change there was image) id inside is = let same : there ≡ id = cc in subst (HasSlot g) same inside
+id_inside g n (payload.Compensation there image undo_next) id inside is = let same : there ≡ id = cc in subst (HasSlot g) same inside
+id_inside g n payload.Commit id inside is = absurd cc
+id_inside g n payload.End id inside is = absurd cc
+id_inside g n (payload.Prepare global granules) id inside is = absurd cc
+id_inside g n payload.RollbackDecided id inside is = absurd cc
+id_inside g n payload.CheckpointBegin id inside is = absurd cc
+id_inside g n (payload.CheckpointEnd begin next txns dirty) id inside is = absurd cc
+id_inside g n (payload.Anchor checkpoint tail) id inside is = absurd cc
+
+pub meant_there : (g : Geometry) (log : List LogRecord) (n : ℕ) (r : LogRecord) (id : Rid) → AreMeantKept g 0 log → slice_get log n ≡ Some r → id_in r.payload ≡ Some id → HasSlot g id
+meant_there g log n r id meant at is = id_inside g (0 + 1 + length (take n log)) r.payload id (meant n r at).now.bounds is
 
 module _ {V : Type 0} {H : Ghosts V} where
   -- after a fetch that was answered the heap stands

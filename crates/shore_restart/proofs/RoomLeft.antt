@@ -8,12 +8,10 @@ use Rattle.std.proofs.lemmas.List.Sorted.{All-permutation}
 use Rattle.shore_types.specs.declared.layout.TheConstants.{LONGEST_FRAME}
 use Rattle.shore_model.specs.declared.log_records.LogRecord.{LogRecord}
 use Rattle.shore_model.specs.declared.log_records.LogTxn.{LogTxn}
-use Rattle.shore_model.specs.Logs.{HasNumbers, IsEntry, in_doubt_in, is_prepared}
+use Rattle.shore_model.specs.Logs.{HasNumbers, IsEntry, IsTable, in_doubt_in, is_prepared}
 use Rattle.laws_lives.specs.Doubts.{LoggedDoubt, doubts_in}
 use Rattle.laws_lives.proofs.DoubtRecords.{doubt_txns}
 use Rattle.laws_calls.specs.States.{cost_of_log}
-use Rattle.shore_analysis.specs.Tables.{AreTables}
-use Rattle.shore_analysis.specs.declared.analysis.Tables.{Tables}
 use Rattle.shore_txn.specs.declared.log_room.LogRoom.{LogRoom}
 use Rattle.shore_restart.specs.Doubts.{AreEntriesOfDoubts, reserved_told}
 use Rattle.shore_restart.specs.Room.{HasSums, IsRoomBehind, LeavesRoomBeside}
@@ -30,14 +28,14 @@ picked_numbers log p (e ∷ es) entries = by (p e) (picked_numbers log p es entr
     by true rest = (entries.0.1, rest)
     by false rest = rest
 
-pub are_entries : (log : List LogRecord) (tables : Tables) (found : List LogTxn) → AreTables log tables → IsPermutation (filter (λ e. is_prepared e.state) tables.txns) found → map (λ e. e.txn) found ≡ in_doubt_in log
+pub are_entries : (log : List LogRecord) (txns found : List LogTxn) → IsTable log txns → IsPermutation (filter (λ e. is_prepared e.state) txns) found → map (λ e. e.txn) found ≡ in_doubt_in log
     → AreEntriesOfDoubts log found
-are_entries log tables found are moved order =
-    let picked = filter (λ (e : LogTxn). is_prepared e.state) tables.txns in
+are_entries log txns found are moved order =
+    let picked = filter (λ (e : LogTxn). is_prepared e.state) txns in
     record {
       order = order;
       numbers = recursion_from_All (HasNumbers log) found (All-permutation (HasNumbers log) picked found moved
-          (All-from_recursion (HasNumbers log) picked (picked_numbers log (λ e. is_prepared e.state) tables.txns (recursion_from_All (IsEntry log) tables.txns are.txns.each))));
+          (All-from_recursion (HasNumbers log) picked (picked_numbers log (λ e. is_prepared e.state) txns (recursion_from_All (IsEntry log) txns are.each))));
     }
 
 pub as_many_doubts : (log : List LogRecord) (found : List LogTxn) → map (λ e. e.txn) found ≡ in_doubt_in log → length found ≡ length (doubts_in log)

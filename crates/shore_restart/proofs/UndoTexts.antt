@@ -18,10 +18,11 @@ use Rattle.laws_lives.proofs.Numbers.{last_own, newest_other}
 use Rattle.laws_lives.proofs.OneMore.{by_push}
 use Rattle.laws_lives.proofs.UndoChains.{unanswered_chain}
 use Rattle.laws_lives.proofs.Writers.{same_or_not}
-use Rattle.shore_analysis.specs.Meant.{AreMeant}
+use Rattle.shore_analysis.specs.KeptMeant.{AreMeantKept}
 use Rattle.shore_analysis.proofs.Counted.{last_is_one}
-use Rattle.shore_analysis.proofs.MeantLogs.{AreMeant-push}
-use Rattle.shore_analysis.proofs.Undone.{undo_goes_on, undo_meant}
+use Rattle.shore_analysis.proofs.Undone.{undo_meant}
+use Rattle.shore_analysis.proofs.UndoneKept.{undo_kept}
+use Rattle.shore_analysis.proofs.WholeRecords.{meant_of_each}
 use Rattle.shore_restart.proofs.Redoing.{id_meant}
 
 all_at : {A : Type 0} (P : A → Type 0) (xs : List A) (n : ℕ) (x : A) → All P xs → slice_get xs n ≡ Some x → P x
@@ -72,9 +73,9 @@ module _ (log : List LogRecord) (t : ℕ) (fit : All Fits log) (short : length l
       }
 
 -- what it changes lies in the geometry
-pub undo_there : (g : Geometry) (log : List LogRecord) (t : ℕ) → AreMeant g log → IsLoser log t → (id : Rid) → id_in (undo_record log t).payload ≡ Some id → HasSlot g id
-undo_there g log t meant loser id says = id_meant g log t (undo_record log t).payload id (undo_meant g log t meant loser).says says
+pub undo_there : (g : Geometry) (log : List LogRecord) (t : ℕ) → AreMeantKept g 0 log → IsLoser log t → (id : Rid) → id_in (undo_record log t).payload ≡ Some id → HasSlot g id
+undo_there g log t meant loser id says = id_meant g log t (undo_record log t).payload id (undo_meant g log t (meant_of_each g log meant t loser.is_one) loser).says says
 
 -- with it the log means what it has to
-pub undo_kept_meant : (g : Geometry) (log : List LogRecord) (t : ℕ) → AreMeant g log → IsLoser log t → AreMeant g (log ++ undo_record log t ∷ [])
-undo_kept_meant g log t meant loser = AreMeant-push g log (undo_record log t) meant (undo_goes_on g log t meant loser)
+pub undo_kept_meant : (g : Geometry) (log : List LogRecord) (t : ℕ) → AreMeantKept g 0 log → IsLoser log t → AreMeantKept g 0 (log ++ undo_record log t ∷ [])
+undo_kept_meant g log t meant loser = undo_kept g 0 log meant t loser

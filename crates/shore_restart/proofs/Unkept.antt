@@ -26,7 +26,7 @@ use Rattle.laws_lives.proofs.UndoChains.{unanswered_chain}
 use Rattle.laws_room.proofs.Leaving.{AreOn}
 use Rattle.laws_runs.specs.SlotCounts.{slot_count, slots_behind, slots_left}
 use Rattle.laws_runs.proofs.SlotCounts.{behind_here, slot_count-push}
-use Rattle.shore_analysis.specs.Meant.{AreMeant}
+use Rattle.shore_analysis.specs.KeptMeant.{AreMeantKept}
 use Rattle.shore_analysis.proofs.MeantLogs.{own_or_last}
 use Rattle.shore_sessions.specs.Standing.{as_change}
 use Rattle.shore_txn.specs.ActiveTxns.{all_changes}
@@ -150,7 +150,7 @@ module _ (log : List LogRecord) (txns : Transactions) (told : IsTold log txns) w
   entry_logged e among = are_logged log (doubts_in log) (as_change e) (subst (IsAmong (as_change e)) (sym told) (turned_among e changes among))
 
   -- its page is there
-  pub entry_there : (g : Geometry) → AreMeant g log → (e : UndoEntry) → IsAmong e changes → HasPage g e.id.page
+  pub entry_there : (g : Geometry) → AreMeantKept g 0 log → (e : UndoEntry) → IsAmong e changes → HasPage g e.id.page
   entry_there g meant e among = let is = entry_logged e among in (meant_there g log (e.lsn - 1) is.found e.id meant is.here (ap id_in is.says)).0
 
   -- its number is one of the log's
@@ -197,7 +197,7 @@ module _ (log : List LogRecord) (txns : Transactions) (told : IsTold log txns) w
 
   -- .. as the log leaves them
 
-  module _ (g : Geometry) (slots : PageId → List Slot) (meant : AreMeant g log) (left : (p : PageId) → HasPage g p → slots p ≡ slots_left log p) where
+  module _ (g : Geometry) (slots : PageId → List Slot) (meant : AreMeantKept g 0 log) (left : (p : PageId) → HasPage g p → slots p ≡ slots_left log p) where
     fit_same : (p : PageId) (es : List UndoEntry) → ((e : UndoEntry) → IsAmong e es → HasPage g e.id.page) → FitIn (claims_on p es) (slots p) → FitIn (claims_on p es) (slots_left log p)
     fit_same p es there fit = ⊎_elim
         (λ none. subst (λ (kept : List (ℕ × ℕ)). FitIn kept (slots_left log p)) (sym none) tt)

@@ -26,7 +26,7 @@ use Rattle.laws_lives.specs.Views.{IsAmong}
 use Rattle.laws_room.specs.LogRooms.{compensation_costs}
 use Rattle.laws_runs.specs.SlotCounts.{slots_left}
 use Rattle.shore_analysis.specs.Doubts.{said_at}
-use Rattle.shore_analysis.specs.Meant.{AreMeant, IsFirstUnmeant}
+use Rattle.shore_analysis.specs.KeptMeant.{AreMeantKept, IsFirstUnmeantKept}
 
 -- the entries are those of the ones in doubt, in the order of their Prepares, each with its numbers
 pub record AreEntriesOfDoubts (log : List LogRecord) (entries : List LogTxn) : Type 0 where
@@ -93,11 +93,11 @@ pub record CannotHold (limit : ℕ) (log : List LogRecord) (n : ℕ) : Type 0 wh
 
 -- a restart may work on the log: its records mean what they have to, and those in doubt can all hold what is theirs
 abbrev pub IsTaken : Geometry → List LogRecord → Type 0
-IsTaken g log = AreMeant g log × CanHold g.max_locks (doubts_in log)
+IsTaken g log = AreMeantKept g 0 log × CanHold g.max_locks (doubts_in log)
 
 -- it may not, by the record of this number: the first that does not mean what it has to, or if all do, the Prepare of the first in doubt that finds no place
 abbrev pub IsRefusedBy : Geometry → List LogRecord → ℕ → Type 0
-IsRefusedBy g log n = IsFirstUnmeant g log n ⊎ (AreMeant g log × CannotHold g.max_locks log n)
+IsRefusedBy g log n = IsFirstUnmeantKept g 0 log n ⊎ (AreMeantKept g 0 log × CannotHold g.max_locks log n)
 
 -- ---- their locks
 

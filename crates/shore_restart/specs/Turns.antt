@@ -4,7 +4,7 @@ use Rattle.shore_types.specs.declared.layout.Geometry.{Geometry}
 use Rattle.shore_model.specs.declared.log_records.LogRecord.{LogRecord}
 use Rattle.shore_model.specs.Logs.{unanswered, undo_next_of}
 use Rattle.laws_lives.specs.Undo.{HasNoLosers, IsLoser, undo_record}
-use Rattle.shore_analysis.specs.Meant.{AreMeant}
+use Rattle.shore_analysis.specs.KeptMeant.{AreMeantKept}
 use Rattle.laws_runs.specs.SlotCounts.{FitsBehind}
 use Rattle.shore_analysis.specs.Losers.{HasLosers, IsNextToUndo, IsUndoneInOrder, turns_left}
 use Rattle.shore_restart.specs.declared.turns.Undo.{Undo}
@@ -14,7 +14,7 @@ use Rattle.shore_restart.specs.Room.{IsRoomBehind, LeavesRoom}
 
 -- a log that analysis takes, its losers, and its room in a stream of this length
 pub record IsUndoOf (g : Geometry) (log : List LogRecord) (stream_bytes : ℕ) (undo : Undo) : Type 0 where
-  pub meant : AreMeant g log
+  pub meant : AreMeantKept g 0 log
   pub losers : HasLosers log undo.losers
   pub room : IsRoomBehind log stream_bytes undo.room
 

@@ -17,7 +17,7 @@ ghost use Rattle.shore_model.specs.Locks.{path};
 ghost use Rattle.shore_locks.specs.Orderly.{IsOrderly};
 ghost use Rattle.shore_path.specs.Restoring.{KeepsOthers, NobodyWaits, StopsAmong, TakesWhole};
 ghost use Rattle.shore_path.specs.Walks.{asked_of};
-ghost use Rattle.shore_analysis.specs.Meant.{AreMeant};
+ghost use Rattle.shore_analysis.specs.KeptMeant.{AreMeantKept};
 ghost use Rattle.shore_analysis.specs.Tables.{IsNext};
 ghost use Rattle.laws_lives.specs.Doubts.{LoggedDoubt, doubts_in, undo_in};
 ghost use Rattle.laws_lives.specs.Views.{IsAmong};
@@ -32,7 +32,7 @@ ghost use Rattle.shore_restart.specs.GivenBack.{HasChangesBack, HasDoubts, HasLo
 ghost use Rattle.shore_restart.specs.Room.{HasSums};
 
 use crate::errors::RestartError;
-use shore_analysis::{prepare_at, record_at, to_be_undone};
+use shore_analysis::{prepare_at, record_at, to_be_undone_behind};
 use shore_locks::LockTable;
 use shore_logrec::{LogRecord, Payload, compensation_cost};
 use shore_model::LogTxn;
@@ -53,7 +53,7 @@ pub fn locks_of(
     log: &[LogRecord],
     doubts: &[LogTxn],
 ) -> Result<LockTable, RestartError>
-    requires meant { AreMeant geometry.now log.now }
+    requires meant { AreMeantKept geometry.now 0 log.now }
     requires doubts { AreEntriesOfDoubts log.now doubts.now }
     ensures back { IfOk result (HasLocksBack geometry.now.max_locks log.now) }
     ensures hold { OnOk result (CanHold geometry.now.max_locks (doubts_in log.now)) }
@@ -153,7 +153,7 @@ pub fn txns_of(
     log: &[LogRecord],
     doubts: &[LogTxn],
 ) -> Result<Transactions, RestartError>
-    requires meant { (g : Geometry) × AreMeant g log.now }
+    requires meant { (g : Geometry) × AreMeantKept g 0 log.now }
     requires fit { All Fits log.now }
     requires doubts { AreEntriesOfDoubts log.now doubts.now }
     requires next { IsNext log.now next }
@@ -182,7 +182,7 @@ fn restore_txn(
     log: &[LogRecord],
     entry: &LogTxn,
 ) -> Result<(), RestartError>
-    requires meant { (g : Geometry) × AreMeant g log.now }
+    requires meant { (g : Geometry) × AreMeantKept g 0 log.now }
     requires fit { All Fits log.now }
     requires doubt { IsTrue (is_in_doubt entry.now.txn log.now) }
     requires numbers { HasNumbers log.now entry.now }
@@ -220,7 +220,8 @@ fn restore_changes(
     newest: Lsn,
 ) -> Result<(), RestartError>
     requires seated { IsSeatIn seat.now txns.old }
-    requires meant { (g : Geometry) × AreMeant g log.now }
+    requires some { 0 < seat.now.txn }
+    requires meant { (g : Geometry) × AreMeantKept g 0 log.now }
     requires fit { All Fits log.now }
     requires none { AtSeat seat.now txns.old (λ t. entries_of t ≡ []) }
     requires newest { newest ≡ undo_next_of (unanswered seat.now.txn log.now) }
@@ -233,7 +234,7 @@ fn restore_changes(
         × ((room_in txns.old).stream_bytes < (room_in txns.old).kept + ((room_in txns.old).reserved + compensation_costs (undo_in log.now seat.now.txn).images) + LONGEST_FRAME))) }
 {
     let mut claims = BTreeMap::new(alloc);
-    for number in &to_be_undone(alloc, log, newest)? {
+    for number in &to_be_undone_behind(alloc, 0, log, newest)? {
         let Some((id, before)) = change_at(log, *number) else {
             return Err(RestartError::BadRecord(*number));
         };

@@ -3,7 +3,7 @@ ghost use Rattle.std.specs.Prelude.{◌≡◌, ◌↔◌, ◌+◌, ◌*◌, ℕ,
 ghost use Rattle.shore_types.specs.declared.layout.Geometry.{Geometry};
 ghost use Rattle.shore_model.specs.declared.holds.Hold.{Hold};
 ghost use Rattle.shore_model.specs.declared.log_records.LogRecord.{LogRecord};
-ghost use Rattle.shore_analysis.specs.Meant.{AreMeant};
+ghost use Rattle.shore_analysis.specs.KeptMeant.{AreMeantKept};
 ghost use Rattle.laws_lives.specs.Doubts.{AreRestored, DoubtsStand, NeedMore, doubts_in};
 ghost use Rattle.laws_room.specs.LogRooms.{owed_by_all};
 ghost use Rattle.shore_types.specs.declared.layout.TheConstants.{ENDING_COST};
@@ -15,7 +15,7 @@ ghost use Rattle.shore_restart.specs.GivenBack.{HasDoubts};
 /// Those in doubt can all hold what is theirs exactly if they stand beside each other and their locks have no more nodes than there may be. Else there is one
 /// Prepare by which they cannot, and no other.
 pub fn doubts_hold_if_they_stand()
-    ensures stand { (g : Geometry) (log : List LogRecord) (limit : ℕ) → AreMeant g log
+    ensures stand { (g : Geometry) (log : List LogRecord) (limit : ℕ) → AreMeantKept g 0 log
         → CanHold limit (doubts_in log) ↔ (DoubtsStand log × (NeedMore limit (doubts_in log) → ⊥)) }
     ensures none { (log : List LogRecord) (limit n : ℕ) → CanHold limit (doubts_in log) → CannotHold limit log n → ⊥ }
     ensures one { (log : List LogRecord) (limit n m : ℕ) → CannotHold limit log n → CannotHold limit log m → n ≡ m }

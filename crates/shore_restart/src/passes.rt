@@ -1,6 +1,7 @@
 //! The passes of a restart over its two devices: analysis, redo, undo, and the force of undo's records.
 ghost use Rattle.std.specs.Prelude.{◌≡◌, ◌≢◌, ◌⊎◌, ◌<◌, ◌≤◌, [], ℕ, List, IfErr, IfOk, OnOk, length};
 ghost use Rattle.shore_disk.specs.Cause.{HasCause};
+ghost use Rattle.shore_model.specs.Logs.{IsTable};
 ghost use Rattle.shore_types.specs.Layout.{LocksInLimits};
 ghost use Rattle.shore_types.specs.declared.faults.Fault.{Fault};
 ghost use Rattle.shore_types.specs.declared.faults.Fault.TheVariants as Fault;
@@ -11,9 +12,10 @@ ghost use Rattle.shore_txn.specs.Transactions.{next_in, room_in};
 ghost use Rattle.laws_lives.specs.Recovery.{RecoveryState};
 ghost use Rattle.laws_lives.specs.Undo.{HasNoLosers};
 ghost use Rattle.shore_analysis.specs.declared.analysis.NotAnalysed.TheVariants as NotAnalysed;
-ghost use Rattle.shore_analysis.specs.declared.analysis.Tables.{Tables};
-ghost use Rattle.shore_analysis.specs.Meant.{AreMeant, IsFirstUnmeant};
-ghost use Rattle.shore_analysis.specs.Tables.{AreTables, IsNext};
+ghost use Rattle.shore_analysis.specs.declared.kept_tables.KeptTables.{KeptTables};
+ghost use Rattle.shore_analysis.specs.KeptMeant.{AreMeantKept, IsFirstUnmeantKept};
+ghost use Rattle.shore_analysis.specs.KeptTables.{AreKeptTables};
+ghost use Rattle.shore_analysis.specs.Tables.{IsNext};
 ghost use Rattle.shore_restart.specs.AnyPages.{AllFindRoom, IsBadOn};
 ghost use Rattle.shore_restart.specs.declared.errors.RestartError.{RestartError};
 ghost use Rattle.shore_restart.specs.declared.errors.RestartError.TheVariants as RestartError;
@@ -34,7 +36,7 @@ use crate::errors::RestartError;
 use crate::log_sums::room_of;
 use crate::redo::redo;
 use crate::turns::Undo;
-use shore_analysis::{Losers, NotAnalysed, Tables, analyse, in_doubt};
+use shore_analysis::{KeptTables, Losers, NotAnalysed, analyse_kept, in_doubt};
 use shore_disk::Disk;
 use shore_heap::Heap;
 use shore_log::LogDev;
@@ -136,12 +138,14 @@ fn tables_of(
     alloc: Global,
     geometry: &Geometry,
     records: &[LogRecord],
-) -> Result<Tables, RestartError>
-    ensures meant { OnOk result (AreMeant geometry.now records.now) }
-    ensures tables { IfOk result (AreTables records.now) }
-    ensures refused { IfErr result (λ error. (error ≡ RestartError.Memory) ⊎ ((n : ℕ) × (error ≡ RestartError.BadRecord n) × IsFirstUnmeant geometry.now records.now n)) }
+) -> Result<KeptTables, RestartError>
+    ensures meant { OnOk result (AreMeantKept geometry.now 0 records.now) }
+    ensures tables { IfOk result (AreKeptTables 0 0 records.now) }
+    ensures txns { IfOk result (λ tables. IsTable records.now tables.txns) }
+    ensures next { IfOk result (λ tables. IsNext records.now tables.next) }
+    ensures refused { IfErr result (λ error. (error ≡ RestartError.Memory) ⊎ ((n : ℕ) × (error ≡ RestartError.BadRecord n) × IsFirstUnmeantKept geometry.now 0 records.now n)) }
 {
-    match analyse(alloc, geometry, records) {
+    match analyse_kept(alloc, geometry, 0, Lsn(0), records) {
         Ok(tables) => Ok(tables),
         Err(error) => Err(refusal(error)),
     }

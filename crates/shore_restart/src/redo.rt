@@ -11,7 +11,7 @@ ghost use Rattle.shore_model.specs.declared.log_records.Payload.{Payload};
 ghost use Rattle.shore_model.specs.Logs.{id_in, image_in};
 ghost use Rattle.shore_heap.specs.Heaps.{faults_of, geometry_of};
 ghost use Rattle.laws_lives.specs.Recovery.{RecoveryState};
-ghost use Rattle.shore_analysis.specs.Meant.{AreMeant};
+ghost use Rattle.shore_analysis.specs.KeptMeant.{AreMeantKept};
 ghost use Rattle.shore_restart.specs.AnyPages.{AllFindRoom, FindsNoRoom, IsFirstMisfit};
 ghost use Rattle.shore_restart.specs.declared.errors.RestartError.{RestartError};
 ghost use Rattle.shore_restart.specs.declared.errors.RestartError.TheVariants as RestartError;
@@ -36,7 +36,7 @@ pub fn redo<V: Disk>(
     heap: &mut Heap<V>,
     log: &[LogRecord],
 ) -> Result<u64, RestartError>
-    requires meant { AreMeant (geometry_of heap.old) log.now }
+    requires meant { AreMeantKept (geometry_of heap.old) 0 log.now }
     ensures redone { (front : List ℕ) (disk : ℕ → List ℕ) (s : RecoveryState) → Stands front disk heap.old s → s.log ≡ log.now → s.durable ≡ length s.log → s.redone ≡ 0
         → (h : DeviceHistory) (log_front : List ℕ) → ((c : List ℕ) → may_leave h c → GivesPrefix log_front s c) → RedoesAll result h log_front front heap.old heap.new s }
     ensures missing { (front : List ℕ) (disk : ℕ → List ℕ) (s : RecoveryState) → Stands front disk heap.old s → s.log ≡ log.now → s.durable ≡ length s.log → s.redone ≡ 0

@@ -121,7 +121,7 @@ impl Undo {
         ensures volume_cause { HasCause (volume_answer result) (faults_of heap.old) (faults_of heap.new) }
         ensures log_cause { HasCause (log_answer result) (log_faults log.old) (log_faults log.new) }
     {
-        let Some(logged) = self.losers.next_record(alloc, log.records())? else {
+        let Some(logged) = self.losers.next_record_behind(alloc, 0, log.records())? else {
             return Ok(false);
         };
         let records = log.records().len() as u64;

@@ -13,13 +13,14 @@ use Rattle.laws_lives.proofs.DoubtsShown.{doubts_once}
 use Rattle.laws_lives.proofs.UndoRecords.{undone_lawful}
 use Rattle.shore_gate.specs.Checks.{IsFromOutside}
 use Rattle.laws_runs.specs.RoomyLogs.{AreRoomy}
-use Rattle.laws_runs.proofs.Opens.{has_numbers, meant, undo_fits}
+use Rattle.laws_runs.proofs.Opens.{has_numbers, undo_fits}
 use Rattle.laws_runs.proofs.Prefixes.{whole_roomy}
 use Rattle.laws_runs.proofs.Redoing.{each_fits}
+use Rattle.laws_runs.proofs.RoomyMeant.{all_kept_meant}
 use Rattle.laws_runs.proofs.Undecided.{some_owe_no_more}
 use Rattle.laws_runs.proofs.Undoing.{turns_are_roomy, undone_are_roomy}
 use Rattle.shore_analysis.proofs.InTurn.{in_order_undone}
-use Rattle.shore_analysis.specs.Meant.{MayBeNext}
+use Rattle.shore_analysis.proofs.KeptLawful.{none_unmeant}
 use Rattle.shore_restart.specs.declared.errors.RestartError.{RestartError}
 use Rattle.shore_restart.specs.declared.errors.RestartError.TheVariants as error
 use Rattle.shore_restart.specs.AnyPages.{IsBadOn, IsMisfitOn}
@@ -28,11 +29,6 @@ use Rattle.shore_restart.specs.Turns.{IsBadRecord, IsMisfit, IsUndoneSoFar, Lack
 use Rattle.shore_restart.specs.Doubts.{CannotHold, IsTaken, undos_told}
 use Rattle.shore_restart.proofs.DoubtLaws.{held_if_stand, none_cannot, reserved_same, taken_or_refused}
 use Rattle.shore_world.proofs.KeptDoubts.{doubts_of_log, doubts_told_once, none_unkept}
-
--- a record that is there is not one of which something does not hold that holds of each
-some_bad : {A : Type 0} (o : Option A) (P : A → Type 0) → IsSomeAnd o (λ a. P a → ⊥) → ((a : A) → o ≡ Some a → P a) → ⊥
-some_bad (Some a) P bad each = bad (each a refl)
-some_bad None P bad each = bad
 
 -- if a restart may work on the log, a bad record is a misfit
 pub bad_misfit : (g : Geometry) (log : List LogRecord) (n : ℕ) → IsTaken g log → IsBadRecord g log n → IsMisfit log n
@@ -71,12 +67,11 @@ module _ (g : Geometry) (stream_bytes least : ℕ) (short : stream_bytes ≤ MAX
   -- those in doubt can hold what is theirs
   pub none_without_place : (log : List LogRecord) (n : ℕ) → AreRoomy g stream_bytes least log → Lawful log → DoubtsStand log → CannotHold g.max_locks log n → ⊥
   none_without_place log n k lawful stand cannot =
-      none_cannot log g.max_locks n (held_if_stand g log g.max_locks (meant g stream_bytes least log k lawful) (stand, (whole_roomy g stream_bytes least log k).locks)) cannot
+      none_cannot log g.max_locks n (held_if_stand g log g.max_locks (all_kept_meant g stream_bytes least log k lawful) (stand, (whole_roomy g stream_bytes least log k).locks)) cannot
 
   -- each record means what it has to, and fits its page, as does what its undo brings back, and what the rollback of one in doubt may
   pub none_is_bad : (log : List LogRecord) (n : ℕ) → AreRoomy g stream_bytes least log → Lawful log → DoubtsStand log → IsBadRecord g log n → ⊥
-  none_is_bad log n k lawful stand (inl (inl unmeant)) =
-      some_bad (slice_get log (n - 1)) (λ r. MayBeNext g (take (n - 1) log) r) unmeant.here (λ r at. meant g stream_bytes least log k lawful (n - 1) r at)
+  none_is_bad log n k lawful stand (inl (inl unmeant)) = none_unmeant g 0 log n (all_kept_meant g stream_bytes least log k lawful) unmeant
   none_is_bad log n k lawful stand (inl (inr (all, cannot))) = none_without_place log n k lawful stand cannot
   none_is_bad log n k lawful stand (inr (taken, inl (some, (r, at, misfit)))) = misfit (each_fits g stream_bytes least log k (n - 1) r at)
   none_is_bad log n k lawful stand (inr (taken, inr (so_far, undone, fit, inl (t, loser, next, is, misfit)))) =

@@ -4,7 +4,7 @@ ghost use Rattle.shore_types.specs.Images.{Image};
 ghost use Rattle.shore_types.specs.Layout.{HasPage, IsInLimits};
 ghost use Rattle.shore_types.specs.declared.faults.Device.TheVariants as Device;
 ghost use Rattle.shore_types.specs.declared.ids.PageId.{PageId};
-ghost use Rattle.shore_types.specs.declared.layout.TheConstants.{MAX_PAGES, MIN_POOL_FRAMES};
+ghost use Rattle.shore_types.specs.declared.layout.TheConstants.{MAX_POOL_FRAMES, MIN_POOL_FRAMES};
 ghost use Rattle.shore_disk.specs.Cause.{HasCause};
 ghost use Rattle.shore_disk.specs.Device.{LeavesOnly, size, seen, Stands};
 ghost use Rattle.shore_gate.specs.Checks.{IsFromOutside};
@@ -46,7 +46,7 @@ pub fn open_volume<D: Disk>(
     requires long { size (D.history volume) ≡ volume_bytes geometry }
     requires limits { IsInLimits geometry }
     requires some { MIN_POOL_FRAMES ≤ frames }
-    requires most { frames ≤ MAX_PAGES }
+    requires most { frames ≤ MAX_POOL_FRAMES }
     ensures in_order { IsTrue (D.is_honest volume) → (image : List ℕ) → Stands (D.history volume) image
         → OnOk result ((pages : ℕ → List ℕ) × Shows geometry image pages) }
     ensures shows { IsTrue (D.is_honest volume) → (image : List ℕ) (texts : ℕ → List ℕ) (number : PageId → ℕ) (images : PageId → List Image)

@@ -56,7 +56,7 @@ impl<L: Disk, V: Disk> World<L, V> {
     ghost use Rattle.laws_lives.specs.Pages.{LoggedPages};
     ghost use Rattle.shore_model.specs.declared.log_records.LogRecord.{LogRecord};
     ghost use Rattle.shore_types.specs.declared.layout.Geometry.{Geometry};
-    ghost use Rattle.shore_types.specs.declared.layout.TheConstants.{MAX_PAGES, MIN_POOL_FRAMES};
+    ghost use Rattle.shore_types.specs.declared.layout.TheConstants.{MAX_POOL_FRAMES, MIN_POOL_FRAMES};
     ghost use Rattle.shore_core.specs.Replies.{Earns, Fails, NeedsForce, SameVolume, fault_at};
     ghost use Rattle.shore_world.specs.EventMoves.{all_moves};
     ghost use Rattle.shore_core.specs.Cores.{volume_of};
@@ -73,7 +73,7 @@ impl<L: Disk, V: Disk> World<L, V> {
         frames: usize,
     ) -> Result<World<L, V>, (Fault, L, V)>
         requires some { MIN_POOL_FRAMES ≤ frames }
-        requires most { frames ≤ MAX_PAGES }
+        requires most { frames ≤ MAX_POOL_FRAMES }
 
         // Its geometry is that of the labels.
         ensures fronts { IsTrue (L.is_honest log) → IsTrue (V.is_honest volume) → IfOk result (λ w. HaveFronts (geometry_in w) (L.history log) (V.history volume)) }

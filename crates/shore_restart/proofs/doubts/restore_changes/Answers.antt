@@ -15,6 +15,7 @@ use Rattle.laws_room.proofs.Costs.{compensation_bytes}
 use Rattle.shore_txn.specs.Transactions.{room_in, txns_in}
 use Rattle.shore_restart.specs.Room.{HasSums}
 use Rattle.shore_restart.proofs.ChangesBack.{as_many_numbers, becomes_all, becomes_more, changes_to_undo, claims_short, claims_then, costs_most, costs_then, images_to_undo, never_unread, numbered_at, reads_as, seat_kept, short_before, some_short, starts_at, told_images}
+use Rattle.shore_restart.proofs.NoAnchor.{each_whole}
 use Rattle.shore_restart.proofs.doubts.restore_changes.Goals as goal
 
 pub loop-number-init : goal.loop-number-init
@@ -36,7 +37,7 @@ returns-in_default-clause-refused c =
     let n = c.number-item.result in
     let xs = c.deref-number-items.result.now in
     let here : slice_get (reverse (map (λ (x : UnansweredChange). x.number) (unanswered t log))) i ≡ Some n =
-    subst (λ (ns : List ℕ). slice_get ns i ≡ Some n) (c.deref-number-items.ensures.value ∙ c.in_ok-to_be_undone.ensures c.requires.meant.0 t c.requires.meant.1 c.requires.newest)
+    subst (λ (ns : List ℕ). slice_get ns i ≡ Some n) (c.deref-number-items.ensures.value ∙ c.in_ok-to_be_undone_behind.ensures.all c.requires.meant.0 t c.requires.some c.requires.meant.1 (each_whole c.requires.meant.0 log c.requires.meant.1 t c.requires.some) c.requires.newest)
     (slice_get_read xs (length xs) i n refl c.loop-number-test.true c.number-item.is) in
     let its = numbered_at log t i n here in
     absurd (never_unread log n its.change its.logged its.number c.in_default.ensures.none)
@@ -53,7 +54,7 @@ returns-then-not-holds-clause-refused c =
     let n = c.number-item.result in
     let xs = c.deref-number-items.result.now in
     let here : slice_get (reverse (map (λ (x : UnansweredChange). x.number) (unanswered t log))) i ≡ Some n =
-    subst (λ (ns : List ℕ). slice_get ns i ≡ Some n) (c.deref-number-items.ensures.value ∙ c.in_ok-to_be_undone.ensures c.requires.meant.0 t c.requires.meant.1 c.requires.newest)
+    subst (λ (ns : List ℕ). slice_get ns i ≡ Some n) (c.deref-number-items.ensures.value ∙ c.in_ok-to_be_undone_behind.ensures.all c.requires.meant.0 t c.requires.some c.requires.meant.1 (each_whole c.requires.meant.0 log c.requires.meant.1 t c.requires.some) c.requires.newest)
     (slice_get_read xs (length xs) i n refl c.loop-number-test.true c.number-item.is) in
     let its = numbered_at log t i n here in
     let reads = reads_as log n c.in-Some.id c.in-Some.before.now its.change its.logged its.number c.in-Some.ensures.some in
@@ -91,7 +92,7 @@ loop-number-preserved c =
     let n = c.number-item.result in
     let xs = c.deref-number-items.result.now in
     let here : slice_get (reverse (map (λ (x : UnansweredChange). x.number) (unanswered t log))) i ≡ Some n =
-    subst (λ (ns : List ℕ). slice_get ns i ≡ Some n) (c.deref-number-items.ensures.value ∙ c.in_ok-to_be_undone.ensures c.requires.meant.0 t c.requires.meant.1 c.requires.newest)
+    subst (λ (ns : List ℕ). slice_get ns i ≡ Some n) (c.deref-number-items.ensures.value ∙ c.in_ok-to_be_undone_behind.ensures.all c.requires.meant.0 t c.requires.some c.requires.meant.1 (each_whole c.requires.meant.0 log c.requires.meant.1 t c.requires.some) c.requires.newest)
     (slice_get_read xs (length xs) i n refl c.loop-number-test.true c.number-item.is) in
     let its = numbered_at log t i n here in
     let id = c.in-Some.id in
@@ -130,7 +131,7 @@ returns-clause-back c =
     let log = c.args.log.now in
     let t = c.args.seat.now.txn in
     let end = c.loop-number-test.false in
-    let long = ap length (c.deref-number-items.ensures.value ∙ c.in_ok-to_be_undone.ensures c.requires.meant.0 t c.requires.meant.1 c.requires.newest) in
+    let long = ap length (c.deref-number-items.ensures.value ∙ c.in_ok-to_be_undone_behind.ensures.all c.requires.meant.0 t c.requires.some c.requires.meant.1 (each_whole c.requires.meant.0 log c.requires.meant.1 t c.requires.some) c.requires.newest) in
     let many = as_many_numbers log t in
     becomes_all log t c.loop-number.number-index (txns_in c.args.txns.now) (txns_in c.loop-number.txns) (omega (arith, end, long, many)) c.loop-number.invariant.so_far
 
@@ -140,7 +141,7 @@ returns-clause-room c =
     let t = c.args.seat.now.txn in
     let i = c.loop-number.number-index in
     let end = c.loop-number-test.false in
-    let long = ap length (c.deref-number-items.ensures.value ∙ c.in_ok-to_be_undone.ensures c.requires.meant.0 t c.requires.meant.1 c.requires.newest) in
+    let long = ap length (c.deref-number-items.ensures.value ∙ c.in_ok-to_be_undone_behind.ensures.all c.requires.meant.0 t c.requires.some c.requires.meant.1 (each_whole c.requires.meant.0 log c.requires.meant.1 t c.requires.some) c.requires.newest) in
     let many = as_many_numbers log t in
     let room = room_in c.args.txns.now in
     subst (λ (images : List (Rid × Image)). HasSums room.stream_bytes room.kept (room.reserved + compensation_costs images) (room_in c.loop-number.txns))

@@ -1,4 +1,4 @@
-use Rattle.std.proofs.Common.{◌≡◌, ◌≢◌, ℕ, List, Option, None, Some, inl, inr, sym, ap, subst, ◌∙◌, arith}
+use Rattle.std.proofs.Common.{◌≡◌, ◌≢◌, ◌<◌, ℕ, List, Option, None, Some, inl, inr, sym, ap, subst, ◌∙◌, arith}
 use Rattle.std.specs.Prelude.{option_map}
 use Rattle.shore_types.specs.declared.locking.Granule.{Granule}
 use Rattle.shore_model.specs.Logs.{prepare_number}
@@ -12,6 +12,7 @@ use Rattle.shore_txn.specs.declared.txn.Txn.{Txn}
 use Rattle.shore_restart.specs.GivenBack.{HasChangesBack}
 use Rattle.shore_restart.proofs.DoubtsBack.{given_back, head_becomes}
 use Rattle.shore_restart.proofs.DoubtsNamed.{number_of_one, says_alike, told_doubt}
+use Rattle.shore_analysis.proofs.WholeRecords.{doubts_run}
 use Rattle.shore_restart.proofs.doubts.restore_txn.Goals as goal
 
 pub restore-requires : goal.restore-requires
@@ -32,6 +33,10 @@ returns-in_default-clause-refused c =
     let clash : ◌≡◌ {A = Option (List ℕ × List Granule)} None (Some (told.doubt.global, told.doubt.granules)) =
     c.in_default.ensures ∙ ap (option_map (λ (x : LoggedDoubt). (x.global, x.granules))) (ap (doubt_at log) c.requires.numbers.prepare ∙ told.told_by) in
     cc
+
+pub restore_changes-requires-clause-some : goal.restore_changes-requires-clause-some
+restore_changes-requires-clause-some c =
+    subst (λ (t : ℕ). 0 < t) (sym c.in_ok-seat.ensures.seated.1) (doubts_run c.requires.meant.0 c.args.log.now c.requires.meant.1 c.args.entry.now.txn c.requires.doubt).some
 
 pub restore_changes-requires-clause-none : goal.restore_changes-requires-clause-none
 restore_changes-requires-clause-none c x among number =

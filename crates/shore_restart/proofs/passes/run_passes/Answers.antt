@@ -12,11 +12,12 @@ use Rattle.shore_txn.specs.declared.transactions.Transactions.{Transactions}
 use Rattle.shore_types.specs.declared.layout.Geometry.{Geometry}
 use Rattle.shore_model.specs.declared.log_records.LogRecord.{LogRecord}
 use Rattle.shore_model.specs.declared.log_records.LogTxn.{LogTxn}
-use Rattle.shore_model.specs.Logs.{is_prepared}
+use Rattle.shore_model.specs.Logs.{IsTable, is_prepared}
 use Rattle.shore_log.specs.Settled.{records_of_log}
 use Rattle.shore_heap.specs.Heaps.{geometry_of}
-use Rattle.shore_analysis.specs.Meant.{IsFirstUnmeant}
-use Rattle.shore_analysis.specs.Tables.{AreTables, IsNext}
+use Rattle.shore_analysis.specs.KeptMeant.{IsFirstUnmeantKept}
+use Rattle.shore_analysis.specs.KeptTables.{AreKeptTables}
+use Rattle.shore_analysis.specs.Tables.{IsNext}
 use Rattle.shore_analysis.proofs.InTurn.{in_order_undone}
 use Rattle.shore_restart.specs.declared.errors.RestartError.TheVariants.{Memory, NoRoom, Page}
 use Rattle.shore_restart.specs.Doubts.{AreEntriesOfDoubts, CannotHold, reserved_told}
@@ -49,9 +50,9 @@ pub returns-in_err-tables-clause-bad : goal.returns-in_err-tables-clause-bad
 returns-in_err-tables-clause-bad g c log_front front disk s found =
     if_err c.from_residual.result c.from_residual.ensures.1 (λ error same n is. elim c.in_err-tables.ensures.refused [
       | inl memory ↦ let clash = sym memory ∙ sym same ∙ is in absurd cc
-      | inr bad ↦ inl (inl (subst (λ (g : Geometry). IsFirstUnmeant g (records_of_log c.args.log.now) n) c.geometry.ensures
-          (subst (λ (rs : List LogRecord). IsFirstUnmeant c.geometry.result.now rs n) c.records.ensures.log
-          (subst (λ (k : ℕ). IsFirstUnmeant c.geometry.result.now c.records.result.now k) (one_number bad.0 n (sym bad.1 ∙ sym same ∙ is)) bad.2))))
+      | inr bad ↦ inl (inl (subst (λ (g : Geometry). IsFirstUnmeantKept g 0 (records_of_log c.args.log.now) n) c.geometry.ensures
+          (subst (λ (rs : List LogRecord). IsFirstUnmeantKept c.geometry.result.now 0 rs n) c.records.ensures.log
+          (subst (λ (k : ℕ). IsFirstUnmeantKept c.geometry.result.now 0 c.records.result.now k) (one_number bad.0 n (sym bad.1 ∙ sym same ∙ is)) bad.2))))
     ])
 
 pub returns-in_err-tables-clause-meant : goal.returns-in_err-tables-clause-meant
@@ -61,7 +62,7 @@ returns-in_err-tables-clause-meant g c =
       | inr bad ↦ inr (
         bad.0,
         same ∙ bad.1,
-        inl (subst (λ (g : Geometry). IsFirstUnmeant g (records_of_log c.args.log.now) bad.0) c.geometry.ensures (subst (λ (rs : List LogRecord). IsFirstUnmeant c.geometry.result.now rs bad.0) c.records.ensures.log bad.2)),
+        inl (subst (λ (g : Geometry). IsFirstUnmeantKept g 0 (records_of_log c.args.log.now) bad.0) c.geometry.ensures (subst (λ (rs : List LogRecord). IsFirstUnmeantKept c.geometry.result.now 0 rs bad.0) c.records.ensures.log bad.2)),
       )
     ])
 
@@ -115,11 +116,12 @@ locks_of-requires-clause-meant g c =
 
 pub locks_of-requires-clause-doubts : goal.locks_of-requires-clause-doubts
 locks_of-requires-clause-doubts g c =
-    let tables : AreTables c.records-2.result.now c.in_ok-tables.tables =
-    subst (λ (rs : List LogRecord). AreTables rs c.in_ok-tables.tables) (c.records.ensures.log ∙ sym c.records-2.ensures.log) c.in_ok-tables.ensures.tables in
+    let table : IsTable c.records-2.result.now c.in_ok-tables.tables.txns =
+    subst (λ (rs : List LogRecord). IsTable rs c.in_ok-tables.tables.txns) (c.records.ensures.log ∙ sym c.records-2.ensures.log) c.in_ok-tables.ensures.txns in
+    let listed : IsTable c.records-2.result.now c.as_slice.result.now = subst (IsTable c.records-2.result.now) (sym c.as_slice.ensures) table in
     let meant = meant_by c.geometry.result.now c.geometry.result.now c.records-2.result.now c.records.result.now refl (c.records.ensures.log ∙ sym c.records-2.ensures.log) c.in_ok-tables.ensures.meant in
     subst (AreEntriesOfDoubts c.records-2.result.now) (sym c.deref.ensures.value)
-    (are_entries c.records-2.result.now c.in_ok-tables.tables _ tables (subst (λ (txns : List LogTxn). IsPermutation (filter (λ e. is_prepared e.state) txns) c.in_ok-doubts.doubts.items) c.as_slice.ensures c.in_ok-doubts.ensures.entries) (c.in_ok-doubts.ensures.order c.geometry.result.now c.records-2.result.now c.in_ok-tables.tables meant tables (sym c.as_slice.ensures)))
+    (are_entries c.records-2.result.now c.in_ok-tables.tables.txns _ table (subst (λ (txns : List LogTxn). IsPermutation (filter (λ e. is_prepared e.state) txns) c.in_ok-doubts.doubts.items) c.as_slice.ensures c.in_ok-doubts.ensures.entries) (c.in_ok-doubts.ensures.kept_order c.geometry.result.now c.records-2.result.now meant listed))
 
 pub returns-in_err-locks-clause-moves : goal.returns-in_err-locks-clause-moves
 returns-in_err-locks-clause-moves g c log_front front disk s found =
@@ -207,15 +209,16 @@ txns_of-requires-clause-meant g c =
 
 pub txns_of-requires-clause-doubts : goal.txns_of-requires-clause-doubts
 txns_of-requires-clause-doubts g c =
-    let tables : AreTables c.records-4.result.now c.in_ok-tables.tables =
-    subst (λ (rs : List LogRecord). AreTables rs c.in_ok-tables.tables) (c.records.ensures.log ∙ sym c.records-4.ensures.log) c.in_ok-tables.ensures.tables in
+    let table : IsTable c.records-4.result.now c.in_ok-tables.tables.txns =
+    subst (λ (rs : List LogRecord). IsTable rs c.in_ok-tables.tables.txns) (c.records.ensures.log ∙ sym c.records-4.ensures.log) c.in_ok-tables.ensures.txns in
+    let listed : IsTable c.records-4.result.now c.as_slice.result.now = subst (IsTable c.records-4.result.now) (sym c.as_slice.ensures) table in
     let meant = meant_by c.geometry.result.now c.geometry.result.now c.records-4.result.now c.records.result.now refl (c.records.ensures.log ∙ sym c.records-4.ensures.log) c.in_ok-tables.ensures.meant in
     subst (AreEntriesOfDoubts c.records-4.result.now) (sym c.deref-2.ensures.value)
-    (are_entries c.records-4.result.now c.in_ok-tables.tables _ tables (subst (λ (txns : List LogTxn). IsPermutation (filter (λ e. is_prepared e.state) txns) c.in_ok-doubts.doubts.items) c.as_slice.ensures c.in_ok-doubts.ensures.entries) (c.in_ok-doubts.ensures.order c.geometry.result.now c.records-4.result.now c.in_ok-tables.tables meant tables (sym c.as_slice.ensures)))
+    (are_entries c.records-4.result.now c.in_ok-tables.tables.txns _ table (subst (λ (txns : List LogTxn). IsPermutation (filter (λ e. is_prepared e.state) txns) c.in_ok-doubts.doubts.items) c.as_slice.ensures c.in_ok-doubts.ensures.entries) (c.in_ok-doubts.ensures.kept_order c.geometry.result.now c.records-4.result.now meant listed))
 
 pub txns_of-requires-clause-next : goal.txns_of-requires-clause-next
 txns_of-requires-clause-next g c =
-    subst (λ (rs : List LogRecord). IsNext rs c.in_ok-tables.tables.next) (c.records.ensures.log ∙ sym c.records-4.ensures.log) c.in_ok-tables.ensures.tables.next
+    subst (λ (rs : List LogRecord). IsNext rs c.in_ok-tables.tables.next) (c.records.ensures.log ∙ sym c.records-4.ensures.log) c.in_ok-tables.ensures.next
 
 pub txns_of-requires-clause-frame : goal.txns_of-requires-clause-frame
 txns_of-requires-clause-frame g c =
@@ -314,13 +317,13 @@ returns-in_err-redone-clause-bad_number g c =
 pub undo_all-requires : goal.undo_all-requires
 undo_all-requires g c =
     let rs = records_of_log c.args.log.now in
-    let tables : AreTables rs c.in_ok-tables.tables = subst (λ (rs : List LogRecord). AreTables rs c.in_ok-tables.tables) c.records.ensures.log c.in_ok-tables.ensures.tables in
+    let table : IsTable rs c.in_ok-tables.tables.txns = subst (λ (rs : List LogRecord). IsTable rs c.in_ok-tables.tables.txns) c.records.ensures.log c.in_ok-tables.ensures.txns in
     let stream : c.stream_bytes.result ≡ stream_bytes_of c.args.log.now = let as_long = c.args.log.now.as_long in let rest = c.stream_bytes.ensures in omega (arith, as_long, rest) in
     let log_is : c.records-4.result.now ≡ c.records-3.result.now = c.records-4.ensures.log ∙ sym c.records-3.ensures.log in
     let leaves = c.room_of.ensures.none.0 (subst IsSome (sym c.in-Some.is) refl) in
     record {
       meant = meant_by (geometry_of c.redo.new.heap) (geometry_of c.args.heap.now) rs rs (sym c.redo.ensures.volume.geometry) refl (meant_by (geometry_of c.args.heap.now) c.geometry.result.now (records_of_log c.args.log.now) c.records.result.now c.geometry.ensures c.records.ensures.log c.in_ok-tables.ensures.meant);
-      losers = c.of-losers.ensures.losers (geometry_of c.args.heap.now) rs c.in_ok-tables.tables (meant_by (geometry_of c.args.heap.now) c.geometry.result.now (records_of_log c.args.log.now) c.records.result.now c.geometry.ensures c.records.ensures.log c.in_ok-tables.ensures.meant) tables refl;
+      losers = c.of-losers.ensures.table rs table;
       room = subst (λ (room : LogRoom). IsRoomBehind rs (stream_bytes_of c.args.log.now) room) (sym c.room-room.ensures)
           (subst (λ (n : ℕ). IsRoomBehind rs n (room_in c.in_ok-txns.txns)) stream
           (subst (λ (rs : List LogRecord). IsRoomBehind rs c.stream_bytes.result (room_in c.in_ok-txns.txns)) c.records-3.ensures.log
@@ -367,6 +370,9 @@ returns-in_err-undo_all-clause-log_device g c log_front quiet =
     let log = c.args.log.now in
     quiet_err log_front log log c.undo_all.new.log (omega arith) c.from_residual-in_err-undo_all.result c.in_err-undo_all.field-0.0 c.from_residual-in_err-undo_all.ensures.1
     (c.in_err-undo_all.ensures.log_device log_front quiet)
+
+pub returns-in_err-undo_all-clause-no_room : goal.returns-in_err-undo_all-clause-no_room
+returns-in_err-undo_all-clause-no_room g c = if_err c.from_residual-in_err-undo_all.result c.from_residual-in_err-undo_all.ensures.1 (λ error same is. inr (c.in_err-undo_all.ensures.no_room (sym same ∙ is)))
 
 pub returns-in_err-undo_all-clause-bad_number : goal.returns-in_err-undo_all-clause-bad_number
 returns-in_err-undo_all-clause-bad_number g c =
@@ -491,7 +497,7 @@ pub returns-clause-next : goal.returns-clause-next
 returns-clause-next g c =
     subst (λ (t : Transactions). IsNext (records_of_log c.args.log.now) (next_in t)) (sym c.new.ensures.txns)
     (subst (λ (n : ℕ). IsNext (records_of_log c.args.log.now) n) (sym (c.set_room.ensures.next ∙ c.in_ok-txns.ensures.next))
-    (subst (λ (rs : List LogRecord). IsNext rs c.in_ok-tables.tables.next) c.records.ensures.log c.in_ok-tables.ensures.tables.next))
+    (subst (λ (rs : List LogRecord). IsNext rs c.in_ok-tables.tables.next) c.records.ensures.log c.in_ok-tables.ensures.next))
 
 pub returns-clause-room : goal.returns-clause-room
 returns-clause-room g c =
@@ -501,7 +507,7 @@ returns-clause-room g c =
 pub returns-clause-report : goal.returns-clause-report
 returns-clause-report g c =
     let rs = records_of_log c.args.log.now in
-    let tables : AreTables rs c.in_ok-tables.tables = subst (λ (rs : List LogRecord). AreTables rs c.in_ok-tables.tables) c.records.ensures.log c.in_ok-tables.ensures.tables in
+    let tables : AreKeptTables 0 0 rs c.in_ok-tables.tables = subst (λ (rs : List LogRecord). AreKeptTables 0 0 rs c.in_ok-tables.tables) c.records.ensures.log c.in_ok-tables.ensures.tables in
     let long5 : length c.records-5.result.now ≡ length rs = ap length c.records-5.ensures.log in
     let long6 : length c.records-6.result.now ≡ length rs = ap length c.records-6.ensures.log in
     let most = c.in_ok-redone.ensures.most in
@@ -510,7 +516,7 @@ returns-clause-report g c =
       redone = omega (arith, most, long5, long6);
       undone = (c.in_ok-tables.tables, tables, c.count-undone.ensures ∙ ap length c.of-losers.ensures.entries);
       in_doubt =
-          let many = as_many_doubts rs c.in_ok-doubts.doubts.items (c.in_ok-doubts.ensures.order (geometry_of c.args.heap.now) rs c.in_ok-tables.tables (meant_by (geometry_of c.args.heap.now) c.geometry.result.now (records_of_log c.args.log.now) c.records.result.now c.geometry.ensures c.records.ensures.log c.in_ok-tables.ensures.meant) tables (sym c.as_slice.ensures)) in
+          let many = as_many_doubts rs c.in_ok-doubts.doubts.items (c.in_ok-doubts.ensures.kept_order (geometry_of c.args.heap.now) rs (meant_by (geometry_of c.args.heap.now) c.geometry.result.now (records_of_log c.args.log.now) c.records.result.now c.geometry.ensures c.records.ensures.log c.in_ok-tables.ensures.meant) (subst (IsTable rs) (sym c.as_slice.ensures) (subst (λ (rs : List LogRecord). IsTable rs c.in_ok-tables.tables.txns) c.records.ensures.log c.in_ok-tables.ensures.txns))) in
           omega (arith, many, c.len.ensures);
     }
 
@@ -574,9 +580,9 @@ pub returns-in_err-tables-clause-any_bad : goal.returns-in_err-tables-clause-any
 returns-in_err-tables-clause-any_bad g c front first disk held =
     if_err c.from_residual.result c.from_residual.ensures.1 (λ error same n is. elim c.in_err-tables.ensures.refused [
       | inl memory ↦ let clash = sym memory ∙ sym same ∙ is in absurd cc
-      | inr bad ↦ inl (inl (subst (λ (g : Geometry). IsFirstUnmeant g (records_of_log c.args.log.now) n) c.geometry.ensures
-          (subst (λ (rs : List LogRecord). IsFirstUnmeant c.geometry.result.now rs n) c.records.ensures.log
-          (subst (λ (k : ℕ). IsFirstUnmeant c.geometry.result.now c.records.result.now k) (one_number bad.0 n (sym bad.1 ∙ sym same ∙ is)) bad.2))))
+      | inr bad ↦ inl (inl (subst (λ (g : Geometry). IsFirstUnmeantKept g 0 (records_of_log c.args.log.now) n) c.geometry.ensures
+          (subst (λ (rs : List LogRecord). IsFirstUnmeantKept c.geometry.result.now 0 rs n) c.records.ensures.log
+          (subst (λ (k : ℕ). IsFirstUnmeantKept c.geometry.result.now 0 c.records.result.now k) (one_number bad.0 n (sym bad.1 ∙ sym same ∙ is)) bad.2))))
     ])
 
 pub returns-in_err-doubts-clause-any_bad : goal.returns-in_err-doubts-clause-any_bad

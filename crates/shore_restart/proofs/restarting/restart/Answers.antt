@@ -6,6 +6,7 @@ use Rattle.shore_model.specs.Logs.{Lawful}
 use Rattle.laws_lives.specs.Undo.{HasNoLosers}
 use Rattle.shore_log.specs.Settled.{records_of_log}
 use Rattle.laws_images.specs.Moments.{Path}
+use Rattle.shore_analysis.proofs.KeptWholes.{whole_table}
 use Rattle.shore_restart.specs.Standing.{log_history, moment_of, stream_bytes_of}
 use Rattle.shore_sessions.specs.Controls.{txns_in}
 use Rattle.shore_txn.specs.Transactions.{room_in}
@@ -47,7 +48,7 @@ returns-in-Ok-clause-restarts g c log_front front disk s found =
             m.done.0,
             opens_in c.over.result c.run_passes.new.heap c.in-Ok.field-0.control front m.done.0 (records_of_log c.args.log.now) (records_of_log new) (stream_bytes_of new) m.later
                 (geometry_of c.args.heap) c.in-Ok.ensures.taken.0 same was c.in-Ok.ensures.undone quiet ready.redone ready.stands (geometry_of c.args.heap).max_locks
-                c.in-Ok.ensures.doubts c.in-Ok.ensures.next c.in-Ok.ensures.room tables.0.txns tables.1.txns
+                c.in-Ok.ensures.doubts c.in-Ok.ensures.next c.in-Ok.ensures.room tables.0.txns (whole_table (records_of_log c.args.log.now) tables.0.txns tables.1.txns)
                 (λ st log durable running control shows. c.over.ensures.state front m.done.0 st
                 (ap length (log ∙ same ∙ sym c.records.ensures.log)) (durable ∙ ready.at_rest.durable ∙ sym c.durable.ensures ∙ sym c.number-durable.ensures) running control shows)
                 (c.over.ensures.over m.done.0),
