@@ -10,7 +10,7 @@ OPEN, SHUT = b"\xa5", b"\x00"
 LETTERS = {"log": b"\x4c", "volume": b"\x56"}
 ANCHORS_AT, STREAM_AT = (1_024, 2_048), 4_096
 GATE_AT, TABLE_AT, IMAGES_AT, PAGES_AT = 4_096, 4_100, 8_192, 270_336
-PAGE, MOST_SLOTS, MOST_OF_A_BATCH, LONGEST_FRAME = 8_192, 2_042, 32, 65_549
+PAGE, MOST_SLOTS, MOST_OF_A_BATCH, MOST_OF_A_FRAME, LONGEST_FRAME = 8_192, 2_042, 32, 65_536, 65_549
 CHANGE, COMPENSATION, COMMIT, END, PREPARE, ROLLBACK_DECIDED, CHECKPOINT_BEGIN, CHECKPOINT_END, ANCHOR = 1, 2, 3, 4, 5, 6, 7, 8, 9
 ACTIVE, PREPARED, ROLLING_BACK = 1, 2, 3
 MOST_OF_A_NAME, MOST_GRANULES, MOST_TXNS, MOST_DIRTY, LAST_OPENED = 64, 4_096, 256, 1_024, 2**46 + 2**32
@@ -303,7 +303,7 @@ def read_frame(row, at, first):
     head = Text(row[at + 1 : at + 1 + LONGEST_FRAME])
     length, number_of_first = head.number(4), head.number(8)
     demand(number_of_first == first, f"its first record has the number {number_of_first}, and {first} is to come")
-    demand(1 <= length <= 65_536, f"its records have {length} bytes")
+    demand(1 <= length <= MOST_OF_A_FRAME, f"its records have {length} bytes")
     texts, records = Text(head.take(length)), []
     demand(head.rest, "no byte is left for the gate after it")
     while texts.rest:

@@ -1,11 +1,13 @@
-"""What an open makes of the two files of a pair: it is refused, or shows records, and leaves files. An open's order of checks is that of "Refuses an open" of docs/DEFINITIONS.md, and
-what a record has to mean that of "Meant record". Nothing here comes from the code of the program.
+"""What an open makes of the two files of a pair: it is refused, or shows records, and leaves files. An open's order of checks is that of "Refuses an open" of docs/DEFINITIONS.md.
+What its records mean is in tools/analysis.py. Nothing here comes from the code of the program.
 """
 import collections
+import itertools
 
-from formats import CHANGE, CHECKPOINT_BEGIN, COMMIT, COMPENSATION, END, FIRST_ANCHOR, GATE_AT, IMAGES_AT, LONGEST_FRAME, MOST_OF_A_BATCH, MOST_SLOTS, OPEN, PAGE, PAGES_AT, PREPARE
-from formats import ROLLBACK_DECIDED, SHUT, STREAM_AT, TABLE_AT, NoText, Record, Refused, byte_of, compensation, damaged, field, frame, laid_at, places_of, read_anchors, read_entries, read_frames
-from formats import read_label, read_page, record
+from analysis import Analysis
+from formats import CHECKPOINT_BEGIN, COMPENSATION, END, FIRST_ANCHOR, GATE_AT, IMAGES_AT, LAST_OPENED, LONGEST_FRAME, MOST_OF_A_BATCH, MOST_OF_A_FRAME, OPEN, PAGE, PAGES_AT, SHUT, STREAM_AT
+from formats import TABLE_AT, NoText, Record, Refused, byte_of, compensation, damaged, field, frame, laid_at, places_of, read_anchors, read_entries, read_frames, read_label, read_page
+from formats import record
 
 
 class Opening:
@@ -32,33 +34,58 @@ class Opening:
             raise Refused("30 WrongPair")
         _, self.most_locks, self.stores = of_log
         self.places = places_of(self.stores)
-        anchor_at, counts = read_anchors(self.log)
-        # No checkpoint is read yet, so the log has to begin at its first record.
-        if counts != FIRST_ANCHOR:
-            raise damaged("log", anchor_at, "an anchor that a checkpoint has moved is not read yet")
-        self.records, self.end = read_frames(self.log, counts)
+        self.anchor_at, self.counts = read_anchors(self.log)
+        # No anchor that a checkpoint has moved is read yet, so the log has to begin at its first record.
+        if self.counts != FIRST_ANCHOR:
+            raise damaged("log", self.anchor_at, "an anchor that a checkpoint has moved is not read yet")
+        self.records, self.end = read_frames(self.log, self.counts)
         self.replay()
-        self.last, self.unanswered = {}, collections.defaultdict(list)
-        # The number of the Prepare of each transaction that has one, and those that have a RollbackDecided.
-        self.prepared, self.decided = {}, set()
-        for count, (at, read) in enumerate(self.records, 1):
-            if not self.is_meant(count, read):
-                raise damaged("log", at, f"record {count} does not go with those before it, or with the volume")
-            self.note(count, read)
-        self.doubts = sorted((it for it in self.prepared if it not in self.decided and self.last[it] > 0), key=self.prepared.get)
+        self.told = Analysis(self.stores, self.places, self.counts.tail, self.records)
+        table = self.checkpoint()
+        unmeant = self.told.first_unmeant()
+        if unmeant:
+            raise damaged("log", self.frame_of(unmeant), f"record {unmeant} does not go with those before it, or with the volume")
+        self.doubts = self.told.doubts()
         for index, txn in enumerate(self.doubts):
             self.give_back_locks(txn, [self.prepare_of(it).name for it in self.doubts[:index]])
-        # Each record takes of the room what it would in a frame of its own; and for each in doubt its undo is reserved for, and two records more.
-        reserved = sum(68 + sum(52 + self.cost_of_image(self.records[it - 1][1].before) for it in self.unanswered[txn]) for txn in self.doubts)
-        kept = self.end + 13 * (len(self.records) - len({at for at, _ in self.records}))
-        if kept + reserved + LONGEST_FRAME > len(self.log) - STREAM_AT:
-            raise damaged("log", anchor_at, "the records leave no room for the longest frame")
-        for count, (at, read) in enumerate(self.records, 1):
-            if read.at and self.page(read.at)[0] < count:
-                self.put(count, at, read)
-                self.redone.append(count)
+        self.judge_room()
+        self.redo(table)
         self.undo()
         self.keep_claims()
+
+    def record(self, number):
+        return self.told.record(number)
+
+    def frame_of(self, number):
+        """The offset of the frame of a record."""
+        return self.records[number - self.counts.tail][0]
+
+    def last(self):
+        return self.counts.tail + len(self.records) - 1
+
+    def checkpoint(self):
+        """The table of the checkpoint that the anchor names; None if it names none. The log has to have that, its begin and its end."""
+        named = self.counts.checkpoint
+        table = self.told.end_of(named)
+        if named and not (table and named <= self.last() and self.record(named).kind == CHECKPOINT_BEGIN):
+            raise damaged("log", self.anchor_at, f"the log has no checkpoint that begins at {named}")
+        return table if named else None
+
+    def judge_room(self):
+        """Each record takes of the room what it would in a frame of its own; and for each in doubt its undo is reserved for, and two records more."""
+        reserved = sum(68 + sum(52 + self.cost_of_image(self.record(it).before) for it in self.told.unanswered[txn]) for txn in self.doubts)
+        kept = self.end - self.counts.place + 13 * (len(self.records) - len({at for at, _ in self.records}))
+        if kept + reserved + LONGEST_FRAME > len(self.log) - STREAM_AT or self.last() + reserved >= LAST_OPENED:
+            raise damaged("log", self.anchor_at, "the records leave no room for the longest frame")
+
+    def redo(self, table):
+        """Does each record on its page that lacks it. A page that the checkpoint's table has lacks none before its recovery number, and any other none before the begin."""
+        recoveries = {(it.store, it.page): it.recovery for it in table.dirty} if table else {}
+        begin = table.begin if table else 1
+        for number, (at, read) in enumerate(self.records, self.counts.tail):
+            if read.at and number >= min(begin, recoveries.get(read.at[:2], begin)) and self.page(read.at)[0] < number:
+                self.put(number, at, read)
+                self.redone.append(number)
 
     def replay(self):
         """Lays the images of an open area into place."""
@@ -92,54 +119,11 @@ class Opening:
         return 1 if content is None else 3 + len(content)
 
     def prepare_of(self, txn):
-        return self.records[self.prepared[txn] - 1][1]
-
-    def has(self, granule):
-        """Whether the volume has a granule."""
-        level, store, index, slot = granule
-        return level == 0 or store < len(self.stores) and (level == 1 or index < self.stores[store] and (level == 2 or slot < MOST_SLOTS))
-
-    def is_covered(self, at, granules):
-        """Whether a record is one of these granules, or lies in one."""
-        return any(it in granules for it in [(3, *at), (2, *at[:2], 0), (1, at[0], 0, 0), (0, 0, 0, 0)])
-
-    def is_meant(self, count, read):
-        """Whether a record means what it has to, behind those that were noted."""
-        # No record of a checkpoint is read yet.
-        if read.kind >= CHECKPOINT_BEGIN or read.txn >= 2**62 or read.previous != self.last.get(read.txn, 0):
-            return False
-        if read.at and (read.at[:2] not in self.places or read.at[2] >= MOST_SLOTS):
-            return False
-        is_prepared, is_decided = read.txn in self.prepared, read.txn in self.decided
-        if read.kind == PREPARE:
-            changed = [it.at for _, it in self.records[: count - 1] if it.txn == read.txn and it.kind == CHANGE]
-            return not is_prepared and all(map(self.has, read.granules)) and all(self.is_covered(it, set(read.granules)) for it in changed)
-        if read.kind == ROLLBACK_DECIDED:
-            return is_prepared and not is_decided
-        # Behind a Prepare comes a decision, and behind one to roll back only that.
-        if is_prepared and read.kind not in ((COMPENSATION, END) if is_decided else (COMMIT,)):
-            return False
-        changes = self.unanswered[read.txn]
-        if read.kind == COMPENSATION:
-            answered = self.records[changes[-1] - 1][1] if changes else None
-            return bool(changes) and (answered.at, answered.before, (changes[:-1] or [0])[-1]) == (read.at, read.after, read.following)
-        return read.kind != END or not changes
-
-    def note(self, count, read):
-        # A transaction that has ended names no record that one of it could name.
-        self.last[read.txn] = -1 if read.kind in (COMMIT, END) else count
-        if read.kind == CHANGE:
-            self.unanswered[read.txn].append(count)
-        elif read.kind == COMPENSATION:
-            self.unanswered[read.txn].pop()
-        elif read.kind == PREPARE:
-            self.prepared[read.txn] = count
-        elif read.kind == ROLLBACK_DECIDED:
-            self.decided.add(read.txn)
+        return self.record(self.told.prepared[txn])
 
     def give_back_locks(self, txn, names):
         """EX on each granule of a Prepare, and IX above it; or that Prepare is refused."""
-        at, read = self.records[self.prepared[txn] - 1]
+        at, read = self.frame_of(self.told.prepared[txn]), self.prepare_of(txn)
         if read.name in names:
             raise damaged("log", at, f"two in doubt have the global id {read.name.hex()}")
         for level, *ids in read.granules:
@@ -156,8 +140,8 @@ class Opening:
     def keep_claims(self):
         """Each page keeps what those in doubt may put back, and has to have the room."""
         claims = collections.defaultdict(int)
-        for number_of_change in (it for txn in self.doubts for it in self.unanswered[txn]):
-            at, read = self.records[number_of_change - 1]
+        for number_of_change in (it for txn in self.doubts for it in self.told.unanswered[txn]):
+            at, read = self.frame_of(number_of_change), self.record(number_of_change)
             slots = self.page(read.at)[1]
             least = [max(len(it or b""), claims[*read.at[:2], slot]) for slot, it in enumerate(slots)]
             slot, wanted = read.at[2], len(read.before or b"")
@@ -179,8 +163,8 @@ class Opening:
         if at[:2] not in self.shown:
             offset = PAGES_AT + PAGE * self.places.index(at[:2])
             content = self.volume[offset : offset + PAGE]
-            self.judge_page(offset, content, at[:2], len(self.records))
-            self.shown[at[:2]] = [field(self.volume, offset + 8, 8), read_page(content, at[:2], len(self.records))]
+            self.judge_page(offset, content, at[:2], self.last())
+            self.shown[at[:2]] = [field(self.volume, offset + 8, 8), read_page(content, at[:2], self.last())]
         return self.shown[at[:2]]
 
     def put(self, count, at, read):
@@ -196,23 +180,29 @@ class Opening:
         shown[:] = count, after
 
     def undo(self):
-        """Undoes the one loser that the logs of this script have at most, and puts the records of that behind the others."""
-        losers = [txn for txn, last in self.last.items() if last > 0 and txn not in self.doubts]
-        texts = []
-        self.undone = {txn: self.unanswered[txn][::-1] for txn in losers}
-        for txn in losers:
-            while self.unanswered[txn]:
-                at, undone = self.records[self.unanswered[txn][-1] - 1]
-                following = (self.unanswered[txn][:-1] or [0])[-1]
-                read = Record(COMPENSATION, txn, self.last[txn], undone.at, None, undone.before, following)
-                self.put(len(self.records) + 1, at, read)
-                texts.append(compensation(txn, read.previous, ".".join(map(str, read.at)), read.after, following))
-                self.records.append((byte_of(self.log, self.end), read))
-                self.note(len(self.records), read)
-            texts.append(record(END, txn, self.last[txn]))
-            self.records.append((byte_of(self.log, self.end), Record(END, txn, self.last[txn], None, None, None, None)))
-        if texts:
-            self.log = laid_at(self.log, self.end, frame(len(self.records) - len(texts) + 1, texts) + SHUT)
+        """Undoes the losers, at each turn the one with the newest change left, or one that has none left, and forces the records of that. What one frame has no room for is in the next."""
+        losers, texts = self.told.losers(), []
+        self.undone = {txn: self.told.unanswered[txn][::-1] for txn in losers}
+        while losers:
+            txn = max(losers, key=lambda it: (not self.told.unanswered[it], self.told.unanswered[it][-1:]))
+            changes, previous = self.told.unanswered[txn], self.told.last[txn]
+            if not changes:
+                losers.remove(txn)
+                texts.append(record(END, txn, previous))
+                read = Record(END, txn, previous, None, None, None, None)
+            else:
+                undone, following = self.record(changes[-1]), (changes[:-1] or [0])[-1]
+                read = Record(COMPENSATION, txn, previous, undone.at, None, undone.before, following)
+                self.put(self.last() + 1, self.frame_of(changes[-1]), read)
+                texts.append(compensation(txn, previous, ".".join(map(str, read.at)), read.after, following))
+            self.records.append((byte_of(self.log, self.end), read))
+            self.told.note(self.last(), read)
+        first = self.last() - len(texts) + 1
+        while texts:
+            fitting = sum(length <= MOST_OF_A_FRAME for length in itertools.accumulate(map(len, texts)))
+            text = frame(first, texts[:fitting])
+            self.log = laid_at(self.log, self.end, text + SHUT)
+            texts, first, self.end = texts[fitting:], first + fitting, self.end + len(text)
 
     def dumped(self):
         try:
