@@ -1,6 +1,6 @@
 mod DoubtsThere
 mod Losers
-mod StageSteps
+pub mod StageSteps
 mod StolenPage
 mod TwoCheckpoints
 mod Worked

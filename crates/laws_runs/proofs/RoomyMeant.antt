@@ -1,5 +1,5 @@
 -- Analysis refuses no roomy log, nor what is kept of it where its front may be cut off.
-use Rattle.std.proofs.Common.{◌≡◌, ◌+◌, ◌-◌, ◌<◌, ◌≤◌, ◌++◌, ℕ, List, [], ◌∷◌, None, Option, Some, refl, length, drop, take, arith}
+use Rattle.std.proofs.Common.{◌≡◌, ◌⊎◌, ◌+◌, ◌-◌, ◌<◌, ◌≤◌, ◌++◌, ℕ, List, [], ◌∷◌, None, Option, Some, refl, length, drop, take, arith}
 use Rattle.std.specs.Prelude.{IsSomeAnd, slice_get}
 use Rattle.std.specs.List.{AllByRecursion}
 use Rattle.std.proofs.lemmas.List.{length-take}
@@ -14,7 +14,8 @@ use Rattle.shore_model.specs.declared.log_records.LogRecord.{LogRecord}
 use Rattle.shore_model.specs.declared.log_records.Payload.{Payload}
 use Rattle.shore_model.specs.declared.log_records.Payload.TheVariants.{Anchor, Change, CheckpointBegin, CheckpointEnd, Commit, Compensation, End, Prepare, RollbackDecided}
 use Rattle.shore_model.specs.Logs.{Lawful, MaySay, id_in}
-use Rattle.shore_analysis.proofs.KeptLawful.{all_meant}
+use Rattle.shore_analysis.proofs.KeptLawful.{all_anchored, all_meant}
+use Rattle.shore_analysis.specs.AnchoredMeant.{AreMeantAnchored}
 use Rattle.shore_analysis.specs.KeptMeant.{AreInLimits, AreMeantKept, IsInLimits, IsPageInBounds, SaysInLimits}
 use Rattle.shore_analysis.specs.Meant.{AreGranules, IsInBounds, IsPageListed, ListsInBounds, granules_in, next_in}
 use Rattle.laws_lives.proofs.Lists.{recursion-at}
@@ -68,6 +69,11 @@ module _ (g : Geometry) where
       → AreMeantKept g cut (drop cut log)
   kept_meant stream_bytes least log k lawful volume cut may =
       all_meant g log lawful (roomy_in_limits stream_bytes least log k lawful) volume cut may (λ n. (k.placed n).few)
+
+  pub anchored_meant : (stream_bytes least : ℕ) (log : List LogRecord) → AreRoomy g stream_bytes least log → Lawful log → (volume : LoggedPages) (cut : ℕ) → MayBeCut log volume cut
+      → (checkpoint : ℕ) → (checkpoint ≡ 0) ⊎ (cut < checkpoint) → AreMeantAnchored g cut checkpoint (drop cut log)
+  anchored_meant stream_bytes least log k lawful volume cut may =
+      all_anchored g log lawful (roomy_in_limits stream_bytes least log k lawful) volume cut may (λ n. (k.placed n).few)
 
   pub all_kept_meant : (stream_bytes least : ℕ) (log : List LogRecord) → AreRoomy g stream_bytes least log → Lawful log → AreMeantKept g 0 log
   all_kept_meant stream_bytes least log k lawful = kept_meant stream_bytes least log k lawful (λ p. empty_page) 0 (nothing_cut log)

@@ -1,5 +1,5 @@
 //! The laws of the room that restart needs, each stated as the contract of an empty function.
-ghost use Rattle.std.specs.Prelude.{◌≡◌, ◌≤◌, ◌<◌, ◌+◌, ◌*◌, ◌++◌, ◌∷◌, ℕ, List, [], Some, drop, length, slice_get, take};
+ghost use Rattle.std.specs.Prelude.{◌≡◌, ◌⊎◌, ◌≤◌, ◌<◌, ◌+◌, ◌*◌, ◌++◌, ◌∷◌, ℕ, List, [], Some, drop, length, slice_get, take};
 ghost use Rattle.std.specs.FinMap.{get};
 ghost use Rattle.std.specs.List.{AllByRecursion};
 ghost use Rattle.shore_types.specs.Layout.{HasPage, HasStore, LocksInLimits};
@@ -26,6 +26,7 @@ ghost use Rattle.laws_lives.specs.Views.{IsAmong};
 ghost use Rattle.laws_room.specs.Claims.{Claimed};
 ghost use Rattle.laws_room.specs.LogRooms.{owed_by_all};
 ghost use Rattle.laws_lives.specs.Undo.{HasNoLosers, IsLoser, IsUndoneTo, undo_record};
+ghost use Rattle.shore_analysis.specs.AnchoredMeant.{AreMeantAnchored};
 ghost use Rattle.shore_analysis.specs.KeptMeant.{AreMeantKept};
 ghost use Rattle.shore_analysis.specs.Meant.{IsPageListed};
 ghost use Rattle.shore_analysis.specs.Tables.{IsNext};
@@ -157,11 +158,13 @@ pub fn opens_have_room()
         IsNext found s.sessions.next_txn → HasLocksInBounds g s → IsOpenedFrom g stream_bytes ready.log s }
 {}
 
-/// Analysis refuses no record of a lawful log that may be left, whatever of its front may be cut off.
+/// Analysis refuses no record of a lawful log that may be left, whatever of its front may be cut off, and whichever checkpoint is anchored whose begin is kept.
 pub fn roomy_logs_are_meant()
     ensures whole { (g : Geometry) (stream_bytes least : ℕ) (log : List LogRecord) → AreRoomy g stream_bytes least log → Lawful log → AreMeantKept g 0 log }
     ensures kept { (g : Geometry) (stream_bytes least : ℕ) (log : List LogRecord) (volume : LoggedPages) (cut : ℕ) → AreRoomy g stream_bytes least log → Lawful log →
         MayBeCut log volume cut → AreMeantKept g cut (drop cut log) }
+    ensures anchored { (g : Geometry) (stream_bytes least : ℕ) (log : List LogRecord) (volume : LoggedPages) (cut checkpoint : ℕ) → AreRoomy g stream_bytes least log → Lawful log →
+        MayBeCut log volume cut → (checkpoint ≡ 0) ⊎ (cut < checkpoint) → AreMeantAnchored g cut checkpoint (drop cut log) }
 {}
 
 /// The conditions can be met: over an empty volume and an empty log, a transaction inserts a record and commits, and each prefix of the log

@@ -10,12 +10,12 @@ use Rattle.std.proofs.lemmas.List.Sorted.{All-permutation, Contains-permutation,
 use Rattle.std.proofs.lemmas.Map.Keys.{IsDistinct-IsPermutation, IsStrictlyIncreasing-from_distinct, sorted_from_strictly_increasing}
 use Rattle.shore_model.specs.declared.log_records.LogRecord.{LogRecord}
 use Rattle.shore_model.specs.declared.log_records.LogTxn.{LogTxn}
-use Rattle.shore_model.specs.Logs.{IsEntry, IsTable, in_doubt_in, is_in_doubt, is_prepared, prepare_number, rise_above}
+use Rattle.shore_model.specs.Logs.{IsEntry, IsTable, in_doubt_in, is_in_doubt, is_over, is_prepared, prepare_number, rise_above}
 use Rattle.laws_lives.specs.Views.{IsAmong}
 use Rattle.laws_lives.proofs.Booleans.{and_true}
 use Rattle.laws_lives.proofs.DoubtRecords.{among_filter}
 use Rattle.shore_analysis.specs.Passes.{begun}
-use Rattle.laws_lives.specs.Doubts.{doubts_in}
+use Rattle.laws_lives.specs.Doubts.{LoggedDoubt, doubts_in}
 use Rattle.shore_analysis.specs.Doubts.{doubt_at}
 use Rattle.shore_analysis.proofs.Counted.{Among, doubt_listed}
 use Rattle.shore_analysis.proofs.DoubtsTold.{once_told}
@@ -33,22 +33,18 @@ is_doubtful e = is_prepared e.state
 abbrev prepare_of : LogTxn → ℕ
 prepare_of e = e.prepare
 
-module _ (log : List LogRecord) (once : PrepareOnce log) (running : (t : ℕ) → is_in_doubt t log ≡ true → IsUndecided log t) where
+-- The test picks those in doubt that have not ended, of whom each has one Prepare.
+module _ (log : List LogRecord) (in_doubt : ℕ → Bool) (doubtful : (t : ℕ) → in_doubt t ≡ true → is_in_doubt t log ≡ true) (running : (t : ℕ) → in_doubt t ≡ true → IsUndecided log t)
+    (picks : (t : ℕ) → is_in_doubt t log ≡ true → is_over t log ≡ false → in_doubt t ≡ true) (rise : Rises (map (λ t. prepare_number t log) (filter in_doubt (prepares log)))) where
   abbrev number : ℕ → ℕ
   number t = prepare_number t log
 
-  abbrev in_doubt : ℕ → Bool
-  in_doubt t = is_in_doubt t log
-
   -- one in doubt has a Prepare, whose number is its
   some : (t : ℕ) → in_doubt t ≡ true → 0 < number t
-  some t doubts = ltb-true 0 (number t) (prepare_known t log ∙ in_doubt_prepared t log doubts)
+  some t doubts = ltb-true 0 (number t) (prepare_known t log ∙ in_doubt_prepared t log (doubtful t doubts))
 
-  is_in_doubt_in : (t : ℕ) → in_doubt t ≡ true → IsAmong t (in_doubt_in log)
-  is_in_doubt_in t doubts = filter_among in_doubt t (prepares log) (is_among t log (in_doubt_prepared t log doubts)) doubts
-
-  doubts_rise : Rises (map number (in_doubt_in log))
-  doubts_rise = rises_filter number in_doubt (prepares log) (once_rise log once).rise
+  is_in_doubt_in : (t : ℕ) → in_doubt t ≡ true → IsAmong t (filter in_doubt (prepares log))
+  is_in_doubt_in t doubts = filter_among in_doubt t (prepares log) (is_among t log (in_doubt_prepared t log (doubtful t doubts))) doubts
 
   -- an entry of one in doubt
   record IsDoubt (e : LogTxn) : Type 0 where
@@ -64,7 +60,7 @@ module _ (log : List LogRecord) (once : PrepareOnce log) (running : (t : ℕ) �
     are_doubts (e ∷ es) h = by (is_doubtful e) refl (are_doubts es h.1)
       where
         by : (b : Bool) → is_doubtful e ≡ b → AllByRecursion IsDoubt (filter is_doubtful es) → AllByRecursion IsDoubt (cond b (e ∷ filter is_doubtful es) (filter is_doubtful es))
-        by true is rest = (record { doubts = sym h.0.0.in_doubt ∙ is; prepare = h.0.1.prepare }, rest)
+        by true is rest = (record { doubts = picks e.txn (sym h.0.0.in_doubt ∙ is) h.0.0.not_over; prepare = h.0.1.prepare }, rest)
         by false is rest = rest
 
     abbrev picked : List LogTxn
@@ -134,25 +130,25 @@ module _ (log : List LogRecord) (once : PrepareOnce log) (running : (t : ℕ) �
       among_of t (e ∷ es) (inl own) = (e, inl refl, own)
       among_of t (e ∷ es) (inr later) = let at = among_of t es later in (at.0, inr at.1, at.2)
 
-      to_found : (n : ℕ) → IsAmong n (map number (in_doubt_in log)) → IsAmong n (map prepare_of found)
+      to_found : (n : ℕ) → IsAmong n (map number (filter in_doubt (prepares log))) → IsAmong n (map prepare_of found)
       to_found n a =
-          let at = map_among number n (in_doubt_in log) a in
+          let at = map_among number n (filter in_doubt (prepares log)) a in
           let doubts = (among_filter in_doubt at.0 (prepares log) at.1).1 in
           let runs = running at.0 doubts in
-          let one = among_of at.0 picked (doubt_listed log txns table at.0 runs.some runs.known runs.runs doubts) in
+          let one = among_of at.0 picked (doubt_listed log txns table at.0 runs.some runs.known runs.runs (doubtful at.0 doubts)) in
           let d = one_of_all IsDoubt one.0 picked all_doubts one.1 in
           let is : one.0.prepare ≡ n = d.prepare ∙ ap number one.2 ∙ at.2 in
           let there = Contains-permutation (map prepare_of picked) (map prepare_of found) n numbers_moved (among_contains n (map prepare_of picked) (subst (λ k. IsAmong k (map prepare_of picked)) is (among_map prepare_of one.0 picked one.1))) in
           contains_among n (map prepare_of found) there.0 there.1 there.2
 
-      to_log : (n : ℕ) → IsAmong n (map prepare_of found) → IsAmong n (map number (in_doubt_in log))
+      to_log : (n : ℕ) → IsAmong n (map prepare_of found) → IsAmong n (map number (filter in_doubt (prepares log)))
       to_log n a =
           let at = map_among prepare_of n found a in
           let d = one_of_all IsDoubt at.0 found found_doubts at.1 in
-          subst (λ k. IsAmong k (map number (in_doubt_in log))) (sym d.prepare ∙ at.2) (among_map number at.0.txn (in_doubt_in log) (is_in_doubt_in at.0.txn d.doubts))
+          subst (λ k. IsAmong k (map number (filter in_doubt (prepares log)))) (sym d.prepare ∙ at.2) (among_map number at.0.txn (filter in_doubt (prepares log)) (is_in_doubt_in at.0.txn d.doubts))
 
-      pub same_numbers : map prepare_of found ≡ map number (in_doubt_in log)
-      same_numbers = same_rising (map prepare_of found) (map number (in_doubt_in log)) found_rise doubts_rise to_log to_found
+      pub same_numbers : map prepare_of found ≡ map number (filter in_doubt (prepares log))
+      same_numbers = same_rising (map prepare_of found) (map number (filter in_doubt (prepares log))) found_rise rise to_log to_found
 
       by_entries : (es : List LogTxn) → AllByRecursion IsDoubt es → map (λ e. e.txn) es ≡ map (txn_at log) (map prepare_of es)
       by_entries [] h = refl
@@ -162,10 +158,10 @@ module _ (log : List LogRecord) (once : PrepareOnce log) (running : (t : ℕ) �
       by_log [] h = refl
       by_log (t ∷ ts) h = (λ i. txn_is t log (some t h.0) i ∷ by_log ts h.1 i)
 
-      pub in_order : map (λ e. e.txn) found ≡ in_doubt_in log
-      in_order =
+      pub picked_order : map (λ e. e.txn) found ≡ filter in_doubt (prepares log)
+      picked_order =
           by_entries found found_doubts ∙ ap (map (txn_at log)) same_numbers
-          ∙ by_log (in_doubt_in log) (all_among (λ t. in_doubt t ≡ true) (in_doubt_in log) (λ t a. (among_filter in_doubt t (prepares log) a).1))
+          ∙ by_log (filter in_doubt (prepares log)) (all_among (λ t. in_doubt t ≡ true) (filter in_doubt (prepares log)) (λ t a. (among_filter in_doubt t (prepares log) a).1))
 
       by_numbers : (es : List LogTxn) → map (λ e. doubt_at log e.prepare) es ≡ map (doubt_at log) (map prepare_of es)
       by_numbers [] = refl
@@ -175,5 +171,19 @@ module _ (log : List LogRecord) (once : PrepareOnce log) (running : (t : ℕ) �
       by_txns [] = refl
       by_txns (t ∷ ts) = ap (λ ds. doubt_at log (number t) ∷ ds) (by_txns ts)
 
-      pub say_the_doubts : map (λ e. doubt_at log e.prepare) found ≡ map (λ d. Some d) (doubts_in log)
-      say_the_doubts = by_numbers found ∙ ap (map (doubt_at log)) same_numbers ∙ by_txns (in_doubt_in log) ∙ once_told log once
+      pub say_the_picked : (ds : List LoggedDoubt) → map (λ t. doubt_at log (prepare_number t log)) (filter in_doubt (prepares log)) ≡ map (λ d. Some d) ds
+          → map (λ e. doubt_at log e.prepare) found ≡ map (λ d. Some d) ds
+      say_the_picked ds told = by_numbers found ∙ ap (map (doubt_at log)) same_numbers ∙ by_txns (filter in_doubt (prepares log)) ∙ told
+
+-- ---- all of those in doubt
+
+module _ (log : List LogRecord) (once : PrepareOnce log) (running : (t : ℕ) → is_in_doubt t log ≡ true → IsUndecided log t) (txns : List LogTxn) (table : IsTable log txns) (found : List LogTxn)
+    (moved : IsPermutation (filter is_doubtful txns) found) (order : IsNonDecreasingBy prepare_of found) where
+  abbrev all_rise : Rises (map (λ t. prepare_number t log) (filter (λ t. is_in_doubt t log) (prepares log)))
+  all_rise = rises_filter (λ t. prepare_number t log) (λ t. is_in_doubt t log) (prepares log) (once_rise log once).rise
+
+  pub in_order : map (λ e. e.txn) found ≡ in_doubt_in log
+  in_order = picked_order log (λ t. is_in_doubt t log) (λ t doubts. doubts) running (λ t doubts runs. doubts) all_rise txns table found moved order
+
+  pub say_the_doubts : map (λ e. doubt_at log e.prepare) found ≡ map (λ d. Some d) (doubts_in log)
+  say_the_doubts = say_the_picked log (λ t. is_in_doubt t log) (λ t doubts. doubts) running (λ t doubts runs. doubts) all_rise txns table found moved order (doubts_in log) (once_told log once)

@@ -1,7 +1,7 @@
 -- Those in doubt by a lawful log are transactions that have not ended; and what is kept says of them what the whole log does.
-use Rattle.std.proofs.Common.{◌≡◌, ◌+◌, ◌-◌, ◌<◌, ℕ, zero, suc, List, Bool, true, false, cond, Option, None, Some, refl, sym, ap, subst, ◌∙◌, drop, arith}
+use Rattle.std.proofs.Common.{◌≡◌, ◌+◌, ◌-◌, ◌<◌, ℕ, zero, suc, List, true, cond, None, refl, sym, ap, subst, ◌∙◌, drop, arith}
 use Rattle.std.specs.Prelude.{◌==◌, ◌&&◌, option_and_then, slice_get}
-use Rattle.std.proofs.lemmas.Bool.{eq-eqb, eqb-true, lt-ltb, ltb-true, ne_eqb, true≢false}
+use Rattle.std.proofs.lemmas.Bool.{eq-eqb, eqb-true, lt-ltb, ltb-true, ne_eqb}
 use Rattle.shore_model.specs.declared.log_records.LogRecord.{LogRecord}
 use Rattle.shore_model.specs.declared.log_records.Payload.{Payload}
 use Rattle.shore_model.specs.declared.log_records.Payload.TheVariants.{Change, Compensation, Commit, End, Prepare, RollbackDecided, CheckpointBegin, CheckpointEnd, Anchor}

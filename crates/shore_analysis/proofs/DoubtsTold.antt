@@ -51,22 +51,21 @@ told_txn t (Anchor checkpoint tail) d e = cc
 
 -- ---- under its number
 
-doubt_there : (log : List LogRecord) (n : ℕ) (r : LogRecord) → 0 < n → slice_get log (n - 1) ≡ Some r → doubt_at log n ≡ doubt_of r
+pub doubt_there : (log : List LogRecord) (n : ℕ) (r : LogRecord) → 0 < n → slice_get log (n - 1) ≡ Some r → doubt_at log n ≡ doubt_of r
 doubt_there log n r some here =
     ap (λ b. cond b None (option_and_then doubt_of (slice_get log (n - 1)))) (ne_eqb n 0 (λ e. omega (arith, e, some))) ∙ ap (option_and_then doubt_of) here
 
-abbrev told : List LogRecord → ℕ → Option LoggedDoubt
+abbrev pub told : List LogRecord → ℕ → Option LoggedDoubt
 told log t = doubt_at log (prepare_number t log)
 
-abbrev some_doubt : LoggedDoubt → Option LoggedDoubt
+abbrev pub some_doubt : LoggedDoubt → Option LoggedDoubt
 some_doubt d = Some d
 
 -- the Prepares of the log say, in their order, what is told under their numbers
-AreTold : List LogRecord → Type 0
+abbrev pub AreTold : List LogRecord → Type 0
 AreTold log = map some_doubt (filter_map doubt_of log) ≡ map (told log) (prepares log)
 
-are_told : (log : List LogRecord) → PrepareOnce log → AreTold log
-unfolding AreTold
+pub are_told : (log : List LogRecord) → PrepareOnce log → AreTold log
 are_told log once = (by_each PreparesOnce (λ log. AreTold log × AllByRecursion (λ t. 0 < prepare_number t log) (prepares log)) (refl, tt) one_more log once).0
   where
     kept : (log : List LogRecord) (r : LogRecord) (ts : List ℕ) → AllByRecursion (λ t. 0 < prepare_number t log) ts → map (told (log ++ r ∷ [])) ts ≡ map (told log) ts
@@ -142,7 +141,6 @@ picked_told q f (d ∷ ds) (t ∷ ts) own same =
 
 -- what the log says of those in doubt is told under the numbers of their Prepares
 pub once_told : (log : List LogRecord) → PrepareOnce log → map (λ t. doubt_at log (prepare_number t log)) (in_doubt_in log) ≡ map (λ d. Some d) (doubts_in log)
-unfolding AreTold
 once_told log once = sym (picked_told (λ t. is_in_doubt t log) (told log) (filter_map doubt_of log) (prepares log) (own (prepares log) (once_rise log once).some) (are_told log once))
   where
     own : (ts : List ℕ) → AllByRecursion (λ t. 0 < prepare_number t log) ts → AllByRecursion (λ t. (d : LoggedDoubt) → told log t ≡ Some d → d.txn ≡ t) ts

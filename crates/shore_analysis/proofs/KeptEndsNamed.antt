@@ -1,24 +1,24 @@
 -- What the End of a checkpoint names of a lawful log's records: those that are kept, and of those that are cut off the transactions that have ended.
-use Rattle.std.proofs.Common.{◌≡◌, ⊎_elim, ◌⊎◌, inl, inr, ◌+◌, ◌-◌, ◌<◌, ◌≤◌, ℕ, List, [], ◌∷◌, Bool, true, false, cond, Option, None, Some, All, refl, sym, ap, subst, ◌∙◌, length, map, take, drop, arith}
+use Rattle.std.proofs.Common.{◌≡◌, ⊎_elim, ◌+◌, ◌-◌, ◌<◌, ◌≤◌, ℕ, List, [], ◌∷◌, Bool, true, false, cond, Option, None, Some, All, refl, sym, ap, subst, ◌∙◌, length, map, take, drop, arith}
 use Rattle.std.specs.Prelude.{◌==◌, ◌&&◌, ◌||◌, IsSomeAnd, filter, nat_le, nat_lt, reverse, slice_get}
 use Rattle.std.specs.List.{AllByRecursion, enumerate_from}
-use Rattle.std.proofs.lemmas.Bool.{cases_Bool, eqb-true, leb-true, ltb-true}
+use Rattle.std.proofs.lemmas.Bool.{cases_Bool, eqb-true, leb-true, ltb-true, true≢false}
 use Rattle.std.proofs.lemmas.List.Elements.{All-weaker, recursion_from_All}
-use Rattle.std.proofs.lemmas.Option.{slice_get_within}
 use Rattle.shore_types.specs.declared.layout.Geometry.{Geometry}
 use Rattle.shore_types.specs.declared.layout.TheConstants.{LAST_TXN}
 use Rattle.shore_model.specs.declared.log_records.DirtyPage.{DirtyPage}
 use Rattle.shore_model.specs.declared.log_records.LogRecord.{LogRecord}
 use Rattle.shore_model.specs.declared.log_records.LogTxn.{LogTxn}
 use Rattle.shore_model.specs.declared.log_records.Payload.TheVariants.{CheckpointBegin}
-use Rattle.shore_model.specs.Logs.{IsAsAtBegin, IsEntry, before_begin, first_number, first_of, is_in_doubt, is_prepare, is_prepared, last_of, prepare_number, unanswered, undo_next_of}
+use Rattle.shore_model.specs.Logs.{IsAsAtBegin, IsEntry, before_begin, first_number, first_of, is_in_doubt, is_over, is_prepare, is_prepared, last_of, prepare_number, unanswered, undo_next_of}
 use Rattle.laws_lives.proofs.Booleans.{and_true}
-use Rattle.laws_lives.proofs.Lists.{length-take_within}
+use Rattle.laws_lives.proofs.Lists.{take-take}
 use Rattle.laws_checkpoints.specs.KeptLogs.{has_record}
 use Rattle.laws_checkpoints.specs.KeptTables.{NamesKept}
-use Rattle.laws_checkpoints.proofs.Kept.{has_at, its}
-use Rattle.laws_checkpoints.proofs.Lists.{get-drop, length_take_le}
+use Rattle.laws_checkpoints.proofs.Kept.{has_at, its, over_back, over_in_front}
+use Rattle.laws_checkpoints.proofs.Lists.{get-drop}
 use Rattle.laws_checkpoints.proofs.Numbers.{IsNumberOf, first_is, first_low, last_is, undo_next_is}
+use Rattle.shore_analysis.specs.AnchoredMeant.{HasEndedSince}
 use Rattle.shore_analysis.specs.KeptMeant.{AreInLimits, IsChangeOf, IsEndInBounds, IsEndNamed, IsEntryInBounds, IsEntryNamed, IsOf, IsPageInBounds, IsPrepareOf, NamesIfKept, is_cut_off, names_cut_off, txns_cut_off}
 use Rattle.shore_analysis.specs.Meant.{IsChange}
 use Rattle.shore_analysis.proofs.Answered.{one_or_none}
@@ -165,6 +165,18 @@ module _ (log : List LogRecord) (cut n : ℕ) (begin next : ℕ) (txns : List Lo
     entries = All-weaker (IsEntry B) (IsEntryInBounds (cut + n + 1)) (λ e entry. entry_in_bounds e entry g limits) txns as_at.table.each;
     pages = says.1;
   }
+
+  -- if the begin is kept, one that has a record that is cut off and has ended did so behind it
+  pub ended_since : cut < begin → cut ≤ length log → ((t : ℕ) → 0 < t → has_record t (take cut log) ≡ true → is_over t log ≡ true) → All (HasEndedSince cut (drop cut log)) txns
+  ended_since behind within ends =
+      let inside = begin_within in
+      let front : take cut B ≡ take cut log = take-take cut (begin - 1) L (omega (arith, behind)) ∙ take-take cut (cut + n) log (omega arith) in
+      let earlier : (t : ℕ) → is_over t B ≡ false → is_over t (take cut log) ≡ false = λ t going. ⊎_elim
+      (λ over. absurd (true≢false (sym (over_in_front t B cut (ap (is_over t) front ∙ over)) ∙ going)))
+      (λ none. none)
+      (cases_Bool (is_over t (take cut log))) in
+      All-weaker (IsEntry B) (HasEndedSince cut (drop cut log))
+      (λ e entry names. sym (over_back e.txn log cut within (earlier e.txn entry.0.not_over)) ∙ ends e.txn entry.0.is_one (has_cut_off e entry names)) txns as_at.table.each
 
   -- whoever has a record that is cut off has P
   module _ (P : ℕ → Type 0) (holds : (t : ℕ) → has_record t (take cut log) ≡ true → P t) where

@@ -192,6 +192,19 @@ module _ (g : Geometry) (cut : ℕ) (kept : List LogRecord) (pass : KeptPass) (e
       by None is h = (if_none refused is all).0
       by (Some n) is h = absurd h
 
+  -- .. as an answer tells it
+  pub told_none : (o : Option ℕ) → IsFirstOf refused awaited o → IfNone o (AreMeantKept g cut kept)
+  told_none None h = all_meant h
+  told_none (Some n) h = tt
+
+  pub told_known : (o : Option ℕ) → IsFirstOf refused awaited o → IfNone o (KnowsKept g cut kept pass)
+  told_known None h = known h
+  told_known (Some n) h = tt
+
+  pub told_some : (o : Option ℕ) → IsFirstOf refused awaited o → IfSome o (IsFirstUnmeantKept g cut kept)
+  told_some None h = tt
+  told_some (Some n) h = unlawful n h
+
 -- ---- results
 
 pub every_ok : {A B : Type 0} {P : Type 0} (r : Result A B) → P → IfOk r (λ x. P)

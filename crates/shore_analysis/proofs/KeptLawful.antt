@@ -1,6 +1,6 @@
 -- What is kept of a lawful log that may be cut means what it has to: no such log is refused.
-use Rattle.std.proofs.Common.{◌≡◌, ⊎_elim, ◌⊎◌, inl, inr, ◌+◌, ◌-◌, ◌<◌, ◌≤◌, ℕ, List, [], ◌∷◌, ◌++◌, Bool, true, false, cond, Option, None, Some, refl, sym, ap, subst, ◌∙◌, length, take, drop, arith}
-use Rattle.std.specs.Prelude.{◌==◌, ◌&&◌, IsSomeAnd, filter, nat_lt, reverse, slice_get}
+use Rattle.std.proofs.Common.{◌≡◌, ⊎_elim, ◌⊎◌, ◌+◌, ◌-◌, ◌<◌, ◌≤◌, ℕ, List, [], ◌∷◌, ◌++◌, All, Bool, true, false, cond, Some, sym, ap, subst, ◌∙◌, length, take, drop, arith}
+use Rattle.std.specs.Prelude.{nat_lt, reverse, slice_get}
 use Rattle.std.specs.List.{AllByRecursion}
 use Rattle.std.proofs.lemmas.Bool.{cases_Bool, eq-eqb, ltb-true, ne_eqb, true≢false}
 use Rattle.std.proofs.lemmas.Option.{slice_get_within}
@@ -9,28 +9,29 @@ use Rattle.shore_types.specs.declared.ids.Rid.{Rid}
 use Rattle.shore_types.specs.declared.layout.Geometry.{Geometry}
 use Rattle.shore_model.specs.declared.unanswered_changes.UnansweredChange.{UnansweredChange}
 use Rattle.shore_model.specs.declared.log_records.LogRecord.{LogRecord}
-use Rattle.shore_model.specs.declared.log_records.LogTxn.{LogTxn}
 use Rattle.shore_model.specs.declared.log_records.Payload.{Payload}
 use Rattle.shore_model.specs.declared.log_records.Payload.TheVariants.{Change, Compensation, Commit, End, Prepare, RollbackDecided, CheckpointBegin, CheckpointEnd, Anchor}
-use Rattle.shore_model.specs.Logs.{Answers, Lawful, MayFollow, MaySay, first_number, is_of_checkpoint, is_over, last_of, numbered, records_of, unanswered, undo_next_of}
+use Rattle.shore_model.specs.Logs.{Answers, Lawful, MayFollow, MaySay, first_number, is_of_checkpoint, last_of, records_of, unanswered}
 use Rattle.laws_lives.specs.Pages.{LoggedPages}
 use Rattle.laws_lives.specs.UndoChains.{IsUndoChain}
 use Rattle.laws_lives.proofs.Booleans.{and_true}
 use Rattle.laws_lives.proofs.Lists.{length-take_within, take-take}
 use Rattle.laws_lives.proofs.Redo.{take_next}
 use Rattle.laws_lives.proofs.UndoChains.{unanswered_chain}
-use Rattle.laws_checkpoints.specs.KeptLogs.{IsKeptUnended, MayBeCut, has_record, kept_last_of, kept_records_of}
+use Rattle.laws_checkpoints.specs.Checkpoints.{Checkpoint, end_payload}
+use Rattle.laws_checkpoints.specs.KeptLogs.{IsKeptUnended, MayBeCut, has_record, kept_records_of}
 use Rattle.laws_checkpoints.specs.KeptTables.{IsKeptTable}
 use Rattle.laws_checkpoints.specs.MeantBehind.{IsCutOff, IsMeantBehind, IsMeantWhole, first_previous}
-use Rattle.laws_checkpoints.proofs.Kept.{has_at, its, kept_unended, none_filtered, one_of, records_split}
+use Rattle.laws_checkpoints.proofs.Ends.{end_says}
+use Rattle.laws_checkpoints.proofs.Kept.{has_at, kept_unended, none_filtered, one_of, records_split}
 use Rattle.laws_checkpoints.proofs.KeptMeant.{chained, cut_off, first_names, meant_behind}
 use Rattle.laws_checkpoints.proofs.KeptTables.{no_longer}
 use Rattle.laws_checkpoints.proofs.Lists.{get-drop, take-drop}
-use Rattle.shore_analysis.specs.KeptMeant.{AreInLimits, AreMeantKept, HaveEnded, IsChangeOf, IsFirstUnmeantKept, IsKeptCrowded, IsMeantNow, IsMeantOfCutOff, IsWholeIn, MayBeKept, NamesIfKept, SaysCutOff, SaysInBounds, SaysInLimits, SaysOfCheckpoint, is_own_cut_off, listed_cut_off, own_cut_off, to_have_ended}
+use Rattle.shore_analysis.specs.AnchoredMeant.{AreMeantAnchored, HasEndedSince}
+use Rattle.shore_analysis.specs.KeptMeant.{AreInLimits, AreMeantKept, HaveEnded, IsChangeOf, IsKeptCrowded, IsMeantNow, IsMeantOfCutOff, IsWholeIn, NamesIfKept, SaysCutOff, SaysInBounds, SaysInLimits, SaysOfCheckpoint, is_own_cut_off, listed_cut_off, own_cut_off, to_have_ended}
 use Rattle.shore_analysis.specs.Meant.{IsChange, IsCrowded}
-use Rattle.shore_analysis.proofs.Answered.{one_or_none}
 use Rattle.shore_analysis.proofs.KeptEnded.{first_by}
-use Rattle.shore_analysis.proofs.KeptEndsNamed.{all_listed, end_in_bounds, end_named, named_kept}
+use Rattle.shore_analysis.proofs.KeptEndsNamed.{all_listed, end_in_bounds, end_named, ended_since, named_kept}
 use Rattle.shore_analysis.proofs.SomeTable.{some_table}
 
 all_append : (P : ℕ → Type 0) (xs ys : List ℕ) → AllByRecursion P xs → AllByRecursion P ys → AllByRecursion P (xs ++ ys)
@@ -220,10 +221,14 @@ module _ (g : Geometry) (log : List LogRecord) (lawful : Lawful log) (limits : A
   pub all_meant : ((m : ℕ) → IsCrowded (take m log) → ⊥) → AreMeantKept g cut (drop cut log)
   all_meant uncrowded n r at = record { now = now n r at; few = few n r at uncrowded; ended = ended n r at }
 
--- nothing is refused then
-pub none_unmeant : (g : Geometry) (cut : ℕ) (kept : List LogRecord) (n : ℕ) → AreMeantKept g cut kept → IsFirstUnmeantKept g cut kept n → ⊥
-none_unmeant g cut kept n all bad = by (slice_get kept (n - (cut + 1))) refl bad.here
-  where
-    by : (o : Option LogRecord) → slice_get kept (n - (cut + 1)) ≡ o → IsSomeAnd o (λ r. MayBeKept g cut kept (n - (cut + 1)) r → ⊥) → ⊥
-    by None at h = h
-    by (Some r) at h = h (all (n - (cut + 1)) r at)
+  -- the End of a checkpoint whose begin is kept lists whoever has a record that is cut off only if that one has ended since
+  pub all_anchored : ((m : ℕ) → IsCrowded (take m log) → ⊥) → (checkpoint : ℕ) → (checkpoint ≡ 0) ⊎ (cut < checkpoint) → AreMeantAnchored g cut checkpoint (drop cut log)
+  all_anchored uncrowded checkpoint place n r at = record { meant = all_meant uncrowded n r at; since = λ c of. since c (end_says checkpoint r.payload c of.its) }
+    where
+      since : (c : Checkpoint) → (r.payload ≡ end_payload c) × (c.begin ≡ checkpoint) → All (HasEndedSince cut (drop cut log)) c.txns
+      since c says =
+          let as_at : MaySay (L n r at) r.txn (end_payload c) = subst (MaySay (L n r at) r.txn) says.0 (follows n r at).says in
+          let some = as_at.begins.0 in
+          let is = says.1 in
+          let behind : cut < c.begin = ⊎_elim (λ none. omega (arith, none, some, is)) (λ kept. omega (arith, kept, is)) place in
+          ended_since log cut n c.begin c.next c.txns as_at behind may.within may.ended

@@ -121,11 +121,11 @@ module _ (g : Geometry) (cut : ℕ) (before : List LogRecord) (r : LogRecord) (o
 
   module _ (here : get nat_cmp pass.running t ≡ None) where
     pub stands_over : contains nat_cmp pass.over t ≡ true → StandsAs g cut before r Nowhere
-    stands_over over m = true≢false (sym over ∙ knows.ends.over t one ∙ m.not_over one)
+    stands_over over m = true≢false (sym over ∙ knows.ends.over t ∙ m.not_over one)
 
     module _ (running_over : contains nat_cmp pass.over t ≡ false) where
       goes : is_over t log ≡ false
-      goes = over_padded t one cut before ∙ sym (knows.ends.over t one) ∙ running_over
+      goes = over_padded t one cut before ∙ sym (knows.ends.over t) ∙ running_over
 
       not_running : is_running t log ≡ false
       not_running = sym (knows.ends.running t one) ∙ ap is_some here

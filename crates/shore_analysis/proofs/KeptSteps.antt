@@ -68,7 +68,7 @@ module _ (cut : ℕ) (before : List LogRecord) (r : LogRecord) (n : ℕ) (old ne
       (λ stays.
       let none = or_none (is_commit r.payload) (is_end r.payload) stays in
       let same : is_over r.txn (log ++ r ∷ []) ≡ is_over r.txn log = over_same log r none.0 none.1 r.txn in
-      let known : contains nat_cmp old.over r.txn ≡ is_over r.txn log = knows.over r.txn one ∙ sym (over_padded r.txn one cut before) in
+      let known : contains nat_cmp old.over r.txn ≡ is_over r.txn log = knows.over r.txn ∙ sym (over_padded r.txn one cut before) in
       let number = last_own log r in
       ap (λ b. is_some (cond b None (cond (contains nat_cmp old.over r.txn) (get nat_cmp old.running r.txn) (Some (entry_behind n r (get nat_cmp old.running r.txn)))))) stays
       ∙ ⊎_elim
@@ -92,7 +92,7 @@ module _ (cut : ℕ) (before : List LogRecord) (r : LogRecord) (n : ℕ) (old ne
         ap (λ b. is_some (cond b (kept_txn_after n r (contains nat_cmp old.over r.txn) (get nat_cmp old.running r.txn)) (get nat_cmp old.running t))) other.0
         ∙ knows.running t one ∙ sym (running-other t log r other.1))
         (key_cases r.txn t) ∙ ap (is_running t) (sym push);
-    over = λ t one. over t ∙ ap (over_after r t) (knows.over t one) ∙ over_next before r t;
+    over = λ t. over t ∙ ap (over_after r t) (knows.over t) ∙ over_next before r t;
   }
 
   -- ---- of a record that means what it has to
@@ -113,7 +113,7 @@ module _ (cut : ℕ) (before : List LogRecord) (r : LogRecord) (n : ℕ) (old ne
       runs_log = over_padded r.txn one cut before ∙ m.not_over one
 
       not_over : contains nat_cmp old.over r.txn ≡ false
-      not_over = knows.ends.over r.txn one ∙ m.not_over one
+      not_over = knows.ends.over r.txn ∙ m.not_over one
 
       own_whole : IsWholeIn cut after r.txn → kept_txn_after n r (contains nat_cmp old.over r.txn) (get nat_cmp old.running r.txn) ≡ entry_at r.txn (log ++ r ∷ [])
       own_whole whole = ⊎_elim
@@ -243,7 +243,7 @@ pub kept_none : (g : Geometry) (cut : ℕ) (pass : KeptPass) → ((t : ℕ) → 
 kept_none g cut pass running over next = record {
   ends = record {
     running = λ t one. ap is_some (running t) ∙ sym (not_running t one);
-    over = λ t one. over t;
+    over = λ t. over t;
     nobody = running 0;
   };
   whole = λ t one whole. running t ∙ sym (entry_none t (padded cut []) (last_padded t one cut []));
@@ -277,7 +277,7 @@ pub knows_moved : (g : Geometry) (cut : ℕ) (before : List LogRecord) (old new 
 knows_moved g cut before old new knows running over next = record {
   ends = record {
     running = λ t one. ap (λ m. is_some (get nat_cmp m t)) running ∙ knows.ends.running t one;
-    over = λ t one. ap (λ m. contains nat_cmp m t) over ∙ knows.ends.over t one;
+    over = λ t. ap (λ m. contains nat_cmp m t) over ∙ knows.ends.over t;
     nobody = ap (λ m. get nat_cmp m 0) running ∙ knows.ends.nobody;
   };
   whole = λ t one whole. ap (λ m. get nat_cmp m t) running ∙ knows.whole t one whole;

@@ -1,9 +1,11 @@
+pub mod AnchoredFirsts
 pub mod Answered
 pub mod ChangesLeft
 pub mod Counted
 pub mod Covered
 pub mod DoubtOrder
 pub mod DoubtsLawful
+pub mod DoubtsLeft
 pub mod DoubtsTold
 pub mod Entries
 pub mod Found
@@ -32,6 +34,7 @@ pub mod OneMore
 pub mod Padding
 pub mod Phases
 pub mod Progresses
+pub mod QuietPrepares
 pub mod SomeTable
 pub mod Turns
 pub mod Undone

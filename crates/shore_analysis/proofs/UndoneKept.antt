@@ -1,6 +1,6 @@
 -- Kept records go on by the records of undo: each means what it has to still, and no transaction comes to them.
-use Rattle.std.proofs.Common.{◌≡◌, ◌≢◌, ⊎_elim, ◌+◌, ◌<◌, ℕ, zero, suc, List, [], ◌∷◌, ◌++◌, Bool, true, false, cond, Some, refl, sym, ap, subst, ◌∙◌, length, take, arith}
-use Rattle.std.specs.Prelude.{◌&&◌, All, nat_lt, reverse, slice_get}
+use Rattle.std.proofs.Common.{◌≡◌, ⊎_elim, ◌+◌, ◌<◌, ℕ, zero, suc, List, [], ◌∷◌, ◌++◌, Bool, true, false, cond, refl, sym, ap, subst, ◌∙◌, length, take, arith}
+use Rattle.std.specs.Prelude.{◌&&◌, nat_lt, reverse}
 use Rattle.std.specs.List.{AllByRecursion}
 use Rattle.std.proofs.lemmas.List.{take-append-le}
 use Rattle.std.proofs.lemmas.List.Elements.{All-from_recursion, All-weaker, recursion_from_All}
@@ -18,8 +18,8 @@ use Rattle.laws_lives.proofs.Writers.{same_or_not}
 use Rattle.laws_checkpoints.specs.KeptLogs.{IsKeptUnended, kept_records_of}
 use Rattle.laws_checkpoints.specs.KeptTables.{IsKeptEntry, IsKeptTable}
 use Rattle.shore_analysis.specs.KeptMeant.{AreMeantKept, HaveEnded, IsKeptCrowded, IsMeantNow, IsWholeIn, MayBeKept, listed_cut_off, to_have_ended}
-use Rattle.shore_analysis.specs.Meant.{AreMeantOf, IsCrowded, IsMeant}
-use Rattle.shore_analysis.specs.Padded.{blank, padded}
+use Rattle.shore_analysis.specs.Meant.{AreMeantOf, IsMeant}
+use Rattle.shore_analysis.specs.Padded.{padded}
 use Rattle.shore_analysis.proofs.KeptEnded.{unended_whole}
 use Rattle.shore_analysis.proofs.KeptMeans.{in_doubt_padded, says_kept, unanswered_padded}
 use Rattle.shore_analysis.proofs.KeptRecords.{first-later, records-other, some_kept}

@@ -1,5 +1,5 @@
 -- What a pass over the kept records of a log knows of those behind it.
-use Rattle.std.specs.Prelude.{true, false, ◌≡◌, ◌⊎◌, ◌<◌, ◌≤◌, ◌+◌, ◌==◌, ◌++◌, ℕ, List, [], ◌∷◌, Bool, Option, Some, IfSome, IsSomeAnd, if◌then◌else◌, is_some, nat_le, None, slice_get, take, unwrap_or}
+use Rattle.std.specs.Prelude.{true, false, ◌≡◌, ◌⊎◌, ◌<◌, ◌≤◌, ◌+◌, ◌==◌, ◌++◌, ℕ, List, [], ◌∷◌, All, Bool, Option, Some, IfSome, IsSomeAnd, if◌then◌else◌, is_some, nat_le, None, slice_get, take, unwrap_or}
 use Rattle.std.specs.Ordering.{nat_cmp}
 use Rattle.std.specs.BTreeMap.{get}
 use Rattle.std.specs.BTreeSet.{contains}
@@ -7,6 +7,7 @@ use Rattle.shore_types.specs.declared.layout.Geometry.{Geometry}
 use Rattle.shore_model.specs.declared.log_records.LogRecord.{LogRecord}
 use Rattle.shore_model.specs.declared.log_records.LogTxn.{LogTxn}
 use Rattle.shore_model.specs.Logs.{is_over}
+use Rattle.laws_checkpoints.specs.Checkpoints.{Checkpoint}
 use Rattle.laws_checkpoints.specs.KeptLogs.{kept_last_of, kept_records_of}
 use Rattle.laws_checkpoints.specs.MeantBehind.{IsCutOff, first_previous}
 use Rattle.laws_lives.specs.Views.{IsAmong}
@@ -14,6 +15,7 @@ use Rattle.shore_analysis.specs.declared.kept_passes.KeptPass.{KeptPass}
 use Rattle.shore_analysis.specs.declared.kept_passes.Standing.{Standing}
 use Rattle.shore_analysis.specs.declared.progress.Phase.TheVariants.{Free}
 use Rattle.shore_analysis.specs.declared.kept_passes.Standing.TheVariants.{CutOff, Nowhere, Whole}
+use Rattle.shore_analysis.specs.AnchoredMeant.{HasEndedSince, IsAnchoredEnd}
 use Rattle.shore_analysis.specs.KeptMeant.{IsKeptCrowded, IsMeantNow, IsWholeIn, to_have_ended}
 use Rattle.shore_analysis.specs.Meant.{AreMeantOf}
 use Rattle.shore_analysis.specs.Padded.{padded}
@@ -37,7 +39,7 @@ kept_txn_after n r over old = if is_ending r.payload then None else (if over the
 
 pub record KnowsEnds (cut : ℕ) (before : List LogRecord) (pass : KeptPass) : Type 0 where
   pub running : (t : ℕ) → 0 < t → is_some (get nat_cmp pass.running t) ≡ is_running t (padded cut before)
-  pub over : (t : ℕ) → 0 < t → contains nat_cmp pass.over t ≡ is_over t before
+  pub over : (t : ℕ) → contains nat_cmp pass.over t ≡ is_over t before
   pub nobody : get nat_cmp pass.running 0 ≡ None
 
 -- ---- of records that mean what they have to
@@ -105,6 +107,18 @@ pub record IsFirstRefused (g : Geometry) (cut : ℕ) (kept : List LogRecord) (pa
   pub places : ℕ
   pub up_to : place ≤ places
   pub awaited : KnowsAwaited cut kept places pass
+
+-- ---- the anchored checkpoint's End
+
+-- whoever it lists by a record that is cut off has ended since
+abbrev pub ListsEnded : ℕ → ℕ → List LogRecord → Type 0
+ListsEnded cut checkpoint kept = (n : ℕ) (r : LogRecord) (c : Checkpoint) → slice_get kept n ≡ Some r → IsAnchoredEnd checkpoint kept n r c → All (HasEndedSince cut kept) c.txns
+
+-- it has this number, and one has not
+pub record ListsUnended (cut checkpoint : ℕ) (kept : List LogRecord) (number : ℕ) : Type 0 where
+  pub place : ℕ
+  pub number_is : number ≡ cut + 1 + place
+  pub here : IsSomeAnd (slice_get kept place) (λ r. (c : Checkpoint) × IsAnchoredEnd checkpoint kept place r c × (All (HasEndedSince cut kept) c.txns → ⊥))
 
 -- ---- the first of two numbers, of those that are there
 

@@ -1,3 +1,4 @@
+pub mod AnchoredMeant
 pub mod Doubts
 pub mod KeptMeant
 pub mod KeptPasses

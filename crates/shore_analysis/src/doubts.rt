@@ -5,9 +5,11 @@ ghost use Rattle.shore_model.specs.declared.log_records.LogRecord.{LogRecord};
 ghost use Rattle.shore_model.specs.Logs.{IsTable, Lawful, in_doubt_in, is_prepared, unanswered, undo_next_of};
 ghost use Rattle.laws_lives.specs.Doubts.{doubts_in};
 ghost use Rattle.shore_analysis.specs.declared.analysis.Tables.{Tables};
-ghost use Rattle.shore_analysis.specs.Doubts.{doubt_at, said_at};
+ghost use Rattle.shore_analysis.specs.Doubts.{doubt_at, doubts_left, said_at};
 ghost use Rattle.shore_analysis.specs.KeptMeant.{AreMeantKept};
 ghost use Rattle.shore_analysis.specs.Meant.{AreMeant};
+ghost use Rattle.shore_analysis.specs.Padded.{padded};
+ghost use Rattle.laws_checkpoints.specs.KeptTables.{IsKeptTable};
 ghost use Rattle.shore_analysis.specs.Tables.{AreTables};
 
 use crate::kept_doubts::{prepare_behind, to_be_undone_behind};
@@ -25,6 +27,10 @@ pub fn in_doubt(alloc: Global, txns: &[LogTxn]) -> Result<Vec<LogTxn>, AllocErro
     ensures kept_order { IfOk result (λ found. (g : Geometry) (log : List LogRecord) → AreMeantKept g 0 log → IsTable log txns.now → map (λ e. e.txn) found.items ≡ in_doubt_in log) }
     ensures kept_prepares { IfOk result (λ found. (g : Geometry) (log : List LogRecord) → AreMeantKept g 0 log → IsTable log txns.now
         → map (λ e. doubt_at log e.prepare) found.items ≡ map (λ d. Some d) (doubts_in log)) }
+    ensures left_order { IfOk result (λ found. (g : Geometry) (cut : ℕ) (kept : List LogRecord) → AreMeantKept g cut kept → IsKeptTable cut kept txns.now
+        → map (λ e. e.txn) found.items ≡ map (λ d. d.txn) (doubts_left (padded cut kept))) }
+    ensures left_prepares { IfOk result (λ found. (g : Geometry) (cut : ℕ) (kept : List LogRecord) → AreMeantKept g cut kept → IsKeptTable cut kept txns.now
+        → map (λ e. doubt_at (padded cut kept) e.prepare) found.items ≡ map (λ d. Some d) (doubts_left (padded cut kept))) }
     ensures lawful_order { IfOk result (λ found. (log : List LogRecord) → Lawful log → IsTable log txns.now → map (λ e. e.txn) found.items ≡ in_doubt_in log) }
     ensures lawful_prepares { IfOk result (λ found. (log : List LogRecord) → Lawful log → IsTable log txns.now
         → map (λ e. doubt_at log e.prepare) found.items ≡ map (λ d. Some d) (doubts_in log)) }

@@ -4,11 +4,13 @@ ghost use Rattle.shore_types.specs.declared.layout.Geometry.{Geometry};
 ghost use Rattle.shore_types.specs.declared.layout.TheConstants.{LAST_OPENED};
 ghost use Rattle.laws_checkpoints.specs.Checkpoints.{Checkpoint, end_among, end_in};
 ghost use Rattle.shore_analysis.specs.declared.analysis.NotAnalysed.TheVariants.{Memory, Unlawful};
-ghost use Rattle.shore_analysis.specs.KeptMeant.{AreMeantKept, IsFirstUnmeantKept};
+ghost use Rattle.shore_analysis.specs.AnchoredMeant.{AreMeantAnchored, IsFirstUnmeantAnchored};
+ghost use Rattle.shore_analysis.specs.KeptMeant.{AreMeantKept};
 ghost use Rattle.shore_analysis.specs.KeptPasses.{AreMeantUpTo, IsFirstOf, IsFirstRefused, KnowsAwaited, KnowsEnds, KnowsKept};
 ghost use Rattle.shore_analysis.specs.KeptTables.{AreKeptTables, next_told, redo_table};
 
 use crate::analysis::NotAnalysed;
+use crate::anchored_end::{place_of_end, unended_end};
 use crate::kept_passes::{KeptPass, earlier};
 use crate::kept_tables::{KeptTables, RedoTable};
 use crate::passes::list_txns;
@@ -18,7 +20,7 @@ use std::alloc::{AllocError, Global};
 
 /// The tables of a log whose first `cut` records are cut off, by the others and the anchored checkpoint, whose begin has this number, 0 if there is none.
 /// One pass; if a record does not mean what it has to, the rest is read for who has ended, since a record before it may have taken one to have ended that
-/// has not.
+/// has not. So may the anchored checkpoint's End, which lists who had not ended as the checkpoint began.
 pub fn analyse_kept(
     alloc: Global,
     geometry: &Geometry,
@@ -29,12 +31,15 @@ pub fn analyse_kept(
     requires { cut < LAST_OPENED }
     ensures meant { IfOk result (λ tables. AreMeantKept geometry.now cut kept.now) }
     ensures tables { IfOk result (AreKeptTables cut checkpoint kept.now) }
-    ensures unlawful { IfErr result (λ error. (n : ℕ) → error ≡ Unlawful n → IsFirstUnmeantKept geometry.now cut kept.now n) }
+    ensures anchored { IfOk result (λ tables. AreMeantAnchored geometry.now cut checkpoint kept.now) }
+    ensures unlawful { IfErr result (λ error. (n : ℕ) → error ≡ Unlawful n → IsFirstUnmeantAnchored geometry.now cut checkpoint kept.now n) }
 {
     let mut pass = KeptPass::new(alloc);
     let refused = judge(&mut pass, geometry, cut, kept)?;
     let awaited = pass.first_awaited();
-    match first_of(refused, awaited) {
+    let unended = unended_end(&pass, cut, checkpoint, kept);
+    let unmeant = first_of(refused, awaited);
+    match first_of(unmeant, unended) {
         Some(number) => Err(NotAnalysed::Unlawful(number)),
         None => tables_of(alloc, checkpoint, kept, &pass),
     }
@@ -109,13 +114,11 @@ fn told_by_end(
     ensures redo { IfOk result (λ told. told.0 ≡ redo_table (end_among checkpoint kept.now)) }
     ensures next { IfOk result (λ told. told.1 ≡ next_told (end_among checkpoint kept.now)) }
 {
-    for index in 0..kept.len() {
-        let logged = &kept[index];
-        if is_end_of(&logged.payload, checkpoint) {
-            return told_by(alloc, &logged.payload);
-        }
-    }
-    no_end(alloc)
+    let Some(index) = place_of_end(checkpoint, kept) else {
+        return no_end(alloc);
+    };
+    let logged = &kept[index];
+    told_by(alloc, &logged.payload)
 }
 
 fn no_end(alloc: Global) -> Result<(RedoTable, TxnId), AllocError>
@@ -127,23 +130,6 @@ fn no_end(alloc: Global) -> Result<(RedoTable, TxnId), AllocError>
         dirty: Sequence::new(alloc),
     };
     Ok((redo, TxnId(0)))
-}
-
-// Whether it is the End of the checkpoint that begins with the record of this number.
-fn is_end_of(payload: &Payload, checkpoint: Lsn) -> bool
-    ensures { result ≡ is_some (end_in checkpoint payload.now) }
-{
-    match payload {
-        Payload::CheckpointEnd { begin, .. } => *begin == checkpoint,
-        Payload::Change { .. } => false,
-        Payload::Compensation { .. } => false,
-        Payload::Commit => false,
-        Payload::End => false,
-        Payload::Prepare { .. } => false,
-        Payload::RollbackDecided => false,
-        Payload::CheckpointBegin => false,
-        Payload::Anchor { .. } => false,
-    }
 }
 
 // What it says, if it is an End.

@@ -1,5 +1,5 @@
 //! Laws of analysis, each as a function that does nothing.
-ghost use Rattle.std.specs.Prelude.{◌≡◌, ◌<◌, ◌↔◌, ◌++◌, ◌∷◌, [], ℕ, All, IsTrue, List, drop, false, filter, take};
+ghost use Rattle.std.specs.Prelude.{◌≡◌, ◌⊎◌, ◌<◌, ◌↔◌, ◌++◌, ◌∷◌, [], ℕ, All, IsTrue, List, drop, false, filter, take};
 ghost use Rattle.shore_types.specs.declared.layout.Geometry.{Geometry};
 ghost use Rattle.shore_model.specs.declared.log_records.LogRecord.{LogRecord};
 ghost use Rattle.shore_model.specs.declared.log_records.LogTxn.{LogTxn};
@@ -10,8 +10,9 @@ ghost use Rattle.laws_checkpoints.specs.KeptLogs.{IsKeptUnended, MayBeCut};
 ghost use Rattle.laws_checkpoints.specs.KeptTables.{IsKeptTable};
 ghost use Rattle.shore_analysis.specs.declared.analysis.Tables.{Tables};
 ghost use Rattle.shore_analysis.specs.declared.kept_tables.KeptTables.{KeptTables};
+ghost use Rattle.shore_analysis.specs.AnchoredMeant.{AreMeantAnchored, IsFirstUnmeantAnchored};
 ghost use Rattle.shore_analysis.specs.Doubts.{doubt_at, kept_doubt_at, kept_said_at, said_at};
-ghost use Rattle.shore_analysis.specs.KeptMeant.{AreInLimits, AreMeantKept, IsFirstUnmeantKept, IsWholeIn};
+ghost use Rattle.shore_analysis.specs.KeptMeant.{AreInLimits, AreMeantKept, IsWholeIn};
 ghost use Rattle.shore_analysis.specs.KeptTables.{AreKeptTables};
 ghost use Rattle.shore_analysis.specs.Losers.{IsNextToUndo, IsUndoneInOrder, is_of_loser};
 ghost use Rattle.shore_analysis.specs.Meant.{AreMeant, MayBeNext, IsCrowded, IsFirstUnmeant, IsInBounds, IsServedKind};
@@ -70,12 +71,14 @@ pub fn kept_tables_are_of_the_whole()
         → AreKeptTables cut checkpoint (drop cut log) tables → IsTable log tables.txns }
 {}
 
-/// No lawful log that may be cut is refused: each kept record means what it has to. Beside the log's own law its ids, granules, pages and numbers have to
-/// lie in their bounds, and no more transactions may be unended at once than there may be.
+/// No lawful log that may be cut is refused, behind any checkpoint whose begin is kept: each kept record means what it has to, and that one's End lists nobody by a record that is cut off
+/// but one that has ended since. Beside the log's own law its ids, granules, pages and numbers have to lie in their bounds, and no more transactions may be unended at once than there may be.
 pub fn kept_records_are_not_refused()
     ensures meant { (g : Geometry) (log : List LogRecord) (volume : LoggedPages) (cut : ℕ) → Lawful log → AreInLimits g log → ((n : ℕ) → IsCrowded (take n log) → ⊥)
         → MayBeCut log volume cut → AreMeantKept g cut (drop cut log) }
-    ensures none { (g : Geometry) (cut : ℕ) (kept : List LogRecord) (n : ℕ) → AreMeantKept g cut kept → IsFirstUnmeantKept g cut kept n → ⊥ }
+    ensures anchored { (g : Geometry) (log : List LogRecord) (volume : LoggedPages) (cut checkpoint : ℕ) → Lawful log → AreInLimits g log → ((n : ℕ) → IsCrowded (take n log) → ⊥)
+        → MayBeCut log volume cut → (checkpoint ≡ 0) ⊎ (cut < checkpoint) → AreMeantAnchored g cut checkpoint (drop cut log) }
+    ensures none { (g : Geometry) (cut checkpoint : ℕ) (kept : List LogRecord) (n : ℕ) → AreMeantAnchored g cut checkpoint kept → IsFirstUnmeantAnchored g cut checkpoint kept n → ⊥ }
     ensures whole { (g : Geometry) (cut : ℕ) (kept : List LogRecord) (t : ℕ) → AreMeantKept g cut kept → IsKeptUnended cut kept t → IsWholeIn cut kept t }
 {}
 

@@ -3,6 +3,7 @@
 #![tactic(auto)]
 
 mod analysis;
+mod anchored_end;
 mod chains;
 mod doubts;
 mod kept_analysis;

@@ -1,36 +1,26 @@
-use Rattle.std.proofs.Common.{◌≡◌, ◌<◌, Some, length, refl, sym, ap, ◌∙◌, arith}
+use Rattle.std.proofs.Common.{◌≡◌, Some, length, refl, sym, ap, ◌∙◌}
 use Rattle.std.specs.Prelude.{slice_get}
 use Rattle.std.proofs.lemmas.Option.{slice_get_read}
-use Rattle.laws_checkpoints.specs.Checkpoints.{end_in}
+use Rattle.laws_checkpoints.specs.Checkpoints.{Checkpoint}
+use Rattle.shore_analysis.specs.AnchoredMeant.{IsAnchoredEnd}
 use Rattle.shore_analysis.specs.KeptTables.{next_told, redo_table}
-use Rattle.shore_analysis.proofs.KeptFound.{end_of, found, if_ok, passed}
+use Rattle.shore_analysis.proofs.KeptFound.{at_read, found, if_ok}
 use Rattle.shore_analysis.proofs.kept_analysis.told_by_end.Goals as goal
 
-pub loop-index-preserved : goal.loop-index-preserved
-loop-index-preserved c =
+pub returns-clause-redo : goal.returns-clause-redo
+returns-clause-redo c =
     let kept = c.args.kept.now in
-    let i = c.loop-index.index in
-    let within : i < length kept = omega arith in
-    let r = c.index-kept-index.result in
-    let at : slice_get kept i ≡ Some r = slice_get_read kept (length kept) i r refl within c.index-kept-index.is in
-    c.loop-index.invariant ∙ passed c.args.checkpoint kept i r at (sym c.is_end_of.ensures ∙ c.if-is_end_of.false)
+    let i = c.in-Some.index in
+    let q = c.index-kept-index.result in
+    let here : slice_get kept i ≡ Some q = slice_get_read kept (length kept) i q refl c.in-Some.ensures.within c.index-kept-index.is in
+    let its = at_read (λ x. (d : Checkpoint) × IsAnchoredEnd c.args.checkpoint kept i x d) kept i q here c.in-Some.ensures.some in
+    if_ok c.told_by.result (λ told h. (h c.args.checkpoint its.0 its.1.its).0 ∙ ap redo_table (sym (found c.args.checkpoint kept i q its.0 here its.1))) c.told_by.ensures
 
-pub returns-then-is_end_of-clause-redo : goal.returns-then-is_end_of-clause-redo
-returns-then-is_end_of-clause-redo c =
+pub returns-clause-next : goal.returns-clause-next
+returns-clause-next c =
     let kept = c.args.kept.now in
-    let i = c.loop-index.index in
-    let within : i < length kept = omega arith in
-    let r = c.index-kept-index.result in
-    let at : slice_get kept i ≡ Some r = slice_get_read kept (length kept) i r refl within c.index-kept-index.is in
-    let one = end_of (end_in c.args.checkpoint r.payload) (sym c.is_end_of.ensures ∙ c.if-is_end_of.true) in
-    if_ok c.told_by.result (λ told h. (h c.args.checkpoint one.0 one.1).0 ∙ ap redo_table (sym (c.loop-index.invariant ∙ found c.args.checkpoint kept i r at one.0 one.1))) c.told_by.ensures
-
-pub returns-then-is_end_of-clause-next : goal.returns-then-is_end_of-clause-next
-returns-then-is_end_of-clause-next c =
-    let kept = c.args.kept.now in
-    let i = c.loop-index.index in
-    let within : i < length kept = omega arith in
-    let r = c.index-kept-index.result in
-    let at : slice_get kept i ≡ Some r = slice_get_read kept (length kept) i r refl within c.index-kept-index.is in
-    let one = end_of (end_in c.args.checkpoint r.payload) (sym c.is_end_of.ensures ∙ c.if-is_end_of.true) in
-    if_ok c.told_by.result (λ told h. (h c.args.checkpoint one.0 one.1).1 ∙ ap next_told (sym (c.loop-index.invariant ∙ found c.args.checkpoint kept i r at one.0 one.1))) c.told_by.ensures
+    let i = c.in-Some.index in
+    let q = c.index-kept-index.result in
+    let here : slice_get kept i ≡ Some q = slice_get_read kept (length kept) i q refl c.in-Some.ensures.within c.index-kept-index.is in
+    let its = at_read (λ x. (d : Checkpoint) × IsAnchoredEnd c.args.checkpoint kept i x d) kept i q here c.in-Some.ensures.some in
+    if_ok c.told_by.result (λ told h. (h c.args.checkpoint its.0 its.1.its).1 ∙ ap next_told (sym (found c.args.checkpoint kept i q its.0 here its.1))) c.told_by.ensures
