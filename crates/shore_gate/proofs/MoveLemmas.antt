@@ -307,17 +307,17 @@ module _ (slot : Slot) (h mid new : DeviceHistory) (long : 2088 ≤ length (seen
 
 -- ---- the new anchor is written behind the shut gate, which is opened then
 
-module _ (from : Anchors) (next : Anchor) (before : List ℕ) (long : 2088 ≤ length before) (counts : Counts before from.slot from.anchor) (h new : DeviceHistory) where
+module _ (from : Anchors) (next : Anchor) (before : List ℕ) (long : 2088 ≤ length before) (h new : DeviceHistory) where
   abbrev slot_of_next : Slot
   slot_of_next = other_of from.slot
 
-  pub shutting : LeavesOnly h new (HasOlderInSlot slot_of_next from.anchor.sequence before) → LeavesOnly h new (IsAmidMove from next before)
-  shutting moment = widened h new (HasOlderInSlot slot_of_next from.anchor.sequence before) (IsAmidMove from next before) moment
+  pub shutting : Counts before from.slot from.anchor → LeavesOnly h new (HasOlderInSlot slot_of_next from.anchor.sequence before) → LeavesOnly h new (IsAmidMove from next before)
+  shutting counts moment = widened h new (HasOlderInSlot slot_of_next from.anchor.sequence before) (IsAmidMove from next before) moment
       (λ c left. old_counts from next before long counts c left.0 left.1 left.2)
 
   module _ (bytes : List ℕ) (size : length bytes ≡ 40) (shut : slice_index bytes 0 ≢ OPEN) (stands : Stands h (overwritten before (offset_of slot_of_next) bytes)) where
-    pub writing : LeavesOnly h new (TornFrom (offset_of slot_of_next + 1) 39 h) → LeavesOnly h new (IsAmidMove from next before)
-    writing moment = widened h new (TornFrom (offset_of slot_of_next + 1) 39 h) (IsAmidMove from next before) moment
+    pub writing : Counts before from.slot from.anchor → LeavesOnly h new (TornFrom (offset_of slot_of_next + 1) 39 h) → LeavesOnly h new (IsAmidMove from next before)
+    writing counts moment = widened h new (TornFrom (offset_of slot_of_next + 1) 39 h) (IsAmidMove from next before) moment
         (λ c torn.
         let t = torn_in_slot slot_of_next before long bytes size (offset_of slot_of_next + 1) 1 refl 39 c (omega arith)
         (subst (λ (d : List ℕ). Torn (offset_of slot_of_next + 1) 39 d c) (stands.only torn.0 torn.1) torn.2) in
@@ -341,8 +341,8 @@ module _ (from : Anchors) (next : Anchor) (before : List ℕ) (long : 2088 ≤ l
     full : length (gate ∷ anchor_bytes next) ≡ 40
     full = let s = length-anchor_bytes next in omega arith
 
-    pub opening_moment : IsAnchor next → from.anchor.sequence < next.sequence → MayCount next → LeavesOnly h new (TornFrom (offset_of slot_of_next) 1 h) → LeavesOnly h new (IsAmidMove from next before)
-    opening_moment fits later limits moment = widened h new (TornFrom (offset_of slot_of_next) 1 h) (IsAmidMove from next before) moment
+    pub opening_moment : Counts before from.slot from.anchor → IsAnchor next → from.anchor.sequence < next.sequence → MayCount next → LeavesOnly h new (TornFrom (offset_of slot_of_next) 1 h) → LeavesOnly h new (IsAmidMove from next before)
+    opening_moment counts fits later limits moment = widened h new (TornFrom (offset_of slot_of_next) 1 h) (IsAmidMove from next before) moment
         (λ c torn.
         let at = offset_of slot_of_next in
         let t = torn_in_slot slot_of_next before long (gate ∷ anchor_bytes next) full at 0 (omega arith) 1 c (omega arith)
@@ -367,15 +367,15 @@ module _ (from : Anchors) (next : Anchor) (before : List ℕ) (long : 2088 ≤ l
         (ap (λ (l : List ℕ). overwritten l at (OPEN ∷ [])) stands.read ∙ over_in_slot slot_of_next before long (gate ∷ anchor_bytes next) full at 0 (omega arith) (OPEN ∷ []) (omega arith))
         now
 
-  pub counts_then : IsAnchor next → from.anchor.sequence < next.sequence → MayCount next → Stands new (moved from next before) → Counts (seen new) slot_of_next next
-  counts_then fits later limits stands =
+  pub counts_then : Counts before from.slot from.anchor → IsAnchor next → from.anchor.sequence < next.sequence → MayCount next → Stands new (moved from next before) → Counts (seen new) slot_of_next next
+  counts_then counts fits later limits stands =
       let full : length (OPEN ∷ anchor_bytes next) ≡ 40 = let s = length-anchor_bytes next in omega arith in
       new_counts from next before long counts (seen new) (OPEN ∷ anchor_bytes next) (record { long = full; is = stands.read }) (record { fits = fits; text = refl }) later limits
 
 -- ---- a whole move
 
 -- the steps of a move by their answers, where the calls were given the slot and its byte
-module _ (from : Anchors) (next : Anchor) (old : DeviceHistory) (long : 2088 ≤ length (seen old)) (counts : Counts (seen old) from.slot from.anchor) (slot : Slot) (slot_is : slot ≡ other_of from.slot) (at : ℕ) (at_is : at ≡ offset_of slot) where
+module _ (from : Anchors) (next : Anchor) (old : DeviceHistory) (long : 2088 ≤ length (seen old)) (slot : Slot) (slot_is : slot ≡ other_of from.slot) (at : ℕ) (at_is : at ≡ offset_of slot) where
   at_next : at ≡ offset_of (other_of from.slot)
   at_next = at_is ∙ ap offset_of slot_is
 
@@ -383,11 +383,11 @@ module _ (from : Anchors) (next : Anchor) (old : DeviceHistory) (long : 2088 ≤
   Amid = IsAmidMove from next (seen old)
 
   -- the older slot, before
-  pub older_there : IsOlder (slot_bytes slot (seen old)) from.anchor.sequence
-  older_there = subst (λ (s : Slot). IsOlder (slot_bytes s (seen old)) from.anchor.sequence) (sym slot_is) counts.older
+  pub older_there : Counts (seen old) from.slot from.anchor → IsOlder (slot_bytes slot (seen old)) from.anchor.sequence
+  older_there counts = subst (λ (s : Slot). IsOlder (slot_bytes s (seen old)) from.anchor.sequence) (sym slot_is) counts.older
 
-  pub shut_moment : (h : DeviceHistory) → LeavesOnly old h (HasOlderInSlot slot from.anchor.sequence (seen old)) → LeavesOnly old h Amid
-  shut_moment h moment = shutting from next (seen old) long counts old h (subst (λ (s : Slot). LeavesOnly old h (HasOlderInSlot s from.anchor.sequence (seen old))) slot_is moment)
+  pub shut_moment : Counts (seen old) from.slot from.anchor → (h : DeviceHistory) → LeavesOnly old h (HasOlderInSlot slot from.anchor.sequence (seen old)) → LeavesOnly old h Amid
+  shut_moment counts h moment = shutting from next (seen old) long old h counts (subst (λ (s : Slot). LeavesOnly old h (HasOlderInSlot s from.anchor.sequence (seen old))) slot_is moment)
 
   -- the slot is shut
   abbrev pub HasShut : DeviceHistory → Type 0
@@ -397,26 +397,26 @@ module _ (from : Anchors) (next : Anchor) (old : DeviceHistory) (long : 2088 ≤
   stands_next h bytes stands = subst (λ (s : Slot). Stands h (overwritten (seen old) (offset_of s) bytes)) slot_is stands
 
   module _ (h : DeviceHistory) (shut : HasShut h) (new : DeviceHistory) (text : List ℕ) (is : text ≡ anchor_bytes next) where
-    pub write_moment : LeavesOnly h new (TornFrom (at + 1) (length text) h) → LeavesOnly h new Amid
-    write_moment moment =
+    pub write_moment : Counts (seen old) from.slot from.anchor → LeavesOnly h new (TornFrom (at + 1) (length text) h) → LeavesOnly h new Amid
+    write_moment counts moment =
         let size : length text ≡ 39 = ap (λ (l : List ℕ). length l) is ∙ length-anchor_bytes next in
-        writing from next (seen old) long counts h new shut.0 shut.1 shut.2 (stands_next h shut.0 shut.3)
+        writing from next (seen old) long h new shut.0 shut.1 shut.2 (stands_next h shut.0 shut.3) counts
         (subst (λ (n : ℕ). LeavesOnly h new (TornFrom (n + 1) 39 h)) at_next (subst (λ (n : ℕ). LeavesOnly h new (TornFrom (at + 1) n h)) size moment))
 
     pub text_stands : Stands new (overwritten (seen h) (at + 1) text) → Stands new (overwritten (seen old) (offset_of (other_of from.slot)) (slice_index shut.0 0 ∷ anchor_bytes next))
     text_stands stands =
-        written from next (seen old) long counts h new shut.0 shut.1 shut.2 (stands_next h shut.0 shut.3) text is
+        written from next (seen old) long h new shut.0 shut.1 shut.2 (stands_next h shut.0 shut.3) text is
         (subst (λ (n : ℕ). Stands new (overwritten (seen h) (n + 1) text)) at_next stands)
 
   module _ (h : DeviceHistory) (gate : ℕ) (shut : gate ≢ OPEN) (stands : Stands h (overwritten (seen old) (offset_of (other_of from.slot)) (gate ∷ anchor_bytes next))) (new : DeviceHistory)
       (fits : IsAnchor next) (later : from.anchor.sequence < next.sequence) (limits : MayCount next) where
-    pub open_moment : LeavesOnly h new (TornFrom at 1 h) → LeavesOnly h new Amid
-    open_moment moment =
-        opening_moment from next (seen old) long counts h new gate shut stands fits later limits (subst (λ (n : ℕ). LeavesOnly h new (TornFrom n 1 h)) at_next moment)
+    pub open_moment : Counts (seen old) from.slot from.anchor → LeavesOnly h new (TornFrom at 1 h) → LeavesOnly h new Amid
+    open_moment counts moment =
+        opening_moment from next (seen old) long h new gate shut stands counts fits later limits (subst (λ (n : ℕ). LeavesOnly h new (TornFrom n 1 h)) at_next moment)
 
     pub has_moved : Stands new (overwritten (seen h) at (OPEN ∷ [])) → Stands new (moved from next (seen old))
-    has_moved now = opened from next (seen old) long counts h new gate shut stands (subst (λ (n : ℕ). Stands new (overwritten (seen h) n (OPEN ∷ []))) at_next now)
+    has_moved now = opened from next (seen old) long h new gate shut stands (subst (λ (n : ℕ). Stands new (overwritten (seen h) n (OPEN ∷ []))) at_next now)
 
-    pub counts_now : Stands new (overwritten (seen h) at (OPEN ∷ [])) → (s : Slot) → s ≡ other_of from.slot → Counts (seen new) s next
-    counts_now now s is =
-        subst (λ (s : Slot). Counts (seen new) s next) (sym is) (counts_then from next (seen old) long counts h new fits later limits (has_moved now))
+    pub counts_now : Counts (seen old) from.slot from.anchor → Stands new (overwritten (seen h) at (OPEN ∷ [])) → (s : Slot) → s ≡ other_of from.slot → Counts (seen new) s next
+    counts_now counts now s is =
+        subst (λ (s : Slot). Counts (seen new) s next) (sym is) (counts_then from next (seen old) long h new counts fits later limits (has_moved now))
