@@ -1,2 +1,1 @@
-pub mod FrontLemmas
 pub mod BarrierLemmas

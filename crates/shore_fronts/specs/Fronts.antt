@@ -1,15 +1,13 @@
 -- What stands at the front of a log device.
-use Rattle.std.specs.Prelude.{◌≤◌, ◌&&◌, ◌==◌, ℕ, List, Bool, Result, Ok, Err, if◌then◌else◌, take}
+use Rattle.std.specs.Prelude.{◌≤◌, ℕ, List, take}
 use Rattle.shore_types.specs.declared.faults.Device.TheVariants.{Log}
 use Rattle.shore_types.specs.declared.layout.Geometry.{Geometry}
 use Rattle.shore_types.specs.declared.layout.TheConstants.{MAX_LOG_BYTES, MIN_LOG_BYTES}
-use Rattle.shore_types.specs.declared.faults.Fault.{Fault}
 use Rattle.shore_gate.specs.declared.anchors.Anchor.{Anchor}
-use Rattle.shore_gate.specs.declared.anchors.Anchors.{Anchors}
 use Rattle.shore_gate.specs.declared.anchors.Slot.{Slot}
 use Rattle.shore_gate.specs.declared.labels.Label.{Label}
 use Rattle.shore_gate.specs.Label.{HoldsLabel}
-use Rattle.shore_gate.specs.Anchor.{Counts, damaged}
+use Rattle.shore_gate.specs.Anchor.{Counts}
 
 -- a log device may be so long
 abbrev pub IsLogLength : ℕ → Type 0
@@ -28,12 +26,3 @@ pub record HasFront (g : Geometry) (device_bytes : ℕ) (image : List ℕ) : Typ
   pub label : HoldsLabel Log device_bytes (take 512 image) (log_label g device_bytes)
   pub slot : Slot
   pub anchor : Counts image slot first_anchor
-
--- an anchor of a log that is read from its first record on, without a checkpoint
-abbrev pub is_first : Anchor → Bool
-is_first anchor = (anchor.checkpoint == 0) && (anchor.tail == 1) && (anchor.tail_place == 0)
-
--- an anchor that counts is refused as long as it is another than the first
-abbrev pub first_checked : Result Anchors Fault → Result Unit Fault
-first_checked (Ok counting) = if is_first counting.anchor then Ok tt else Err (damaged counting.slot)
-first_checked (Err fault) = Err fault

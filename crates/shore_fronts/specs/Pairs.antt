@@ -7,9 +7,10 @@ use Rattle.shore_types.specs.declared.layout.Geometry.{Geometry}
 use Rattle.shore_disk.specs.Device.{DeviceHistory, size, seen}
 use Rattle.shore_gate.specs.Label.{HoldsLabel, HasLabel, verdict_of}
 use Rattle.shore_gate.specs.Anchor as anchors
-use Rattle.shore_gate.specs.Anchor.{offset_of}
+use Rattle.shore_gate.specs.Anchor.{Counts}
+use Rattle.shore_gate.specs.declared.anchors.Anchors.{Anchors}
 use Rattle.shore_fronts.specs.declared.fronts.Fronts.{Fronts}
-use Rattle.shore_fronts.specs.Fronts.{HasFront, first_checked, log_label}
+use Rattle.shore_fronts.specs.Fronts.{log_label}
 use Rattle.shore_fronts.specs.Volumes.{volume_label}
 
 -- ---- what the fronts say
@@ -18,12 +19,12 @@ use Rattle.shore_fronts.specs.Volumes.{volume_label}
 abbrev pub ArePaired : Geometry → DeviceHistory → DeviceHistory → Type 0
 ArePaired g log volume = HoldsLabel Log (size log) (take 512 (seen log)) (log_label g (size log)) × HasLabel Volume volume (volume_label g)
 
--- and the first anchor counts
-abbrev pub HaveFronts : Geometry → DeviceHistory → DeviceHistory → Type 0
-HaveFronts g log volume = HasFront g (size log) (seen log) × HasLabel Volume volume (volume_label g)
+-- and this anchor of the log counts, in its slot
+abbrev pub HaveFronts : Geometry → Anchors → DeviceHistory → DeviceHistory → Type 0
+HaveFronts g counting log volume = ArePaired g log volume × Counts (seen log) counting.slot counting.anchor
 
 abbrev pub AreFronts : DeviceHistory → DeviceHistory → Fronts → Type 0
-AreFronts log volume fronts = (have : HaveFronts fronts.geometry log volume) × (fronts.anchor_offset ≡ offset_of have.0.slot) × (fronts.of_pages ≡ fronts.geometry)
+AreFronts log volume fronts = HaveFronts fronts.geometry fronts.anchors log volume × (fronts.of_pages ≡ fronts.geometry)
 
 -- ---- what an open is refused with
 
@@ -38,4 +39,4 @@ RefusesLabels log volume fault =
 abbrev pub RefusesFronts : DeviceHistory → DeviceHistory → Fault → Type 0
 RefusesFronts log volume fault =
     RefusesLabels log volume fault
-    ⊎ ((g : Geometry) × ArePaired g log volume × (first_checked (anchors.verdict_of (seen log)) ≡ Err fault))
+    ⊎ ((g : Geometry) × ArePaired g log volume × (anchors.verdict_of (seen log) ≡ Err fault))

@@ -1,21 +1,20 @@
 //! Reading what the fronts of a pair say.
-ghost use Rattle.std.specs.Prelude.{◌≡◌, ◌⊎◌, ◌≤◌, ◌↔◌, IsTrue, IfOk, IfErr, OnOk, OnErr, MatchResult, Ok, Err};
+ghost use Rattle.std.specs.Prelude.{◌≡◌, ◌⊎◌, ◌↔◌, IsTrue, IfOk, IfErr, OnOk, MatchResult};
 ghost use Rattle.shore_types.specs.Layout.{IsInLimits};
 ghost use Rattle.shore_types.specs.declared.layout.Geometry.{Geometry};
 ghost use Rattle.shore_disk.specs.Cause.{HasCause};
-ghost use Rattle.shore_disk.specs.Device.{size, seen};
+ghost use Rattle.shore_disk.specs.Device.{seen, size};
 ghost use Rattle.shore_gate.specs.Checks.{IsFromOutside};
-ghost use Rattle.shore_gate.specs.Anchor as anchors;
-ghost use Rattle.shore_gate.specs.Anchor.{Counts, offset_of};
-ghost use Rattle.shore_gate.specs.declared.anchors.Slot.{Slot};
+ghost use Rattle.shore_gate.specs.Anchor.{Counts};
+ghost use Rattle.shore_gate.specs.declared.anchors.Anchors.{Anchors};
 ghost use Rattle.shore_fronts.specs.Barriers.{IsBeforeBarrier, IsBehindBarrier};
 ghost use Rattle.shore_fronts.specs.Causes.{HasCauseOfPair};
-ghost use Rattle.shore_fronts.specs.Fronts.{IsLogLength, first_anchor, first_checked, is_first};
+ghost use Rattle.shore_fronts.specs.Fronts.{IsLogLength};
 ghost use Rattle.shore_fronts.specs.Pairs.{AreFronts, ArePaired, HaveFronts, RefusesFronts, RefusesLabels};
 ghost use Rattle.shore_fronts.specs.Volumes.{volume_bytes};
 
 use shore_disk::Disk;
-use shore_gate::{Anchor, Anchors, Label, read_label};
+use shore_gate::{Anchors, Label, read_label};
 use shore_types::{Device, Fault, Geometry};
 use std::alloc::Global;
 
@@ -26,13 +25,12 @@ pub struct Fronts {
     pub geometry: Geometry,
     /// The same, as the volume's label has it, for those who keep the pages.
     pub of_pages: Geometry,
-    /// The byte of the anchor that counts.
-    pub anchor_offset: u64,
+    /// The anchor that counts, and its slot.
+    pub anchors: Anchors,
 }
 
 /// Reads the fronts of a pair: a barrier on both devices, the log's first; the labels, the log's first; that they are of one pair; and the
-/// anchor that counts. `WrongPair` if the labels are laid out differently. No checkpoint is made as yet, and the log begins at its first
-/// record: another anchor is `Damaged` at its offset.
+/// anchor that counts. `WrongPair` if the labels are laid out differently.
 pub fn read_fronts<L: Disk, V: Disk>(
     alloc: Global,
     log: &mut L,
@@ -40,8 +38,11 @@ pub fn read_fronts<L: Disk, V: Disk>(
 ) -> Result<Fronts, Fault>
     // The fronts that stand there are answered, and nothing else is taken for one.
     ensures found { IsTrue (L.is_honest log.old) → IsTrue (V.is_honest volume.old) → IfOk result (AreFronts (L.history log.old) (V.history volume.old)) }
-    ensures only { IsTrue (L.is_honest log.old) → IsTrue (V.is_honest volume.old) → (g : Geometry) → HaveFronts g (L.history log.old) (V.history volume.old)
-        → MatchResult result (λ fronts. fronts.geometry ≡ g) IsFromOutside }
+    ensures only { IsTrue (L.is_honest log.old) → IsTrue (V.is_honest volume.old) → (g : Geometry) (counting : Anchors) → HaveFronts g counting (L.history log.old) (V.history volume.old)
+        → MatchResult result (λ fronts. (fronts.geometry ≡ g) × (fronts.anchors ≡ counting)) IsFromOutside }
+
+    // The anchor is told rightly whatever the volume does.
+    ensures counts { IsTrue (L.is_honest log.old) → IfOk result (λ fronts. Counts (seen (L.history log.old)) fronts.anchors.slot fronts.anchors.anchor) }
 
     // What is refused goes by the checks in their order.
     ensures refused { IsTrue (L.is_honest log.old) → IsTrue (V.is_honest volume.old)
@@ -62,11 +63,11 @@ pub fn read_fronts<L: Disk, V: Disk>(
     log.sync()?;
     volume.sync()?;
     let (geometry, of_pages) = read_labels(alloc, log, volume)?;
-    let anchor_offset = read_anchor(log)?;
+    let anchors = Anchors::read(log)?;
     Ok(Fronts {
         geometry,
         of_pages,
-        anchor_offset,
+        anchors,
     })
 }
 
@@ -113,32 +114,4 @@ fn are_same(one: &Geometry, other: &Geometry) -> bool
     ensures { IsTrue result ↔ (other.now ≡ one.now) }
 {
     one.pair == other.pair && one.max_locks == other.max_locks && one.stores == other.stores
-}
-
-// The byte of the anchor that counts.
-fn read_anchor<D: Disk>(log: &mut D) -> Result<u64, Fault>
-    requires { IsLogLength (size (D.history log.old)) }
-    ensures found { IsTrue (D.is_honest log.old) → IfOk result (λ offset. (slot : Slot) × Counts (seen (D.history log.old)) slot first_anchor × (offset ≡ offset_of slot)) }
-    ensures only { IsTrue (D.is_honest log.old) → (slot : Slot) → Counts (seen (D.history log.old)) slot first_anchor
-        → MatchResult result (λ offset. offset ≡ offset_of slot) IsFromOutside }
-    ensures refused { IsTrue (D.is_honest log.old)
-        → IfErr result (λ fault. IsFromOutside fault ⊎ (first_checked (anchors.verdict_of (seen (D.history log.old))) ≡ Err fault)) }
-    ensures same { IsTrue (D.is_honest log.old) → D.history log.new ≡ D.history log.old }
-    ensures honest { D.is_honest log.new ≡ D.is_honest log.old }
-    ensures size { size (D.history log.new) ≡ size (D.history log.old) }
-    ensures cause { HasCause result (D.faults log.old) (D.faults log.new) }
-{
-    let counting = Anchors::read(log)?;
-    let anchor_offset = counting.slot.offset();
-    if !is_first(&counting.anchor) {
-        return Err(Fault::damaged(Device::Log, anchor_offset));
-    }
-    Ok(anchor_offset)
-}
-
-// Whether a log is read from its first record on, without a checkpoint.
-fn is_first(anchor: &Anchor) -> bool
-    ensures { result ≡ is_first anchor.now }
-{
-    anchor.checkpoint.0 == 0 && anchor.tail.0 == 1 && anchor.tail_place == 0
 }

@@ -1,8 +1,9 @@
 -- The index of the frames, and a cut.
 use Rattle.std.proofs.Common.{◌≡◌, ◌≤◌, ◌<◌, ◌+◌, ◌-◌, ◌*◌, inl, inr, IsTrue, ℕ, zero, suc, List, [], ◌∷◌, ◌++◌, Bool, true, false, eqb, Some, refl, sym, ap, subst, ◌∙◌, length, take, drop, arith, append_assoc, length-append, length-drop}
-use Rattle.std.specs.Prelude.{◌&&◌, nat_le, slice_get, slice_index_or}
-use Rattle.std.proofs.lemmas.Bool.{cases_lt, eqb-false, eqb-true, le-leb, leb-true}
-use Rattle.std.proofs.lemmas.List.{drop-drop, drop_at, take_at}
+use Rattle.std.specs.Prelude.{◌&&◌, if◌then◌else◌, nat_le, nat_lt, slice_get, slice_index_or}
+use Rattle.std.specs.List.Sorted.{IsNonDecreasingBy}
+use Rattle.std.proofs.lemmas.Bool.{cases_lt, eqb-false, eqb-true, le-leb, leb-true, lt-leb, lt-ltb, ltb-true}
+use Rattle.std.proofs.lemmas.List.{drop_at, take_at}
 use Rattle.shore_disk.specs.declared.device.Disk.{Ghosts}
 use Rattle.shore_disk.specs.Device.{Stands}
 use Rattle.shore_model.specs.declared.log_records.LogRecord.{LogRecord}
@@ -17,9 +18,10 @@ use Rattle.shore_frames.proofs.FrameLemmas.{groups_behind, joined-append, length
 use Rattle.shore_frames.proofs.IndexLemmas.{IsAtFrame, at_frame, index_at}
 use Rattle.shore_frames.proofs.Turns.{length-from_place}
 use Rattle.shore_frames.proofs.RingFrames.{ring_cut, ring_some, seen_cut}
-use Rattle.shore_log.specs.Indexes.{AreListed, IsInGroup, are_listed}
+use Rattle.shore_log.specs.Indexes.{AreListed, IsInGroup, are_listed, first_in, frame_with, place_in}
 use Rattle.shore_log.proofs.ForceLemmas.{unwrap}
-use Rattle.shore_log.specs.Settled.{HoldsFrom, IsSettledFrom, IsStagedFrom, stable}
+use Rattle.shore_log.proofs.TextLemmas.{texts_least}
+use Rattle.shore_log.specs.Settled.{HoldsFrom, IsSettledFrom, IsStagedFrom, stable, waiting}
 use Rattle.shore_log.specs.declared.device.LogDev.{LogDev}
 
 -- ---- the index as a list
@@ -31,76 +33,175 @@ both_are false b h = cc
 both_true : {a b : Bool} → a ≡ true → b ≡ true → (a && b) ≡ true
 both_true p q = cc
 
-pub listed_of : (place head last : ℕ) (fs : List FrameAt) → IsTrue (are_listed place head last fs) → AreListed place head last fs
-listed_of place head last [] h = leb-true place head h
-listed_of place head last (f ∷ fs) h =
-    let all = both_are (nat_le place f.place && nat_le f.first last) (are_listed f.place head last fs) h in
-    let both = both_are (nat_le place f.place) (nat_le f.first last) all.0 in
-    (leb-true place f.place both.0, leb-true f.first last both.1, listed_of f.place head last fs all.1)
+pub listed_of : (head next : ℕ) (fs : List FrameAt) → IsTrue (are_listed head next fs) → AreListed head next fs
+listed_of head next [] h = tt
+listed_of head next (f ∷ fs) h =
+    let all = both_are (nat_lt f.first (first_in next fs) && nat_le (f.place + 21 * first_in next fs) (place_in head fs + 21 * f.first) && nat_le (f.place + 65549) (65549 * f.first)) (are_listed head next fs) h in
+    let three = both_are (nat_lt f.first (first_in next fs) && nat_le (f.place + 21 * first_in next fs) (place_in head fs + 21 * f.first)) (nat_le (f.place + 65549) (65549 * f.first)) all.0 in
+    let two = both_are (nat_lt f.first (first_in next fs)) (nat_le (f.place + 21 * first_in next fs) (place_in head fs + 21 * f.first)) three.0 in
+    (ltb-true f.first (first_in next fs) two.0, leb-true (f.place + 21 * first_in next fs) (place_in head fs + 21 * f.first) two.1, leb-true (f.place + 65549) (65549 * f.first) three.1, listed_of head next fs all.1)
 
-pub listed_test : (place head last : ℕ) (fs : List FrameAt) → AreListed place head last fs → IsTrue (are_listed place head last fs)
-listed_test place head last [] h = le-leb place head h
-listed_test place head last (f ∷ fs) h = both_true (both_true (le-leb place f.place h.0) (le-leb f.first last h.1)) (listed_test f.place head last fs h.2)
+pub listed_test : (head next : ℕ) (fs : List FrameAt) → AreListed head next fs → IsTrue (are_listed head next fs)
+listed_test head next [] h = refl
+listed_test head next (f ∷ fs) h =
+    both_true (both_true (both_true (lt-ltb f.first (first_in next fs) h.0) (le-leb (f.place + 21 * first_in next fs) (place_in head fs + 21 * f.first) h.1)) (le-leb (f.place + 65549) (65549 * f.first) h.2)) (listed_test head next fs h.3)
 
-pub listed_push : (place head last head' last' : ℕ) (fs : List FrameAt) (f : FrameAt) → f.place ≡ head → f.first ≤ last' → last ≤ last' → head ≤ head' → AreListed place head last fs → AreListed place head' last' (fs ++ f ∷ [])
-listed_push place head last head' last' [] f is first more on h = (omega (arith, h, is), first, omega (arith, is, on))
-listed_push place head last head' last' (g ∷ fs) f is first more on h = let le = h.1 in (h.0, omega (arith, le, more), listed_push g.place head last head' last' fs f is first more on h.2)
+-- a frame more
+pub begins_push : (next next' : ℕ) (fs : List FrameAt) (f : FrameAt) → f.first ≡ next → first_in next' (fs ++ f ∷ []) ≡ first_in next fs
+begins_push next next' [] f is = is
+begins_push next next' (g ∷ fs) f is = refl
 
-listed_below : (place later head last : ℕ) (fs : List FrameAt) → place ≤ later → AreListed later head last fs → AreListed place head last fs
-listed_below place later head last [] le h = omega (arith, h, le)
-listed_below place later head last (f ∷ fs) le h = let least = h.0 in (omega (arith, least, le), h.1, h.2)
+pub placed_push : (head head' : ℕ) (fs : List FrameAt) (f : FrameAt) → f.place ≡ head → place_in head' (fs ++ f ∷ []) ≡ place_in head fs
+placed_push head head' [] f is = is
+placed_push head head' (g ∷ fs) f is = refl
 
-listed_most : (place head last : ℕ) (fs : List FrameAt) → AreListed place head last fs → place ≤ head
-listed_most place head last [] h = h
-listed_most place head last (f ∷ fs) h = let le = h.0 in omega (arith, le, listed_most f.place head last fs h.2)
+pub listed_push : (head next head' next' : ℕ) (fs : List FrameAt) (f : FrameAt) → f.place ≡ head → f.first ≡ next → next < next' → head + 21 * next' ≤ head' + 21 * next → head + 65549 ≤ 65549 * next → AreListed head next fs
+    → AreListed head' next' (fs ++ f ∷ [])
+listed_push head next head' next' [] f is first_is more on near h =
+    (omega (arith, first_is, more), omega (arith, is, first_is, on), omega (arith, is, first_is, near), tt)
+listed_push head next head' next' (g ∷ fs) f is first_is more on near h =
+    let less = h.0 in
+    let le = h.1 in
+    let first = begins_push next next' fs f first_is in
+    let place = placed_push head head' fs f is in
+    (omega (arith, less, first), omega (arith, le, first, place), h.2, listed_push head next head' next' fs f is first_is more on near h.3)
+
+pub listed_most : (head next : ℕ) (fs : List FrameAt) → AreListed head next fs → (place_in head fs + 21 * next ≤ head + 21 * first_in next fs) × (first_in next fs + length fs ≤ next)
+listed_most head next [] h = (omega arith, omega arith)
+listed_most head next (f ∷ fs) h =
+    let less = h.0 in
+    let le = h.1 in
+    let rest = listed_most head next fs h.3 in
+    let far = rest.0 in
+    let more = rest.1 in
+    (omega (arith, le, far), omega (arith, less, more))
 
 -- a frame of the index, and those behind it
-pub record IsListedAt (place head last : ℕ) (fs : List FrameAt) (count : ℕ) (f : FrameAt) : Type 0 where
-  pub least : place ≤ f.place
-  pub most : f.place ≤ head
-  pub first : f.first ≤ last
-  pub rest : AreListed f.place head last (drop count fs)
+pub record IsListedAt (head next : ℕ) (fs : List FrameAt) (count : ℕ) (f : FrameAt) : Type 0 where
+  pub before : place_in head fs + 21 * f.first ≤ f.place + 21 * first_in next fs
+  pub behind : f.place + 21 * next ≤ head + 21 * f.first
+  pub from : first_in next fs + count ≤ f.first
+  pub to : f.first < next
+  pub near : f.place + 65549 ≤ 65549 * f.first
+  pub rest : AreListed head next (drop count fs)
+  pub first : f.first ≡ first_in next (drop count fs)
+  pub place : f.place ≡ place_in head (drop count fs)
 
-pub listed_at : (place head last : ℕ) (fs : List FrameAt) (count : ℕ) (f : FrameAt) → slice_get fs count ≡ Some f → AreListed place head last fs → IsListedAt place head last fs count f
-listed_at place head last [] count f at h = cc
-listed_at place head last (g ∷ fs) zero f at h =
+pub listed_at : (head next : ℕ) (fs : List FrameAt) (count : ℕ) (f : FrameAt) → slice_get fs count ≡ Some f → AreListed head next fs → IsListedAt head next fs count f
+listed_at head next [] count f at h = cc
+listed_at head next (g ∷ fs) zero f at h =
     let same : g ≡ f = unwrap at in
-    subst (λ (x : FrameAt). IsListedAt place head last (g ∷ fs) 0 x) same
-    (record { least = h.0; most = listed_most g.place head last fs h.2; first = h.1; rest = (omega arith, h.1, h.2) })
-listed_at place head last (g ∷ fs) (suc count) f at h =
-    let rest = listed_at g.place head last fs count f at h.2 in
-    let le = h.0 in
-    record { least = omega (arith, le, rest.least); most = rest.most; first = rest.first; rest = rest.rest }
+    let most = listed_most head next (g ∷ fs) h in
+    let far = most.0 in
+    let more = most.1 in
+    subst (λ (x : FrameAt). IsListedAt head next (g ∷ fs) 0 x) same
+    (record { before = omega arith; behind = omega (arith, far); from = omega arith; to = omega (arith, more); near = h.2; rest = h; first = refl; place = refl })
+listed_at head next (g ∷ fs) (suc count) f at h =
+    let rest = listed_at head next fs count f at h.3 in
+    let less = h.0 in
+    let le = h.1 in
+    record { before = omega (arith, le, rest.before); behind = rest.behind; from = omega (arith, less, rest.from); to = rest.to; near = rest.near; rest = rest.rest; first = rest.first; place = rest.place }
+
+listed_least : (head next : ℕ) (fs : List FrameAt) → AreListed head next fs → (k : ℕ) (d : FrameAt) → k < length fs → first_in next fs ≤ (slice_index_or fs k d).first
+listed_least head next [] h k d within = absurd (omega arith)
+listed_least head next (f ∷ fs) h zero d within = omega arith
+listed_least head next (f ∷ fs) h (suc k) d within =
+    let rest = listed_least head next fs h.3 k d (omega arith) in
+    let less = h.0 in
+    omega (arith, rest, less)
+
+pub listed_rises : (head next : ℕ) (fs : List FrameAt) → AreListed head next fs → IsNonDecreasingBy (λ (f : FrameAt). f.first) fs
+listed_rises head next [] h i j d le within = absurd (omega arith)
+listed_rises head next (f ∷ fs) h zero j d le within = listed_least head next (f ∷ fs) h j d within
+listed_rises head next (f ∷ fs) h (suc i) zero d le within = absurd (omega arith)
+listed_rises head next (f ∷ fs) h (suc i) (suc j) d le within = listed_rises head next fs h.3 i j d (omega arith) (omega arith)
+
+some_group : (rs : List LogRecord) → 1 ≤ length (texts rs) → 1 ≤ length rs
+some_group [] some = absurd (omega (arith, some))
+some_group (r ∷ rs) some = omega arith
 
 -- the index of some groups is listed
-pub index_listed : (n place head last : ℕ) (gs : List (List LogRecord)) → AreGroups n gs → head ≡ place + length (text n gs) → n + length (joined gs) ≤ last + 1 → AreListed place head last (index_of n place gs)
-index_listed n place head last [] are is most = omega (arith, is)
-index_listed n place head last (g ∷ gs) are is most =
-    let some : 1 ≤ length g = some_records g are.0.some in
-    let long : length (text n (g ∷ gs)) ≡ 13 + length (texts g) + length (text (n + length g) gs) = omega (arith, length-append (behind_gate n (texts g)) (text (n + length g) gs), length-behind_gate n (texts g)) in
-    let count : length (joined (g ∷ gs)) ≡ length g + length (joined gs) = length-append g (joined gs) in (
-      omega arith,
-      omega (arith, some, count, most),
-      listed_below place (place + (13 + length (texts g))) head last (index_of (n + length g) (place + (13 + length (texts g))) gs) (omega arith)
-          (index_listed (n + length g) (place + (13 + length (texts g))) head last gs are.1 (omega (arith, is, long)) (omega (arith, count, most))),
-    )
-  where
-    some_records : (rs : List LogRecord) → 1 ≤ length (texts rs) → 1 ≤ length rs
-    some_records [] some = absurd (omega (arith, some))
-    some_records (r ∷ rs) some = omega arith
+pub index_first : (n place head next : ℕ) (gs : List (List LogRecord)) → next ≡ n + length (joined gs) → first_in next (index_of n place gs) ≡ n
+index_first n place head next [] is = omega (arith, is)
+index_first n place head next (g ∷ gs) is = refl
 
--- frames take no more than one record of the longest each
-pub text_most : (n : ℕ) (gs : List (List LogRecord)) → AreGroups n gs → length (text n gs) ≤ 65549 * length (joined gs)
-text_most n [] are = omega arith
-text_most n (g ∷ gs) are =
-    let rest = text_most (n + length g) gs are.1 in
+pub index_place : (n place head : ℕ) (gs : List (List LogRecord)) → head ≡ place + length (text n gs) → place_in head (index_of n place gs) ≡ place
+index_place n place head [] is = omega (arith, is)
+index_place n place head (g ∷ gs) is = refl
+
+pub index_listed : (n place head next : ℕ) (gs : List (List LogRecord)) → AreGroups n gs → head ≡ place + length (text n gs) → next ≡ n + length (joined gs) → place + 65549 ≤ 65549 * n → AreListed head next (index_of n place gs)
+index_listed n place head next [] are is count near = tt
+index_listed n place head next (g ∷ gs) are is count near =
+    let long : length (text n (g ∷ gs)) ≡ 13 + length (texts g) + length (text (n + length g) gs) = omega (arith, length-append (behind_gate n (texts g)) (text (n + length g) gs), length-behind_gate n (texts g)) in
+    let sum : length (joined (g ∷ gs)) ≡ length g + length (joined gs) = length-append g (joined gs) in
+    let some : 1 ≤ length g = some_group g are.0.some in
+    let dense = texts_least g in
+    let most = are.0.most in
+    let later = n + length g in
+    let on = place + (13 + length (texts g)) in
+    let head_is : head ≡ on + length (text later gs) = omega (arith, is, long) in
+    let next_is : next ≡ later + length (joined gs) = omega (arith, count, sum) in
+    let first = index_first later on head next gs next_is in
+    let there = index_place later on head gs head_is in
+    (omega (arith, first, some), omega (arith, there, first, dense), near, index_listed later on head next gs are.1 head_is next_is (omega (arith, near, most, some)))
+
+chosen_true : {A : Type 0} (b : Bool) (x y : A) → b ≡ true → (if b then x else y) ≡ x
+chosen_true true x y is = refl
+chosen_true false x y is = absurd cc
+
+chosen_false : {A : Type 0} (b : Bool) (x y : A) → b ≡ false → (if b then x else y) ≡ y
+chosen_false true x y is = absurd cc
+chosen_false false x y is = refl
+
+pub with_below : (fs : List FrameAt) (number : ℕ) (at : FrameAt) → at.first ≤ number → (frame_with number at fs).first ≤ number
+with_below [] number at le = le
+with_below (f ∷ fs) number at le = elim (cases_lt number f.first) [
+  | inl over ↦ subst (λ (x : FrameAt). x.first ≤ number) (sym (chosen_false (nat_le f.first number) (frame_with number f fs) at (lt-leb f.first number over))) le
+  | inr less ↦
+      subst (λ (x : FrameAt). x.first ≤ number) (sym (chosen_true (nat_le f.first number) (frame_with number f fs) at (le-leb f.first number less))) (with_below fs number f less)
+]
+
+-- frames take no more than one of the longest for each record
+pub text_long : (n : ℕ) (gs : List (List LogRecord)) → AreGroups n gs → length (text n gs) ≤ 65549 * length (joined gs)
+text_long n [] are = omega arith
+text_long n (g ∷ gs) are =
+    let rest = text_long (n + length g) gs are.1 in
     let count : length (joined (g ∷ gs)) ≡ length g + length (joined gs) = length-append g (joined gs) in
-    let some : 1 ≤ length g = some_records g are.0.some in
+    let some : 1 ≤ length g = some_group g are.0.some in
     omega (arith, rest, count, some, are.0.most, length-append (behind_gate n (texts g)) (text (n + length g) gs), length-behind_gate n (texts g))
-  where
-    some_records : (rs : List LogRecord) → 1 ≤ length (texts rs) → 1 ≤ length rs
-    some_records [] some = absurd (omega (arith, some))
-    some_records (r ∷ rs) some = omega arith
+
+-- the last frame that begins no later than a number is the one before all that begin later
+pub with_at : (fs : List FrameAt) (number i : ℕ) (at : FrameAt) → i ≤ length fs → ((k : ℕ) (d : FrameAt) → k < i → (slice_index_or fs k d).first ≤ number)
+    → ((k : ℕ) (d : FrameAt) → i ≤ k → k < length fs → number < (slice_index_or fs k d).first) → slice_get (at ∷ fs) i ≡ Some (frame_with number at fs)
+with_at [] number zero at within low high = refl
+with_at [] number (suc i) at within low high = absurd (omega (arith, within))
+with_at (f ∷ fs) number zero at within low high =
+    let over = high 0 f (omega arith) (omega arith) in
+    ap Some (sym (chosen_false (nat_le f.first number) (frame_with number f fs) at (lt-leb f.first number over)))
+with_at (f ∷ fs) number (suc i) at within low high =
+    let le = low 0 f (omega arith) in
+    with_at fs number i f (omega (arith, within)) (λ k d lt. low (suc k) d (omega arith)) (λ k d lt less. high (suc k) d (omega arith) (omega arith))
+    ∙ ap Some (sym (chosen_true (nat_le f.first number) (frame_with number f fs) at (le-leb f.first number le)))
+
+pub one_before : (fs : List FrameAt) (i : ℕ) (at f : FrameAt) → 1 ≤ i → slice_get (at ∷ fs) i ≡ Some f → slice_get fs (i - 1) ≡ Some f
+one_before fs zero at f some is = absurd (omega (arith, some))
+one_before fs (suc i) at f some is = ap (slice_get fs) (omega arith) ∙ is
+
+pub none_low : (next : ℕ) (fs : List FrameAt) (number i : ℕ) → number < first_in next fs → i ≤ length fs → ((k : ℕ) (d : FrameAt) → k < i → (slice_index_or fs k d).first ≤ number) → i ≡ 0
+none_low next fs number zero below most low = refl
+none_low next [] number (suc i) below most low = absurd (omega (arith, most))
+none_low next (f ∷ fs) number (suc i) below most low = let h = low 0 f (omega arith) in absurd (omega (arith, h, below))
+
+pub some_low : (next : ℕ) (fs : List FrameAt) (number i : ℕ) → 0 < length fs → first_in next fs ≤ number → ((k : ℕ) (d : FrameAt) → i ≤ k → k < length fs → number < (slice_index_or fs k d).first) → 1 ≤ i
+some_low next fs number (suc i) some le high = omega arith
+some_low next [] number zero some le high = absurd (omega (arith, some))
+some_low next (f ∷ fs) number zero some le high = let h = high 0 f (omega arith) (omega arith) in absurd (omega (arith, h, le))
+
+-- an index at which something stands
+pub there_is : (fs : List FrameAt) (n : ℕ) (f : FrameAt) → slice_get fs n ≡ Some f → n < length fs
+there_is [] n f at = cc
+there_is (g ∷ fs) zero f at = omega arith
+there_is (g ∷ fs) (suc n) f at = let less = there_is fs n f at in omega (arith, less)
 
 -- ---- the frame of a number
 
@@ -159,7 +260,7 @@ pub is_some : (b : Bool) (n k : ℕ) → b ≡ eqb n 0 → n ≡ k → b ≡ fal
 is_some b n k is same f = let some = eqb-false n 0 (sym is ∙ f) in omega (arith, some, same)
 
 -- a number that is kept is in a frame
-pub none_kept : (tail place : ℕ) (gs : List (List LogRecord)) (forced number : ℕ) → length (index_of tail place gs) ≡ 0 → forced + 1 ≡ number_behind tail gs → tail ≤ number → number ≤ forced → ⊥
+pub none_kept : (tail place : ℕ) (gs : List (List LogRecord)) (forced number : ℕ) → length (index_of tail place gs) ≡ 0 → tail + forced ≡ number_behind tail gs → tail ≤ number → number < tail + forced → ⊥
 none_kept tail place [] forced number none last least most = omega (arith, last, least, most)
 none_kept tail place (g ∷ gs) forced number none last least most = absurd (omega (arith, none))
 
@@ -203,30 +304,40 @@ some_at (y ∷ xs) (suc n) x lt is = some_at xs n x (omega arith) is
 pub left_behind : (xs new mid : List FrameAt) (count left : ℕ) → new ≡ take left mid → mid ≡ drop count xs ++ take count xs → left + count ≡ length xs → new ≡ drop count xs
 left_behind xs new mid count left is turned all = is ∙ ap (take left) turned ∙ take_at (drop count xs) (take count xs) left (omega (arith, length-drop count xs))
 
+-- what is left of the first so many of a list, once some of these are gone
+pub taken_behind : {A : Type 0} (xs : List A) (gone count : ℕ) → gone ≤ count → count ≤ length xs → take (count - gone) (drop gone xs) ≡ drop gone (take count xs)
+taken_behind xs zero count le within = ap (λ n. take n xs) (omega arith)
+taken_behind [] (suc gone) count le within = absurd (omega (arith, le, within))
+taken_behind (x ∷ xs) (suc gone) zero le within = absurd (omega (arith, le))
+taken_behind (x ∷ xs) (suc gone) (suc count) le within = ap (λ n. take n (drop gone xs)) (omega arith) ∙ taken_behind xs gone count (omega (arith, le)) (omega (arith, within))
+
 module _ {D : Type 0} {G : Ghosts D} (tail place : ℕ) (old new : LogDev D G) (groups : List (List LogRecord)) (h : HoldsFrom tail place old groups) (count : ℕ) (f : FrameAt)
-    (at : slice_get old.frames.items count ≡ Some f) (device : new.device ≡ old.device) (at_tail : new.tail ≡ f) (head : new.head ≡ old.head) (forced : new.forced ≡ old.forced)
-    (frames : new.frames.items ≡ drop count old.frames.items) (records : new.records.items ≡ old.records.items) where
+    (at : slice_get old.frames.items count ≡ Some f) (device : new.device ≡ old.device) (at_tail : new.tail ≡ f) (head : new.head ≡ old.head)
+    (frames : new.frames.items ≡ drop count old.frames.items) (stays : stable new ≡ drop (f.first - old.tail.first) (stable old)) (forced : new.forced + (f.first - old.tail.first) ≡ old.forced)
+    (waits : waiting new ≡ waiting old) where
   w : IsAtFrame tail place groups count f
   w = at_frame tail place groups count f (ap (λ l. slice_get l count) (sym h.index) ∙ at)
 
   cut_holds : HoldsFrom f.first f.place new w.left
   cut_holds =
-      let same : stable new ≡ stable old = ap (λ n. take n new.records.items) forced ∙ ap (take old.forced) records in
       let counted = number_behind-joined tail w.gone in
-      let gone : f.first - 1 ≡ (tail - 1) + length (joined w.gone) = omega (arith, w.first, counted, h.some) in
+      let gone : f.first - old.tail.first ≡ length (joined w.gone) = omega (arith, w.first, counted, h.first) in
       let split = ap (λ gs. length (text tail gs)) w.parts in
       let texts_are = ap length (text-append tail w.gone w.left) in
       let sum = length-append (text tail w.gone) (text (number_behind tail w.gone) w.left) in
       let here : old.head ≡ f.place + length (text (number_behind tail w.gone) w.left) = omega (arith, h.head, w.place_is, split, texts_are, sum) in
+      let numbers = number_behind-append tail w.gone w.left in
+      let again = ap (λ t. number_behind t w.left) (sym w.first) in
+      let whole = ap (number_behind tail) w.parts in
       record {
         honest = subst (λ d. IsTrue (G.is_honest d)) (sym device) h.honest;
         some = omega (arith, w.first, counted, h.some);
         first = ap (λ (x : FrameAt). x.first) at_tail;
         place_is = ap (λ (x : FrameAt). x.place) at_tail;
         forced =
-            ap (λ k. drop k (stable new)) gone ∙ ap (drop ((tail - 1) + length (joined w.gone))) same ∙ sym (drop-drop (length (joined w.gone)) (tail - 1) (stable old))
+            stays ∙ ap (λ k. drop k (stable old)) gone
             ∙ ap (drop (length (joined w.gone))) (h.forced ∙ ap joined w.parts ∙ joined-append w.gone w.left) ∙ drop_at (joined w.gone) (joined w.left) (length (joined w.gone)) refl;
-        number = ap (λ k. k + 1) forced ∙ h.number ∙ ap (number_behind tail) w.parts ∙ number_behind-append tail w.gone w.left ∙ ap (λ t. number_behind t w.left) (sym w.first);
+        number = omega (arith, forced, gone, counted, w.first, h.number, whole, numbers, again);
         head = head ∙ here ∙ ap (λ t. f.place + length (text t w.left)) (sym w.first);
         index = frames ∙ ap (drop count) h.index ∙ w.index;
       }
@@ -267,6 +378,6 @@ module _ {D : Type 0} {G : Ghosts D} (tail place : ℕ) (old new : LogDev D G) (
             ∙ ap (λ l. text (number_behind tail w.gone) w.left ++ s.gate ∷ l) (append_assoc (behind_gate (number_behind tail s.groups) (texts group)) (0 ∷ s.rest) over)
             ∙ ap (λ n. text (number_behind tail w.gone) w.left ++ s.gate ∷ (behind_gate n (texts group) ++ 0 ∷ (s.rest ++ over))) number
             ∙ ap (λ t. text t w.left ++ s.gate ∷ (behind_gate (number_behind f.first w.left) (texts group) ++ 0 ∷ (s.rest ++ over))) (sym w.first);
-        first = ap (λ n. take (length group) (drop n new.records.items)) forced ∙ ap (λ l. take (length group) (drop old.forced l)) records ∙ s.first;
+        first = ap (take (length group)) waits ∙ s.first;
         waits = staged ∙ s.waits;
       }

@@ -1,38 +1,68 @@
 -- What a crash leaves of the log device in each of the two steps of a force.
-use Rattle.std.proofs.Common.{◌≡◌, ◌≤◌, ◌<◌, ◌+◌, ◌-◌, IsTrue, ℕ, List, [], ◌∷◌, ◌++◌, Some, refl, sym, ap, subst, ◌∙◌, length, take, drop, arith, append_assoc, length-append, length-drop}
+use Rattle.std.proofs.Common.{◌≡◌, ◌≤◌, ◌<◌, ◌+◌, ◌-◌, IsTrue, ℕ, List, [], ◌∷◌, ◌++◌, Some, refl, sym, ap, subst, ◌∙◌, length, take, drop, arith, append_assoc, drop-drop, length-append, length-drop}
+use Rattle.std.specs.Prelude.{All}
+use Rattle.std.specs.Global.{Vec}
 use Rattle.std.proofs.lemmas.List.{drop-append-le, length-take, length-take-le, take-append-le}
 use Rattle.shore_disk.specs.Device.{Stands, may_leave}
 use Rattle.shore_disk.specs.declared.device.Disk.{Ghosts}
 use Rattle.shore_gate.specs.declared.gates.TheConstants.{OPEN}
 use Rattle.shore_model.specs.declared.log_records.LogRecord.{LogRecord}
-use Rattle.shore_logrec.specs.Text.{texts}
+use Rattle.shore_logrec.specs.Text.{Fits, texts}
 use Rattle.shore_frames.specs.declared.reading.FrameAt.{FrameAt}
 use Rattle.shore_frames.specs.Frames.{AreNumbered, Frames, GivesBehindFrom, GivesFrom, GivesWithOrWithoutFrom, IsGroup, IsLongest, behind_gate, joined, number_behind, text}
 use Rattle.shore_frames.specs.Places.{from_place, stream_of}
 use Rattle.shore_frames.specs.Rings.{IsRingWritten, TornRing}
 use Rattle.shore_frames.specs.Streams.{index_of}
-use Rattle.shore_frames.proofs.FrameLemmas.{AreGroups-push, joined-push, length-behind_gate, length-text-push, number_behind-joined, parts_of}
+use Rattle.shore_frames.proofs.FrameLemmas.{AreGroups-front, AreGroups-push, joined-push, length-behind_gate, length-text-push, number_behind-joined, parts_of}
 use Rattle.shore_frames.proofs.IndexLemmas.{index-push}
-use Rattle.shore_frames.proofs.LoggedLemmas.{AreNumbered-drop, AreNumbered-test, IsGroup-longest, take-more_group}
+use Rattle.shore_frames.proofs.LoggedLemmas.{AreNumbered-drop, AreNumbered-fit, AreNumbered-test, IsGroup-longest, take-more_group}
 use Rattle.shore_frames.proofs.RingFrames.{behind_gate_written, open_torn, ring_gives, ring_opened, ring_some, stage_torn}
-use Rattle.shore_log.specs.Settled.{HoldsFrom, IsSettledFrom, IsStagedFrom, KeepsFrames, forced_from, stable, waiting}
+use Rattle.shore_log.specs.Settled.{HoldsFrom, IsSettledFrom, IsStagedFrom, KeepsFrames, stable, waiting, records_of_log}
+use Rattle.shore_log.specs.Listed.{all_in}
+use Rattle.shore_log.proofs.TextLemmas.{rest_is}
 use Rattle.shore_log.specs.declared.device.LogDev.{LogDev}
 
 pub unwrap : {A : Type 0} {x y : A} → Some x ≡ Some y → x ≡ y
 unwrap e = cc
 
+-- what waits has texts
+pub waiting_fit : {D : Type 0} {G : Ghosts D} (log : LogDev D G) → All Fits (waiting log)
+waiting_fit log =
+    AreNumbered-fit (log.tail.first + log.forced) (waiting log) (AreNumbered-drop log.tail.first log.forced (records_of_log log) log.forced_inside (AreNumbered-test log.tail.first (records_of_log log) log.numbered))
+
+pub kept_fit : {D : Type 0} {G : Ghosts D} (log : LogDev D G) → All Fits (records_of_log log)
+kept_fit log = AreNumbered-fit log.tail.first (records_of_log log) (AreNumbered-test log.tail.first (records_of_log log) log.numbered)
+
+-- where all are in memory: what is kept of them, and what waits
+pub kept_read : {D : Type 0} {G : Ghosts D} (log : LogDev D G) (v : Vec LogRecord) → log.read ≡ Some v → drop log.gone v.items ≡ records_of_log log
+kept_read log v is = ap (drop log.gone) (log.held v is).0
+
+pub waiting_read : {D : Type 0} {G : Ghosts D} (log : LogDev D G) (v : Vec LogRecord) → log.read ≡ Some v → drop (log.gone + log.forced) v.items ≡ waiting log
+waiting_read log v is = ap (drop (log.gone + log.forced)) (log.held v is).0 ∙ sym (drop-drop log.forced log.gone (all_in log.found.items log.later.items))
+
+pub slice_waiting : {D : Type 0} {G : Ghosts D} (log : LogDev D G) (v : Vec LogRecord) (l : List LogRecord) → log.read ≡ Some v → l ≡ v.items
+    → take (length l - (log.gone + log.forced)) (drop (log.gone + log.forced) l) ≡ waiting log
+slice_waiting log v l read is = rest_is (log.gone + log.forced) l ∙ ap (drop (log.gone + log.forced)) is ∙ waiting_read log v read
+
+-- so many wait
+pub waiting_count : {D : Type 0} {G : Ghosts D} (log : LogDev D G) → log.forced + length (waiting log) ≡ log.count
+waiting_count log =
+    omega (
+      arith,
+      log.counted,
+      log.forced_inside,
+      length-drop log.forced (records_of_log log),
+      length-drop log.gone (all_in log.found.items log.later.items),
+    )
+
 -- a settled log: each image that a crash leaves gives its forced records from the tail on
 pub settled_gives : {D : Type 0} {G : Ghosts D} {tail place : ℕ} (log : LogDev D G) (front : List ℕ) → IsSettledFrom tail place log front
-    → (c : List ℕ) → may_leave (G.history log.device) c → GivesBehindFrom front tail place (forced_from tail log) c
+    → (c : List ℕ) → may_leave (G.history log.device) c → GivesBehindFrom front tail place (stable log) c
 settled_gives {tail = tail} {place = place} log front s c left =
-    subst (GivesBehindFrom front tail place (forced_from tail log)) (sym (s.stands.only c left))
+    subst (GivesBehindFrom front tail place (stable log)) (sym (s.stands.only c left))
     (s.is_front, subst (λ rs. GivesFrom tail place rs s.image) (sym s.holds.forced) (ring_gives s.image tail place (ring_some (stream_of s.image) tail place s.groups s.ring) s.groups s.ring))
 
 module _ {D : Type 0} {G : Ghosts D} (tail place : ℕ) (log : LogDev D G) (groups : List (List LogRecord)) (h : HoldsFrom tail place log groups) where
-  -- no more is forced than there is from the tail on
-  pub tail_within : tail - 1 ≤ length (stable log)
-  tail_within = omega (arith, h.some, h.number, number_behind-joined tail groups, length-take-le log.forced log.records.items log.forced_inside)
-
   -- what is said of the log is kept where its parts are the same
   pub still_holds : (new : LogDev D G) → G.is_honest new.device ≡ G.is_honest log.device → new.tail ≡ log.tail → new.head ≡ log.head → new.forced ≡ log.forced → new.frames.items ≡ log.frames.items → stable new ≡ stable log
       → HoldsFrom tail place new groups
@@ -41,24 +71,28 @@ module _ {D : Type 0} {G : Ghosts D} (tail place : ℕ) (log : LogDev D G) (grou
     some = h.some;
     first = ap (λ (f : FrameAt). f.first) at ∙ h.first;
     place_is = ap (λ (f : FrameAt). f.place) at ∙ h.place_is;
-    forced = ap (λ (l : List LogRecord). drop (tail - 1) l) same ∙ h.forced;
-    number = ap (λ n. n + 1) forced ∙ h.number;
+    forced = same ∙ h.forced;
+    number = ap (λ n. tail + n) forced ∙ h.number;
     head = head ∙ h.head;
     index = frames ∙ h.index;
   }
 
 -- a log of which frames and device are kept, behind which records were taken at most
 module _ {D : Type 0} {G : Ghosts D} (old new : LogDev D G) (honest : G.is_honest new.device ≡ G.is_honest old.device) (device : IsTrue (G.is_honest old.device) → G.history new.device ≡ G.history old.device)
-    (at : new.tail ≡ old.tail) (head : new.head ≡ old.head) (forced : new.forced ≡ old.forced) (frames : new.frames.items ≡ old.frames.items) (staged : new.staged ≡ old.staged)
-    (more : List LogRecord) (records : new.records.items ≡ old.records.items ++ more) where
+    (at : new.tail ≡ old.tail) (anchors : new.anchors ≡ old.anchors) (head : new.head ≡ old.head) (forced : new.forced ≡ old.forced) (frames : new.frames.items ≡ old.frames.items) (staged : new.staged ≡ old.staged)
+    (more : List LogRecord) (records : records_of_log new ≡ records_of_log old ++ more) where
   same_stable : stable new ≡ stable old
-  same_stable = ap (λ n. take n new.records.items) forced ∙ ap (take old.forced) records ∙ take-append-le old.forced old.records.items more old.forced_inside
+  same_stable = ap (λ n. take n (records_of_log new)) forced ∙ ap (take old.forced) records ∙ take-append-le old.forced (records_of_log old) more old.forced_inside
 
   longer_waiting : waiting new ≡ waiting old ++ more
-  longer_waiting = ap (λ n. drop n new.records.items) forced ∙ ap (drop old.forced) records ∙ drop-append-le old.forced old.records.items more old.forced_inside
+  longer_waiting = ap (λ n. drop n (records_of_log new)) forced ∙ ap (drop old.forced) records ∙ drop-append-le old.forced (records_of_log old) more old.forced_inside
 
   pub keeps_frames : KeepsFrames old new
   keeps_frames = record {
+    tail = at;
+    anchors = anchors;
+    index = frames;
+    head = head;
     forced = same_stable;
     under_way = staged;
     settled = λ tail place front s. record {
@@ -87,6 +121,17 @@ module _ {D : Type 0} {G : Ghosts D} (old new : LogDev D G) (honest : G.is_hones
     };
   }
 
+-- a staged frame stands behind a closed gate, so the log is settled without it
+pub staged_settled : {D : Type 0} {G : Ghosts D} {tail place : ℕ} (log : LogDev D G) (front : List ℕ) (group : List LogRecord) → IsStagedFrom tail place log front group → IsSettledFrom tail place log front
+staged_settled {tail = tail} log front group s = record {
+  image = s.image;
+  stands = s.stands;
+  is_front = s.is_front;
+  groups = s.groups;
+  holds = s.holds;
+  ring = record { gate = s.gate; rest = behind_gate (number_behind tail s.groups) (texts group) ++ 0 ∷ s.rest; shut = s.shut; are = AreGroups-front tail s.groups group s.are; stands = s.seen };
+}
+
 -- frames that were read
 pub settled_from : {D : Type 0} {G : Ghosts D} (tail place : ℕ) (log : LogDev D G) (image : List ℕ) (gs : List (List LogRecord)) → Stands (G.history log.device) image
     → Frames tail (from_place place (stream_of image)) gs → HoldsFrom tail place log gs → IsSettledFrom tail place log (take 4096 image)
@@ -105,7 +150,7 @@ settled_from tail place log image gs stands frames holds =
 
 module _ {D : Type 0} {G : Ghosts D} (tail place : ℕ) (log : LogDev D G) (front : List ℕ) (s : IsSettledFrom tail place log front) (long : length s.image ≡ 4096 + log.stream_bytes) where
   abbrev kept : List LogRecord
-  kept = forced_from tail log
+  kept = stable log
 
   stream_long : length (stream_of s.image) ≡ log.stream_bytes
   stream_long = omega (arith, length-drop 4096 s.image, long)
@@ -126,15 +171,17 @@ module _ {D : Type 0} {G : Ghosts D} (tail place : ℕ) (log : LogDev D G) (fron
   -- the first so many of its waiting records stand there in a frame
   pub staged_from : (new : LogDev D G) (count n len : ℕ) (bytes image : List ℕ) → n ≡ count → 1 ≤ count → IsLongest (waiting log) count
       → log.head + 13 + length (texts (take count (waiting log))) < log.tail.place + log.stream_bytes
-      → IsTrue (G.is_honest new.device) → Stands (G.history new.device) image → bytes ≡ behind_gate (log.forced + 1) (texts (take count (waiting log))) ++ 0 ∷ []
+      → IsTrue (G.is_honest new.device) → Stands (G.history new.device) image → bytes ≡ behind_gate (log.tail.first + log.forced) (texts (take count (waiting log))) ++ 0 ∷ []
       → IsRingWritten (log.head + 1) bytes s.image image
-      → new.tail ≡ log.tail → new.head ≡ log.head → new.forced ≡ log.forced → new.records ≡ log.records → new.frames.items ≡ log.frames.items
+      → new.tail ≡ log.tail → new.head ≡ log.head → new.forced ≡ log.forced → records_of_log new ≡ records_of_log log → new.frames.items ≡ log.frames.items
       → len ≡ length (texts (take count (waiting log))) → new.staged ≡ Some record { count = count; len = len } → IsStagedFrom tail place new front (take n (waiting log))
   staged_from new count n len bytes image n_is some longest fits honest stands bytes_are written at head forced records frames len_is staged =
       let rs = waiting log in
       let group = take count rs in
-      let number = log.forced + 1 in
-      let are : AreNumbered number rs = subst (λ k. AreNumbered k rs) (omega arith) (AreNumbered-drop 1 log.forced log.records.items log.forced_inside (AreNumbered-test 1 log.records.items log.numbered)) in
+      let number = log.tail.first + log.forced in
+      let h = s.holds in
+      let number_is : number ≡ number_behind tail s.groups = ap (λ k. k + log.forced) h.first ∙ h.number in
+      let are : AreNumbered number rs = AreNumbered-drop log.tail.first log.forced (records_of_log log) log.forced_inside (AreNumbered-test log.tail.first (records_of_log log) log.numbered) in
       let is_group : IsGroup number group = IsGroup-longest number rs count some are longest in
       let count_is : length group ≡ count = length-take-le count rs longest.within in
       let same : stable new ≡ stable log = cc (records, forced) in
@@ -145,7 +192,6 @@ module _ {D : Type 0} {G : Ghosts D} (tail place : ℕ) (log : LogDev D G) (fron
       subst (λ p. IsRingWritten p exact s.image image) behind_head (subst (λ b. IsRingWritten (log.head + 1) b s.image image) bytes_are written) in
       let view = behind_gate_written s.image tail place stream_some s.groups image exact w (omega (arith, size, s.holds.head, s.holds.place_is, stream_long, fits)) s.ring in
       let left = drop (length exact) s.ring.rest in
-      let h = s.holds in
       let made : IsStagedFrom tail place new front group = record {
         image = image;
         stands = stands;
@@ -156,18 +202,18 @@ module _ {D : Type 0} {G : Ghosts D} (tail place : ℕ) (log : LogDev D G) (fron
           some = h.some;
           first = ap (λ (f : FrameAt). f.first) at ∙ h.first;
           place_is = ap (λ (f : FrameAt). f.place) at ∙ h.place_is;
-          forced = ap (λ (l : List LogRecord). drop (tail - 1) l) same ∙ h.forced;
-          number = ap (λ k. k + 1) forced ∙ h.number;
+          forced = same ∙ h.forced;
+          number = ap (λ k. tail + k) forced ∙ h.number;
           head = head ∙ h.head;
           index = frames ∙ h.index;
         };
         gate = s.ring.gate;
         rest = left;
         shut = s.ring.shut;
-        are = AreGroups-push tail s.groups group s.ring.are (subst (λ k. IsGroup k group) h.number is_group);
+        are = AreGroups-push tail s.groups group s.ring.are (subst (λ k. IsGroup k group) number_is is_group);
         seen =
             view ∙ ap (λ (l : List ℕ). text tail s.groups ++ s.ring.gate ∷ l) (append_assoc (behind_gate number (texts group)) (0 ∷ []) left)
-            ∙ ap (λ (k : ℕ). text tail s.groups ++ s.ring.gate ∷ (behind_gate k (texts group) ++ 0 ∷ left)) h.number;
+            ∙ ap (λ (k : ℕ). text tail s.groups ++ s.ring.gate ∷ (behind_gate k (texts group) ++ 0 ∷ left)) number_is;
         first = ap (λ (l : List LogRecord). take (length group) l) wait ∙ ap (λ (k : ℕ). take k rs) count_is;
         waits = cc (staged, count_is, len_is);
       } in
@@ -185,26 +231,27 @@ module _ {D : Type 0} {G : Ghosts D} (tail place : ℕ) (log : LogDev D G) (fron
   gate_fits : length (text tail s.groups) + 1 ≤ length (stream_of s.image)
   gate_fits = omega (arith, staged_long, log.head_inside, s.holds.head, s.holds.place_is)
 
-  pub open_gives : (c : List ℕ) → TornRing log.head 1 s.image c → GivesWithOrWithoutFrom front tail place (forced_from tail log) group c
+  pub open_gives : (c : List ℕ) → TornRing log.head 1 s.image c → GivesWithOrWithoutFrom front tail place (stable log) group c
   open_gives c torn =
       subst (λ rs. GivesWithOrWithoutFrom front tail place rs group c) (sym s.holds.forced)
       (open_torn front s.image s.is_front tail place staged_some s.groups group s.are s.gate s.rest s.seen gate_fits c (subst (λ p. TornRing p 1 s.image c) s.holds.head torn))
 
   -- the records of the frame are forced then
-  pub more_stable : take (log.forced + length group) log.records.items ≡ stable log ++ group
-  more_stable = take-more_group log.records.items log.forced group log.forced_inside s.first
+  pub more_stable : take (log.forced + length group) (records_of_log log) ≡ stable log ++ group
+  more_stable = take-more_group (records_of_log log) log.forced group log.forced_inside s.first
 
   pub opened_from : (new : LogDev D G) (image : List ℕ) → IsTrue (G.is_honest new.device) → Stands (G.history new.device) image → IsRingWritten log.head (OPEN ∷ []) s.image image
-      → new.tail ≡ log.tail → new.head ≡ log.head + 13 + length (texts group) → new.forced ≡ log.forced + length group → new.records ≡ log.records
-      → new.frames.items ≡ log.frames.items ++ (record { first = log.forced + 1; place = log.head }) ∷ [] → IsSettledFrom tail place new front × (stable new ≡ stable log ++ group)
+      → new.tail ≡ log.tail → new.head ≡ log.head + 13 + length (texts group) → new.forced ≡ log.forced + length group → records_of_log new ≡ records_of_log log
+      → new.frames.items ≡ log.frames.items ++ (record { first = log.tail.first + log.forced; place = log.head }) ∷ [] → IsSettledFrom tail place new front × (stable new ≡ stable log ++ group)
   opened_from new image honest stands written at head forced records frames =
       let h = s.holds in
       let gs = s.groups ++ group ∷ [] in
       let w : IsRingWritten (place + length (text tail s.groups)) (OPEN ∷ []) s.image image = subst (λ p. IsRingWritten p (OPEN ∷ []) s.image image) h.head written in
       let size = length-text-push tail s.groups group in
-      let count : number_behind tail gs ≡ log.forced + length group + 1 =
+      let number_is : log.tail.first + log.forced ≡ number_behind tail s.groups = ap (λ k. k + log.forced) h.first ∙ h.number in
+      let count : number_behind tail gs ≡ tail + (log.forced + length group) =
       omega (arith, number_behind-joined tail gs, ap length (joined-push s.groups group), length-append (joined s.groups) group, number_behind-joined tail s.groups, h.number) in
-      let longer : stable new ≡ stable log ++ group = ap (λ (n : ℕ). take n new.records.items) forced ∙ ap (λ v. take (log.forced + length group) v.items) records ∙ more_stable in (
+      let longer : stable new ≡ stable log ++ group = ap (λ (n : ℕ). take n (records_of_log new)) forced ∙ ap (take (log.forced + length group)) records ∙ more_stable in (
         record {
           image = image;
           stands = stands;
@@ -216,13 +263,12 @@ module _ {D : Type 0} {G : Ghosts D} (tail place : ℕ) (log : LogDev D G) (fron
             first = ap (λ (f : FrameAt). f.first) at ∙ h.first;
             place_is = ap (λ (f : FrameAt). f.place) at ∙ h.place_is;
             forced =
-                ap (λ (l : List LogRecord). drop (tail - 1) l) longer ∙ drop-append-le (tail - 1) (stable log) group (tail_within tail place log s.groups h)
-                ∙ ap (λ (l : List LogRecord). l ++ group) h.forced ∙ sym (joined-push s.groups group);
-            number = ap (λ (k : ℕ). k + 1) forced ∙ sym count;
+                longer ∙ ap (λ (l : List LogRecord). l ++ group) h.forced ∙ sym (joined-push s.groups group);
+            number = ap (λ (k : ℕ). tail + k) forced ∙ sym count;
             head = let e : log.head + 13 + length (texts group) ≡ place + length (text tail gs) = omega (arith, size, h.head) in head ∙ e;
             index =
-                frames ∙ ap (λ l. l ++ (record { first = log.forced + 1; place = log.head }) ∷ []) h.index
-                ∙ ap (λ (k : ℕ). index_of tail place s.groups ++ (record { first = k; place = log.head }) ∷ []) h.number
+                frames ∙ ap (λ l. l ++ (record { first = log.tail.first + log.forced; place = log.head }) ∷ []) h.index
+                ∙ ap (λ (k : ℕ). index_of tail place s.groups ++ (record { first = k; place = log.head }) ∷ []) number_is
                 ∙ ap (λ (p : ℕ). index_of tail place s.groups ++ (record { first = number_behind tail s.groups; place = p }) ∷ []) h.head
                 ∙ sym (index-push tail place s.groups group);
           };

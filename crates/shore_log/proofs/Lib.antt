@@ -1,2 +1,4 @@
 pub mod ForceLemmas
 pub mod CutLemmas
+pub mod TextLemmas
+pub mod MoveLemmas

@@ -1,3 +1,4 @@
 pub mod Indexes
+pub mod Listed
 pub mod PlainTails
 pub mod Settled

@@ -1,6 +1,7 @@
 -- What a plain log buffer has.
-use Rattle.std.specs.Prelude.{◌<◌, ℕ, List, vec_capacity, vec_len}
+use Rattle.std.specs.Prelude.{ℕ, List}
 use Rattle.shore_model.specs.declared.log_records.LogRecord.{LogRecord}
+use Rattle.shore_log.specs.Listed.{listed}
 use Rattle.shore_log.specs.declared.tail.PlainTail.{PlainTail}
 
 -- the number of the first record that waits, or that the next will have
@@ -9,8 +10,4 @@ first_of t = t.first
 
 -- the records that wait
 abbrev pub waiting_in : PlainTail → List LogRecord
-waiting_in t = t.waiting.items
-
--- a record more needs no memory
-abbrev pub HasWaitingRoom : PlainTail → Type 0
-HasWaitingRoom t = vec_len t.waiting < vec_capacity t.waiting
+waiting_in t = listed t.waiting.items

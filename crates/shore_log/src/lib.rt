@@ -5,6 +5,7 @@
 mod device;
 mod group;
 mod tail;
+mod texts;
 
 pub use device::{Durable, LogDev};
 pub use shore_logrec::{LogRecord, Payload};

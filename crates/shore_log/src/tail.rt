@@ -1,11 +1,14 @@
 //! The log buffer: the records that wait on their way from the core to the log device.
 ghost use Rattle.std.specs.Prelude.{◌≡◌, ◌+◌, ◌<◌, ◌≤◌, ◌^◌, [], ◌∷◌, ◌++◌, ℕ, List, All, IsTrue, length, IfOk, IfErr, IsOk, OnOk, OnErr, vec_capacity, vec_len};
-ghost use Rattle.shore_types.specs.declared.faults.Fault.TheVariants as fault;
+ghost use Rattle.shore_types.specs.declared.faults.Fault.TheVariants as Fault;
 ghost use Rattle.shore_model.specs.declared.log_records.LogRecord.{LogRecord};
-ghost use Rattle.shore_logrec.specs.Text.{Fits};
+ghost use Rattle.shore_logrec.specs.Text.{Fits, texts};
 ghost use Rattle.shore_frames.specs.LoggedRecords.{are_numbered};
+ghost use Rattle.shore_log.specs.Listed.{listed};
 
-use shore_logrec::LogRecord;
+use crate::texts::{decode_all, move_behind};
+use http_server::Log as GhostLog;
+use shore_logrec::{LogRecord, encode};
 use shore_types::{Fault, Lsn};
 use std::alloc::{AllocError, Global};
 
@@ -17,15 +20,14 @@ pub trait Tail {
     /// The records that it has, in the order of their numbers.
     ghost records: { Self → List LogRecord };
 
-    /// Adds a record and answers its number. A refused record is handed back and none is added: `Memory` if an allocation
-    /// failed.
-    fn push(&mut self, logged: LogRecord) -> Result<Lsn, (Fault, LogRecord)>
-        requires text { Fits logged }
-        requires previous { logged.previous < first self.old + length (records self.old) }
+    /// Adds a record and answers its number. If it is refused none is added: `Memory` if an allocation failed.
+    fn push(&mut self, logged: &LogRecord) -> Result<Lsn, Fault>
+        requires text { Fits logged.now }
+        requires previous { logged.now.previous < first self.old + length (records self.old) }
         requires numbers { first self.old + length (records self.old) < 2 ^ 62 }
         ensures number { IfOk result (λ n. n ≡ first self.old + length (records self.old)) }
-        ensures added { OnOk result (records self.new ≡ records self.old ++ logged ∷ []) }
-        ensures refused { IfErr result (λ e. (e.0 ≡ Fault.Memory) × (e.1 ≡ logged)) }
+        ensures added { OnOk result (records self.new ≡ records self.old ++ logged.now ∷ []) }
+        ensures refused { IfErr result (λ fault. fault ≡ Fault.Memory) }
         ensures none_added { OnErr result (records self.new ≡ records self.old) }
         ensures first { first self.new ≡ first self.old };
 
@@ -35,15 +37,21 @@ pub trait Tail {
         ensures { result ≡ first self.now + length (records self.now) };
 }
 
-/// A log buffer for one caller: the records wait in memory until the log device takes them.
+/// A log buffer for one caller: the texts of the records wait in memory until the log device takes them.
 #[derive(Drop)]
 pub struct PlainTail {
     // The number of the first record that waits, or that the next push will have.
     first: u64,
-    // The records that wait, numbered from there on.
-    waiting: Vec<LogRecord>,
-    ghost numbered: { IsTrue (are_numbered first waiting.items) },
-    ghost few: { first + length waiting.items ≤ 2 ^ 62 },
+    // How many records wait.
+    count: u64,
+    // Their texts, one behind another.
+    bytes: Vec<u8>,
+    // Which they are. It takes no memory: only proofs read it.
+    waiting: GhostLog<LogRecord, ()>,
+    ghost numbered: { IsTrue (are_numbered first (listed waiting.items)) },
+    ghost counted: { count ≡ length (listed waiting.items) },
+    ghost few: { first + count ≤ 2 ^ 62 },
+    ghost spelled: { bytes.items ≡ texts (listed waiting.items) },
 }
 
 impl PlainTail {
@@ -57,60 +65,61 @@ impl PlainTail {
     {
         PlainTail {
             first: next.0,
-            waiting: Vec::new(alloc),
+            count: 0,
+            bytes: Vec::new(alloc),
+            waiting: GhostLog::new(),
         }
     }
 
-    /// Moves the records that wait to the end of a list. If an allocation fails they stay.
-    pub fn hand_over(&mut self, records: &mut Vec<LogRecord>) -> Result<(), AllocError>
-        ensures ok { OnOk result (records.new.items ≡ records.old.items ++ waiting_in self.old) }
+    /// Moves the texts of the records that wait to the end of others, and answers how many they are. If an allocation fails they stay.
+    pub fn hand_over(&mut self, out: &mut Vec<u8>) -> Result<usize, AllocError>
+        ensures ok { OnOk result (out.new.items ≡ out.old.items ++ texts (waiting_in self.old)) }
+        ensures count { IfOk result (λ count. count ≡ length (waiting_in self.old)) }
         ensures emptied { OnOk result (waiting_in self.new ≡ []) }
         ensures next { first_of self.new + length (waiting_in self.new) ≡ first_of self.old + length (waiting_in self.old) }
-        ensures idle { vec_len records.old + length (waiting_in self.old) ≤ vec_capacity records.old → IsOk result }
-        ensures err { OnErr result (records.new.items ≡ records.old.items) }
+        ensures idle { vec_len out.old + length (texts (waiting_in self.old)) ≤ vec_capacity out.old → IsOk result }
+        ensures err { OnErr result (out.new.items ≡ out.old.items) }
         ensures stay { OnErr result (waiting_in self.new ≡ waiting_in self.old) }
     {
-        let count = self.waiting.len() as u64;
-        records.append(&mut self.waiting)?;
+        move_behind(out, &mut self.bytes)?;
+        let count = self.count;
         self.first += count;
-        Ok(())
+        self.count = 0;
+        self.waiting = GhostLog::new();
+        Ok(count as usize)
     }
 
-    /// The records that wait, in the order of their numbers.
-    pub fn waiting(&self) -> &[LogRecord]
-        ensures { result.now ≡ waiting_in self.now }
+    /// Copies of the records that wait, in the order of their numbers.
+    pub fn waiting(&self, alloc: Global) -> Result<Vec<LogRecord>, AllocError>
+        ensures { IfOk result (λ records. records.items ≡ waiting_in self.now) }
+    {
+        decode_all(alloc, &self.bytes)
+    }
+
+    // Which they are.
+    pub(crate) fn listed(&self) -> &GhostLog<LogRecord, ()>
+        ensures { result.now ≡ self.now.waiting }
     {
         &self.waiting
     }
 }
 
 impl Tail for PlainTail {
-    ghost use Rattle.shore_log.specs.PlainTails.{HasWaitingRoom, first_of, waiting_in};
+    ghost use Rattle.shore_log.specs.PlainTails.{first_of, waiting_in};
 
     ghost first = { first_of };
 
     ghost records = { waiting_in };
 
-    fn push(&mut self, logged: LogRecord) -> Result<Lsn, (Fault, LogRecord)>
-        requires text { Fits logged }
-        requires previous { logged.previous < first_of self.old + length (waiting_in self.old) }
-        requires numbers { first_of self.old + length (waiting_in self.old) < 2 ^ 62 }
-        // It is refused only if there was no memory for a record more.
-        ensures number { IfOk result (λ n. n ≡ first_of self.old + length (waiting_in self.old)) }
-        ensures added { OnOk result (waiting_in self.new ≡ waiting_in self.old ++ logged ∷ []) }
-        ensures idle { HasWaitingRoom self.old → IsOk result }
-        ensures refused { IfErr result (λ e. (e.0 ≡ fault.Memory) × (e.1 ≡ logged)) }
-        ensures none_added { OnErr result (waiting_in self.new ≡ waiting_in self.old) }
-        ensures first { first_of self.new ≡ first_of self.old }
-    {
-        let number = self.first + self.waiting.len() as u64;
-        match self.waiting.push(logged) {
-            Ok(()) => Ok(Lsn(number)),
-            Err(refused) => Err((Fault::Memory, refused.value)),
-        }
+    fn push(&mut self, logged: &LogRecord) -> Result<Lsn, Fault> {
+        encode(logged, &mut self.bytes)?;
+        let number = self.first + self.count;
+        self.waiting = self.waiting.and(logged, &());
+        self.count += 1;
+        Ok(Lsn(number))
     }
 
     fn next(&self) -> Lsn {
-        Lsn(self.first + self.waiting.len() as u64)
+        Lsn(self.first + self.count)
     }
 }

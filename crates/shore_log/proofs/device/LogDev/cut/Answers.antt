@@ -1,121 +1,453 @@
-use Rattle.std.proofs.Common.{◌≡◌, ◌<◌, ℕ, [], ◌∷◌, List, Some, IsTrue, length, drop, refl, sym, subst, ap, ◌∙◌, arith}
-use Rattle.std.specs.Prelude.{slice_get}
+use Rattle.std.proofs.Common.{◌≡◌, ◌≤◌, ◌<◌, ◌+◌, ◌-◌, List, IsTrue, length, take, drop, refl, sym, subst, ap, ◌∙◌, arith, drop-drop, length-drop}
+use Rattle.std.proofs.lemmas.List.{length-take-le}
 use Rattle.shore_model.specs.declared.log_records.LogRecord.{LogRecord}
-use Rattle.shore_frames.specs.Streams.{index_of}
+use Rattle.shore_logrec.specs.Text.{texts}
+use Rattle.shore_frames.specs.LoggedRecords.{are_numbered}
 use Rattle.shore_frames.specs.declared.reading.FrameAt.{FrameAt}
-use Rattle.shore_log.specs.Indexes.{are_listed}
-use Rattle.shore_log.proofs.CutLemmas.{cut_settled, cut_staged, frame_there, is_none, is_some, left_behind, listed_at, listed_of, listed_test, none_kept, seen_some, some_at}
+use Rattle.shore_frames.proofs.LoggedLemmas.{AreNumbered-drop, AreNumbered-test, test-AreNumbered}
+use Rattle.shore_log.specs.Indexes.{are_listed, first_in, place_in}
+use Rattle.shore_log.specs.Listed.{all_in}
+use Rattle.shore_log.specs.Settled.{records_of_log, stable, waiting}
+use Rattle.shore_log.proofs.CutLemmas.{cut_settled, cut_staged, left_behind, listed_at, listed_of, listed_test, seen_some, some_at, taken_behind, there_is}
+use Rattle.shore_log.proofs.ForceLemmas.{unwrap}
 use Rattle.shore_log.proofs.device.LogDev.cut.Goals as goal
 
-pub returns-then-is_empty-clause-kept : goal.returns-then-is_empty-clause-kept
-returns-then-is_empty-clause-kept g c tail place groups h least most =
-    let frames = c.args.self.now.frames in
-    let none = is_none c.is_empty.result _ (length frames.items) c.is_empty.ensures frames.ok.0 c.if-is_empty.true in
-    absurd (none_kept tail place groups c.args.self.now.forced c.args.number (ap length (sym h.index) ∙ none) h.number least most)
+pub overflow_sub-records : goal.overflow_sub-records
+overflow_sub-records g c =
+    let old = c.args.self.now in
+    let before = c.args.before in
+    let f = c.index-tail.result.now in
+    let within : before < length old.frames.items = there_is old.frames.items before _ c.requires.there in
+    let at = some_at old.frames.items before f within c.index-tail.ensures in
+    let same : f ≡ record { first = c.args.anchors.anchor.tail; place = c.args.anchors.anchor.tail_place } = unwrap (sym at ∙ c.requires.there) in
+    let next = old.tail.first + old.forced in
+    let begins = old.begins.0 in
+    let placed = old.begins.1 in
+    let h = listed_at old.head next old.frames.items before f at (listed_of old.head next old.frames.items old.listed) in
+    let from : old.tail.first ≤ f.first = omega (arith, h.from, begins) in
+    let below = old.gone_below in
+    omega (arith, from, h.to, old.forced_inside, old.counted, length-drop old.gone (all_in old.found.items old.later.items))
+
+pub overflow_sub-self : goal.overflow_sub-self
+overflow_sub-self g c =
+    let old = c.args.self.now in
+    let before = c.args.before in
+    let f = c.index-tail.result.now in
+    let within : before < length old.frames.items = there_is old.frames.items before _ c.requires.there in
+    let at = some_at old.frames.items before f within c.index-tail.ensures in
+    let same : f ≡ record { first = c.args.anchors.anchor.tail; place = c.args.anchors.anchor.tail_place } = unwrap (sym at ∙ c.requires.there) in
+    let next = old.tail.first + old.forced in
+    let begins = old.begins.0 in
+    let placed = old.begins.1 in
+    let h = listed_at old.head next old.frames.items before f at (listed_of old.head next old.frames.items old.listed) in
+    let from : old.tail.first ≤ f.first = omega (arith, h.from, begins) in
+    let below = old.gone_below in
+    omega (arith, from, h.to, old.forced_inside, old.counted, length-drop old.gone (all_in old.found.items old.later.items))
+
+pub overflow_sub-self-2 : goal.overflow_sub-self-2
+overflow_sub-self-2 g c =
+    let old = c.args.self.now in
+    let before = c.args.before in
+    let f = c.index-tail.result.now in
+    let within : before < length old.frames.items = there_is old.frames.items before _ c.requires.there in
+    let at = some_at old.frames.items before f within c.index-tail.ensures in
+    let same : f ≡ record { first = c.args.anchors.anchor.tail; place = c.args.anchors.anchor.tail_place } = unwrap (sym at ∙ c.requires.there) in
+    let next = old.tail.first + old.forced in
+    let begins = old.begins.0 in
+    let placed = old.begins.1 in
+    let h = listed_at old.head next old.frames.items before f at (listed_of old.head next old.frames.items old.listed) in
+    let from : old.tail.first ≤ f.first = omega (arith, h.from, begins) in
+    let below = old.gone_below in
+    omega (arith, from, h.to, old.forced_inside, old.counted, length-drop old.gone (all_in old.found.items old.later.items))
 
 pub returns-clause-cut : goal.returns-clause-cut
 returns-clause-cut g c tail place front s =
     let old = c.args.self.now in
-    let gone = c.frames_before-gone.result in
-    let within : gone < length old.frames.items = c.frames_before-gone.ensures.within (is_some c.is_empty.result _ (length old.frames.items) c.is_empty.ensures old.frames.ok.0 c.if-is_empty.false) in
-    let at = some_at old.frames.items gone c.index.result.now within c.index.ensures in
-    let left = left_behind old.frames.items c.truncate.new.self.items c.rotate_left.new.self.items gone _ c.truncate.ensures.items c.rotate_left.ensures.items (omega (arith, within, c.len.ensures)) in
-    cut_settled tail place old _ s.groups s.holds gone c.index.result.now at refl refl refl refl left refl front s.image s.stands s.is_front s.ring
+    let before = c.args.before in
+    let f = c.index-tail.result.now in
+    let within : before < length old.frames.items = there_is old.frames.items before _ c.requires.there in
+    let at = some_at old.frames.items before f within c.index-tail.ensures in
+    let same : f ≡ record { first = c.args.anchors.anchor.tail; place = c.args.anchors.anchor.tail_place } = unwrap (sym at ∙ c.requires.there) in
+    let next = old.tail.first + old.forced in
+    let begins = old.begins.0 in
+    let placed = old.begins.1 in
+    let h = listed_at old.head next old.frames.items before f at (listed_of old.head next old.frames.items old.listed) in
+    let from : old.tail.first ≤ f.first = omega (arith, h.from, begins) in
+    let left = left_behind old.frames.items c.truncate.new.self.items c.rotate_left.new.self.items before _ c.truncate.ensures.items c.rotate_left.ensures.items (omega (arith, within, c.len.ensures)) in
+    let gone = f.first - old.tail.first in
+    let all = all_in old.found.items old.later.items in
+    let kept : drop (old.gone + gone) all ≡ drop gone (records_of_log old) = sym (drop-drop gone old.gone all) in
+    let inside = old.forced_inside in
+    let waits : drop (old.forced - gone) (drop (old.gone + gone) all) ≡ waiting old =
+    ap (drop (old.forced - gone)) kept ∙ drop-drop (old.forced - gone) gone (records_of_log old) ∙ ap (λ n. drop n (records_of_log old)) (omega (arith, from, h.to)) in
+    let stays : take (old.forced - gone) (drop (old.gone + gone) all) ≡ drop gone (stable old) =
+    ap (take (old.forced - gone)) kept ∙ taken_behind (records_of_log old) gone old.forced (omega (arith, from, h.to)) inside in
+    let less : (old.forced - gone) + gone ≡ old.forced = omega (arith, from, h.to) in
+    cut_settled tail place old _ s.groups s.holds before f at refl refl refl left stays less waits front s.image s.stands s.is_front s.ring
 
 pub returns-clause-under_way : goal.returns-clause-under_way
 returns-clause-under_way g c tail place front group s =
     let old = c.args.self.now in
-    let gone = c.frames_before-gone.result in
-    let within : gone < length old.frames.items = c.frames_before-gone.ensures.within (is_some c.is_empty.result _ (length old.frames.items) c.is_empty.ensures old.frames.ok.0 c.if-is_empty.false) in
-    let at = some_at old.frames.items gone c.index.result.now within c.index.ensures in
-    let left = left_behind old.frames.items c.truncate.new.self.items c.rotate_left.new.self.items gone _ c.truncate.ensures.items c.rotate_left.ensures.items (omega (arith, within, c.len.ensures)) in
-    cut_staged tail place old _ s.groups s.holds gone c.index.result.now at refl refl refl refl left refl front group s refl (seen_some tail place old front group s) refl
+    let before = c.args.before in
+    let f = c.index-tail.result.now in
+    let within : before < length old.frames.items = there_is old.frames.items before _ c.requires.there in
+    let at = some_at old.frames.items before f within c.index-tail.ensures in
+    let same : f ≡ record { first = c.args.anchors.anchor.tail; place = c.args.anchors.anchor.tail_place } = unwrap (sym at ∙ c.requires.there) in
+    let next = old.tail.first + old.forced in
+    let begins = old.begins.0 in
+    let placed = old.begins.1 in
+    let h = listed_at old.head next old.frames.items before f at (listed_of old.head next old.frames.items old.listed) in
+    let from : old.tail.first ≤ f.first = omega (arith, h.from, begins) in
+    let left = left_behind old.frames.items c.truncate.new.self.items c.rotate_left.new.self.items before _ c.truncate.ensures.items c.rotate_left.ensures.items (omega (arith, within, c.len.ensures)) in
+    let gone = f.first - old.tail.first in
+    let all = all_in old.found.items old.later.items in
+    let kept : drop (old.gone + gone) all ≡ drop gone (records_of_log old) = sym (drop-drop gone old.gone all) in
+    let inside = old.forced_inside in
+    let waits : drop (old.forced - gone) (drop (old.gone + gone) all) ≡ waiting old =
+    ap (drop (old.forced - gone)) kept ∙ drop-drop (old.forced - gone) gone (records_of_log old) ∙ ap (λ n. drop n (records_of_log old)) (omega (arith, from, h.to)) in
+    let stays : take (old.forced - gone) (drop (old.gone + gone) all) ≡ drop gone (stable old) =
+    ap (take (old.forced - gone)) kept ∙ taken_behind (records_of_log old) gone old.forced (omega (arith, from, h.to)) inside in
+    let less : (old.forced - gone) + gone ≡ old.forced = omega (arith, from, h.to) in
+    cut_staged tail place old _ s.groups s.holds before f at refl refl refl left stays less waits front group s refl (seen_some tail place old front group s) refl
 
-pub returns-clause-kept : goal.returns-clause-kept
-returns-clause-kept g c tail place groups h least most =
+pub returns-clause-lost : goal.returns-clause-lost
+returns-clause-lost g c =
     let old = c.args.self.now in
-    let gone = c.frames_before-gone.result in
-    let within : gone < length old.frames.items = c.frames_before-gone.ensures.within (is_some c.is_empty.result _ (length old.frames.items) c.is_empty.ensures old.frames.ok.0 c.if-is_empty.false) in
-    let at = some_at old.frames.items gone c.index.result.now within c.index.ensures in
-    let n = c.frames_before-gone.ensures.holds tail place groups h.index least (omega (arith, h.number, most)) in
-    let there = frame_there tail place groups old.frames.items c.args.number gone c.index.result.now h.index at n in
+    let before = c.args.before in
+    let f = c.index-tail.result.now in
+    let within : before < length old.frames.items = there_is old.frames.items before _ c.requires.there in
+    let at = some_at old.frames.items before f within c.index-tail.ensures in
+    let same : f ≡ record { first = c.args.anchors.anchor.tail; place = c.args.anchors.anchor.tail_place } = unwrap (sym at ∙ c.requires.there) in
+    let next = old.tail.first + old.forced in
+    let begins = old.begins.0 in
+    let placed = old.begins.1 in
+    let h = listed_at old.head next old.frames.items before f at (listed_of old.head next old.frames.items old.listed) in
+    let from : old.tail.first ≤ f.first = omega (arith, h.from, begins) in
+    let gone = f.first - old.tail.first in
+    let all = all_in old.found.items old.later.items in
+    let kept : drop (old.gone + gone) all ≡ drop gone (records_of_log old) = sym (drop-drop gone old.gone all) in
+    let inside = old.forced_inside in
+    let waits : drop (old.forced - gone) (drop (old.gone + gone) all) ≡ waiting old =
+    ap (drop (old.forced - gone)) kept ∙ drop-drop (old.forced - gone) gone (records_of_log old) ∙ ap (λ n. drop n (records_of_log old)) (omega (arith, from, h.to)) in
+    let stays : take (old.forced - gone) (drop (old.gone + gone) all) ≡ drop gone (stable old) =
+    ap (take (old.forced - gone)) kept ∙ taken_behind (records_of_log old) gone old.forced (omega (arith, from, h.to)) inside in
+    let below = old.gone_below in
+    let cut : (f.first - 1) - (old.tail.first - 1) ≡ gone = omega (arith, from, below) in
     record {
-      count = gone;
-      frame = n;
-      first = ap (λ (x : FrameAt). x.first) there;
-      place_is = ap (λ (x : FrameAt). x.place) there;
+      rises = omega (arith, from);
+      records = kept ∙ ap (λ n. drop n (records_of_log old)) (sym cut);
+      forced = stays ∙ ap (λ n. drop n (stable old)) (sym cut);
+      last = omega (arith, from, h.to, below, ap length stays, length-drop gone (stable old), length-take-le old.forced (records_of_log old) inside);
+      waits = waits;
+      staged = refl;
+      head = refl;
+      list = λ has. has;
     }
+
+pub invariant_of-self-clause-numbered : goal.invariant_of-self-clause-numbered
+invariant_of-self-clause-numbered g c =
+    let old = c.args.self.now in
+    let before = c.args.before in
+    let f = c.index-tail.result.now in
+    let within : before < length old.frames.items = there_is old.frames.items before _ c.requires.there in
+    let at = some_at old.frames.items before f within c.index-tail.ensures in
+    let same : f ≡ record { first = c.args.anchors.anchor.tail; place = c.args.anchors.anchor.tail_place } = unwrap (sym at ∙ c.requires.there) in
+    let next = old.tail.first + old.forced in
+    let begins = old.begins.0 in
+    let placed = old.begins.1 in
+    let h = listed_at old.head next old.frames.items before f at (listed_of old.head next old.frames.items old.listed) in
+    let from : old.tail.first ≤ f.first = omega (arith, h.from, begins) in
+    let gone = f.first - old.tail.first in
+    let all = all_in old.found.items old.later.items in
+    let kept : drop (old.gone + gone) all ≡ drop gone (records_of_log old) = sym (drop-drop gone old.gone all) in
+    let inside = old.forced_inside in
+    let short : gone ≤ length (records_of_log old) = omega (arith, from, h.to, inside) in
+    let number : old.tail.first + gone ≡ f.first = omega (arith, from) in
+    subst (λ (l : List LogRecord). IsTrue (are_numbered f.first l)) (sym kept)
+    (subst (λ n. IsTrue (are_numbered n (drop gone (records_of_log old)))) number
+    (test-AreNumbered _ _ (AreNumbered-drop old.tail.first gone (records_of_log old) short (AreNumbered-test _ _ old.numbered))))
+
+pub invariant_of-self-clause-counted : goal.invariant_of-self-clause-counted
+invariant_of-self-clause-counted g c =
+    let old = c.args.self.now in
+    let before = c.args.before in
+    let f = c.index-tail.result.now in
+    let within : before < length old.frames.items = there_is old.frames.items before _ c.requires.there in
+    let at = some_at old.frames.items before f within c.index-tail.ensures in
+    let same : f ≡ record { first = c.args.anchors.anchor.tail; place = c.args.anchors.anchor.tail_place } = unwrap (sym at ∙ c.requires.there) in
+    let next = old.tail.first + old.forced in
+    let begins = old.begins.0 in
+    let placed = old.begins.1 in
+    let h = listed_at old.head next old.frames.items before f at (listed_of old.head next old.frames.items old.listed) in
+    let from : old.tail.first ≤ f.first = omega (arith, h.from, begins) in
+    let gone = f.first - old.tail.first in
+    let all = all_in old.found.items old.later.items in
+    let kept : drop (old.gone + gone) all ≡ drop gone (records_of_log old) = sym (drop-drop gone old.gone all) in
+    let inside = old.forced_inside in
+    let kept_long = ap length kept in
+    let here = length-drop gone (records_of_log old) in
+    let there = length-drop old.gone all in
+    omega (arith, old.counted, from, h.to, inside, there)
+
+pub invariant_of-self-clause-gone_below : goal.invariant_of-self-clause-gone_below
+invariant_of-self-clause-gone_below g c =
+    let old = c.args.self.now in
+    let before = c.args.before in
+    let f = c.index-tail.result.now in
+    let within : before < length old.frames.items = there_is old.frames.items before _ c.requires.there in
+    let at = some_at old.frames.items before f within c.index-tail.ensures in
+    let same : f ≡ record { first = c.args.anchors.anchor.tail; place = c.args.anchors.anchor.tail_place } = unwrap (sym at ∙ c.requires.there) in
+    let next = old.tail.first + old.forced in
+    let begins = old.begins.0 in
+    let placed = old.begins.1 in
+    let h = listed_at old.head next old.frames.items before f at (listed_of old.head next old.frames.items old.listed) in
+    let from : old.tail.first ≤ f.first = omega (arith, h.from, begins) in
+    let below = old.gone_below in
+    omega (arith, below, from)
+
+pub invariant_of-self-clause-few : goal.invariant_of-self-clause-few
+invariant_of-self-clause-few g c =
+    let old = c.args.self.now in
+    let before = c.args.before in
+    let f = c.index-tail.result.now in
+    let within : before < length old.frames.items = there_is old.frames.items before _ c.requires.there in
+    let at = some_at old.frames.items before f within c.index-tail.ensures in
+    let same : f ≡ record { first = c.args.anchors.anchor.tail; place = c.args.anchors.anchor.tail_place } = unwrap (sym at ∙ c.requires.there) in
+    let next = old.tail.first + old.forced in
+    let begins = old.begins.0 in
+    let placed = old.begins.1 in
+    let h = listed_at old.head next old.frames.items before f at (listed_of old.head next old.frames.items old.listed) in
+    let from : old.tail.first ≤ f.first = omega (arith, h.from, begins) in
+    omega (arith, old.few)
+
+pub invariant_of-self-clause-anchored : goal.invariant_of-self-clause-anchored
+invariant_of-self-clause-anchored g c =
+    let old = c.args.self.now in
+    let before = c.args.before in
+    let f = c.index-tail.result.now in
+    let within : before < length old.frames.items = there_is old.frames.items before _ c.requires.there in
+    let at = some_at old.frames.items before f within c.index-tail.ensures in
+    let same : f ≡ record { first = c.args.anchors.anchor.tail; place = c.args.anchors.anchor.tail_place } = unwrap (sym at ∙ c.requires.there) in
+    let next = old.tail.first + old.forced in
+    let begins = old.begins.0 in
+    let placed = old.begins.1 in
+    let h = listed_at old.head next old.frames.items before f at (listed_of old.head next old.frames.items old.listed) in
+    let from : old.tail.first ≤ f.first = omega (arith, h.from, begins) in
+    (sym (ap (λ (x : FrameAt). x.first) same), sym (ap (λ (x : FrameAt). x.place) same))
+
+pub invariant_of-self-clause-spelled : goal.invariant_of-self-clause-spelled
+invariant_of-self-clause-spelled g c =
+    let old = c.args.self.now in
+    let before = c.args.before in
+    let f = c.index-tail.result.now in
+    let within : before < length old.frames.items = there_is old.frames.items before _ c.requires.there in
+    let at = some_at old.frames.items before f within c.index-tail.ensures in
+    let same : f ≡ record { first = c.args.anchors.anchor.tail; place = c.args.anchors.anchor.tail_place } = unwrap (sym at ∙ c.requires.there) in
+    let next = old.tail.first + old.forced in
+    let begins = old.begins.0 in
+    let placed = old.begins.1 in
+    let h = listed_at old.head next old.frames.items before f at (listed_of old.head next old.frames.items old.listed) in
+    let from : old.tail.first ≤ f.first = omega (arith, h.from, begins) in
+    let gone = f.first - old.tail.first in
+    let all = all_in old.found.items old.later.items in
+    let kept : drop (old.gone + gone) all ≡ drop gone (records_of_log old) = sym (drop-drop gone old.gone all) in
+    let inside = old.forced_inside in
+    let waits : drop (old.forced - gone) (drop (old.gone + gone) all) ≡ waiting old =
+    ap (drop (old.forced - gone)) kept ∙ drop-drop (old.forced - gone) gone (records_of_log old) ∙ ap (λ n. drop n (records_of_log old)) (omega (arith, from, h.to)) in
+    λ none. old.spelled none ∙ ap texts (sym waits)
+
+pub invariant_of-self-clause-forced_inside : goal.invariant_of-self-clause-forced_inside
+invariant_of-self-clause-forced_inside g c =
+    let old = c.args.self.now in
+    let before = c.args.before in
+    let f = c.index-tail.result.now in
+    let within : before < length old.frames.items = there_is old.frames.items before _ c.requires.there in
+    let at = some_at old.frames.items before f within c.index-tail.ensures in
+    let same : f ≡ record { first = c.args.anchors.anchor.tail; place = c.args.anchors.anchor.tail_place } = unwrap (sym at ∙ c.requires.there) in
+    let next = old.tail.first + old.forced in
+    let begins = old.begins.0 in
+    let placed = old.begins.1 in
+    let h = listed_at old.head next old.frames.items before f at (listed_of old.head next old.frames.items old.listed) in
+    let from : old.tail.first ≤ f.first = omega (arith, h.from, begins) in
+    let gone = f.first - old.tail.first in
+    let all = all_in old.found.items old.later.items in
+    let kept : drop (old.gone + gone) all ≡ drop gone (records_of_log old) = sym (drop-drop gone old.gone all) in
+    let inside = old.forced_inside in
+    let kept_long = ap length kept in
+    let here = length-drop gone (records_of_log old) in
+    let there = length-drop old.gone all in
+    omega (arith, inside, kept_long, here, from, h.to)
 
 pub invariant_of-self-clause-tail_number : goal.invariant_of-self-clause-tail_number
 invariant_of-self-clause-tail_number g c =
     let old = c.args.self.now in
-    let gone = c.frames_before-gone.result in
-    let within : gone < length old.frames.items = c.frames_before-gone.ensures.within (is_some c.is_empty.result _ (length old.frames.items) c.is_empty.ensures old.frames.ok.0 c.if-is_empty.false) in
-    let at = some_at old.frames.items gone c.index.result.now within c.index.ensures in
-    let h = listed_at old.tail.place old.head old.forced old.frames.items gone c.index.result.now at (listed_of old.tail.place old.head old.forced old.frames.items old.listed) in
-    omega (arith, h.first, c.requires)
+    let before = c.args.before in
+    let f = c.index-tail.result.now in
+    let within : before < length old.frames.items = there_is old.frames.items before _ c.requires.there in
+    let at = some_at old.frames.items before f within c.index-tail.ensures in
+    let same : f ≡ record { first = c.args.anchors.anchor.tail; place = c.args.anchors.anchor.tail_place } = unwrap (sym at ∙ c.requires.there) in
+    let next = old.tail.first + old.forced in
+    let begins = old.begins.0 in
+    let placed = old.begins.1 in
+    let h = listed_at old.head next old.frames.items before f at (listed_of old.head next old.frames.items old.listed) in
+    let from : old.tail.first ≤ f.first = omega (arith, h.from, begins) in
+    omega (arith, ap (λ (x : FrameAt). x.first) same, c.requires.last)
 
 pub invariant_of-self-clause-tail_place : goal.invariant_of-self-clause-tail_place
 invariant_of-self-clause-tail_place g c =
     let old = c.args.self.now in
-    let gone = c.frames_before-gone.result in
-    let within : gone < length old.frames.items = c.frames_before-gone.ensures.within (is_some c.is_empty.result _ (length old.frames.items) c.is_empty.ensures old.frames.ok.0 c.if-is_empty.false) in
-    let at = some_at old.frames.items gone c.index.result.now within c.index.ensures in
-    let h = listed_at old.tail.place old.head old.forced old.frames.items gone c.index.result.now at (listed_of old.tail.place old.head old.forced old.frames.items old.listed) in
-    omega (arith, h.most, old.places, c.requires)
+    let before = c.args.before in
+    let f = c.index-tail.result.now in
+    let within : before < length old.frames.items = there_is old.frames.items before _ c.requires.there in
+    let at = some_at old.frames.items before f within c.index-tail.ensures in
+    let same : f ≡ record { first = c.args.anchors.anchor.tail; place = c.args.anchors.anchor.tail_place } = unwrap (sym at ∙ c.requires.there) in
+    let next = old.tail.first + old.forced in
+    let begins = old.begins.0 in
+    let placed = old.begins.1 in
+    let h = listed_at old.head next old.frames.items before f at (listed_of old.head next old.frames.items old.listed) in
+    let from : old.tail.first ≤ f.first = omega (arith, h.from, begins) in
+    omega (arith, h.near)
 
 pub invariant_of-self-clause-listed : goal.invariant_of-self-clause-listed
 invariant_of-self-clause-listed g c =
     let old = c.args.self.now in
-    let gone = c.frames_before-gone.result in
-    let at = c.index.result.now in
-    let within : gone < length old.frames.items = c.frames_before-gone.ensures.within (is_some c.is_empty.result _ (length old.frames.items) c.is_empty.ensures old.frames.ok.0 c.if-is_empty.false) in
-    let there = some_at old.frames.items gone at within c.index.ensures in
-    let h = listed_at old.tail.place old.head old.forced old.frames.items gone at there (listed_of old.tail.place old.head old.forced old.frames.items old.listed) in
-    let left = left_behind old.frames.items c.truncate.new.self.items c.rotate_left.new.self.items gone _ c.truncate.ensures.items c.rotate_left.ensures.items (omega (arith, within, c.len.ensures)) in
-    subst (λ (fs : List FrameAt). IsTrue (are_listed at.place old.head old.forced fs)) (sym left) (listed_test at.place old.head old.forced (drop gone old.frames.items) h.rest)
+    let before = c.args.before in
+    let f = c.index-tail.result.now in
+    let within : before < length old.frames.items = there_is old.frames.items before _ c.requires.there in
+    let at = some_at old.frames.items before f within c.index-tail.ensures in
+    let same : f ≡ record { first = c.args.anchors.anchor.tail; place = c.args.anchors.anchor.tail_place } = unwrap (sym at ∙ c.requires.there) in
+    let next = old.tail.first + old.forced in
+    let begins = old.begins.0 in
+    let placed = old.begins.1 in
+    let h = listed_at old.head next old.frames.items before f at (listed_of old.head next old.frames.items old.listed) in
+    let from : old.tail.first ≤ f.first = omega (arith, h.from, begins) in
+    let left = left_behind old.frames.items c.truncate.new.self.items c.rotate_left.new.self.items before _ c.truncate.ensures.items c.rotate_left.ensures.items (omega (arith, within, c.len.ensures)) in
+    let after : f.first + (old.forced - (f.first - old.tail.first)) ≡ next = omega (arith, from, h.to) in
+    subst (λ (fs : List FrameAt). IsTrue (are_listed old.head (f.first + (old.forced - (f.first - old.tail.first))) fs)) (sym left)
+    (subst (λ n. IsTrue (are_listed old.head n (drop before old.frames.items))) (sym after)
+    (listed_test old.head next (drop before old.frames.items) h.rest))
+
+pub invariant_of-self-clause-begins : goal.invariant_of-self-clause-begins
+invariant_of-self-clause-begins g c =
+    let old = c.args.self.now in
+    let before = c.args.before in
+    let f = c.index-tail.result.now in
+    let within : before < length old.frames.items = there_is old.frames.items before _ c.requires.there in
+    let at = some_at old.frames.items before f within c.index-tail.ensures in
+    let same : f ≡ record { first = c.args.anchors.anchor.tail; place = c.args.anchors.anchor.tail_place } = unwrap (sym at ∙ c.requires.there) in
+    let next = old.tail.first + old.forced in
+    let begins = old.begins.0 in
+    let placed = old.begins.1 in
+    let h = listed_at old.head next old.frames.items before f at (listed_of old.head next old.frames.items old.listed) in
+    let from : old.tail.first ≤ f.first = omega (arith, h.from, begins) in
+    let left = left_behind old.frames.items c.truncate.new.self.items c.rotate_left.new.self.items before _ c.truncate.ensures.items c.rotate_left.ensures.items (omega (arith, within, c.len.ensures)) in
+    let after : f.first + (old.forced - (f.first - old.tail.first)) ≡ next = omega (arith, from, h.to) in
+    (h.first ∙ ap (λ n. first_in n (drop before old.frames.items)) (sym after) ∙ ap (first_in (f.first + (old.forced - (f.first - old.tail.first)))) (sym left), h.place ∙ ap (place_in old.head) (sym left))
 
 pub invariant_of-self-clause-rises : goal.invariant_of-self-clause-rises
 invariant_of-self-clause-rises g c =
     let old = c.args.self.now in
-    let gone = c.frames_before-gone.result in
-    let within : gone < length old.frames.items = c.frames_before-gone.ensures.within (is_some c.is_empty.result _ (length old.frames.items) c.is_empty.ensures old.frames.ok.0 c.if-is_empty.false) in
-    let at = some_at old.frames.items gone c.index.result.now within c.index.ensures in
-    let h = listed_at old.tail.place old.head old.forced old.frames.items gone c.index.result.now at (listed_of old.tail.place old.head old.forced old.frames.items old.listed) in
-    omega (arith, h.most)
+    let before = c.args.before in
+    let f = c.index-tail.result.now in
+    let within : before < length old.frames.items = there_is old.frames.items before _ c.requires.there in
+    let at = some_at old.frames.items before f within c.index-tail.ensures in
+    let same : f ≡ record { first = c.args.anchors.anchor.tail; place = c.args.anchors.anchor.tail_place } = unwrap (sym at ∙ c.requires.there) in
+    let next = old.tail.first + old.forced in
+    let begins = old.begins.0 in
+    let placed = old.begins.1 in
+    let h = listed_at old.head next old.frames.items before f at (listed_of old.head next old.frames.items old.listed) in
+    let from : old.tail.first ≤ f.first = omega (arith, h.from, begins) in
+    omega (arith, h.behind, h.to)
 
 pub invariant_of-self-clause-head_inside : goal.invariant_of-self-clause-head_inside
 invariant_of-self-clause-head_inside g c =
     let old = c.args.self.now in
-    let gone = c.frames_before-gone.result in
-    let within : gone < length old.frames.items = c.frames_before-gone.ensures.within (is_some c.is_empty.result _ (length old.frames.items) c.is_empty.ensures old.frames.ok.0 c.if-is_empty.false) in
-    let at = some_at old.frames.items gone c.index.result.now within c.index.ensures in
-    let h = listed_at old.tail.place old.head old.forced old.frames.items gone c.index.result.now at (listed_of old.tail.place old.head old.forced old.frames.items old.listed) in
-    omega (arith, h.least, old.head_inside)
+    let before = c.args.before in
+    let f = c.index-tail.result.now in
+    let within : before < length old.frames.items = there_is old.frames.items before _ c.requires.there in
+    let at = some_at old.frames.items before f within c.index-tail.ensures in
+    let same : f ≡ record { first = c.args.anchors.anchor.tail; place = c.args.anchors.anchor.tail_place } = unwrap (sym at ∙ c.requires.there) in
+    let next = old.tail.first + old.forced in
+    let begins = old.begins.0 in
+    let placed = old.begins.1 in
+    let h = listed_at old.head next old.frames.items before f at (listed_of old.head next old.frames.items old.listed) in
+    let from : old.tail.first ≤ f.first = omega (arith, h.from, begins) in
+    omega (arith, h.before, begins, placed, from, old.head_inside)
+
+pub invariant_of-self-clause-places : goal.invariant_of-self-clause-places
+invariant_of-self-clause-places g c =
+    let old = c.args.self.now in
+    let before = c.args.before in
+    let f = c.index-tail.result.now in
+    let within : before < length old.frames.items = there_is old.frames.items before _ c.requires.there in
+    let at = some_at old.frames.items before f within c.index-tail.ensures in
+    let same : f ≡ record { first = c.args.anchors.anchor.tail; place = c.args.anchors.anchor.tail_place } = unwrap (sym at ∙ c.requires.there) in
+    let next = old.tail.first + old.forced in
+    let begins = old.begins.0 in
+    let placed = old.begins.1 in
+    let h = listed_at old.head next old.frames.items before f at (listed_of old.head next old.frames.items old.listed) in
+    let from : old.tail.first ≤ f.first = omega (arith, h.from, begins) in
+    omega (arith, old.places, from, h.to)
 
 pub invariant_of-self-clause-staged_inside : goal.invariant_of-self-clause-staged_inside
-invariant_of-self-clause-staged_inside g c = λ x is.
+invariant_of-self-clause-staged_inside g c =
+    λ s is.
     let old = c.args.self.now in
-    let gone = c.frames_before-gone.result in
-    let within : gone < length old.frames.items = c.frames_before-gone.ensures.within (is_some c.is_empty.result _ (length old.frames.items) c.is_empty.ensures old.frames.ok.0 c.if-is_empty.false) in
-    let at = some_at old.frames.items gone c.index.result.now within c.index.ensures in
-    let h = listed_at old.tail.place old.head old.forced old.frames.items gone c.index.result.now at (listed_of old.tail.place old.head old.forced old.frames.items old.listed) in
-    let before = old.staged_inside x is in
-    omega (arith, h.least, before)
+    let before = c.args.before in
+    let f = c.index-tail.result.now in
+    let within : before < length old.frames.items = there_is old.frames.items before _ c.requires.there in
+    let at = some_at old.frames.items before f within c.index-tail.ensures in
+    let same : f ≡ record { first = c.args.anchors.anchor.tail; place = c.args.anchors.anchor.tail_place } = unwrap (sym at ∙ c.requires.there) in
+    let next = old.tail.first + old.forced in
+    let begins = old.begins.0 in
+    let placed = old.begins.1 in
+    let h = listed_at old.head next old.frames.items before f at (listed_of old.head next old.frames.items old.listed) in
+    let from : old.tail.first ≤ f.first = omega (arith, h.from, begins) in
+    let inner = old.staged_inside s is in
+    omega (arith, h.before, begins, placed, from, inner)
 
-pub returns-then-is_empty-clause-none : goal.returns-then-is_empty-clause-none
-returns-then-is_empty-clause-none g c tail place groups h below = (h.first, h.place_is)
-
-first_there : (tail place : ℕ) (gs : List (List LogRecord)) (f : FrameAt) → slice_get (index_of tail place gs) 0 ≡ Some f → (f.first ≡ tail) × (f.place ≡ place)
-first_there tail place [] f is = absurd cc
-first_there tail place (g ∷ gs) f is = (cc, cc)
-
-pub returns-clause-none : goal.returns-clause-none
-returns-clause-none g c tail place groups h below =
+pub invariant_of-self-clause-staged_waits : goal.invariant_of-self-clause-staged_waits
+invariant_of-self-clause-staged_waits g c =
+    λ s is.
     let old = c.args.self.now in
-    let gone = c.frames_before-gone.result in
-    let within : gone < length old.frames.items = c.frames_before-gone.ensures.within (is_some c.is_empty.result _ (length old.frames.items) c.is_empty.ensures old.frames.ok.0 c.if-is_empty.false) in
-    let at = some_at old.frames.items gone c.index.result.now within c.index.ensures in
-    let zero = c.frames_before-gone.ensures.low tail place groups h.index below in
-    first_there tail place groups c.index.result.now
-    (subst (λ (l : List FrameAt). slice_get l 0 ≡ Some c.index.result.now) h.index (subst (λ i. slice_get old.frames.items i ≡ Some c.index.result.now) zero at))
+    let before = c.args.before in
+    let f = c.index-tail.result.now in
+    let within : before < length old.frames.items = there_is old.frames.items before _ c.requires.there in
+    let at = some_at old.frames.items before f within c.index-tail.ensures in
+    let same : f ≡ record { first = c.args.anchors.anchor.tail; place = c.args.anchors.anchor.tail_place } = unwrap (sym at ∙ c.requires.there) in
+    let next = old.tail.first + old.forced in
+    let begins = old.begins.0 in
+    let placed = old.begins.1 in
+    let h = listed_at old.head next old.frames.items before f at (listed_of old.head next old.frames.items old.listed) in
+    let from : old.tail.first ≤ f.first = omega (arith, h.from, begins) in
+    let gone = f.first - old.tail.first in
+    let all = all_in old.found.items old.later.items in
+    let kept : drop (old.gone + gone) all ≡ drop gone (records_of_log old) = sym (drop-drop gone old.gone all) in
+    let inside = old.forced_inside in
+    let kept_long = ap length kept in
+    let here = length-drop gone (records_of_log old) in
+    let there = length-drop old.gone all in
+    let inner = old.staged_waits s is in
+    omega (arith, inner, kept_long, here, from, h.to)
+
+pub invariant_of-self-clause-staged_long : goal.invariant_of-self-clause-staged_long
+invariant_of-self-clause-staged_long g c =
+    λ s is.
+    let old = c.args.self.now in
+    let before = c.args.before in
+    let f = c.index-tail.result.now in
+    let within : before < length old.frames.items = there_is old.frames.items before _ c.requires.there in
+    let at = some_at old.frames.items before f within c.index-tail.ensures in
+    let same : f ≡ record { first = c.args.anchors.anchor.tail; place = c.args.anchors.anchor.tail_place } = unwrap (sym at ∙ c.requires.there) in
+    let next = old.tail.first + old.forced in
+    let begins = old.begins.0 in
+    let placed = old.begins.1 in
+    let h = listed_at old.head next old.frames.items before f at (listed_of old.head next old.frames.items old.listed) in
+    let from : old.tail.first ≤ f.first = omega (arith, h.from, begins) in
+    let gone = f.first - old.tail.first in
+    let all = all_in old.found.items old.later.items in
+    let kept : drop (old.gone + gone) all ≡ drop gone (records_of_log old) = sym (drop-drop gone old.gone all) in
+    let inside = old.forced_inside in
+    let waits : drop (old.forced - gone) (drop (old.gone + gone) all) ≡ waiting old =
+    ap (drop (old.forced - gone)) kept ∙ drop-drop (old.forced - gone) gone (records_of_log old) ∙ ap (λ n. drop n (records_of_log old)) (omega (arith, from, h.to)) in
+    old.staged_long s is ∙ ap (λ (l : List LogRecord). length (texts (take s.count l))) (sym waits)

@@ -1,10 +1,24 @@
-use Rattle.std.proofs.Common.{is_ok, arith}
-use Rattle.shore_frames.proofs.LoggedLemmas.{numbered-pushed}
+use Rattle.std.proofs.Common.{◌≡◌, List, ℕ, [], ◌∷◌, ◌++◌, IsTrue, length, length-append, sym, subst, ap, ◌∙◌, arith}
+use Rattle.shore_model.specs.declared.log_records.LogRecord.{LogRecord}
+use Rattle.shore_logrec.specs.Text.{text, texts}
+use Rattle.shore_frames.specs.LoggedRecords.{are_numbered}
+use Rattle.shore_frames.proofs.LoggedLemmas.{numbered-push, texts-push}
+use Rattle.shore_log.specs.Listed.{listed}
+use Rattle.shore_log.proofs.TextLemmas.{listed-push}
 use Rattle.shore_log.proofs.tail.PlainTailTail.push.Goals as goal
 
-pub invariant_of-self : goal.invariant_of-self
-invariant_of-self c =
+pub invariant_of-self-2 : goal.invariant_of-self-2
+invariant_of-self-2 c =
+    let old = c.args.self.now in
+    let r = c.args.logged.now in
+    let all = listed old.waiting.items in
+    let more : listed c.and-self.result.items ≡ all ++ r ∷ [] = ap listed c.and-self.ensures ∙ listed-push old.waiting.items r _ in
     record {
-      numbered = numbered-pushed (is_ok c.push.result) c.args.self.now.first c.args.self.now.waiting.items c.push.new.self.items c.args.logged c.args.self.now.numbered c.requires.text c.requires.previous c.push.ensures.items;
-      few = omega arith;
+      numbered = subst (λ (l : List LogRecord). IsTrue (are_numbered old.first l)) (sym more) (numbered-push old.first all r old.numbered c.requires.text c.requires.previous);
+      counted = omega (arith, old.counted, ap length more, length-append all (r ∷ []));
+      few = omega (arith, c.requires.numbers, old.counted);
+      spelled = c.in_ok-encode.ensures.ok ∙ ap (λ (l : List ℕ). l ++ text r) old.spelled ∙ sym (texts-push all r) ∙ ap texts (sym more);
     }
+
+pub returns-clause-added : goal.returns-clause-added
+returns-clause-added c = ap listed c.and-self.ensures ∙ listed-push c.args.self.now.waiting.items c.args.logged.now _
