@@ -32,6 +32,7 @@ use Rattle.shore_sessions.specs.declared.control.Control.{Control}
 use Rattle.shore_sessions.specs.declared.waits.WaitingCall.{WaitingCall}
 use Rattle.shore_sessions.proofs.ControlSteps.{resolving_kept}
 use Rattle.shore_sessions.proofs.Lists.{all_by_members}
+use Rattle.shore_sessions.proofs.LogSteps.{room_still}
 use Rattle.shore_sessions.proofs.ResolveWaits.{same_either}
 use Rattle.shore_sessions.proofs.RollbackSteps.{becomes_of}
 use Rattle.shore_sessions.proofs.SeatSteps.{StaysSeated, its_seats, named_still, rolled_kept, seated_still, seats_same}
@@ -81,7 +82,15 @@ module _ (old new : Transactions) {number : ℕ} (one : OneBecomes number IsAfte
   }
 
   logged : StaysLogged one.before one.after
-  logged = record { txn = one.becomes.txn; last = one.becomes.last; entries = one.becomes.entries; decided = one.becomes.name.decided }
+  logged = record {
+    txn = one.becomes.txn;
+    first = one.becomes.first;
+    last = one.becomes.last;
+    entries = one.becomes.entries;
+    global = one.becomes.name.global;
+    prepare = one.becomes.name.prepare;
+    decided = one.becomes.name.decided;
+  }
 
   pub rolled_answered : rolled_in new ≡ rolled_in old
   rolled_answered = rolled_kept (becomes_of one seated)
@@ -100,8 +109,7 @@ module _ (old new : Transactions) {number : ℕ} (one : OneBecomes number IsAfte
     names = all_by_members IsNamed (table.txns_in new)
         (each_becomes IsNamed IsNamed old.numbers (names_were old new s was) one (λ u other is. is) (named_still one.before one.after seated));
     next = was.next ∙ sym next;
-    stream = was.stream ∙ ap (λ (r : LogRoom). r.stream_bytes) (sym room);
-    kept = was.kept ∙ ap (λ (r : LogRoom). r.kept) (sym room);
+    room = room_still refl (ap (λ (r : LogRoom). r.kept) room) refl (ap (λ (r : LogRoom). r.stream_bytes) room) was.room;
     each = all_by_members (IsLogged s.log) (table.txns_in new)
         (each_becomes (IsLogged s.log) (IsLogged s.log) old.numbers (each_was old new s was) one (λ u other is. is) (logged_still s.log one.before one.after logged));
     above = above_still old new s was next;

@@ -19,7 +19,7 @@ use Rattle.laws_lives.specs.Views.{IsAmong}
 use Rattle.laws_lives.proofs.Members.{txn_without}
 use Rattle.laws_calls.specs.Resolves.{IsResolvable, MayResolve}
 use Rattle.laws_calls.specs.StateChanges.{with_requests}
-use Rattle.laws_calls.specs.States.{State}
+use Rattle.laws_calls.specs.States.{State, cost_of_log}
 use Rattle.shore_txn.specs.ActiveTxns.{OneLeaves}
 use Rattle.shore_txn.specs.Transactions.{next_in, prepared_in, room_in, undos_in}
 use Rattle.shore_txn.specs.Transactions as table
@@ -33,7 +33,7 @@ use Rattle.shore_sessions.specs.Seated.{NamesDiffer, as_rolled, rolled_in}
 use Rattle.shore_sessions.specs.Standing.{HasControl, HasControlBut, HasTxns, HasWaits, IsLogged}
 use Rattle.shore_sessions.specs.declared.control.Control.{Control}
 use Rattle.shore_sessions.proofs.Lists.{all_by_members, among_left}
-use Rattle.shore_sessions.proofs.LogSteps.{cost_push}
+use Rattle.shore_sessions.proofs.LogSteps.{cost_push, room_on}
 use Rattle.shore_sessions.proofs.Permuted.{among_made, filtered, made_without}
 use Rattle.shore_sessions.proofs.ResolveSteps.{decided_at, decided_below, decided_others, free_still, not_asking, not_preparing, resolvable_there, waits_decided}
 use Rattle.shore_sessions.proofs.Rolled.{resolve_is, undecided}
@@ -85,8 +85,7 @@ module _ (old new : Transactions) (s : State) (was : HasTxns old s) (a : Session
     entered = λ n. subst (λ k. ((resolved_state s a global).sessions.seats n).txn < k) (sym next) (decided_below s.sessions a.txn (next_in old) old.some was.entered n);
     names = names_left old new s was number changes a one can.0 at;
     next = was.next ∙ sym next;
-    stream = was.stream ∙ sym stream;
-    kept = cost_push s.log (record { txn = a.txn; previous = previous_of a.txn s.log; payload = payload.Commit }) ∙ ap (λ n. n + cost_of payload.Commit) was.kept ∙ sym kept;
+    room = room_on (room_in old).kept (cost_of_log s.log) (cost_of payload.Commit) refl kept (cost_push s.log (record { txn = a.txn; previous = previous_of a.txn s.log; payload = payload.Commit })) stream was.room;
     each = all_by_members (IsLogged (and_record a.txn s.log payload.Commit)) (table.txns_in new)
         (each_left (IsLogged s.log) (IsLogged (and_record a.txn s.log payload.Commit)) old.numbers (each_was old new s was) one (others_logged old new s was number changes a one can.0 at payload.Commit));
     above = above_pushed old new s was a payload.Commit can.0 next;

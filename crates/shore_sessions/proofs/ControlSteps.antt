@@ -27,6 +27,7 @@ use Rattle.shore_sessions.specs.Standing.{AreResolving, HasControl, HasTxns, Has
 use Rattle.shore_sessions.specs.declared.control.Control.{Control}
 use Rattle.shore_sessions.specs.declared.waits.WaitingCall.{WaitingCall}
 use Rattle.shore_sessions.proofs.Lists.{all_by_members}
+use Rattle.shore_sessions.proofs.LogSteps.{room_still}
 use Rattle.shore_sessions.proofs.SeatSteps.{its_seats, seats_same, sits_in}
 use Rattle.shore_sessions.proofs.Seats.{active_above, one_there, seat_there}
 use Rattle.shore_sessions.proofs.Taking.{AreApart, is_other}
@@ -42,8 +43,7 @@ txns_kept old new s t same active prepared seats next stream log was = subst (λ
   entered = λ n. subst (λ (p : SessionState). p.txn < next_in old) (sym (seats n)) (was.entered n);
   names = was.names;
   next = next ∙ was.next;
-  stream = stream ∙ was.stream;
-  kept = ap cost_of_log log ∙ was.kept;
+  room = room_still stream refl (ap cost_of_log log) refl was.room;
   each = subst (λ l. AllByRecursion (IsLogged l) (table.txns_in old)) (sym log) was.each;
   above = subst (λ (l : List LogRecord). AllByRecursion (λ r. r.txn < next_in old) l) (sym log) was.above;
 })

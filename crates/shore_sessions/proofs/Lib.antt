@@ -5,6 +5,7 @@ pub mod Lists
 pub mod Permuted
 pub mod Rolled
 pub mod LogSteps
+pub mod FirstNumbers
 pub mod Taking
 pub mod SeatSteps
 pub mod Seats
@@ -32,3 +33,5 @@ pub mod TriedLocks
 pub mod Named
 pub mod AnswerSteps
 pub mod DoubtsListed
+pub mod UnendedTxns
+pub mod CheckpointSteps

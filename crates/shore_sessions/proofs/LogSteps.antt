@@ -12,15 +12,15 @@ use Rattle.laws_calls.proofs.RollbackNumbers.{number_push}
 use Rattle.laws_calls.specs.Resolves.{rollback_number}
 use Rattle.laws_calls.specs.States.{cost_of_log}
 
-last_own : (log : List LogRecord) (r : LogRecord) → last_of r.txn (log ++ r ∷ []) ≡ 1 + length log
+pub last_own : (log : List LogRecord) (r : LogRecord) → last_of r.txn (log ++ r ∷ []) ≡ 1 + length log
 last_own log r = ap first_number
     (newest-push r.txn log r ∙ ap (λ b. cond b ((1 + length log, r) ∷ reverse (records_of r.txn log)) (reverse (records_of r.txn log))) (eq-eqb r.txn r.txn refl))
 
-last_other : (t : ℕ) (log : List LogRecord) (r : LogRecord) → r.txn ≢ t → last_of t (log ++ r ∷ []) ≡ last_of t log
+pub last_other : (t : ℕ) (log : List LogRecord) (r : LogRecord) → r.txn ≢ t → last_of t (log ++ r ∷ []) ≡ last_of t log
 last_other t log r other = ap first_number
     (newest-push t log r ∙ ap (λ b. cond b ((1 + length log, r) ∷ reverse (records_of t log)) (reverse (records_of t log))) (ne_eqb r.txn t other))
 
-previous_positive : (t n : ℕ) → 0 < t → cond (t == 0) 0 n ≡ n
+pub previous_positive : (t n : ℕ) → 0 < t → cond (t == 0) 0 n ≡ n
 previous_positive t n some = let not_zero : t ≢ 0 = λ z. omega (arith, some, z) in ap (λ b. cond b 0 n) (ne_eqb t 0 not_zero)
 
 -- the record is the last of its transaction
@@ -52,6 +52,15 @@ all_higher n m (r ∷ log) rise all = (omega (arith, rise, all.0), all_higher n 
 
 pub cost_push : (log : List LogRecord) (r : LogRecord) → cost_of_log (log ++ r ∷ []) ≡ cost_of_log log + cost_of r.payload
 cost_push log r = let sum = sum_by-append (λ (x : LogRecord). cost_of x.payload) log (r ∷ []) in omega (arith, sum)
+
+-- as much stays free if as much more is logged as is kept
+pub room_on : (kept cost more : ℕ) {bytes stream bytes' kept' cost' stream' : ℕ} → bytes' ≡ bytes → kept' ≡ kept + more → cost' ≡ cost + more → stream' ≡ stream → bytes + kept ≡ cost + stream
+    → bytes' + kept' ≡ cost' + stream'
+room_on kept cost more b k c s was = omega (arith, b, k, c, s, was)
+
+-- .. or nothing is
+pub room_still : {bytes kept cost stream bytes' kept' cost' stream' : ℕ} → bytes' ≡ bytes → kept' ≡ kept → cost' ≡ cost → stream' ≡ stream → bytes + kept ≡ cost + stream → bytes' + kept' ≡ cost' + stream'
+room_still b k c s was = omega (arith, b, k, c, s, was)
 
 -- ---- a Rollback decided
 

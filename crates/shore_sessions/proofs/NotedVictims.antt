@@ -66,7 +66,7 @@ seat_named seat old new names = seat_stays old new seat (numbers_of (table.txns_
 -- ---- a transaction is doomed
 
 pub doomed_logged : (t u : Txn) → IsDoomed t u → StaysLogged t u
-doomed_logged t u after = record { txn = after.txn; last = after.last; entries = after.entries; decided = after.name.decided }
+doomed_logged t u after = record { txn = after.txn; first = after.first; last = after.last; entries = after.entries; global = after.name.global; prepare = after.name.prepare; decided = after.name.decided }
 
 module _ (old new : Transactions) {number : ℕ} (one : OneBecomes number IsDoomed (table.txns_in old) (table.txns_in new))
     (undos : (a : SessionTxn) → IsAmong a (undos_in old) → a.txn ≡ number → undos_in new ≡ with_undo a.txn (undo_rolled a.undo a.undo.images Whole) (undos_in old))

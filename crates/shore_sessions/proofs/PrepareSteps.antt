@@ -1,5 +1,5 @@
 -- What a prepare and its answer make of a table, of the sessions and of the calls that wait.
-use Rattle.std.proofs.Common.{◌≡◌, ◌≢◌, ◌⊎◌, inl, inr, ⊎_elim, ◌+◌, ◌++◌, ◌∷◌, ◌==◌, [], ℕ, List, true, false, cond, None, Some, is_some, refl, sym, ap, subst, ◌∙◌, arith, length, map}
+use Rattle.std.proofs.Common.{◌≡◌, ◌≢◌, ◌⊎◌, inl, inr, ⊎_elim, ◌+◌, ◌++◌, ◌∷◌, ◌==◌, [], ℕ, List, Bool, Option, true, false, cond, None, Some, is_some, refl, sym, ap, subst, ◌∙◌, arith, length, map}
 use Rattle.std.specs.Prelude.{◌||◌, All, not, reverse}
 use Rattle.std.specs.List.{filter_map}
 use Rattle.std.specs.List.Sorted.{IsPermutation}
@@ -12,7 +12,8 @@ use Rattle.shore_model.specs.declared.log_records.Payload.TheVariants as payload
 use Rattle.shore_model.specs.declared.sessions.SessionState.{SessionState}
 use Rattle.shore_model.specs.declared.step.Wait.TheVariants.{Durable}
 use Rattle.shore_model.specs.Histories.{free, once_prepared}
-use Rattle.shore_model.specs.Logs.{previous_of, unanswered}
+use Rattle.shore_model.specs.Logs as logs
+use Rattle.shore_model.specs.Logs.{prepare_number, previous_of, unanswered}
 use Rattle.shore_logrec.specs.Text.{cost_of}
 use Rattle.laws_lives.specs.Sessions.{EachOnce, PreparedTxn, ResolvedTxn, SessionTxn, in_prepared, txns_of}
 use Rattle.laws_lives.specs.Views.{IsAmong}
@@ -21,12 +22,13 @@ use Rattle.laws_calls.specs.CallSteps.{IsPreparing}
 use Rattle.laws_calls.specs.Prepares.{prepared}
 use Rattle.laws_calls.specs.Resolves.{rollback_number}
 use Rattle.laws_calls.specs.StateChanges.{decision_waiting}
-use Rattle.laws_calls.specs.States.{HasSeat, State, next_number}
+use Rattle.laws_calls.specs.States.{HasSeat, State, cost_of_log, next_number}
 use Rattle.shore_txn.specs.ActiveTxns.{OneBecomes}
+use Rattle.shore_txn.specs.Numbers.{first_with}
 use Rattle.shore_txn.specs.Transactions.{next_in, prepared_in, room_in, undos_in}
 use Rattle.shore_txn.specs.Transactions as table
 use Rattle.shore_txn.specs.TxnStates.{is_in_doubt}
-use Rattle.shore_txn.specs.Txns.{IsAfterPrepare, IsOf, number_of, state_of}
+use Rattle.shore_txn.specs.Txns.{IsAfterPrepare, IsOf, first_of, global_of, number_of, state_of}
 use Rattle.shore_txn.specs.UndoEntries.{HaveClaims}
 use Rattle.shore_txn.specs.declared.transactions.Transactions.{Transactions}
 use Rattle.shore_txn.specs.declared.txn.Txn.{Txn}
@@ -39,8 +41,9 @@ use Rattle.shore_sessions.specs.Calls.{as_resolved, awaits_record, logs_decision
 use Rattle.shore_sessions.specs.Seated.{IsNamed, IsSeated, as_rolled, is_rolled, rolled_in}
 use Rattle.shore_sessions.specs.Standing.{HasTxns, HasWaits, IsLogged, as_change}
 use Rattle.shore_sessions.specs.declared.waits.WaitingCall.{WaitingCall}
+use Rattle.shore_sessions.proofs.FirstNumbers.{first_own, prepare_own}
 use Rattle.shore_sessions.proofs.Lists.{all_by_members, among_either, among_left, among_right}
-use Rattle.shore_sessions.proofs.LogSteps.{cost_push, previous_own, rollback_not}
+use Rattle.shore_sessions.proofs.LogSteps.{cost_push, previous_own, rollback_not, room_on}
 use Rattle.shore_sessions.proofs.Permuted.{made_without}
 use Rattle.shore_sessions.proofs.SeatSteps.{its_seats}
 use Rattle.shore_sessions.proofs.Seats.{doubt_there, seat_there}
@@ -49,6 +52,9 @@ use Rattle.shore_sessions.proofs.WaitSteps.{other_asks, resolved_still, waitings
 
 clash : true ≡ false → ⊥
 clash e = cc
+
+no_name : {name : List ℕ} → None ≡ Some name → ⊥
+no_name e = cc
 
 -- ---- a session whose transaction is prepared
 
@@ -74,12 +80,30 @@ module _ (old new : Transactions) (s : State) (was : HasTxns old s) (a : Session
   before_there : IsAmong one.before (table.txns_in old)
   before_there = subst (IsAmong one.before) (sym one.was) (among_middle one.newer one.older one.before)
 
-  -- its session is in it by the table
-  its_own : IsOf a.session one.before
-  its_own =
+  -- its session is in it by the table, and it is not in doubt
+  own_free : IsOf a.session one.before × (is_in_doubt (state_of one.before) ≡ false)
+  own_free =
       let t = seat_there old s was a seat in
       let same : t.0 ≡ one.before = one_at_number (table.txns_in old) old.numbers t.0 one.before t.1 before_there (ap (λ (b : SessionTxn). b.txn) t.2 ∙ at ∙ sym one.txn) in
-      subst (IsOf a.session) same t.3
+      subst (λ (t : Txn). IsOf a.session t × (is_in_doubt (state_of t) ≡ false)) same (t.3, t.4)
+
+  its_own : IsOf a.session one.before
+  its_own = own_free.0
+
+  -- so it has no name
+  unnamed : global_of one.before ≡ None
+  unnamed = by (is_rolled one.before) refl
+    where
+      named : IsNamed one.before
+      named = names_were old new s was one.before before_there
+
+      none : (o : Option (List ℕ)) → is_some o ≡ false → o ≡ None
+      none None is = refl
+      none (Some name) is = absurd (clash is)
+
+      by : (b : Bool) → is_rolled one.before ≡ b → global_of one.before ≡ None
+      by true rolled = absurd (clash (sym its_own.0 ∙ (named.left rolled).0))
+      by false not_rolled = none (global_of one.before) (named.named ∙ ap (λ b. b || is_rolled one.before) own_free.1 ∙ not_rolled)
 
   after_number : number_of one.after ≡ a.txn
   after_number = one.becomes.txn ∙ one.txn ∙ sym at
@@ -118,11 +142,19 @@ module _ (old new : Transactions) (s : State) (was : HasTxns old s) (a : Session
   one_logged before =
       let some = one.after.some in
       let number_is = after_number in record {
+        first =
+            one.becomes.first ∙ ap (first_with (first_of one.before)) next_lsn ∙ ap (λ n. first_with n (1 + length s.log)) (before.first ∙ ap (λ n. logs.first_of n s.log) (sym one.becomes.txn ∙ after_number))
+            ∙ sym (first_own s.log r) ∙ ap (λ n. logs.first_of n (s.log ++ r ∷ [])) (sym after_number);
         last = one.becomes.last ∙ next_lsn ∙ sym (previous_own s.log r (omega (arith, number_is, some))) ∙ ap (λ n. previous_of n (s.log ++ r ∷ [])) (sym after_number);
         changes =
             unanswered_own (number_of one.after) s.log r (sym after_number)
             ∙ ap (λ n. unanswered n s.log) one.becomes.txn ∙ before.changes ∙ ap (λ (es : List UndoEntry). reverse (map as_change es)) (sym one.becomes.entries);
         claims = subst HaveClaims (sym one.becomes.entries) before.claims;
+        prepare =
+            one.becomes.prepare ∙ next_lsn
+            ∙ sym (prepare_own s.log r refl (ap (λ n. prepare_number n s.log) (sym after_number ∙ one.becomes.txn) ∙ sym before.prepare ∙ before.unprepared unnamed))
+            ∙ ap (λ n. prepare_number n (s.log ++ r ∷ [])) (sym after_number);
+        unprepared = λ none. absurd (no_name (sym none ∙ one.becomes.global));
         decided =
             one.becomes.decided ∙ before.decided ∙ ap (λ n. rollback_number n s.log) (sym one.becomes.txn) ∙ sym (rollback_not (number_of one.after) s.log r refl);
       }
@@ -140,8 +172,7 @@ module _ (old new : Transactions) (s : State) (was : HasTxns old s) (a : Session
     entered = λ n. let same = number_still (s.sessions.seats n) a.txn in let below = was.entered n in omega (arith, same, below, next);
     names = all_by_members IsNamed (table.txns_in new) (each_becomes IsNamed IsNamed old.numbers (names_were old new s was) one (λ u other is. is) one_named);
     next = was.next ∙ sym next;
-    stream = was.stream ∙ sym stream;
-    kept = cost_push s.log r ∙ ap (λ n. n + cost_of r.payload) was.kept ∙ ap (λ n. (room_in old).kept + n) (sym costs) ∙ sym kept;
+    room = room_on (room_in old).kept (cost_of_log s.log) (cost_of r.payload) refl (kept ∙ ap (λ n. (room_in old).kept + n) costs) (cost_push s.log r) stream was.room;
     each = all_by_members (IsLogged (s.log ++ r ∷ [])) (table.txns_in new)
         (each_becomes (IsLogged s.log) (IsLogged (s.log ++ r ∷ [])) old.numbers (each_was old new s was) one (λ u apart is. logged_beside s.log r u (λ same. apart (sym same ∙ at)) is) one_logged);
     above = above_pushed old new s was a (payload.Prepare global granules) seat.0 next;

@@ -13,19 +13,21 @@ use Rattle.shore_model.specs.declared.log_records.Payload.TheVariants as payload
 use Rattle.shore_model.specs.declared.rollbacks.Rollback.TheVariants.{Whole}
 use Rattle.shore_model.specs.declared.sessions.SessionState.{SessionState}
 use Rattle.shore_model.specs.Histories.{free, once_decided}
-use Rattle.shore_model.specs.Logs.{previous_of, unanswered}
+use Rattle.shore_model.specs.Logs as logs
+use Rattle.shore_model.specs.Logs.{prepare_number, previous_of, unanswered}
 use Rattle.shore_logrec.specs.Text.{cost_of}
 use Rattle.laws_lives.specs.Sessions.{PreparedTxn, ResolvedTxn, SessionTxn, Sessions, in_txn, txns_of, with_undo, without_prepared}
 use Rattle.laws_lives.specs.UndoLists.{undo_rolled}
 use Rattle.laws_lives.specs.Views.{IsAmong}
 use Rattle.laws_lives.proofs.UnansweredChanges.{unanswered_own}
 use Rattle.laws_calls.specs.Resolves.{IsResolvable, rollback_decided, rollback_done, rollback_number}
-use Rattle.laws_calls.specs.States.{State}
+use Rattle.laws_calls.specs.States.{State, cost_of_log}
 use Rattle.shore_txn.specs.ActiveTxns.{OneBecomes, OneLeaves}
+use Rattle.shore_txn.specs.Numbers.{first_with}
 use Rattle.shore_txn.specs.Transactions.{next_in, prepared_in, room_in, undos_in}
 use Rattle.shore_txn.specs.Transactions as table
 use Rattle.shore_txn.specs.TxnStates.{is_in_doubt}
-use Rattle.shore_txn.specs.Txns.{IsAfterDecision, global_of, number_of, state_of}
+use Rattle.shore_txn.specs.Txns.{IsAfterDecision, first_of, global_of, number_of, state_of}
 use Rattle.shore_txn.specs.UndoEntries.{HaveClaims}
 use Rattle.shore_txn.specs.declared.transactions.Transactions.{Transactions}
 use Rattle.shore_txn.specs.declared.txn.Txn.{Txn}
@@ -40,8 +42,9 @@ use Rattle.shore_sessions.specs.Seated.{IsNamed, IsSeated, as_rolled, is_rolled,
 use Rattle.shore_sessions.specs.Standing.{HasControl, HasTxns, HasWaits, IsLogged, as_change}
 use Rattle.shore_sessions.specs.declared.control.Control.{Control}
 use Rattle.shore_sessions.specs.declared.waits.WaitingCall.{WaitingCall}
+use Rattle.shore_sessions.proofs.FirstNumbers.{first_own, prepare_not}
 use Rattle.shore_sessions.proofs.Lists.{all_by_members, among_either, among_passing}
-use Rattle.shore_sessions.proofs.LogSteps.{cost_push, previous_own, rollback_own}
+use Rattle.shore_sessions.proofs.LogSteps.{cost_push, previous_own, rollback_own, room_on}
 use Rattle.shore_sessions.proofs.Permuted.{among_made, filtered, made_without, permuted_among}
 use Rattle.shore_sessions.proofs.Rolled.{is_rolled_so, resolve_is, rolled_is, undecided}
 use Rattle.shore_sessions.proofs.SeatSteps.{its_seats}
@@ -232,11 +235,16 @@ module _ (old new : Transactions) (s : State) (was : HasTxns old s) (a : Session
   after_logged before =
       let some = one.after.some in
       let number_is = after_is in record {
+        first =
+            one.becomes.first ∙ ap (first_with (first_of one.before)) next_lsn ∙ ap (λ n. first_with n (1 + length s.log)) (before.first ∙ ap (λ n. logs.first_of n s.log) (sym one.becomes.txn ∙ after_is))
+            ∙ sym (first_own s.log decision) ∙ ap (λ n. logs.first_of n (s.log ++ decision ∷ [])) (sym after_is);
         last = one.becomes.last ∙ next_lsn ∙ sym (previous_own s.log decision (omega (arith, number_is, some))) ∙ ap (λ n. previous_of n (s.log ++ decision ∷ [])) (sym after_is);
         changes =
             unanswered_own (number_of one.after) s.log decision (sym after_is)
             ∙ ap (λ n. unanswered n s.log) one.becomes.txn ∙ before.changes ∙ ap (λ (es : List UndoEntry). reverse (map as_change es)) (sym one.becomes.entries);
         claims = subst HaveClaims (sym one.becomes.entries) before.claims;
+        prepare = one.becomes.prepare ∙ before.prepare ∙ ap (λ n. prepare_number n s.log) (sym one.becomes.txn) ∙ sym (prepare_not (number_of one.after) s.log decision refl);
+        unprepared = λ none. one.becomes.prepare ∙ before.unprepared (sym one.becomes.global ∙ none);
         decided = one.becomes.decided ∙ next_lsn ∙ sym (rollback_own s.log decision refl) ∙ ap (λ n. rollback_number n (s.log ++ decision ∷ [])) (sym after_is);
       }
 
@@ -251,8 +259,7 @@ module _ (old new : Transactions) (s : State) (was : HasTxns old s) (a : Session
     entered = λ n. subst (λ k. (decided_state.sessions.seats n).txn < k) (sym next) (decided_below s.sessions a.txn (next_in old) old.some was.entered n);
     names = all_by_members IsNamed (table.txns_in new) (each_becomes IsNamed IsNamed old.numbers (names_were old new s was) one (λ u other is. is) after_named);
     next = was.next ∙ sym next;
-    stream = was.stream ∙ sym stream;
-    kept = cost_push s.log decision ∙ ap (λ n. n + cost_of decision.payload) was.kept ∙ sym kept;
+    room = room_on (room_in old).kept (cost_of_log s.log) (cost_of decision.payload) refl kept (cost_push s.log decision) stream was.room;
     each = all_by_members (IsLogged (s.log ++ decision ∷ [])) (table.txns_in new)
         (each_becomes (IsLogged s.log) (IsLogged (s.log ++ decision ∷ [])) old.numbers (each_was old new s was) one (λ u apart is. logged_beside s.log decision u (λ same. apart (sym same ∙ at)) is) after_logged);
     above = above_pushed old new s was a payload.RollbackDecided can.0 next;

@@ -11,7 +11,8 @@ use Rattle.shore_model.specs.declared.log_records.LogRecord.{LogRecord}
 use Rattle.shore_model.specs.declared.log_records.Payload.TheVariants.{Compensation, End}
 use Rattle.shore_model.specs.declared.unanswered_changes.UnansweredChange.{UnansweredChange}
 use Rattle.shore_model.specs.Histories.{free}
-use Rattle.shore_model.specs.Logs.{previous_of, unanswered, undo_next_of}
+use Rattle.shore_model.specs.Logs as logs
+use Rattle.shore_model.specs.Logs.{prepare_number, previous_of, unanswered, undo_next_of}
 use Rattle.shore_logrec.specs.Text.{cost_of}
 use Rattle.laws_room.specs.Entries.{claim_before, claims_before}
 use Rattle.laws_room.specs.LogRooms.{compensation_cost}
@@ -27,10 +28,11 @@ use Rattle.laws_lives.proofs.UnansweredChanges.{unanswered_own}
 use Rattle.laws_calls.specs.Resolves.{rollback_number}
 use Rattle.laws_calls.specs.States.{State, cost_of_log}
 use Rattle.shore_txn.specs.ActiveTxns.{OneBecomes, OneLeaves}
+use Rattle.shore_txn.specs.Numbers.{first_with}
 use Rattle.shore_txn.specs.Transactions.{next_in, prepared_in, room_in, undos_in}
 use Rattle.shore_txn.specs.Transactions as table
 use Rattle.shore_txn.specs.TxnStates.{is_in_doubt}
-use Rattle.shore_txn.specs.Txns.{IsAfterSavepoint, IsAfterUndo, IsBackAt, as_session_txn, entries_of, number_of, state_of}
+use Rattle.shore_txn.specs.Txns.{IsAfterSavepoint, IsAfterUndo, IsBackAt, as_session_txn, entries_of, first_of, number_of, state_of}
 use Rattle.shore_txn.specs.UndoEntries.{first_number, image_of, images_of, number_behind}
 use Rattle.shore_txn.specs.declared.transactions.Transactions.{Transactions}
 use Rattle.shore_txn.specs.declared.txn.Txn.{Txn}
@@ -42,23 +44,24 @@ use Rattle.shore_txn.proofs.UndoLemmas.{last_same}
 use Rattle.shore_sessions.specs.Seated.{IsSeated}
 use Rattle.shore_sessions.specs.Standing.{HasTxns, IsLogged, abort_ended, as_change, put_back}
 use Rattle.shore_sessions.proofs.Lists.{all_by_members, reverse-cons}
-use Rattle.shore_sessions.proofs.LogSteps.{cost_push, previous_own, rollback_not}
+use Rattle.shore_sessions.proofs.FirstNumbers.{first_own, prepare_not}
+use Rattle.shore_sessions.proofs.LogSteps.{cost_push, previous_own, rollback_not, room_on, room_still}
 use Rattle.shore_sessions.proofs.SeatSteps.{undo_seated}
 use Rattle.shore_sessions.proofs.TxnSteps.{StaysLogged, above_pushed, above_still, changes_push, each_was, entered_less, logged_beside, names_left, others_logged, others_seated, seats_left, txns_on}
 
 -- ---- what a log has of each stays
 
 pub savepoint_logged : (t u : Txn) → IsAfterSavepoint t u → StaysLogged t u
-savepoint_logged t u after = record { txn = after.txn; last = after.last; entries = after.entries; decided = after.name.decided }
+savepoint_logged t u after = record { txn = after.txn; first = after.first; last = after.last; entries = after.entries; global = after.name.global; prepare = after.name.prepare; decided = after.name.decided }
 
 pub back_logged : (index : ℕ) (t u : Txn) → IsBackAt index t u → StaysLogged t u
-back_logged index t u after = record { txn = after.txn; last = after.last; entries = after.entries; decided = after.name.decided }
+back_logged index t u after = record { txn = after.txn; first = after.first; last = after.last; entries = after.entries; global = after.name.global; prepare = after.name.prepare; decided = after.name.decided }
 
 -- all images stay if none is since the savepoint
 pub all_left : (mark : ℕ) (images : List (Rid × Image)) → drop mark images ≡ [] → take mark images ≡ images
 all_left mark images none = sym (append-nil (take mark images)) ∙ ap (λ l. take mark images ++ l) (sym none) ∙ take-append-drop mark images
 
-turned_map : {A B : Type 0} (f : A → B) (xs : List A) → reverse (map f xs) ≡ map f (reverse xs)
+pub turned_map : {A B : Type 0} (f : A → B) (xs : List A) → reverse (map f xs) ≡ map f (reverse xs)
 turned_map f [] = refl
 turned_map f (x ∷ xs) =
     reverse-cons (f x) (map f xs) ∙ ap (λ l. l ++ f x ∷ []) (turned_map f xs) ∙ sym (map-append f (reverse xs) (x ∷ [])) ∙ ap (map f) (sym (reverse-cons x xs))
@@ -123,12 +126,12 @@ module _ (old new : Transactions) (s : State) (was : HasTxns old s) where
         → is_in_doubt (state_of one.before) ≡ false → prepared_in new ≡ prepared_in old → next_in new ≡ next_in old → cost ≡ compensation_cost undone.before → (room_in new).kept ≡ (room_in old).kept + cost → (room_in new).stream_bytes ≡ (room_in old).stream_bytes
         → lsn ≡ 1 + length s.log → HasTxns new (put_back s a kept (image_of undone) rollback)
     txns_put_back cost undos free doubts next costs kept_more stream number =
-        txns_on old new s was (put_back s a kept (image_of undone) rollback) (λ n. refl) refl doubts refl refl next stream
+        txns_on old new s was (put_back s a kept (image_of undone) rollback) (λ n. refl) refl doubts refl next
         (becomes_of one (undo_seated lsn rollback undone one.before one.after free one.becomes))
         (ap (with_undo a.txn (undo_rolled a.undo kept rollback)) was.active
         ∙ ap (λ l. with_undo a.txn (undo_rolled a.undo l rollback) (undos_in old)) (last_same kept undos.0 (image_of undone) (image_of undone) (sym newest ∙ undos.1)).0 ∙ sym undos.2)
-        (cost_push s.log r ∙ ap (λ n. n + cost_of r.payload) was.kept
-        ∙ ap (λ n. (room_in old).kept + n) (sym (compensation_bytes undone.id undone.before (next_to_undo a.txn s.log)) ∙ sym costs) ∙ sym kept_more)
+        (room_on (room_in old).kept (cost_of_log s.log) (cost_of r.payload) refl (kept_more ∙ ap (λ n. (room_in old).kept + n) (costs ∙ compensation_bytes undone.id undone.before (next_to_undo a.txn s.log)))
+        (cost_push s.log r) stream was.room)
         (all_by_members (IsLogged (s.log ++ r ∷ [])) (table.txns_in new)
         (each_becomes (IsLogged s.log) (IsLogged (s.log ++ r ∷ [])) old.numbers (each_was old new s was) one (λ u apart is. logged_beside s.log r u (λ same. apart (sym same ∙ own)) is) here))
         (above_pushed old new s was a (Compensation undone.id undone.before (next_to_undo a.txn s.log)) m next)
@@ -142,11 +145,16 @@ module _ (old new : Transactions) (s : State) (was : HasTxns old s) where
         here : IsLogged s.log one.before → IsLogged (s.log ++ r ∷ []) one.after
         here before =
             let some = one.after.some in record {
+              first =
+                  one.becomes.first ∙ ap (first_with (first_of one.before)) number ∙ ap (λ n. first_with n (1 + length s.log)) (before.first ∙ ap (λ n. logs.first_of n s.log) (sym one.becomes.txn ∙ sym number_is))
+                  ∙ sym (first_own s.log r) ∙ ap (λ n. logs.first_of n (s.log ++ r ∷ [])) number_is;
               last = one.becomes.last ∙ number ∙ sym (previous_own s.log r (omega (arith, number_is, some))) ∙ ap (λ n. previous_of n (s.log ++ r ∷ [])) number_is;
               changes =
                   unanswered_own (number_of one.after) s.log r number_is
                   ∙ ap (drop 1) (ap (λ n. unanswered n s.log) one.becomes.txn ∙ before.changes ∙ ap (λ (es : List UndoEntry). reverse (map as_change es)) one.becomes.entries ∙ changes_push (entries_of one.after) undone);
               claims = claims_split.0;
+              prepare = one.becomes.name.prepare ∙ before.prepare ∙ ap (λ n. prepare_number n s.log) (sym one.becomes.txn) ∙ sym (prepare_not (number_of one.after) s.log r refl);
+              unprepared = λ none. one.becomes.name.prepare ∙ before.unprepared (sym one.becomes.name.global ∙ none);
               decided =
                   one.becomes.name.decided ∙ before.decided ∙ ap (λ n. rollback_number n s.log) (sym one.becomes.txn) ∙ sym (rollback_not (number_of one.after) s.log r refl);
             }
@@ -165,17 +173,16 @@ module _ (old new : Transactions) (s : State) (was : HasTxns old s) where
       pub bytes : t.stream_bytes ≡ s.stream_bytes
       pub log_is : t.log ≡ log
 
-    ended : (t : State) (log : List LogRecord) → IsEnded t log → cost_of_log log ≡ (room_in new).kept → AllByRecursion (IsLogged log) (table.txns_in new)
+    ended : (t : State) (log : List LogRecord) → IsEnded t log → s.stream_bytes + (room_in new).kept ≡ cost_of_log log + (room_in new).stream_bytes → AllByRecursion (IsLogged log) (table.txns_in new)
         → AllByRecursion (λ r. r.txn < next_in new) log → HasTxns new t
-    ended t log is kept each above = record {
+    ended t log is room each above = record {
       active = is.active ∙ ap (without_txn a.txn) was.active ∙ sym undos;
       prepared = subst (λ ps. IsPermutation ps (prepared_in new)) (sym is.prepared) (subst (IsPermutation s.sessions.prepared) (sym doubts) was.prepared);
       seats = seats_left old new s was number changes a one m own t.sessions is.seats;
       entered = λ n. subst (λ k. (t.sessions.seats n).txn < k) (sym next) (is.entered n);
       names = names_left old new s was number changes a one m own;
       next = is.number_to_come ∙ was.next ∙ sym next;
-      stream = is.bytes ∙ was.stream ∙ sym stream;
-      kept = ap cost_of_log is.log_is ∙ kept;
+      room = room_still is.bytes refl (ap cost_of_log is.log_is) refl room;
       each = subst (λ l. AllByRecursion (IsLogged l) (table.txns_in new)) (sym is.log_is) each;
       above = subst (λ (l : List LogRecord). AllByRecursion (λ r. r.txn < next_in new) l) (sym is.log_is) above;
     }
@@ -184,7 +191,7 @@ module _ (old new : Transactions) (s : State) (was : HasTxns old s) where
     pub txns_ended : (t : State) → IsEnded t (and_record a.txn s.log End) → (room_in new).kept ≡ (room_in old).kept + ENDING_COST → HasTxns new t
     txns_ended t is kept =
         let r : LogRecord = record { txn = a.txn; previous = previous_of a.txn s.log; payload = End } in
-        ended t (and_record a.txn s.log End) is (cost_push s.log r ∙ ap (λ n. n + cost_of r.payload) was.kept ∙ sym kept)
+        ended t (and_record a.txn s.log End) is (room_on (room_in old).kept (cost_of_log s.log) (cost_of r.payload) refl kept (cost_push s.log r) stream was.room)
         (all_by_members (IsLogged (and_record a.txn s.log End)) (table.txns_in new)
         (each_left (IsLogged s.log) (IsLogged (and_record a.txn s.log End)) old.numbers (each_was old new s was) one (others_logged old new s was number changes a one m own End)))
         (above_pushed old new s was a End m next)
@@ -192,7 +199,7 @@ module _ (old new : Transactions) (s : State) (was : HasTxns old s) where
     -- .. or nothing is
     pub txns_gone : (t : State) → IsEnded t s.log → (room_in new).kept ≡ (room_in old).kept → HasTxns new t
     txns_gone t is kept =
-        ended t s.log is (was.kept ∙ sym kept)
+        ended t s.log is (room_still refl kept refl stream was.room)
         (all_by_members (IsLogged s.log) (table.txns_in new) (each_left (IsLogged s.log) (IsLogged s.log) old.numbers (each_was old new s was) one (λ u apart is. is)))
         (above_still old new s was next)
 

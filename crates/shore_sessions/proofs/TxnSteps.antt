@@ -14,7 +14,8 @@ use Rattle.shore_model.specs.declared.log_records.Payload.TheVariants.{Change, C
 use Rattle.shore_model.specs.declared.sessions.SessionState.{SessionState}
 use Rattle.shore_model.specs.declared.unanswered_changes.UnansweredChange.{UnansweredChange}
 use Rattle.shore_model.specs.Histories.{free}
-use Rattle.shore_model.specs.Logs.{previous_of, unanswered}
+use Rattle.shore_model.specs.Logs as logs
+use Rattle.shore_model.specs.Logs.{prepare_number, previous_of, unanswered}
 use Rattle.shore_logrec.specs.Text.{cost_of}
 use Rattle.shore_page.specs.Room.{claim_at}
 use Rattle.laws_room.specs.Claims.{Claimed, NoOthers, SlotCounts}
@@ -30,10 +31,11 @@ use Rattle.laws_calls.specs.Resolves.{rollback_number}
 use Rattle.laws_calls.specs.StateChanges.{begun, committed}
 use Rattle.laws_calls.specs.States.{State, cost_of_log, page_slots}
 use Rattle.shore_txn.specs.ActiveTxns.{IsBegun, OneBecomes, OneLeaves, session_txns, with_entry}
+use Rattle.shore_txn.specs.Numbers.{first_with}
 use Rattle.shore_txn.specs.Transactions.{HasNoTxnOf, IsUnchanged, next_in, prepared_in, room_in, undos_in}
 use Rattle.shore_txn.specs.Transactions as table
 use Rattle.shore_txn.specs.TxnStates.{is_in_doubt}
-use Rattle.shore_txn.specs.Txns.{IsAfterChange, IsOf, SameTxn, as_session_txn, decided_of, entries_of, last_of, number_of, prepared_of, state_of}
+use Rattle.shore_txn.specs.Txns.{IsAfterChange, IsOf, SameTxn, as_session_txn, decided_of, entries_of, first_of, global_of, last_of, number_of, prepare_of, prepared_of, state_of}
 use Rattle.shore_txn.specs.UndoEntries.{HaveClaims, image_of, images_of}
 use Rattle.shore_txn.specs.declared.log_room.LogRoom.{LogRoom}
 use Rattle.shore_txn.specs.declared.transactions.Transactions.{Transactions}
@@ -46,17 +48,21 @@ use Rattle.shore_txn.proofs.OneOfMany.{all_among, among_map, among_middle, once_
 use Rattle.shore_sessions.specs.Seated.{IsNamed, IsSeated, as_rolled, rolled_in}
 use Rattle.shore_sessions.specs.Standing.{HasTxns, IsLogged, as_change, changed}
 use Rattle.shore_sessions.proofs.Lists.{all_by_members}
-use Rattle.shore_sessions.proofs.LogSteps.{all_higher, cost_push, previous_none, previous_other, previous_own, rollback_none, rollback_not, rollback_other, unanswered_none}
+use Rattle.shore_sessions.proofs.FirstNumbers.{first_none, first_other, first_own, prepare_none, prepare_not, prepare_other}
+use Rattle.shore_sessions.proofs.LogSteps.{all_higher, cost_push, previous_none, previous_other, previous_own, rollback_none, rollback_not, rollback_other, room_on, room_still, unanswered_none}
 use Rattle.shore_sessions.proofs.Permuted.{made_without}
 use Rattle.shore_sessions.proofs.Rolled.{undecided}
 use Rattle.shore_sessions.proofs.SeatSteps.{StaysSeated, change_seated, its_seats, named_still, same_seated, seat_told, seated_still, seats_same}
 
--- a record of another transaction leaves its last one, and its Changes
+-- a record of another transaction leaves its own as they are
 pub logged_beside : (log : List LogRecord) (r : LogRecord) (u : Txn) → r.txn ≢ number_of u → IsLogged log u → IsLogged (log ++ r ∷ []) u
 logged_beside log r u other is = record {
+  first = is.first ∙ sym (first_other (number_of u) log r other);
   last = is.last ∙ sym (previous_other (number_of u) log r other);
   changes = unanswered_other (number_of u) log r other ∙ is.changes;
   claims = is.claims;
+  prepare = is.prepare ∙ sym (prepare_other (number_of u) log r other);
+  unprepared = is.unprepared;
   decided = is.decided ∙ sym (rollback_other (number_of u) log r other);
 }
 
@@ -64,23 +70,29 @@ logged_beside log r u other is = record {
 pub changes_push : (es : List UndoEntry) (e : UndoEntry) → reverse (map as_change (es ++ e ∷ [])) ≡ as_change e ∷ reverse (map as_change es)
 changes_push es e = ap reverse (map-append as_change es (e ∷ [])) ∙ reverse-append (map as_change es) (as_change e ∷ [])
 
--- what a log has of a transaction stays if its number, its last record, its entries and its Rollback decided do
+-- what a log has of a transaction stays if its number, its entries, its name and the numbers of its records do
 pub record StaysLogged (t u : Txn) : Type 0 where
   pub txn : number_of u ≡ number_of t
+  pub first : first_of u ≡ first_of t
   pub last : last_of u ≡ last_of t
   pub entries : entries_of u ≡ entries_of t
+  pub global : global_of u ≡ global_of t
+  pub prepare : prepare_of u ≡ prepare_of t
   pub decided : decided_of u ≡ decided_of t
 
 pub logged_still : (log : List LogRecord) (t u : Txn) → StaysLogged t u → IsLogged log t → IsLogged log u
 logged_still log t u same is = record {
+  first = same.first ∙ is.first ∙ ap (λ n. logs.first_of n log) (sym same.txn);
   last = same.last ∙ is.last ∙ ap (λ n. previous_of n log) (sym same.txn);
   changes = ap (λ n. unanswered n log) same.txn ∙ is.changes ∙ ap (λ (es : List UndoEntry). reverse (map as_change es)) (sym same.entries);
   claims = subst HaveClaims (sym same.entries) is.claims;
+  prepare = same.prepare ∙ is.prepare ∙ ap (λ n. prepare_number n log) (sym same.txn);
+  unprepared = λ none. same.prepare ∙ is.unprepared (sym same.global ∙ none);
   decided = same.decided ∙ is.decided ∙ ap (λ n. rollback_number n log) (sym same.txn);
 }
 
 pub same_logged : (t u : Txn) → SameTxn t u → StaysLogged t u
-same_logged t u same = record { txn = same.txn; last = same.last; entries = same.entries; decided = same.name.decided }
+same_logged t u same = record { txn = same.txn; first = same.first; last = same.last; entries = same.entries; global = same.name.global; prepare = same.name.prepare; decided = same.name.decided }
 
 -- no rollback of one is decided in which a session is
 pub unrolled : (t : Txn) → IsNamed t → t.is_seated ≡ true → as_rolled t ≡ None
@@ -111,10 +123,11 @@ module _ (old new : Transactions) (s : State) (was : HasTxns old s) where
   -- ---- one goes on, and is as it was to its session and by its name
 
   module _ (t : State) (seats : (n : ℕ) → t.sessions.seats n ≡ s.sessions.seats n) (prepared : t.sessions.prepared ≡ s.sessions.prepared) (doubts : prepared_in new ≡ prepared_in old)
-      (number : t.sessions.next_txn ≡ s.sessions.next_txn) (bytes : t.stream_bytes ≡ s.stream_bytes) (next : next_in new ≡ next_in old) (stream : (room_in new).stream_bytes ≡ (room_in old).stream_bytes) where
+      (number : t.sessions.next_txn ≡ s.sessions.next_txn) (next : next_in new ≡ next_in old) where
     pub txns_on : {one_number : ℕ} → OneBecomes one_number StaysSeated (table.txns_in old) (table.txns_in new) → t.sessions.active ≡ undos_in new
-        → cost_of_log t.log ≡ (room_in new).kept → AllByRecursion (IsLogged t.log) (table.txns_in new) → AllByRecursion (λ r. r.txn < next_in new) t.log → HasTxns new t
-    txns_on one undos kept each above = record {
+        → t.stream_bytes + (room_in new).kept ≡ cost_of_log t.log + (room_in new).stream_bytes → AllByRecursion (IsLogged t.log) (table.txns_in new)
+        → AllByRecursion (λ r. r.txn < next_in new) t.log → HasTxns new t
+    txns_on one undos room each above = record {
       active = undos;
       prepared = subst (λ ps. IsPermutation ps (prepared_in new)) (sym prepared) (subst (IsPermutation s.sessions.prepared) (sym doubts) was.prepared);
       seats = all_by_members (IsSeated t.sessions) (table.txns_in new)
@@ -124,8 +137,7 @@ module _ (old new : Transactions) (s : State) (was : HasTxns old s) where
       entered = entered_still;
       names = all_by_members IsNamed (table.txns_in new) (each_becomes IsNamed IsNamed old.numbers names_were one (λ u other is. is) (named_still one.before one.after one.becomes));
       next = number ∙ was.next ∙ sym next;
-      stream = bytes ∙ was.stream ∙ sym stream;
-      kept = kept;
+      room = room;
       each = each;
       above = above;
     }
@@ -138,8 +150,8 @@ module _ (old new : Transactions) (s : State) (was : HasTxns old s) where
       → t.sessions.active ≡ undos_in new → ((n : ℕ) → t.sessions.seats n ≡ s.sessions.seats n) → t.sessions.prepared ≡ s.sessions.prepared → prepared_in new ≡ prepared_in old
       → t.sessions.next_txn ≡ s.sessions.next_txn → t.stream_bytes ≡ s.stream_bytes → t.log ≡ s.log → next_in new ≡ next_in old → room_in new ≡ room_in old → HasTxns new t
   txns_still t logged one undos seats prepared doubts number bytes log next room =
-      txns_on t seats prepared doubts number bytes next (ap (λ (r : LogRoom). r.stream_bytes) room) one undos
-      (ap cost_of_log log ∙ was.kept ∙ ap (λ (r : LogRoom). r.kept) (sym room))
+      txns_on t seats prepared doubts number next one undos
+      (room_still bytes (ap (λ (r : LogRoom). r.kept) room) (ap cost_of_log log) (ap (λ (r : LogRoom). r.stream_bytes) room) was.room)
       (subst (λ l. AllByRecursion (IsLogged l) (table.txns_in new)) (sym log)
       (all_by_members (IsLogged s.log) (table.txns_in new)
       (each_becomes (IsLogged s.log) (IsLogged s.log) old.numbers each_was logged (λ u other is. is) (logged_still s.log logged.before logged.after logged.becomes))))
@@ -160,8 +172,7 @@ module _ (old new : Transactions) (s : State) (was : HasTxns old s) where
     entered = λ n. subst (λ k. (s.sessions.seats n).txn < k) (sym same.next) (was.entered n);
     names = subst (AllByRecursion IsNamed) (sym same.txns) was.names;
     next = was.next ∙ sym same.next;
-    stream = was.stream ∙ ap (λ (r : LogRoom). r.stream_bytes) (sym same.room);
-    kept = was.kept ∙ ap (λ (r : LogRoom). r.kept) (sym same.room);
+    room = room_still refl (ap (λ (r : LogRoom). r.kept) same.room) refl (ap (λ (r : LogRoom). r.stream_bytes) same.room) was.room;
     each = subst (AllByRecursion (IsLogged s.log)) (sym same.txns) was.each;
     above = subst (λ n. AllByRecursion (λ (r : LogRecord). r.txn < n) s.log) (sym same.next) was.above;
   }
@@ -231,9 +242,12 @@ module _ (old new : Transactions) (s : State) (was : HasTxns old s) where
         let some = old.some in
         let below = subst (λ n. AllByRecursion (λ (r : LogRecord). r.txn < n) s.log) (sym number) was.above in
         record {
+          first = is.first ∙ sym (first_none (number_of t) s.log below);
           last = is.last ∙ sym (previous_none (number_of t) s.log (omega (arith, number, some)) below);
           changes = unanswered_none (number_of t) s.log below ∙ ap (λ (es : List UndoEntry). reverse (map as_change es)) (sym is.entries);
           claims = subst HaveClaims (sym is.entries) refl;
+          prepare = is.prepare ∙ sym (prepare_none (number_of t) s.log below);
+          unprepared = λ none. is.prepare;
           decided = is.decided ∙ sym (rollback_none (number_of t) s.log below);
         }
 
@@ -249,8 +263,7 @@ module _ (old new : Transactions) (s : State) (was : HasTxns old s) where
       entered = entered_now;
       names = subst (AllByRecursion IsNamed) (sym more) (named_first, was.names);
       next = ap (λ n. n + 1) was.next ∙ sym next;
-      stream = was.stream ∙ sym stream;
-      kept = was.kept ∙ sym kept;
+      room = room_still refl kept refl stream was.room;
       each = subst (AllByRecursion (IsLogged s.log)) (sym more) (begun_logged, was.each);
       above = all_higher (next_in old) (next_in new) s.log (omega (arith, next)) was.above;
     }
@@ -270,10 +283,10 @@ module _ (old new : Transactions) (s : State) (was : HasTxns old s) where
       → Claimed s.sessions.records s.sessions.active s.counts → NoOthers s.sessions.active a.txn entry.id → entry.claim ≡ claim_at (page_slots s entry.id.page) entry.id.slot
       → HasTxns new (changed s a entry.id image counts)
   txns_changed its_number entry a image counts one undos doubts next kept stream m own number found claimed alone claim =
-      txns_on (changed s a entry.id image counts) (λ n. refl) refl doubts refl refl next stream (becomes_so (change_seated entry) one)
+      txns_on (changed s a entry.id image counts) (λ n. refl) refl doubts refl next (becomes_so (change_seated entry) one)
       (ap (with_undo a.txn (with_before_image s.sessions.records a.undo entry.id)) was.active
       ∙ ap (λ b. with_undo a.txn (record a.undo { images = a.undo.images ++ (entry.id, b) ∷ [] }) (undos_in old)) (sym found) ∙ sym undos)
-      (cost_push s.log r ∙ ap (λ n. n + cost_of r.payload) was.kept ∙ ap (λ b. (room_in old).kept + cost_of (Change entry.id b image)) (sym found) ∙ sym kept)
+      (room_on (room_in old).kept (cost_of_log s.log) (cost_of r.payload) refl (kept ∙ ap (λ b. (room_in old).kept + cost_of (Change entry.id b image)) found) (cost_push s.log r) stream was.room)
       (all_by_members (IsLogged (s.log ++ r ∷ [])) (table.txns_in new)
       (each_becomes (IsLogged s.log) (IsLogged (s.log ++ r ∷ [])) old.numbers each_was one (λ u apart is. logged_beside s.log r u (λ same. apart (sym same ∙ own)) is) here))
       (above_pushed a (Change entry.id (get s.sessions.records entry.id) image) m next)
@@ -319,9 +332,14 @@ module _ (old new : Transactions) (s : State) (was : HasTxns old s) where
       here : IsLogged s.log one.before → IsLogged (s.log ++ r ∷ []) one.after
       here before =
           let some = one.after.some in record {
+            first =
+                one.becomes.first ∙ ap (first_with (first_of one.before)) number ∙ ap (λ n. first_with n (1 + length s.log)) (before.first ∙ ap (λ n. logs.first_of n s.log) (sym one.becomes.txn ∙ sym number_is))
+                ∙ sym (first_own s.log r) ∙ ap (λ n. logs.first_of n (s.log ++ r ∷ [])) number_is;
             last = one.becomes.last ∙ number ∙ sym (previous_own s.log r (omega (arith, number_is, some))) ∙ ap (λ n. previous_of n (s.log ++ r ∷ [])) number_is;
             changes = changes_now before.changes;
             claims = claims_now before.claims;
+            prepare = one.becomes.name.prepare ∙ before.prepare ∙ ap (λ n. prepare_number n s.log) (sym one.becomes.txn) ∙ sym (prepare_not (number_of one.after) s.log r refl);
+            unprepared = λ none. one.becomes.name.prepare ∙ before.unprepared (sym one.becomes.name.global ∙ none);
             decided =
                 one.becomes.name.decided ∙ before.decided ∙ ap (λ n. rollback_number n s.log) (sym one.becomes.txn) ∙ sym (rollback_not (number_of one.after) s.log r refl);
           }
@@ -395,8 +413,7 @@ module _ (old new : Transactions) (s : State) (was : HasTxns old s) where
         entered = λ n. subst (λ k. ((committed s a).sessions.seats n).txn < k) (sym next) (entered_less (committed s a).sessions (λ k. refl) n);
         names = names_left;
         next = was.next ∙ sym next;
-        stream = was.stream ∙ sym stream;
-        kept = cost_push s.log (record { txn = a.txn; previous = previous_of a.txn s.log; payload = Commit }) ∙ ap (λ n. n + cost_of Commit) was.kept ∙ sym kept;
+        room = room_on (room_in old).kept (cost_of_log s.log) (cost_of Commit) refl kept (cost_push s.log (record { txn = a.txn; previous = previous_of a.txn s.log; payload = Commit })) stream was.room;
         each = all_by_members (IsLogged (and_record a.txn s.log Commit)) (table.txns_in new)
             (each_left (IsLogged s.log) (IsLogged (and_record a.txn s.log Commit)) old.numbers each_was one (others_logged Commit));
         above = above_pushed a Commit m next;

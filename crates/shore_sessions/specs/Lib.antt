@@ -4,3 +4,4 @@ pub mod Controls
 pub mod Seated
 pub mod Standing
 pub mod Noting
+pub mod Checkpoints

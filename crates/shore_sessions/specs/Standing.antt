@@ -1,5 +1,5 @@
 -- How a control stands for the part of a state that is of its sessions: the transactions under way, the locks, and the calls that wait.
-use Rattle.std.specs.Prelude.{◌≡◌, ◌<◌, ◌++◌, ◌∷◌, ℕ, List, Bool, Some, false, if◌then◌else◌, map, reverse}
+use Rattle.std.specs.Prelude.{◌≡◌, ◌<◌, ◌+◌, ◌++◌, ◌∷◌, ℕ, List, Bool, None, Some, false, if◌then◌else◌, map, reverse}
 use Rattle.std.specs.List.{AllByRecursion}
 use Rattle.std.specs.List.Sorted.{IsPermutation}
 use Rattle.std.specs.FinMap.{get}
@@ -10,7 +10,8 @@ use Rattle.shore_model.specs.declared.log_records.LogRecord.{LogRecord}
 use Rattle.shore_model.specs.declared.log_records.Payload.TheVariants.{Change, Compensation, End}
 use Rattle.shore_model.specs.declared.unanswered_changes.UnansweredChange.{UnansweredChange}
 use Rattle.shore_model.specs.Histories.{free}
-use Rattle.shore_model.specs.Logs.{previous_of, unanswered}
+use Rattle.shore_model.specs.Logs as logs
+use Rattle.shore_model.specs.Logs.{prepare_number, previous_of, unanswered}
 use Rattle.shore_model.specs.Records.{put_image}
 use Rattle.laws_room.specs.Claims.{SlotCounts}
 use Rattle.laws_lives.specs.Logged.{and_record, next_to_undo}
@@ -25,7 +26,7 @@ use Rattle.laws_calls.specs.Resolves.{rollback_number}
 use Rattle.laws_calls.specs.States.{State, cost_of_log}
 use Rattle.shore_txn.specs.Transactions.{next_in, prepared_in, room_in, undos_in}
 use Rattle.shore_txn.specs.Transactions as table
-use Rattle.shore_txn.specs.Txns.{decided_of, entries_of, last_of, number_of}
+use Rattle.shore_txn.specs.Txns.{decided_of, entries_of, first_of, global_of, last_of, number_of, prepare_of}
 use Rattle.shore_txn.specs.UndoEntries.{HaveClaims}
 use Rattle.shore_txn.specs.declared.seat.Seat.{Seat}
 use Rattle.shore_txn.specs.declared.transactions.Transactions.{Transactions}
@@ -43,16 +44,19 @@ use Rattle.shore_sessions.specs.Seated.{IsNamed, IsSeated, rolled_in}
 abbrev pub as_change : UndoEntry → UnansweredChange
 as_change e = record { number = e.lsn; id = e.id; before = e.before }
 
--- It has its last record in this log, and its entries are its Changes that no Compensation has answered. Beside each entry it has what the
--- slot claimed before the change. It has the number of its Rollback decided.
+-- It has its first and its last record in this log, and its entries are its Changes that no Compensation has answered. Beside each entry it has what the
+-- slot claimed before the change. It has the numbers of its Prepare, of which it has none as long as it has no name, and of its Rollback decided.
 pub record IsLogged (log : List LogRecord) (t : Txn) : Type 0 where
+  pub first : first_of t ≡ logs.first_of (number_of t) log
   pub last : last_of t ≡ previous_of (number_of t) log
   pub changes : unanswered (number_of t) log ≡ reverse (map as_change (entries_of t))
   pub claims : HaveClaims (entries_of t)
+  pub prepare : prepare_of t ≡ prepare_number (number_of t) log
+  pub unprepared : global_of t ≡ None → prepare_of t ≡ 0
   pub decided : decided_of t ≡ rollback_number (number_of t) log
 
 -- The transactions are those of the state that are under way, each with its session if one is in it; those in doubt are those of the state, in
--- another order. The sums of the room are those of its log.
+-- another order. As much is free in the room as its log leaves free: what is cut off counts neither as kept nor as room there.
 pub record HasTxns (txns : Transactions) (s : State) : Type 0 where
   pub active : s.sessions.active ≡ undos_in txns
   pub prepared : IsPermutation s.sessions.prepared (prepared_in txns)
@@ -61,8 +65,7 @@ pub record HasTxns (txns : Transactions) (s : State) : Type 0 where
   pub entered : (n : ℕ) → (s.sessions.seats n).txn < next_in txns
   pub names : AllByRecursion IsNamed (table.txns_in txns)
   pub next : s.sessions.next_txn ≡ next_in txns
-  pub stream : s.stream_bytes ≡ (room_in txns).stream_bytes
-  pub kept : cost_of_log s.log ≡ (room_in txns).kept
+  pub room : s.stream_bytes + (room_in txns).kept ≡ cost_of_log s.log + (room_in txns).stream_bytes
   pub each : AllByRecursion (IsLogged s.log) (table.txns_in txns)
   -- no record is of a transaction to come
   pub above : AllByRecursion (λ r. r.txn < next_in txns) s.log

@@ -43,6 +43,7 @@ impl Control {
         ensures waits { waits_in self.new ≡ waits_in self.old }
         ensures stands { OnOk result ((s : State) → HasControl self.old s → DoesNotWait s session → HasControl self.new (begun s session)) }
         ensures unchanged { OnErr result ((s : State) → HasControl self.old s → HasControl self.new s) }
+        ensures stream { (room_in (txns_in self.new)).stream_bytes ≡ (room_in (txns_in self.old)).stream_bytes }
     {
         self.txns.begin(alloc, session)
     }
@@ -81,6 +82,7 @@ impl Control {
             → entry.lsn ≡ 1 + length s.log → entry.before ≡ get s.sessions.records entry.id → logged ≡ cost_of (Change entry.id entry.before image)
             → Claimed s.sessions.records s.sessions.active s.counts → NoOthers s.sessions.active a.txn entry.id → entry.claim ≡ claim_at (page_slots s entry.id.page) entry.id.slot
             → HasControl self.new (changed s a entry.id image counts) }
+        ensures stream { (room_in (txns_in self.new)).stream_bytes ≡ (room_in (txns_in self.old)).stream_bytes }
     {
         self.txns.note_change(seat, entry, logged, undo);
     }

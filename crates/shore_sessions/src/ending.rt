@@ -6,7 +6,7 @@ ghost use Rattle.laws_lives.specs.Sessions.{SessionTxn};
 ghost use Rattle.laws_calls.specs.StateChanges.{committed};
 ghost use Rattle.laws_calls.specs.States.{IsOfSession, State};
 ghost use Rattle.shore_txn.specs.ActiveTxns.{HasMore, OneLeaves};
-ghost use Rattle.shore_txn.specs.Transactions.{IsSeatIn, kept_in};
+ghost use Rattle.shore_txn.specs.Transactions.{IsSeatIn, kept_in, room_in};
 ghost use Rattle.shore_txn.specs.Transactions as table;
 ghost use Rattle.shore_txn.specs.UndoEntries.{claims_on, images_of};
 
@@ -29,6 +29,7 @@ impl Control {
         ensures locks { locks_in self.new ≡ record { limit = (locks_in self.old).limit; requests = released seat.now.txn (locks_in self.old).requests } }
         ensures undone { (s : State) (a : SessionTxn) → HasControl self.old s → IsAt seat.now s a → images_of result.items ≡ a.undo.images }
         ensures stands { (s : State) (a : SessionTxn) → HasControl self.old s → IsOfSession s seat.now.session a → a.txn ≡ seat.now.txn → HasControl self.new (committed s a) }
+        ensures stream { (room_in (txns_in self.new)).stream_bytes ≡ (room_in (txns_in self.old)).stream_bytes }
     {
         let (txn, changes) = self.txns.note_commit(seat);
         self.locks.release_all(txn);

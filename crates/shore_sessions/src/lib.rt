@@ -2,6 +2,7 @@
 #![tactic(auto)]
 
 mod changing;
+mod checkpoints;
 mod control;
 mod deadlocks;
 mod ending;

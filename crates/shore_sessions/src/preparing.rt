@@ -79,6 +79,7 @@ impl Control {
         ensures waits { waits_in self.new ≡ waits_in self.old ++ record { session = seat.now.session; txn = seat.now.txn; call = Call.Prepare global; wait = Wait.Durable number; cycle = None } ∷ [] }
         ensures stands { (s : State) (a : SessionTxn) (granules : List Granule) → HasControl self.old s → IsOfSession s seat.now.session a → a.txn ≡ seat.now.txn
             → number ≡ 1 + length s.log → cost ≡ cost_of (payload.Prepare global granules) → HasControl self.new (prepared s a global granules) }
+        ensures stream { (room_in (txns_in self.new)).stream_bytes ≡ (room_in (txns_in self.old)).stream_bytes }
     {
         let txn = self.txns.txn(seat).id();
         self.txns.note_prepare(seat, global, number, cost);

@@ -70,6 +70,7 @@ impl Control {
         ensures undone { (s : State) (a : SessionTxn) → HasControl self.old s → IsAt seat.now s a → images_of result.items ≡ a.undo.images }
         ensures stands { (s : State) (a : SessionTxn) → HasControl self.old s → IsAt seat.now s a → IsResolvable s a global → MayResolve s seat.now.session global
             → NamesDiffer s.sessions → number ≡ 1 + length s.log → HasControl self.new (resolve_committed s seat.now.session a global) }
+        ensures stream { (room_in (txns_in self.new)).stream_bytes ≡ (room_in (txns_in self.old)).stream_bytes }
     {
         let (txn, changes) = self.txns.note_commit(seat);
         self.locks.release_all(txn);
@@ -90,6 +91,7 @@ impl Control {
         ensures memory { HasWaitRoom self.old → HasWaitRoom self.new }
         ensures stands { (s : State) (a : SessionTxn) (global : List ℕ) → HasControl self.old s → IsAt seat.now s a → IsResolvable s a global → number ≡ 1 + length s.log
             → HasControl self.new (rollback_decided s a global) }
+        ensures stream { (room_in (txns_in self.new)).stream_bytes ≡ (room_in (txns_in self.old)).stream_bytes }
     {
         self.txns.note_rollback(seat, number);
     }

@@ -77,6 +77,7 @@ impl Control {
             → a.undo.images ≡ kept ++ image_of result ∷ [] → result.claim ≡ claim_before kept (image_of result) }
         ensures stands { (s : State) (a : SessionTxn) (kept : List (Rid × Image)) → HasControl self.old s → IsAt seat.now s a
             → a.undo.images ≡ kept ++ image_of result ∷ [] → lsn ≡ 1 + length s.log → HasControl self.new (put_back s a kept (image_of result) rollback) }
+        ensures stream { (room_in (txns_in self.new)).stream_bytes ≡ (room_in (txns_in self.old)).stream_bytes }
     {
         self.txns.note_compensation(seat, lsn, rollback, cost)
     }
@@ -113,6 +114,7 @@ impl Control {
         ensures stands { (s : State) (a : SessionTxn) → HasControl self.old s → IsOfSession s seat.now.session a → a.txn ≡ seat.now.txn → HasControl self.new (abort_ended s a logged) }
         ensures resolves { (s : State) (a : SessionTxn) (r : ResolvedTxn) → HasControl self.old s → s.failed ≡ false → IsAt seat.now s a → IsAmong r s.sessions.resolving → r.txn ≡ a.txn
             → logged ≡ true → HasControlBut r self.new (rollback_done s a) }
+        ensures stream { (room_in (txns_in self.new)).stream_bytes ≡ (room_in (txns_in self.old)).stream_bytes }
     {
         let txn = self.txns.note_end(seat, logged);
         self.locks.release_all(txn);

@@ -1,5 +1,5 @@
 //! The room of the log: what its records cost, and what is reserved for records that must not be refused.
-ghost use Rattle.std.specs.Prelude.{◌≡◌, ◌+◌, ◌≤◌, ◌↔◌, IsTrue, IsSome, IfSome};
+ghost use Rattle.std.specs.Prelude.{◌≡◌, ◌+◌, ◌-◌, ◌≤◌, ◌↔◌, IsTrue, IsSome, IfSome};
 ghost use Rattle.shore_types.specs.declared.layout.TheConstants.{GREATEST_CHECKPOINT, LONGEST_FRAME, MAX_LOG_BYTES};
 
 use shore_types::layout::{GREATEST_CHECKPOINT, LONGEST_FRAME, MAX_LOG_BYTES};
@@ -81,6 +81,14 @@ impl LogRoom {
         ensures others { (self.new.reserved ≡ self.old.reserved) × (self.new.stream_bytes ≡ self.old.stream_bytes) }
     {
         self.kept += cost;
+    }
+
+    /// Records that cost so much are no longer kept.
+    pub fn free(&mut self, cost: u64)
+        ensures kept { self.new.kept ≡ self.old.kept - cost }
+        ensures others { (self.new.reserved ≡ self.old.reserved) × (self.new.stream_bytes ≡ self.old.stream_bytes) }
+    {
+        self.kept = self.kept.saturating_sub(cost);
     }
 
     /// What was reserved is no longer owed.

@@ -125,7 +125,7 @@ impl Transactions {
         self.room
     }
 
-    /// Records were appended that no transaction of the table has logged: the room of the log is this one, in which as much is reserved.
+    /// Records were appended that no transaction of the table has logged, or are no longer kept: the room of the log is this one, in which as much is reserved.
     pub fn set_room(&mut self, room: LogRoom)
         requires reserved { room.reserved ≡ (room_in self.old).reserved }
         ensures room { room_in self.new ≡ room }
