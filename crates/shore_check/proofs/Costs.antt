@@ -5,7 +5,7 @@ use Rattle.shore_model.specs.declared.log_records.LogTxn.{LogTxn}
 use Rattle.shore_model.specs.declared.log_records.Payload.TheVariants.{Anchor, CheckpointBegin, CheckpointEnd}
 use Rattle.shore_logrec.specs.Text.{anchor_text, cost_of}
 use Rattle.shore_logrec.proofs.TextLengths.{lengths, length-checkpoint_text}
-use Rattle.laws_checkpoints.specs.RingRooms.{checkpoint_cost}
+use Rattle.laws_checkpoints.specs.RingRooms.{ANCHOR_COST, checkpoint_cost, end_cost}
 
 anchor_length : (checkpoint tail : ℕ) → length (anchor_text checkpoint tail) ≡ 16
 anchor_length checkpoint tail = simp lengths
@@ -13,3 +13,9 @@ anchor_length checkpoint tail = simp lengths
 pub whole_cost : (begin next tail : ℕ) (txns : List LogTxn) (dirty : List DirtyPage)
     → cost_of CheckpointBegin + cost_of (CheckpointEnd begin next txns dirty) + cost_of (Anchor begin tail) ≡ checkpoint_cost (length txns) (length dirty)
 whole_cost begin next tail txns dirty = let all = length-checkpoint_text begin next txns dirty in let two = anchor_length begin tail in omega arith
+
+pub end_is : (begin next : ℕ) (txns : List LogTxn) (dirty : List DirtyPage) → cost_of (CheckpointEnd begin next txns dirty) ≡ end_cost (length txns) (length dirty)
+end_is begin next txns dirty = let all = length-checkpoint_text begin next txns dirty in omega arith
+
+pub anchor_is : (checkpoint tail : ℕ) → cost_of (Anchor checkpoint tail) ≡ ANCHOR_COST
+anchor_is checkpoint tail = let two = anchor_length checkpoint tail in omega arith

@@ -1,5 +1,5 @@
 mod Least
 mod Sorting
-mod TablesTaken
-mod Costs
+pub mod TablesTaken
+pub mod Costs
 pub mod Listing

@@ -1,5 +1,6 @@
 //! How far a checkpoint has come. Nothing of it outlives a crash but what it has logged.
-ghost use Rattle.std.specs.Prelude.{◌≡◌, ◌<◌, ◌≤◌, ◌+◌, ℕ, IfSome, MatchOption, length};
+ghost use Rattle.std.specs.Prelude.{◌≡◌, ◌<◌, ◌≤◌, ◌+◌, ◌∷◌, [], ℕ, IfSome, IsTrue, MatchOption, length};
+ghost use Rattle.shore_frames.specs.LoggedRecords.{are_numbered};
 ghost use Rattle.shore_types.specs.declared.layout.TheConstants.{ENDING_COST, GREATEST_CHECKPOINT};
 ghost use Rattle.shore_check.specs.declared.stage.TheConstants.{ANCHOR_COST};
 ghost use Rattle.shore_model.specs.declared.log_records.Payload.TheVariants as payload;
@@ -48,6 +49,7 @@ pub struct Begun {
     // What the End costs.
     end_cost: u64,
     ghost few: { ENDING_COST + end_cost + ANCHOR_COST ≤ GREATEST_CHECKPOINT },
+    ghost fits: { IsTrue (are_numbered 1 (end ∷ [])) },
 }
 
 /// A checkpoint whose End is being pushed.
@@ -87,7 +89,8 @@ impl Begun {
 
     // The checkpoint with this End ready.
     pub(crate) fn new(end: LogRecord, mark: Mark, end_cost: u64) -> Begun
-        requires { ENDING_COST + end_cost + ANCHOR_COST ≤ GREATEST_CHECKPOINT }
+        requires few { ENDING_COST + end_cost + ANCHOR_COST ≤ GREATEST_CHECKPOINT }
+        requires fits { IsTrue (are_numbered 1 (end ∷ [])) }
         ensures { (result.end ≡ end) × (result.mark ≡ mark) × (result.end_cost ≡ end_cost) }
     {
         Begun {
@@ -114,7 +117,8 @@ impl Begun {
     /// The End, to be pushed.
     pub fn end(self) -> (LogRecord, Ending)
         ensures is { (c : Checkpoint) → IsBegun c self → result.0 ≡ of_checkpoint (end_payload c) }
-        ensures fits { (c : Checkpoint) → IsBegun c self → Fits result.0 }
+        ensures fits { Fits result.0 }
+        ensures numbered { IsTrue (are_numbered 1 (result.0 ∷ [])) }
         ensures rest { (c : Checkpoint) → IsBegun c self → IsEnding c result.1 }
     {
         let ending = Ending {
@@ -147,6 +151,7 @@ impl Ending {
 
     /// The push was refused, and the End handed back: it may be pushed later.
     pub fn refused(self, end: LogRecord) -> Begun
+        requires { IsTrue (are_numbered 1 (end ∷ [])) }
         ensures { (c : Checkpoint) → IsEnding c self → end ≡ of_checkpoint (end_payload c) → IsBegun c result }
     {
         Begun::new(end, self.mark, self.end_cost)
@@ -161,6 +166,7 @@ impl Ended {
         ensures is { (c : Checkpoint) (n : ℕ) → IsEnded c n self.now
             → MatchOption result (durable < n) (λ r. (n ≤ durable) × (r ≡ of_checkpoint (payload.Anchor c.begin (cut_point c)))) }
         ensures fits { IfSome result Fits }
+        ensures none_before { IfSome result (λ r. r.previous ≡ 0) }
     {
         if durable.0 < self.number.0 {
             return None;
@@ -190,12 +196,9 @@ impl Ended {
 }
 
 impl Named {
-    ghost use Rattle.shore_check.specs.Stages.{IsNamed};
-
     /// What the log device's anchor may be moved to: `None` as long as the Anchor record is not durable.
     pub fn move_anchor(&self, durable: Lsn) -> Option<Mark>
-        ensures { (c : Checkpoint) (n : ℕ) → IsNamed c n self.now
-            → MatchOption result (durable < n) (λ m. (n ≤ durable) × (m ≡ mark_of c)) }
+        ensures { MatchOption result (durable < self.now.number) (λ m. (self.now.number ≤ durable) × (m ≡ self.now.mark)) }
     {
         if self.number.0 <= durable.0 {
             Some(self.mark)

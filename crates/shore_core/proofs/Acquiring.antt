@@ -1,4 +1,5 @@
 -- What a call comes to that asks for its lock.
+use Rattle.laws_checkpoints.specs.CheckpointedStores.{CheckpointedStore}
 use Rattle.std.proofs.Common.{◌≡◌, ◌<◌, inl, inr, ℕ, List, [], Result, Option, None, Some, Ok, Err, IsErrAnd, map, refl, sym, ap, subst}
 use Rattle.shore_types.specs.declared.faults.Fault.{Fault}
 use Rattle.shore_types.specs.declared.faults.Fault.TheVariants as fault
@@ -10,7 +11,6 @@ use Rattle.shore_disk.specs.declared.device.Disk as disk
 use Rattle.shore_log.specs.declared.tail.Tail as tail
 use Rattle.shore_path.specs.declared.answers.Acquired.{Acquired}
 use Rattle.shore_path.specs.declared.answers.Acquired.TheVariants as acquire
-use Rattle.laws_lives.specs.Recovery.{RecoveryState}
 use Rattle.laws_lives.specs.Sessions.{SessionTxn}
 use Rattle.laws_calls.specs.StateChanges.{after_refusal}
 use Rattle.laws_calls.specs.CallSteps.{MayAsk, RefusesEarly}
@@ -47,7 +47,7 @@ done_waits_not at clash = cc
 
 -- ---- what is asked for
 
-module _ {T V : Type 0} {G : tail.Ghosts T} {H : disk.Ghosts V} (old new : Core T V G H) (front : List ℕ) (before : List LogRecord) (s : State) (store : RecoveryState) (a : SessionTxn) (c : Call) where
+module _ {T V : Type 0} {G : tail.Ghosts T} {H : disk.Ghosts V} (old new : Core T V G H) (front : List ℕ) (before : List LogRecord) (s : State) (store : CheckpointedStore) (a : SessionTxn) (c : Call) where
   -- refused before it asks
   pub asked_early : (r : Result Step Fault) (f : Fault) → IsErrAnd r (λ e. e ≡ f) → RefusesEarly (geometry_of old) c f → CoreComesTo new front before store s
       → AskedFor a c r old new front before s store

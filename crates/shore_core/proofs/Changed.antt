@@ -1,4 +1,5 @@
 -- The pages and the room of the log, when a transaction changes a record.
+use Rattle.laws_checkpoints.specs.CheckpointedStores.{CheckpointedStore}
 use Rattle.std.proofs.Common.{◌≡◌, ◌⊎◌, ◌≢◌, ◌+◌, ◌<◌, ◌≤◌, inl, inr, ℕ, List, Option, None, Some, IsSomeAnd, IsTrue, false, true, is_some, Result, Ok, Err, OnErr, OnOk, IsErrAnd, max, refl, sym, ap, subst, ◌∙◌, arith}
 use Rattle.std.specs.FinMap.{get}
 use Rattle.shore_disk.specs.declared.device.Disk as disk
@@ -32,7 +33,6 @@ use Rattle.laws_room.proofs.Costs.{change_bytes, compensation_bytes}
 use Rattle.laws_room.proofs.Rooms.{change_others, change_slots}
 use Rattle.laws_calls.specs.States.{State, page_slots}
 use Rattle.shore_core.specs.declared.core_calls.Core.{Core}
-use Rattle.laws_lives.specs.Recovery.{RecoveryState}
 use Rattle.shore_txn.specs.declared.transactions.Transactions.{Transactions}
 use Rattle.shore_txn.specs.declared.txn.Txn.{Txn}
 use Rattle.shore_txn.specs.declared.undo.UndoEntry.{UndoEntry}
@@ -103,7 +103,7 @@ costs_are R id was image logged undo a b found =
     ap (λ n. n + undo) (a ∙ sym (change_bytes id was image)) ∙ ap (λ n. change_cost was image + n) (b ∙ sym (compensation_bytes id was 0))
     ∙ ap (λ (w : Image). change_cost w image + compensation_cost w) (sym found)
 
-module _ {T V : Type 0} {G : tail.Ghosts T} {H : disk.Ghosts V} (new : Core T V G H) (front : List ℕ) (before : List LogRecord) (s : State) (store : RecoveryState) (a : SessionTxn)
+module _ {T V : Type 0} {G : tail.Ghosts T} {H : disk.Ghosts V} (new : Core T V G H) (front : List ℕ) (before : List LogRecord) (s : State) (store : CheckpointedStore) (a : SessionTxn)
     (id : Rid) (image : Image) where
   -- an allocation failed, and the state is as it was
   pub changes_none : (r : Result (Unit {0}) Fault) → IsErrAnd r (λ e. e ≡ fault.Memory) → CoreComesTo new front before store s → Changes new a id image r front before s store

@@ -1,5 +1,6 @@
 -- What a call that reads pages leaves of a state and of its store: others may have been written back.
-use Rattle.std.proofs.Common.{◌≡◌, ◌⊎◌, ◌++◌, ◌∷◌, ◌∙◌, inl, inr, ℕ, List, [], Bool, Result, Ok, Err, IsErrAnd, MatchResult, true, false, refl, sym, ap, subst, length-append, map, arith}
+use Rattle.laws_checkpoints.specs.CheckpointedStores.{CheckpointedStore}
+use Rattle.std.proofs.Common.{◌≡◌, ◌⊎◌, ◌++◌, ◌∷◌, ◌∙◌, inl, inr, ℕ, List, [], Bool, Result, Ok, Err, IsErrAnd, MatchResult, true, false, refl, sym, ap, subst, length-append, map, option_map, ◌≤◌, arith}
 use Rattle.shore_types.specs.declared.faults.Fault.{Fault}
 use Rattle.shore_types.specs.declared.faults.Fault.TheVariants as fault
 use Rattle.shore_model.specs.declared.log_records.LogRecord.{LogRecord}
@@ -12,15 +13,18 @@ use Rattle.shore_heap.specs.Contents.{AreKept, FitIn, claimed_by}
 use Rattle.shore_txn.proofs.ActiveKept.{back_again, fit_again}
 use Rattle.shore_heap.specs.Heaps as heaps
 use Rattle.shore_heap.specs.Heaps.{KeepsSlots, LeavesPages, Shows}
-use Rattle.laws_lives.specs.ManagerSteps.{WorksTo}
 use Rattle.laws_lives.specs.Pages.{LoggedPages}
-use Rattle.laws_lives.specs.Recovery.{AppendRecord, CrashMayLeave, LeadsTo, RecoveryEvent, RecoveryState, after_append}
+use Rattle.laws_lives.specs.Recovery.{AppendRecord, CrashMayLeave, IsRecoverable, LeadsTo, RecoveryEvent, after_append}
 use Rattle.laws_lives.proofs.Invariant.{event_kept}
 use Rattle.laws_lives.proofs.Works.{all_work}
-use Rattle.laws_heaps.proofs.Flushes.{left_amid, work_of}
+use Rattle.laws_heaps.proofs.Cleaned.{cleaned_by}
+use Rattle.laws_heaps.proofs.DirtyTables.{numbers_unmoved}
+use Rattle.laws_heaps.proofs.Flushes.{left_amid}
 use Rattle.laws_heaps.proofs.Stores.{store_over}
-use Rattle.laws_heaps.specs.LoggedHeaps.{IsStoreOf, LeavesStore}
+use Rattle.laws_heaps.specs.LoggedHeaps.{LeavesStore}
+use Rattle.shore_pool.specs.Pools.{PoolHolds}
 use Rattle.shore_heap.specs.declared.heap.Heap.{Heap}
+use Rattle.shore_heap.specs.Dirty.{SameDirt}
 use Rattle.shore_heap.proofs.Showing.{shows_told}
 use Rattle.shore_pool.proofs.Same.{pages_stay}
 use Rattle.shore_pool.specs.Pages.{SamePages}
@@ -35,6 +39,8 @@ use Rattle.shore_core.specs.Cores.{CoreComesTo, FailsOver, IsBeside, IsIn, IsKep
 use Rattle.shore_sessions.specs.declared.control.Control.{Control}
 use Rattle.shore_sessions.specs.Controls.{txns_in}
 use Rattle.shore_core.specs.Parts.{HasParts}
+use Rattle.shore_core.specs.Stores.{IsHeapOf, WorksOn, append_to}
+use Rattle.shore_core.proofs.Works.{works_led, works_then, works_to}
 use Rattle.shore_core.specs.Replies.{MayLeave, OnlyReads, Stays}
 
 -- a state runs, or has failed
@@ -49,17 +55,31 @@ never_both b fails works = absurd (clash (sym fails ∙ works))
     clash e = cc
 
 -- the store is the state's, if it was before such works
-pub kept_after : (s : State) (store later : RecoveryState) (works : List RecoveryEvent) → IsKept s store → WorksTo store works later → later.log ≡ store.log → later.durable ≡ store.durable → IsKept s later
+pub kept_after : (s : State) (store later : CheckpointedStore) (works : List RecoveryEvent) → IsKept s store → WorksOn store works later → later.store.log ≡ store.store.log → later.store.durable ≡ store.store.durable → IsKept s later
 kept_after s store later works kept work log durable =
-    let worked = all_work store works later kept.recoverable kept.redone work in
+    let worked = all_work store.store works later.store kept.recoverable kept.redone (works_to store works later work) in
     record {
       stored = record { log = log ∙ kept.stored.log; durable = durable ∙ kept.stored.durable };
       redone = worked.redone;
       recoverable = worked.recoverable;
     }
 
+-- Pages were written back: the store comes to another by that alone, and the heap has its pages and their recovery numbers.
+pub written_back : {V : Type 0} {H : disk.Ghosts V} (old new : Heap V H) (seen : ℕ) (front : List ℕ) (disk left : ℕ → List ℕ) (store : CheckpointedStore) → IsHeapOf old disk store → IsRecoverable store.store
+    → PoolHolds (heaps.pool_of new) front left → heaps.StayInPlace old new seen disk left → seen ≤ store.store.durable → heaps.geometry_of new ≡ heaps.geometry_of old
+    → (works : List RecoveryEvent) × (later : CheckpointedStore) × WorksOn store works later × IsHeapOf new left later × (later.store.log ≡ store.store.log) × (later.store.durable ≡ store.store.durable)
+written_back old new seen front disk left store over kept holds stay low geometry =
+    let back = cleaned_by old new seen front disk left store over.pages over.recoveries kept holds stay low geometry in (
+      back.0,
+      back.1,
+      works_led store back.0 back.1 back.2 back.3,
+      record { pages = back.5; recoveries = back.6 },
+      ap (λ (x : CheckpointedStore). x.store.log) back.7,
+      ap (λ (x : CheckpointedStore). x.store.durable) back.7,
+    )
+
 -- nothing was done to it
-pub kept_behind : (s : State) (store : RecoveryState) → IsKept s store → IsKeptBehind s store
+pub kept_behind : (s : State) (store : CheckpointedStore) → IsKept s store → IsKeptBehind s store
 kept_behind s store kept = record { works = []; after = store; work = refl; kept = kept }
 
 module _ {T V : Type 0} {G : tail.Ghosts T} {H : disk.Ghosts V} where
@@ -76,12 +96,12 @@ module _ {T V : Type 0} {G : tail.Ghosts T} {H : disk.Ghosts V} where
   }
 
   -- nothing was done
-  pub comes_same : (new : Core T V G H) (front : List ℕ) (disk : ℕ → List ℕ) (before : List LogRecord) (s : State) (store : RecoveryState)
+  pub comes_same : (new : Core T V G H) (front : List ℕ) (disk : ℕ → List ℕ) (before : List LogRecord) (s : State) (store : CheckpointedStore)
       → IsIn front disk before new s → IsOver disk new s store → CoreComesTo new front before store s
   comes_same new front disk before s store is over = record { left = disk; is_in = is; works = []; after = store; work = refl; over = over }
 
   -- a core that has failed is in each state beside
-  pub comes_failed : (new : Core T V G H) (front : List ℕ) (before : List LogRecord) (s : State) (store : RecoveryState) → s.failed ≡ true
+  pub comes_failed : (new : Core T V G H) (front : List ℕ) (before : List LogRecord) (s : State) (store : CheckpointedStore) → s.failed ≡ true
       → IsBeside before new s → IsKeptBehind s store → CoreComesTo new front before store s
   comes_failed new front before s store fails beside behind = record {
     left = λ k. [];
@@ -92,7 +112,7 @@ module _ {T V : Type 0} {G : tail.Ghosts T} {H : disk.Ghosts V} where
     over = record { kept = behind.kept; pages = λ works. never_both s.failed fails works };
   }
 
-  module _ (old new : Core T V G H) (front : List ℕ) (disk : ℕ → List ℕ) (before : List LogRecord) (s : State) (store : RecoveryState)
+  module _ (old new : Core T V G H) (front : List ℕ) (disk : ℕ → List ℕ) (before : List LogRecord) (s : State) (store : CheckpointedStore)
       (is : IsIn front disk before old s) (over : IsOver disk old s store) (reads : OnlyReads old new) where
     beside : IsBeside before new s
     beside = beside_same old new before s reads.tail reads.control reads.durable reads.failed is.beside
@@ -103,28 +123,28 @@ module _ {T V : Type 0} {G : tail.Ghosts T} {H : disk.Ghosts V} where
     -- pages were written back, and all are in place as they were
     pub read_running : s.failed ≡ false → KeepsSlots (kept_in (txns_of old)) (heap_of old) (heap_of new) (durable_of old) front disk (page_slots s) → CoreComesTo new front before store s
     read_running works (left, shows, stay) =
-        let durable : durable_of old ≡ store.durable = sym (over.kept.stored.durable ∙ is.beside.parts.durable_is) in
-        let back = work_of (heap_of old) (heap_of new) (durable_of old) disk left store (over.pages works) stay (omega (arith, durable)) reads.volume.geometry in
+        let durable : durable_of old ≡ store.store.durable = sym (over.kept.stored.durable ∙ is.beside.parts.durable_is) in
+        let back = written_back (heap_of old) (heap_of new) (durable_of old) front disk left store (over.pages works) over.kept.recoverable shows.holds stay (omega (arith, durable)) reads.volume.geometry in
         record {
           left = left;
           is_in = record { beside = beside; pages = λ w. subst (λ (t : Control). Shows (kept_in (txns_in t)) (heap_of new) front left (page_slots s)) (sym reads.control) shows };
           works = back.0;
           after = back.1;
           work = back.2;
-          over = record { kept = kept_after s store back.1 back.0 over.kept back.2 back.5 back.6; pages = λ w. back.4 };
+          over = record { kept = kept_after s store back.1 back.0 over.kept back.2 back.4 back.5; pages = λ w. back.3 };
         }
 
     -- the volume failed on the way: a crash leaves what it may have left in the midst
     fails_over : MayLeave old new → s.failed ≡ false → FailsOver new front s store
     unfolding kept_behind
     fails_over leaves works =
-        let durable : durable_of old ≡ store.durable = sym (over.kept.stored.durable ∙ is.beside.parts.durable_is) in
+        let durable : durable_of old ≡ store.store.durable = sym (over.kept.stored.durable ∙ is.beside.parts.durable_is) in
         record {
           behind = kept_behind s store over.kept;
           left = λ image may.
               let amid = at_end (history_of old) (history_of new) (LeavesPages (heap_of old) (durable_of old) front disk) (leaves front disk (is.pages works).holds) image may in
-              subst (λ g. (pages : LoggedPages) × CrashMayLeave store pages × LeavesStore store.log g front pages image) (sym reads.volume.geometry)
-              (left_amid (heap_of old) (durable_of old) front disk store image (over.pages works) amid (omega (arith, durable)));
+              subst (λ g. (pages : LoggedPages) × CrashMayLeave store.store pages × LeavesStore store.store.log g front pages image) (sym reads.volume.geometry)
+              (left_amid (heap_of old) (durable_of old) front disk store.store image (over.pages works).pages amid (omega (arith, durable)));
         }
 
     -- .. by a call that was not refused, or was for another reason than the device
@@ -148,7 +168,7 @@ pages_may_go core before s was safe id has =
 
 -- ---- stays
 
-module _ {T V : Type 0} {G : tail.Ghosts T} {H : disk.Ghosts V} (new : Core T V G H) (front : List ℕ) (before : List LogRecord) (s : State) (store : RecoveryState) where
+module _ {T V : Type 0} {G : tail.Ghosts T} {H : disk.Ghosts V} (new : Core T V G H) (front : List ℕ) (before : List LogRecord) (s : State) (store : CheckpointedStore) where
   -- a call that was refused
   abbrev pub StaysRefused : Fault → Type 0
   StaysRefused f = ((f ≡ fault.Device) × IsBeside before new s × FailsOver new front s store) ⊎ CoreComesTo new front before store s
@@ -167,24 +187,25 @@ module _ {T V : Type 0} {G : tail.Ghosts T} {H : disk.Ghosts V} (new : Core T V 
   stays_as (Err e) f same stays = subst StaysRefused (sym same) stays
   stays_as (Ok x) f same stays = absurd same
 
+-- a fault that is handed on is what it was
+pub handed : {A : Type 0} (r : Result A Fault) (f other : Fault) → IsErrAnd r (λ e. e ≡ f) → f ≡ other → IsErrAnd r (λ e. e ≡ other)
+handed (Err e) f other same is = same ∙ is
+handed (Ok x) f other same is = absurd same
+
 -- ---- a state and a store over the same pages
 
 module _ {T V : Type 0} {G : tail.Ghosts T} {H : disk.Ghosts V} where
   -- the heap is the same, and the state has the same log
-  pub over_as : (old new : Core T V G H) (disk : ℕ → List ℕ) (s later : State) (store : RecoveryState) → heap_of new ≡ heap_of old → later.log ≡ s.log → later.durable ≡ s.durable → later.failed ≡ s.failed
+  pub over_as : (old new : Core T V G H) (disk : ℕ → List ℕ) (s later : State) (store : CheckpointedStore) → heap_of new ≡ heap_of old → later.log ≡ s.log → later.durable ≡ s.durable → later.failed ≡ s.failed
       → IsOver disk old s store → IsOver disk new later store
   over_as old new disk s later store heap log durable failed over = record {
     kept = record { stored = record { log = over.kept.stored.log ∙ sym log; durable = over.kept.stored.durable ∙ sym durable }; redone = over.kept.redone; recoverable = over.kept.recoverable };
-    pages = λ works. subst (λ h. IsStoreOf h disk store) (sym heap) (over.pages (sym failed ∙ works));
+    pages = λ works. subst (λ h. IsHeapOf h disk store) (sym heap) (over.pages (sym failed ∙ works));
   }
 
 -- ---- one call after another
 
-pub works_then : (s mid last : RecoveryState) (one two : List RecoveryEvent) → WorksTo s one mid → WorksTo mid two last → WorksTo s (one ++ two) last
-works_then s mid last [] two first second = subst (λ x. WorksTo x two last) first second
-works_then s mid last (e ∷ one) two first second = (first.0, first.1, first.2, works_then first.1 mid last one two first.3 second)
-
-pub comes_then : {T V : Type 0} {G : tail.Ghosts T} {H : disk.Ghosts V} (mid new : Core T V G H) (front : List ℕ) (before : List LogRecord) (s later : State) (store : RecoveryState)
+pub comes_then : {T V : Type 0} {G : tail.Ghosts T} {H : disk.Ghosts V} (mid new : Core T V G H) (front : List ℕ) (before : List LogRecord) (s later : State) (store : CheckpointedStore)
     → (one : CoreComesTo mid front before store s) → CoreComesTo new front before one.after later → CoreComesTo new front before store later
 comes_then mid new front before s later store one two = record {
   left = two.left;
@@ -196,7 +217,7 @@ comes_then mid new front before s later store one two = record {
 }
 
 -- a fault behind a call that was answered
-pub stays_behind : {T V : Type 0} {G : tail.Ghosts T} {H : disk.Ghosts V} (mid new : Core T V G H) (front : List ℕ) (before : List LogRecord) (s later : State) (store : RecoveryState) (f : Fault)
+pub stays_behind : {T V : Type 0} {G : tail.Ghosts T} {H : disk.Ghosts V} (mid new : Core T V G H) (front : List ℕ) (before : List LogRecord) (s later : State) (store : CheckpointedStore) (f : Fault)
     → (one : CoreComesTo mid front before store s) → StaysRefused new front before later one.after f → StaysRefused new front before later store f
 stays_behind mid new front before s later store f one (inl device) =
     let behind = device.2.behind in
@@ -217,24 +238,24 @@ stays_behind mid new front before s later store f one (inr comes) = inr (comes_t
 
 -- ---- a record
 
-module _ {T V : Type 0} {G : tail.Ghosts T} {H : disk.Ghosts V} (new : Core T V G H) (front : List ℕ) (disk : ℕ → List ℕ) (before : List LogRecord) (s later : State) (store : RecoveryState) (r : LogRecord) where
+module _ {T V : Type 0} {G : tail.Ghosts T} {H : disk.Ghosts V} (new : Core T V G H) (front : List ℕ) (disk : ℕ → List ℕ) (before : List LogRecord) (s later : State) (store : CheckpointedStore) (r : LogRecord) where
   -- a record was appended, and done on its page
   pub comes_appended : IsKept s store → later.log ≡ s.log ++ r ∷ [] → later.durable ≡ s.durable → IsIn front disk before new later
-      → (later.failed ≡ false → IsStoreOf (heap_of new) disk (after_append store r)) → CoreComesTo new front before store later
+      → (later.failed ≡ false → IsHeapOf (heap_of new) disk (append_to store r)) → CoreComesTo new front before store later
   comes_appended kept log durable is pages =
-      let leads : LeadsTo store (AppendRecord r) (after_append store r) = (kept.redone, refl) in
-      let long = length-append store.log (r ∷ []) in
+      let leads : LeadsTo store.store (AppendRecord r) (after_append store.store r) = (kept.redone, refl) in
+      let long = length-append store.store.log (r ∷ []) in
       record {
         left = disk;
         is_in = is;
         works = AppendRecord r ∷ [];
-        after = after_append store r;
-        work = (tt, after_append store r, leads, refl);
+        after = append_to store r;
+        work = (tt, after_append store.store r, leads, refl);
         over = record {
           kept = record {
             stored = record { log = ap (λ l. l ++ r ∷ []) kept.stored.log ∙ sym log; durable = kept.stored.durable ∙ sym durable };
             redone = omega (arith, kept.redone, long);
-            recoverable = event_kept store (AppendRecord r) (after_append store r) kept.recoverable leads;
+            recoverable = event_kept store.store (AppendRecord r) (after_append store.store r) kept.recoverable leads;
           };
           pages = pages;
         };
@@ -255,12 +276,15 @@ pub pages_told : {V : Type 0} {H : disk.Ghosts V} (heap : Heap V H) (table new :
     → ((p : PageId) → kept_in new p ≡ kept_in table p) → Shows (kept_in table) heap front disk S → Shows (kept_in new) heap front disk S
 pages_told heap table new front disk S same shows = shows_told heap (kept_in table) (kept_in new) front disk S (λ p has none. same p) shows
 
--- the frames are the same
-pub same_store : {V : Type 0} {H : disk.Ghosts V} (old new : Heap V H) (disk : ℕ → List ℕ) (store : RecoveryState) → ((k : ℕ) → heaps.frame_at new k ≡ heaps.frame_at old k) → heaps.geometry_of new ≡ heaps.geometry_of old
-    → IsStoreOf old disk store → IsStoreOf new disk store
-same_store old new disk store frames geometry over = store_over old new disk disk store over geometry store.volume (pages_stay (heaps.frame_at old) (heaps.frame_at new) disk frames) over.volume
+-- the pages are the same, be they in frames or not, and no page has become dirty or clean
+pub pages_same : {V : Type 0} {H : disk.Ghosts V} (old new : Heap V H) (disk : ℕ → List ℕ) (store : CheckpointedStore) → SamePages (heaps.frame_at old) disk (heaps.frame_at new) disk → SameDirt old new
+    → heaps.geometry_of new ≡ heaps.geometry_of old → IsHeapOf old disk store → IsHeapOf new disk store
+pages_same old new disk store same dirt geometry over = record {
+  pages = store_over old new disk disk store.store over.pages geometry store.store.volume same over.pages.volume;
+  recoveries = numbers_unmoved old new store.recovery over.recoveries dirt geometry;
+}
 
--- the pages are the same, be they in frames or not
-pub pages_same : {V : Type 0} {H : disk.Ghosts V} (old new : Heap V H) (disk : ℕ → List ℕ) (store : RecoveryState) → SamePages (heaps.frame_at old) disk (heaps.frame_at new) disk → heaps.geometry_of new ≡ heaps.geometry_of old
-    → IsStoreOf old disk store → IsStoreOf new disk store
-pages_same old new disk store same geometry over = store_over old new disk disk store over geometry store.volume same over.volume
+-- the frames are the same
+pub same_store : {V : Type 0} {H : disk.Ghosts V} (old new : Heap V H) (disk : ℕ → List ℕ) (store : CheckpointedStore) → ((k : ℕ) → heaps.frame_at new k ≡ heaps.frame_at old k) → heaps.geometry_of new ≡ heaps.geometry_of old
+    → IsHeapOf old disk store → IsHeapOf new disk store
+same_store old new disk store frames geometry over = pages_same old new disk store (pages_stay (heaps.frame_at old) (heaps.frame_at new) disk frames) (λ k. ap (λ o. option_map (λ f. f.recovery) o) (frames k)) geometry over

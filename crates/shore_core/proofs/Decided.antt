@@ -1,4 +1,5 @@
 -- What a prepare and a resolve leave: a record is logged that no page shows, or a call waits, or is answered.
+use Rattle.laws_checkpoints.specs.CheckpointedStores.{CheckpointedStore}
 use Rattle.std.proofs.Common.{◌≡◌, inl, inr, ◌++◌, ◌∷◌, [], ℕ, List, None, Bool, Result, IsErrAnd, false, refl, sym, ap, subst, ◌∙◌}
 use Rattle.std.proofs.lemmas.Option.{same_Some}
 use Rattle.shore_types.specs.declared.faults.Fault.{Fault}
@@ -16,9 +17,6 @@ use Rattle.shore_log.specs.declared.tail.Tail as tail
 use Rattle.shore_heap.specs.declared.heap.Heap.{Heap}
 use Rattle.shore_heap.specs.Heaps.{Shows}
 use Rattle.shore_heap.proofs.Showing.{shows_same}
-use Rattle.laws_heaps.specs.LoggedHeaps.{IsStoreOf}
-use Rattle.laws_heaps.proofs.Made.{appended_without}
-use Rattle.laws_lives.specs.Recovery.{RecoveryState, after_append}
 use Rattle.laws_lives.specs.Sessions.{ResolvedTxn}
 use Rattle.laws_calls.specs.CallSteps.{CallStep}
 use Rattle.laws_calls.specs.Resolves.{RefusesResolve, ResolveStep, resolve_told}
@@ -29,6 +27,8 @@ use Rattle.shore_sessions.specs.Standing.{HasControl}
 use Rattle.shore_sessions.proofs.ResolveWaits.{control_told}
 use Rattle.shore_txn.specs.Transactions.{kept_in}
 use Rattle.shore_core.specs.declared.core_calls.Core.{Core}
+use Rattle.shore_core.specs.Stores.{IsHeapOf, append_to}
+use Rattle.shore_core.proofs.Works.{noted_without}
 use Rattle.shore_core.specs.Cores.{CoreComesTo, IsIn, IsOver, IsSafe, control_of, durable_of, first_of, geometry_of, has_failed, heap_of, txns_of, waiting_of}
 use Rattle.shore_core.specs.Parts.{HasParts}
 use Rattle.shore_core.specs.Replies.{Replied}
@@ -50,7 +50,7 @@ resolve_steps g s session global asked step new works idle h = inr (inr (inr (in
 
 module _ {T V : Type 0} {G : tail.Ghosts T} {H : disk.Ghosts V} where
   -- it is refused
-  pub resolve_refused : (core : Core T V G H) (front : List ℕ) (disk : ℕ → List ℕ) (before : List LogRecord) (s : State) (store : RecoveryState) (session : ℕ) (global : List ℕ) (asked : Outcome)
+  pub resolve_refused : (core : Core T V G H) (front : List ℕ) (disk : ℕ → List ℕ) (before : List LogRecord) (s : State) (store : CheckpointedStore) (session : ℕ) (global : List ℕ) (asked : Outcome)
       → IsIn front disk before core s → IsOver disk core s store → s.failed ≡ false → DoesNotWait s session → (r : Result Step Fault) (f : Fault) → IsErrAnd r (λ e. e ≡ f) → RefusesResolve s session global asked f
       → after_refusal f s ≡ s → Replied session (call.Resolve global asked) r core core front before s store
   resolve_refused core front disk before s store session global asked is over works idle r f same refuses stays =
@@ -60,7 +60,7 @@ module _ {T V : Type 0} {G : tail.Ghosts T} {H : disk.Ghosts V} where
 
   -- ---- a record that no page shows
 
-  module _ (old new : Core T V G H) (front : List ℕ) (disk : ℕ → List ℕ) (before : List LogRecord) (s later : State) (store : RecoveryState) (is : IsIn front disk before old s) (over : IsOver disk old s store)
+  module _ (old new : Core T V G H) (front : List ℕ) (disk : ℕ → List ℕ) (before : List LogRecord) (s later : State) (store : CheckpointedStore) (is : IsIn front disk before old s) (over : IsOver disk old s store)
       (heap : heap_of new ≡ heap_of old) (first : first_of new ≡ first_of old) (durable : durable_of new ≡ durable_of old) (failed : has_failed new ≡ has_failed old)
       (claims : (p : PageId) → kept_in (txns_of new) p ≡ kept_in (txns_of old) p) (slots : (p : PageId) → page_slots later p ≡ page_slots s p) where
     logged_pages : s.failed ≡ false → Shows (kept_in (txns_of new)) (heap_of new) front disk (page_slots later)
@@ -73,21 +73,27 @@ module _ {T V : Type 0} {G : tail.Ghosts T} {H : disk.Ghosts V} where
         subst (λ (b : Bool). HasParts (control_of new) waiting (durable_of new) b before later) (sym failed)
         (subst (λ (n : ℕ). HasParts (control_of new) waiting n (has_failed old) before later) (sym durable) has)
 
+    pub in_logged : (r : LogRecord) → waiting_of new ≡ waiting_of old ++ r ∷ [] → HasControl (control_of new) later → later.log ≡ s.log ++ r ∷ [] → later.durable ≡ s.durable → later.failed ≡ s.failed
+        → IsIn front disk before new later
+    in_logged r added stands log told fails =
+        let parts = parts_logged (control_of old) (control_of new) (waiting_of old) (durable_of old) (has_failed old) before s later r is.beside.parts stands log told fails in
+        record {
+          beside = record { first = first ∙ is.beside.first; parts = subst (λ l. HasParts (control_of new) l (durable_of new) (has_failed new) before later) (sym added) (logged_parts parts) };
+          pages = λ works. logged_pages (sym fails ∙ works);
+        }
+
+    pub pages_appended : (r : LogRecord) → image_in r.payload ≡ None → s.failed ≡ false → IsHeapOf (heap_of new) disk (append_to store r)
+    pages_appended r none works =
+        subst (λ (h : Heap V H). IsHeapOf h disk (append_to store r)) (sym heap) (noted_without (heap_of old) disk store r (over.pages works) over.kept.recoverable over.kept.redone none)
+
     pub comes_logged : (r : LogRecord) → waiting_of new ≡ waiting_of old ++ r ∷ [] → image_in r.payload ≡ None → HasControl (control_of new) later → later.log ≡ s.log ++ r ∷ [] → later.durable ≡ s.durable
         → later.failed ≡ s.failed → CoreComesTo new front before store later
     comes_logged r added none stands log told fails =
-        let parts = parts_logged (control_of old) (control_of new) (waiting_of old) (durable_of old) (has_failed old) before s later r is.beside.parts stands log told fails in
-        comes_appended new front disk before s later store r over.kept log told
-        (record {
-          beside = record { first = first ∙ is.beside.first; parts = subst (λ l. HasParts (control_of new) l (durable_of new) (has_failed new) before later) (sym added) (logged_parts parts) };
-          pages = λ works. logged_pages (sym fails ∙ works);
-        })
-        (λ works. subst (λ (h : Heap V H). IsStoreOf h disk (after_append store r)) (sym heap)
-        (appended_without (heap_of old) disk store r (over.pages (sym fails ∙ works)) over.kept.recoverable over.kept.redone none).1)
+        comes_appended new front disk before s later store r over.kept log told (in_logged r added stands log told fails) (λ works. pages_appended r none (sym fails ∙ works))
 
   -- ---- a resolve whose rollback has ended
 
-  module _ (r : ResolvedTxn) (front : List ℕ) (disk : ℕ → List ℕ) (before : List LogRecord) (s : State) (store : RecoveryState) where
+  module _ (r : ResolvedTxn) (front : List ℕ) (disk : ℕ → List ℕ) (before : List LogRecord) (s : State) (store : CheckpointedStore) where
     -- it is answered
     pub told_comes : (core : Core T V G H) (session : ℕ) → IsInBut r front disk before core s → IsOver disk core s store → CoreComesTo core front before store (resolve_told s session r)
     told_comes core session is over =

@@ -1,4 +1,5 @@
 -- The end of a rollback that a resolve has decided: its End is logged, and the resolve is answered next, or waits.
+use Rattle.laws_checkpoints.specs.CheckpointedStores.{CheckpointedStore}
 use Rattle.std.proofs.Common.{◌≡◌, ⊎_elim, ◌++◌, ◌∷◌, ◌<◌, [], ℕ, List, Bool, true, false, refl, sym, ap, subst, ◌∙◌, append_assoc, arith, length-append}
 use Rattle.std.proofs.lemmas.Bool.{eq-eqb, true≢false}
 use Rattle.shore_types.specs.Images.{Image}
@@ -14,15 +15,12 @@ use Rattle.shore_log.specs.declared.tail.Tail as tail
 use Rattle.shore_heap.specs.declared.heap.Heap.{Heap}
 use Rattle.shore_heap.specs.Heaps.{Shows}
 use Rattle.shore_heap.proofs.Showing.{shows_same}
-use Rattle.laws_heaps.specs.LoggedHeaps.{IsStoreOf}
-use Rattle.laws_heaps.proofs.Made.{appended_without}
 use Rattle.laws_lives.proofs.Numbers.{last_own, newest_other}
 use Rattle.laws_lives.proofs.OneMore.{by_push, has-not_its}
 use Rattle.laws_lives.proofs.Writers.{same_or_not}
 use Rattle.laws_lives.specs.Logged.{and_compensations, and_record}
 use Rattle.laws_lives.proofs.Invariant.{event_kept}
-use Rattle.laws_lives.specs.ManagerSteps.{WorksTo}
-use Rattle.laws_lives.specs.Recovery.{AppendRecord, LeadsTo, RecoveryState, after_append}
+use Rattle.laws_lives.specs.Recovery.{AppendRecord, LeadsTo, after_append}
 use Rattle.laws_lives.specs.Sessions.{ResolvedTxn, SessionTxn}
 use Rattle.laws_lives.specs.Views.{IsAmong}
 use Rattle.laws_room.specs.Claims.{Claimed}
@@ -33,9 +31,11 @@ use Rattle.laws_calls.specs.States.{State, page_slots}
 use Rattle.shore_txn.specs.Transactions.{kept_in}
 use Rattle.shore_sessions.specs.Standing.{HasControlBut}
 use Rattle.shore_core.specs.declared.core_calls.Core.{Core}
+use Rattle.shore_core.specs.Stores.{IsHeapOf, WorksOn, append_to}
+use Rattle.shore_core.proofs.Works.{noted_without, works_then}
 use Rattle.shore_core.specs.Cores.{CoreComesTo, IsIn, IsKept, IsOver, IsSafe, control_of, durable_of, first_of, has_failed, heap_of, txns_of, waiting_of}
 use Rattle.shore_core.specs.Resolving.{ComesBut}
-use Rattle.shore_core.proofs.Coming.{pages_told, works_then}
+use Rattle.shore_core.proofs.Coming.{pages_told}
 use Rattle.shore_core.proofs.Ending.{aborted_slots}
 
 -- ---- what it has logged
@@ -58,7 +58,7 @@ rolls_logged g s safe a global rolls above none =
 
 -- ---- one call after another
 
-module _ (q : ResolvedTxn) {T V : Type 0} {G : tail.Ghosts T} {H : disk.Ghosts V} (mid new : Core T V G H) (front : List ℕ) (before : List LogRecord) (s later : State) (store : RecoveryState) where
+module _ (q : ResolvedTxn) {T V : Type 0} {G : tail.Ghosts T} {H : disk.Ghosts V} (mid new : Core T V G H) (front : List ℕ) (before : List LogRecord) (s later : State) (store : CheckpointedStore) where
   pub but_then : (one : CoreComesTo mid front before store s) → ComesBut q new front before one.after later → ComesBut q new front before store later
   but_then one two = record {
     left = two.left;
@@ -80,22 +80,22 @@ module _ (q : ResolvedTxn) {T V : Type 0} {G : tail.Ghosts T} {H : disk.Ghosts V
   }
 
 -- a record was appended
-appended_work : (s later : State) (store : RecoveryState) (r : LogRecord) → IsKept s store → later.log ≡ s.log ++ r ∷ [] → later.durable ≡ s.durable
-    → WorksTo store (AppendRecord r ∷ []) (after_append store r) × IsKept later (after_append store r)
+appended_work : (s later : State) (store : CheckpointedStore) (r : LogRecord) → IsKept s store → later.log ≡ s.log ++ r ∷ [] → later.durable ≡ s.durable
+    → WorksOn store (AppendRecord r ∷ []) (append_to store r) × IsKept later (append_to store r)
 appended_work s later store r kept log durable =
-    let leads : LeadsTo store (AppendRecord r) (after_append store r) = (kept.redone, refl) in
-    let long = length-append store.log (r ∷ []) in (
-      (tt, after_append store r, leads, refl),
+    let leads : LeadsTo store.store (AppendRecord r) (after_append store.store r) = (kept.redone, refl) in
+    let long = length-append store.store.log (r ∷ []) in (
+      (tt, after_append store.store r, leads, refl),
       record {
         stored = record { log = ap (λ l. l ++ r ∷ []) kept.stored.log ∙ sym log; durable = kept.stored.durable ∙ sym durable };
         redone = omega (arith, kept.redone, long);
-        recoverable = event_kept store (AppendRecord r) (after_append store r) kept.recoverable leads;
+        recoverable = event_kept store.store (AppendRecord r) (after_append store.store r) kept.recoverable leads;
       },
     )
 
 -- ---- the core then
 
-module _ {T V : Type 0} {G : tail.Ghosts T} {H : disk.Ghosts V} (old new : Core T V G H) (front : List ℕ) (disk : ℕ → List ℕ) (before : List LogRecord) (s : State) (store : RecoveryState)
+module _ {T V : Type 0} {G : tail.Ghosts T} {H : disk.Ghosts V} (old new : Core T V G H) (front : List ℕ) (disk : ℕ → List ℕ) (before : List LogRecord) (s : State) (store : CheckpointedStore)
     (is : IsIn front disk before old s) (over : IsOver disk old s store) (claimed : Claimed s.sessions.records s.sessions.active s.counts)
     (a : SessionTxn) (m : IsAmong a s.sessions.active) (none : a.undo.images ≡ [])
     (heap : heap_of new ≡ heap_of old) (first : first_of new ≡ first_of old) (durable : durable_of new ≡ durable_of old) (failed : has_failed new ≡ has_failed old)
@@ -126,11 +126,11 @@ module _ {T V : Type 0} {G : tail.Ghosts T} {H : disk.Ghosts V} (old new : Core 
           pages = done_pages;
         };
         works = AppendRecord own ∷ [];
-        after = after_append store own;
+        after = append_to store own;
         work = did.0;
         over = record {
           kept = did.1;
-          pages = λ works. subst (λ (h : Heap V H). IsStoreOf h disk (after_append store own)) (sym heap)
-              (appended_without (heap_of old) disk store own (over.pages works) over.kept.recoverable over.kept.redone refl).1;
+          pages = λ works. subst (λ (h : Heap V H). IsHeapOf h disk (append_to store own)) (sym heap)
+              (noted_without (heap_of old) disk store own (over.pages works) over.kept.recoverable over.kept.redone refl);
         };
       }

@@ -1,4 +1,5 @@
 -- The end of an abort, whose images are all put back.
+use Rattle.laws_checkpoints.specs.CheckpointedStores.{CheckpointedStore}
 use Rattle.std.proofs.Common.{◌≡◌, ◌<◌, ◌++◌, ◌∷◌, [], ℕ, List, Bool, true, false, refl, sym, ap, subst, ◌∙◌}
 use Rattle.std.specs.Prelude.{◌==◌, if◌then◌else◌}
 use Rattle.std.proofs.lemmas.Bool.{eqb-true}
@@ -14,7 +15,6 @@ use Rattle.shore_heap.specs.declared.heap.Heap.{Heap}
 use Rattle.shore_heap.specs.Heaps.{Shows}
 use Rattle.shore_heap.proofs.Showing.{shows_same}
 use Rattle.shore_locks.specs.Grants.{released}
-use Rattle.laws_lives.specs.Recovery.{RecoveryState, after_append}
 use Rattle.laws_room.specs.Claims.{Claimed, slots_of}
 use Rattle.laws_room.specs.Settling.{let_go}
 use Rattle.laws_room.proofs.Leaving.{left_slots}
@@ -25,8 +25,6 @@ use Rattle.laws_lives.specs.UndoLists.{rolled_back}
 use Rattle.laws_lives.specs.Views.{IsAmong}
 use Rattle.laws_calls.specs.CallSteps.{aborted, with_requests}
 use Rattle.laws_calls.specs.States.{State, page_slots}
-use Rattle.laws_heaps.specs.LoggedHeaps.{IsStoreOf}
-use Rattle.laws_heaps.proofs.Made.{appended_without}
 use Rattle.shore_txn.specs.ActiveTxns.{OneLeaves}
 use Rattle.shore_txn.specs.Transactions.{kept_in, txns_in, undos_in}
 use Rattle.shore_txn.specs.Txns.{as_session_txn, entries_of, last_of, number_of}
@@ -37,6 +35,8 @@ use Rattle.shore_txn.specs.declared.undo.UndoEntry.{UndoEntry}
 use Rattle.shore_txn.proofs.OneOfMany.{among_more}
 use Rattle.shore_sessions.specs.Standing.{HasControl, abort_ended}
 use Rattle.shore_core.specs.declared.core_calls.Core.{Core}
+use Rattle.shore_core.specs.Stores.{IsHeapOf, append_to}
+use Rattle.shore_core.proofs.Works.{noted_without}
 use Rattle.shore_core.specs.Cores.{CoreComesTo, IsIn, IsOver, control_of, durable_of, first_of, has_failed, heap_of, txns_of, waiting_of}
 use Rattle.shore_core.specs.Parts.{HasParts}
 use Rattle.shore_core.proofs.Coming.{comes_appended, comes_same, over_as, pages_told}
@@ -94,7 +94,7 @@ module _ (s : State) (a : SessionTxn) (none : a.undo.images ≡ []) where
 
 -- ---- the core then
 
-module _ {T V : Type 0} {G : tail.Ghosts T} {H : disk.Ghosts V} (old new : Core T V G H) (front : List ℕ) (disk : ℕ → List ℕ) (before : List LogRecord) (s : State) (store : RecoveryState)
+module _ {T V : Type 0} {G : tail.Ghosts T} {H : disk.Ghosts V} (old new : Core T V G H) (front : List ℕ) (disk : ℕ → List ℕ) (before : List LogRecord) (s : State) (store : CheckpointedStore)
     (is : IsIn front disk before old s) (over : IsOver disk old s store) (claimed : Claimed s.sessions.records s.sessions.active s.counts)
     (a : SessionTxn) (m : IsAmong a s.sessions.active) (none : a.undo.images ≡ [])
     (heap : heap_of new ≡ heap_of old) (first : first_of new ≡ first_of old) (durable : durable_of new ≡ durable_of old) (failed : has_failed new ≡ has_failed old)
@@ -136,5 +136,5 @@ module _ {T V : Type 0} {G : tail.Ghosts T} {H : disk.Ghosts V} (old new : Core 
         beside = record { first = first ∙ is.beside.first; parts = subst (λ l. HasParts (control_of new) l (durable_of new) (has_failed new) before (aborted s a)) (sym added) (same_parts parts) };
         pages = pages;
       })
-      (λ works. subst (λ (h : Heap V H). IsStoreOf h disk (after_append store own)) (sym heap)
-      (appended_without (heap_of old) disk store own (over.pages works) over.kept.recoverable over.kept.redone refl).1)
+      (λ works. subst (λ (h : Heap V H). IsHeapOf h disk (append_to store own)) (sym heap)
+      (noted_without (heap_of old) disk store own (over.pages works) over.kept.recoverable over.kept.redone refl))

@@ -20,8 +20,11 @@ use Rattle.shore_core.specs.declared.core_calls.Core.{Core}
 use Rattle.shore_core.specs.Cores.{IsIn, IsOver, control_of, durable_of, has_failed, heap_of, tail_of, txns_of}
 use Rattle.shore_core.specs.Flushing.{AreFlushes, FlushMoves, FlushSteps}
 use Rattle.shore_core.specs.Replies.{OnlyReads, fault_at}
-use Rattle.laws_heaps.proofs.Flushes.{work_of}
-use Rattle.shore_core.proofs.Coming.{beside_same, kept_after}
+use Rattle.laws_checkpoints.specs.CheckpointedStores.{CheckpointedStore}
+use Rattle.laws_checkpoints.specs.RecoveryNumbers.{recovery_after}
+use Rattle.shore_core.specs.Stores.{WorksOn}
+use Rattle.shore_core.proofs.Works.{works_to}
+use Rattle.shore_core.proofs.Coming.{beside_same, kept_after, written_back}
 use Rattle.shore_core.proofs.Taking.{in_failed, over_failed, true_false}
 
 -- a core that ran has not failed
@@ -52,24 +55,25 @@ works_grow s (RedoRecord ∷ works) last (work, new, leads, rest) = absurd work
 works_grow s (LosePower n left begin ∷ works) last (work, new, leads, rest) = absurd work
 
 -- so with the same log, as much of it durable, pages were flushed and nothing else was done
-flushes_alone : (s : RecoveryState) (works : List RecoveryEvent) (last : RecoveryState) → WorksTo s works last → last.log ≡ s.log → last.durable ≡ s.durable
-    → (flushes : List RecoveryEvent) × AreFlushes flushes × WorksTo s flushes last
-flushes_alone s [] last is log durable = ([], tt, is)
-flushes_alone s (AppendRecord r ∷ works) last (work, new, leads, rest) log durable =
-    let more = works_grow new works last rest in
-    let longer : length new.log ≡ length s.log + 1 = ap (λ (x : RecoveryState). length x.log) leads.1 ∙ length-push s.log r in
+flushes_alone : (c : CheckpointedStore) (works : List RecoveryEvent) (last : CheckpointedStore) → WorksOn c works last → last.store.log ≡ c.store.log → last.store.durable ≡ c.store.durable
+    → (flushes : List RecoveryEvent) × AreFlushes flushes × WorksOn c flushes last
+flushes_alone c [] last is log durable = ([], tt, is)
+flushes_alone c (AppendRecord r ∷ works) last (work, new, leads, rest) log durable =
+    let more = works_grow new works last.store (works_to (record c { store = new; recovery = recovery_after c.store (AppendRecord r) c.recovery }) works last rest) in
+    let longer : length new.log ≡ length c.store.log + 1 = ap (λ (x : RecoveryState). length x.log) leads.1 ∙ length-push c.store.log r in
     absurd (omega (arith, more.0, longer, ap length log))
-flushes_alone s (ForceLog n ∷ works) last (work, new, leads, rest) log durable =
-    let more = works_grow new works last rest in
+flushes_alone c (ForceLog n ∷ works) last (work, new, leads, rest) log durable =
+    let more = works_grow new works last.store (works_to (record c { store = new }) works last rest) in
     let forced : new.durable ≡ n = ap (λ (x : RecoveryState). x.durable) leads.2 in
-    let no_more : n ≡ s.durable = omega (arith, more.1, leads.0, forced, durable) in
-    let same : new ≡ s = leads.2 ∙ ap (after_force s) no_more in
-    flushes_alone s works last (subst (λ (x : RecoveryState). WorksTo x works last) same rest) log durable
-flushes_alone s (FlushPage p ∷ works) last (work, new, leads, rest) log durable =
-    let on = flushes_alone new works last rest (log ∙ sym (ap (λ (x : RecoveryState). x.log) leads.1)) (durable ∙ sym (ap (λ (x : RecoveryState). x.durable) leads.1)) in
+    let no_more : n ≡ c.store.durable = omega (arith, more.1, leads.0, forced, durable) in
+    let same : new ≡ c.store = leads.2 ∙ ap (after_force c.store) no_more in
+    flushes_alone c works last (subst (λ (x : RecoveryState). WorksOn (record c { store = x }) works last) same rest) log durable
+flushes_alone c (FlushPage p ∷ works) last (work, new, leads, rest) log durable =
+    let on = flushes_alone (record c { store = new; recovery = recovery_after c.store (FlushPage p) c.recovery }) works last rest
+    (log ∙ sym (ap (λ (x : RecoveryState). x.log) leads.1)) (durable ∙ sym (ap (λ (x : RecoveryState). x.durable) leads.1)) in
     (FlushPage p ∷ on.0, (tt, on.1), (tt, new, leads, on.2))
-flushes_alone s (RedoRecord ∷ works) last (work, new, leads, rest) log durable = absurd work
-flushes_alone s (LosePower n left begin ∷ works) last (work, new, leads, rest) log durable = absurd work
+flushes_alone c (RedoRecord ∷ works) last (work, new, leads, rest) log durable = absurd work
+flushes_alone c (LosePower n left begin ∷ works) last (work, new, leads, rest) log durable = absurd work
 
 -- ---- steps
 
@@ -82,7 +86,7 @@ module _ {T V : Type 0} {G : tail.Ghosts T} {H : disk.Ghosts V} where
       subst (λ it. MatchResult (fault_at it) (λ _. WroteBack (heap_of old) (heap_of new) (durable_of old) front disk) (λ e. (e ≡ fault.Device) ⊎ WroteBack (heap_of old) (heap_of new) (durable_of old) front disk)) (sym is) wrote
 
   -- once a device has failed
-  pub steps_refused : (core : Core T V G H) (front : List ℕ) (disk : ℕ → List ℕ) (before : List LogRecord) (s : State) (store : RecoveryState)
+  pub steps_refused : (core : Core T V G H) (front : List ℕ) (disk : ℕ → List ℕ) (before : List LogRecord) (s : State) (store : CheckpointedStore)
       → IsIn front disk before core s → IsOver disk core s store → has_failed core ≡ true → FlushSteps (Refused fault.Failed) core front before s store
   steps_refused core front disk before s store is over failed = record {
     later = s;
@@ -91,7 +95,7 @@ module _ {T V : Type 0} {G : tail.Ghosts T} {H : disk.Ghosts V} where
     flushes = tt;
   }
 
-  module _ (old new : Core T V G H) (front : List ℕ) (disk : ℕ → List ℕ) (before : List LogRecord) (s : State) (store : RecoveryState)
+  module _ (old new : Core T V G H) (front : List ℕ) (disk : ℕ → List ℕ) (before : List LogRecord) (s : State) (store : CheckpointedStore)
       (is : IsIn front disk before old s) (over : IsOver disk old s store) (running : has_failed old ≡ false) where
     works : s.failed ≡ false
     works = is.beside.parts.failed_is ∙ running
@@ -100,9 +104,9 @@ module _ {T V : Type 0} {G : tail.Ghosts T} {H : disk.Ghosts V} where
     pub steps_written : (step : Step) → FlushMoves s step s → OnlyReads old new → KeepsSlots (kept_in (txns_of old)) (heap_of old) (heap_of new) (durable_of old) front disk (page_slots s)
         → FlushSteps step new front before s store
     steps_written step moves reads (left, shows, stay) =
-        let durable : durable_of old ≡ store.durable = sym (over.kept.stored.durable ∙ is.beside.parts.durable_is) in
-        let back = work_of (heap_of old) (heap_of new) (durable_of old) disk left store (over.pages works) stay (omega (arith, durable)) reads.volume.geometry in
-        let alone = flushes_alone store back.0 back.1 back.2 back.5 back.6 in
+        let durable : durable_of old ≡ store.store.durable = sym (over.kept.stored.durable ∙ is.beside.parts.durable_is) in
+        let back = written_back (heap_of old) (heap_of new) (durable_of old) front disk left store (over.pages works) over.kept.recoverable shows.holds stay (omega (arith, durable)) reads.volume.geometry in
+        let alone = flushes_alone store back.0 back.1 back.2 back.4 back.5 in
         record {
           later = s;
           moves = moves;
@@ -115,7 +119,7 @@ module _ {T V : Type 0} {G : tail.Ghosts T} {H : disk.Ghosts V} where
             works = alone.0;
             after = back.1;
             work = alone.2;
-            over = record { kept = kept_after s store back.1 back.0 over.kept back.2 back.5 back.6; pages = λ w. back.4 };
+            over = record { kept = kept_after s store back.1 back.0 over.kept back.2 back.4 back.5; pages = λ w. back.3 };
           };
           flushes = alone.1;
         }

@@ -1,4 +1,5 @@
 -- That a call which asks for a force needs it: what it asks for is in the log and not durable.
+use Rattle.laws_checkpoints.specs.CheckpointedStores.{CheckpointedStore}
 use Rattle.std.proofs.Common.{◌≡◌, ◌⊎◌, ◌≤◌, ◌∙◌, inl, inr, ℕ, List, Option, None, Some, IsSomeAnd, Result, Ok, Err, IfErr, IsErrAnd, MatchResult, OnOk, refl, sym, ap, subst, length, arith}
 use Rattle.shore_types.specs.declared.faults.Device.TheVariants.{Volume}
 use Rattle.shore_types.specs.declared.faults.Fault.{Fault}
@@ -14,22 +15,21 @@ use Rattle.shore_pool.specs.Pools as pools
 use Rattle.shore_pool.specs.Pools.{PoolHolds, NeedsForce}
 use Rattle.shore_pool.specs.declared.pool.Pool.{Pool}
 use Rattle.shore_pool.specs.declared.frame.Frame.{Frame}
-use Rattle.laws_lives.specs.Recovery.{RecoveryState}
-use Rattle.laws_heaps.specs.LoggedHeaps.{IsStoreOf}
 use Rattle.laws_calls.specs.StateChanges.{IsPageFault}
 use Rattle.laws_calls.specs.States.{State}
 use Rattle.shore_core.specs.Cores.{IsKept}
+use Rattle.shore_core.specs.Stores.{IsHeapOf}
 use Rattle.shore_pool.specs.Pages.{IsPage}
 
-module _ {V : Type 0} {H : disk.Ghosts V} (heap : Heap V H) (s : State) (store : RecoveryState) (disk : ℕ → List ℕ) (kept : IsKept s store) (over : IsStoreOf heap disk store) where
+module _ {V : Type 0} {H : disk.Ghosts V} (heap : Heap V H) (s : State) (store : CheckpointedStore) (disk : ℕ → List ℕ) (kept : IsKept s store) (over : IsHeapOf heap disk store) where
   -- the number of a page in a frame is in the log
   number_logged : (k : ℕ) (f : Frame) → frame_at heap k ≡ Some f → f.page.number ≤ length s.log
   number_logged k f is =
       let order = heap.pool.in_order k f is in
-      let here = over.in_place f.page.id order.0 in
+      let here = over.pages.in_place f.page.id order.0 in
       let at : frame_at heap (page_number (geometry_of heap) f.page.id) ≡ Some f = ap (frame_at heap) order.1 ∙ is in
-      let n : f.page.number ≡ (store.in_place f.page.id).number = (subst (λ o. IsPage o (disk (page_number (geometry_of heap) f.page.id)) f.page.id (store.in_place f.page.id).number here.images) at here.here).1 in
-      let within = ((kept.recoverable.in_place f.page.id).each (store.in_place f.page.id).number (omega arith) (omega arith)).within in
+      let n : f.page.number ≡ (store.store.in_place f.page.id).number = (subst (λ o. IsPage o (disk (page_number (geometry_of heap) f.page.id)) f.page.id (store.store.in_place f.page.id).number here.images) at here.here).1 in
+      let within = ((kept.recoverable.in_place f.page.id).each (store.store.in_place f.page.id).number (omega arith) (omega arith)).within in
       omega (arith, n, within, ap length kept.stored.log)
 
   some_logged : (k number : ℕ) (o : Option Frame) → frame_at heap k ≡ o → IsSomeAnd o (λ f. f.page.number ≡ number) → number ≤ length s.log

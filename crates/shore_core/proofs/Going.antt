@@ -1,4 +1,5 @@
 -- How calls go on that wait, or that have a transaction.
+use Rattle.laws_checkpoints.specs.CheckpointedStores.{CheckpointedStore}
 use Rattle.std.proofs.Common.{◌≡◌, inl, inr, ℕ, List, None, Option, Some, Result, false, true, refl, sym, ap, subst, ◌∙◌}
 use Rattle.std.specs.Prelude.{not, ◌==◌}
 use Rattle.shore_types.specs.declared.faults.Fault.{Fault}
@@ -9,7 +10,6 @@ use Rattle.shore_model.specs.declared.log_records.LogRecord.{LogRecord}
 use Rattle.shore_disk.specs.declared.device.Disk as disk
 use Rattle.shore_log.specs.declared.tail.Tail as tail
 use Rattle.shore_locks.specs.Tables.{is_waiting}
-use Rattle.laws_lives.specs.Recovery.{RecoveryState}
 use Rattle.laws_lives.specs.Sessions.{SessionTxn}
 use Rattle.laws_lives.specs.Views.{IsAmong}
 use Rattle.shore_sessions.proofs.Lists.{among_filtered}
@@ -116,7 +116,7 @@ pub early_plain : (g : Geometry) (c : Call) (f : Fault) (s : State) → RefusesE
 early_plain g c f s refuses =
     stays_after s f (λ device. subst IsHarmless device (early_harmless g c f refuses)) (λ d offset damaged. subst IsHarmless damaged (early_harmless g c f refuses))
 
-module _ {T V : Type 0} {G : tail.Ghosts T} {H : disk.Ghosts V} (old new : Core T V G H) (front : List ℕ) (before : List LogRecord) (s : State) (store : RecoveryState) (a : SessionTxn) (r : Result Step Fault) where
+module _ {T V : Type 0} {G : tail.Ghosts T} {H : disk.Ghosts V} (old new : Core T V G H) (front : List ℕ) (before : List LogRecord) (s : State) (store : CheckpointedStore) (a : SessionTxn) (r : Result Step Fault) where
   -- when it is made
   pub asked_calls : (session : ℕ) (c : Call) → s.failed ≡ false → DoesNotWait s session → IsOfSession s session a → a.undo.rolling ≡ None → AskedFor a c r old new front before s store
       → Called session c r old new front before s store

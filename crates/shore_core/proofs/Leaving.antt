@@ -1,4 +1,5 @@
 -- What a commit leaves of what is reserved and of the other transactions, and what one leaves that lacks memory.
+use Rattle.laws_checkpoints.specs.CheckpointedStores.{CheckpointedStore}
 use Rattle.std.proofs.Common.{◌≡◌, ◌≤◌, ◌<◌, ◌+◌, ◌++◌, ◌∷◌, ℕ, List, refl, sym, ap, subst, ◌∙◌, arith}
 use Rattle.shore_types.specs.declared.layout.TheConstants.{ENDING_COST}
 use Rattle.shore_model.specs.declared.log_records.LogRecord.{LogRecord}
@@ -6,7 +7,6 @@ use Rattle.shore_disk.specs.declared.device.Disk as disk
 use Rattle.shore_log.specs.declared.tail.Tail as tail
 use Rattle.shore_heap.specs.declared.heap.Heap.{Heap}
 use Rattle.shore_heap.specs.Heaps.{Shows}
-use Rattle.laws_lives.specs.Recovery.{RecoveryState}
 use Rattle.laws_lives.specs.Views.{IsAmong}
 use Rattle.laws_calls.specs.States.{State, page_slots}
 use Rattle.shore_txn.specs.ActiveTxns.{OneLeaves}
@@ -37,18 +37,20 @@ module _ (old new : Transactions) {number : ℕ} {changes : List UndoEntry} (lef
       let before = earlier t (subst (IsAmong t) (sym left.was) (among_more t left.one left.newer left.older (subst (IsAmong t) left.is m))) in
       omega (arith, before)
 
-module _ {T V : Type 0} {G : tail.Ghosts T} {H : disk.Ghosts V} (old new : Core T V G H) (front : List ℕ) (disk : ℕ → List ℕ) (before : List LogRecord) (s : State) (store : RecoveryState) where
+module _ {T V : Type 0} {G : tail.Ghosts T} {H : disk.Ghosts V} (old new : Core T V G H) (front : List ℕ) (disk : ℕ → List ℕ) (before : List LogRecord) (s : State) (store : CheckpointedStore) where
   -- nothing but memory has changed
+  pub in_lacking : heap_of new ≡ heap_of old → first_of new ≡ first_of old → waiting_of new ≡ waiting_of old → durable_of new ≡ durable_of old → has_failed new ≡ has_failed old
+      → txns_of new ≡ txns_of old → HasControl (control_of new) s → IsIn front disk before old s → IsIn front disk before new s
+  in_lacking heap first waiting durable failed txns stands is = record {
+    beside = record {
+      first = first ∙ is.beside.first;
+      parts = record { stands = stands; log = is.beside.parts.log ∙ ap (λ l. before ++ l) (sym waiting); durable_is = is.beside.parts.durable_is ∙ sym durable; failed_is = is.beside.parts.failed_is ∙ sym failed };
+    };
+    pages = λ works. subst (λ x. Shows (kept_in x) (heap_of new) front disk (page_slots s)) (sym txns)
+        (subst (λ (h : Heap V H). Shows (kept_in (txns_of old)) h front disk (page_slots s)) (sym heap) (is.pages works));
+  }
+
   pub comes_lacking : heap_of new ≡ heap_of old → first_of new ≡ first_of old → waiting_of new ≡ waiting_of old → durable_of new ≡ durable_of old → has_failed new ≡ has_failed old
       → txns_of new ≡ txns_of old → HasControl (control_of new) s → IsIn front disk before old s → IsOver disk old s store → CoreComesTo new front before store s
   comes_lacking heap first waiting durable failed txns stands is over =
-      comes_same new front disk before s store
-      (record {
-        beside = record {
-          first = first ∙ is.beside.first;
-          parts = record { stands = stands; log = is.beside.parts.log ∙ ap (λ l. before ++ l) (sym waiting); durable_is = is.beside.parts.durable_is ∙ sym durable; failed_is = is.beside.parts.failed_is ∙ sym failed };
-        };
-        pages = λ works. subst (λ x. Shows (kept_in x) (heap_of new) front disk (page_slots s)) (sym txns)
-            (subst (λ (h : Heap V H). Shows (kept_in (txns_of old)) h front disk (page_slots s)) (sym heap) (is.pages works));
-      })
-      (over_as old new disk s s store heap refl refl refl over)
+      comes_same new front disk before s store (in_lacking heap first waiting durable failed txns stands is) (over_as old new disk s s store heap refl refl refl over)

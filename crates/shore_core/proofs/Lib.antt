@@ -10,6 +10,7 @@ pub mod Callers
 pub mod Opening
 pub mod Earning
 pub mod Forcing
+pub mod Works
 pub mod Coming
 pub mod Keeping
 pub mod Pairs
@@ -34,3 +35,5 @@ pub mod RolledBack
 pub mod Prepared
 pub mod Ended
 pub mod Stopped
+pub mod CheckpointSteps
+pub mod CheckpointFull

@@ -1,4 +1,5 @@
 -- What a call comes to that moves locks and waits alone: pages and log are as they were.
+use Rattle.laws_checkpoints.specs.CheckpointedStores.{CheckpointedStore}
 use Rattle.std.proofs.Common.{◌≡◌, ◌++◌, inl, inr, ℕ, List, Result, Ok, Err, sym, ap, subst, ◌∙◌}
 use Rattle.shore_types.specs.declared.faults.Fault.{Fault}
 use Rattle.shore_types.specs.declared.ids.PageId.{PageId}
@@ -9,7 +10,6 @@ use Rattle.shore_disk.specs.declared.device.Disk as disk
 use Rattle.shore_log.specs.declared.tail.Tail as tail
 use Rattle.shore_heap.specs.declared.heap.Heap.{Heap}
 use Rattle.shore_heap.specs.Heaps.{Shows}
-use Rattle.laws_lives.specs.Recovery.{RecoveryState}
 use Rattle.laws_lives.specs.Sessions.{SessionTxn}
 use Rattle.laws_calls.specs.CallSteps.{CallGoesOn, HasLocked}
 use Rattle.laws_calls.specs.States.{State, page_slots}
@@ -23,7 +23,7 @@ use Rattle.shore_core.specs.Cores.{CoreComesTo, IsIn, IsOver, control_of, durabl
 use Rattle.shore_core.specs.Replies.{IsServedBehind, as_step}
 use Rattle.shore_core.proofs.Coming.{comes_same, over_as, pages_told}
 
-module _ {T V : Type 0} {G : tail.Ghosts T} {H : disk.Ghosts V} (old new : Core T V G H) (front : List ℕ) (disk : ℕ → List ℕ) (before : List LogRecord) (s later : State) (store : RecoveryState) where
+module _ {T V : Type 0} {G : tail.Ghosts T} {H : disk.Ghosts V} (old new : Core T V G H) (front : List ℕ) (disk : ℕ → List ℕ) (before : List LogRecord) (s later : State) (store : CheckpointedStore) where
   -- its control stands for another state with the same pages and the same log
   pub in_moved : heap_of new ≡ heap_of old → first_of new ≡ first_of old → waiting_of new ≡ waiting_of old → durable_of new ≡ durable_of old → has_failed new ≡ has_failed old
       → ((p : PageId) → kept_in (txns_of new) p ≡ kept_in (txns_of old) p) → HasControl (control_of new) later → later.log ≡ s.log → later.durable ≡ s.durable → later.failed ≡ s.failed

@@ -1,4 +1,5 @@
 -- What a call comes to whose session has no transaction, or one that may do no more than end a rollback.
+use Rattle.laws_checkpoints.specs.CheckpointedStores.{CheckpointedStore}
 use Rattle.std.proofs.Common.{◌≡◌, ◌≢◌, ◌⊎◌, inl, inr, ℕ, List, None, Option, Some, Result, Err, IsErrAnd, false, true, refl, subst}
 use Rattle.std.specs.Prelude.{IsSome}
 use Rattle.shore_types.specs.declared.faults.Fault.{Fault}
@@ -11,7 +12,6 @@ use Rattle.shore_disk.specs.declared.device.Disk as disk
 use Rattle.shore_log.specs.declared.tail.Tail as tail
 use Rattle.laws_locks.specs.CallLocks.{Asked, lock_asked_by}
 use Rattle.laws_lives.specs.OwnSeats.{HasOwnSeats}
-use Rattle.laws_lives.specs.Recovery.{RecoveryState}
 use Rattle.laws_lives.specs.UndoLists.{UndoList}
 use Rattle.laws_calls.proofs.SessionInversions.{asks_in_txn}
 use Rattle.laws_calls.specs.CallSteps.{NeedsTxn}
@@ -94,7 +94,7 @@ whole_taken undo c inner (inr (inr back)) = absurd (inner.goes back.0 back.2)
 
 module _ {T V : Type 0} {G : tail.Ghosts T} {H : disk.Ghosts V} (core : Core T V G H) where
   -- a call of a session that has no transaction
-  pub replied_none : (front : List ℕ) (disk : ℕ → List ℕ) (before : List LogRecord) (s : State) (store : RecoveryState) (session : ℕ) (c : Call)
+  pub replied_none : (front : List ℕ) (disk : ℕ → List ℕ) (before : List LogRecord) (s : State) (store : CheckpointedStore) (session : ℕ) (c : Call)
       → IsIn front disk before core s → IsOver disk core s store → HasOwnSeats s.sessions → NeedsTxn c → s.failed ≡ false → DoesNotWait s session → HasNoTxnOf session (txns_of core)
       → Replied session c (Err fault.NoTransaction) core core front before s store
   replied_none front disk before s store session c is over seats needs works idle none = record {
@@ -104,7 +104,7 @@ module _ {T V : Type 0} {G : tail.Ghosts T} {H : disk.Ghosts V} (core : Core T V
   }
 
   -- .. or one that is prepared
-  pub replied_prepared : (front : List ℕ) (disk : ℕ → List ℕ) (before : List LogRecord) (s : State) (store : RecoveryState) (session : ℕ) (c : Call) (r : Result Step Fault) (f : Fault)
+  pub replied_prepared : (front : List ℕ) (disk : ℕ → List ℕ) (before : List LogRecord) (s : State) (store : CheckpointedStore) (session : ℕ) (c : Call) (r : Result Step Fault) (f : Fault)
       → IsIn front disk before core s → IsOver disk core s store → NeedsTxn c → s.failed ≡ false → DoesNotWait s session → IsErrAnd r (λ e. e ≡ f) → f ≡ fault.IsPrepared → HasPrepared s session
       → Replied session c r core core front before s store
   replied_prepared front disk before s store session c r f is over needs works idle same is_prepared prepared =
@@ -112,7 +112,7 @@ module _ {T V : Type 0} {G : tail.Ghosts T} {H : disk.Ghosts V} (core : Core T V
       (inr (inr (inr (inr (inr (inr (inl (works, idle, needs, prepared, refl, refl))))))))
       (inr (comes_same core front disk before s store is over))
 
-  pub replied_not_open : (front : List ℕ) (disk : ℕ → List ℕ) (before : List LogRecord) (s : State) (store : RecoveryState) (session : ℕ) (c : Call) (r : Result Step Fault) (f : Fault)
+  pub replied_not_open : (front : List ℕ) (disk : ℕ → List ℕ) (before : List LogRecord) (s : State) (store : CheckpointedStore) (session : ℕ) (c : Call) (r : Result Step Fault) (f : Fault)
       → IsIn front disk before core s → IsOver disk core s store → IsInner c → s.failed ≡ false → DoesNotWait s session → IsErrAnd r (λ e. e ≡ f) → IsNotOpen s session f
       → Replied session c r core core front before s store
   replied_not_open front disk before s store session c r f is over inner works idle same (inl (must, (a, its, rolls))) =

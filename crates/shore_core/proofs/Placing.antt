@@ -1,4 +1,5 @@
 -- What a search of a store comes to: where a new record goes, what a scan finds, and which faults of the pages refuse the call.
+use Rattle.laws_checkpoints.specs.CheckpointedStores.{CheckpointedStore}
 use Rattle.std.proofs.Common.{◌≡◌, ◌⊎◌, ◌+◌, ◌≤◌, inl, inr, ℕ, List, Result, Ok, Err, IsErrAnd, Some, length, refl, sym, ap, subst, ◌∙◌, arith}
 use Rattle.std.specs.FinMap.{get}
 use Rattle.shore_types.specs.declared.faults.Fault.{Fault}
@@ -15,7 +16,6 @@ use Rattle.shore_path.specs.Walks.{acquired}
 use Rattle.laws_locks.proofs.Places.{acquired_ends}
 use Rattle.shore_disk.specs.declared.device.Disk as disk
 use Rattle.shore_log.specs.declared.tail.Tail as tail
-use Rattle.laws_lives.specs.Recovery.{RecoveryState}
 use Rattle.shore_model.specs.declared.log_records.LogRecord.{LogRecord}
 use Rattle.shore_model.specs.Records.{AreRecords, scan_of}
 use Rattle.shore_page.specs.Slots.{image_at_slot}
@@ -149,7 +149,7 @@ insert_unlogged g s a store bytes id place f (inr full) =
     subst (λ (x : Fault). IsServedBehind g s a (call.Insert store bytes) (Err x) (after_refusal x (behind_place s a id))) (sym full.0) (inr (inr (inr (inl (refl, (id, place, full.1, refl))))))
 
 -- it is refused behind it
-pub served_behind_place : {T V : Type 0} {G : tail.Ghosts T} {H : disk.Ghosts V} (old new : Core T V G H) (front : List ℕ) (before : List LogRecord) (s : State) (plain : RecoveryState) (a : SessionTxn)
+pub served_behind_place : {T V : Type 0} {G : tail.Ghosts T} {H : disk.Ghosts V} (old new : Core T V G H) (front : List ℕ) (before : List LogRecord) (s : State) (plain : CheckpointedStore) (a : SessionTxn)
     (store : ℕ) (bytes : List ℕ) (id : Rid) (r : Result Step Fault) (f : Fault) → IsErrAnd r (λ e. e ≡ f)
     → IsServedBehind (geometry_of old) s a (call.Insert store bytes) (Err f) (after_refusal f (behind_place s a id)) → CoreComesTo new front before plain (behind_place s a id)
     → Served a (call.Insert store bytes) r old new front before s plain

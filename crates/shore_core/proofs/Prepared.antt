@@ -1,4 +1,5 @@
 -- A prepare as a step of the manager, what a resolve may decide, and the table once a Prepare or such a decision is logged.
+use Rattle.laws_checkpoints.specs.CheckpointedStores.{CheckpointedStore}
 use Rattle.std.proofs.Common.{◌≡◌, inl, inr, ◌+◌, ◌<◌, ℕ, List, None, Result, IsErrAnd, false, true, refl, sym, ap, subst, ◌∙◌, arith}
 use Rattle.std.proofs.lemmas.Bool.{true≢false}
 use Rattle.shore_types.specs.declared.faults.Fault.{Fault}
@@ -9,7 +10,6 @@ use Rattle.shore_model.specs.declared.step.Step.{Step}
 use Rattle.shore_model.specs.declared.step.Step.TheVariants.{Refused}
 use Rattle.shore_disk.specs.declared.device.Disk as disk
 use Rattle.shore_log.specs.declared.tail.Tail as tail
-use Rattle.laws_lives.specs.Recovery.{RecoveryState}
 use Rattle.laws_lives.specs.Sessions.{SessionTxn}
 use Rattle.laws_lives.specs.Views.{IsAmong}
 use Rattle.laws_calls.specs.CallSteps.{CallStep}
@@ -41,7 +41,7 @@ module _ (g : Geometry) (s : State) (session : ℕ) (a : SessionTxn) (global : L
   prepare_steps step new h = inr (inr (inr (inr (inr (inl (works, idle, (a, of, inr (inl (whole, inr (inr (inr (inr (global, refl, h)))))))))))))
 
 -- it is refused
-module _ {T V : Type 0} {G : tail.Ghosts T} {H : disk.Ghosts V} (core : Core T V G H) (front : List ℕ) (before : List LogRecord) (s : State) (store : RecoveryState) (session : ℕ) (a : SessionTxn) (global : List ℕ)
+module _ {T V : Type 0} {G : tail.Ghosts T} {H : disk.Ghosts V} (core : Core T V G H) (front : List ℕ) (before : List LogRecord) (s : State) (store : CheckpointedStore) (session : ℕ) (a : SessionTxn) (global : List ℕ)
     (works : s.failed ≡ false) (idle : DoesNotWait s session) (of : IsOfSession s session a) (whole : a.undo.rolling ≡ None) where
   pub prepare_refused : (disk : ℕ → List ℕ) → IsIn front disk before core s → IsOver disk core s store → (r : Result Step Fault) (f : Fault) → IsErrAnd r (λ e. e ≡ f) → RefusesPrepare s a global f → after_refusal f s ≡ s
       → Replied session (call.Prepare global) r core core front before s store

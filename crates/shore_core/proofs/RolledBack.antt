@@ -1,4 +1,5 @@
 -- What an abort, and a way back to a savepoint, come to once their steps are made.
+use Rattle.laws_checkpoints.specs.CheckpointedStores.{CheckpointedStore}
 use Rattle.std.proofs.Common.{◌≡◌, ◌⊎◌, ◌<◌, ◌≤◌, ◌+◌, inl, inr, ℕ, zero, suc, List, [], ◌∷◌, Option, Some, None, Result, Ok, Err, IsErrAnd, length, take, false, refl, sym, ap, subst, ◌∙◌, arith}
 use Rattle.std.specs.Prelude.{slice_get, unwrap_or}
 use Rattle.std.proofs.Math.Seq.{take-length}
@@ -12,7 +13,6 @@ use Rattle.shore_types.specs.declared.ids.Rid.{Rid}
 use Rattle.shore_model.specs.declared.calls.Answer.TheVariants.{WentBack}
 use Rattle.shore_model.specs.declared.calls.Call.TheVariants as call
 use Rattle.shore_model.specs.declared.log_records.LogRecord.{LogRecord}
-use Rattle.laws_lives.specs.Recovery.{RecoveryState}
 use Rattle.laws_room.proofs.Leaving.{marked_slots}
 use Rattle.laws_room.specs.Claims.{slots_of}
 use Rattle.laws_lives.specs.Logged.{and_compensations}
@@ -103,7 +103,7 @@ no_images (e ∷ images) none = absurd (omega arith)
 
 -- ---- replies
 
-module _ {T V : Type 0} {G : tail.Ghosts T} {H : disk.Ghosts V} (old new : Core T V G H) (front : List ℕ) (before : List LogRecord) (s : State) (store : RecoveryState) (session : ℕ) (a : SessionTxn)
+module _ {T V : Type 0} {G : tail.Ghosts T} {H : disk.Ghosts V} (old new : Core T V G H) (front : List ℕ) (before : List LogRecord) (s : State) (store : CheckpointedStore) (session : ℕ) (a : SessionTxn)
     (safe : IsSafe (geometry_of old) s) (works : s.failed ≡ false) (idle : DoesNotWait s session) (r : Rollback) (roll : MayRoll a.undo r) (may : MayPutBack s session a r) (least : ℕ) (at : least ≡ least_kept a.undo r) where
   abbrev c : Call
   c = caller (geometry_of old) s safe session a works idle r may

@@ -1,4 +1,5 @@
 -- Rollbacks image by image: the state in between is a safe one, what is put back next has its page and fits there, and one image more makes the next state.
+use Rattle.laws_checkpoints.specs.CheckpointedStores.{CheckpointedStore}
 use Rattle.std.proofs.Common.{◌≡◌, ◌≢◌, inl, inr, ◌++◌, ◌∷◌, ◌+◌, ◌<◌, ◌≤◌, ℕ, List, [], Option, Some, IfNone, IfSome, OnOk, Result, Ok, Err, IsErrAnd, length, append_assoc, append-nil, drop, None, false, refl, sym, ap, subst, ◌∙◌, arith}
 use Rattle.std.specs.Prelude.{IsSome}
 use Rattle.std.specs.FinMap.{get}
@@ -46,7 +47,6 @@ use Rattle.laws_runs.proofs.Prefixes.{whole_placed}
 use Rattle.shore_disk.specs.declared.device.Disk as disk
 use Rattle.shore_log.specs.declared.tail.Tail as tail
 use Rattle.shore_model.specs.declared.log_records.LogRecord.{LogRecord}
-use Rattle.laws_lives.specs.Recovery.{RecoveryState}
 use Rattle.shore_txn.specs.Transactions.{txns_in, undos_in}
 use Rattle.shore_txn.specs.Txns.{as_session_txn, entries_of, number_of}
 use Rattle.shore_txn.specs.UndoEntries.{image_of, images_of}
@@ -94,7 +94,7 @@ module _ (table : Transactions) (who : ℕ) (own : Txn) (less : List UndoEntry) 
       (sym (ap images_of entries ∙ map_join image_of less (entry ∷ [])) ∙ ap (λ (b : SessionTxn). b.undo.images) (sym same) ∙ images)
 
 -- what one step comes to behind a fetch
-module _ {T V : Type 0} {G : tail.Ghosts T} {H : disk.Ghosts V} (new : Core T V G H) (front : List ℕ) (before : List LogRecord) (s : State) (store : RecoveryState) (a : SessionTxn) (kept : List (Rid × Image)) (e : Rid × Image)
+module _ {T V : Type 0} {G : tail.Ghosts T} {H : disk.Ghosts V} (new : Core T V G H) (front : List ℕ) (before : List LogRecord) (s : State) (store : CheckpointedStore) (a : SessionTxn) (kept : List (Rid × Image)) (e : Rid × Image)
     (rollback : Rollback) where
   pub puts_refused : (r : Result (Unit {0}) Fault) (f : Fault) → IsErrAnd r (λ x. x ≡ f) → Interrupts s f → StaysRefused new front before s store f → PutsBack new a kept e rollback r front before s store
   puts_refused (Err x) f same why stays = (subst (Interrupts s) (sym same) why, subst (StaysRefused new front before s store) (sym same) stays)

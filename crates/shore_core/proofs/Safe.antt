@@ -1,4 +1,5 @@
 -- A state is safe behind a lock that was asked for, if it was before.
+use Rattle.laws_checkpoints.specs.CheckpointedStores.{CheckpointedStore}
 use Rattle.std.proofs.Common.{◌≡◌, ◌≢◌, ℕ, ◌++◌, List, [], append-nil, Result, Ok, Err, false, refl, sym, ap, subst, ◌∙◌, arith}
 use Rattle.shore_disk.specs.declared.device.Disk as disk
 use Rattle.shore_disk.specs.Device.{size}
@@ -31,7 +32,6 @@ use Rattle.laws_lives.specs.GranuleLocks.{HasLock}
 use Rattle.laws_lives.specs.Sessions.{SessionTxn}
 use Rattle.shore_heap.specs.Heaps as heaps
 use Rattle.shore_heap.specs.Heaps.{Shows}
-use Rattle.laws_lives.specs.Recovery.{RecoveryState}
 use Rattle.shore_txn.specs.Transactions.{kept_in}
 use Rattle.laws_runs.specs.RoomyStates.{HasLocksInBounds, LeavesRoomyLogs}
 use Rattle.laws_calls.proofs.LeftWaits.{AreOlder, waits_left}
@@ -133,7 +133,7 @@ module _ (g : Geometry) (s : State) (safe : IsSafe g s) (a : SessionTxn) (mem : 
 
 -- a core has asked for a lock, and all but its locks is the same
 module _ {T V : Type 0} {G : tail.Ghosts T} {H : disk.Ghosts V} (mid new : Core T V G H) where
-  pub comes_locked : OnlyLocks mid new → (front : List ℕ) (before : List LogRecord) (s : State) (store : RecoveryState) (rs : List Request)
+  pub comes_locked : OnlyLocks mid new → (front : List ℕ) (before : List LogRecord) (s : State) (store : CheckpointedStore) (rs : List Request)
       → (HasControl (control_of mid) s → HasControl (control_of new) (with_requests s rs)) → CoreComesTo mid front before store s → CoreComesTo new front before store (with_requests s rs)
   comes_locked same front before s store rs stands comes =
       let was = comes.is_in.beside in

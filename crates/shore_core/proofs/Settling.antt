@@ -1,4 +1,5 @@
 -- Calls and resumes that wait for no lock have settled at once.
+use Rattle.laws_checkpoints.specs.CheckpointedStores.{CheckpointedStore}
 use Rattle.std.proofs.Common.{◌≡◌, inl, inr, ℕ, List, [], None, Some, Option, Result, Ok, Err, IsErrAnd, refl, sym, ◌∙◌}
 use Rattle.shore_disk.specs.declared.device.Disk as disk
 use Rattle.shore_log.specs.declared.tail.Tail as tail
@@ -6,7 +7,6 @@ use Rattle.shore_types.specs.declared.faults.Fault.{Fault}
 use Rattle.shore_types.specs.declared.layout.Geometry.{Geometry}
 use Rattle.shore_model.specs.declared.calls.Call.{Call}
 use Rattle.shore_model.specs.declared.log_records.LogRecord.{LogRecord}
-use Rattle.laws_lives.specs.Recovery.{RecoveryState}
 use Rattle.laws_locks.specs.CallLocks.{Asked, lock_asked_by}
 use Rattle.laws_calls.proofs.SessionInversions.{waits_on_lock}
 use Rattle.laws_calls.specs.CallSteps.{CallStep, ResumeStep}
@@ -46,7 +46,7 @@ module _ (g : Geometry) (s new : State) (session : ℕ) where
 
 -- ---- so of a core
 
-module _ {T V : Type 0} {G : tail.Ghosts T} {H : disk.Ghosts V} (old new : Core T V G H) (front : List ℕ) (before : List LogRecord) (s : State) (store : RecoveryState) (session : ℕ) (c : Call) where
+module _ {T V : Type 0} {G : tail.Ghosts T} {H : disk.Ghosts V} (old new : Core T V G H) (front : List ℕ) (before : List LogRecord) (s : State) (store : CheckpointedStore) (session : ℕ) (c : Call) where
   -- its call asks for no lock
   pub replied_calls : (r : Result Step Fault) → lock_asked_by c ≡ None → Replied session c r old new front before s store → Called session c r old new front before s store
   replied_calls r none h = record {

@@ -1,4 +1,5 @@
 -- A resolve to roll back, from its decision on: the state is a safe one, and wherever it is stopped the steps that were made are kept.
+use Rattle.laws_checkpoints.specs.CheckpointedStores.{CheckpointedStore}
 use Rattle.std.proofs.Common.{◌≡◌, inl, inr, ⊎_elim, ◌∷◌, ◌<◌, ◌≤◌, ℕ, List, Bool, true, false, cond, Result, Ok, Err, IsErrAnd, refl, sym, ap, subst, ◌∙◌, arith}
 use Rattle.std.specs.Prelude.{◌==◌}
 use Rattle.shore_types.specs.declared.faults.Fault.{Fault}
@@ -24,7 +25,6 @@ use Rattle.shore_pool.specs.Pools.{HasInPlace, PoolHolds}
 use Rattle.shore_heap.specs.declared.heap.Heap.{Heap}
 use Rattle.shore_heap.specs.Heaps.{pool_of}
 use Rattle.laws_lives.proofs.Lists.{within_or_beyond}
-use Rattle.laws_lives.specs.Recovery.{RecoveryState}
 use Rattle.laws_lives.specs.Sessions.{ResolvedTxn, SessionTxn}
 use Rattle.laws_lives.specs.Views.{IsAmong}
 use Rattle.laws_calls.proofs.EndedResolves.{session_free}
@@ -104,7 +104,7 @@ module _ (g : Geometry) (s : State) (safe : IsSafe g s) (session : ℕ) (global 
   -- ---- over cores
 
   -- what comes behind the decision, and what that is from the beginning of the call
-  module _ {T V : Type 0} {G : tail.Ghosts T} {H : disk.Ghosts V} (old new : Core T V G H) (front : List ℕ) (before : List LogRecord) (store inner : RecoveryState) (geometry : geometry_of old ≡ g) where
+  module _ {T V : Type 0} {G : tail.Ghosts T} {H : disk.Ghosts V} (old new : Core T V G H) (front : List ℕ) (before : List LogRecord) (store inner : CheckpointedStore) (geometry : geometry_of old ≡ g) where
     -- it was stopped
     pub stopped_replied : ((later : State) (f : Fault) → StaysRefused new front before later inner f → StaysRefused new front before later store f) → (r : Result Step Fault) (f : Fault) → IsErrAnd r (λ e. e ≡ f)
         → Unwinds new b Whole 0 (Err f) front before d inner → Replied session call_is r old new front before s store

@@ -64,17 +64,17 @@ module _ (control : Control) (waiting : List LogRecord) (durable : ℕ) (failed 
   pub next_is : 1 + length s.log ≡ first + length waiting
   next_is = omega (arith, number, log_length)
 
-  reserved_is : owed_by_all s.sessions.active + ENDING_COST * length s.sessions.prepared ≡ (room_in (txns_in control)).reserved
+  pub reserved_is : owed_by_all s.sessions.active + ENDING_COST * length s.sessions.prepared ≡ (room_in (txns_in control)).reserved
   reserved_is =
       ap (λ undos. owed_by_all undos + ENDING_COST * length s.sessions.prepared) was.stands.txns.active
       ∙ ap (λ n. owed_by_all (undos_in (txns_in control)) + ENDING_COST * n) (sym (length_permutation s.sessions.prepared (prepared_in (txns_in control)) was.stands.txns.prepared))
       ∙ sym (txns_in control).sum
 
   pub has_room : Admitted → HasRoomFor s need
-  has_room h = (omega (arith, h.0, next_is), omega (arith, h.1, was.stands.txns.kept, was.stands.txns.stream, reserved_is))
+  has_room h = (omega (arith, h.0, next_is), omega (arith, h.1, was.stands.txns.room, reserved_is))
 
   pub has_no_room : (Admitted → ⊥) → ¬ HasRoomFor s need
-  has_no_room h room = h (omega (arith, room.0, next_is), omega (arith, room.1, was.stands.txns.kept, was.stands.txns.stream, reserved_is))
+  has_no_room h room = h (omega (arith, room.0, next_is), omega (arith, room.1, was.stands.txns.room, reserved_is))
 
 -- ---- what the search for a session's transaction told
 

@@ -1,4 +1,5 @@
 -- What holds of a core that is in a state, and what a call that reads leaves of it.
+use Rattle.laws_checkpoints.specs.CheckpointedStores.{CheckpointedStore}
 use Rattle.std.proofs.Common.{◌≡◌, ◌⊎◌, ◌≤◌, ◌<◌, ◌∙◌, inl, inr, ℕ, List, Bool, Option, None, Some, IsSomeAnd, Result, Ok, Err, IfErr, IsErrAnd, true, false, nat_lt, refl, sym, ap, subst, arith}
 use Rattle.std.specs.FinMap.{get}
 use Rattle.std.specs.List.{slice_get}
@@ -36,7 +37,7 @@ use Rattle.laws_lives.specs.Pages.{LoggedPages}
 use Rattle.shore_heap.proofs.Going.{ok_same}
 use Rattle.shore_core.specs.declared.core_calls.Core.{Core}
 use Rattle.shore_core.specs.Cores.{CoreComesTo, FailsOver, IsBeside, IsIn, IsKept, IsKeptBehind, IsOver, control_of, durable_of, geometry_of, has_failed, heap_of, tail_of, waiting_of}
-use Rattle.laws_lives.specs.Recovery.{CrashMayLeave, RecoveryState}
+use Rattle.laws_lives.specs.Recovery.{CrashMayLeave}
 use Rattle.shore_model.specs.declared.step.Step.{Step}
 use Rattle.shore_model.specs.declared.step.Step.TheVariants.{Refused}
 use Rattle.shore_model.specs.declared.calls.Call.{Call}
@@ -69,8 +70,7 @@ txns_as txns s t sessions stream log was = record {
   entered = subst (λ (x : Sessions). (n : ℕ) → (x.seats n).txn < next_in txns) (sym sessions) was.entered;
   names = was.names;
   next = ap (λ (x : Sessions). x.next_txn) sessions ∙ was.next;
-  stream = stream ∙ was.stream;
-  kept = ap cost_of_log log ∙ was.kept;
+  room = omega (arith, stream, ap cost_of_log log, was.room);
   each = subst (λ l. AllByRecursion (IsLogged l) (table.txns_in txns)) (sym log) was.each;
   above = subst (λ (l : List LogRecord). AllByRecursion (λ r. r.txn < next_in txns) l) (sym log) was.above;
 }
@@ -165,18 +165,18 @@ module _ {T V : Type 0} {G : tail.Ghosts T} {H : disk.Ghosts V} where
   in_failed core new front disk before s was tail control durable failed = record { beside = beside_failed core new before s was tail control durable failed; pages = λ works. absurd (true_false works) }
 
 -- the store of a state that has failed is the same
-pub kept_failed : (s : State) (store : RecoveryState) → IsKept s store → IsKept (with_failure s) store
+pub kept_failed : (s : State) (store : CheckpointedStore) → IsKept s store → IsKept (with_failure s) store
 kept_failed s store kept = record { stored = record { log = kept.stored.log; durable = kept.stored.durable }; redone = kept.redone; recoverable = kept.recoverable }
 
 -- .. and so is what works have made of it
-pub behind_failed : (s : State) (store : RecoveryState) → IsKeptBehind s store → IsKeptBehind (with_failure s) store
+pub behind_failed : (s : State) (store : CheckpointedStore) → IsKeptBehind s store → IsKeptBehind (with_failure s) store
 behind_failed s store behind = record { works = behind.works; after = behind.after; work = behind.work; kept = kept_failed s behind.after behind.kept }
 
-pub over_failed : {T V : Type 0} {G : tail.Ghosts T} {H : disk.Ghosts V} (core : Core T V G H) (disk : ℕ → List ℕ) (s : State) (store : RecoveryState) → IsKept s store → IsOver disk core (with_failure s) store
+pub over_failed : {T V : Type 0} {G : tail.Ghosts T} {H : disk.Ghosts V} (core : Core T V G H) (disk : ℕ → List ℕ) (s : State) (store : CheckpointedStore) → IsKept s store → IsOver disk core (with_failure s) store
 over_failed core disk s store kept = record { kept = kept_failed s store kept; pages = λ works. absurd (true_false works) }
 
 -- a device that failed, or a page that was damaged, is noted
-pub comes_noted : {T V : Type 0} {G : tail.Ghosts T} {H : disk.Ghosts V} (old new : Core T V G H) (front : List ℕ) (before : List LogRecord) (s : State) (store : RecoveryState) (f : Fault)
+pub comes_noted : {T V : Type 0} {G : tail.Ghosts T} {H : disk.Ghosts V} (old new : Core T V G H) (front : List ℕ) (before : List LogRecord) (s : State) (store : CheckpointedStore) (f : Fault)
     → tail_of new ≡ tail_of old → control_of new ≡ control_of old → durable_of new ≡ durable_of old → has_failed new ≡ true
     → (f ≡ fault.Device) ⊎ ((d : Device) × (offset : ℕ) × (f ≡ fault.Damaged d offset)) → StaysRefused old front before s store f → CoreComesTo new front before store (after_refusal f s)
 comes_noted old new front before s store f tail control durable noted why stays =
@@ -231,29 +231,29 @@ stays_after s fault.Device device damaged = absurd (device refl)
 stays_after s (fault.Damaged d offset) device damaged = absurd (damaged d offset refl)
 
 -- a refusal takes nothing from the store
-kept_refused : (f : Fault) (s : State) (store : RecoveryState) → IsKept s store → IsKept (after_refusal f s) store
+kept_refused : (f : Fault) (s : State) (store : CheckpointedStore) → IsKept s store → IsKept (after_refusal f s) store
 kept_refused fault.Device s store kept = kept_failed s store kept
 kept_refused (fault.Damaged d offset) s store kept = kept_failed s store kept
 kept_refused _ s store kept = kept
 
-behind_refused : (f : Fault) (s : State) (store : RecoveryState) → IsKeptBehind s store → IsKeptBehind (after_refusal f s) store
+behind_refused : (f : Fault) (s : State) (store : CheckpointedStore) → IsKeptBehind s store → IsKeptBehind (after_refusal f s) store
 behind_refused f s store behind = record { works = behind.works; after = behind.after; work = behind.work; kept = kept_refused f s behind.after behind.kept }
 
 -- A core that ran is refused, be it for a failure or not: a crash leaves of its volume what the store may lose power with.
-pub fails_refused : {T V : Type 0} {G : tail.Ghosts T} {H : disk.Ghosts V} (old new : Core T V G H) (front : List ℕ) (before : List LogRecord) (s : State) (store : RecoveryState) (f : Fault)
+pub fails_refused : {T V : Type 0} {G : tail.Ghosts T} {H : disk.Ghosts V} (old new : Core T V G H) (front : List ℕ) (before : List LogRecord) (s : State) (store : CheckpointedStore) (f : Fault)
     → heap_of new ≡ heap_of old → s.failed ≡ false → StaysRefused old front before s store f → FailsOver new front (after_refusal f s) store
 unfolding behind_refused
 fails_refused {V = V} {H = H} old new front before s store f heap works stays = record { behind = behind_refused f s store so.0; left = subst (λ h. Left h so.0) (sym heap) so.1 }
   where
     Left : Heap V H → IsKeptBehind s store → Type 0
     Left h behind = (image : List ℕ) → may_leave (heaps.history_of h) image
-        → (pages : LoggedPages) × CrashMayLeave behind.after pages × LeavesStore behind.after.log (heaps.geometry_of h) front pages image
+        → (pages : LoggedPages) × CrashMayLeave behind.after.store pages × LeavesStore behind.after.store.log (heaps.geometry_of h) front pages image
 
     by_cause : StaysRefused old front before s store f → (behind : IsKeptBehind s store) × Left (heap_of old) behind
     by_cause (inl device) = (device.2.behind, device.2.left)
     by_cause (inr comes) = (
       record { works = comes.works; after = comes.after; work = comes.work; kept = comes.over.kept },
-      λ image may. (comes.after.volume, (λ p. inl refl), left_settled (heap_of old) front comes.left comes.after image (comes.over.pages works) (comes.is_in.pages works).holds may),
+      λ image may. (comes.after.store.volume, (λ p. inl refl), left_settled (heap_of old) front comes.left comes.after.store image (comes.over.pages works).pages (comes.is_in.pages works).holds may),
     )
 
     so : (behind : IsKeptBehind s store) × Left (heap_of old) behind
@@ -266,7 +266,7 @@ pub plain_refusal : {A : Type 0} (r : Result A Fault) (P : Fault → Type 0) (f 
 plain_refusal (Err e) P f same holds = subst P (sym same) holds
 plain_refusal (Ok x) P f same holds = absurd same
 
-module _ {T V : Type 0} {G : tail.Ghosts T} {H : disk.Ghosts V} (old new : Core T V G H) (front : List ℕ) (before : List LogRecord) (s : State) (store : RecoveryState) where
+module _ {T V : Type 0} {G : tail.Ghosts T} {H : disk.Ghosts V} (old new : Core T V G H) (front : List ℕ) (before : List LogRecord) (s : State) (store : CheckpointedStore) where
   -- a call that is refused before it has changed anything, by a fault that is no failure
   pub replied_as : (session : ℕ) (c : Call) (r : Result Step Fault) (f : Fault) → IsErrAnd r (λ e. e ≡ f) → CallStep (geometry_of old) s session c (Refused f) (after_refusal f s)
       → StaysRefused new front before s store f → Replied session c r old new front before s store

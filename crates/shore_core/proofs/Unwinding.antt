@@ -16,7 +16,7 @@ use Rattle.laws_calls.specs.States.{DoesNotWait, State}
 use Rattle.shore_sessions.specs.Controls.{HasWaitRoom}
 use Rattle.shore_sessions.specs.Standing.{HasControl, IsAt}
 use Rattle.shore_sessions.proofs.Seats.{active_above}
-use Rattle.shore_txn.specs.Transactions.{IsSeatIn, undos_in}
+use Rattle.shore_txn.specs.Transactions.{IsSeatIn, room_in, undos_in}
 use Rattle.shore_txn.specs.Txns.{as_session_txn, entries_of, number_of}
 use Rattle.shore_txn.specs.UndoEntries.{image_of}
 use Rattle.shore_txn.specs.declared.seat.Seat.{Seat}
@@ -63,6 +63,7 @@ module _ {T V : Type 0} {G : tail.Ghosts T} {H : disk.Ghosts V} where
     pub keeps : Keeps old now
     pub leaves : MayLeave old now
     pub faults : faults_of now ≡ faults_of old
+    pub ring : (room_in (txns_of now)).stream_bytes ≡ (room_in (txns_of old)).stream_bytes
 
   -- nothing is changed by none
   keeps_none : (core : Core T V G H) → Keeps core core
@@ -86,6 +87,7 @@ module _ {T V : Type 0} {G : tail.Ghosts T} {H : disk.Ghosts V} where
     keeps = keeps_none core;
     leaves = nothing_leaves core;
     faults = refl;
+    ring = refl;
   }
 
   -- one image that is put back
@@ -114,8 +116,9 @@ module _ {T V : Type 0} {G : tail.Ghosts T} {H : disk.Ghosts V} where
         )
 
     pub rolls_on : StepPuts now new seat rollback (Ok tt) → Rewinds now new → last_of now ≤ last_of new → IsSeatIn seat (txns_of new) → IsNotInDoubt seat (txns_of new) → waits_of new ≡ waits_of now → (HasWaitRoom (control_of now) → HasWaitRoom (control_of new)) → Keeps now new → MayLeave now new → faults_of new ≡ faults_of now
+        → (room_in (txns_of new)).stream_bytes ≡ (room_in (txns_of now)).stream_bytes
         → IsRolling old new seat rollback least (counter + 1)
-    rolls_on puts rewinds longer seated unprepared waits memory keeps leaves faults =
+    rolls_on puts rewinds longer seated unprepared waits memory keeps leaves faults ring =
         let from = rolls.from in
         let so_far = rolls.longer in
         record {
@@ -131,6 +134,7 @@ module _ {T V : Type 0} {G : tail.Ghosts T} {H : disk.Ghosts V} where
           keeps = keeps_then old now new rolls.keeps keeps;
           leaves = leaves_rewound old now rolls.keeps.volume.geometry rolls.keeps.durable new rolls.leaves rolls.rewinds leaves;
           faults = faults ∙ rolls.faults;
+          ring = ring ∙ rolls.ring;
         }
 
     -- it was refused

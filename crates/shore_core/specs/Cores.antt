@@ -1,4 +1,5 @@
 -- What a core has, and the state that it is in.
+use Rattle.laws_checkpoints.specs.CheckpointedStores.{CheckpointedStore}
 use Rattle.std.specs.Prelude.{◌≡◌, ◌+◌, ◌-◌, ℕ, List, Bool, false, length}
 use Rattle.shore_disk.specs.Device.{DeviceHistory, may_leave}
 use Rattle.shore_disk.specs.declared.device.Disk as disk
@@ -16,11 +17,10 @@ use Rattle.shore_locks.specs.Tables.{Table}
 use Rattle.shore_txn.specs.Transactions.{kept_in}
 use Rattle.shore_txn.specs.declared.transactions.Transactions.{Transactions}
 use Rattle.laws_lives.specs.Pages.{LoggedPages}
-use Rattle.laws_lives.specs.Recovery.{CrashMayLeave, IsRecoverable, RecoveryEvent, RecoveryState}
-use Rattle.laws_lives.specs.ManagerSteps.{WorksTo}
+use Rattle.laws_lives.specs.Recovery.{CrashMayLeave, IsRecoverable, RecoveryEvent}
 use Rattle.laws_runs.specs.StoredRuns.{IsStored}
 use Rattle.laws_runs.specs.RoomyStates.{LeavesRoomyLogs}
-use Rattle.laws_heaps.specs.LoggedHeaps.{IsStoreOf, LeavesStore}
+use Rattle.laws_heaps.specs.LoggedHeaps.{LeavesStore}
 use Rattle.shore_model.specs.Records.{AreRecords}
 use Rattle.shore_types.specs.declared.locking.Granule.{Granule}
 use Rattle.shore_model.specs.declared.histories.Entry.{Entry}
@@ -33,19 +33,20 @@ use Rattle.laws_calls.specs.Events.{IsStateAfter}
 use Rattle.laws_calls.specs.States.{State, Waiting, page_slots}
 use Rattle.shore_core.specs.declared.core_calls.Core.{Core}
 use Rattle.shore_core.specs.Parts.{HasParts}
+use Rattle.shore_core.specs.Stores.{IsHeapOf, WorksOn}
 
 -- The store over plain data is the state's: it has the state's log, all of it done on the pages in place, which lack none of its records, and as much of
 -- it is durable.
-pub record IsKept (s : State) (store : RecoveryState) : Type 0 where
-  pub stored : IsStored s store
-  pub redone : store.redone ≡ length store.log
-  pub recoverable : IsRecoverable store
+pub record IsKept (s : State) (store : CheckpointedStore) : Type 0 where
+  pub stored : IsStored s store.store
+  pub redone : store.store.redone ≡ length store.store.log
+  pub recoverable : IsRecoverable store.store
 
 -- .. or what works have made of a store is, of whose pages nothing more is said
-pub record IsKeptBehind (s : State) (store : RecoveryState) : Type 0 where
+pub record IsKeptBehind (s : State) (store : CheckpointedStore) : Type 0 where
   pub works : List RecoveryEvent
-  pub after : RecoveryState
-  pub work : WorksTo store works after
+  pub after : CheckpointedStore
+  pub work : WorksOn store works after
   pub kept : IsKept s after
 
 module _ {T V : Type 0} {G : tail.Ghosts T} {H : disk.Ghosts V} where
@@ -112,25 +113,25 @@ module _ {T V : Type 0} {G : tail.Ghosts T} {H : disk.Ghosts V} where
     pub beside : IsBeside before core s
     pub pages : s.failed ≡ false → Shows (kept_in (txns_of core)) core.heap front disk (page_slots s)
 
-  -- .. and has the heap's pages as long as no device has failed
-  pub record IsOver (disk : ℕ → List ℕ) (core : Core T V G H) (s : State) (store : RecoveryState) : Type 0 where
+  -- .. and has the heap's pages and their recovery numbers as long as no device has failed
+  pub record IsOver (disk : ℕ → List ℕ) (core : Core T V G H) (s : State) (store : CheckpointedStore) : Type 0 where
     pub kept : IsKept s store
-    pub pages : s.failed ≡ false → IsStoreOf core.heap disk store
+    pub pages : s.failed ≡ false → IsHeapOf core.heap disk store
 
   -- From a state and a store to others: pages may have been written back, and a record appended and done on its page.
-  pub record CoreComesTo (new : Core T V G H) (front : List ℕ) (before : List LogRecord) (store : RecoveryState) (later : State) : Type 0 where
+  pub record CoreComesTo (new : Core T V G H) (front : List ℕ) (before : List LogRecord) (store : CheckpointedStore) (later : State) : Type 0 where
     pub left : ℕ → List ℕ
     pub is_in : IsIn front left before new later
     pub works : List RecoveryEvent
-    pub after : RecoveryState
-    pub work : WorksTo store works after
+    pub after : CheckpointedStore
+    pub work : WorksOn store works after
     pub over : IsOver left new later after
 
   -- Its volume has failed: of its pages no more is said than that a crash leaves what the store may lose power with that such works have made.
-  pub record FailsOver (new : Core T V G H) (front : List ℕ) (later : State) (store : RecoveryState) : Type 0 where
+  pub record FailsOver (new : Core T V G H) (front : List ℕ) (later : State) (store : CheckpointedStore) : Type 0 where
     pub behind : IsKeptBehind later store
     pub left : (image : List ℕ) → may_leave (history_of new) image
-        → (pages : LoggedPages) × CrashMayLeave behind.after pages × LeavesStore behind.after.log (geometry_of new) front pages image
+        → (pages : LoggedPages) × CrashMayLeave behind.after.store pages × LeavesStore behind.after.store.log (geometry_of new) front pages image
 
 -- What is kept of the state beside, by the laws over plain data: it is what a manager has come to, its calls that wait are such as may ask for locks, pages
 -- and log have room, also for whatever a crash leaves of the log, and the records lie in the geometry.

@@ -1,4 +1,5 @@
 -- What a step of the flush is answered, and what it leaves.
+use Rattle.laws_checkpoints.specs.CheckpointedStores.{CheckpointedStore}
 use Rattle.std.specs.Prelude.{◌≡◌, ◌⊎◌, ◌<◌, ℕ, List, [], ◌∷◌, IsTrue, false}
 use Rattle.shore_types.specs.declared.faults.Fault.TheVariants as fault
 use Rattle.shore_model.specs.declared.calls.Answer.TheVariants.{Flushed}
@@ -7,7 +8,7 @@ use Rattle.shore_disk.specs.declared.device.Disk as disk
 use Rattle.shore_log.specs.declared.tail.Tail as tail
 use Rattle.shore_flush.specs.Flushes.{Flushes, NoneDue}
 use Rattle.shore_heap.specs.Heaps.{bounds_of, frame_at, pool_of}
-use Rattle.laws_lives.specs.Recovery.{AppendRecord, FlushPage, ForceLog, LosePower, RecoveryEvent, RecoveryState, RedoRecord}
+use Rattle.laws_lives.specs.Recovery.{AppendRecord, FlushPage, ForceLog, LosePower, RecoveryEvent, RedoRecord}
 use Rattle.laws_calls.specs.StateChanges.{with_failure}
 use Rattle.laws_calls.specs.States.{State}
 use Rattle.shore_model.specs.declared.step.Step.{Step}
@@ -38,7 +39,7 @@ AreFlushes (e ∷ works) = IsFlush e × AreFlushes works
 
 module _ {T V : Type 0} {G : tail.Ghosts T} {H : disk.Ghosts V} where
   -- it has come to another state by such a step, and its store to another by flushes of pages alone
-  pub record FlushSteps (step : Step) (new : Core T V G H) (front : List ℕ) (before : List LogRecord) (s : State) (store : RecoveryState) : Type 0 where
+  pub record FlushSteps (step : Step) (new : Core T V G H) (front : List ℕ) (before : List LogRecord) (s : State) (store : CheckpointedStore) : Type 0 where
     pub later : State
     pub moves : FlushMoves s step later
     pub comes : CoreComesTo new front before store later

@@ -1,4 +1,5 @@
 pub mod Parts
+pub mod Stores
 pub mod Cores
 pub mod Callers
 pub mod Replies
@@ -6,3 +7,4 @@ pub mod Flushing
 pub mod Undoing
 pub mod Resolving
 pub mod Resumes
+pub mod Checkpointing

@@ -1,4 +1,5 @@
 -- What a call comes to behind the refusals that stand before every call.
+use Rattle.laws_checkpoints.specs.CheckpointedStores.{CheckpointedStore}
 use Rattle.std.specs.Prelude.{◌≡◌, ◌⊎◌, ℕ, List, Result, Ok, Err, IfErr, IfOk, true, false}
 use Rattle.shore_disk.specs.Cause.{HasCause}
 use Rattle.shore_disk.specs.declared.device.Disk as disk
@@ -9,7 +10,6 @@ use Rattle.shore_heap.specs.Heaps as heaps
 use Rattle.shore_heap.specs.Heaps.{LeavesPages, pool_of}
 use Rattle.shore_disk.specs.Device.{LeavesOnly, size}
 use Rattle.shore_pool.specs.Pools as pools
-use Rattle.laws_lives.specs.Recovery.{RecoveryState}
 use Rattle.shore_types.specs.Layout.{HasPage}
 use Rattle.shore_types.specs.declared.faults.Device.{Device}
 use Rattle.shore_types.specs.declared.faults.Device.TheVariants.{Volume}
@@ -162,36 +162,36 @@ module _ {T V : Type 0} {G : tail.Ghosts T} {H : disk.Ghosts V} where
       → LeavesOnly (history_of old) (history_of new) (LeavesPages (heap_of old) (durable_of old) front disk)
 
   -- it is in the state that it was in; but after a failure of the volume nothing is said of its pages
-  abbrev pub Stays : {A : Type 0} → Core T V G H → Result A Fault → List ℕ → List LogRecord → State → RecoveryState → Type 0
+  abbrev pub Stays : {A : Type 0} → Core T V G H → Result A Fault → List ℕ → List LogRecord → State → CheckpointedStore → Type 0
   Stays new (Ok done) front before s store = CoreComesTo new front before store s
   Stays new (Err f) front before s store = ((f ≡ fault.Device) × IsBeside before new s × FailsOver new front s store) ⊎ CoreComesTo new front before store s
 
   -- In whatever safe state the core was, it has come to another, which is a step of the manager over plain data once a failure is noted.
-  pub record Replied (session : ℕ) (c : Call) (result : Result Step Fault) (old new : Core T V G H) (front : List ℕ) (before : List LogRecord) (s : State) (store : RecoveryState) : Type 0 where
+  pub record Replied (session : ℕ) (c : Call) (result : Result Step Fault) (old new : Core T V G H) (front : List ℕ) (before : List LogRecord) (s : State) (store : CheckpointedStore) : Type 0 where
     pub later : State
     pub replies : CallStep (geometry_of old) s session c (as_step result) (once_noted result later)
     pub comes : Stays new result front before later store
 
   -- .. as a whole: if it waits for a lock, it does so on no cycle
-  pub record Called (session : ℕ) (c : Call) (result : Result Step Fault) (old new : Core T V G H) (front : List ℕ) (before : List LogRecord) (s : State) (store : RecoveryState) : Type 0 where
+  pub record Called (session : ℕ) (c : Call) (result : Result Step Fault) (old new : Core T V G H) (front : List ℕ) (before : List LogRecord) (s : State) (store : CheckpointedStore) : Type 0 where
     pub later : State
     pub calls : SettledCall (geometry_of old) s session c (as_step result) (once_noted result later)
     pub comes : Stays new result front before later store
 
   -- .. a call of a transaction under way, from what refuses it before its locks on
-  pub record AskedFor (a : SessionTxn) (c : Call) (result : Result Step Fault) (old new : Core T V G H) (front : List ℕ) (before : List LogRecord) (s : State) (store : RecoveryState) : Type 0 where
+  pub record AskedFor (a : SessionTxn) (c : Call) (result : Result Step Fault) (old new : Core T V G H) (front : List ℕ) (before : List LogRecord) (s : State) (store : CheckpointedStore) : Type 0 where
     pub later : State
     pub asks : ((f : Fault) × RefusesEarly (geometry_of old) c f × (result ≡ Err f) × (later ≡ s)) ⊎ (MayAsk (geometry_of old) c × GoesSettled (geometry_of old) s a c (as_step result) (once_noted result later))
     pub comes : Stays new result front before later store
 
   -- .. and behind them
-  pub record Served (a : SessionTxn) (c : Call) (result : Result Step Fault) (old new : Core T V G H) (front : List ℕ) (before : List LogRecord) (s : State) (store : RecoveryState) : Type 0 where
+  pub record Served (a : SessionTxn) (c : Call) (result : Result Step Fault) (old new : Core T V G H) (front : List ℕ) (before : List LogRecord) (s : State) (store : CheckpointedStore) : Type 0 where
     pub later : State
     pub serves : IsServedBehind (geometry_of old) s a c result (once_noted result later)
     pub comes : Stays new result front before later store
 
   -- it has come to another state by a step of the manager over plain data
-  pub record Stepped (session : ℕ) (c : Call) (step : Step) (old new : Core T V G H) (front : List ℕ) (before : List LogRecord) (s : State) (store : RecoveryState) : Type 0 where
+  pub record Stepped (session : ℕ) (c : Call) (step : Step) (old new : Core T V G H) (front : List ℕ) (before : List LogRecord) (s : State) (store : CheckpointedStore) : Type 0 where
     pub later : State
     pub moves : SettledCall (geometry_of old) s session c step later
     pub comes : CoreComesTo new front before store later
@@ -199,7 +199,7 @@ module _ {T V : Type 0} {G : tail.Ghosts T} {H : disk.Ghosts V} where
     pub fails : has_failed old ≡ false → later.failed ≡ true → FailsOver new front later store
 
   -- so has a resume
-  pub record Resumed (session : ℕ) (step : Step) (old new : Core T V G H) (front : List ℕ) (before : List LogRecord) (s : State) (store : RecoveryState) : Type 0 where
+  pub record Resumed (session : ℕ) (step : Step) (old new : Core T V G H) (front : List ℕ) (before : List LogRecord) (s : State) (store : CheckpointedStore) : Type 0 where
     pub later : State
     pub moves : SettledResume (geometry_of old) s session step later
     pub comes : CoreComesTo new front before store later
@@ -267,13 +267,13 @@ module _ {T V : Type 0} {G : tail.Ghosts T} {H : disk.Ghosts V} where
     pub faults : faults_of new ≡ faults_of old
 
   -- in each safe state, over each store that is its
-  abbrev pub InEach : ((front : List ℕ) (disk : ℕ → List ℕ) (before : List LogRecord) (s : State) (store : RecoveryState) → Type 0) → Core T V G H → Type 0
-  InEach P old = (front : List ℕ) (disk : ℕ → List ℕ) (before : List LogRecord) (s : State) (store : RecoveryState)
+  abbrev pub InEach : ((front : List ℕ) (disk : ℕ → List ℕ) (before : List LogRecord) (s : State) (store : CheckpointedStore) → Type 0) → Core T V G H → Type 0
+  InEach P old = (front : List ℕ) (disk : ℕ → List ℕ) (before : List LogRecord) (s : State) (store : CheckpointedStore)
       → IsIn front disk before old s → IsSafe (geometry_of old) s → IsOver disk old s store → P front disk before s store
 
 -- What a change of the session's transaction comes to, of an image that fits where it goes: it is logged and made; or there is no room in the
 -- log, or an allocation failed, and the state is as it was.
 abbrev pub Changes : {T V : Type 0} {G : tail.Ghosts T} {H : disk.Ghosts V} → Core T V G H → SessionTxn → Rid → Image → Result (Unit {0}) Fault
-    → List ℕ → List LogRecord → State → RecoveryState → Type 0
+    → List ℕ → List LogRecord → State → CheckpointedStore → Type 0
 Changes new a id image (Ok done) front before s store = (counts : SlotCounts) × MayChange s id image counts × CoreComesTo new front before store (changed s a id image counts)
 Changes new a id image (Err f) front before s store = ((f ≡ Memory) ⊎ ((f ≡ LogFull) × ¬ CanLog s id image)) × CoreComesTo new front before store s

@@ -1,4 +1,5 @@
 -- Rollbacks, change by change: what is put back next, and what putting back comes to.
+use Rattle.laws_checkpoints.specs.CheckpointedStores.{CheckpointedStore}
 use Rattle.std.specs.Prelude.{◌≡◌, ◌≢◌, ◌⊎◌, ◌<◌, ◌≤◌, ◌^◌, ◌++◌, ◌∷◌, [], ℕ, List, Result, Ok, Err, length}
 use Rattle.shore_disk.specs.declared.device.Disk as disk
 use Rattle.shore_log.specs.declared.tail.Tail as tail
@@ -8,7 +9,6 @@ use Rattle.shore_types.specs.declared.faults.Fault.{Fault}
 use Rattle.shore_types.specs.declared.ids.Rid.{Rid}
 use Rattle.shore_model.specs.declared.log_records.LogRecord.{LogRecord}
 use Rattle.shore_model.specs.declared.log_records.Payload.TheVariants.{Compensation}
-use Rattle.laws_lives.specs.Recovery.{RecoveryState}
 use Rattle.laws_room.specs.LogRooms.{compensation_cost}
 use Rattle.laws_lives.specs.Sessions.{SessionTxn}
 use Rattle.laws_lives.specs.Views.{IsAmong}
@@ -74,17 +74,17 @@ module _ {T V : Type 0} {G : tail.Ghosts T} {H : disk.Ghosts V} where
   Rewinds old new = (front : List ℕ) (disk : ℕ → List ℕ) → PoolHolds (pool_of (heap_of old)) front disk → IsRewound old new front disk
 
   -- one image was put back, or an allocation failed, or its page was not read
-  abbrev pub PutsBack : Core T V G H → SessionTxn → List (Rid × Image) → Rid × Image → Rollback → Result (Unit {0}) Fault → List ℕ → List LogRecord → State → RecoveryState → Type 0
+  abbrev pub PutsBack : Core T V G H → SessionTxn → List (Rid × Image) → Rid × Image → Rollback → Result (Unit {0}) Fault → List ℕ → List LogRecord → State → CheckpointedStore → Type 0
   PutsBack new a kept e rollback (Ok done) front before s store = HasPage (geometry_of new) e.0.page × CoreComesTo new front before store (put_back s a kept (e ∷ []) rollback)
   PutsBack new a kept e rollback (Err f) front before s store = Interrupts s f × Stays {A = Unit {0}} new (Err f) front before s store
 
   -- as many were put back as are more than these, or it was interrupted on the way
-  abbrev pub Unwinds : Core T V G H → SessionTxn → Rollback → ℕ → Result (Unit {0}) Fault → List ℕ → List LogRecord → State → RecoveryState → Type 0
+  abbrev pub Unwinds : Core T V G H → SessionTxn → Rollback → ℕ → Result (Unit {0}) Fault → List ℕ → List LogRecord → State → CheckpointedStore → Type 0
   Unwinds new a rollback least (Ok done) front before s store = (mid : State) × IsDownTo s a rollback least mid × CoreComesTo new front before store mid
   Unwinds new a rollback least (Err f) front before s store =
       (mid : State) × (left : ℕ) × IsDownTo s a rollback left mid × (least ≤ left) × Interrupts mid f × Stays {A = Unit {0}} new (Err f) front before mid store
 
   -- the abort of a transaction with no image left has ended, or its End was not logged for want of memory
-  abbrev pub Ends : Core T V G H → SessionTxn → Result (Unit {0}) Fault → List ℕ → List LogRecord → State → RecoveryState → Type 0
+  abbrev pub Ends : Core T V G H → SessionTxn → Result (Unit {0}) Fault → List ℕ → List LogRecord → State → CheckpointedStore → Type 0
   Ends new a (Ok done) front before s store = CoreComesTo new front before store (aborted s a)
   Ends new a (Err f) front before s store = (f ≡ Memory) × CoreComesTo new front before store s

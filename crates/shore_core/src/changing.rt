@@ -8,7 +8,7 @@ ghost use Rattle.shore_page.specs.Room.{Fits};
 ghost use Rattle.shore_page.specs.Slots.{image_at_slot};
 ghost use Rattle.shore_types.specs.Images.{image_len};
 ghost use Rattle.shore_heap.specs.Heaps.{frame_of};
-ghost use Rattle.shore_txn.specs.Transactions.{IsSeatIn};
+ghost use Rattle.shore_txn.specs.Transactions.{IsSeatIn, room_in};
 
 use crate::core_calls::Core;
 use shore_disk::Disk;
@@ -38,6 +38,7 @@ impl<T: Tail, V: Disk> Core<T, V> {
         requires own { IsOfCaller seat.now (txns_of self.old) }
         ensures served { has_failed self.old ≡ false → InEach (λ front disk before s store. ForWriter seat.now.session (locks_of self.old).requests id s (λ a. Served a (Call.Update id bytes) result self.old self.new front before s store)) self.old }
         ensures serves { ServesCall (λ page. page ≡ id.page) self.old result self.old self.new }
+        ensures ring { (room_in (txns_of self.new)).stream_bytes ≡ (room_in (txns_of self.old)).stream_bytes }
     {
         let before = Some(self.find(alloc, id)?);
         if !self.heap.fits(id, bytes.as_slice().len()) {
@@ -53,6 +54,7 @@ impl<T: Tail, V: Disk> Core<T, V> {
         requires own { IsOfCaller seat.now (txns_of self.old) }
         ensures served { has_failed self.old ≡ false → InEach (λ front disk before s store. ForWriter seat.now.session (locks_of self.old).requests id s (λ a. Served a (Call.Delete id) result self.old self.new front before s store)) self.old }
         ensures serves { ServesCall (λ page. page ≡ id.page) self.old result self.old self.new }
+        ensures ring { (room_in (txns_of self.new)).stream_bytes ≡ (room_in (txns_of self.old)).stream_bytes }
     {
         let before = Some(self.find(alloc, id)?);
         self.change(alloc, seat, id, before, None)?;
@@ -78,6 +80,7 @@ impl<T: Tail, V: Disk> Core<T, V> {
         ensures changed { has_failed self.old ≡ false → InEach (λ front disk before s store. ForWriter seat.now.session (locks_of self.old).requests id s (λ a. Changes self.new a id after result front before s store)) self.old }
         ensures no_call { MakesNoCall self.old self.new }
         ensures refused { IfErr result (λ f. (f ≡ Fault.Memory) ⊎ (f ≡ Fault.LogFull)) }
+        ensures ring { (room_in (txns_of self.new)).stream_bytes ≡ (room_in (txns_of self.old)).stream_bytes }
     {
         let own = self.control.txn(seat);
         let (txn, previous) = (own.id(), own.last());
@@ -96,13 +99,13 @@ impl<T: Tail, V: Disk> Core<T, V> {
         let image = copy_of(alloc, &after)?;
         self.control.reserve_entry(alloc, seat)?;
         let payload = Payload::Change { id, before, after };
-        let lsn = match self.tail.push(LogRecord {
+        let lsn = match self.tail.push(&LogRecord {
             txn,
             previous,
             payload,
         }) {
             Ok(lsn) => lsn,
-            Err((fault, _)) => return Err(fault),
+            Err(fault) => return Err(fault),
         };
         entry.lsn = lsn;
         self.heap.change(id, lsn, bytes_of(&image));

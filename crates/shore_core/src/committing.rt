@@ -3,7 +3,7 @@ ghost use Rattle.std.specs.Prelude.{◌≡◌, Ok, false};
 ghost use Rattle.shore_model.specs.declared.calls.Call.TheVariants as Call;
 ghost use Rattle.laws_calls.specs.States.{DoesNotWait};
 ghost use Rattle.shore_sessions.specs.Controls.{HasNoWait};
-ghost use Rattle.shore_txn.specs.Transactions.{IsSeatIn};
+ghost use Rattle.shore_txn.specs.Transactions.{IsSeatIn, room_in};
 
 use crate::core_calls::Core;
 use shore_disk::Disk;
@@ -27,6 +27,7 @@ impl<T: Tail, V: Disk> Core<T, V> {
         ensures replied { has_failed self.old ≡ false → InEach (λ front disk before s store. DoesNotWait s seat.now.session → Replied seat.now.session Call.Commit result self.old self.new front before s store) self.old }
         ensures serves { ServesCall (Reads Call.Commit) self.old result self.old self.new }
         ensures faults { faults_of self.new ≡ faults_of self.old }
+        ensures ring { (room_in (txns_of self.new)).stream_bytes ≡ (room_in (txns_of self.old)).stream_bytes }
     {
         let txn = self.active(seat)?;
         let record = LogRecord {
@@ -34,9 +35,9 @@ impl<T: Tail, V: Disk> Core<T, V> {
             previous: txn.last(),
             payload: Payload::Commit,
         };
-        let number = match self.tail.push(record) {
+        let number = match self.tail.push(&record) {
             Ok(number) => number,
-            Err((fault, _)) => return Err(fault),
+            Err(fault) => return Err(fault),
         };
         let changes = self.control.commit(seat);
         for change in &changes {

@@ -1,11 +1,11 @@
 //! The calls of the sessions, and what the log device tells.
+ghost use Rattle.laws_checkpoints.specs.CheckpointedStores.{CheckpointedStore};
 ghost use Rattle.std.specs.Prelude.{◌≡◌, ◌⊎◌, ◌↔◌, ◌+◌, ◌≤◌, ◌<◌, ℕ, Bool, List, IsTrue, Ok, Err, false, length, true};
 ghost use Rattle.shore_types.specs.declared.faults.Fault.TheVariants as Fault;
 ghost use Rattle.shore_types.specs.declared.layout.TheConstants.{GREATEST_CHECKPOINT, LAST_LSN, LAST_OPENED, LONGEST_FRAME};
 ghost use Rattle.shore_model.specs.declared.calls.Answer.TheVariants as Answer;
 ghost use Rattle.shore_model.specs.declared.calls.Call.TheVariants as Call;
 ghost use Rattle.shore_model.specs.declared.log_records.LogRecord.{LogRecord};
-ghost use Rattle.laws_lives.specs.Recovery.{RecoveryState, after_force};
 ghost use Rattle.shore_model.specs.declared.step.Step.TheVariants as Step;
 ghost use Rattle.laws_calls.specs.StateChanges.{after_refusal, with_durable, with_failure};
 ghost use Rattle.shore_model.specs.Calls.{IsServed};
@@ -52,6 +52,7 @@ impl<T: Tail, V: Disk> Core<T, V> {
     ghost use Rattle.shore_core.specs.Callers.{IsOfCaller};
     ghost use Rattle.shore_core.specs.Cores.{CoreComesTo, IsIn, IsOver, control_of, durable_of, first_of, geometry_of, has_failed, heap_of, tail_of, txns_of, waiting_of};
     ghost use Rattle.shore_core.specs.Cores as cores;
+    ghost use Rattle.shore_core.specs.Stores.{force_to};
     ghost use Rattle.shore_core.specs.Replies.{Called, Fails, InEach, Reads, Replied, Serves, ServesCall, Stays, Stepped, fault_at, forced_at};
 
     /// A call of a session. Refused in this order: `Failed` after a failure of a device or a damaged page, `Busy` while the session's earlier
@@ -78,8 +79,10 @@ impl<T: Tail, V: Disk> Core<T, V> {
         // changed pages before it asks.
         ensures serves { Serves (Reads call) (forced_at call self.old self.new) (fault_at result) self.old self.new }
 
-        // After a failure no page is touched.
+        // After a failure no page is touched, and it stays one.
         ensures still { IsTrue (has_failed self.old) → heap_of self.new ≡ heap_of self.old }
+        ensures stays_failed { IsTrue (has_failed self.old) → IsTrue (has_failed self.new) }
+        ensures ring { (room_in (txns_of self.new)).stream_bytes ≡ (room_in (txns_of self.old)).stream_bytes }
     {
         if self.failed {
             return Step::Refused(Fault::Failed);
@@ -96,11 +99,12 @@ impl<T: Tail, V: Disk> Core<T, V> {
     // A refusal of a call, once a failure is noted.
     pub(crate) fn refuse(&mut self, fault: Fault) -> Step
         ensures refused { result ≡ Step.Refused fault }
-        ensures left { (front : List ℕ) (before : List LogRecord) (s : State) (store : RecoveryState)
+        ensures left { (front : List ℕ) (before : List LogRecord) (s : State) (store : CheckpointedStore)
             → Stays {A = Unit {0}} self.old (Err fault) front before s store → CoreComesTo self.new front before store (after_refusal fault s) }
         ensures heap { heap_of self.new ≡ heap_of self.old }
         ensures durable { durable_of self.new ≡ durable_of self.old }
         ensures tail { tail_of self.new ≡ tail_of self.old }
+        ensures ring { (room_in (txns_of self.new)).stream_bytes ≡ (room_in (txns_of self.old)).stream_bytes }
     {
         self.note_failure(&fault);
         Step::Refused(fault)
@@ -108,13 +112,14 @@ impl<T: Tail, V: Disk> Core<T, V> {
 
     /// After a failure of a device, or a damaged page, every call is refused.
     pub(crate) fn note_failure(&mut self, fault: &Fault)
-        ensures left { (front : List ℕ) (before : List LogRecord) (s : State) (store : RecoveryState)
+        ensures left { (front : List ℕ) (before : List LogRecord) (s : State) (store : CheckpointedStore)
             → Stays {A = Unit {0}} self.old (Err fault.now) front before s store → CoreComesTo self.new front before store (after_refusal fault.now s) }
         ensures fails { IsTrue (has_failed self.new) ↔ (IsTrue (has_failed self.old) ⊎ Fails fault.now) }
         ensures heap { heap_of self.new ≡ heap_of self.old }
         ensures durable { durable_of self.new ≡ durable_of self.old }
         ensures tail { tail_of self.new ≡ tail_of self.old }
         ensures control { control_of self.new ≡ control_of self.old }
+        ensures ring { (room_in (txns_of self.new)).stream_bytes ≡ (room_in (txns_of self.old)).stream_bytes }
     {
         if matches!(fault, Fault::Device | Fault::Damaged { .. }) {
             self.failed = true;
@@ -125,6 +130,7 @@ impl<T: Tail, V: Disk> Core<T, V> {
         requires free { HasNoWait session (control_of self.old) }
         ensures replied { has_failed self.old ≡ false → InEach (λ front disk before s store. DoesNotWait s session → Called session call result self.old self.new front before s store) self.old }
         ensures serves { ServesCall (Reads call) (forced_at call self.old self.new) result self.old self.new }
+        ensures ring { (room_in (txns_of self.new)).stream_bytes ≡ (room_in (txns_of self.old)).stream_bytes }
     {
         match call {
             Call::Resolve(global, outcome) => self.resolve(alloc, session, global, outcome),
@@ -140,6 +146,7 @@ impl<T: Tail, V: Disk> Core<T, V> {
         requires free { HasNoWait session (control_of self.old) }
         ensures replied { has_failed self.old ≡ false → InEach (λ front disk before s store. DoesNotWait s session → Called session call result self.old self.new front before s store) self.old }
         ensures serves { ServesCall (Reads call) (forced_at call self.old self.new) result self.old self.new }
+        ensures ring { (room_in (txns_of self.new)).stream_bytes ≡ (room_in (txns_of self.old)).stream_bytes }
     {
         match self.control.seat(session) {
             Some(seat) => self.in_txn(alloc, &seat, call),
@@ -155,6 +162,7 @@ impl<T: Tail, V: Disk> Core<T, V> {
         requires own { IsOfCaller seat.now (txns_of self.old) }
         ensures replied { has_failed self.old ≡ false → InEach (λ front disk before s store. DoesNotWait s seat.now.session → Called seat.now.session call result self.old self.new front before s store) self.old }
         ensures serves { ServesCall (Reads call) (forced_at call self.old self.new) result self.old self.new }
+        ensures ring { (room_in (txns_of self.new)).stream_bytes ≡ (room_in (txns_of self.old)).stream_bytes }
     {
         match call {
             Call::Begin => Err(Fault::AlreadyActive),
@@ -173,6 +181,7 @@ impl<T: Tail, V: Disk> Core<T, V> {
         requires own { (call.now ≡ Call.Begin) ⊎ NeedsTxn call.now }
         ensures replied { has_failed self.old ≡ false → InEach (λ front disk before s store. DoesNotWait s session → Called session call.now result self.old self.new front before s store) self.old }
         ensures serves { ServesCall (Reads call.now) (forced_at call.now self.old self.new) result self.old self.new }
+        ensures ring { (room_in (txns_of self.new)).stream_bytes ≡ (room_in (txns_of self.old)).stream_bytes }
     {
         match call {
             Call::Begin => self.begin(alloc, session),
@@ -193,6 +202,7 @@ impl<T: Tail, V: Disk> Core<T, V> {
         ensures replied { has_failed self.old ≡ false → InEach (λ front disk before s store. DoesNotWait s session → Replied session Call.Begin result self.old self.new front before s store) self.old }
         ensures serves { ServesCall (Reads Call.Begin) self.old result self.old self.new }
         ensures heap { heap_of self.new ≡ heap_of self.old }
+        ensures ring { (room_in (txns_of self.new)).stream_bytes ≡ (room_in (txns_of self.old)).stream_bytes }
     {
         if self.control.count() >= MAX_TRANSACTIONS {
             return Err(Fault::TooManyTransactions);
@@ -209,12 +219,13 @@ impl<T: Tail, V: Disk> Core<T, V> {
         requires no_lower { durable_of self.old ≤ durable }
         requires logged { durable ≤ cores.last_of self.old }
         ensures told { InEach (λ front disk before s store. IsIn front disk before self.new (with_durable durable s)
-            × IsOver disk self.new (with_durable durable s) (after_force store durable)) self.old }
+            × IsOver disk self.new (with_durable durable s) (force_to store durable)) self.old }
         ensures heap { heap_of self.new ≡ heap_of self.old }
         ensures tail { tail_of self.new ≡ tail_of self.old }
         ensures running { has_failed self.new ≡ has_failed self.old }
         ensures durable { durable_of self.new ≡ durable }
         ensures first { first_of self.new ≡ first_of self.old }
+        ensures ring { (room_in (txns_of self.new)).stream_bytes ≡ (room_in (txns_of self.old)).stream_bytes }
     {
         self.durable = durable;
     }
@@ -242,6 +253,7 @@ impl<T: Tail, V: Disk> Core<T, V> {
         ensures tail { tail_of self.new ≡ tail_of self.old }
         ensures durable { durable_of self.new ≡ durable_of self.old }
         ensures first { first_of self.new ≡ first_of self.old }
+        ensures ring { (room_in (txns_of self.new)).stream_bytes ≡ (room_in (txns_of self.old)).stream_bytes }
     {
         self.failed = true;
     }

@@ -5,6 +5,7 @@ ghost use Rattle.shore_types.specs.declared.faults.Fault.TheVariants as Fault;
 ghost use Rattle.shore_model.specs.Records.{scan_of};
 ghost use Rattle.laws_calls.specs.StateChanges.{IsPageFault, after_refusal};
 ghost use Rattle.shore_core.specs.Replies.{Fails};
+ghost use Rattle.shore_txn.specs.Transactions.{room_in};
 
 use crate::core_calls::Core;
 use shore_disk::Disk;
@@ -13,7 +14,7 @@ use shore_types::{Fault, LogEnds, Lsn, Pairs, StoreId};
 use std::alloc::Global;
 
 impl<T: Tail, V: Disk> Core<T, V> {
-    ghost use Rattle.shore_core.specs.Cores.{CoreComesTo, geometry_of, has_failed, heap_of, control_of, tail_of};
+    ghost use Rattle.shore_core.specs.Cores.{CoreComesTo, geometry_of, has_failed, heap_of, control_of, tail_of, txns_of};
     ghost use Rattle.shore_core.specs.Replies.{InEach, OnlyReads, Serves, Stays};
 
     /// The records in place of a store, decided or not, in place order; no transaction is asked for. `Failed` if a device has failed, or a page was
@@ -31,6 +32,7 @@ impl<T: Tail, V: Disk> Core<T, V> {
             ⊎ ((f ≡ Fault.NoStore) × ¬ HasStore (geometry_of self.old) store) ⊎ (f ≡ Fault.Memory) ⊎ IsPageFault s f)) self.old }
         ensures tail { tail_of self.new ≡ tail_of self.old }
         ensures control { control_of self.new ≡ control_of self.old }
+        ensures ring { (room_in (txns_of self.new)).stream_bytes ≡ (room_in (txns_of self.old)).stream_bytes }
     {
         if self.failed {
             return Err(Fault::Failed);
@@ -53,6 +55,7 @@ impl<T: Tail, V: Disk> Core<T, V> {
         ensures stays { InEach (λ front disk before s plain. Stays self.new result front before s plain) self.old }
         ensures serves { Serves (λ page. page.store ≡ store) self.old result self.old self.new }
         ensures reads { OnlyReads self.old self.new }
+        ensures ring { (room_in (txns_of self.new)).stream_bytes ≡ (room_in (txns_of self.old)).stream_bytes }
     {
         let last = Lsn(self.tail.next().0 - 1);
         let ends = LogEnds {

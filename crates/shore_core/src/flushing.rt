@@ -4,6 +4,7 @@ ghost use Rattle.shore_types.specs.declared.faults.Fault.TheVariants as Fault;
 ghost use Rattle.shore_pool.specs.Pools.{PoolHolds};
 ghost use Rattle.shore_heap.specs.Heaps.{WroteBack, pool_of};
 ghost use Rattle.shore_model.specs.declared.step.Step.TheVariants as Step;
+ghost use Rattle.shore_txn.specs.Transactions.{room_in};
 
 use crate::core_calls::Core;
 use shore_disk::Disk;
@@ -13,7 +14,7 @@ use shore_types::Fault;
 use std::alloc::Global;
 
 impl<T: Tail, V: Disk> Core<T, V> {
-    ghost use Rattle.shore_core.specs.Cores.{durable_of, has_failed, heap_of, tail_of, control_of};
+    ghost use Rattle.shore_core.specs.Cores.{durable_of, has_failed, heap_of, tail_of, control_of, txns_of};
     ghost use Rattle.shore_core.specs.Flushing.{FlushAnswers, FlushSteps};
     ghost use Rattle.shore_core.specs.Replies.{InEach, Serves, fault_at};
 
@@ -39,6 +40,7 @@ impl<T: Tail, V: Disk> Core<T, V> {
         ensures fails { IsTrue (has_failed self.new) ↔ (IsTrue (has_failed self.old) ⊎ IsErrAnd (fault_at result) (λ f. f ≡ Fault.Device)) }
         ensures tail { tail_of self.new ≡ tail_of self.old }
         ensures control { control_of self.new ≡ control_of self.old }
+        ensures ring { (room_in (txns_of self.new)).stream_bytes ≡ (room_in (txns_of self.old)).stream_bytes }
     {
         if self.failed {
             return Step::Refused(Fault::Failed);
@@ -58,6 +60,7 @@ impl<T: Tail, V: Disk> Core<T, V> {
         ensures durable { durable_of self.new ≡ durable_of self.old }
         ensures tail { tail_of self.new ≡ tail_of self.old }
         ensures control { control_of self.new ≡ control_of self.old }
+        ensures ring { (room_in (txns_of self.new)).stream_bytes ≡ (room_in (txns_of self.old)).stream_bytes }
     {
         if matches!(fault, Fault::Device) {
             self.failed = true;

@@ -1,45 +1,58 @@
 //! What a core hands over: its records to the log device, and at its end the volume.
-ghost use Rattle.std.specs.Prelude.{◌≡◌, ◌+◌, ◌++◌, [], ℕ, List, IfErr, OnErr, OnOk, length};
+ghost use Rattle.laws_checkpoints.specs.CheckpointedStores.{CheckpointedStore};
+ghost use Rattle.shore_model.specs.declared.log_records.LogRecord.{LogRecord};
+ghost use Rattle.std.specs.Prelude.{◌≡◌, ◌+◌, ◌++◌, [], ℕ, List, IfErr, IfOk, OnErr, OnOk, length};
 ghost use Rattle.shore_types.specs.declared.faults.Fault.TheVariants as Fault;
-ghost use Rattle.shore_log.specs.Settled.{IsSettled, records_of_log, stable};
+ghost use Rattle.shore_log.specs.Settled.{IsSettledFrom, cut_of_log, records_of_log, stable};
 ghost use Rattle.shore_heap.specs.Heaps as heaps;
 ghost use Rattle.laws_calls.specs.States.{State};
-ghost use Rattle.laws_lives.specs.Recovery.{RecoveryState};
+ghost use Rattle.shore_txn.specs.Transactions.{room_in};
 
 use crate::core_calls::Core;
 use shore_disk::Disk;
 use shore_dwrite::PageDev;
-use shore_log::{LogDev, PlainTail};
+use shore_log::{LogDev, PlainTail, Tail};
 use shore_logrec::LogRecord;
-use shore_types::Fault;
+use shore_types::{Fault, Lsn};
+use std::alloc::{AllocError, Global};
 
 impl<V: Disk> Core<PlainTail, V> {
-    ghost use Rattle.shore_core.specs.Cores.{IsIn, IsOver, durable_of, first_of, geometry_of, has_failed, heap_of, waiting_of};
+    ghost use Rattle.shore_core.specs.Cores.{IsIn, IsOver, durable_of, first_of, geometry_of, has_failed, heap_of, txns_of, waiting_of};
 
-    /// The records that wait in the log buffer.
-    pub fn waiting(&self) -> &[LogRecord]
-        ensures { result.now ≡ waiting_of self.now }
+    /// Copies of the records that wait in the log buffer.
+    pub fn waiting(&self, alloc: Global) -> Result<Vec<LogRecord>, AllocError>
+        ensures { IfOk result (λ records. records.items ≡ waiting_of self.now) }
     {
-        self.tail.waiting()
+        self.tail.waiting(alloc)
+    }
+
+    /// The number that the next record will have.
+    pub fn next(&self) -> Lsn
+        ensures { result ≡ first_of self.now + length (waiting_of self.now) }
+    {
+        self.tail.next()
     }
 
     /// Hands the records that wait in the log buffer over to the log device. `Memory` if an allocation failed: they stay.
     pub fn hand_over<D: Disk>(&mut self, log: &mut LogDev<D>) -> Result<(), Fault>
-        requires { first_of self.old ≡ 1 + length (records_of_log log.old) }
-        ensures state { (front : List ℕ) (disk : ℕ → List ℕ) (s : State) → IsIn front disk (records_of_log log.old) self.old s
-            → IsIn front disk (records_of_log log.new) self.new s }
-        ensures over { (disk : ℕ → List ℕ) (s : State) (store : RecoveryState) → IsOver disk self.old s store → IsOver disk self.new s store }
+        requires { first_of self.old ≡ cut_of_log log.old + 1 + length (records_of_log log.old) }
+        ensures state { (front : List ℕ) (disk : ℕ → List ℕ) (cut : List LogRecord) (s : State) → length cut ≡ cut_of_log log.old → IsIn front disk (cut ++ records_of_log log.old) self.old s
+            → IsIn front disk (cut ++ records_of_log log.new) self.new s }
+        ensures over { (disk : ℕ → List ℕ) (s : State) (store : CheckpointedStore) → IsOver disk self.old s store → IsOver disk self.new s store }
         ensures heap { heap_of self.new ≡ heap_of self.old }
         ensures geometry { geometry_of self.new ≡ geometry_of self.old }
         ensures durable { durable_of self.new ≡ durable_of self.old }
         ensures running { has_failed self.new ≡ has_failed self.old }
         ensures list { records_of_log log.new ++ waiting_of self.new ≡ records_of_log log.old ++ waiting_of self.old }
         ensures emptied { OnOk result (waiting_of self.new ≡ []) }
-        ensures numbers { first_of self.new ≡ 1 + length (records_of_log log.new) }
+        ensures numbers { first_of self.new ≡ cut_of_log log.new + 1 + length (records_of_log log.new) }
+        ensures cut { cut_of_log log.new ≡ cut_of_log log.old }
+        ensures anchors { log.new.anchors ≡ log.old.anchors }
+        ensures ring { (room_in (txns_of self.new)).stream_bytes ≡ (room_in (txns_of self.old)).stream_bytes }
         ensures refused { OnErr result ((records_of_log log.new ≡ records_of_log log.old) × (waiting_of self.new ≡ waiting_of self.old)) }
         ensures only_memory { IfErr result (λ fault. fault ≡ Fault.Memory) }
         ensures still { (log.new.device ≡ log.old.device) × (log.new.staged ≡ log.old.staged) × (stable log.new ≡ stable log.old) }
-        ensures settled { (front : List ℕ) → IsSettled log.old front → IsSettled log.new front }
+        ensures settled { (tail place : ℕ) (front : List ℕ) → IsSettledFrom tail place log.old front → IsSettledFrom tail place log.new front }
     {
         log.take_in(&mut self.tail)
     }

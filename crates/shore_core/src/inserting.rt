@@ -15,7 +15,7 @@ ghost use Rattle.shore_path.specs.Intending.{IntendsToWrite};
 ghost use Rattle.shore_path.specs.Walks.{acquired};
 ghost use Rattle.shore_path.specs.declared.answers.OnConflict.TheVariants.{Refuse};
 ghost use Rattle.shore_core.specs.Replies.{acquire_as, can_lock};
-ghost use Rattle.shore_txn.specs.Transactions.{IsSeatIn};
+ghost use Rattle.shore_txn.specs.Transactions.{IsSeatIn, room_in};
 ghost use Rattle.shore_types.specs.declared.layout.TheConstants.{MAX_RECORD_BYTES};
 ghost use Rattle.shore_types.specs.declared.locking.Granule.TheVariants as Granule;
 ghost use Rattle.shore_types.specs.declared.locking.Mode.TheVariants as Mode;
@@ -51,6 +51,7 @@ impl<T: Tail, V: Disk> Core<T, V> {
         requires own { IsOfCaller seat.now (txns_of self.old) }
         ensures served { has_failed self.old ≡ false → InEach (λ front disk before s plain. ForTxn seat.now.session txn s (λ a. Served a (Call.Insert store bytes) result self.old self.new front before s plain)) self.old }
         ensures serves { ServesCall (λ page. page.store ≡ store) self.old result self.old self.new }
+        ensures ring { (room_in (txns_of self.new)).stream_bytes ≡ (room_in (txns_of self.old)).stream_bytes }
     {
         // Mostly the volume and the store are held with the intention to write, and are not looked at again.
         let intends = intends_to_write(self.control.locks(), txn, store);
@@ -74,6 +75,7 @@ impl<T: Tail, V: Disk> Core<T, V> {
         ensures refused { IfErr result (λ f. f ≡ Fault.LockTableFull) }
         ensures stands { (s : State) → HasControl (control_of self.old) s → HasControl (control_of self.new) (with_requests s (acquired Refuse s.locks txn (Granule.Record place) Mode.EX).requests) }
         ensures only { OnlyLocks self.old self.new }
+        ensures ring { (room_in (txns_of self.new)).stream_bytes ≡ (room_in (txns_of self.old)).stream_bytes }
     {
         self.control.acquire_record(txn, &place, intends)?;
         Ok(())
@@ -99,6 +101,7 @@ impl<T: Tail, V: Disk> Core<T, V> {
         ensures serves { Serves (λ page. page.store ≡ store) self.old result self.old self.new }
         ensures stays { InEach (λ front disk before s plain. Stays self.new result front before s plain) self.old }
         ensures reads { OnlyReads self.old self.new }
+        ensures ring { (room_in (txns_of self.new)).stream_bytes ≡ (room_in (txns_of self.old)).stream_bytes }
     {
         let last = Lsn(self.tail.next().0 - 1);
         let places = Lockable {

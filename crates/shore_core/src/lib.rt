@@ -3,6 +3,7 @@
 #![tactic(auto)]
 
 mod changing;
+mod checkpointing;
 mod checks;
 mod committing;
 mod core_calls;
@@ -21,5 +22,7 @@ mod resolving;
 mod resuming;
 mod rolling_back;
 
+pub use checkpointing::CheckpointStep;
 pub use core_calls::Core;
+pub use shore_check::Stage;
 pub use shore_model::{Answer, Call, Step, Wait};

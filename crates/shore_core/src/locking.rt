@@ -6,7 +6,7 @@ ghost use Rattle.laws_locks.specs.CallLocks as held;
 ghost use Rattle.laws_calls.specs.CallSteps.{MayAsk};
 ghost use Rattle.laws_calls.specs.States.{DoesNotWait};
 ghost use Rattle.shore_sessions.specs.Controls.{HasNoWait};
-ghost use Rattle.shore_txn.specs.Transactions.{IsSeatIn};
+ghost use Rattle.shore_txn.specs.Transactions.{IsSeatIn, room_in};
 
 use crate::checks::{asked_by, check, on_conflict};
 use crate::core_calls::Core;
@@ -29,6 +29,7 @@ impl<T: Tail, V: Disk> Core<T, V> {
         requires own { IsOfCaller seat.now (txns_of self.old) }
         ensures replied { IsSome (held.lock_asked_by call) → has_failed self.old ≡ false → InEach (λ front disk before s store. DoesNotWait s seat.now.session → Called seat.now.session call result self.old self.new front before s store) self.old }
         ensures serves { ServesCall (Reads call) self.old result self.old self.new }
+        ensures ring { (room_in (txns_of self.new)).stream_bytes ≡ (room_in (txns_of self.old)).stream_bytes }
     {
         let own = self.active(seat)?;
         let txn = own.id();
@@ -54,6 +55,7 @@ impl<T: Tail, V: Disk> Core<T, V> {
         ensures asked { IsSome (held.lock_asked_by call) → has_failed self.old ≡ false → InEach (λ front disk before s store.
             ForTxn seat.now.session txn s (λ a. a.undo.rolling ≡ None → AskedFor a call result self.old self.new front before s store)) self.old }
         ensures serves { ServesCall (Reads call) self.old result self.old self.new }
+        ensures ring { (room_in (txns_of self.new)).stream_bytes ≡ (room_in (txns_of self.old)).stream_bytes }
     {
         check(self.heap.geometry(), &call)?;
         let Some(asked) = asked_by(&call) else {
@@ -88,6 +90,7 @@ impl<T: Tail, V: Disk> Core<T, V> {
         requires quiet { is_waiting txn (locks_of self.old).requests ≡ false }
         ensures served { has_failed self.old ≡ false → InEach (λ front disk before s store. ForTxn seat.now.session txn s (λ a. Served a call result self.old self.new front before s store)) self.old }
         ensures serves { ServesCall (Reads call) self.old result self.old self.new }
+        ensures ring { (room_in (txns_of self.new)).stream_bytes ≡ (room_in (txns_of self.old)).stream_bytes }
     {
         match call {
             Call::Get(id) | Call::GetForUpdate(id) => self.get(alloc, id),

@@ -1,4 +1,5 @@
 //! Makes a core of what a restart has left.
+ghost use Rattle.laws_checkpoints.specs.CheckpointedStores.{CheckpointedStore};
 ghost use Rattle.std.specs.Prelude.{◌≡◌, ◌+◌, ◌≤◌, [], ℕ, List, false, length};
 ghost use Rattle.shore_types.specs.declared.layout.TheConstants.{LAST_OPENED};
 ghost use Rattle.laws_calls.specs.States.{State, page_slots};
@@ -10,8 +11,7 @@ ghost use Rattle.shore_txn.specs.Transactions.{kept_in, room_in};
 ghost use Rattle.shore_txn.specs.Txns.{last_of};
 ghost use Rattle.shore_txn.specs.declared.txn.Txn.{Txn};
 ghost use Rattle.laws_lives.specs.Views.{IsAmong};
-ghost use Rattle.laws_heaps.specs.LoggedHeaps.{IsStoreOf};
-ghost use Rattle.laws_lives.specs.Recovery.{RecoveryState};
+ghost use Rattle.shore_core.specs.Stores.{IsHeapOf};
 
 use crate::core_calls::Core;
 use shore_disk::Disk;
@@ -46,7 +46,7 @@ impl<V: Disk> Core<PlainTail, V> {
         // It is in each state that table, log and pages stand for.
         ensures state { (front : List ℕ) (disk : ℕ → List ℕ) (s : State) → length s.log ≡ last → s.durable ≡ durable → s.failed ≡ false
             → HasControl control s → Shows (kept_in (txns_in control)) heap front disk (page_slots s) → IsIn front disk s.log result s }
-        ensures over { (disk : ℕ → List ℕ) (s : State) (store : RecoveryState) → IsKept s store → IsStoreOf heap disk store → IsOver disk result s store }
+        ensures over { (disk : ℕ → List ℕ) (s : State) (store : CheckpointedStore) → IsKept s store → IsHeapOf heap disk store → IsOver disk result s store }
     {
         Core {
             heap,

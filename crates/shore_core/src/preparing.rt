@@ -5,7 +5,7 @@ ghost use Rattle.shore_model.specs.declared.calls.Call.TheVariants as Call;
 ghost use Rattle.laws_calls.specs.Prepares.{IsGlobalId};
 ghost use Rattle.laws_calls.specs.States.{DoesNotWait};
 ghost use Rattle.shore_sessions.specs.Controls.{HasNoWait};
-ghost use Rattle.shore_txn.specs.Transactions.{IsSeatIn};
+ghost use Rattle.shore_txn.specs.Transactions.{IsSeatIn, room_in};
 
 use crate::core_calls::Core;
 use shore_disk::Disk;
@@ -36,6 +36,7 @@ impl<T: Tail, V: Disk> Core<T, V> {
         ensures replied { has_failed self.old ≡ false → InEach (λ front disk before s store. DoesNotWait s seat.now.session → Replied seat.now.session (Call.Prepare global) result self.old self.new front before s store) self.old }
         ensures serves { ServesCall (Reads (Call.Prepare global)) self.old result self.old self.new }
         ensures heap { heap_of self.new ≡ heap_of self.old }
+        ensures ring { (room_in (txns_of self.new)).stream_bytes ≡ (room_in (txns_of self.old)).stream_bytes }
     {
         let own = self.active(seat)?;
         let (txn, previous) = (own.id(), own.last());
@@ -54,13 +55,13 @@ impl<T: Tail, V: Disk> Core<T, V> {
         let asked = global.try_clone(alloc)?;
         self.control.reserve_wait()?;
         let payload = Payload::Prepare { global, granules };
-        let number = match self.tail.push(LogRecord {
+        let number = match self.tail.push(&LogRecord {
             txn,
             previous,
             payload,
         }) {
             Ok(number) => number,
-            Err((fault, _)) => return Err(fault),
+            Err(fault) => return Err(fault),
         };
         self.control.prepare(seat, kept, asked, number, cost);
         Ok(Step::Waits(Wait::Durable(number)))

@@ -11,6 +11,7 @@ ghost use Rattle.laws_lives.specs.Sessions.{SessionTxn};
 ghost use Rattle.laws_lives.specs.Views.{IsAmong};
 ghost use Rattle.laws_calls.specs.CallSteps.{RefusesRead};
 ghost use Rattle.laws_calls.specs.StateChanges.{IsPageFault};
+ghost use Rattle.shore_txn.specs.Transactions.{room_in};
 
 use crate::core_calls::Core;
 use shore_disk::Disk;
@@ -21,7 +22,7 @@ use shore_types::{Bytes, Fault, LogEnds, Lsn, PageId, Rid, StoreId};
 use std::alloc::Global;
 
 impl<T: Tail, V: Disk> Core<T, V> {
-    ghost use Rattle.shore_core.specs.Cores.{geometry_of, has_failed, heap_of};
+    ghost use Rattle.shore_core.specs.Cores.{geometry_of, has_failed, heap_of, txns_of};
     ghost use Rattle.shore_core.specs.Replies.{InEach, NeedsForceIn, OnlyReads, Served, Serves, ServesCall, Stays};
     ghost use Rattle.shore_core.specs.Undoing.{WritesBack};
 
@@ -30,6 +31,7 @@ impl<T: Tail, V: Disk> Core<T, V> {
         ensures served { has_failed self.old ≡ false → InEach (λ front disk before s store. (a : SessionTxn) → IsAmong a s.sessions.active
             → Served a (Call.Get id) result self.old self.new front before s store × Served a (Call.GetForUpdate id) result self.old self.new front before s store) self.old }
         ensures serves { ServesCall (λ page. page ≡ id.page) self.old result self.old self.new }
+        ensures ring { (room_in (txns_of self.new)).stream_bytes ≡ (room_in (txns_of self.old)).stream_bytes }
     {
         let bytes = self.find(alloc, id)?;
         Ok(Step::Done(Answer::Got(bytes)))
@@ -45,6 +47,7 @@ impl<T: Tail, V: Disk> Core<T, V> {
         ensures serves { Serves (λ page. page ≡ id.page) self.old result self.old self.new }
         ensures stays { InEach (λ front disk before s store. Stays self.new result front before s store) self.old }
         ensures reads { OnlyReads self.old self.new }
+        ensures ring { (room_in (txns_of self.new)).stream_bytes ≡ (room_in (txns_of self.old)).stream_bytes }
     {
         self.fetch(alloc, id.page)?;
         match self.heap.record(id) {
@@ -62,6 +65,7 @@ impl<T: Tail, V: Disk> Core<T, V> {
         ensures forced_now { NeedsForceIn self.old self.new result }
         ensures wrote { OnOk result (WritesBack self.old self.new) }
         ensures reads { OnlyReads self.old self.new }
+        ensures ring { (room_in (txns_of self.new)).stream_bytes ≡ (room_in (txns_of self.old)).stream_bytes }
     {
         let last = Lsn(self.tail.next().0 - 1);
         let ends = LogEnds {
@@ -75,6 +79,7 @@ impl<T: Tail, V: Disk> Core<T, V> {
         requires { HasStore (geometry_of self.old) store }
         ensures served { has_failed self.old ≡ false → InEach (λ front disk before s plain. (a : SessionTxn) → IsAmong a s.sessions.active → Served a (Call.Scan store) result self.old self.new front before s plain) self.old }
         ensures serves { ServesCall (λ page. page.store ≡ store) self.old result self.old self.new }
+        ensures ring { (room_in (txns_of self.new)).stream_bytes ≡ (room_in (txns_of self.old)).stream_bytes }
     {
         let pairs = self.pairs_of(alloc, store)?;
         Ok(Step::Done(Answer::Scanned(pairs)))

@@ -1,4 +1,5 @@
 //! Resolves: the decisions on transactions that are prepared.
+ghost use Rattle.laws_checkpoints.specs.CheckpointedStores.{CheckpointedStore};
 ghost use Rattle.std.specs.Prelude.{◌≡◌, ◌≤◌, ℕ, List, IfErr, Ok, OnOk, false};
 ghost use Rattle.shore_types.specs.declared.faults.Fault.TheVariants as Fault;
 ghost use Rattle.shore_model.specs.Histories as histories;
@@ -7,9 +8,8 @@ ghost use Rattle.shore_model.specs.declared.calls.Outcome.TheVariants as Outcome
 ghost use Rattle.shore_model.specs.declared.log_records.LogRecord.{LogRecord};
 ghost use Rattle.laws_calls.specs.Resolves.{MayResolve};
 ghost use Rattle.laws_calls.specs.States.{DoesNotWait, State};
-ghost use Rattle.laws_lives.specs.Recovery.{RecoveryState};
 ghost use Rattle.shore_sessions.specs.Controls.{HasNoWait, HasWaitRoom};
-ghost use Rattle.shore_txn.specs.Transactions.{IsSeatIn};
+ghost use Rattle.shore_txn.specs.Transactions.{IsSeatIn, room_in};
 
 use crate::core_calls::Core;
 use crate::resuming::awaits_force;
@@ -39,6 +39,7 @@ impl<T: Tail, V: Disk> Core<T, V> {
         requires { HasNoWait session (control_of self.old) }
         ensures replied { has_failed self.old ≡ false → InEach (λ front disk before s store. DoesNotWait s session → Replied session (Call.Resolve global outcome) result self.old self.new front before s store) self.old }
         ensures serves { ServesCall (Reads (Call.Resolve global outcome)) (forced_at (Call.Resolve global outcome) self.old self.new) result self.old self.new }
+        ensures ring { (room_in (txns_of self.new)).stream_bytes ≡ (room_in (txns_of self.old)).stream_bytes }
     {
         if !self.control.may_resolve(session, &global) {
             return Err(Fault::AlreadyActive);
@@ -60,6 +61,7 @@ impl<T: Tail, V: Disk> Core<T, V> {
         ensures replied { has_failed self.old ≡ false → InEach (λ front disk before s store. DoesNotWait s seat.now.session → MayResolve s seat.now.session global → IsToResolve seat.now (txns_of self.old) s global
             → Replied seat.now.session (Call.Resolve global Outcome.Commit) result self.old self.new front before s store) self.old }
         ensures serves { ServesCall (Reads (Call.Resolve global Outcome.Commit)) self.old result self.old self.new }
+        ensures ring { (room_in (txns_of self.new)).stream_bytes ≡ (room_in (txns_of self.old)).stream_bytes }
     {
         let own = self.control.txn(seat);
         if !own.is_in_doubt() {
@@ -71,9 +73,9 @@ impl<T: Tail, V: Disk> Core<T, V> {
             payload: Payload::Commit,
         };
         self.control.reserve_wait()?;
-        let number = match self.tail.push(record) {
+        let number = match self.tail.push(&record) {
             Ok(number) => number,
-            Err((fault, _)) => return Err(fault),
+            Err(fault) => return Err(fault),
         };
         let changes = self.control.resolve(seat, global, number);
         for change in &changes {
@@ -95,6 +97,7 @@ impl<T: Tail, V: Disk> Core<T, V> {
         ensures replied { has_failed self.old ≡ false → InEach (λ front disk before s store. DoesNotWait s seat.now.session → MayResolve s seat.now.session global → IsToResolve seat.now (txns_of self.old) s global
             → Replied seat.now.session (Call.Resolve global Outcome.Abort) result self.old self.new front before s store) self.old }
         ensures serves { ServesCall (Reads (Call.Resolve global Outcome.Abort)) self.new result self.old self.new }
+        ensures ring { (room_in (txns_of self.new)).stream_bytes ≡ (room_in (txns_of self.old)).stream_bytes }
     {
         self.control.reserve_wait()?;
         self.decide_rollback(seat)?;
@@ -118,6 +121,7 @@ impl<T: Tail, V: Disk> Core<T, V> {
         ensures no_call { MakesNoCall self.old self.new }
         ensures heap { heap_of self.new ≡ heap_of self.old }
         ensures refused { IfErr result (λ f. f ≡ Fault.Memory) }
+        ensures ring { (room_in (txns_of self.new)).stream_bytes ≡ (room_in (txns_of self.old)).stream_bytes }
     {
         let own = self.control.txn(seat);
         if !own.is_in_doubt() {
@@ -128,9 +132,9 @@ impl<T: Tail, V: Disk> Core<T, V> {
             previous: own.last(),
             payload: Payload::RollbackDecided,
         };
-        let number = match self.tail.push(record) {
+        let number = match self.tail.push(&record) {
             Ok(number) => number,
-            Err((fault, _)) => return Err(fault),
+            Err(fault) => return Err(fault),
         };
         self.control.note_rollback(seat, number);
         Ok(())
@@ -146,12 +150,13 @@ impl<T: Tail, V: Disk> Core<T, V> {
     ) -> Step
         requires memory { HasWaitRoom (control_of self.old) }
         requires free { HasNoWait session (control_of self.old) }
-        ensures answers { (front : List ℕ) (disk : ℕ → List ℕ) (before : List LogRecord) (s : State) (store : RecoveryState)
+        ensures answers { (front : List ℕ) (disk : ℕ → List ℕ) (before : List LogRecord) (s : State) (store : CheckpointedStore)
             → IsInBut (record { txn = txn; global = global; outcome = Outcome.Abort }) front disk before self.old s → IsOver disk self.old s store → s.sessions.seats session ≡ histories.free
             → AnswersRollback self.new session (record { txn = txn; global = global; outcome = Outcome.Abort }) decided result front before s store }
         ensures plain { fault_at result ≡ Ok tt }
         ensures no_call { MakesNoCall self.old self.new }
         ensures heap { heap_of self.new ≡ heap_of self.old }
+        ensures ring { (room_in (txns_of self.new)).stream_bytes ≡ (room_in (txns_of self.old)).stream_bytes }
     {
         if !awaits_force(decided, self.durable) {
             return Step::Done(Answer::Resolved);

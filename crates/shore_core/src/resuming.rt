@@ -5,6 +5,7 @@ ghost use Rattle.shore_model.specs.declared.step.Wait.TheVariants as Wait;
 ghost use Rattle.laws_calls.specs.States.{Waiting};
 ghost use Rattle.shore_sessions.specs.declared.waits.WaitingCall.{WaitingCall};
 ghost use Rattle.shore_core.specs.Resumes.{IsAwaited};
+ghost use Rattle.shore_txn.specs.Transactions.{room_in};
 
 use crate::core_calls::Core;
 use shore_disk::Disk;
@@ -22,7 +23,7 @@ enum Awaited {
 }
 
 impl<T: Tail, V: Disk> Core<T, V> {
-    ghost use Rattle.shore_core.specs.Cores.{has_failed, heap_of, waits_of};
+    ghost use Rattle.shore_core.specs.Cores.{has_failed, heap_of, txns_of, waits_of};
     ghost use Rattle.shore_core.specs.Resumes.{NoneWaits};
     ghost use Rattle.shore_core.specs.Replies.{ForTxn, InEach, MakesNoCall, ReadsWaiting, Resumed, Serves, fault_at};
 
@@ -34,6 +35,8 @@ impl<T: Tail, V: Disk> Core<T, V> {
         ensures step { InEach (λ front disk before s store. Resumed session result self.old self.new front before s store) self.old }
         ensures serves { Serves (ReadsWaiting self.old session) self.old (fault_at result) self.old self.new }
         ensures still { IsTrue (has_failed self.old) → heap_of self.new ≡ heap_of self.old }
+        ensures stays_failed { IsTrue (has_failed self.old) → IsTrue (has_failed self.new) }
+        ensures ring { (room_in (txns_of self.new)).stream_bytes ≡ (room_in (txns_of self.old)).stream_bytes }
         ensures none { NoneWaits self.old session → (result ≡ Step.Nothing) × (self.new ≡ self.old) }
     {
         let Some(waiting) = self.control.waiting(session) else {
@@ -58,6 +61,7 @@ impl<T: Tail, V: Disk> Core<T, V> {
         ensures plain { fault_at result ≡ Ok tt }
         ensures no_call { MakesNoCall self.old self.new }
         ensures heap { heap_of self.new ≡ heap_of self.old }
+        ensures ring { (room_in (txns_of self.new)).stream_bytes ≡ (room_in (txns_of self.old)).stream_bytes }
     {
         if awaits_force(number, self.durable) {
             return Step::Waits(Wait::Durable(number));
@@ -86,6 +90,7 @@ impl<T: Tail, V: Disk> Core<T, V> {
         ensures step { has_failed self.old ≡ false → InEach (λ front disk before s store. (w : Waiting) → IsAmong w s.waiting → w.session ≡ session → w.wait ≡ Wait.Lock granule
             → ForTxn session txn s (λ a. Resumed session result self.old self.new front before s store)) self.old }
         ensures serves { Serves (ReadsWaiting self.old session) self.old (fault_at result) self.old self.new }
+        ensures ring { (room_in (txns_of self.new)).stream_bytes ≡ (room_in (txns_of self.old)).stream_bytes }
     {
         if self.control.is_waiting(txn) {
             return Step::Waits(Wait::Lock(granule));

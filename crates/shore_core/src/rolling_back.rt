@@ -17,7 +17,7 @@ ghost use Rattle.laws_calls.specs.Resolves.{IsRollingBack};
 ghost use Rattle.shore_sessions.specs.Controls.{HasNoWait, HasWaitRoom};
 ghost use Rattle.shore_sessions.specs.Standing.{HasControl, IsAt};
 ghost use Rattle.laws_lives.specs.Views.{IsAmong};
-ghost use Rattle.shore_txn.specs.Transactions.{AtSeat, IsSeatIn, undos_in};
+ghost use Rattle.shore_txn.specs.Transactions.{AtSeat, IsSeatIn, undos_in, room_in};
 ghost use Rattle.shore_txn.specs.Transactions as table;
 ghost use Rattle.shore_txn.specs.TxnStates.{is_in_doubt};
 ghost use Rattle.shore_txn.specs.Txns.{as_session_txn, number_of, rolling_of, state_of};
@@ -95,6 +95,7 @@ impl<T: Tail, V: Disk> Core<T, V> {
         ensures replied { has_failed self.old ≡ false → InEach (λ front disk before s store. DoesNotWait s seat.now.session → Replied seat.now.session Call.Savepoint result self.old self.new front before s store) self.old }
         ensures serves { ServesCall (Reads Call.Savepoint) self.old result self.old self.new }
         ensures heap { heap_of self.new ≡ heap_of self.old }
+        ensures ring { (room_in (txns_of self.new)).stream_bytes ≡ (room_in (txns_of self.old)).stream_bytes }
     {
         let own = self.active(seat)?;
         if own.savepoints() >= MAX_SAVEPOINTS {
@@ -115,6 +116,7 @@ impl<T: Tail, V: Disk> Core<T, V> {
         requires own { IsOfCaller seat.now (txns_of self.old) }
         ensures replied { has_failed self.old ≡ false → InEach (λ front disk before s store. DoesNotWait s seat.now.session → Replied seat.now.session (Call.BackTo index) result self.old self.new front before s store) self.old }
         ensures serves { ServesCall (Reads (Call.BackTo index)) self.new result self.old self.new }
+        ensures ring { (room_in (txns_of self.new)).stream_bytes ≡ (room_in (txns_of self.old)).stream_bytes }
     {
         self.check_unprepared(seat)?;
         let own = self.control.txn(seat);
@@ -135,6 +137,7 @@ impl<T: Tail, V: Disk> Core<T, V> {
         requires own { IsOfCaller seat.now (txns_of self.old) }
         ensures replied { has_failed self.old ≡ false → InEach (λ front disk before s store. DoesNotWait s seat.now.session → Replied seat.now.session (Call.Abort) result self.old self.new front before s store) self.old }
         ensures serves { ServesCall (Reads Call.Abort) self.new result self.old self.new }
+        ensures ring { (room_in (txns_of self.new)).stream_bytes ≡ (room_in (txns_of self.old)).stream_bytes }
     {
         self.check_unprepared(seat)?;
         self.put_back(alloc, seat, Rollback::Whole, 0)?;
@@ -161,6 +164,7 @@ impl<T: Tail, V: Disk> Core<T, V> {
         ensures memory { HasWaitRoom (control_of self.old) → HasWaitRoom (control_of self.new) }
         ensures serves { Serves (Reads Call.Abort) self.new result self.old self.new }
         ensures failed { has_failed self.new ≡ has_failed self.old }
+        ensures ring { (room_in (txns_of self.new)).stream_bytes ≡ (room_in (txns_of self.old)).stream_bytes }
     {
         let count = self.control.txn(seat).undo().len();
         for _ in least..count {
@@ -189,6 +193,7 @@ impl<T: Tail, V: Disk> Core<T, V> {
         ensures memory { HasWaitRoom (control_of self.old) → HasWaitRoom (control_of self.new) }
         ensures serves { Serves (Reads Call.Abort) self.new result self.old self.new }
         ensures failed { has_failed self.new ≡ has_failed self.old }
+        ensures ring { (room_in (txns_of self.new)).stream_bytes ≡ (room_in (txns_of self.old)).stream_bytes }
     {
         let Some(undo) = self.undo_of(alloc, seat)? else {
             return Ok(());
@@ -209,6 +214,7 @@ impl<T: Tail, V: Disk> Core<T, V> {
         ensures stays { InEach (λ front disk before s store. Stays self.new result front before s store) self.old }
         ensures wrote { OnOk result (WritesBack self.old self.new) }
         ensures reads { OnlyReads self.old self.new }
+        ensures ring { (room_in (txns_of self.new)).stream_bytes ≡ (room_in (txns_of self.old)).stream_bytes }
     {
         if !self.heap.geometry().has_page(id.page) {
             return Err(Fault::NoPage);
@@ -234,11 +240,12 @@ impl<T: Tail, V: Disk> Core<T, V> {
         ensures memory { HasWaitRoom (control_of self.old) → HasWaitRoom (control_of self.new) }
         ensures no_call { MakesNoCall self.old self.new }
         ensures refused { IfErr result (λ f. f ≡ Fault.Memory) }
+        ensures ring { (room_in (txns_of self.new)).stream_bytes ≡ (room_in (txns_of self.old)).stream_bytes }
     {
         let Undo { cost, logged, .. } = undo;
-        let lsn = match self.tail.push(logged) {
+        let lsn = match self.tail.push(&logged) {
             Ok(lsn) => lsn,
-            Err((fault, _)) => return Err(fault),
+            Err(fault) => return Err(fault),
         };
         let undone = self.control.note_compensation(seat, lsn, rollback, cost);
         self.heap.change(undone.id, lsn, bytes_of(&undone.before));
@@ -289,6 +296,7 @@ impl<T: Tail, V: Disk> Core<T, V> {
         ensures refused { IfErr result (λ f. (f ≡ Fault.MustAbort) ⊎ (f ≡ Fault.Memory)) }
         ensures no_call { MakesNoCall self.old self.new }
         ensures heap { heap_of self.new ≡ heap_of self.old }
+        ensures ring { (room_in (txns_of self.new)).stream_bytes ≡ (room_in (txns_of self.old)).stream_bytes }
     {
         let own = self.control.txn(seat);
         if own.newest().is_some() {
@@ -300,7 +308,7 @@ impl<T: Tail, V: Disk> Core<T, V> {
             return Ok(());
         }
         let payload = Payload::End;
-        match self.tail.push(LogRecord {
+        match self.tail.push(&LogRecord {
             txn,
             previous,
             payload,
@@ -309,7 +317,7 @@ impl<T: Tail, V: Disk> Core<T, V> {
                 self.control.end_abort(seat, true);
                 Ok(())
             }
-            Err((fault, _)) => Err(fault),
+            Err(fault) => Err(fault),
         }
     }
 }

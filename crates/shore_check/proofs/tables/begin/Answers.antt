@@ -1,5 +1,7 @@
-use Rattle.std.proofs.Common.{◌∙◌, ◌<◌, ap, refl, subst, sym, arith}
-use Rattle.std.specs.Prelude.{All}
+use Rattle.std.proofs.Common.{◌∙◌, ◌∷◌, [], ◌<◌, ap, refl, subst, sym, arith}
+use Rattle.std.specs.Prelude.{All, IsTrue}
+use Rattle.shore_frames.specs.LoggedRecords.{are_numbered}
+use Rattle.shore_frames.proofs.LoggedLemmas.{test-AreNumbered}
 use Rattle.std.proofs.lemmas.List.Sorted.{All-permutation}
 use Rattle.shore_model.specs.declared.log_records.LogTxn.{LogTxn}
 use Rattle.shore_model.specs.declared.log_records.Payload.TheVariants.{CheckpointEnd}
@@ -26,6 +28,32 @@ overflow_sub-cost-2 c =
     let dirty = c.put_pages_in_order.new.dirty.items in
     let costs = c.checkpoint_cost-cost.ensures.cost 0 0 0 txns dirty (omega (arith, c.len.ensures)) (omega (arith, c.len-2.ensures)) ∙ whole_cost 0 0 0 txns dirty in
     omega (arith, costs)
+
+pub new-requires-clause-fits : goal.new-requires-clause-fits
+new-requires-clause-fits c =
+    let dirty = c.put_pages_in_order.new.dirty.items in
+    let txns = c.put_txns_in_order.new.txns.items in
+    let said = ap (λ ts. of_checkpoint (CheckpointEnd c.args.number c.args.next ts c.from_vec-2.result)) c.from_vec.ensures
+    ∙ ap (λ ds. of_checkpoint (CheckpointEnd c.args.number c.args.next txns ds)) c.from_vec-2.ensures in
+    subst (λ r. IsTrue (are_numbered 1 (r ∷ []))) (sym said) (test-AreNumbered 1 (of_checkpoint (CheckpointEnd c.args.number c.args.next txns dirty) ∷ []) (
+      record {
+        owner = (refl, refl);
+        txn_fits = omega arith;
+        previous_fits = omega arith;
+        payload_fits = record {
+          begin_fits = omega arith;
+          next_fits = omega arith;
+          few_txns = omega (arith, c.put_txns_in_order.ensures.len, c.requires.txns.few);
+          txns_fit = subst (All TxnFits) c.as_slice.ensures.value c.txns_fit.ensures;
+          txns_rise = c.put_txns_in_order.ensures.rise;
+          few_pages = omega (arith, c.put_pages_in_order.ensures.len, c.requires.pages.few);
+          pages_fit = subst (All DirtyFits) c.as_slice-2.ensures.value c.pages_fit.ensures;
+          pages_rise = c.put_pages_in_order.ensures.rise;
+        };
+      },
+      omega arith,
+      tt,
+    ))
 
 pub returns : goal.returns
 returns c =

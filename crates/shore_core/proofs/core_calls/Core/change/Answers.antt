@@ -20,7 +20,7 @@ use Rattle.laws_lives.specs.Sessions.{SessionTxn}
 use Rattle.laws_lives.specs.Views.{IsAmong}
 use Rattle.laws_calls.specs.States.{HasRoomFor, page_slots}
 use Rattle.laws_heaps.specs.LoggedHeaps.{IsMade}
-use Rattle.laws_heaps.proofs.Made.{appended_is}
+use Rattle.shore_core.proofs.Works.{noted_image}
 use Rattle.shore_txn.specs.Transactions.{kept_in, room_in}
 use Rattle.shore_txn.specs.Txns.{as_session_txn}
 use Rattle.shore_txn.proofs.OneOfMany.{once_same}
@@ -112,7 +112,7 @@ invariant_of-self-in-Err-1 g c =
 pub returns-in-Err-clause-changed : goal.returns-in-Err-clause-changed
 returns-in-Err-clause-changed g c running front disk before s store is safe over a of locked =
     let old = c.args.self.now in (
-      inl c.in-Err.ensures.refused.0,
+      inl c.in-Err.ensures.refused,
       comes_same _ front disk before s store (record {
         beside = record {
           first = c.push.ensures.first ∙ is.beside.first;
@@ -183,7 +183,7 @@ returns-clause-changed g c running front disk before s store is safe over a of l
     let held = held_still _ c.change.new.self old.heap id.page c.change.ensures.device c.change.ensures.held c.requires.found in
     let told = claim_told c.change.new.self (txns_of old) (txns_in new) id.page front disk (page_slots later) held (λ p other. c.note_change.ensures.elsewhere p other ∙ c.reserve_entry.ensures.claims p)
     (pages_changed c.change.new.self (kept_in (txns_of old)) front disk s a id image (grown s.counts id) safe.roomy.pages of.0.0 alone slots.1 (grows s.counts id) made) in
-    let number_is : c.in-Ok.lsn ≡ length store.log + 1 = omega (arith, number, ap length over.kept.stored.log) in
+    let number_is : c.in-Ok.lsn ≡ length store.store.log + 1 = omega (arith, number, ap length over.kept.stored.log) in
     let frames = subst (λ n. IsMade old.heap c.change.new.self n id image) number_is (subst (λ (i : Image). IsMade old.heap c.change.new.self c.in-Ok.lsn id i) image_is c.change.ensures.frames) in (
       grown s.counts id,
       record {
@@ -197,8 +197,8 @@ returns-clause-changed g c running front disk before s store is safe over a of l
           parts = subst (λ l. HasParts new l (durable_of old) (has_failed old) before later) (sym (c.in-Ok.ensures.added ∙ ap (λ x. waiting_of old ++ x ∷ []) r_is)) parts;
         };
         pages = λ w. told;
-      }) (λ w. (appended_is old.heap c.change.new.self disk store r id image (over.pages works) over.kept.recoverable over.kept.redone refl c.requires.there.0
-          (some_is _ (frame_of old.heap id.page) c.requires.found) frames (same_geometry c.change.new.self old.heap c.change.ensures.device)).1),
+      }) (λ w. noted_image old.heap c.change.new.self disk store r id image (over.pages works) over.kept.recoverable over.kept.redone refl c.requires.there.0
+          (some_is _ (frame_of old.heap id.page) c.requires.found) frames (same_geometry c.change.new.self old.heap c.change.ensures.device)),
     )
 
 pub returns-clause-no_call : goal.returns-clause-no_call

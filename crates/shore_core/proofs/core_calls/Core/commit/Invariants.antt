@@ -3,6 +3,7 @@ use Rattle.shore_types.specs.declared.ids.PageId.{PageId}
 use Rattle.shore_page.specs.Slots.{Slot}
 use Rattle.shore_pool.specs.Pages.{SamePages}
 use Rattle.shore_heap.specs.Contents.{ClaimsOfPages}
+use Rattle.shore_heap.specs.Dirty.{SameDirt}
 use Rattle.shore_heap.specs.Heaps.{Shows, device_of, frame_at, frame_of}
 use Rattle.shore_core.proofs.Releasing.{ShowsLeft, Take}
 use Rattle.shore_core.proofs.core_calls.Core.commit.Given as goal
@@ -15,3 +16,4 @@ invariant-loop-change g l =
     × ((disk : ℕ → List ℕ) → SamePages (frame_at l.initial.self.heap) disk (frame_at l.self.heap) disk)
     × ((K stay : ClaimsOfPages) (front : List ℕ) (disk : ℕ → List ℕ) (S : PageId → List Slot) → Take stay S → Shows K l.initial.self.heap front disk S
     → ShowsLeft (λ p. is_some (frame_of l.initial.self.heap p)) K stay S l.self.heap front disk (take l.change-index l.change-items))
+    × SameDirt l.initial.self.heap l.self.heap

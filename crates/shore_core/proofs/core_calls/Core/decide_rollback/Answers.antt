@@ -56,7 +56,7 @@ invariant_of-self g c =
 
 pub returns-in-Err-clause-decides : goal.returns-in-Err-clause-decides
 returns-in-Err-clause-decides g c running front disk before s store is safe over global to = (
-  c.in-Err.ensures.refused.0,
+  c.in-Err.ensures.refused,
   comes_lacking c.args.self.now _ front disk before s store refl c.push.ensures.first c.in-Err.ensures.none_added refl refl refl is.beside.parts.stands is over,
 )
 

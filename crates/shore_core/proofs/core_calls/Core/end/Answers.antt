@@ -107,7 +107,7 @@ invariant_of-self-in-Err-1 g c =
 
 pub returns-clause-ended : goal.returns-clause-ended
 returns-clause-ended g c running front disk before s store is safe over a of number_is empty = (
-  c.in-Err.ensures.refused.0,
+  c.in-Err.ensures.refused,
   comes_lacking c.args.self.now _ front disk before s store refl c.push.ensures.first c.in-Err.ensures.none_added refl refl refl is.beside.parts.stands is over,
 )
 
@@ -155,6 +155,6 @@ returns-in-Ok-clause-resolves g c running front disk before s store is safe over
 
 pub returns-clause-resolves : goal.returns-clause-resolves
 returns-clause-resolves g c running front disk before s store is safe over a global at rolls empty = (
-  c.in-Err.ensures.refused.0,
+  c.in-Err.ensures.refused,
   comes_lacking c.args.self.now _ front disk before s store refl c.push.ensures.first c.in-Err.ensures.none_added refl refl refl is.beside.parts.stands is over,
 )

@@ -11,13 +11,13 @@ use Rattle.shore_page.specs.Slots.{with_change, with_image}
 use Rattle.shore_heap.specs.Contents.{with_slots}
 use Rattle.shore_heap.specs.Heaps.{Shows, frame_at, frame_of}
 use Rattle.laws_room.specs.Entries.{claim_before}
-use Rattle.laws_lives.specs.Recovery.{after_append}
 use Rattle.laws_lives.specs.Logged.{next_to_undo}
 use Rattle.laws_lives.specs.Views.{IsAmong}
 use Rattle.laws_calls.specs.Rollbacks.{put_back}
 use Rattle.laws_calls.specs.States.{page_slots}
 use Rattle.laws_heaps.specs.LoggedHeaps.{IsMade}
-use Rattle.laws_heaps.proofs.Made.{appended_is}
+use Rattle.shore_core.specs.Stores.{append_to}
+use Rattle.shore_core.proofs.Works.{noted_image}
 use Rattle.shore_txn.specs.Transactions.{kept_in}
 use Rattle.shore_txn.specs.TxnStates.{is_in_doubt}
 use Rattle.shore_txn.specs.Txns.{state_of}
@@ -63,7 +63,7 @@ invariant_of-self g c =
 
 pub returns-in-Err-clause-put_back : goal.returns-in-Err-clause-put_back
 returns-in-Err-clause-put_back g c running front disk before s store is safe over a kept e of images = (
-  inl c.in-Err.ensures.refused.0,
+  inl c.in-Err.ensures.refused,
   inr (comes_lacking c.args.self.now _ front disk before s store refl c.push.ensures.first c.in-Err.ensures.none_added refl refl refl is.beside.parts.stands is over),
 )
 
@@ -149,8 +149,8 @@ returns-clause-put_back g c running front disk before s store is safe over a kep
     let held = held_still _ c.release_to.new.self old.heap c.args.undo.id.page (c.release_to.ensures.device ∙ c.change.ensures.device) (λ k. c.release_to.ensures.held k ∙ c.change.ensures.held k) c.requires.fits in
     let told = claim_told c.release_to.new.self (txns_of old) (txns_in new) undone.id.page front disk (page_slots later)
     (subst (λ (x : Rid). IsTrue (is_some (frame_of c.release_to.new.self x.page))) (id_is ∙ sym (ap (λ (x : Rid × Image). x.0) same)) held) c.note_compensation-undone.ensures.elsewhere pages in
-    let number_is : c.in-Ok.lsn ≡ length store.log + 1 = omega (arith, number, ap length over.kept.stored.log) in
-    let frames = subst (λ (x : Rid × Image). IsMade old.heap c.change.new.self (length store.log + 1) x.0 x.1) same
+    let number_is : c.in-Ok.lsn ≡ length store.store.log + 1 = omega (arith, number, ap length over.kept.stored.log) in
+    let frames = subst (λ (x : Rid × Image). IsMade old.heap c.change.new.self (length store.store.log + 1) x.0 x.1) same
     (subst (λ n. IsMade old.heap c.change.new.self n undone.id undone.before) number_is (subst (λ (i : Image). IsMade old.heap c.change.new.self c.in-Ok.lsn undone.id i) image_is c.change.ensures.frames)) in
     let held_before = subst (λ (x : Rid). IsTrue (is_some (frame_of old.heap x.page))) id_is (some_is _ (frame_of old.heap c.args.undo.id.page) c.requires.fits) in (
       subst (λ it. HasPage it e.0.page) (sym (same_geometry c.release_to.new.self old.heap (c.release_to.ensures.device ∙ c.change.ensures.device))) there,
@@ -161,8 +161,8 @@ returns-clause-put_back g c running front disk before s store is safe over a kep
         };
         pages = λ w. told;
       })
-          (λ w. pages_same c.change.new.self c.release_to.new.self disk (after_append store r) (c.release_to.ensures.same disk) (same_geometry c.release_to.new.self c.change.new.self c.release_to.ensures.device)
-          (appended_is old.heap c.change.new.self disk store r e.0 e.1 (over.pages works) over.kept.recoverable over.kept.redone refl there held_before frames (same_geometry c.change.new.self old.heap c.change.ensures.device)).1),
+          (λ w. pages_same c.change.new.self c.release_to.new.self disk (append_to store r) (c.release_to.ensures.same disk) c.release_to.ensures.dirt (same_geometry c.release_to.new.self c.change.new.self c.release_to.ensures.device)
+          (noted_image old.heap c.change.new.self disk store r e.0 e.1 (over.pages works) over.kept.recoverable over.kept.redone refl there held_before frames (same_geometry c.change.new.self old.heap c.change.ensures.device))),
     )
 
 pub returns-clause-rewinds : goal.returns-clause-rewinds

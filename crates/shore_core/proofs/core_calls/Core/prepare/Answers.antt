@@ -139,7 +139,7 @@ invariant_of-self-in-Err-1 g c =
 
 pub returns-in-Err-clause-replied : goal.returns-in-Err-clause-replied
 returns-in-Err-clause-replied g c running front disk before s store is safe over idle =
-    replied_as c.args.self.now _ front before s store c.args.seat.now.session (call.Prepare c.args.global) (Err c.in-Err.fault) fault.Memory c.in-Err.ensures.refused.0 (inl (refl, refl))
+    replied_as c.args.self.now _ front before s store c.args.seat.now.session (call.Prepare c.args.global) (Err c.in-Err.fault) fault.Memory c.in-Err.ensures.refused (inl (refl, refl))
     (inr (comes_lacking c.args.self.now _ front disk before s store refl c.in-Err.ensures.first c.in-Err.ensures.none_added refl refl c.reserve_wait.ensures.txns
     (c.reserve_wait.ensures.stands s is.beside.parts.stands) is over))
 
@@ -241,7 +241,7 @@ pub returns-in_err-reserve_wait-clause-serves : goal.returns-in_err-reserve_wait
 returns-in_err-reserve_wait-clause-serves g c = refused_still _ _ _ _ _ fault.Memory c.from_residual-in_err-reserve_wait.ensures.1 refl refl refl refl tt
 
 pub returns-in-Err-clause-serves : goal.returns-in-Err-clause-serves
-returns-in-Err-clause-serves g c = call_still _ _ _ _ _ refl refl c.in-Err.ensures.first refl (as_aside _ _ c.in-Err.ensures.refused.0 tt) tt
+returns-in-Err-clause-serves g c = call_still _ _ _ _ _ refl refl c.in-Err.ensures.first refl (as_aside _ _ c.in-Err.ensures.refused tt) tt
 
 pub returns-clause-serves : goal.returns-clause-serves
 returns-clause-serves g c = call_still _ _ _ _ _ refl refl c.in-Ok.ensures.first refl tt refl

@@ -24,7 +24,7 @@ loop-preserved g c =
     let counts : HasCount old c.args.seat.now (length c.undo-count.result.now) = λ s has a of. count_own (txns_of old) c.txn.result.now c.txn.ensures.there a (subst (IsAmong a) has.txns.active of.0) (of.1 ∙ sym c.txn.ensures.number) ∙ ap length (sym c.undo-count.ensures.entries) in
     let done = c.in_ok-put_back_newest.ensures in
     rolls_on old c.loop.self c.put_back_newest.new.self c.args.seat.now c.args.rollback c.args.least c.loop.counter (length c.undo-count.result.now) c.loop.invariant counts c.loop-test.true done.put_back done.rewinds done.longer done.seated done.unprepared done.waits done.memory (keeps_of done.serves done.failed)
-    done.serves.any_moment (none_failed _ _ _ done.serves.cause)
+    done.serves.any_moment (none_failed _ _ _ done.serves.cause) c.put_back_newest.ensures.ring
 
 pub returns-clause-unwinds : goal.returns-clause-unwinds
 returns-clause-unwinds g c =
@@ -69,3 +69,9 @@ returns-clause-memory g c = c.loop.invariant.memory
 
 pub returns-in_err-put_back_newest-clause-memory : goal.returns-in_err-put_back_newest-clause-memory
 returns-in_err-put_back_newest-clause-memory g c room = c.put_back_newest.ensures.memory (c.loop.invariant.memory room)
+
+pub returns-clause-ring : goal.returns-clause-ring
+returns-clause-ring g c = c.loop.invariant.ring
+
+pub returns-in_err-put_back_newest-clause-ring : goal.returns-in_err-put_back_newest-clause-ring
+returns-in_err-put_back_newest-clause-ring g c = c.put_back_newest.ensures.ring ∙ c.loop.invariant.ring

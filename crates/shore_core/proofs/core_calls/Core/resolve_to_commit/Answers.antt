@@ -13,7 +13,6 @@ use Rattle.shore_model.specs.Logs.{previous_of}
 use Rattle.shore_model.proofs.LogSteps.{take-whole}
 use Rattle.shore_pool.proofs.Same.{pages_on, pages_stay}
 use Rattle.shore_heap.specs.Heaps.{Shows, frame_at, frame_of}
-use Rattle.laws_lives.specs.Recovery.{after_append}
 use Rattle.laws_lives.specs.Sessions.{without_txn}
 use Rattle.laws_lives.specs.Views.{IsAmong}
 use Rattle.laws_calls.specs.Resolves.{resolve_committed}
@@ -28,7 +27,8 @@ use Rattle.shore_txn.specs.declared.undo.UndoEntry.{UndoEntry}
 use Rattle.shore_sessions.specs.Controls.{txns_in}
 use Rattle.shore_sessions.specs.Standing.{IsAt, IsLogged}
 use Rattle.shore_sessions.specs.declared.control.Control.{Control}
-use Rattle.laws_heaps.proofs.Made.{appended_without}
+use Rattle.shore_core.specs.Stores.{append_to}
+use Rattle.shore_core.proofs.Works.{noted_without}
 use Rattle.shore_core.specs.Cores.{control_of, durable_of, first_of, geometry_of, has_failed, txns_of, waiting_of}
 use Rattle.shore_core.specs.Parts.{HasParts}
 use Rattle.shore_core.proofs.Prepared.{can_decide, rolling_on}
@@ -52,7 +52,7 @@ returns-then-not-is_in_doubt-clause-replied g c ready front disk before s store 
 pub loop-change-init : goal.loop-change-init
 loop-change-init g c =
     let at = frame_at c.args.self.now.heap in
-    (refl, refl, refl, refl, refl, λ k. refl, λ disk. pages_stay at at disk (λ k. refl), λ K stay front disk S fit shows. none_released (λ p. is_some (frame_of c.args.self.now.heap p)) K stay S c.args.self.now.heap front disk shows)
+    (refl, refl, refl, refl, refl, λ k. refl, λ disk. pages_stay at at disk (λ k. refl), λ K stay front disk S fit shows. none_released (λ p. is_some (frame_of c.args.self.now.heap p)) K stay S c.args.self.now.heap front disk shows, λ k. refl)
 
 pub loop-change-preserved : goal.loop-change-preserved
 loop-change-preserved g c =
@@ -76,6 +76,7 @@ loop-change-preserved g c =
       λ disk. pages_on (frame_at initial) (frame_at mid) (frame_at new) disk disk disk (inv.6 disk) (c.release.ensures.same disk),
       λ K stay front disk S fit shows. released_more (λ p. is_some (frame_of initial p)) K stay S mid new front disk (take i items) (take (i + 1) items) e longer fit was held
           (λ L T. c.release.ensures.shows L front disk T) (λ L M T. c.release.ensures.told L M front disk T) (inv.7 K stay front disk S fit shows),
+      λ k. c.release.ensures.dirt k ∙ inv.8 k,
     )
 
 pub invariant_of-self : goal.invariant_of-self
@@ -116,7 +117,7 @@ invariant_of-self-in-Err-1 g c =
 
 pub returns-in-Err-clause-replied : goal.returns-in-Err-clause-replied
 returns-in-Err-clause-replied g c ready front disk before s store is safe over waits_not may to =
-    replied_as c.args.self.now _ front before s store c.args.seat.now.session (call.Resolve c.args.global outcome.Commit) (Err c.in-Err.fault) fault.Memory c.in-Err.ensures.refused.0 (inl (refl, refl))
+    replied_as c.args.self.now _ front before s store c.args.seat.now.session (call.Resolve c.args.global outcome.Commit) (Err c.in-Err.fault) fault.Memory c.in-Err.ensures.refused (inl (refl, refl))
     (inr (comes_lacking c.args.self.now _ front disk before s store refl c.in-Err.ensures.first c.in-Err.ensures.none_added refl refl c.reserve_wait.ensures.txns
     (c.reserve_wait.ensures.stands s is.beside.parts.stands) is over))
 
@@ -176,7 +177,7 @@ returns-clause-replied g c ready front disk before s store is safe over waits_no
     let left = subst (ShowsLeft (λ p. is_some (frame_of old.heap p)) (kept_in (txns_of old)) (kept_in (txns_in c.resolve-changes.new.self)) (page_slots s) new.heap front disk) all
     (inv.7 (kept_in (txns_of old)) (kept_in (txns_in c.resolve-changes.new.self)) front disk (page_slots s) fit (is.pages works)) in
     let shows = all_released s a es older those undone safe.roomy.pages can.0 was.txns.active out more new.heap (λ p. is_some (frame_of old.heap p)) front disk left in
-    let pages = appended_without old.heap disk store r (over.pages works) over.kept.recoverable over.kept.redone refl in
+    let pages = noted_without old.heap disk store r (over.pages works) over.kept.recoverable over.kept.redone refl in
     record {
       later = later;
       replies = resolve_steps (geometry_of old) s session global outcome.Commit (Waits (Durable c.in-Ok.number)) later works waits_not (inr (may, (a, can, ap Durable number, refl)));
@@ -185,7 +186,7 @@ returns-clause-replied g c ready front disk before s store is safe over waits_no
             beside = record { first = ap g.T.Tail.first inv.0 ∙ c.push.ensures.first ∙ is.beside.first; parts = same_parts inv.0 inv.1 inv.2 inv.3 parts };
             pages = λ runs. subst (λ (x : Control). Shows (kept_in (txns_in x)) new.heap front disk (page_slots later)) (sym inv.1) shows;
           })
-          (λ runs. pages_same old.heap new.heap disk (after_append store r) (inv.6 disk) (same_geometry new.heap old.heap inv.4) pages.1);
+          (λ runs. pages_same old.heap new.heap disk (append_to store r) (inv.6 disk) inv.8 (same_geometry new.heap old.heap inv.4) pages);
     }
   where
     same_parts : {later : State} {before : List LogRecord} → c.loop-change.self.tail ≡ c.push.new.self → c.loop-change.self.control ≡ c.resolve-changes.new.self
@@ -205,7 +206,7 @@ pub returns-in_err-reserve_wait-clause-serves : goal.returns-in_err-reserve_wait
 returns-in_err-reserve_wait-clause-serves g c = refused_still _ _ _ _ _ fault.Memory c.from_residual.ensures.1 refl refl refl refl tt
 
 pub returns-in-Err-clause-serves : goal.returns-in-Err-clause-serves
-returns-in-Err-clause-serves g c = call_still _ _ _ _ _ refl refl c.in-Err.ensures.first refl (as_aside _ _ c.in-Err.ensures.refused.0 tt) tt
+returns-in-Err-clause-serves g c = call_still _ _ _ _ _ refl refl c.in-Err.ensures.first refl (as_aside _ _ c.in-Err.ensures.refused tt) tt
 
 pub returns-clause-serves : goal.returns-clause-serves
 returns-clause-serves g c =
