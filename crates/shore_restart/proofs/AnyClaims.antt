@@ -142,8 +142,8 @@ module _ {V : Type 0} {H : Ghosts V} (front : List ℕ) (first : ℕ → List �
             → HasNoPage (s.left (page_number (geometry_of old) id)) id last
         again w = subst (λ (g : Geometry). (id : PageId) → HasPage g id → HasNoPage (w.left (page_number g id)) id last → HasNoPage (s.left (page_number g id)) id last) geometry w.bad
 
-    pub so_far_fault : (f : Fault) → IsPageFault (geometry_of mid) s.left last f → IsPageFault (geometry_of old) disk last f
-    so_far_fault f of = fault_back (geometry_of old) (geometry_of mid) disk s.left last last f geometry s.bad of
+    pub so_far_fault : (may_read : PageId → Type 0) (f : Fault) → IsPageFault (geometry_of mid) may_read s.left last f → IsPageFault (geometry_of old) may_read disk last f
+    so_far_fault may_read f of = fault_back (geometry_of old) (geometry_of mid) may_read disk s.left last last f geometry s.bad of
 
 -- ---- one claim more
 

@@ -1,13 +1,12 @@
 -- Answers that tell of one device alone, and what they say of the other.
-use Rattle.std.proofs.Common.{◌≡◌, ◌≢◌, ◌⊎◌, ◌≤◌, ◌<◌, ℕ, Result, Ok, Err, inl, inr, refl, sym, ap, subst, ◌∙◌, arith}
+use Rattle.std.proofs.Common.{◌≡◌, ◌≢◌, ◌⊎◌, ◌≤◌, ◌<◌, ℕ, Result, Ok, Err, inl, inr, refl, sym, ap, ◌∙◌, arith}
 use Rattle.std.specs.Prelude.{IfErr, IsErrAnd}
 use Rattle.shore_types.specs.declared.faults.Fault.{Fault}
 use Rattle.shore_types.specs.declared.faults.Fault.TheVariants as fault
 use Rattle.shore_disk.specs.Cause.{HasCause}
 use Rattle.shore_restart.specs.declared.errors.RestartError.{RestartError}
-use Rattle.shore_restart.specs.declared.errors.RestartError.TheVariants.{BadRecord, Log, Memory, NoRoom, Page}
+use Rattle.shore_restart.specs.declared.errors.RestartError.TheVariants.{BadAnchor, BadRecord, Log, Memory, NoRoom, Page}
 use Rattle.shore_restart.specs.Errors.{log_answer, volume_answer}
-use Rattle.shore_restart.proofs.PageErrors.{err_with}
 
 -- what an error says, said otherwise
 pub err_to : {T E : Type 0} {P Q : E → Type 0} (r : Result T E) → IfErr r P → ((e : E) → P e → Q e) → IfErr r Q
@@ -18,36 +17,25 @@ err_to (Err e) is to = to e is
 pub quiet : (old new : ℕ) → new ≡ old → HasCause {T = Unit {0}} (Ok tt) old new
 quiet old new same = record { no_lower = omega (arith, same); reported = λ is. absurd cc; unreported = λ other. same }
 
--- an answer that is no fault of the log device
-pub no_log_cause : (A : Type 0) (r : Result A RestartError) (old new : ℕ) → new ≡ old → IfErr r (λ e. (f : Fault) → e ≢ Log f) → HasCause (log_answer r) old new
-no_log_cause A (Ok x) old new same other = quiet old new same
-no_log_cause A (Err Memory) old new same other = quiet old new same
-no_log_cause A (Err NoRoom) old new same other = quiet old new same
-no_log_cause A (Err (BadRecord n)) old new same other = quiet old new same
-no_log_cause A (Err (Page f)) old new same other = quiet old new same
-no_log_cause A (Err (Log f)) old new same other = absurd (other f refl)
-
--- .. and of the volume
+-- an answer that is no fault of the volume
 pub no_page_cause : (A : Type 0) (r : Result A RestartError) (old new : ℕ) → new ≡ old → IfErr r (λ e. (f : Fault) → e ≢ Page f) → HasCause (volume_answer r) old new
 no_page_cause A (Ok x) old new same other = quiet old new same
 no_page_cause A (Err Memory) old new same other = quiet old new same
 no_page_cause A (Err NoRoom) old new same other = quiet old new same
+no_page_cause A (Err BadAnchor) old new same other = quiet old new same
 no_page_cause A (Err (BadRecord n)) old new same other = quiet old new same
 no_page_cause A (Err (Log f)) old new same other = quiet old new same
 no_page_cause A (Err (Page f)) old new same other = absurd (other f refl)
 
--- an error that was passed on, with what it tells of the log device behind calls that were not refused
-pub passed_log_cause : (A B : Type 0) (r : Result A RestartError) (error : RestartError) (old between new : ℕ) → between ≡ old → IsErrAnd r (λ e. e ≡ error) → HasCause (log_answer {A = B} (Err error)) between new
-    → HasCause (log_answer {A = A} r) old new
-passed_log_cause A B r error old between new same is cause = subst (λ (result : Result A RestartError). HasCause (log_answer {A = A} result) old new) (sym (err_with r error is))
-    (subst (λ (n : ℕ). HasCause (log_answer {A = A} (Err error)) n new) same (same_answer error cause))
-  where
-    same_answer : (e : RestartError) → HasCause (log_answer {A = B} (Err e)) between new → HasCause (log_answer {A = A} (Err e)) between new
-    same_answer Memory cause = cause
-    same_answer NoRoom cause = cause
-    same_answer (BadRecord n) cause = cause
-    same_answer (Page f) cause = cause
-    same_answer (Log f) cause = cause
+-- .. and one that was passed on, and is none of the log device
+pub no_log_cause : (A : Type 0) (r : Result A RestartError) (e : RestartError) (old new : ℕ) → new ≡ old → IsErrAnd r (λ x. x ≡ e) → ((f : Fault) → e ≡ Log f → ⊥) → HasCause (log_answer r) old new
+no_log_cause A (Ok x) e old new same is other = absurd is
+no_log_cause A (Err Memory) e old new same is other = quiet old new same
+no_log_cause A (Err NoRoom) e old new same is other = quiet old new same
+no_log_cause A (Err BadAnchor) e old new same is other = quiet old new same
+no_log_cause A (Err (BadRecord n)) e old new same is other = quiet old new same
+no_log_cause A (Err (Page f)) e old new same is other = quiet old new same
+no_log_cause A (Err (Log f)) e old new same is other = absurd (other f (sym is))
 
 -- what a fetch may tell of: the device, or a force that it needs
 abbrev pub IsDeviceOrForce : ℕ → ℕ → Fault → Type 0

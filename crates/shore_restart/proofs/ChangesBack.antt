@@ -3,7 +3,7 @@ use Rattle.std.proofs.Common.{◌≡◌, ◌≢◌, ◌⊎◌, ◌<◌, ◌≤�
 use Rattle.std.specs.Prelude.{All, option_map, slice_get, unwrap_or}
 use Rattle.std.specs.BTreeMap.{is_at}
 use Rattle.std.specs.Cmp.{eq_by_cmp_equiv}
-use Rattle.std.proofs.lemmas.Bool.{cases_Bool}
+use Rattle.std.proofs.lemmas.Bool.{cases_Bool, ne_eqb}
 use Rattle.std.proofs.lemmas.List.{length-map, length-reverse, map-append, reverse-append, reverse-reverse}
 use Rattle.std.proofs.lemmas.List.Elements.{All-contains}
 use Rattle.std.proofs.lemmas.Option.{get_or_from_slice_get, slice_get-map, slice_get_within}
@@ -15,7 +15,10 @@ use Rattle.shore_page.specs.Undo.{longest}
 use Rattle.shore_model.specs.declared.log_records.LogRecord.{LogRecord}
 use Rattle.shore_model.specs.declared.log_records.Payload.TheVariants.{Change}
 use Rattle.shore_model.specs.declared.unanswered_changes.UnansweredChange.{UnansweredChange}
-use Rattle.shore_model.specs.Logs.{unanswered}
+use Rattle.shore_model.specs.Logs.{unanswered, undo_next_of}
+use Rattle.laws_checkpoints.specs.KeptLogs.{kept_unanswered}
+use Rattle.shore_analysis.specs.Padded.{padded}
+use Rattle.shore_analysis.proofs.KeptMeans.{unanswered_padded}
 use Rattle.shore_logrec.specs.Text.{Fits, ImageFits, PayloadFits}
 use Rattle.laws_lives.specs.Doubts.{undo_in}
 use Rattle.laws_lives.specs.Sessions.{EachOnce, txns_of}
@@ -31,8 +34,9 @@ use Rattle.laws_room.specs.LogRooms.{compensation_cost, compensation_costs}
 use Rattle.laws_room.proofs.Entries.{before_push}
 use Rattle.laws_room.proofs.Pages.{pushed_here, pushed_there}
 use Rattle.shore_txn.specs.ActiveTxns.{OneBecomes, session_txns}
+use Rattle.shore_txn.specs.Numbers.{first_with}
 use Rattle.shore_txn.specs.Transactions.{AtSeat, IsSeatIn, numbers_in, txns_in}
-use Rattle.shore_txn.specs.Txns.{IsAfterChange, KeepsName, entries_of, marks_of, number_of, state_of}
+use Rattle.shore_txn.specs.Txns.{IsAfterChange, KeepsName, entries_of, first_of, marks_of, number_of, state_of}
 use Rattle.shore_txn.specs.UndoEntries.{HaveClaims, image_of, images_of}
 use Rattle.shore_txn.specs.declared.seat.Seat.{Seat}
 use Rattle.shore_txn.specs.declared.transactions.Transactions.{Transactions}
@@ -241,6 +245,7 @@ pub record HasSome (cs : List UnansweredChange) (old new : Txn) : Type 0 where
   pub txn : number_of new ≡ number_of old
   pub session : new.session ≡ old.session
   pub name : KeepsName old new
+  pub first : 0 < first_of old → first_of new ≡ first_of old
   pub changes : map as_change (entries_of new) ≡ cs
   pub claims : HaveClaims (entries_of new)
   pub marks : marks_of new ≡ marks_of old
@@ -251,6 +256,7 @@ has_none t none = record {
   txn = refl;
   session = refl;
   name = record { seated = refl; global = refl; prepare = refl; decided = refl };
+  first = λ some. refl;
   changes = ap (map as_change) none;
   claims = ap (map (λ (e : UndoEntry). e.claim)) none ∙ sym (ap (λ es. claims_before (images_of es)) none);
   marks = refl;
@@ -269,6 +275,10 @@ starts_at seat table seated none =
     parts t (x ∷ ts) (inl same) = ([], ts, ap (λ (y : Txn). y ∷ ts) same)
     parts t (x ∷ ts) (inr later) = let (newer, older, is) = parts t ts later in (x ∷ newer, older, ap (λ ys. x ∷ ys) is)
 
+-- a number of a first record stays
+pub first_stays : (first lsn : ℕ) → 0 < first → first_with first lsn ≡ first
+first_stays first lsn some = ap (λ (b : Bool). cond b lsn first) (ne_eqb first 0 (λ none. omega (arith, some, none)))
+
 pub has_more : (cs : List UnansweredChange) (c : UnansweredChange) (e : UndoEntry) (old mid new : Txn) → as_change e ≡ c → e.claim ≡ claim_before (told_images cs) (image_of e) → HasSome cs old mid → IsAfterChange mid e new
     → HasSome (cs ++ c ∷ []) old new
 has_more cs c e old mid new is claim has after =
@@ -277,6 +287,9 @@ has_more cs c e old mid new is claim has after =
       txn = after.txn ∙ has.txn;
       session = after.session ∙ has.session;
       name = record { seated = after.name.seated ∙ has.name.seated; global = after.name.global ∙ has.name.global; prepare = after.name.prepare ∙ has.name.prepare; decided = after.name.decided ∙ has.name.decided };
+      first = λ some.
+          let was = has.first some in
+          after.first ∙ first_stays (first_of mid) e.lsn (omega (arith, some, was)) ∙ was;
       changes = ap (map as_change) after.entries ∙ map-push as_change (entries_of mid) e ∙ (λ i. has.changes i ++ is i ∷ []);
       claims = ap (map (λ (x : UndoEntry). x.claim)) after.entries ∙ map-push (λ (x : UndoEntry). x.claim) (entries_of mid) e
           ∙ (λ i. has.claims i ++ (claim ∙ ap (λ xs. claim_before xs (image_of e)) (sym told)) i ∷ [])
@@ -290,6 +303,7 @@ has_all log old new has = record {
   txn = has.txn;
   session = has.session;
   name = has.name;
+  first = has.first;
   entries = record { changes = sym (reverse-reverse (unanswered (number_of old) log)) ∙ ap reverse (sym has.changes); claims = has.claims };
   marks = has.marks;
   state = has.state;
@@ -355,3 +369,11 @@ becomes_all log t i old new end one = record {
   txn = one.txn;
   becomes = has_all log one.before one.after (subst (λ (cs : List UnansweredChange). HasSome cs one.before one.after) (take_all i (changes_to_undo log t) end ∙ ap (changes_to_undo log) (sym one.txn)) one.becomes);
 }
+
+-- the numbers that what is kept tells are those of the log with a record of nobody in the place of each that is cut off
+pub told_behind : (cut : ℕ) (kept : List LogRecord) (t : ℕ) → 0 < t → (numbers : List ℕ) (newest : ℕ)
+    → (newest ≡ undo_next_of (kept_unanswered cut t kept) → numbers ≡ reverse (map (λ c. c.number) (kept_unanswered cut t kept)))
+    → newest ≡ undo_next_of (unanswered t (padded cut kept)) → numbers ≡ reverse (map (λ c. c.number) (unanswered t (padded cut kept)))
+told_behind cut kept t one numbers newest told is =
+    let same : unanswered t (padded cut kept) ≡ kept_unanswered cut t kept = unanswered_padded t one cut kept in
+    told (is ∙ ap undo_next_of same) ∙ ap (λ (cs : List UnansweredChange). reverse (map (λ c. c.number) cs)) (sym same)

@@ -26,6 +26,7 @@ use Rattle.shore_txn.specs.declared.txn.Txn.{Txn}
 use Rattle.shore_txn.specs.declared.undo.UndoEntry.{UndoEntry}
 use Rattle.shore_restart.specs.GivenBack.{ClaimsSoFar, HaveRoom, Keeps, StandsSoFar, StandsWith}
 use Rattle.shore_restart.specs.Standing.{Stands}
+use Rattle.shore_restart.proofs.Noting.{notes_none}
 use Rattle.shore_restart.proofs.ClaimsKept.{claims_there}
 use Rattle.shore_restart.proofs.DoubtsNamed.{split_here}
 use Rattle.shore_restart.proofs.Standing.{stands_kept}
@@ -121,8 +122,9 @@ module _ {V : Type 0} {H : Ghosts V} where
   pub keeps_none : (front : List ℕ) (disk : ℕ → List ℕ) (heap : Heap V H) (s : RecoveryState) {Stand : (ℕ → List ℕ) → RecoveryState → Type 0} → ((c : List ℕ) → may_leave (history_of heap) c → ShowsLeft (geometry_of heap) front s c) → Stand disk s → Keeps (Ok tt) front heap heap s Stand
   keeps_none front disk heap s left stand = record {
     later = s;
-    work = record { works = []; work = refl; volume = started (history_of heap) (ShowsLeft (geometry_of heap) front s) left; left = left };
+    work = record { works = []; work = refl; loses_none = tt; volume = started (history_of heap) (ShowsLeft (geometry_of heap) front s) left; left = left };
     same = record { log = refl; durable = refl; redone = refl; in_place = refl };
     volume = λ p. inl refl;
     stands = (disk, stand);
+    notes = notes_none heap s;
   }

@@ -1,6 +1,6 @@
 -- A page is fetched and keeps a claim more: what the pages claim so far, and the work of the store that it is.
-use Rattle.std.proofs.Common.{◌≡◌, ◌≢◌, ◌⊎◌, ◌≤◌, ◌++◌, ◌∷◌, [], ℕ, List, Bool, cond, Option, None, Some, Result, Ok, inl, inr, refl, sym, ap, subst, ◌∙◌, map, arith}
-use Rattle.std.specs.Prelude.{IsSomeAnd, option_map}
+use Rattle.std.proofs.Common.{◌≡◌, ◌≢◌, ◌⊎◌, ◌≤◌, ◌++◌, ◌∷◌, [], ℕ, List, Bool, cond, Option, None, Some, Result, Ok, Err, inl, inr, refl, sym, ap, subst, ◌∙◌, map, arith}
+use Rattle.std.specs.Prelude.{IsSomeAnd, OnOk, option_map}
 use Rattle.shore_types.specs.Images.{Image, image_len}
 use Rattle.shore_types.specs.Layout.{HasPage}
 use Rattle.shore_types.specs.declared.ids.PageId.{PageId}
@@ -20,11 +20,13 @@ use Rattle.shore_pool.specs.Pages.{IsPage, SamePages}
 use Rattle.shore_pool.specs.Pools.{PoolHolds, StaysOrGoes}
 use Rattle.shore_heap.specs.declared.heap.Heap.{Heap}
 use Rattle.shore_heap.specs.Contents.{AreBounds, CanKeep, ClaimsOfPages, FitIn, KeepWhatFits, claimed_by}
+use Rattle.shore_heap.specs.Dirty.{SameDirt}
 use Rattle.shore_heap.specs.Heaps as heaps
 use Rattle.shore_heap.specs.Heaps.{FramesWere, IsFreshFrame, LeavesPages, StayInPlace, frame_at, frame_of, geometry_of, history_of}
 use Rattle.shore_heap.proofs.Claimed.{images_kept}
 use Rattle.shore_heap.proofs.Released.{images_claimed}
 use Rattle.laws_heaps.specs.LoggedHeaps.{IsStoreOf, LeavesStore}
+use Rattle.laws_heaps.proofs.DirtyTables.{numbers_unmoved}
 use Rattle.laws_heaps.proofs.Flushes.{all_flushed, crash_leaves, left_amid, texts_left}
 use Rattle.laws_heaps.proofs.LoggedLeft.{left_settled}
 use Rattle.laws_heaps.proofs.Stores.{store_over}
@@ -38,8 +40,9 @@ use Rattle.shore_txn.specs.declared.undo.UndoEntry.{UndoEntry}
 use Rattle.shore_txn.proofs.ClaimLemmas.{claims_append, claims_other}
 use Rattle.shore_restart.specs.declared.errors.RestartError.{RestartError}
 use Rattle.shore_restart.specs.GivenBack.{ClaimsSoFar, Keeps, StandsSoFar}
-use Rattle.shore_restart.specs.Standing.{SameInPlace, Worked}
-use Rattle.shore_restart.proofs.Paths.{work_kept, work_on}
+use Rattle.shore_restart.specs.Standing.{Notes, SameInPlace, Worked}
+use Rattle.shore_restart.proofs.Noting.{notes_on, pages_noted}
+use Rattle.shore_restart.proofs.Paths.{none_lost_on, work_kept, work_on, works_lose_none}
 use Rattle.shore_restart.proofs.RoomKept.{can_keep_there, could_keep, is_kept, kept_already}
 
 -- ---- one page
@@ -118,6 +121,7 @@ module _ {V : Type 0} {H : Ghosts V} where
     pub volume : CrashMayLeave s later.volume
     pub store : IsStoreOf new left later
     pub recoverable : IsRecoverable later
+    pub notes : Notes old new s later
 
   module _ (front : List ℕ) (disk : ℕ → List ℕ) (old new : Heap V H) (s : RecoveryState) (durable : ℕ) (store : IsStoreOf old disk s) (recoverable : IsRecoverable s) (low : durable ≤ s.durable)
       (leaves : LeavesOnly (history_of old) (history_of new) (LeavesPages old durable front disk)) where
@@ -134,6 +138,7 @@ module _ {V : Type 0} {H : Ghosts V} where
           work = record {
             works = done.works;
             work = done.restarted;
+            loses_none = works_lose_none s done.works later done.worked;
             volume = leaves_shown;
             left = λ c may. subst (λ (g : Geometry). ShowsLeft g front later c) same (later.volume, λ p. inl refl, left_settled new front left later c its holds may);
           };
@@ -141,19 +146,26 @@ module _ {V : Type 0} {H : Ghosts V} where
           volume = crash_leaves old durable disk left s store low stay.may;
           store = its;
           recoverable = work_kept s done.works later recoverable done.restarted;
+          notes = pages_noted old new durable front disk left s later store recoverable holds stay low same its (record { log = refl; durable = refl; redone = refl; in_place = refl });
         }
 
     pub stopped_there : Worked front old new s s
-    stopped_there = record { works = []; work = refl; volume = leaves_shown; left = at_end (history_of old) (history_of new) (ShowsLeft (geometry_of old) front s) leaves_shown }
+    stopped_there = record { works = []; work = refl; loses_none = tt; volume = leaves_shown; left = at_end (history_of old) (history_of new) (ShowsLeft (geometry_of old) front s) leaves_shown }
 
   -- what follows that leaves the calls of the device
   pub worked_on : (front : List ℕ) (old mid new : Heap V H) (s later : RecoveryState) → history_of new ≡ history_of mid → Worked front old mid s later → Worked front old new s later
   worked_on front old mid new s later same work = record {
     works = work.works;
     work = work.work;
+    loses_none = work.loses_none;
     volume = subst (λ (h : DeviceHistory). LeavesOnly (history_of old) h (ShowsLeft (geometry_of old) front s)) (sym same) work.volume;
     left = λ c may. work.left c (subst (λ (h : DeviceHistory). may_leave h c) same may);
   }
+
+  -- .. and its pages' numbers
+  pub noted_on : (old mid new : Heap V H) (s later : RecoveryState) → SameDirt mid new → geometry_of new ≡ geometry_of mid → Notes old mid s later → Notes old new s later
+  noted_on old mid new s later dirt geometry notes =
+      notes_on old mid new s later later notes (λ a recovery has. ([], recovery, refl, numbers_unmoved mid new recovery has dirt geometry))
 
   -- what a crash leaves between two calls
   pub so_far_left : (front : List ℕ) (disk : ℕ → List ℕ) (heap : Heap V H) (s : RecoveryState) → IsStoreOf heap disk s → PoolHolds heap.pool front disk → (c : List ℕ) → may_leave (history_of heap) c
@@ -163,11 +175,12 @@ module _ {V : Type 0} {H : Ghosts V} where
   -- one such work behind another
   pub keeps_then : {front : List ℕ} {old mid new : Heap V H} {s : RecoveryState} {result : Result (Unit {0}) RestartError} {First Then : (ℕ → List ℕ) → RecoveryState → Type 0} → geometry_of mid ≡ geometry_of old
       → (first : Keeps (Ok tt) front old mid s First) → Keeps result front mid new first.later Then → Keeps result front old new s Then
-  keeps_then {front} {old} {mid} {new} {s} geometry first then_on = record {
+  keeps_then {front} {old} {mid} {new} {s} {result} geometry first then_on = record {
     later = then_on.later;
     work = record {
       works = first.work.works ++ then_on.work.works;
       work = work_on s first.work.works first.later then_on.work.works then_on.later first.work.work then_on.work.work;
+      loses_none = none_lost_on first.work.works then_on.work.works first.work.loses_none then_on.work.loses_none;
       volume = joined (history_of old) (history_of mid) (history_of new) (ShowsLeft (geometry_of old) front s) first.work.volume
           (widened (history_of mid) (history_of new) (ShowsLeft (geometry_of mid) front first.later) (ShowsLeft (geometry_of old) front s) then_on.work.volume before);
       left = λ c may. subst (λ (g : Geometry). ShowsLeft g front then_on.later c) geometry (then_on.work.left c may);
@@ -180,8 +193,13 @@ module _ {V : Type 0} {H : Ghosts V} where
     };
     volume = left_before then_on.later.volume then_on.volume;
     stands = then_on.stands;
+    notes = noted result then_on.notes (notes_on old mid new s first.later then_on.later first.notes);
   }
     where
+      noted : {P Q : Type 0} (r : Result (Unit {0}) RestartError) → OnOk r P → (P → Q) → OnOk r Q
+      noted (Ok done) is on = on is
+      noted (Err e) is on = tt
+
       -- what a crash may leave then it might leave before
       left_before : (pages : LoggedPages) → CrashMayLeave first.later pages → CrashMayLeave s pages
       left_before pages may p = elim (may p) [

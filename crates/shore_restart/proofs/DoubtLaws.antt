@@ -1,6 +1,6 @@
 -- Whether those in doubt can all hold what is theirs, by what the log says of any two of them; and a table with them, as sessions have it.
-use Rattle.std.proofs.Common.{◌≡◌, ◌⊎◌, ◌+◌, ◌*◌, ◌-◌, ◌++◌, ◌∷◌, [], ℕ, List, Option, None, Some, inl, inr, refl, sym, ap, subst, ◌∙◌, length, map, take, reverse, arith}
-use Rattle.std.specs.Prelude.{IsSomeAnd, slice_get, unwrap_or}
+use Rattle.std.proofs.Common.{◌≡◌, ◌⊎◌, ◌+◌, ◌*◌, ◌++◌, ◌∷◌, [], ℕ, List, Some, inl, inr, refl, sym, ap, subst, ◌∙◌, length, map, reverse, arith}
+use Rattle.std.specs.Prelude.{unwrap_or}
 use Rattle.std.specs.List.{cons_option, sum_by}
 use Rattle.std.proofs.lemmas.List.{append_assoc, map-append, reverse-reverse}
 use Rattle.std.proofs.lemmas.List.Sums.{sum_by-cons}
@@ -10,9 +10,12 @@ use Rattle.shore_types.specs.declared.locking.Granule.{Granule}
 use Rattle.shore_model.specs.declared.log_records.LogRecord.{LogRecord}
 use Rattle.shore_model.specs.Locks.{OnOnePath}
 use Rattle.shore_model.specs.Logs.{prepare_number}
+use Rattle.shore_analysis.specs.Doubts.{doubts_left}
 use Rattle.shore_analysis.specs.KeptMeant.{AreMeantKept}
-use Rattle.shore_analysis.proofs.KeptLawful.{none_unmeant}
+use Rattle.shore_analysis.specs.Padded.{padded}
+use Rattle.shore_analysis.proofs.AnchoredFirsts.{none_unmeant}
 use Rattle.laws_lives.specs.Doubts.{DoubtsStand, LoggedDoubt, NeedMore, doubts_in, locks_for, node_of, restored_locks, undo_in}
+use Rattle.laws_lives.specs.Sessions.{EachOnce}
 use Rattle.laws_lives.specs.Views.{IsAmong}
 use Rattle.laws_lives.proofs.Lists.{among_left}
 use Rattle.laws_room.specs.LogRooms.{owed_by_all}
@@ -25,6 +28,7 @@ use Rattle.shore_sessions.specs.Standing.{as_change}
 use Rattle.shore_restart.specs.Doubts.{CanHold, CannotHold, Clash, HasNoPlace, IsRefusedBy, IsTaken, owed_in, prepared_as, undo_told}
 use Rattle.shore_restart.specs.GivenBack.{AreGivenBack, IsGivenBack}
 use Rattle.shore_restart.proofs.ChangesBack.{images_as_told, map_reverse, told_images}
+use Rattle.shore_restart.proofs.DoubtsAll.{left_of_meant}
 use Rattle.shore_restart.proofs.DoubtsHeld.{never_again}
 use Rattle.shore_restart.proofs.DoubtsNamed.{doubts_once, head_or, tail_of}
 
@@ -103,6 +107,9 @@ none_need limit ([], once, each, more) = absurd (omega (arith, more))
 none_need limit (n ∷ nodes, once, each, more) = each n (inl refl)
 
 module _ (g : Geometry) (log : List LogRecord) (limit : ℕ) (meant : AreMeantKept g 0 log) where
+  once : EachOnce (map (λ d. d.txn) (doubts_in log))
+  once = subst (λ (ds : List LoggedDoubt). EachOnce (map (λ (d : LoggedDoubt). d.txn) ds)) (left_of_meant g log meant) (doubts_once g 0 log meant)
+
   -- two of them that clash are one
   pub clash_is_one : CanHold limit (doubts_in log) → (d e : LoggedDoubt) → IsAmong d (doubts_in log) → IsAmong e (doubts_in log) → Clash d e → d ≡ e
   clash_is_one hold d e a b clash = elim (in_turn (doubts_in log) d e a b) [
@@ -130,7 +137,7 @@ module _ (g : Geometry) (log : List LogRecord) (limit : ℕ) (meant : AreMeantKe
       mine x there = subst (IsAmong x) (sym order) there
 
       one_txn : (e : LoggedDoubt) → IsAmong e before → e.txn ≡ d.txn → ⊥
-      one_txn e among same = never_again (λ (x : LoggedDoubt). x.txn) (doubts_in log) before later d e (doubts_once g log meant) order among same
+      one_txn e among same = never_again (λ (x : LoggedDoubt). x.txn) (doubts_in log) before later d e once order among same
 
       by : HasNoPlace limit before d → ⊥
       by (inl (e, among, inl same)) = one_txn e among (stand.0.differ e d (mine e (among_left e before (d ∷ later) among)) (mine d (among_middle before later d)) same)
@@ -138,7 +145,7 @@ module _ (g : Geometry) (log : List LogRecord) (limit : ℕ) (meant : AreMeantKe
           stand.0.apart e d k h (mine e (among_left e before (d ∷ later) among)) (mine d (among_middle before later d)) (one_txn e among) c f on
       by (inr more) = stand.1 (subst (NeedMore limit) (append_assoc before (d ∷ []) later ∙ sym order) (need_more limit (before ++ d ∷ []) later more))
 
-pub none_cannot : (log : List LogRecord) (limit n : ℕ) → CanHold limit (doubts_in log) → CannotHold limit log n → ⊥
+pub none_cannot : (log : List LogRecord) (limit n : ℕ) → CanHold limit (doubts_left log) → CannotHold limit log n → ⊥
 none_cannot log limit n hold cannot = hold cannot.before cannot.later cannot.doubt cannot.order cannot.no_place
 
 pub one_cannot : (log : List LogRecord) (limit n m : ℕ) → CannotHold limit log n → CannotHold limit log m → n ≡ m
@@ -148,9 +155,9 @@ one_cannot log limit n m a b = elim (two_places a.before b.before a.later b.late
   | inr (inr later) ↦ absurd (a.first b.before later.0 b.doubt later.1 b.no_place)
 ]
 
-pub taken_or_refused : (g : Geometry) (log : List LogRecord) (n : ℕ) → IsTaken g log → IsRefusedBy g log n → ⊥
-taken_or_refused g log n taken (inr cannot) = none_cannot log g.max_locks n taken.1 cannot.1
-taken_or_refused g log n taken (inl first) = none_unmeant g 0 log n taken.0 first
+pub taken_or_refused : (g : Geometry) (cut checkpoint : ℕ) (kept : List LogRecord) (n : ℕ) → IsTaken g cut checkpoint kept → IsRefusedBy g cut checkpoint kept n → ⊥
+taken_or_refused g cut checkpoint kept n taken (inr cannot) = none_cannot (padded cut kept) g.max_locks n taken.1 cannot.1
+taken_or_refused g cut checkpoint kept n taken (inl first) = none_unmeant g cut checkpoint kept n taken.0 first
 
 -- ---- as sessions
 

@@ -1,22 +1,27 @@
 -- Those in doubt as they come back to a table, one before another.
-use Rattle.std.proofs.Common.{◌≡◌, ◌≢◌, ◌≤◌, ◌+◌, ◌++◌, ◌∷◌, [], ℕ, List, Some, inl, inr, refl, sym, ap, subst, ◌∙◌, length, map, take, drop, arith}
+use Rattle.std.proofs.Common.{◌≡◌, ◌≢◌, ◌<◌, ◌≤◌, ◌+◌, ◌++◌, ◌∷◌, [], ℕ, List, Some, inl, inr, refl, sym, ap, subst, ◌∙◌, length, map, take, drop, arith}
 use Rattle.std.specs.Prelude.{slice_get}
 use Rattle.std.specs.List.{sum_by}
 use Rattle.std.proofs.lemmas.List.{at_drop_all, drop_more}
 use Rattle.std.proofs.lemmas.List.Sums.{sum_by-cons, sum_by-take-drop}
 use Rattle.std.proofs.lemmas.Option.{get_or_from_slice_get, slice_get_within}
 use Rattle.shore_model.specs.declared.log_records.LogRecord.{LogRecord}
+use Rattle.shore_model.specs.Logs as logs
 use Rattle.shore_model.specs.Logs.{prepare_number}
-use Rattle.laws_lives.specs.Doubts.{LoggedDoubt, doubts_in}
+use Rattle.laws_lives.specs.Doubts.{LoggedDoubt}
+use Rattle.shore_analysis.specs.Doubts.{doubts_left}
 use Rattle.laws_lives.specs.Sessions.{EachOnce}
 use Rattle.laws_lives.specs.Views.{IsAmong}
 use Rattle.laws_lives.proofs.Lists.{among_right}
+use Rattle.laws_checkpoints.proofs.Cuts.{first_behind}
 use Rattle.shore_txn.specs.ActiveTxns.{IsFound, OneBecomes}
+use Rattle.shore_txn.specs.Numbers.{first_with}
 use Rattle.shore_txn.specs.Txns.{IsFoundPrepared, entries_of, number_of}
 use Rattle.shore_txn.specs.declared.txn.Txn.{Txn}
 use Rattle.shore_txn.proofs.OneOfMany.{map_parts, once_apart, once_same}
 use Rattle.shore_restart.specs.Doubts.{owed_in, reserved_told}
 use Rattle.shore_restart.specs.GivenBack.{AreEntriesOf, AreGivenBack, HasChangesBack, IsGivenBack}
+use Rattle.shore_restart.proofs.ChangesBack.{first_stays}
 use Rattle.shore_restart.proofs.DoubtsNamed.{head_or, split_here, tail_of}
 
 -- ---- one of them
@@ -39,13 +44,22 @@ head_becomes n Q t ts new none one = by one.newer one.was one.is
     by (x ∷ newer) was is =
         absurd (none one.before (subst (IsAmong one.before) (sym (ap tail_of was)) (among_right one.before newer (one.before ∷ one.older) (inl refl))) one.txn)
 
+-- who has a record has a first one
+pub first_some : (t : ℕ) (log : List LogRecord) → 0 < logs.last_of t log → 0 < logs.first_of t log
+first_some t log known = first_behind t log 0 (omega arith) refl known
+
 pub given_back : (log : List LogRecord) (d : LoggedDoubt) (n first : ℕ) (name : List ℕ) (lsn : ℕ) (t mid new : Txn) → d.txn ≡ n → IsFound n first t → HasChangesBack log t mid → IsFoundPrepared name lsn mid new → name ≡ d.global
-    → lsn ≡ prepare_number d.txn log → IsGivenBack log d new
-given_back log d n first name lsn t mid new same found back prepared named number = record {
+    → lsn ≡ prepare_number d.txn log → 0 < first → first ≡ logs.first_of d.txn log → IsGivenBack log d new
+given_back log d n first name lsn t mid new same found back prepared named number some since = record {
   txn = prepared.txn ∙ back.txn ∙ found.txn ∙ sym same;
   session = prepared.session ∙ back.session ∙ found.session;
   unseated = prepared.seated ∙ back.name.seated ∙ found.seated;
+  first =
+      let known = found.first in
+      let kept = back.first (omega (arith, known, some)) ∙ known in
+      prepared.first ∙ ap (λ (k : ℕ). first_with k lsn) kept ∙ first_stays first lsn some ∙ since;
   last = prepared.last ∙ number;
+  prepare = prepared.prepare ∙ number;
   entries = subst (λ (u : ℕ). AreEntriesOf log u (entries_of new)) (found.txn ∙ sym same) (subst (AreEntriesOf log (number_of t)) (sym prepared.entries) back.entries);
   marks = prepared.marks ∙ back.marks ∙ found.marks;
   waits = prepared.state;
@@ -80,19 +94,19 @@ back_more log ds i d e t ts new once at d_in e_in same back is rest =
     (subst (AreGivenBack log (d ∷ drop (i + 1) ds)) (sym is) (subst (λ (x : LoggedDoubt). IsGivenBack log x t) one back, rest))
 
 -- behind the last nobody is given back, and nothing is owed
-pub starts_empty : (log : List LogRecord) (n : ℕ) (ts : List Txn) → length (doubts_in log) ≤ n → ts ≡ [] → AreGivenBack log (drop n (doubts_in log)) ts
-starts_empty log n ts end none = subst (λ (ds : List LoggedDoubt). AreGivenBack log ds ts) (sym (at_drop_all (λ (ds : List LoggedDoubt). ds) (doubts_in log) n end)) (subst (AreGivenBack log []) (sym none) tt)
+pub starts_empty : (log : List LogRecord) (n : ℕ) (ts : List Txn) → length (doubts_left log) ≤ n → ts ≡ [] → AreGivenBack log (drop n (doubts_left log)) ts
+starts_empty log n ts end none = subst (λ (ds : List LoggedDoubt). AreGivenBack log ds ts) (sym (at_drop_all (λ (ds : List LoggedDoubt). ds) (doubts_left log) n end)) (subst (AreGivenBack log []) (sym none) tt)
 
 -- ---- what is reserved
 
 abbrev pub owed_from : List LogRecord → ℕ → ℕ
-owed_from log i = sum_by (λ d. owed_in log d.txn) (drop i (doubts_in log))
+owed_from log i = sum_by (λ d. owed_in log d.txn) (drop i (doubts_left log))
 
-pub owed_more : (log : List LogRecord) (i : ℕ) (d : LoggedDoubt) → slice_get (doubts_in log) i ≡ Some d → owed_from log i ≡ owed_in log d.txn + owed_from log (i + 1)
-owed_more log i d at = ap (sum_by (λ x. owed_in log x.txn)) (from_here (doubts_in log) i d at) ∙ sum_by-cons (λ x. owed_in log x.txn) d (drop (i + 1) (doubts_in log))
+pub owed_more : (log : List LogRecord) (i : ℕ) (d : LoggedDoubt) → slice_get (doubts_left log) i ≡ Some d → owed_from log i ≡ owed_in log d.txn + owed_from log (i + 1)
+owed_more log i d at = ap (sum_by (λ x. owed_in log x.txn)) (from_here (doubts_left log) i d at) ∙ sum_by-cons (λ x. owed_in log x.txn) d (drop (i + 1) (doubts_left log))
 
 pub owed_most : (log : List LogRecord) (i : ℕ) → owed_from log i ≤ reserved_told log
-owed_most log i = let sum = sum_by-take-drop (λ x. owed_in log x.txn) (doubts_in log) i in omega (arith, sum)
+owed_most log i = let sum = sum_by-take-drop (λ x. owed_in log x.txn) (doubts_left log) i in omega (arith, sum)
 
-pub nothing_owed : (log : List LogRecord) (n : ℕ) → length (doubts_in log) ≤ n → owed_from log n ≡ 0
-nothing_owed log n end = ap (sum_by (λ d. owed_in log d.txn)) (at_drop_all (λ (ds : List LoggedDoubt). ds) (doubts_in log) n end)
+pub nothing_owed : (log : List LogRecord) (n : ℕ) → length (doubts_left log) ≤ n → owed_from log n ≡ 0
+nothing_owed log n end = ap (sum_by (λ d. owed_in log d.txn)) (at_drop_all (λ (ds : List LoggedDoubt). ds) (doubts_left log) n end)

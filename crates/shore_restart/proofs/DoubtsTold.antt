@@ -6,7 +6,8 @@ use Rattle.std.proofs.lemmas.List.{length-map}
 use Rattle.std.proofs.lemmas.Simd.{map-map}
 use Rattle.shore_model.specs.declared.histories.InDoubt.{InDoubt}
 use Rattle.shore_model.specs.declared.log_records.LogRecord.{LogRecord}
-use Rattle.laws_lives.specs.Doubts.{LoggedDoubt, doubts_in, pair_logged}
+use Rattle.laws_lives.specs.Doubts.{LoggedDoubt, pair_logged}
+use Rattle.shore_analysis.specs.Doubts.{doubts_left}
 use Rattle.laws_lives.specs.Sessions.{PreparedTxn, SessionTxn, txns_of}
 use Rattle.laws_lives.specs.Soundness.{found_in_doubt}
 use Rattle.laws_lives.specs.Views.{IsAmong}
@@ -35,17 +36,17 @@ none_rolled log (d ∷ ds) (t ∷ ts) back = λ i. cons_option (unrolled log d t
 
 module _ (log : List LogRecord) (txns : Transactions) (back : HasDoubts log txns) where
   pub undos_are_told : undos_in txns ≡ undos_told log
-  undos_are_told = undos_same log (doubts_in log) (txns_in txns) back
+  undos_are_told = undos_same log (doubts_left log) (txns_in txns) back
 
   pub prepared_are_told : prepared_in txns ≡ prepared_told log
-  prepared_are_told = prepared_same log (doubts_in log) (txns_in txns) back
+  prepared_are_told = prepared_same log (doubts_left log) (txns_in txns) back
 
   pub nobody_rolled : rolled_in txns ≡ []
-  nobody_rolled = none_rolled log (doubts_in log) (txns_in txns) back
+  nobody_rolled = none_rolled log (doubts_left log) (txns_in txns) back
 
   -- what holds of each of them holds of its transaction in the table
-  pub each_given : (P : Txn → Type 0) → ((d : LoggedDoubt) (t : Txn) → IsAmong d (doubts_in log) → IsGivenBack log d t → P t) → AllByRecursion P (txns_in txns)
-  each_given P holds = each (doubts_in log) (txns_in txns) back holds
+  pub each_given : (P : Txn → Type 0) → ((d : LoggedDoubt) (t : Txn) → IsAmong d (doubts_left log) → IsGivenBack log d t → P t) → AllByRecursion P (txns_in txns)
+  each_given P holds = each (doubts_left log) (txns_in txns) back holds
     where
       each : (ds : List LoggedDoubt) (ts : List Txn) → AreGivenBack log ds ts → ((d : LoggedDoubt) (t : Txn) → IsAmong d ds → IsGivenBack log d t → P t) → AllByRecursion P ts
       each [] [] back holds = tt
@@ -54,17 +55,17 @@ module _ (log : List LogRecord) (txns : Transactions) (back : HasDoubts log txns
       each (d ∷ ds) (t ∷ ts) back holds = (holds d t (inl refl) back.0, each ds ts back.1 (λ e u among of. holds e u (inr among) of))
 
   -- an undo list in the table is that which the log gives one in doubt
-  pub one_of_them : (a : SessionTxn) → IsAmong a (undos_in txns) → (d : LoggedDoubt) × IsAmong d (doubts_in log) × (undo_told log d ≡ a)
-  one_of_them a among = mapped_one (undo_told log) a (doubts_in log) (subst (IsAmong a) undos_are_told among)
+  pub one_of_them : (a : SessionTxn) → IsAmong a (undos_in txns) → (d : LoggedDoubt) × IsAmong d (doubts_left log) × (undo_told log d ≡ a)
+  one_of_them a among = mapped_one (undo_told log) a (doubts_left log) (subst (IsAmong a) undos_are_told among)
 
-  pub as_many_undos : length (undos_in txns) ≡ length (doubts_in log)
-  as_many_undos = ap length undos_are_told ∙ length-map (doubts_in log) (undo_told log)
+  pub as_many_undos : length (undos_in txns) ≡ length (doubts_left log)
+  as_many_undos = ap length undos_are_told ∙ length-map (doubts_left log) (undo_told log)
 
   -- ---- as an opening of the log lists them
 
-  module _ (listed : List InDoubt) (same : map (λ (d : InDoubt). (d.txn, d.global)) listed ≡ map pair_logged (doubts_in log)) where
-    by_pairs : {B : Type 0} (h : ℕ × List ℕ → B) → map (λ (d : LoggedDoubt). h (d.txn, d.global)) (doubts_in log) ≡ map (λ (d : InDoubt). h (d.txn, d.global)) listed
-    by_pairs h = sym (map-map h pair_logged (doubts_in log)) ∙ ap (map h) (sym same) ∙ map-map h (λ (d : InDoubt). (d.txn, d.global)) listed
+  module _ (listed : List InDoubt) (same : map (λ (d : InDoubt). (d.txn, d.global)) listed ≡ map pair_logged (doubts_left log)) where
+    by_pairs : {B : Type 0} (h : ℕ × List ℕ → B) → map (λ (d : LoggedDoubt). h (d.txn, d.global)) (doubts_left log) ≡ map (λ (d : InDoubt). h (d.txn, d.global)) listed
+    by_pairs h = sym (map-map h pair_logged (doubts_left log)) ∙ ap (map h) (sym same) ∙ map-map h (λ (d : InDoubt). (d.txn, d.global)) listed
 
     pub prepared_listed : prepared_in txns ≡ map found_in_doubt listed
     prepared_listed = prepared_are_told ∙ by_pairs answered
@@ -73,4 +74,4 @@ module _ (log : List LogRecord) (txns : Transactions) (back : HasDoubts log txns
         answered p = record { txn = p.0; global = p.1; answered = true }
 
     pub active_listed : txns_of (undos_in txns) ≡ map (λ (d : InDoubt). d.txn) listed
-    active_listed = ap txns_of undos_are_told ∙ map-map (λ (a : SessionTxn). a.txn) (undo_told log) (doubts_in log) ∙ by_pairs (λ p. p.0)
+    active_listed = ap txns_of undos_are_told ∙ map-map (λ (a : SessionTxn). a.txn) (undo_told log) (doubts_left log) ∙ by_pairs (λ p. p.0)

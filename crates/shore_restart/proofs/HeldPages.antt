@@ -46,13 +46,18 @@ IsNoPage error = (f : Fault) → error ≡ Page f → ⊥
 -- ---- faults
 
 -- what is damaged behind some work was so before
-pub fault_back : (g now : Geometry) (disk left : ℕ → List ℕ) (last later : ℕ) (f : Fault) → now ≡ g
-    → ((id : PageId) → HasPage g id → HasNoPage (left (page_number g id)) id later → HasNoPage (disk (page_number g id)) id last) → IsPageFault now left later f → IsPageFault g disk last f
-fault_back g now disk left last later f same bad of = by_kind (subst (λ (x : Geometry). IsPageFault x left later f) same of)
+pub fault_back : (g now : Geometry) (may_read : PageId → Type 0) (disk left : ℕ → List ℕ) (last later : ℕ) (f : Fault) → now ≡ g
+    → ((id : PageId) → HasPage g id → HasNoPage (left (page_number g id)) id later → HasNoPage (disk (page_number g id)) id last) → IsPageFault now may_read left later f → IsPageFault g may_read disk last f
+fault_back g now may_read disk left last later f same bad of = by_kind (subst (λ (x : Geometry). IsPageFault x may_read left later f) same of)
   where
-    by_kind : IsPageFault g left later f → IsPageFault g disk last f
+    by_kind : IsPageFault g may_read left later f → IsPageFault g may_read disk last f
     by_kind (inl device) = inl device
-    by_kind (inr (id, there, is, none)) = inr (id, there, is, bad id there none)
+    by_kind (inr (id, there, read, is, none)) = inr (id, there, read, is, bad id there none)
+
+-- .. also where more pages may be read
+pub fault_wider : (g : Geometry) (few more : PageId → Type 0) (disk : ℕ → List ℕ) (last : ℕ) (f : Fault) → ((p : PageId) → few p → more p) → IsPageFault g few disk last f → IsPageFault g more disk last f
+fault_wider g few more disk last f all (inl device) = inl device
+fault_wider g few more disk last f all (inr (id, there, read, is, none)) = inr (id, there, all id read, is, none)
 
 pub no_page_down : (text : List ℕ) (id : PageId) (last later : ℕ) → last ≤ later → HasNoPage text id later → HasNoPage text id last
 no_page_down text id last later more none number images is = let above = none number images is in omega (arith, above, more)
@@ -139,28 +144,40 @@ module _ {V : Type 0} {H : Ghosts V} where
     pub held_changed : (new : Heap V H) (after : List LogRecord) (later : ℕ) → between ≤ later → IsHeld front first s.left new after later → StaysHeld front first disk old new last after later
     held_changed new after later more held = record { left = s.left; held = held; bad = λ id there none. s.bad id there (no_page_down (s.left _) id between later more none) }
 
-    pub held_behind : {A : Type 0} (r : Result A RestartError) (new : Heap V H) (after : List LogRecord) (later : ℕ) → geometry_of mid ≡ geometry_of old
-        → WorksHeld r front first s.left mid new between after later → WorksHeld r front first disk old new last after later
+    pub held_behind : {A : Type 0} {may_read : PageId → Type 0} (r : Result A RestartError) (new : Heap V H) (after : List LogRecord) (later : ℕ) → geometry_of mid ≡ geometry_of old
+        → WorksHeld r may_read front first s.left mid new between after later → WorksHeld r may_read front first disk old new last after later
     held_behind (Ok x) new after later same w = record { named = tt; stays = held_then new after later same w.stays }
-    held_behind (Err e) new after later same w = record { named = λ f is. fault_back (geometry_of old) (geometry_of mid) disk s.left last between f same s.bad (w.named f is); stays = tt }
+    held_behind {may_read = may_read} (Err e) new after later same w = record { named = λ f is. fault_back (geometry_of old) (geometry_of mid) may_read disk s.left last between f same s.bad (w.named f is); stays = tt }
+
+  -- counted otherwise
+  pub held_counted : {A : Type 0} {may_read : PageId → Type 0} (r : Result A RestartError) (front : List ℕ) (first disk : ℕ → List ℕ) (old new : Heap V H) (done : List LogRecord) (n m : ℕ) → n ≡ m
+      → (IsHeld front first disk old done m → WorksHeld r may_read front first disk old new m done m) → IsHeld front first disk old done n → WorksHeld r may_read front first disk old new n done n
+  held_counted {may_read = may_read} r front first disk old new done n m same works held =
+      subst (λ (k : ℕ). WorksHeld r may_read front first disk old new k done k) (sym same) (works (subst (IsHeld front first disk old done) same held))
 
   -- an error that was passed on
-  pub held_err : {A B : Type 0} (front : List ℕ) (first disk : ℕ → List ℕ) (old new : Heap V H) (last : ℕ) (before : List LogRecord) (now : ℕ) (done : List LogRecord) (later : ℕ) (r : Result A RestartError) (e : RestartError) → IsErrAnd r (λ x. x ≡ e)
-      → WorksHeld {A = B} (Err e) front first disk old new last before now → WorksHeld r front first disk old new last done later
+  pub held_err : {A B : Type 0} {may_read : PageId → Type 0} (front : List ℕ) (first disk : ℕ → List ℕ) (old new : Heap V H) (last : ℕ) (before : List LogRecord) (now : ℕ) (done : List LogRecord) (later : ℕ) (r : Result A RestartError) (e : RestartError) → IsErrAnd r (λ x. x ≡ e)
+      → WorksHeld {A = B} (Err e) may_read front first disk old new last before now → WorksHeld r may_read front first disk old new last done later
   held_err front first disk old new last before now done later (Ok x) e is w = absurd is
   held_err front first disk old new last before now done later (Err x) e is w = record { named = λ f at. w.named f (sym is ∙ at); stays = tt }
 
   -- .. and one that is of no page
-  pub held_other : {A : Type 0} (front : List ℕ) (first disk : ℕ → List ℕ) (old new : Heap V H) (last : ℕ) (done : List LogRecord) (later : ℕ) (r : Result A RestartError) (e : RestartError) → IsErrAnd r (λ x. x ≡ e) → IsNoPage e
-      → WorksHeld r front first disk old new last done later
+  pub held_other : {A : Type 0} {may_read : PageId → Type 0} (front : List ℕ) (first disk : ℕ → List ℕ) (old new : Heap V H) (last : ℕ) (done : List LogRecord) (later : ℕ) (r : Result A RestartError) (e : RestartError) → IsErrAnd r (λ x. x ≡ e) → IsNoPage e
+      → WorksHeld r may_read front first disk old new last done later
   held_other front first disk old new last done later (Ok x) e is none = absurd is
   held_other front first disk old new last done later (Err x) e is none = record { named = λ f at. absurd (none f (sym is ∙ at)); stays = tt }
 
   -- a call that is of no page, and leaves the heap
-  pub held_beside : {A : Type 0} (front : List ℕ) (first disk : ℕ → List ℕ) (old new : Heap V H) (last : ℕ) (done : List LogRecord) (later : ℕ) (r : Result A RestartError) → IfErr r IsNoPage → StaysHeld front first disk old new last done later
-      → WorksHeld r front first disk old new last done later
+  pub held_beside : {A : Type 0} {may_read : PageId → Type 0} (front : List ℕ) (first disk : ℕ → List ℕ) (old new : Heap V H) (last : ℕ) (done : List LogRecord) (later : ℕ) (r : Result A RestartError) → IfErr r IsNoPage → StaysHeld front first disk old new last done later
+      → WorksHeld r may_read front first disk old new last done later
   held_beside front first disk old new last done later (Ok x) none stays = record { named = tt; stays = stays }
   held_beside front first disk old new last done later (Err e) none stays = record { named = λ f is. absurd (none f is); stays = tt }
+
+  -- work that may read more pages
+  pub held_wider : {A : Type 0} (few more : PageId → Type 0) (r : Result A RestartError) (front : List ℕ) (first disk : ℕ → List ℕ) (old new : Heap V H) (last : ℕ) (done : List LogRecord) (later : ℕ) → ((p : PageId) → few p → more p)
+      → WorksHeld r few front first disk old new last done later → WorksHeld r more front first disk old new last done later
+  held_wider few more (Ok x) front first disk old new last done later all w = record { named = tt; stays = w.stays }
+  held_wider few more (Err e) front first disk old new last done later all w = record { named = λ f is. fault_wider (geometry_of old) few more disk last f all (w.named f is); stays = tt }
 
   -- ---- a fetch
 
@@ -193,16 +210,16 @@ module _ {V : Type 0} {H : Ghosts V} where
       made_now p page there is = held.made p page there ((stay.same (page_number (geometry_of old) p) p page.number page.images).1 is)
 
   pub low_names : (disk : ℕ → List ℕ) (heap : Heap V H) (page : PageId) (ends : LogEnds) (f h : Fault) (error : RestartError) → HasPage (geometry_of heap) page → IsLow ends.last (frame_at heap)
-      → RefusesPage heap disk page ends f → IsPageError f error → error ≡ Page h → IsPageFault (geometry_of heap) disk ends.last h ⊎ ((n : ℕ) × (h ≡ fault.NeedForce n) × (ends.durable < n) × (n ≤ ends.last))
+      → RefusesPage heap disk page ends f → IsPageError f error → error ≡ Page h → IsPageFault (geometry_of heap) (λ p. p ≡ page) disk ends.last h ⊎ ((n : ℕ) × (h ≡ fault.NeedForce n) × (ends.durable < n) × (n ≤ ends.last))
   low_names disk heap page ends f h error there low refuses of is = by_kind refuses
     where
       same : h ≡ f
       same = sym (page_is f h error of is).0
 
-      by_kind : RefusesPage heap disk page ends f → IsPageFault (geometry_of heap) disk ends.last h ⊎ ((n : ℕ) × (h ≡ fault.NeedForce n) × (ends.durable < n) × (n ≤ ends.last))
+      by_kind : RefusesPage heap disk page ends f → IsPageFault (geometry_of heap) (λ p. p ≡ page) disk ends.last h ⊎ ((n : ℕ) × (h ≡ fault.NeedForce n) × (ends.durable < n) × (n ≤ ends.last))
       by_kind (inl device) = inl (inl (same ∙ device))
       by_kind (inr (inl memory)) = absurd ((page_is f h error of is).1 memory)
-      by_kind (inr (inr (inl damaged))) = inl (inr (page, there, same ∙ damaged.0, damaged.1))
+      by_kind (inr (inr (inl damaged))) = inl (inr (page, there, refl, same ∙ damaged.0, damaged.1))
       by_kind (inr (inr (inr (n, asks, needs)))) = inr (n, same ∙ asks, needs.above, at (frame_at heap needs.one.0) refl needs.one.1)
         where
           at : (o : Option Frame) → frame_at heap needs.one.0 ≡ o → IsSomeAnd o (λ f. f.page.number ≡ n) → n ≤ ends.last
@@ -210,18 +227,18 @@ module _ {V : Type 0} {H : Ghosts V} where
           at (Some it) is number = let most = low needs.one.0 it is in omega (arith, number, most)
 
   pub fetch_names : (front : List ℕ) (first disk : ℕ → List ℕ) (heap : Heap V H) (done : List LogRecord) (page : PageId) (ends : LogEnds) (f h : Fault) (error : RestartError) → HasPage (geometry_of heap) page → IsHeld front first disk heap done ends.last
-      → RefusesPage heap disk page ends f → IsPageError f error → error ≡ Page h → IsPageFault (geometry_of heap) disk ends.last h ⊎ ((n : ℕ) × (h ≡ fault.NeedForce n) × (ends.durable < n) × (n ≤ ends.last))
+      → RefusesPage heap disk page ends f → IsPageError f error → error ≡ Page h → IsPageFault (geometry_of heap) (λ p. p ≡ page) disk ends.last h ⊎ ((n : ℕ) × (h ≡ fault.NeedForce n) × (ends.durable < n) × (n ≤ ends.last))
   fetch_names front first disk heap done page ends f h error there held refuses of is = low_names disk heap page ends f h error there held.low refuses of is
 
-  pub fetch_done : (front : List ℕ) (first disk : ℕ → List ℕ) (old new : Heap V H) (done : List LogRecord) (last durable : ℕ) (u : Unit {0}) → FetchesHeld (Ok u) front first disk old new done last durable → StaysHeld front first disk old new last done last
+  pub fetch_done : {may_read : PageId → Type 0} (front : List ℕ) (first disk : ℕ → List ℕ) (old new : Heap V H) (done : List LogRecord) (last durable : ℕ) (u : Unit {0}) → FetchesHeld (Ok u) may_read front first disk old new done last durable → StaysHeld front first disk old new last done last
   fetch_done front first disk old new done last durable u f = elim f.stays [
     | inl device ↦ let clash = device in absurd cc
     | inr stays ↦ stays
   ]
 
   -- .. that needs no force
-  pub fetch_alone : (front : List ℕ) (first disk : ℕ → List ℕ) (old new : Heap V H) (done : List LogRecord) (last durable : ℕ) (r : Result (Unit {0}) RestartError) → (((n : ℕ) × (r ≡ Err (Page (fault.NeedForce n)))) → ⊥)
-      → FetchesHeld r front first disk old new done last durable → WorksHeld r front first disk old new last done last
+  pub fetch_alone : {may_read : PageId → Type 0} (front : List ℕ) (first disk : ℕ → List ℕ) (old new : Heap V H) (done : List LogRecord) (last durable : ℕ) (r : Result (Unit {0}) RestartError) → (((n : ℕ) × (r ≡ Err (Page (fault.NeedForce n)))) → ⊥)
+      → FetchesHeld r may_read front first disk old new done last durable → WorksHeld r may_read front first disk old new last done last
   fetch_alone front first disk old new done last durable (Ok u) unforced f = record { named = tt; stays = fetch_done front first disk old new done last durable u f }
   fetch_alone front first disk old new done last durable (Err e) unforced f = record {
     named = λ h is. elim (f.named h is) [
@@ -232,8 +249,8 @@ module _ {V : Type 0} {H : Ghosts V} where
   }
 
   -- .. since all is durable
-  pub fetch_seen : (front : List ℕ) (first disk : ℕ → List ℕ) (old new : Heap V H) (done : List LogRecord) (last : ℕ) (r : Result (Unit {0}) RestartError) → FetchesHeld r front first disk old new done last last
-      → WorksHeld r front first disk old new last done last
+  pub fetch_seen : {may_read : PageId → Type 0} (front : List ℕ) (first disk : ℕ → List ℕ) (old new : Heap V H) (done : List LogRecord) (last : ℕ) (r : Result (Unit {0}) RestartError) → FetchesHeld r may_read front first disk old new done last last
+      → WorksHeld r may_read front first disk old new last done last
   fetch_seen front first disk old new done last (Ok u) f = record { named = tt; stays = fetch_done front first disk old new done last last u f }
   fetch_seen front first disk old new done last (Err e) f = record {
     named = λ h is. elim (f.named h is) [
@@ -244,8 +261,8 @@ module _ {V : Type 0} {H : Ghosts V} where
   }
 
   -- .. or that needs one, and leaves the heap
-  pub fetch_forced : (front : List ℕ) (first disk : ℕ → List ℕ) (old new : Heap V H) (done : List LogRecord) (last durable : ℕ) (r : Result (Unit {0}) RestartError) (n : ℕ) → r ≡ Err (Page (fault.NeedForce n))
-      → FetchesHeld r front first disk old new done last durable → StaysHeld front first disk old new last done last
+  pub fetch_forced : {may_read : PageId → Type 0} (front : List ℕ) (first disk : ℕ → List ℕ) (old new : Heap V H) (done : List LogRecord) (last durable : ℕ) (r : Result (Unit {0}) RestartError) (n : ℕ) → r ≡ Err (Page (fault.NeedForce n))
+      → FetchesHeld r may_read front first disk old new done last durable → StaysHeld front first disk old new last done last
   fetch_forced front first disk old new done last durable r n is f = elim f.stays [
     | inl device ↦ let clash = sym is ∙ device in absurd cc
     | inr stays ↦ stays

@@ -5,7 +5,7 @@ use Rattle.shore_types.specs.declared.faults.Fault.{Fault}
 use Rattle.shore_types.specs.declared.faults.Fault.TheVariants as fault
 use Rattle.shore_disk.specs.Cause.{HasCause}
 use Rattle.shore_restart.specs.declared.errors.RestartError.{RestartError}
-use Rattle.shore_restart.specs.declared.errors.RestartError.TheVariants.{BadRecord, Log, Memory, NoRoom, Page}
+use Rattle.shore_restart.specs.declared.errors.RestartError.TheVariants.{BadAnchor, BadRecord, Log, Memory, NoRoom, Page}
 use Rattle.shore_restart.specs.Errors.{IsLogError, log_answer}
 use Rattle.shore_restart.proofs.PageErrors.{err_with}
 
@@ -29,6 +29,7 @@ passed_log_cause A B r error old between new same is cause = subst (λ (result :
     same_answer : (e : RestartError) → HasCause (log_answer {A = B} (Err e)) between new → HasCause (log_answer {A = A} (Err e)) between new
     same_answer Memory cause = cause
     same_answer NoRoom cause = cause
+    same_answer BadAnchor cause = cause
     same_answer (BadRecord n) cause = cause
     same_answer (Page f) cause = cause
     same_answer (Log f) cause = cause

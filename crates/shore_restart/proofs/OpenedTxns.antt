@@ -1,11 +1,10 @@
 -- The state that a core over a restart opens in: those in doubt are under way, as the table has them, and nobody else. What the table, the calls that wait and
 -- the lock table stand for there.
-use Rattle.std.proofs.Common.{◌≡◌, ◌≢◌, inl, inr, ◌+◌, ◌<◌, ◌≤◌, ℕ, List, [], ◌∷◌, ◌++◌, Bool, true, false, cond, Option, None, Some, refl, sym, ap, subst, ◌∙◌, length, arith}
-use Rattle.std.specs.Prelude.{◌==◌, ◌&&◌, ◌||◌, All, Contains, is_some, not}
+use Rattle.std.proofs.Common.{◌≡◌, inl, inr, ◌+◌, ◌<◌, ◌≤◌, ℕ, List, [], ◌∷◌, ◌++◌, Bool, true, false, cond, Option, None, Some, refl, sym, ap, subst, ◌∙◌, drop, length, arith}
+use Rattle.std.specs.Prelude.{◌==◌, ◌&&◌, ◌||◌, All, Contains, is_some, not, reverse}
 use Rattle.std.specs.List.{AllByRecursion, cons_option}
 use Rattle.std.specs.List.Sorted.{IsPermutation}
 use Rattle.std.proofs.lemmas.Bool.{true≢false}
-use Rattle.std.proofs.lemmas.List.Elements.{recursion_from_All}
 use Rattle.std.proofs.lemmas.List.Sorted.{IsPermutation-refl}
 use Rattle.shore_types.specs.declared.locking.Mode.{Mode}
 use Rattle.shore_types.specs.declared.layout.Geometry.{Geometry}
@@ -14,9 +13,9 @@ use Rattle.shore_model.specs.declared.log_records.LogRecord.{LogRecord}
 use Rattle.shore_model.specs.declared.requests.Request.{Request}
 use Rattle.shore_model.specs.Histories.{free}
 use Rattle.shore_model.specs.Logs as logs
-use Rattle.shore_model.specs.Logs.{first_number, has, is_commit, is_prepare, is_rollback, previous_of, records_told, unanswered}
+use Rattle.shore_model.specs.Logs.{first_number, has, is_commit, is_prepare, is_rollback, prepare_number, previous_of, records_told, unanswered}
 use Rattle.shore_model.specs.Requests.{held_by_all, hold_in, hold_of}
-use Rattle.laws_lives.specs.Doubts.{LoggedDoubt, doubts_in}
+use Rattle.laws_lives.specs.Doubts.{LoggedDoubt}
 use Rattle.laws_lives.specs.Recovery.{RecoveryState}
 use Rattle.laws_lives.specs.Sessions.{Sessions}
 use Rattle.laws_lives.specs.Undo.{IsUndoneTo, undo_record}
@@ -29,12 +28,13 @@ use Rattle.laws_calls.proofs.RollbackNumbers.{number_push}
 use Rattle.laws_calls.specs.CallHistories.{HasGrantedLocks}
 use Rattle.laws_calls.specs.Resolves.{rollback_number}
 use Rattle.laws_calls.specs.States.{State}
+use Rattle.laws_runs.specs.CheckpointSteps.{log_limit}
 use Rattle.laws_runs.specs.SlotCounts.{slot_count}
 use Rattle.shore_analysis.specs.KeptMeant.{AreMeantKept}
-use Rattle.shore_analysis.specs.Tables.{IsNext}
+use Rattle.shore_analysis.specs.Doubts.{doubts_left}
+use Rattle.shore_analysis.specs.Padded.{padded}
 use Rattle.shore_analysis.proofs.Answered.{last_named}
 use Rattle.shore_analysis.proofs.Counted.{last_is_one}
-use Rattle.shore_analysis.proofs.WholeRecords.{doubts_run}
 use Rattle.shore_locks.specs.Orderly.{IsOfUse}
 use Rattle.shore_locks.proofs.Members.{All-In, In, In-All, In-Contains}
 use Rattle.shore_path.specs.Restoring.{NobodyWaits}
@@ -49,11 +49,15 @@ use Rattle.shore_sessions.specs.Calls.{resolved_by}
 use Rattle.shore_sessions.specs.Controls.{locks_in, txns_in, waits_in}
 use Rattle.shore_sessions.specs.Seated.{IsNamed, IsSeated, is_rolled}
 use Rattle.shore_sessions.specs.Standing.{HasControl, HasTxns, HasWaits, IsLogged}
+use Rattle.shore_restart.specs.Anchors.{EndsBehind}
 use Rattle.shore_restart.specs.GivenBack.{HasDoubtsBack, IsGivenBack}
 use Rattle.shore_restart.specs.Room.{IsRoomBehind}
-use Rattle.shore_restart.proofs.DoubtsKept.{in_doubt_here, last_is_prepare, same_unanswered, stays_in_doubt}
+use Rattle.shore_restart.proofs.DoubtsKept.{last_is_prepare}
+use Rattle.shore_restart.proofs.DoubtsNamed.{left_here, number_of_one}
 use Rattle.shore_restart.proofs.DoubtsTold.{each_given, nobody_rolled}
+use Rattle.shore_restart.proofs.Rooms.{cost_parts}
 use Rattle.shore_restart.proofs.UndoTexts.{last_low}
+use Rattle.shore_restart.proofs.WholeDoubts.{doubt_some, doubt_still, prepare_still, records_still, unanswered_still}
 
 -- ---- numbers of transactions
 
@@ -67,12 +71,11 @@ below_undone n log (t ∷ turns) last undone all =
     below_undone n (log ++ undo_record log t ∷ []) turns last undone.1
     (recursion-push (λ (r : LogRecord). r.txn < n) log (undo_record log t) all (subst (λ k. k < n) one.own here))
 
--- so are those in doubt
-pub doubt_below : (g : Geometry) (log : List LogRecord) (n : ℕ) → AreMeantKept g 0 log → AllByRecursion (λ r. r.txn < n) log → (d : LoggedDoubt) → IsAmong d (doubts_in log) → (0 < d.txn) × (d.txn < n)
-doubt_below g log n meant all d among =
-    let runs = doubts_run g log meant d.txn (in_doubt_here log d among) in
-    let one = last_is_one log d.txn runs.known in
-    (runs.some, subst (λ (k : ℕ). k < n) one.own (recursion-at (λ (r : LogRecord). r.txn < n) log one.at one.found all one.here))
+-- those in doubt are of such numbers
+pub doubt_below : (g : Geometry) (cut : ℕ) (kept : List LogRecord) (n : ℕ) → AreMeantKept g cut kept → All (λ r. r.txn < n) kept → (d : LoggedDoubt) → IsAmong d (doubts_left (padded cut kept)) → d.txn < n
+doubt_below g cut kept n meant all d among =
+    let left = left_here (padded cut kept) d among in
+    (number_of_one g cut kept meant d.txn left.0 left.1).below n all
 
 -- who has no Rollback decided has no number of one
 no_rollback : (t : ℕ) (log : List LogRecord) → has is_rollback t log ≡ false → rollback_number t log ≡ 0
@@ -85,23 +88,25 @@ no_rollback t = by_push (λ log. has is_rollback t log ≡ false → rollback_nu
 
 -- ---- one in doubt, over the log that undo leaves
 
-module _ (g : Geometry) (found : List LogRecord) (turns : List ℕ) (last : List LogRecord) (meant : AreMeantKept g 0 found) (undone : IsUndoneTo found turns last) (d : LoggedDoubt) (t : Txn)
-    (among : IsAmong d (doubts_in found)) (of : IsGivenBack found d t) where
-  doubt : logs.is_in_doubt d.txn found ≡ true
-  doubt = in_doubt_here found d among
-
+module _ (g : Geometry) (cut : ℕ) (kept found : List LogRecord) (ends : EndsBehind cut found) (same : drop cut found ≡ kept) (meant : AreMeantKept g cut kept) (turns : List ℕ) (last : List LogRecord)
+    (undone : IsUndoneTo found turns last) (d : LoggedDoubt) (t : Txn) (among : IsAmong d (doubts_left (padded cut kept))) (of : IsGivenBack (padded cut kept) d t) where
   some : 0 < d.txn
-  some = (doubts_run g found meant d.txn doubt).some
+  some = doubt_some g cut kept found ends same meant turns last undone d among
 
-  -- its Prepare is its last record, and it has no decision
+  -- its records are those that are kept, of which its Prepare is the last, and it has no decision
   given_logged : IsLogged last t
   given_logged =
-      let stays = stays_in_doubt found turns last undone d.txn doubt in
-      let parts = in_doubt_parts (has is_prepare d.txn last) (has is_commit d.txn last) (has is_rollback d.txn last) stays.doubt in
+      let doubt = doubt_still g cut kept found ends same meant turns last undone d among in
+      let parts = in_doubt_parts (has is_prepare d.txn last) (has is_commit d.txn last) (has is_rollback d.txn last) doubt in
+      let records = records_still g cut kept found ends same meant turns last undone d among in
       record {
-        last = of.last ∙ sym (last_is_prepare g found meant d.txn doubt) ∙ sym (ap first_number stays.newest) ∙ sym (last_named last d.txn some) ∙ ap (λ (n : ℕ). previous_of n last) (sym of.txn);
-        changes = ap (λ (n : ℕ). unanswered n last) of.txn ∙ same_unanswered found turns last undone d among ∙ of.entries.changes;
+        first = of.first ∙ ap first_number (sym records) ∙ ap (λ (n : ℕ). logs.first_of n last) (sym of.txn);
+        last = of.last ∙ sym (last_is_prepare g cut kept meant d among) ∙ ap (λ (es : List (ℕ × LogRecord)). first_number (reverse es)) (sym records) ∙ sym (last_named last d.txn some)
+            ∙ ap (λ (n : ℕ). previous_of n last) (sym of.txn);
+        changes = ap (λ (n : ℕ). unanswered n last) of.txn ∙ unanswered_still g cut kept found ends same meant turns last undone d among ∙ of.entries.changes;
         claims = of.entries.claims;
+        prepare = of.prepare ∙ sym (prepare_still g cut kept found ends same meant turns last undone d among) ∙ ap (λ (n : ℕ). prepare_number n last) (sym of.txn);
+        unprepared = λ none. let clash : ◌≡◌ {A = Option (List ℕ)} None (Some d.global) = sym none ∙ of.global in cc;
         decided = of.decided ∙ sym (no_rollback d.txn last parts.2) ∙ ap (λ (n : ℕ). rollback_number n last) (sym of.txn);
       }
 
@@ -120,9 +125,10 @@ module _ (g : Geometry) (found : List LogRecord) (turns : List ℕ) (last : List
     alone = λ n is. let none : (s.seats n).txn ≡ 0 = ap (λ x. x.txn) (seats n) in let own = of.txn in let one = some in absurd (omega (arith, none, is, own, one));
   }
 
-  -- its number is one of the log's
-  pub given_earlier : last_of t ≤ length found
-  given_earlier = let low = last_low found d.txn in let same = of.last ∙ sym (last_is_prepare g found meant d.txn doubt) in omega (arith, low, same)
+-- the number of its last record is one of the log's
+pub given_earlier : (g : Geometry) (cut : ℕ) (kept : List LogRecord) → AreMeantKept g cut kept → (d : LoggedDoubt) (t : Txn) → IsAmong d (doubts_left (padded cut kept)) → IsGivenBack (padded cut kept) d t
+    → last_of t ≤ length (padded cut kept)
+given_earlier g cut kept meant d t among of = let low = last_low (padded cut kept) d.txn in let same = of.last ∙ sym (last_is_prepare g cut kept meant d among) in omega (arith, low, same)
 
 -- ---- their locks
 
@@ -148,7 +154,8 @@ requests_below rs n nobody of_use below = All-In (λ (r : Request). r.txn < n) r
 
 -- ---- the state
 
-module _ (ready : RecoveryState) (control : Control) (stream_bytes : ℕ) where
+module _ (cut : ℕ) (ready : RecoveryState) (control : Control) (ring_bytes : ℕ) where
+  -- what is cut off takes no room of the log stream
   abbrev pub opened_state : State
   opened_state = record {
     sessions = record {
@@ -164,40 +171,46 @@ module _ (ready : RecoveryState) (control : Control) (stream_bytes : ℕ) where
     counts = slot_count ready.log;
     log = ready.log;
     durable = ready.durable;
-    stream_bytes = stream_bytes;
+    stream_bytes = log_limit ring_bytes cut ready.log;
     waiting = [];
     failed = false;
   }
 
+  abbrev next : ℕ
+  next = next_in (txns_in control)
+
   -- the control stands for it
-  module _ (g : Geometry) (found : List LogRecord) (turns : List ℕ) (limit : ℕ) (meant : AreMeantKept g 0 found) (undone : IsUndoneTo found turns ready.log) (back : HasDoubtsBack limit found control)
-      (next : IsNext found (next_in (txns_in control))) where
-    abbrev below : AllByRecursion (λ r. r.txn < next_in (txns_in control)) found
-    below = recursion_from_All (λ (r : LogRecord). r.txn < next_in (txns_in control)) found next.above
+  module _ (g : Geometry) (kept found : List LogRecord) (ends : EndsBehind cut found) (same : drop cut found ≡ kept) (meant : AreMeantKept g cut kept) (turns : List ℕ) (undone : IsUndoneTo found turns ready.log)
+      (limit : ℕ) (back : HasDoubtsBack limit (padded cut kept) control) (some : 1 ≤ next) (above : All (λ r. r.txn < next) kept) (below : AllByRecursion (λ r. r.txn < next) found) where
+    abbrev seen : List LogRecord
+    seen = padded cut kept
 
     pub opened_locks : HasGrantedLocks opened_state
     opened_locks = record {
       held = refl;
       orderly = back.locks.orderly;
       rooted = back.locks.rooted;
-      below = requests_below (locks_in control).requests (next_in (txns_in control)) back.locks.nobody_waits back.locks.orderly.of_use (λ h held.
+      below = requests_below (locks_in control).requests next back.locks.nobody_waits back.locks.orderly.of_use (λ h held.
           let of = back.locks.restored.each h held in
-          subst (λ (n : ℕ). n < next_in (txns_in control)) (sym of.3) (doubt_below g found (next_in (txns_in control)) meant below of.0 of.2).1);
+          subst (λ (n : ℕ). n < next) (sym of.3) (doubt_below g cut kept next meant above of.0 of.2));
       nobody_waits = back.locks.nobody_waits;
     }
 
-    pub opened_txns : IsRoomBehind ready.log stream_bytes (room_in (txns_in control)) → HasTxns (txns_in control) opened_state
+    pub opened_above : AllByRecursion (λ r. r.txn < next) ready.log
+    opened_above = below_undone next found turns ready.log undone below
+
+    pub opened_txns : IsRoomBehind cut (drop cut ready.log) ring_bytes (room_in (txns_in control)) → HasTxns (txns_in control) opened_state
     opened_txns room = record {
       active = refl;
       prepared = IsPermutation-refl (prepared_in (txns_in control));
-      seats = each_given found (txns_in control) back.txns (IsSeated opened_state.sessions) (λ d t among of. given_seated g found turns ready.log meant undone d t among of opened_state.sessions (λ n. refl));
-      entered = λ n. next.some;
-      names = each_given found (txns_in control) back.txns IsNamed (λ d t among of. given_named g found turns ready.log meant undone d t among of);
+      seats = each_given seen (txns_in control) back.txns (IsSeated opened_state.sessions)
+          (λ d t among of. given_seated g cut kept found ends same meant turns ready.log undone d t among of opened_state.sessions (λ n. refl));
+      entered = λ n. some;
+      names = each_given seen (txns_in control) back.txns IsNamed (λ d t among of. given_named g cut kept found ends same meant turns ready.log undone d t among of);
       next = refl;
-      stream = sym room.stream;
-      kept = sym room.kept;
-      each = each_given found (txns_in control) back.txns (IsLogged ready.log) (λ d t among of. given_logged g found turns ready.log meant undone d t among of);
-      above = below_undone (next_in (txns_in control)) found turns ready.log undone below;
+      room = let parts = cost_parts cut ready.log in let stream = room.stream in let cost = room.kept_is in omega (arith, parts, stream, cost);
+      each = each_given seen (txns_in control) back.txns (IsLogged ready.log) (λ d t among of. given_logged g cut kept found ends same meant turns ready.log undone d t among of);
+      above = opened_above;
     }
 
     opened_waits : HasWaits (waits_in control) opened_state
@@ -210,10 +223,10 @@ module _ (ready : RecoveryState) (control : Control) (stream_bytes : ℕ) where
       once = tt;
     })
 
-    pub opened_control : IsRoomBehind ready.log stream_bytes (room_in (txns_in control)) → HasControl control opened_state
+    pub opened_control : IsRoomBehind cut (drop cut ready.log) ring_bytes (room_in (txns_in control)) → HasControl control opened_state
     opened_control room = record {
       txns = opened_txns room;
       waits = opened_waits;
-      resolving = λ running. subst (IsPermutation []) (λ i. sym (nobody_rolled found (txns_in control) back.txns) i ++ resolved_by (sym back.waits i)) (IsPermutation-refl []);
+      resolving = λ running. subst (IsPermutation []) (λ i. sym (nobody_rolled seen (txns_in control) back.txns) i ++ resolved_by (sym back.waits i)) (IsPermutation-refl []);
       locks = refl;
     }

@@ -15,7 +15,7 @@ use Rattle.laws_heaps.specs.LoggedHeaps.{IsStoreOf}
 use Rattle.laws_lives.specs.Recovery.{IsRecoverable, RecoveryState}
 use Rattle.shore_disk.specs.Cause.{HasCause}
 use Rattle.shore_restart.specs.declared.errors.RestartError.{RestartError}
-use Rattle.shore_restart.specs.declared.errors.RestartError.TheVariants.{BadRecord, Log, Memory, NoRoom, Page}
+use Rattle.shore_restart.specs.declared.errors.RestartError.TheVariants.{BadAnchor, BadRecord, Log, Memory, NoRoom, Page}
 use Rattle.shore_restart.specs.Errors.{IsEarned, IsPageError, volume_answer}
 use Rattle.shore_restart.proofs.Standing.{force_within}
 
@@ -95,3 +95,4 @@ passed_cause A B r error old between new same is cause = subst (λ (result : Res
     same_answer (BadRecord n) cause = cause
     same_answer (Page f) cause = cause
     same_answer (Log f) cause = cause
+    same_answer BadAnchor cause = cause

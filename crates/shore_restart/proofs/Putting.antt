@@ -1,6 +1,7 @@
 -- A change on a page in a frame, whose slot then keeps what its record takes: a record done on its page.
-use Rattle.std.proofs.Common.{◌≡◌, ◌≤◌, ◌<◌, ◌+◌, ℕ, List, Option, Some, None, refl, sym, ap, subst, ◌∙◌, length, option_map, arith}
+use Rattle.std.proofs.Common.{◌≡◌, ◌≤◌, ◌<◌, ◌+◌, ℕ, List, Option, Some, None, inl, inr, refl, sym, ap, subst, ◌∙◌, length, option_map, arith}
 use Rattle.std.specs.Prelude.{IsSomeAnd, IsTrue, is_some, slice_get}
+use Rattle.std.proofs.lemmas.Bool.{cases_eq}
 use Rattle.std.proofs.lemmas.List.{length-map}
 use Rattle.shore_types.specs.Images.{Image, image_len}
 use Rattle.shore_types.specs.Layout.{HasPage}
@@ -13,17 +14,21 @@ use Rattle.shore_dwrite.specs.Settled as settled_device
 use Rattle.shore_dwrite.specs.Volumes.{page_number}
 use Rattle.shore_model.specs.declared.log_records.LogRecord.{LogRecord}
 use Rattle.shore_model.specs.Logs.{image_in}
-use Rattle.shore_page.specs.Room.{Fits}
+use Rattle.shore_page.specs.Room.{Fits, lowered}
 use Rattle.shore_page.specs.Slots.{Slot, with_image}
 use Rattle.shore_pool.specs.declared.frame.Frame.{Frame}
-use Rattle.shore_pool.specs.Changes.{changed}
+use Rattle.shore_pool.specs.Changes.{changed, reclaimed}
 use Rattle.shore_pool.specs.Pages.{SamePages}
 use Rattle.shore_heap.specs.declared.heap.Heap.{Heap}
 use Rattle.shore_heap.specs.Contents.{unclaimed}
 use Rattle.shore_heap.specs.Heaps.{Shows, device_of, frame_at, frame_of, geometry_of}
 use Rattle.laws_lives.specs.Recovery.{AppendRecord, LeadsTo, RecoveryEvent, RecoveryState, RedoRecord, after_append, after_redo}
 use Rattle.laws_lives.proofs.Invariant.{event_kept}
+use Rattle.laws_checkpoints.specs.RecoveryNumbers.{RecoveryNumbers, recovery_after}
+use Rattle.laws_heaps.specs.HeapRecoveries.{HasRecoveries}
 use Rattle.laws_heaps.specs.LoggedHeaps.{IsMade, IsReleased, IsStoreOf}
+use Rattle.laws_heaps.proofs.DirtyTables.{numbers_unmoved}
+use Rattle.laws_heaps.proofs.Noted.{appended_noted, redone_noted}
 use Rattle.laws_heaps.proofs.Made.{appended_is, redone_is}
 use Rattle.laws_heaps.proofs.SlotImages.{count-with_image}
 use Rattle.laws_heaps.proofs.StaySettled.{settled_after}
@@ -66,14 +71,40 @@ module _ {V : Type 0} {H : Ghosts V} where
     held : IsTrue (is_some (frame_of old id.page))
     held = some_held (frame_of old id.page) (λ f. Fits f.page.slots id.slot (image_len image)) fits
 
+    -- what is released of a slot leaves the frames' numbers
+    numbers_released : (recovery : RecoveryNumbers) → HasRecoveries mid recovery → HasRecoveries new recovery
+    numbers_released recovery has =
+        numbers_unmoved mid new recovery has (λ k. released_number k) (same_geometry mid new again)
+      where
+        lowered_number : (o : Option Frame) → option_map (λ f. f.recovery) (option_map (reclaimed (lowered 0) id.slot) o) ≡ option_map (λ f. f.recovery) o
+        lowered_number None = refl
+        lowered_number (Some f) = refl
+
+        released_number : (k : ℕ) → option_map (λ f. f.recovery) (frame_at new k) ≡ option_map (λ f. f.recovery) (frame_at mid k)
+        released_number k = elim (cases_eq k (page_number (geometry_of mid) id.page)) [
+          | inl here ↦
+              ap (λ (n : ℕ). option_map (λ f. f.recovery) (frame_at new n)) here ∙ ap (option_map (λ f. f.recovery)) released.0 ∙ lowered_number (frame_of mid id.page)
+              ∙ ap (λ (n : ℕ). option_map (λ f. f.recovery) (frame_at mid n)) (sym here)
+          | inr apart ↦ ap (option_map (λ f. f.recovery)) (released.1 k apart)
+        ]
+
     pub put_redone : slice_get s.log s.redone ≡ Some r → image_in r.payload ≡ Some (id, image) → number ≡ s.redone + 1 → (s.in_place id.page).number ≤ s.redone
-        → LeadsTo s RedoRecord (after_redo s r) × Stands front disk new (after_redo s r)
+        → LeadsTo s RedoRecord (after_redo s r) × Stands front disk new (after_redo s r) × ((recovery : RecoveryNumbers) → HasRecoveries old recovery → HasRecoveries new (recovery_after s RedoRecord recovery))
     put_redone next says is due =
-        let m = redone_is old mid disk s r id image stands.store next says there held due (subst (λ (n : ℕ). IsMade old mid n id image) is made) (same_geometry old mid device) in
-        (m.0, stands_after RedoRecord (after_redo s r) m.0 m.1)
+        let its = subst (λ (n : ℕ). IsMade old mid n id image) is made in
+        let m = redone_is old mid disk s r id image stands.store next says there held due its (same_geometry old mid device) in (
+          m.0,
+          stands_after RedoRecord (after_redo s r) m.0 m.1,
+          λ recovery has. numbers_released (recovery_after s RedoRecord recovery) (redone_noted old mid s recovery r id image has next says there held due its (same_geometry old mid device)),
+        )
 
     pub put_appended : s.redone ≡ length s.log → image_in r.payload ≡ Some (id, image) → number ≡ length s.log + 1
         → LeadsTo s (AppendRecord r) (after_append s r) × Stands front disk new (after_append s r)
+        × ((recovery : RecoveryNumbers) → HasRecoveries old recovery → HasRecoveries new (recovery_after s (AppendRecord r) recovery))
     put_appended all says is =
-        let m = appended_is old mid disk s r id image stands.store stands.recoverable all says there held (subst (λ (n : ℕ). IsMade old mid n id image) is made) (same_geometry old mid device) in
-        (m.0, stands_after (AppendRecord r) (after_append s r) m.0 m.1)
+        let its = subst (λ (n : ℕ). IsMade old mid n id image) is made in
+        let m = appended_is old mid disk s r id image stands.store stands.recoverable all says there held its (same_geometry old mid device) in (
+          m.0,
+          stands_after (AppendRecord r) (after_append s r) m.0 m.1,
+          λ recovery has. numbers_released (recovery_after s (AppendRecord r) recovery) (appended_noted old mid s recovery r id image has stands.recoverable all says there held its (same_geometry old mid device)),
+        )

@@ -1,12 +1,13 @@
 -- The log device of a restart, whatever the pages hold: what calls leave of it.
-use Rattle.std.proofs.Common.{◌≡◌, ◌≤◌, ◌++◌, ℕ, List, Result, Ok, Err, inl, inr, sym, ap, ◌∙◌, length, length-append, take, arith}
-use Rattle.std.specs.Prelude.{IfErr, IsErrAnd}
+use Rattle.std.proofs.Common.{◌≡◌, ◌≤◌, ◌++◌, ℕ, List, Result, Ok, Err, inl, inr, sym, ap, subst, ◌∙◌, length, length-append, take, arith}
+use Rattle.std.specs.Prelude.{IfErr, IsErrAnd, None}
 use Rattle.shore_types.specs.declared.faults.Fault.{Fault}
 use Rattle.shore_types.specs.declared.faults.Fault.TheVariants as fault
 use Rattle.shore_disk.specs.declared.device.Disk.{Ghosts}
 use Rattle.shore_frames.proofs.LoggedLemmas.{has_longest}
 use Rattle.shore_frames.specs.Frames.{IsLongest}
-use Rattle.shore_log.specs.Settled.{KeepsFrames, stable, waiting}
+use Rattle.shore_frames.specs.declared.reading.FrameAt.{FrameAt}
+use Rattle.shore_log.specs.Settled.{IsSettledFrom, KeepsFrames, stable, waiting}
 use Rattle.shore_log.specs.declared.device.LogDev.{LogDev}
 use Rattle.shore_restart.specs.declared.errors.RestartError.{RestartError}
 use Rattle.shore_restart.specs.declared.errors.RestartError.TheVariants.{Log}
@@ -38,9 +39,14 @@ module _ {L : Type 0} {G : Ghosts L} (log_front : List ℕ) where
   quiet_beside old new (Ok x) none quiet more = record { named = tt; quiet = inr (quiet, more) }
   quiet_beside old new (Err e) none quiet more = record { named = λ f is. absurd (none f is); quiet = inr (quiet, more) }
 
+  -- it is read from the same place on
+  pub quiet_moved : (old new : LogDev L G) → new.tail ≡ old.tail → IsSettledFrom old.tail.first old.tail.place new log_front × (new.staged ≡ None) → IsQuiet log_front new
+  quiet_moved old new tail now = (subst (λ (t : FrameAt). IsSettledFrom t.first t.place new log_front) (sym tail) now.0, now.1)
+
   -- records were taken into memory at most
   pub quiet_kept : (old new : LogDev L G) → KeepsFrames old new → IsQuiet log_front old → IsQuiet log_front new × (length (stable old) ≤ length (stable new))
-  quiet_kept old new kept quiet = ((kept.settled 1 0 log_front quiet.0, kept.under_way ∙ quiet.1), let same = ap length kept.forced in omega (arith, same))
+  quiet_kept old new kept quiet =
+      (quiet_moved old new kept.tail (kept.settled old.tail.first old.tail.place log_front quiet.0, kept.under_way ∙ quiet.1), let same = ap length kept.forced in omega (arith, same))
 
   -- if it was not refused
   pub quiet_of : {A : Type 0} (old new : LogDev L G) (x : A) → StaysQuiet (Ok x) log_front old new → IsQuiet log_front new × (length (stable old) ≤ length (stable new))

@@ -23,14 +23,18 @@ use Rattle.laws_lives.specs.Pages.{redone_on_all}
 use Rattle.laws_lives.specs.Recovery.{LeadsTo, RecoveryState, RedoRecord, after_redo}
 use Rattle.laws_lives.proofs.Invariant.{event_kept}
 use Rattle.laws_runs.specs.SlotCounts.{FitsBehind, slots_left}
+use Rattle.laws_checkpoints.specs.RecoveryNumbers.{RecoveryNumbers, recovery_after}
+use Rattle.laws_heaps.specs.HeapRecoveries.{HasRecoveries}
+use Rattle.laws_heaps.proofs.Noted.{passed_noted, without_noted}
 use Rattle.laws_heaps.proofs.Made.{passed_is, without_is}
 use Rattle.laws_heaps.proofs.SettledSlots.{frame_number, framed_due}
 use Rattle.shore_restart.specs.declared.errors.RestartError.{RestartError}
 use Rattle.shore_restart.specs.Errors.{DoesNotFit}
 use Rattle.laws_images.specs.Moments.{ShowsLeft}
-use Rattle.shore_restart.specs.Standing.{Fetches, Redoes, Stands}
+use Rattle.shore_restart.specs.Standing.{Fetches, Notes, Redoes, Stands}
 use Rattle.shore_disk.proofs.Moments.{started}
-use Rattle.shore_restart.proofs.Paths.{work_and}
+use Rattle.shore_restart.proofs.Noting.{notes_event, notes_on}
+use Rattle.shore_restart.proofs.Paths.{none_lost_on, work_and}
 use Rattle.shore_restart.proofs.Standing.{left_by, stands_left}
 
 some_same : {A : Type 0} {o : Option A} {x y : A} → o ≡ Some x → o ≡ Some y → x ≡ y
@@ -78,7 +82,7 @@ id_meant g before t (payload.CheckpointEnd begin next txns dirty) id means is = 
 id_meant g before t (payload.Anchor checkpoint tail) id means is = absurd means
 
 -- .. so does that of a record in bounds
-id_inside : (g : Geometry) (n : ℕ) (p : Payload) (id : Rid) → SaysInBounds g n p → id_in p ≡ Some id → HasSlot g id
+pub id_inside : (g : Geometry) (n : ℕ) (p : Payload) (id : Rid) → SaysInBounds g n p → id_in p ≡ Some id → HasSlot g id
 id_inside g n (payload.Change there was image) id inside is = let same : there ≡ id = cc in subst (HasSlot g) same inside
 id_inside g n (payload.Compensation there image undo_next) id inside is = let same : there ≡ id = cc in subst (HasSlot g) same inside
 id_inside g n payload.Commit id inside is = absurd cc
@@ -97,7 +101,14 @@ module _ {V : Type 0} {H : Ghosts V} where
   pub stood : (front : List ℕ) (old mid : Heap V H) (s : RecoveryState) → (f : Fetches (Ok tt) front old mid s) → (left : ℕ → List ℕ) × Stands front left mid f.later
   stood front old mid s f = elim f.stands [
     | inl refused ↦ absurd cc
-    | inr stands ↦ stands
+    | inr stands ↦ (stands.0, stands.1)
+  ]
+
+  -- .. and the recovery numbers are noted
+  pub stood_noted : (front : List ℕ) (old mid : Heap V H) (s : RecoveryState) → (f : Fetches (Ok tt) front old mid s) → Notes old mid s f.later
+  stood_noted front old mid s f = elim f.stands [
+    | inl refused ↦ absurd cc
+    | inr stands ↦ stands.2
   ]
 
   -- the number of a page in a frame
@@ -123,18 +134,20 @@ module _ {V : Type 0} {H : Ghosts V} where
   module _ (front : List ℕ) (old mid : Heap V H) (s : RecoveryState) (r : LogRecord) (f : Fetches (Ok tt) front old mid s) where
     -- a record that was done on its page
     pub redone_behind : (new : Heap V H) (b : Bool) (left : ℕ → List ℕ) → slice_get s.log s.redone ≡ Some r → LeadsTo f.later RedoRecord (after_redo f.later r) → Stands front left new (after_redo f.later r) → history_of new ≡ history_of mid
-        → geometry_of new ≡ geometry_of old → Redoes (Ok b) front old new s
-    redone_behind new b left next leads stands history same = record {
+        → geometry_of new ≡ geometry_of old → ((recovery : RecoveryNumbers) → HasRecoveries mid recovery → HasRecoveries new (recovery_after f.later RedoRecord recovery)) → Redoes (Ok b) front old new s
+    redone_behind new b left next leads stands history same noted = record {
       later = after_redo f.later r;
       work = record {
         works = f.work.works ++ RedoRecord ∷ [];
         work = work_and s f.work.works f.later RedoRecord (after_redo f.later r) f.work.work tt leads;
+        loses_none = none_lost_on f.work.works (RedoRecord ∷ []) f.work.loses_none (tt, tt);
         volume = subst (λ (h : DeviceHistory). LeavesOnly (history_of old) h (ShowsLeft (geometry_of old) front s)) (sym history) f.work.volume;
         left = left_by front left old new (after_redo f.later r) same stands;
       };
       log = f.same.log;
       durable = f.same.durable;
       done = (ap (λ (n : ℕ). n + 1) f.same.redone, left, stands);
+      notes = notes_on old mid new s f.later (after_redo f.later r) (stood_noted front old mid s f) (notes_event mid new f.later RedoRecord (after_redo f.later r) tt tt leads noted);
       pages = λ x at.
           let it : r ≡ x = some_same next at in
           ap (λ (n : ℕ). redone_on_all (n + 1) r f.later.in_place) f.same.redone ∙ ap (redone_on_all (s.redone + 1) r) f.same.in_place ∙ ap (λ (q : LogRecord). redone_on_all (s.redone + 1) q s.in_place) it;
@@ -152,6 +165,7 @@ module _ {V : Type 0} {H : Ghosts V} where
         let same = f.same.redone in
         let m = passed_is mid is.0 f.later r id image stands.store (next_now next) says (omega (arith, above, same)) in
         redone_behind mid b is.0 next m.0 (record { store = m.1; settled = stands.settled; recoverable = event_kept f.later RedoRecord (after_redo f.later r) stands.recoverable m.0; slots = stands.slots; shows = stands.shows }) refl geometry
+        (λ recovery has. passed_noted mid f.later recovery r id image has (next_now next) says (omega (arith, above, same)))
 
   -- a record that changes no page
   pub redone_without : (front : List ℕ) (disk : ℕ → List ℕ) (heap : Heap V H) (s : RecoveryState) (r : LogRecord) (b : Bool) → Stands front disk heap s → slice_get s.log s.redone ≡ Some r → image_in r.payload ≡ None
@@ -164,19 +178,43 @@ module _ {V : Type 0} {H : Ghosts V} where
         work = record {
           works = RedoRecord ∷ [];
           work = (tt, after_redo s r, m.0, refl);
+          loses_none = (tt, tt);
           volume = started (history_of heap) (ShowsLeft (geometry_of heap) front s) (stands_left front disk heap s stands);
           left = stands_left front disk heap (after_redo s r) now;
         };
         log = refl;
         durable = refl;
         done = (refl, disk, now);
+        notes = notes_event heap heap s RedoRecord (after_redo s r) tt tt m.0 (λ recovery has. (without_noted heap s recovery r has none).1 next);
+        pages = λ x at. ap (λ (q : LogRecord). redone_on_all (s.redone + 1) q s.in_place) (some_same next at);
+      }
+
+  -- .. or of which the page has it
+  pub passed_now : (front : List ℕ) (disk : ℕ → List ℕ) (heap : Heap V H) (s : RecoveryState) (r : LogRecord) (b : Bool) (id : Rid) (image : Image) → Stands front disk heap s → slice_get s.log s.redone ≡ Some r
+      → image_in r.payload ≡ Some (id, image) → s.redone < (s.in_place id.page).number → Redoes (Ok b) front heap heap s
+  passed_now front disk heap s r b id image stands next says above =
+      let m = passed_is heap disk s r id image stands.store next says above in
+      let now : Stands front disk heap (after_redo s r) = record { store = m.1; settled = stands.settled; recoverable = event_kept s RedoRecord (after_redo s r) stands.recoverable m.0; slots = stands.slots; shows = stands.shows } in
+      record {
+        later = after_redo s r;
+        work = record {
+          works = RedoRecord ∷ [];
+          work = (tt, after_redo s r, m.0, refl);
+          loses_none = (tt, tt);
+          volume = started (history_of heap) (ShowsLeft (geometry_of heap) front s) (stands_left front disk heap s stands);
+          left = stands_left front disk heap (after_redo s r) now;
+        };
+        log = refl;
+        durable = refl;
+        done = (refl, disk, now);
+        notes = notes_event heap heap s RedoRecord (after_redo s r) tt tt m.0 (λ recovery has. passed_noted heap s recovery r id image has next says above);
         pages = λ x at. ap (λ (q : LogRecord). redone_on_all (s.redone + 1) q s.in_place) (some_same next at);
       }
 
   -- an error, behind a fetch or without one
   pub redo_stops : (A : Type 0) (front : List ℕ) (old mid : Heap V H) (s : RecoveryState) (result : Result (Unit {0}) RestartError) (error : RestartError) → Fetches result front old mid s
       → Redoes {A = A} (Err error) front old mid s
-  redo_stops A front old mid s result error f = record { later = f.later; work = f.work; log = f.same.log; durable = f.same.durable; done = tt; pages = tt }
+  redo_stops A front old mid s result error f = record { later = f.later; work = f.work; log = f.same.log; durable = f.same.durable; done = tt; notes = tt; pages = tt }
 
   -- a record that does not fit the frame does not fit behind the records before it
   pub does_not_fit : (front : List ℕ) (old mid : Heap V H) (s : RecoveryState) (r : LogRecord) → (f : Fetches (Ok tt) front old mid s) → (id : Rid) (image : Image) (number n : ℕ) → n ≡ s.redone + 1

@@ -1,5 +1,5 @@
 -- Claims that are kept while there is room for them: what could be kept in the end could be kept before, and what was kept stays.
-use Rattle.std.proofs.Common.{◌≡◌, ◌<◌, ◌≤◌, ◌+◌, ◌-◌, ◌++◌, ◌∷◌, [], ℕ, zero, suc, List, inl, inr, refl, sym, ap, subst, ◌∙◌, length, max, arith}
+use Rattle.std.proofs.Common.{◌≡◌, ◌<◌, ◌≤◌, ◌++◌, ◌∷◌, [], ℕ, zero, suc, List, inl, inr, refl, sym, ap, subst, ◌∙◌, length, max, arith}
 use Rattle.std.proofs.lemmas.Bool.{cases_eq}
 use Rattle.shore_page.specs.Room.{claim_at, need, raised}
 use Rattle.shore_page.specs.Slots.{Slot, with_change}

@@ -5,16 +5,17 @@ use Rattle.std.specs.List.{AllByRecursion}
 use Rattle.std.proofs.lemmas.List.{length-map}
 use Rattle.std.proofs.lemmas.List.Elements.{All-from_recursion, recursion_from_All}
 use Rattle.std.proofs.lemmas.List.Sorted.{All-permutation}
-use Rattle.shore_types.specs.declared.layout.TheConstants.{LONGEST_FRAME}
+use Rattle.shore_types.specs.declared.layout.TheConstants.{LAST_OPENED, LONGEST_FRAME, MAX_LOG_BYTES}
 use Rattle.shore_model.specs.declared.log_records.LogRecord.{LogRecord}
 use Rattle.shore_model.specs.declared.log_records.LogTxn.{LogTxn}
-use Rattle.shore_model.specs.Logs.{HasNumbers, IsEntry, IsTable, in_doubt_in, is_prepared}
-use Rattle.laws_lives.specs.Doubts.{LoggedDoubt, doubts_in}
-use Rattle.laws_lives.proofs.DoubtRecords.{doubt_txns}
+use Rattle.shore_model.specs.Logs.{HasNumbers, IsEntry, IsTable, is_prepared}
+use Rattle.laws_lives.specs.Doubts.{LoggedDoubt}
+use Rattle.shore_analysis.specs.Doubts.{doubts_left}
+use Rattle.shore_analysis.specs.Padded.{padded}
 use Rattle.laws_calls.specs.States.{cost_of_log}
 use Rattle.shore_txn.specs.declared.log_room.LogRoom.{LogRoom}
 use Rattle.shore_restart.specs.Doubts.{AreEntriesOfDoubts, reserved_told}
-use Rattle.shore_restart.specs.Room.{HasSums, IsRoomBehind, LeavesRoomBeside}
+use Rattle.shore_restart.specs.Room.{HasSums, IsRoomBehind}
 use Rattle.shore_restart.specs.Turns.{LacksRoom}
 use Rattle.shore_restart.proofs.LogTurns.{no_some}
 
@@ -28,7 +29,7 @@ picked_numbers log p (e ∷ es) entries = by (p e) (picked_numbers log p es entr
     by true rest = (entries.0.1, rest)
     by false rest = rest
 
-pub are_entries : (log : List LogRecord) (txns found : List LogTxn) → IsTable log txns → IsPermutation (filter (λ e. is_prepared e.state) txns) found → map (λ e. e.txn) found ≡ in_doubt_in log
+pub are_entries : (log : List LogRecord) (txns found : List LogTxn) → IsTable log txns → IsPermutation (filter (λ e. is_prepared e.state) txns) found → map (λ e. e.txn) found ≡ map (λ d. d.txn) (doubts_left log)
     → AreEntriesOfDoubts log found
 are_entries log txns found are moved order =
     let picked = filter (λ (e : LogTxn). is_prepared e.state) txns in
@@ -38,36 +39,43 @@ are_entries log txns found are moved order =
           (All-from_recursion (HasNumbers log) picked (picked_numbers log (λ e. is_prepared e.state) txns (recursion_from_All (IsEntry log) txns are.each))));
     }
 
-pub as_many_doubts : (log : List LogRecord) (found : List LogTxn) → map (λ e. e.txn) found ≡ in_doubt_in log → length found ≡ length (doubts_in log)
+pub as_many_doubts : (log : List LogRecord) (found : List LogTxn) → map (λ e. e.txn) found ≡ map (λ d. d.txn) (doubts_left log) → length found ≡ length (doubts_left log)
 as_many_doubts log found order =
-    let same = ap length (order ∙ doubt_txns log) in
-    omega (arith, same, length-map found (λ (e : LogTxn). e.txn), length-map (doubts_in log) (λ (d : LoggedDoubt). d.txn))
+    let same = ap length order in
+    omega (arith, same, length-map found (λ (e : LogTxn). e.txn), length-map (doubts_left log) (λ (d : LoggedDoubt). d.txn))
 
 -- ---- room
 
-module _ (log : List LogRecord) (stream_bytes : ℕ) where
-  -- the log alone leaves none
-  pub none_left : (o : Option LogRoom) → o ≡ None → (IsSome o ↔ LeavesRoomBeside 0 log stream_bytes) → LacksRoom log stream_bytes
-  none_left o none leaves_if =
-      inl (λ leaves. no_some o none (leaves_if.1 (record { frame = let frame = leaves.frame in omega (arith, frame); numbers = leaves.numbers; short = leaves.short })))
+module _ (cut : ℕ) (kept : List LogRecord) (stream_bytes : ℕ) where
+  abbrev owed : ℕ
+  owed = reserved_told (padded cut kept)
 
-  module _ (room : LogRoom) (sums : HasSums stream_bytes (cost_of_log log) 0 room) where
+  -- what is kept alone leaves none
+  pub none_left : (o : Option LogRoom) → o ≡ None → (IsSome o ↔ ((cost_of_log kept + LONGEST_FRAME ≤ stream_bytes) × (stream_bytes ≤ MAX_LOG_BYTES))) → LacksRoom cut kept stream_bytes
+  none_left o none leaves_if = inl (λ leaves. no_some o none (leaves_if.1 (let frame = leaves.frame in omega (arith, frame), leaves.short)))
+
+  module _ (room : LogRoom) (sums : HasSums stream_bytes (cost_of_log kept) 0 room) where
     -- .. none for what is reserved
-    pub none_reserved : room.stream_bytes < room.kept + reserved_told log + LONGEST_FRAME → LacksRoom log stream_bytes
+    pub none_reserved : room.stream_bytes < room.kept + owed + LONGEST_FRAME → LacksRoom cut kept stream_bytes
     none_reserved less =
         let stream = sums.stream in
-        let kept = sums.kept_is in
-        inl (λ leaves. let frame = leaves.frame in omega (arith, less, stream, kept, frame))
+        let kept_is = sums.kept_is in
+        inl (λ leaves. let frame = leaves.frame in omega (arith, less, stream, kept_is, frame))
 
-    -- .. or it leaves that
-    pub room_reserved : (full : LogRoom) → LeavesRoomBeside 0 log stream_bytes → HasSums room.stream_bytes room.kept (reserved_told log) full → room.kept + reserved_told log + LONGEST_FRAME ≤ room.stream_bytes
-        → IsRoomBehind log stream_bytes full
-    room_reserved full leaves has holds =
-        let stream = sums.stream in
-        let kept = sums.kept_is in
-        record {
-          leaves = record { frame = omega (arith, holds, stream, kept); numbers = leaves.numbers; short = leaves.short };
-          stream = has.stream ∙ sums.stream;
-          kept = has.kept_is ∙ sums.kept_is;
-          reserved = has.reserved_is;
-        }
+    module _ (full : LogRoom) (has : HasSums room.stream_bytes room.kept owed full) (last : ℕ) (is : last ≡ cut + length kept) where
+      -- .. or no numbers for that
+      pub none_numbered : (last + full.reserved < LAST_OPENED → ⊥) → LacksRoom cut kept stream_bytes
+      none_numbered none = inl (λ leaves. let numbers = leaves.numbers in let reserved = has.reserved_is in none (omega (arith, numbers, reserved, is)))
+
+      -- .. or it leaves both
+      pub room_reserved : last + full.reserved < LAST_OPENED → stream_bytes ≤ MAX_LOG_BYTES → room.kept + owed + LONGEST_FRAME ≤ room.stream_bytes → IsRoomBehind cut kept stream_bytes full
+      room_reserved numbers short holds =
+          let stream = sums.stream in
+          let kept_is = sums.kept_is in
+          let reserved = has.reserved_is in
+          record {
+            leaves = record { frame = omega (arith, holds, stream, kept_is); numbers = omega (arith, numbers, reserved, is); short = short };
+            stream = has.stream ∙ sums.stream;
+            kept_is = has.kept_is ∙ sums.kept_is;
+            reserved = has.reserved_is;
+          }

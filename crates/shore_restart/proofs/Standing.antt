@@ -22,8 +22,9 @@ use Rattle.laws_heaps.proofs.SettledSlots.{frame_number, settled_kept, shows_onl
 use Rattle.laws_heaps.proofs.StaySettled.{settled_shown}
 use Rattle.shore_restart.specs.declared.errors.RestartError.{RestartError}
 use Rattle.laws_images.specs.Moments.{ShowsLeft}
-use Rattle.shore_restart.specs.Standing.{Fetches, SameInPlace, Stands, Worked}
-use Rattle.shore_restart.proofs.Paths.{work_kept}
+use Rattle.shore_restart.specs.Standing.{Fetches, Notes, SameInPlace, Stands, Worked}
+use Rattle.shore_restart.proofs.Noting.{pages_noted}
+use Rattle.shore_restart.proofs.Paths.{work_kept, works_lose_none}
 
 -- no page has a number above the log's last
 pub in_place_low : (s : RecoveryState) → IsRecoverable s → (p : PageId) → (s.in_place p).number ≤ length s.log
@@ -67,7 +68,7 @@ module _ {V : Type 0} {H : Ghosts V} where
   pub stays : (front : List ℕ) (disk : ℕ → List ℕ) (old new : Heap V H) (s : RecoveryState) (durable : ℕ) → (stands : Stands front disk old s) → durable ≤ s.durable
       → geometry_of new ≡ geometry_of old → KeepsSlots unclaimed old new durable front disk stands.slots
       → LeavesOnly (history_of old) (history_of new) (LeavesPages old durable front disk)
-      → (later : RecoveryState) × Worked front old new s later × SameInPlace s later × ((left : ℕ → List ℕ) × Stands front left new later)
+      → (later : RecoveryState) × Worked front old new s later × SameInPlace s later × ((left : ℕ → List ℕ) × Stands front left new later × Notes old new s later)
   stays front disk old new s durable stands low same kept leaves =
       let work = work_of old new durable disk kept.0 s stands.store kept.2 low same in
       let now : Stands front kept.0 new work.1 = record {
@@ -76,11 +77,12 @@ module _ {V : Type 0} {H : Ghosts V} where
         recoverable = work_kept s work.0 work.1 stands.recoverable work.3;
         slots = stands.slots;
         shows = kept.1;
-      } in (
+      } in
+      let like : SameInPlace s work.1 = record { log = work.5; durable = work.6; redone = work.7; in_place = work.8 } in (
         work.1,
-        record { works = work.0; work = work.3; volume = leaves_pages front disk old new s durable stands low leaves; left = left_by front kept.0 old new work.1 same now },
-        record { log = work.5; durable = work.6; redone = work.7; in_place = work.8 },
-        (kept.0, now),
+        record { works = work.0; work = work.3; loses_none = works_lose_none s work.0 work.1 work.2; volume = leaves_pages front disk old new s durable stands low leaves; left = left_by front kept.0 old new work.1 same now },
+        like,
+        (kept.0, now, pages_noted old new durable front disk kept.0 s work.1 stands.store stands.recoverable kept.1.holds kept.2 low same work.4 like),
       )
 
   -- nothing is known of what the call left, but what a crash leaves
@@ -88,7 +90,7 @@ module _ {V : Type 0} {H : Ghosts V} where
       → LeavesOnly (history_of old) (history_of new) (LeavesPages old durable front disk) → Worked front old new s s
   stops front disk old new s durable stands low leaves =
       let volume = leaves_pages front disk old new s durable stands low leaves in
-      record { works = []; work = refl; volume = volume; left = at_end (history_of old) (history_of new) (ShowsLeft (geometry_of old) front s) volume }
+      record { works = []; work = refl; loses_none = tt; volume = volume; left = at_end (history_of old) (history_of new) (ShowsLeft (geometry_of old) front s) volume }
 
   pub fetched : (front : List ℕ) (disk : ℕ → List ℕ) (old new : Heap V H) (s : RecoveryState) (durable : ℕ) (result : Result (Unit {0}) RestartError) → (stands : Stands front disk old s)
       → durable ≤ s.durable → geometry_of new ≡ geometry_of old → KeepsSlots unclaimed old new durable front disk stands.slots

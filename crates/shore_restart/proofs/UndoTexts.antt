@@ -1,7 +1,9 @@
 -- A loser's next record of undo has a text and means what it has to, if the records of its log do.
-use Rattle.std.proofs.Common.{◌≡◌, ◌≤◌, ◌<◌, ◌-◌, ◌^◌, ⊎_elim, ℕ, List, [], ◌∷◌, ◌++◌, Some, ap, subst, length, arith}
+use Rattle.std.proofs.Common.{◌≡◌, ◌≤◌, ◌<◌, ◌-◌, ◌^◌, ⊎_elim, ℕ, zero, suc, List, [], ◌∷◌, ◌++◌, Some, refl, ap, subst, length, arith}
 use Rattle.std.specs.Prelude.{All, slice_get}
+use Rattle.std.specs.List.{AllByRecursion}
 use Rattle.std.proofs.lemmas.List.{length-append}
+use Rattle.std.proofs.lemmas.List.Elements.{All-from_recursion, recursion_from_All}
 use Rattle.std.proofs.lemmas.Option.{get_or_from_slice_get, slice_get_within}
 use Rattle.shore_types.specs.Layout.{HasSlot}
 use Rattle.shore_types.specs.declared.ids.Rid.{Rid}
@@ -19,10 +21,10 @@ use Rattle.laws_lives.proofs.OneMore.{by_push}
 use Rattle.laws_lives.proofs.UndoChains.{unanswered_chain}
 use Rattle.laws_lives.proofs.Writers.{same_or_not}
 use Rattle.shore_analysis.specs.KeptMeant.{AreMeantKept}
+use Rattle.shore_analysis.specs.Padded.{blank, padded}
 use Rattle.shore_analysis.proofs.Counted.{last_is_one}
 use Rattle.shore_analysis.proofs.Undone.{undo_meant}
-use Rattle.shore_analysis.proofs.UndoneKept.{undo_kept}
-use Rattle.shore_analysis.proofs.WholeRecords.{meant_of_each}
+use Rattle.shore_analysis.proofs.UndoneKept.{loser_of, undo_kept}
 use Rattle.shore_restart.proofs.Redoing.{id_meant}
 
 all_at : {A : Type 0} (P : A → Type 0) (xs : List A) (n : ℕ) (x : A) → All P xs → slice_get xs n ≡ Some x → P x
@@ -72,10 +74,23 @@ module _ (log : List LogRecord) (t : ℕ) (fit : All Fits log) (short : length l
         payload_fits = payload_fits (unanswered t log) (unanswered_chain log t);
       }
 
--- what it changes lies in the geometry
-pub undo_there : (g : Geometry) (log : List LogRecord) (t : ℕ) → AreMeantKept g 0 log → IsLoser log t → (id : Rid) → id_in (undo_record log t).payload ≡ Some id → HasSlot g id
-undo_there g log t meant loser id says = id_meant g log t (undo_record log t).payload id (undo_meant g log t (meant_of_each g log meant t loser.is_one) loser).says says
+-- .. also where the front of the log is cut off
+pub padded_fit : (cut : ℕ) (kept : List LogRecord) → All Fits kept → All Fits (padded cut kept)
+padded_fit cut kept fit = All-from_recursion Fits (padded cut kept) (blanks cut (recursion_from_All Fits kept fit))
+  where
+    blank_fits : Fits blank
+    blank_fits = record { owner = (refl, refl); txn_fits = omega arith; previous_fits = omega arith; payload_fits = tt }
 
--- with it the log means what it has to
-pub undo_kept_meant : (g : Geometry) (log : List LogRecord) (t : ℕ) → AreMeantKept g 0 log → IsLoser log t → AreMeantKept g 0 (log ++ undo_record log t ∷ [])
-undo_kept_meant g log t meant loser = undo_kept g 0 log meant t loser
+    blanks : (n : ℕ) → AllByRecursion Fits kept → AllByRecursion Fits (padded n kept)
+    blanks zero all = all
+    blanks (suc n) all = (blank_fits, blanks n all)
+
+module _ (g : Geometry) (cut : ℕ) (kept : List LogRecord) (t : ℕ) (meant : AreMeantKept g cut kept) (loser : IsLoser (padded cut kept) t) where
+  -- what it changes lies in the geometry
+  pub undo_there : (id : Rid) → id_in (undo_record (padded cut kept) t).payload ≡ Some id → HasSlot g id
+  undo_there id says =
+      id_meant g (padded cut kept) t (undo_record (padded cut kept) t).payload id (undo_meant g (padded cut kept) t (loser_of g cut kept meant t loser) loser).says says
+
+  -- with it what is kept means what it has to
+  pub undo_kept_meant : AreMeantKept g cut (kept ++ undo_record (padded cut kept) t ∷ [])
+  undo_kept_meant = undo_kept g cut kept meant t loser

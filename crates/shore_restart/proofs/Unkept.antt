@@ -7,7 +7,7 @@ use Rattle.std.proofs.lemmas.Map.Views.{tells_apart}
 use Rattle.std.proofs.lemmas.Option.{slice_get_within}
 use Rattle.shore_types.specs.Ids.{exact_pages, page_cmp}
 use Rattle.shore_types.specs.Images.{Image, image_len}
-use Rattle.shore_types.specs.Layout.{HasPage}
+use Rattle.shore_types.specs.Layout.{HasPage, HasSlot}
 use Rattle.shore_types.specs.declared.ids.PageId.{PageId}
 use Rattle.shore_types.specs.declared.ids.Rid.{Rid}
 use Rattle.shore_types.specs.declared.layout.Geometry.{Geometry}
@@ -17,7 +17,8 @@ use Rattle.shore_model.specs.Logs.{id_in, image_in, unanswered}
 use Rattle.shore_page.specs.Claims.{FitIn, claimed_by}
 use Rattle.shore_page.specs.Slots.{Slot, settled}
 use Rattle.shore_heap.specs.Contents.{CanKeep}
-use Rattle.laws_lives.specs.Doubts.{LoggedDoubt, doubts_in}
+use Rattle.laws_lives.specs.Doubts.{LoggedDoubt}
+use Rattle.shore_analysis.specs.Doubts.{doubts_left}
 use Rattle.laws_lives.specs.Undo.{IsUndoneTo}
 use Rattle.laws_lives.specs.Views.{IsAmong}
 use Rattle.laws_lives.proofs.Lists.{among_append, among_left, among_right, mapped_one}
@@ -26,7 +27,6 @@ use Rattle.laws_lives.proofs.UndoChains.{unanswered_chain}
 use Rattle.laws_room.proofs.Leaving.{AreOn}
 use Rattle.laws_runs.specs.SlotCounts.{slot_count, slots_behind, slots_left}
 use Rattle.laws_runs.proofs.SlotCounts.{behind_here, slot_count-push}
-use Rattle.shore_analysis.specs.KeptMeant.{AreMeantKept}
 use Rattle.shore_analysis.proofs.MeantLogs.{own_or_last}
 use Rattle.shore_sessions.specs.Standing.{as_change}
 use Rattle.shore_txn.specs.ActiveTxns.{all_changes}
@@ -36,12 +36,13 @@ use Rattle.shore_txn.specs.UndoEntries.{claims_on, images_of}
 use Rattle.shore_txn.specs.declared.transactions.Transactions.{Transactions}
 use Rattle.shore_txn.specs.declared.txn.Txn.{Txn}
 use Rattle.shore_txn.specs.declared.undo.UndoEntry.{UndoEntry}
-use Rattle.shore_restart.specs.AnyPages.{IsUnkeptOn}
+use Rattle.shore_restart.specs.AnyPages.{AreKeptOn, IsInDoubtOnPage, IsUnkeptOn}
 use Rattle.shore_restart.specs.Doubts.{IsUnkept, changes_in_doubt, changes_of, claims_of}
-use Rattle.shore_restart.specs.GivenBack.{AreGivenBack, CannotKeep, CannotKeepOn, HasDoubts}
+use Rattle.shore_restart.specs.GivenBack.{AreGivenBack, AreOfPage, CanKeepOn, CannotKeep, CannotKeepOn, HasDoubts}
 use Rattle.shore_restart.proofs.ChangesBack.{IsLoggedChange, logged_in}
 use Rattle.shore_restart.proofs.DoubtsKept.{same_changes}
-use Rattle.shore_restart.proofs.Redoing.{meant_there}
+use Rattle.shore_restart.proofs.KeptReads.{le_or_lt, read_none}
+use Rattle.shore_analysis.specs.Padded.{padded}
 
 -- ---- lists
 
@@ -131,12 +132,16 @@ counted = by_push (λ log. (k : ℕ) (r : LogRecord) (e : Rid × Image) → slic
         omega (arith, here))
         (own_or_last log last r k at)
 
+-- what the records of a log change lies in the geometry
+abbrev pub AreIn : Geometry → List LogRecord → Type 0
+AreIn g log = (n : ℕ) (r : LogRecord) (id : Rid) → slice_get log n ≡ Some r → id_in r.payload ≡ Some id → HasSlot g id
+
 -- the table has the log's changes of those in doubt
 abbrev pub IsTold : List LogRecord → Transactions → Type 0
 IsTold log txns = changes_in_doubt log ≡ reverse (map as_change (all_changes (txns_in txns)))
 
 pub are_told : (log : List LogRecord) (txns : Transactions) → HasDoubts log txns → IsTold log txns
-are_told log txns back = changes_same log (doubts_in log) (txns_in txns) back
+are_told log txns back = changes_same log (doubts_left log) (txns_in txns) back
 
 -- .. also behind turns of undo
 pub still_told : (log : List LogRecord) (turns : List ℕ) (last : List LogRecord) (txns : Transactions) → IsUndoneTo log turns last → IsTold log txns → IsTold last txns
@@ -147,11 +152,11 @@ module _ (log : List LogRecord) (txns : Transactions) (told : IsTold log txns) w
   changes = all_changes (txns_in txns)
 
   entry_logged : (e : UndoEntry) → IsAmong e changes → IsLoggedChange log (as_change e)
-  entry_logged e among = are_logged log (doubts_in log) (as_change e) (subst (IsAmong (as_change e)) (sym told) (turned_among e changes among))
+  entry_logged e among = are_logged log (doubts_left log) (as_change e) (subst (IsAmong (as_change e)) (sym told) (turned_among e changes among))
 
   -- its page is there
-  pub entry_there : (g : Geometry) → AreMeantKept g 0 log → (e : UndoEntry) → IsAmong e changes → HasPage g e.id.page
-  entry_there g meant e among = let is = entry_logged e among in (meant_there g log (e.lsn - 1) is.found e.id meant is.here (ap id_in is.says)).0
+  pub entry_there : (g : Geometry) → AreIn g log → (e : UndoEntry) → IsAmong e changes → HasPage g e.id.page
+  entry_there g meant e among = let is = entry_logged e among in (meant (e.lsn - 1) is.found e.id is.here (ap id_in is.says)).0
 
   -- its number is one of the log's
   pub entry_within : (n : ℕ) → IsAmong n (map (λ (e : UndoEntry). e.lsn) changes) → (0 < n) × (n ≤ length log)
@@ -162,6 +167,22 @@ module _ (log : List LogRecord) (txns : Transactions) (told : IsTold log txns) w
       let same = at.2 in
       let one = is.some in
       (omega (arith, same, one), omega (arith, same, one, within))
+
+  -- it is a Change of one in doubt
+  pub entry_in_doubt : (p : PageId) → AreOfPage changes p → IsInDoubtOnPage log p
+  entry_in_doubt p (e, among, is) = (as_change e, subst (IsAmong (as_change e)) (sym told) (turned_among e changes among), is)
+
+  -- .. and of one that is kept
+  pub entry_behind : (cut : ℕ) (kept : List LogRecord) → log ≡ padded cut kept → (n : ℕ) → IsAmong n (map (λ (e : UndoEntry). e.lsn) changes) → cut < n
+  entry_behind cut kept same n among =
+      let at = mapped_one (λ (e : UndoEntry). e.lsn) n changes among in
+      let is = entry_logged at.0 at.1 in
+      let number = at.2 in
+      ⊎_elim
+      (λ le. absurd (read_none cut kept at.0.lsn (λ lt. absurd (omega (arith, lt, le, number))) at.0.id at.0.before
+      (is.some, (is.found, is.after, ap (λ (l : List LogRecord). slice_get l (at.0.lsn - 1)) (sym same) ∙ is.here, is.says))))
+      (λ lt. lt)
+      (le_or_lt n cut)
 
   -- .. and its slot one that the log has given the page
   pub entries_on : (p : PageId) → AreOn p (slot_count log p) (images_of changes)
@@ -177,8 +198,8 @@ module _ (log : List LogRecord) (txns : Transactions) (told : IsTold log txns) w
   -- ---- the first that finds no room
 
   -- on pages as records make them of their texts
-  pub unkept_on : (g : Geometry) (texts : ℕ → List ℕ) (n : ℕ) → CannotKeepOn g txns texts log n → IsUnkeptOn g texts log n
-  unkept_on g texts n none =
+  pub unkept_on : (g : Geometry) (texts : ℕ → List ℕ) (due : List LogRecord) (n : ℕ) → CannotKeepOn g txns texts due n → IsUnkeptOn g texts log due n
+  unkept_on g texts due n none =
       let newer = reverse (map as_change none.newer) in
       let older = reverse (map as_change none.older) in
       let p = none.entry.id.page in
@@ -195,9 +216,14 @@ module _ (log : List LogRecord) (txns : Transactions) (told : IsTold log txns) w
         no_room = λ can. none.no_room (subst (λ (kept : List (ℕ × ℕ)). CanKeep (claimed_by kept (map settled none.page.images)) none.entry.id.slot (image_len none.entry.before)) (claims_same p none.newer) can);
       }
 
+  -- .. and if none is, what they may put back has room
+  pub kept_on : (g : Geometry) (texts : ℕ → List ℕ) (due : List LogRecord) → CanKeepOn g txns texts due → AreKeptOn g texts log due
+  kept_on g texts due can p page has made =
+      subst (λ (kept : List (ℕ × ℕ)). FitIn kept (map settled page.images)) (sym (ap (claims_of p) told ∙ claims_same p changes)) (can p page has made)
+
   -- .. as the log leaves them
 
-  module _ (g : Geometry) (slots : PageId → List Slot) (meant : AreMeantKept g 0 log) (left : (p : PageId) → HasPage g p → slots p ≡ slots_left log p) where
+  module _ (g : Geometry) (slots : PageId → List Slot) (within : (e : UndoEntry) → IsAmong e changes → HasPage g e.id.page) (left : (p : PageId) → HasPage g p → slots p ≡ slots_left log p) where
     fit_same : (p : PageId) (es : List UndoEntry) → ((e : UndoEntry) → IsAmong e es → HasPage g e.id.page) → FitIn (claims_on p es) (slots p) → FitIn (claims_on p es) (slots_left log p)
     fit_same p es there fit = ⊎_elim
         (λ none. subst (λ (kept : List (ℕ × ℕ)). FitIn kept (slots_left log p)) (sym none) tt)
@@ -218,7 +244,7 @@ module _ (log : List LogRecord) (txns : Transactions) (told : IsTold log txns) w
         let older = reverse (map as_change none.older) in
         let p = none.entry.id.page in
         let there : (e : UndoEntry) → IsAmong e (none.entry ∷ none.newer) → HasPage g e.id.page = λ e among.
-        entry_there g meant e (subst (IsAmong e) (sym none.order) (among_right e none.older (none.entry ∷ none.newer) among)) in
+        within e (subst (IsAmong e) (sym none.order) (among_right e none.older (none.entry ∷ none.newer) among)) in
         let same : claimed_by (claims_of p newer) (slots_left log p) ≡ claimed_by (claims_on p none.newer) (slots p) =
         ap (λ (kept : List (ℕ × ℕ)). claimed_by kept (slots_left log p)) (claims_same p none.newer) ∙ ap (claimed_by (claims_on p none.newer)) (sym (left p (there none.entry (inl refl)))) in
         record {

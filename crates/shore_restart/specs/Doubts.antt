@@ -17,20 +17,21 @@ use Rattle.shore_model.specs.declared.log_records.LogTxn.{LogTxn}
 use Rattle.shore_model.specs.declared.log_records.Payload.TheVariants.{Change}
 use Rattle.shore_model.specs.declared.unanswered_changes.UnansweredChange.{UnansweredChange}
 use Rattle.shore_model.specs.Locks.{HoldsAtLeast, OnOnePath, ancestors}
-use Rattle.shore_model.specs.Logs.{HasNumbers, in_doubt_in, prepare_number, unanswered}
+use Rattle.shore_model.specs.Logs.{HasNumbers, prepare_number, unanswered}
 use Rattle.shore_page.specs.Claims.{FitIn, claimed_by}
 use Rattle.shore_heap.specs.Contents.{CanKeep}
-use Rattle.laws_lives.specs.Doubts.{LoggedDoubt, NeedMore, doubts_in, undo_in}
+use Rattle.laws_lives.specs.Doubts.{LoggedDoubt, NeedMore, undo_in}
 use Rattle.laws_lives.specs.Sessions.{PreparedTxn, SessionTxn}
 use Rattle.laws_lives.specs.Views.{IsAmong}
 use Rattle.laws_room.specs.LogRooms.{compensation_costs}
 use Rattle.laws_runs.specs.SlotCounts.{slots_left}
-use Rattle.shore_analysis.specs.Doubts.{said_at}
-use Rattle.shore_analysis.specs.KeptMeant.{AreMeantKept, IsFirstUnmeantKept}
+use Rattle.shore_analysis.specs.Doubts.{doubts_left, said_at}
+use Rattle.shore_analysis.specs.AnchoredMeant.{AreMeantAnchored, IsFirstUnmeantAnchored}
+use Rattle.shore_analysis.specs.Padded.{padded}
 
 -- the entries are those of the ones in doubt, in the order of their Prepares, each with its numbers
 pub record AreEntriesOfDoubts (log : List LogRecord) (entries : List LogTxn) : Type 0 where
-  pub order : map (λ e. e.txn) entries ≡ in_doubt_in log
+  pub order : map (λ e. e.txn) entries ≡ map (λ d. d.txn) (doubts_left log)
   pub numbers : AllByRecursion (HasNumbers log) entries
 
 -- the name that the Prepare of this number gives, if its record is one
@@ -48,14 +49,14 @@ abbrev pub undo_told : List LogRecord → LoggedDoubt → SessionTxn
 undo_told log d = record { session = 0; txn = d.txn; undo = undo_in log d.txn }
 
 abbrev pub undos_told : List LogRecord → List SessionTxn
-undos_told log = map (undo_told log) (doubts_in log)
+undos_told log = map (undo_told log) (doubts_left log)
 
 -- it counts as answered
 abbrev pub prepared_as : LoggedDoubt → PreparedTxn
 prepared_as d = record { txn = d.txn; global = d.global; answered = true }
 
 abbrev pub prepared_told : List LogRecord → List PreparedTxn
-prepared_told log = map prepared_as (doubts_in log)
+prepared_told log = map prepared_as (doubts_left log)
 
 -- what is reserved for one: its undo and its ending, and a second ending, since a rollback of it logs a Rollback decided besides
 abbrev pub owed_in : List LogRecord → ℕ → ℕ
@@ -63,7 +64,7 @@ owed_in log t = ENDING_COST + compensation_costs (undo_in log t).images + ENDING
 
 -- .. for all of them
 abbrev pub reserved_told : List LogRecord → ℕ
-reserved_told log = sum_by (λ d. owed_in log d.txn) (doubts_in log)
+reserved_told log = sum_by (λ d. owed_in log d.txn) (doubts_left log)
 
 -- ---- whether they can all hold what is theirs
 
@@ -84,20 +85,21 @@ pub record CannotHold (limit : ℕ) (log : List LogRecord) (n : ℕ) : Type 0 wh
   pub before : List LoggedDoubt
   pub doubt : LoggedDoubt
   pub later : List LoggedDoubt
-  pub order : doubts_in log ≡ before ++ doubt ∷ later
+  pub order : doubts_left log ≡ before ++ doubt ∷ later
   pub number : n ≡ prepare_number doubt.txn log
   pub first : CanHold limit before
   pub no_place : HasNoPlace limit before doubt
 
 -- ---- what a log says of itself
 
--- a restart may work on the log: its records mean what they have to, and those in doubt can all hold what is theirs
-abbrev pub IsTaken : Geometry → List LogRecord → Type 0
-IsTaken g log = AreMeantKept g 0 log × CanHold g.max_locks (doubts_in log)
+-- a restart may work on the records that are kept behind so many, of a log whose anchor names this checkpoint: they mean what they have to, and those in doubt can all hold
+-- what is theirs
+abbrev pub IsTaken : Geometry → ℕ → ℕ → List LogRecord → Type 0
+IsTaken g cut checkpoint kept = AreMeantAnchored g cut checkpoint kept × CanHold g.max_locks (doubts_left (padded cut kept))
 
 -- it may not, by the record of this number: the first that does not mean what it has to, or if all do, the Prepare of the first in doubt that finds no place
-abbrev pub IsRefusedBy : Geometry → List LogRecord → ℕ → Type 0
-IsRefusedBy g log n = IsFirstUnmeantKept g 0 log n ⊎ (AreMeantKept g 0 log × CannotHold g.max_locks log n)
+abbrev pub IsRefusedBy : Geometry → ℕ → ℕ → List LogRecord → ℕ → Type 0
+IsRefusedBy g cut checkpoint kept n = IsFirstUnmeantAnchored g cut checkpoint kept n ⊎ (AreMeantAnchored g cut checkpoint kept × CannotHold g.max_locks (padded cut kept) n)
 
 -- ---- their locks
 
@@ -120,7 +122,7 @@ changes_of log [] = []
 changes_of log (d ∷ ds) = unanswered d.txn log ++ changes_of log ds
 
 abbrev pub changes_in_doubt : List LogRecord → List UnansweredChange
-changes_in_doubt log = changes_of log (doubts_in log)
+changes_in_doubt log = changes_of log (doubts_left log)
 
 -- what may come back to the slots of a page by some Changes: the first of them last, since the last of such a list is reserved first
 abbrev pub claims_of : PageId → List UnansweredChange → List (ℕ × ℕ)

@@ -10,7 +10,7 @@ use Rattle.shore_model.specs.declared.log_records.LogRecord.{LogRecord}
 use Rattle.shore_dwrite.specs.Volumes.{HasNoPage, page_number, page_offset}
 use Rattle.laws_runs.specs.SlotCounts.{FitsBehind}
 use Rattle.shore_restart.specs.declared.errors.RestartError.{RestartError}
-use Rattle.shore_restart.specs.declared.errors.RestartError.TheVariants.{BadRecord, Log, Memory, NoRoom, Page}
+use Rattle.shore_restart.specs.declared.errors.RestartError.TheVariants.{BadAnchor, BadRecord, Log, Memory, NoRoom, Page}
 
 -- ---- which device an error tells of
 
@@ -20,6 +20,7 @@ volume_answer (Err (Page f)) = Err f
 volume_answer (Err Memory) = Ok tt
 volume_answer (Err NoRoom) = Ok tt
 volume_answer (Err (BadRecord n)) = Ok tt
+volume_answer (Err BadAnchor) = Ok tt
 volume_answer (Err (Log f)) = Ok tt
 volume_answer (Ok done) = Ok tt
 
@@ -29,6 +30,7 @@ log_answer (Err (Log f)) = Err f
 log_answer (Err Memory) = Ok tt
 log_answer (Err NoRoom) = Ok tt
 log_answer (Err (BadRecord n)) = Ok tt
+log_answer (Err BadAnchor) = Ok tt
 log_answer (Err (Page f)) = Ok tt
 log_answer (Ok done) = Ok tt
 

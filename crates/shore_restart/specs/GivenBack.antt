@@ -1,5 +1,5 @@
 -- What a restart gives back to those in doubt: in the table of transactions, in the lock table, and on the pages.
-use Rattle.std.specs.Prelude.{◌≡◌, ◌⊎◌, ◌++◌, ◌∷◌, [], ℕ, List, None, Option, Some, Result, IfOk, OnOk, false, length, map, reverse}
+use Rattle.std.specs.Prelude.{◌≡◌, ◌⊎◌, ◌<◌, ◌++◌, ◌∷◌, [], ℕ, List, None, Option, Some, Result, IfOk, OnOk, false, length, map, reverse}
 use Rattle.shore_types.specs.Images.{Image, image_len}
 use Rattle.shore_types.specs.Layout.{HasPage}
 use Rattle.shore_types.specs.declared.ids.PageId.{PageId}
@@ -7,6 +7,7 @@ use Rattle.shore_types.specs.declared.layout.Geometry.{Geometry}
 use Rattle.shore_disk.specs.declared.device.Disk.{Ghosts}
 use Rattle.shore_dwrite.specs.Volumes.{page_number}
 use Rattle.shore_model.specs.declared.log_records.LogRecord.{LogRecord}
+use Rattle.shore_model.specs.Logs as logs
 use Rattle.shore_model.specs.Logs.{prepare_number, unanswered}
 use Rattle.shore_model.specs.Requests.{held_by_all}
 use Rattle.shore_log.specs.declared.device.LogDev.{LogDev}
@@ -22,13 +23,16 @@ use Rattle.shore_heap.specs.declared.heap.Heap.{Heap}
 use Rattle.shore_heap.specs.Contents.{AreBounds, CanKeep, ClaimsOfPages, FitIn, KeepWhatFits, claimed_by}
 use Rattle.shore_heap.specs.Heaps as heaps
 use Rattle.shore_heap.specs.Heaps.{Shows}
-use Rattle.laws_lives.specs.Doubts.{AreRestored, LoggedDoubt, doubts_in}
+use Rattle.laws_lives.specs.Doubts.{LoggedDoubt}
 use Rattle.laws_lives.specs.Recovery.{CrashMayLeave, IsRecoverable, RecoveryState}
+use Rattle.laws_lives.specs.Views.{IsAmong}
 use Rattle.laws_heaps.specs.LoggedHeaps.{IsStoreOf}
-use Rattle.laws_images.specs.Moments.{Moment, Path}
+use Rattle.shore_gate.specs.declared.anchors.Anchor.{Anchor}
+use Rattle.laws_images.specs.Moments.{Moment}
+use Rattle.laws_images.specs.MomentsBehind.{PathBehind}
 use Rattle.shore_txn.specs.ActiveTxns.{all_changes}
 use Rattle.shore_txn.specs.Transactions as table
-use Rattle.shore_txn.specs.Txns.{KeepsName, decided_of, entries_of, global_of, last_of, marks_of, number_of, state_of}
+use Rattle.shore_txn.specs.Txns.{KeepsName, decided_of, entries_of, first_of, global_of, last_of, marks_of, number_of, prepare_of, state_of}
 use Rattle.shore_txn.specs.UndoEntries.{HaveClaims, claims_on}
 use Rattle.shore_txn.specs.declared.transactions.Transactions.{Transactions}
 use Rattle.shore_txn.specs.declared.txn.Txn.{Txn}
@@ -40,7 +44,10 @@ use Rattle.shore_sessions.specs.Standing.{as_change}
 use Rattle.shore_restart.specs.declared.errors.RestartError.{RestartError}
 use Rattle.shore_restart.specs.declared.passes.Passed.{Passed}
 use Rattle.shore_restart.specs.AnyPages.{IsMadeOf, ReadPage}
-use Rattle.shore_restart.specs.Standing.{IsAtRest, SameInPlace, Worked, log_history, moment_of}
+use Rattle.shore_analysis.specs.Doubts.{doubts_left}
+use Rattle.shore_restart.specs.Doubts.{AreLocksOf}
+use Rattle.shore_restart.specs.Turns.{IsUndoneSoFar}
+use Rattle.shore_restart.specs.Standing.{IsAtRest, Notes, SameInPlace, Worked, log_history, moment_of}
 
 -- ---- transactions
 
@@ -49,11 +56,12 @@ pub record AreEntriesOf (log : List LogRecord) (t : ℕ) (entries : List UndoEnt
   pub changes : unanswered t log ≡ reverse (map as_change entries)
   pub claims : HaveClaims entries
 
--- a transaction that had no change has those that are to be undone, and is else as it was
+-- A transaction that had no change has those that are to be undone, and is else as it was: it keeps the number of its first record, if it had one.
 pub record HasChangesBack (log : List LogRecord) (old new : Txn) : Type 0 where
   pub txn : number_of new ≡ number_of old
   pub session : new.session ≡ old.session
   pub name : KeepsName old new
+  pub first : 0 < first_of old → first_of new ≡ first_of old
   pub entries : AreEntriesOf log (number_of old) (entries_of new)
   pub marks : marks_of new ≡ marks_of old
   pub state : state_of new ≡ state_of old
@@ -63,7 +71,9 @@ pub record IsGivenBack (log : List LogRecord) (d : LoggedDoubt) (t : Txn) : Type
   pub txn : number_of t ≡ d.txn
   pub session : t.session ≡ 0
   pub unseated : t.is_seated ≡ false
+  pub first : first_of t ≡ logs.first_of d.txn log
   pub last : last_of t ≡ prepare_number d.txn log
+  pub prepare : prepare_of t ≡ prepare_number d.txn log
   pub entries : AreEntriesOf log d.txn (entries_of t)
   pub marks : marks_of t ≡ []
   pub waits : state_of t ≡ state.Prepared
@@ -79,14 +89,14 @@ AreGivenBack log (d ∷ ds) (t ∷ ts) = IsGivenBack log d t × AreGivenBack log
 
 -- the table has those in doubt and nobody else: that of the first Prepare is the newest
 abbrev pub HasDoubts : List LogRecord → Transactions → Type 0
-HasDoubts log txns = AreGivenBack log (doubts_in log) (table.txns_in txns)
+HasDoubts log txns = AreGivenBack log (doubts_left log) (table.txns_in txns)
 
 -- ---- locks
 
 -- The table, of so many nodes at most, has the locks of those in doubt and no others, and nobody waits in it.
 pub record HasLocksBack (limit : ℕ) (log : List LogRecord) (locks : Table) : Type 0 where
   pub limit_is : locks.limit ≡ limit
-  pub restored : AreRestored log (held_by_all locks.requests)
+  pub restored : AreLocksOf (doubts_left log) (held_by_all locks.requests)
   pub nobody_waits : NobodyWaits locks.requests
   pub rooted : AreRooted locks.requests
   pub orderly : IsOrderly locks.requests
@@ -112,6 +122,10 @@ abbrev pub ClaimsSoFar : Option Frame → List ℕ → PageId → List (ℕ × �
 ClaimsSoFar (Some f) text p all so_far slots = (f.page.slots ≡ claimed_by so_far slots) ⊎ KeepWhatFits all slots f.page.slots
 ClaimsSoFar None text p all so_far slots = (number : ℕ) × (images : List Image) × IsPageText text p number images × (slots ≡ map settled images)
 
+-- one of the changes is of this page
+abbrev pub AreOfPage : List UndoEntry → PageId → Type 0
+AreOfPage changes p = (e : UndoEntry) × IsAmong e changes × (p ≡ e.id.page)
+
 -- The change of this number is the first, the newest of the table first, whose image before does not fit its page any more beside what is kept for the newer
 -- ones, if pages have these slots.
 pub record CannotKeep (txns : Transactions) (slots : PageId → List Slot) (n : ℕ) : Type 0 where
@@ -134,6 +148,10 @@ pub record CannotKeepOn (g : Geometry) (txns : Transactions) (texts : ℕ → Li
   pub page : ReadPage
   pub made : IsMadeOf (texts (page_number g entry.id.page)) log entry.id.page page
   pub no_room : CanKeep (claimed_by (claims_on entry.id.page newer) (map settled page.images)) entry.id.slot (image_len entry.before) → ⊥
+
+-- what all changes of the table may put back has room on each page, if pages are what these records make of these texts
+abbrev pub CanKeepOn : Geometry → Transactions → (ℕ → List ℕ) → List LogRecord → Type 0
+CanKeepOn g txns texts log = (p : PageId) (page : ReadPage) → HasPage g p → IsMadeOf (texts (page_number g p)) log p page → FitIn (table.kept_in txns p) (map settled page.images)
 
 module _ {V : Type 0} {H : Ghosts V} where
   -- The heap is the store's, over a volume that is settled with these texts of its pages behind this front. Each slot claims what its record takes, and what
@@ -163,19 +181,22 @@ module _ {V : Type 0} {H : Ghosts V} where
     pub same : SameInPlace s later
     pub volume : CrashMayLeave s later.volume
     pub stands : OnOk result ((left : ℕ → List ℕ) × Stand left later)
+    pub notes : OnOk result (Notes old new s later)
 
   -- ---- both devices
 
   -- what the passes leave: the log device at rest, all of it durable, and a heap with all records done that keeps these claims
-  pub record IsRestarted {L : Type 0} {G : Ghosts L} (K : ClaimsOfPages) (log_front front : List ℕ) (disk : ℕ → List ℕ) (log : LogDev L G) (heap : Heap V H) (s : RecoveryState) : Type 0 where
-    pub at_rest : IsAtRest log_front log s
+  pub record IsRestarted {L : Type 0} {G : Ghosts L} (K : ClaimsOfPages) (log_front front : List ℕ) (anchor : Anchor) (disk : ℕ → List ℕ) (log : LogDev L G) (heap : Heap V H) (s : RecoveryState) : Type 0 where
+    pub at_rest : IsAtRest log_front anchor log s
     pub stands : StandsWith K front disk heap s
     pub redone : s.redone ≡ length s.log
     pub durable : s.durable ≡ length s.log
 
   -- Both devices may have been called, one after another. If it was not refused they are so, over a store, and the claims are those of the ones in doubt.
-  pub record PassesMove {L : Type 0} {G : Ghosts L} (result : Result Passed RestartError) (log_front front : List ℕ) (old_log new_log : LogDev L G) (old new : Heap V H) (s : RecoveryState) : Type 0 where
+  pub record PassesMove {L : Type 0} {G : Ghosts L} (result : Result Passed RestartError) (log_front front : List ℕ) (anchor : Anchor) (old_log new_log : LogDev L G) (old new : Heap V H) (s : RecoveryState) : Type 0 where
     pub later : RecoveryState
     pub moments : List Moment
-    pub path : Path (heaps.geometry_of old) log_front front (moment_of (log_history old_log) old s) moments (moment_of (log_history new_log) new later)
-    pub done : IfOk result (λ left. (disk : ℕ → List ℕ) × IsRestarted (table.kept_in (txns_in left.control)) log_front front disk new_log new later)
+    pub path : PathBehind (heaps.geometry_of old) log_front front anchor (moment_of (log_history old_log) old s) moments (moment_of (log_history new_log) new later)
+    pub notes : OnOk result (Notes old new s later)
+    pub undone : OnOk result (IsUndoneSoFar s.log later.log)
+    pub done : IfOk result (λ left. (disk : ℕ → List ℕ) × IsRestarted (table.kept_in (txns_in left.control)) log_front front anchor disk new_log new later)

@@ -21,10 +21,10 @@ use Rattle.shore_restart.specs.AnyPages.{IsMadeOf, ReadPage}
 use Rattle.shore_restart.specs.declared.errors.RestartError.{RestartError}
 use Rattle.shore_restart.specs.declared.errors.RestartError.TheVariants.{Page}
 
--- the volume failed, or a page is damaged: its bytes are no text of it with a number up to this one
-abbrev pub IsPageFault : Geometry → (ℕ → List ℕ) → ℕ → Fault → Type 0
-IsPageFault g disk last f = (f ≡ fault.Device)
-    ⊎ ((id : PageId) × HasPage g id × (f ≡ fault.Damaged Volume (page_offset (page_number g id))) × HasNoPage (disk (page_number g id)) id last)
+-- the volume failed, or a page is damaged, one of those that may be read: its bytes are no text of it with a number up to this one
+abbrev pub IsPageFault : Geometry → (PageId → Type 0) → (ℕ → List ℕ) → ℕ → Fault → Type 0
+IsPageFault g may_read disk last f = (f ≡ fault.Device)
+    ⊎ ((id : PageId) × HasPage g id × may_read id × (f ≡ fault.Damaged Volume (page_offset (page_number g id))) × HasNoPage (disk (page_number g id)) id last)
 
 module _ {V : Type 0} {H : Ghosts V} where
   -- the heap has this page in place, over these texts of its volume
@@ -46,14 +46,14 @@ module _ {V : Type 0} {H : Ghosts V} where
     pub bad : (id : PageId) → HasPage (heaps.geometry_of old) id → HasNoPage (left (page_number (heaps.geometry_of old) id)) id later
         → HasNoPage (disk (page_number (heaps.geometry_of old) id)) id last
 
-  -- A fetch tells such a fault, or that a force is needed up to a number that is not durable. Unless the volume failed the heap is held so still.
-  pub record FetchesHeld (result : Result (Unit {0}) RestartError) (front : List ℕ) (first disk : ℕ → List ℕ) (old new : Heap V H) (done : List LogRecord) (last durable : ℕ) : Type 0 where
-    pub named : IfErr result (λ error. (f : Fault) → error ≡ Page f → IsPageFault (heaps.geometry_of old) disk last f ⊎ ((n : ℕ) × (f ≡ fault.NeedForce n) × (durable < n) × (n ≤ last)))
+  -- A fetch of one of these pages tells such a fault, or that a force is needed up to a number that is not durable. Unless the volume failed the heap is held so still.
+  pub record FetchesHeld (result : Result (Unit {0}) RestartError) (may_read : PageId → Type 0) (front : List ℕ) (first disk : ℕ → List ℕ) (old new : Heap V H) (done : List LogRecord) (last durable : ℕ) : Type 0 where
+    pub named : IfErr result (λ error. (f : Fault) → error ≡ Page f → IsPageFault (heaps.geometry_of old) may_read disk last f ⊎ ((n : ℕ) × (f ≡ fault.NeedForce n) × (durable < n) × (n ≤ last)))
     pub stays : (result ≡ Err (Page fault.Device)) ⊎ StaysHeld front first disk old new last done last
 
-  -- Work of a restart tells such a fault and no other of the volume, and if it was not refused the heap is held so still, with these records done.
-  pub record WorksHeld {A : Type 0} (result : Result A RestartError) (front : List ℕ) (first disk : ℕ → List ℕ) (old new : Heap V H) (last : ℕ) (done : List LogRecord) (later : ℕ) : Type 0 where
-    pub named : IfErr result (λ error. (f : Fault) → error ≡ Page f → IsPageFault (heaps.geometry_of old) disk last f)
+  -- Work of a restart that reads these pages at most tells such a fault and no other of the volume, and if it was not refused the heap is held so still, with these records done.
+  pub record WorksHeld {A : Type 0} (result : Result A RestartError) (may_read : PageId → Type 0) (front : List ℕ) (first disk : ℕ → List ℕ) (old new : Heap V H) (last : ℕ) (done : List LogRecord) (later : ℕ) : Type 0 where
+    pub named : IfErr result (λ error. (f : Fault) → error ≡ Page f → IsPageFault (heaps.geometry_of old) may_read disk last f)
     pub stays : OnOk result (StaysHeld front first disk old new last done later)
 
   -- ---- while claims are kept
@@ -77,6 +77,6 @@ module _ {V : Type 0} {H : Ghosts V} where
         → HasNoPage (disk (page_number (heaps.geometry_of old) id)) id last
 
   -- Such work tells no other fault of the volume, and if it was not refused the heap is held so still, with these claims so far.
-  pub record KeepsHeld (result : Result (Unit {0}) RestartError) (all so_far : ClaimsOfPages) (front : List ℕ) (first disk : ℕ → List ℕ) (old new : Heap V H) (done : List LogRecord) (last : ℕ) : Type 0 where
-    pub named : IfErr result (λ error. (f : Fault) → error ≡ Page f → IsPageFault (heaps.geometry_of old) disk last f)
+  pub record KeepsHeld (result : Result (Unit {0}) RestartError) (may_read : PageId → Type 0) (all so_far : ClaimsOfPages) (front : List ℕ) (first disk : ℕ → List ℕ) (old new : Heap V H) (done : List LogRecord) (last : ℕ) : Type 0 where
+    pub named : IfErr result (λ error. (f : Fault) → error ≡ Page f → IsPageFault (heaps.geometry_of old) may_read disk last f)
     pub stays : OnOk result (StaysHeldSoFar all so_far front first disk old new done last)

@@ -1,3 +1,4 @@
+pub mod Anchors
 pub mod Doubts
 pub mod AnyPages
 pub mod Errors

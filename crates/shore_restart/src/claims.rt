@@ -18,7 +18,7 @@ ghost use Rattle.shore_txn.specs.UndoEntries.{claims_on};
 ghost use Rattle.shore_txn.specs.declared.undo.UndoEntry.{UndoEntry};
 ghost use Rattle.shore_restart.specs.declared.errors.RestartError.TheVariants as RestartError;
 ghost use Rattle.shore_restart.specs.Errors.{volume_answer};
-ghost use Rattle.shore_restart.specs.GivenBack.{CannotKeep, CannotKeepOn, Keeps, StandsSoFar, StandsWith};
+ghost use Rattle.shore_restart.specs.GivenBack.{AreOfPage, CanKeepOn, CannotKeep, CannotKeepOn, Keeps, StandsSoFar, StandsWith};
 ghost use Rattle.shore_restart.specs.Held.{IsHeld, IsHeldSoFar, IsPageFault, KeepsHeld};
 ghost use Rattle.shore_restart.specs.Standing.{SameVolume, Stands};
 
@@ -46,10 +46,12 @@ pub fn keep_claims<V: Disk>(
         → IfErr result (λ error. (f : Fault) → error ≡ RestartError.Page f → f ≡ Fault.Device) }
     ensures bad_number { IfErr result (λ error. (n : ℕ) → error ≡ RestartError.BadRecord n → IsAmong n (map (λ e. e.lsn) (all_changes (txns_in txns.now)))) }
     ensures any_pages { (front : List ℕ) (first disk : ℕ → List ℕ) (done : List LogRecord) → IsHeld front first disk heap.old done last
-        → IfErr result (λ error. (f : Fault) → error ≡ RestartError.Page f → IsPageFault (geometry_of heap.old) disk last f) }
+        → IfErr result (λ error. (f : Fault) → error ≡ RestartError.Page f → IsPageFault (geometry_of heap.old) (AreOfPage (all_changes (txns_in txns.now))) disk last f) }
     ensures any_bad { (front : List ℕ) (first disk : ℕ → List ℕ) (done : List LogRecord) → IsHeld front first disk heap.old done last
         → IfErr result (λ error. (n : ℕ) → error ≡ RestartError.BadRecord n → CannotKeepOn (geometry_of heap.old) txns.now first done n) }
-    ensures others { IfErr result (λ error. (error ≢ RestartError.NoRoom) × ((f : Fault) → error ≢ RestartError.Log f)) }
+    ensures any_fit { (front : List ℕ) (first disk : ℕ → List ℕ) (done : List LogRecord) → IsHeld front first disk heap.old done last
+        → OnOk result (CanKeepOn (geometry_of heap.old) txns.now first done) }
+    ensures others { IfErr result (λ error. (error ≢ RestartError.NoRoom) × ((f : Fault) → error ≢ RestartError.Log f) × (error ≢ RestartError.BadAnchor)) }
     ensures volume { SameVolume heap.old heap.new }
     ensures cause { HasCause (volume_answer result) (faults_of heap.old) (faults_of heap.new) }
 {
@@ -82,11 +84,11 @@ fn keep_changes<V: Disk>(
     ensures bad_number { IfErr result (λ error. (n : ℕ) → error ≡ RestartError.BadRecord n → IsAmong n (map (λ e. e.lsn) changes.now)) }
     ensures any_pages { (older newer : List UndoEntry) (front : List ℕ) (first disk : ℕ → List ℕ) (done : List LogRecord) → all_changes (txns_in txns.now) ≡ older ++ (changes.now ++ newer)
         → IsHeldSoFar (kept_in txns.now) (λ p. claims_on p newer) front first disk heap.old done last
-        → KeepsHeld result (kept_in txns.now) (λ p. claims_on p (changes.now ++ newer)) front first disk heap.old heap.new done last }
+        → KeepsHeld result (AreOfPage changes.now) (kept_in txns.now) (λ p. claims_on p (changes.now ++ newer)) front first disk heap.old heap.new done last }
     ensures any_bad { (older newer : List UndoEntry) (front : List ℕ) (first disk : ℕ → List ℕ) (done : List LogRecord) → all_changes (txns_in txns.now) ≡ older ++ (changes.now ++ newer)
         → IsHeldSoFar (kept_in txns.now) (λ p. claims_on p newer) front first disk heap.old done last
         → IfErr result (λ error. (n : ℕ) → error ≡ RestartError.BadRecord n → CannotKeepOn (geometry_of heap.old) txns.now first done n) }
-    ensures others { IfErr result (λ error. (error ≢ RestartError.NoRoom) × ((f : Fault) → error ≢ RestartError.Log f)) }
+    ensures others { IfErr result (λ error. (error ≢ RestartError.NoRoom) × ((f : Fault) → error ≢ RestartError.Log f) × (error ≢ RestartError.BadAnchor)) }
     ensures volume { SameVolume heap.old heap.new }
     ensures cause { HasCause (volume_answer result) (faults_of heap.old) (faults_of heap.new) }
 {
@@ -120,11 +122,11 @@ fn keep_claim<V: Disk>(
     ensures bad_number { IfErr result (λ error. (n : ℕ) → error ≡ RestartError.BadRecord n → n ≡ entry.now.lsn) }
     ensures any_pages { (older newer : List UndoEntry) (front : List ℕ) (first disk : ℕ → List ℕ) (done : List LogRecord) → all_changes (txns_in txns.now) ≡ older ++ entry.now ∷ newer
         → IsHeldSoFar (kept_in txns.now) (λ p. claims_on p newer) front first disk heap.old done last
-        → KeepsHeld result (kept_in txns.now) (λ p. claims_on p (entry.now ∷ newer)) front first disk heap.old heap.new done last }
+        → KeepsHeld result (λ p. p ≡ entry.now.id.page) (kept_in txns.now) (λ p. claims_on p (entry.now ∷ newer)) front first disk heap.old heap.new done last }
     ensures any_bad { (older newer : List UndoEntry) (front : List ℕ) (first disk : ℕ → List ℕ) (done : List LogRecord) → all_changes (txns_in txns.now) ≡ older ++ entry.now ∷ newer
         → IsHeldSoFar (kept_in txns.now) (λ p. claims_on p newer) front first disk heap.old done last
         → IfErr result (λ error. (n : ℕ) → error ≡ RestartError.BadRecord n → CannotKeepOn (geometry_of heap.old) txns.now first done n) }
-    ensures others { IfErr result (λ error. (error ≢ RestartError.NoRoom) × ((f : Fault) → error ≢ RestartError.Log f)) }
+    ensures others { IfErr result (λ error. (error ≢ RestartError.NoRoom) × ((f : Fault) → error ≢ RestartError.Log f) × (error ≢ RestartError.BadAnchor)) }
     ensures volume { SameVolume heap.old heap.new }
     ensures cause { HasCause (volume_answer result) (faults_of heap.old) (faults_of heap.new) }
 {
@@ -152,8 +154,8 @@ fn fetch_claimed<V: Disk>(
         → StandsSoFar (kept_in txns.now) so_far slots front disk heap.old s → length s.log ≤ last → last ≤ s.durable
         → IfErr result (λ error. (f : Fault) → error ≡ RestartError.Page f → f ≡ Fault.Device) }
     ensures any_pages { (so_far : PageId → List (ℕ × ℕ)) (front : List ℕ) (first disk : ℕ → List ℕ) (done : List LogRecord) → IsHeldSoFar (kept_in txns.now) so_far front first disk heap.old done last
-        → KeepsHeld result (kept_in txns.now) so_far front first disk heap.old heap.new done last }
-    ensures others { IfErr result (λ error. (error ≢ RestartError.NoRoom) × ((n : ℕ) → error ≢ RestartError.BadRecord n) × ((f : Fault) → error ≢ RestartError.Log f)) }
+        → KeepsHeld result (λ p. p ≡ page) (kept_in txns.now) so_far front first disk heap.old heap.new done last }
+    ensures others { IfErr result (λ error. (error ≢ RestartError.NoRoom) × ((n : ℕ) → error ≢ RestartError.BadRecord n) × ((f : Fault) → error ≢ RestartError.Log f) × (error ≢ RestartError.BadAnchor)) }
     ensures volume { SameVolume heap.old heap.new }
     ensures cause { HasCause (volume_answer result) (faults_of heap.old) (faults_of heap.new) }
 {

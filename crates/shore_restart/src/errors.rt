@@ -14,6 +14,8 @@ pub enum RestartError {
     /// The log's records leave no room for the longest frame beside what those in doubt have reserved, or its numbers none for a record more: those that were
     /// found, or they and the records of undo.
     NoRoom,
+    /// The log does not have the checkpoint that its anchor names: the begin or the End.
+    BadAnchor,
     /// The record of this number does not mean what a record has to (analysis); or it is the Prepare of one in doubt that cannot hold what is its beside those
     /// before it; or its page has no room for it, or for what its undo brings back or may bring back.
     BadRecord(Lsn),

@@ -2,10 +2,12 @@
 //! these, and gives a core over what is left. After ARIES (Mohan et al., 1992). It may be stopped at any moment, and the next restart goes on.
 #![tactic(auto)]
 
+mod anchored;
 mod claims;
 mod doubts;
 mod errors;
 mod forcing;
+mod found;
 pub mod laws;
 mod log_sums;
 mod pages;

@@ -1,13 +1,16 @@
 //! What the records of a log cost, and whether they leave room for more.
-ghost use Rattle.std.specs.Prelude.{◌≡◌, ◌↔◌, ◌++◌, ◌∷◌, ◌^◌, ◌-◌, [], ℕ, List, All, IsSome, IfSome, min, length};
+ghost use Rattle.std.specs.Prelude.{◌≡◌, ◌↔◌, ◌++◌, ◌∷◌, ◌^◌, ◌-◌, ◌+◌, ◌<◌, ◌≤◌, [], ℕ, List, All, IsSome, IsTrue, IfSome, min, length};
 ghost use Rattle.shore_model.specs.declared.log_records.LogRecord.{LogRecord};
 ghost use Rattle.shore_logrec.specs.Text.{Fits, cost_of};
 ghost use Rattle.laws_calls.specs.States.{cost_of_log};
+ghost use Rattle.shore_types.specs.declared.layout.TheConstants.{LAST_OPENED, LONGEST_FRAME, MAX_LOG_BYTES};
+ghost use Rattle.shore_analysis.specs.Padded.{padded};
 ghost use Rattle.shore_restart.specs.Doubts.{reserved_told};
-ghost use Rattle.shore_restart.specs.Room.{HasSums, IsRoomBehind, LeavesRoom, LeavesRoomBeside};
+ghost use Rattle.shore_restart.specs.Room.{HasSums, IsRoomBehind, LeavesRoom};
 
 use shore_logrec::{LogRecord, encoded_len};
 use shore_txn::LogRoom;
+use shore_types::Lsn;
 use shore_types::layout::{FRAME_SHARE, LAST_OPENED};
 
 /// What the records cost together, each its text and its share of a frame. Saturates at
@@ -31,27 +34,32 @@ fn cost(logged: &LogRecord) -> u64
     FRAME_SHARE + encoded_len(logged) as u64
 }
 
-/// The room of a log that was found, with nothing reserved. None if it leaves none for the longest frame, or no number for a record more.
-pub fn room_of(log: &[LogRecord], stream_bytes: u64) -> Option<LogRoom>
-    requires { All Fits log.now }
-    ensures some { IfSome result (HasSums stream_bytes (cost_of_log log.now) 0) }
-    ensures none { IsSome result ↔ LeavesRoomBeside 0 log.now stream_bytes }
+/// The room of a log of which these records are kept, with nothing reserved. None if it leaves none for the longest frame.
+pub fn room_of(kept: &[LogRecord], stream_bytes: u64) -> Option<LogRoom>
+    requires { All Fits kept.now }
+    ensures some { IfSome result (HasSums stream_bytes (cost_of_log kept.now) 0) }
+    ensures none { IsSome result ↔ ((cost_of_log kept.now + LONGEST_FRAME ≤ stream_bytes) × (stream_bytes ≤ MAX_LOG_BYTES)) }
 {
-    if log.len() as u64 >= LAST_OPENED {
-        return None;
-    }
-    LogRoom::new(stream_bytes, cost_of_all(log))
+    LogRoom::new(stream_bytes, cost_of_all(kept))
 }
 
-/// The room behind a record more, by that before it, which is of a log with so many records. As much is reserved. None if there is none.
-pub fn room_with(room: &LogRoom, logged: &LogRecord, records: u64) -> Option<LogRoom>
-    requires { Fits logged.now }
-    ensures some { (log : List LogRecord) (stream_bytes : ℕ) → IsRoomBehind log stream_bytes room.now → records ≡ length log
-        → reserved_told (log ++ logged.now ∷ []) ≡ reserved_told log → IfSome result (IsRoomBehind (log ++ logged.now ∷ []) stream_bytes) }
-    ensures none { (log : List LogRecord) (stream_bytes : ℕ) → IsRoomBehind log stream_bytes room.now → records ≡ length log
-        → reserved_told (log ++ logged.now ∷ []) ≡ reserved_told log → (IsSome result ↔ LeavesRoom (log ++ logged.now ∷ []) stream_bytes) }
+/// Whether a log whose last record has this number has numbers for one more, and for all that is reserved.
+pub fn has_numbers(room: &LogRoom, last: Lsn) -> bool
+    ensures { IsTrue result ↔ (last + room.now.reserved < LAST_OPENED) }
 {
-    if records >= LAST_OPENED - 1 {
+    last.0 < LAST_OPENED && room.reserved < LAST_OPENED - last.0
+}
+
+/// The room behind a record more, by that before it, which is of a log with a last record of this number. As much is reserved. None if there is none.
+pub fn room_with(room: &LogRoom, logged: &LogRecord, last: Lsn) -> Option<LogRoom>
+    requires fit { Fits logged.now }
+    requires few { last < LAST_OPENED }
+    ensures some { (cut : ℕ) (kept : List LogRecord) (stream_bytes : ℕ) → IsRoomBehind cut kept stream_bytes room.now → last ≡ cut + length kept
+        → reserved_told (padded cut (kept ++ logged.now ∷ [])) ≡ reserved_told (padded cut kept) → IfSome result (IsRoomBehind cut (kept ++ logged.now ∷ []) stream_bytes) }
+    ensures none { (cut : ℕ) (kept : List LogRecord) (stream_bytes : ℕ) → IsRoomBehind cut kept stream_bytes room.now → last ≡ cut + length kept
+        → reserved_told (padded cut (kept ++ logged.now ∷ [])) ≡ reserved_told (padded cut kept) → (IsSome result ↔ LeavesRoom cut (kept ++ logged.now ∷ []) stream_bytes) }
+{
+    if !has_numbers(room, Lsn(last.0 + 1)) {
         return None;
     }
     room.with_record(cost(logged))

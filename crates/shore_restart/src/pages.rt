@@ -11,6 +11,8 @@ ghost use Rattle.shore_page.specs.Room.{Fits};
 ghost use Rattle.shore_types.specs.Images.{image_len};
 ghost use Rattle.shore_pool.specs.Pools.{PoolHolds};
 ghost use Rattle.shore_heap.specs.Heaps.{faults_of, frame_of, geometry_of, history_of, pool_of};
+ghost use Rattle.laws_checkpoints.specs.RecoveryNumbers.{RecoveryNumbers, recovery_after};
+ghost use Rattle.laws_heaps.specs.HeapRecoveries.{HasRecoveries};
 ghost use Rattle.laws_lives.specs.Recovery.{AppendRecord, LeadsTo, RecoveryState, RedoRecord, after_append, after_redo};
 ghost use Rattle.shore_restart.specs.declared.errors.RestartError.{RestartError};
 ghost use Rattle.shore_restart.specs.declared.errors.RestartError.TheVariants as RestartError;
@@ -40,8 +42,8 @@ pub fn fetch<V: Disk>(
         → IfErr result (λ error. (f : Fault) → error ≡ RestartError.Page f → (f ≡ Fault.Device) ⊎ ((n : ℕ) × (f ≡ Fault.NeedForce n) × (ends.now.durable < n) × (n ≤ length s.log))) }
     ensures earned { (front : List ℕ) (disk : ℕ → List ℕ) → PoolHolds (pool_of heap.old) front disk → IfErr result (IsEarned (geometry_of heap.old) disk ends.now.last) }
     ensures any_pages { (front : List ℕ) (first disk : ℕ → List ℕ) (done : List LogRecord) → IsHeld front first disk heap.old done ends.now.last → ends.now.durable ≤ ends.now.last
-        → FetchesHeld result front first disk heap.old heap.new done ends.now.last ends.now.durable }
-    ensures others { IfErr result (λ error. (error ≢ RestartError.NoRoom) × ((n : ℕ) → error ≢ RestartError.BadRecord n) × ((f : Fault) → error ≢ RestartError.Log f)) }
+        → FetchesHeld result (λ p. p ≡ page) front first disk heap.old heap.new done ends.now.last ends.now.durable }
+    ensures others { IfErr result (λ error. (error ≢ RestartError.NoRoom) × ((n : ℕ) → error ≢ RestartError.BadRecord n) × ((f : Fault) → error ≢ RestartError.Log f) × (error ≢ RestartError.BadAnchor)) }
     ensures volume { SameVolume heap.old heap.new }
     ensures cause { HasCause (volume_answer result) (faults_of heap.old) (faults_of heap.new) }
 {
@@ -58,10 +60,12 @@ pub fn put<V: Disk>(heap: &mut Heap<V>, id: Rid, number: Lsn, image: &Option<Byt
     requires fits { IsSomeAnd (frame_of heap.old id.page) (λ f. Fits f.page.slots id.slot (image_len image.now)) }
     ensures redone { (front : List ℕ) (disk : ℕ → List ℕ) (s : RecoveryState) (r : LogRecord) → Stands front disk heap.old s → slice_get s.log s.redone ≡ Some r
         → image_in r.payload ≡ Some (id, image.now) → number ≡ s.redone + 1 → (s.in_place id.page).number ≤ s.redone
-        → LeadsTo s RedoRecord (after_redo s r) × Stands front disk heap.new (after_redo s r) }
+        → LeadsTo s RedoRecord (after_redo s r) × Stands front disk heap.new (after_redo s r)
+        × ((recovery : RecoveryNumbers) → HasRecoveries heap.old recovery → HasRecoveries heap.new (recovery_after s RedoRecord recovery)) }
     ensures appended { (front : List ℕ) (disk : ℕ → List ℕ) (s : RecoveryState) (r : LogRecord) → Stands front disk heap.old s → s.redone ≡ length s.log
         → image_in r.payload ≡ Some (id, image.now) → number ≡ length s.log + 1
-        → LeadsTo s (AppendRecord r) (after_append s r) × Stands front disk heap.new (after_append s r) }
+        → LeadsTo s (AppendRecord r) (after_append s r) × Stands front disk heap.new (after_append s r)
+        × ((recovery : RecoveryNumbers) → HasRecoveries heap.old recovery → HasRecoveries heap.new (recovery_after s (AppendRecord r) recovery)) }
     ensures any_pages { (front : List ℕ) (first disk : ℕ → List ℕ) (done : List LogRecord) (last : ℕ) (r : LogRecord) → IsHeld front first disk heap.old done last
         → image_in r.payload ≡ Some (id, image.now) → number ≡ length done + 1 → IsSomeAnd (frame_of heap.old id.page) (λ f. f.page.number < number) → number ≤ last
         → IsHeld front first disk heap.new (done ++ r ∷ []) last }

@@ -1,6 +1,7 @@
 //! Undo: the losers' turns, a record of undo in each (ARIES: the undo pass).
 ghost use Rattle.std.specs.Prelude.{◌≡◌, ◌≢◌, ◌<◌, ◌≤◌, ◌++◌, ◌+◌, ◌∷◌, ◌↔◌, [], ℕ, List, Err, IfErr, IfOk, IsFalse, IsSome, IsTrue, OnOk, Some, is_some, length};
 ghost use Rattle.shore_disk.specs.Cause.{HasCause};
+ghost use Rattle.shore_gate.specs.declared.anchors.Anchor.{Anchor};
 ghost use Rattle.shore_types.specs.Layout.{HasPage, HasSlot};
 ghost use Rattle.shore_types.specs.declared.faults.Fault.{Fault};
 ghost use Rattle.shore_types.specs.declared.faults.Fault.TheVariants as Fault;
@@ -10,23 +11,25 @@ ghost use Rattle.shore_model.specs.Logs.{id_in, image_in, unanswered};
 ghost use Rattle.shore_page.specs.Room.{Fits};
 ghost use Rattle.shore_types.specs.Images.{image_len};
 ghost use Rattle.shore_heap.specs.Heaps.{faults_of, frame_of, geometry_of};
-ghost use Rattle.shore_log.specs.Settled.{HasRecordRoom, records_of_log};
+ghost use Rattle.shore_log.specs.Settled.{HasRecordRoom, cut_of_log, records_of_log};
 ghost use Rattle.laws_lives.specs.Recovery.{RecoveryState};
 ghost use Rattle.laws_lives.specs.Undo.{HasNoLosers, undo_payload, undo_record};
+ghost use Rattle.shore_analysis.specs.Padded.{padded};
 ghost use Rattle.laws_runs.specs.SlotCounts.{FitsBehind, slots_left};
 ghost use Rattle.shore_types.specs.declared.ids.Rid.{Rid};
-ghost use Rattle.shore_restart.specs.AnyPages.{AllFindRoom, FindsNoRoom, FindsNoRoomToUndo};
+ghost use Rattle.shore_restart.specs.AnyPages.{AllFindRoom, FindsNoRoom, FindsNoRoomToUndo, IsOnPage, IsUndoneOnPage, MayBeUndoneOnPage};
 ghost use Rattle.shore_restart.specs.declared.errors.RestartError.{RestartError};
 ghost use Rattle.shore_restart.specs.declared.errors.RestartError.TheVariants as RestartError;
 ghost use Rattle.shore_restart.specs.Errors.{log_answer, volume_answer};
 ghost use Rattle.shore_restart.specs.Held.{IsHeld, WorksHeld};
-ghost use Rattle.shore_restart.specs.Standing.{Appends, IsAtRest, IsReady, RestartMoves, SameLog, SameVolume, log_faults, log_history, stream_bytes_of};
+ghost use Rattle.shore_restart.specs.Standing.{Appends, IsAtRest, IsReady, RestartMoves, SameLog, SameVolume, log_faults, log_history, log_seen, stream_bytes_of};
 ghost use Rattle.shore_restart.specs.Quiet.{IsQuiet, StaysQuiet};
 ghost use Rattle.shore_restart.specs.Room.{LeavesRoom};
-ghost use Rattle.shore_restart.specs.Turns.{CannotUndo, HasNoTurnRoom, IsUndoOf, IsUndoneSoFar, TakesTurn, TurnsFit};
+ghost use Rattle.shore_restart.specs.Turns.{CannotUndo, HasNoTurnRoom, IsUndoOf, IsUndoneSoFar, TakesTurn, TurnsFit, gone_on};
 
 use crate::errors::RestartError;
 use crate::forcing::force;
+use crate::found::found_in;
 use crate::log_sums::room_with;
 use crate::pages::{fetch, put};
 use shore_analysis::Losers;
@@ -56,29 +59,32 @@ impl Undo {
         log: &mut LogDev<L>,
         heap: &mut Heap<V>,
     ) -> Result<(), RestartError>
-        requires { IsUndoOf (geometry_of heap.old) (records_of_log log.old) (stream_bytes_of log.old) self.old }
-        ensures undone { OnOk result (IsUndoneSoFar (records_of_log log.old) (records_of_log log.new)) }
-        ensures done { OnOk result (HasNoLosers (records_of_log log.new)) }
-        ensures undo { OnOk result (IsUndoOf (geometry_of heap.new) (records_of_log log.new) (stream_bytes_of log.new) self.new) }
-        ensures moves { (log_front front : List ℕ) (disk : ℕ → List ℕ) (s : RecoveryState) → IsReady log_front front disk log.old heap.old s
-            → RestartMoves result log_front front log.old log.new heap.old heap.new s (λ later. later.durable ≡ length later.log) }
-        ensures no_room { IfErr result (λ error. error ≡ RestartError.NoRoom → (so_far : List LogRecord) × IsUndoneSoFar (records_of_log log.old) so_far × HasNoTurnRoom so_far (stream_bytes_of log.old)) }
-        ensures bad { (log_front front : List ℕ) (disk : ℕ → List ℕ) (s : RecoveryState) → IsReady log_front front disk log.old heap.old s
-            → IfErr result (λ error. (n : ℕ) → error ≡ RestartError.BadRecord n → (so_far : List LogRecord) × IsUndoneSoFar (records_of_log log.old) so_far
-            × TurnsFit (records_of_log log.old) so_far × CannotUndo so_far n) }
-        ensures fits { (log_front front : List ℕ) (disk : ℕ → List ℕ) (s : RecoveryState) → IsReady log_front front disk log.old heap.old s
-            → OnOk result (TurnsFit (records_of_log log.old) (records_of_log log.new)) }
-        ensures device { (log_front front : List ℕ) (disk : ℕ → List ℕ) (s : RecoveryState) → IsReady log_front front disk log.old heap.old s
+        requires { IsUndoOf (geometry_of heap.old) (cut_of_log log.old) (records_of_log log.old) (stream_bytes_of log.old) self.old }
+        ensures undone { OnOk result (IsUndoneSoFar (log_seen log.old) (log_seen log.new)) }
+        ensures done { OnOk result (HasNoLosers (log_seen log.new)) }
+        ensures undo { OnOk result (IsUndoOf (geometry_of heap.new) (cut_of_log log.new) (records_of_log log.new) (stream_bytes_of log.new) self.new) }
+        ensures moves { (log_front front : List ℕ) (anchor : Anchor) (disk : ℕ → List ℕ) (s : RecoveryState) → IsReady log_front front anchor disk log.old heap.old s
+            → RestartMoves result log_front front anchor log.old log.new heap.old heap.new s (λ later. (later.durable ≡ length later.log) × IsUndoneSoFar s.log later.log) }
+        ensures no_room { IfErr result (λ error. error ≡ RestartError.NoRoom → (so_far : List LogRecord) × IsUndoneSoFar (log_seen log.old) (padded (cut_of_log log.old) so_far)
+            × HasNoTurnRoom (cut_of_log log.old) so_far (stream_bytes_of log.old)) }
+        ensures anchor { IfErr result (λ error. error ≢ RestartError.BadAnchor) }
+        ensures bad { (log_front front : List ℕ) (anchor : Anchor) (disk : ℕ → List ℕ) (s : RecoveryState) → IsReady log_front front anchor disk log.old heap.old s
+            → IfErr result (λ error. (n : ℕ) → error ≡ RestartError.BadRecord n → (so_far : List LogRecord) × IsUndoneSoFar s.log so_far
+            × TurnsFit s.log so_far × CannotUndo so_far n) }
+        ensures fits { (log_front front : List ℕ) (anchor : Anchor) (disk : ℕ → List ℕ) (s : RecoveryState) → IsReady log_front front anchor disk log.old heap.old s
+            → OnOk result (TurnsFit s.log (gone_on s.log (log_seen log.old) (log_seen log.new))) }
+        ensures device { (log_front front : List ℕ) (anchor : Anchor) (disk : ℕ → List ℕ) (s : RecoveryState) → IsReady log_front front anchor disk log.old heap.old s
             → IfErr result (λ error. (f : Fault) → error ≡ RestartError.Page f → f ≡ Fault.Device) }
         ensures log_device { (log_front : List ℕ) → IsQuiet log_front log.old → StaysQuiet result log_front log.old log.new }
-        ensures bad_number { IfErr result (λ error. (n : ℕ) → error ≡ RestartError.BadRecord n → (0 < n) × (n ≤ length (records_of_log log.old))) }
-        ensures any_pages { (front : List ℕ) (first disk : ℕ → List ℕ) → IsHeld front first disk heap.old (records_of_log log.old) (length (records_of_log log.old))
-            → WorksHeld result front first disk heap.old heap.new (length (records_of_log log.old)) (records_of_log log.new) (length (records_of_log log.new)) }
-        ensures any_bad { (front : List ℕ) (first disk : ℕ → List ℕ) → IsHeld front first disk heap.old (records_of_log log.old) (length (records_of_log log.old))
-            → AllFindRoom (geometry_of heap.old) first (records_of_log log.old) → IfErr result (λ error. (n : ℕ) → error ≡ RestartError.BadRecord n → (so_far : List LogRecord)
-            × IsUndoneSoFar (records_of_log log.old) so_far × AllFindRoom (geometry_of heap.old) first so_far × FindsNoRoomToUndo (geometry_of heap.old) first so_far n) }
-        ensures any_fit { (front : List ℕ) (first disk : ℕ → List ℕ) → IsHeld front first disk heap.old (records_of_log log.old) (length (records_of_log log.old))
-            → AllFindRoom (geometry_of heap.old) first (records_of_log log.old) → OnOk result (AllFindRoom (geometry_of heap.old) first (records_of_log log.new)) }
+        ensures bad_number { IfErr result (λ error. (n : ℕ) → error ≡ RestartError.BadRecord n → (cut_of_log log.old < n) × (n ≤ length (log_seen log.old))) }
+        ensures any_pages { (front : List ℕ) (first disk : ℕ → List ℕ) (due : List LogRecord) → length due ≡ length (log_seen log.old) → IsHeld front first disk heap.old due (length due)
+            → WorksHeld result (MayBeUndoneOnPage (log_seen log.old)) front first disk heap.old heap.new (length due) (gone_on due (log_seen log.old) (log_seen log.new)) (length (log_seen log.new)) }
+        ensures any_bad { (front : List ℕ) (first disk : ℕ → List ℕ) (due : List LogRecord) → length due ≡ length (log_seen log.old) → IsHeld front first disk heap.old due (length due)
+            → AllFindRoom (geometry_of heap.old) first due → IfErr result (λ error. (n : ℕ) → error ≡ RestartError.BadRecord n → (so_far : List LogRecord)
+            × IsUndoneSoFar (log_seen log.old) so_far × AllFindRoom (geometry_of heap.old) first (gone_on due (log_seen log.old) so_far)
+            × FindsNoRoomToUndo (geometry_of heap.old) first so_far (gone_on due (log_seen log.old) so_far) n) }
+        ensures any_fit { (front : List ℕ) (first disk : ℕ → List ℕ) (due : List LogRecord) → length due ≡ length (log_seen log.old) → IsHeld front first disk heap.old due (length due)
+            → AllFindRoom (geometry_of heap.old) first due → OnOk result (AllFindRoom (geometry_of heap.old) first (gone_on due (log_seen log.old) (log_seen log.new))) }
         ensures volume { SameVolume heap.old heap.new }
         ensures log { SameLog log.old log.new }
         ensures volume_cause { HasCause (volume_answer result) (faults_of heap.old) (faults_of heap.new) }
@@ -95,40 +101,43 @@ impl Undo {
         log: &mut LogDev<L>,
         heap: &mut Heap<V>,
     ) -> Result<bool, RestartError>
-        requires { IsUndoOf (geometry_of heap.old) (records_of_log log.old) (stream_bytes_of log.old) self.old }
-        ensures turn { IfOk result (λ more. IsTrue more → TakesTurn (records_of_log log.old) (records_of_log log.new) self.old self.new) }
-        ensures undo { OnOk result (IsUndoOf (geometry_of heap.new) (records_of_log log.new) (stream_bytes_of log.new) self.new) }
-        ensures done { IfOk result (λ more. IsFalse more → (records_of_log log.new ≡ records_of_log log.old) × HasNoLosers (records_of_log log.new)) }
-        ensures moves { (log_front front : List ℕ) (disk : ℕ → List ℕ) (s : RecoveryState) → IsReady log_front front disk log.old heap.old s
-            → RestartMoves result log_front front log.old log.new heap.old heap.new s (λ later. later.log ≡ records_of_log log.new) }
-        ensures no_room { IfErr result (λ error. error ≡ RestartError.NoRoom → HasNoTurnRoom (records_of_log log.old) (stream_bytes_of log.old)) }
-        ensures bad { (log_front front : List ℕ) (disk : ℕ → List ℕ) (s : RecoveryState) → IsReady log_front front disk log.old heap.old s
-            → IfErr result (λ error. (n : ℕ) → error ≡ RestartError.BadRecord n → CannotUndo (records_of_log log.old) n) }
-        ensures fits { (log_front front : List ℕ) (disk : ℕ → List ℕ) (s : RecoveryState) (found : List LogRecord) → IsReady log_front front disk log.old heap.old s
-            → TurnsFit found (records_of_log log.old) → OnOk result (TurnsFit found (records_of_log log.new)) }
-        ensures device { (log_front front : List ℕ) (disk : ℕ → List ℕ) (s : RecoveryState) → IsReady log_front front disk log.old heap.old s
+        requires { IsUndoOf (geometry_of heap.old) (cut_of_log log.old) (records_of_log log.old) (stream_bytes_of log.old) self.old }
+        ensures turn { IfOk result (λ more. IsTrue more → TakesTurn (log_seen log.old) (log_seen log.new) self.old self.new) }
+        ensures undo { OnOk result (IsUndoOf (geometry_of heap.new) (cut_of_log log.new) (records_of_log log.new) (stream_bytes_of log.new) self.new) }
+        ensures done { IfOk result (λ more. IsFalse more → (records_of_log log.new ≡ records_of_log log.old) × HasNoLosers (log_seen log.new)) }
+        ensures moves { (log_front front : List ℕ) (anchor : Anchor) (disk : ℕ → List ℕ) (s : RecoveryState) → IsReady log_front front anchor disk log.old heap.old s
+            → RestartMoves result log_front front anchor log.old log.new heap.old heap.new s (λ later. later.log ≡ gone_on s.log (log_seen log.old) (log_seen log.new)) }
+        ensures no_room { IfErr result (λ error. error ≡ RestartError.NoRoom → HasNoTurnRoom (cut_of_log log.old) (records_of_log log.old) (stream_bytes_of log.old)) }
+        ensures anchor { IfErr result (λ error. error ≢ RestartError.BadAnchor) }
+        ensures bad { (log_front front : List ℕ) (anchor : Anchor) (disk : ℕ → List ℕ) (s : RecoveryState) → IsReady log_front front anchor disk log.old heap.old s
+            → IfErr result (λ error. (n : ℕ) → error ≡ RestartError.BadRecord n → CannotUndo s.log n) }
+        ensures fits { (log_front front : List ℕ) (anchor : Anchor) (disk : ℕ → List ℕ) (s : RecoveryState) (found : List LogRecord) → IsReady log_front front anchor disk log.old heap.old s
+            → TurnsFit found s.log → OnOk result (TurnsFit found (gone_on s.log (log_seen log.old) (log_seen log.new))) }
+        ensures device { (log_front front : List ℕ) (anchor : Anchor) (disk : ℕ → List ℕ) (s : RecoveryState) → IsReady log_front front anchor disk log.old heap.old s
             → IfErr result (λ error. (f : Fault) → error ≡ RestartError.Page f → f ≡ Fault.Device) }
         ensures log_device { (log_front : List ℕ) → IsQuiet log_front log.old → StaysQuiet result log_front log.old log.new }
-        ensures bad_number { (found : List LogRecord) → IsUndoneSoFar found (records_of_log log.old) → IfErr result (λ error. (n : ℕ) → error ≡ RestartError.BadRecord n → (0 < n) × (n ≤ length found)) }
-        ensures any_pages { (front : List ℕ) (first disk : ℕ → List ℕ) → IsHeld front first disk heap.old (records_of_log log.old) (length (records_of_log log.old))
-            → WorksHeld result front first disk heap.old heap.new (length (records_of_log log.old)) (records_of_log log.new) (length (records_of_log log.new)) }
-        ensures any_bad { (front : List ℕ) (first disk : ℕ → List ℕ) → IsHeld front first disk heap.old (records_of_log log.old) (length (records_of_log log.old))
-            → IfErr result (λ error. (n : ℕ) → error ≡ RestartError.BadRecord n → FindsNoRoomToUndo (geometry_of heap.old) first (records_of_log log.old) n) }
-        ensures any_fit { (front : List ℕ) (first disk : ℕ → List ℕ) → IsHeld front first disk heap.old (records_of_log log.old) (length (records_of_log log.old))
-            → AllFindRoom (geometry_of heap.old) first (records_of_log log.old) → OnOk result (AllFindRoom (geometry_of heap.old) first (records_of_log log.new)) }
+        ensures bad_number { (found : List LogRecord) → IsUndoneSoFar found (log_seen log.old) → IfErr result (λ error. (n : ℕ) → error ≡ RestartError.BadRecord n → (cut_of_log log.old < n) × (n ≤ length found)) }
+        ensures any_pages { (front : List ℕ) (first disk : ℕ → List ℕ) (due : List LogRecord) → length due ≡ length (log_seen log.old) → IsHeld front first disk heap.old due (length due)
+            → WorksHeld result (IsUndoneOnPage (log_seen log.old)) front first disk heap.old heap.new (length due) (gone_on due (log_seen log.old) (log_seen log.new)) (length (log_seen log.new)) }
+        ensures any_bad { (front : List ℕ) (first disk : ℕ → List ℕ) (due : List LogRecord) → length due ≡ length (log_seen log.old) → IsHeld front first disk heap.old due (length due)
+            → IfErr result (λ error. (n : ℕ) → error ≡ RestartError.BadRecord n → FindsNoRoomToUndo (geometry_of heap.old) first (log_seen log.old) due n) }
+        ensures any_fit { (front : List ℕ) (first disk : ℕ → List ℕ) (due : List LogRecord) → length due ≡ length (log_seen log.old) → IsHeld front first disk heap.old due (length due)
+            → AllFindRoom (geometry_of heap.old) first due → OnOk result (AllFindRoom (geometry_of heap.old) first (gone_on due (log_seen log.old) (log_seen log.new))) }
         ensures volume { SameVolume heap.old heap.new }
         ensures log { SameLog log.old log.new }
         ensures volume_cause { HasCause (volume_answer result) (faults_of heap.old) (faults_of heap.new) }
         ensures log_cause { HasCause (log_answer result) (log_faults log.old) (log_faults log.new) }
     {
-        let Some(logged) = self.losers.next_record_behind(alloc, 0, log.records())? else {
+        let cut = log.cut_off();
+        let found = found_in(log)?;
+        let Some(logged) = self.losers.next_record_behind(alloc, cut, found)? else {
             return Ok(false);
         };
-        let records = log.records().len() as u64;
-        let Some(room) = room_with(&self.room, &logged, records) else {
+        let last = log.last();
+        let Some(room) = room_with(&self.room, &logged, last) else {
             return Err(RestartError::NoRoom);
         };
-        let number = Lsn(records + 1);
+        let number = Lsn(last.0 + 1);
         append(
             alloc,
             log,
@@ -154,31 +163,31 @@ fn append<L: Disk, V: Disk>(
     undone: Lsn,
 ) -> Result<(), RestartError>
     requires there { (id : Rid) → id_in payload.now ≡ Some id → HasSlot (geometry_of heap.old) id }
-    requires room { LeavesRoom (records_of_log log.old) (stream_bytes_of log.old) }
-    ensures appends { (log_front front : List ℕ) (disk : ℕ → List ℕ) (s : RecoveryState) (t : ℕ) → IsReady log_front front disk log.old heap.old s
+    requires room { LeavesRoom (cut_of_log log.old) (records_of_log log.old) (stream_bytes_of log.old) }
+    ensures appends { (log_front front : List ℕ) (anchor : Anchor) (disk : ℕ → List ℕ) (s : RecoveryState) (t : ℕ) → IsReady log_front front anchor disk log.old heap.old s
         → payload.now ≡ undo_payload (unanswered t s.log) → number ≡ length s.log + 1
-        → Appends result log_front front log.old log.new heap.old heap.new s (undo_record s.log t) }
+        → Appends result log_front front anchor log.old log.new heap.old heap.new s (undo_record s.log t) }
     ensures reserved { OnOk result (HasRecordRoom log.new 1) }
-    ensures bad { (log_front front : List ℕ) (disk : ℕ → List ℕ) (s : RecoveryState) → IsReady log_front front disk log.old heap.old s
+    ensures bad { (log_front front : List ℕ) (anchor : Anchor) (disk : ℕ → List ℕ) (s : RecoveryState) → IsReady log_front front anchor disk log.old heap.old s
         → IfErr result (λ error. (n : ℕ) → error ≡ RestartError.BadRecord n → (n ≡ undone) × (FitsBehind s.log payload.now → ⊥)) }
-    ensures fits { (log_front front : List ℕ) (disk : ℕ → List ℕ) (s : RecoveryState) (t : ℕ) → IsReady log_front front disk log.old heap.old s
+    ensures fits { (log_front front : List ℕ) (anchor : Anchor) (disk : ℕ → List ℕ) (s : RecoveryState) (t : ℕ) → IsReady log_front front anchor disk log.old heap.old s
         → payload.now ≡ undo_payload (unanswered t s.log) → OnOk result (FitsBehind s.log payload.now) }
-    ensures device { (log_front front : List ℕ) (disk : ℕ → List ℕ) (s : RecoveryState) → IsReady log_front front disk log.old heap.old s
+    ensures device { (log_front front : List ℕ) (anchor : Anchor) (disk : ℕ → List ℕ) (s : RecoveryState) → IsReady log_front front anchor disk log.old heap.old s
         → IfErr result (λ error. (f : Fault) → error ≡ RestartError.Page f → f ≡ Fault.Device) }
     ensures log_device { (log_front : List ℕ) → IsQuiet log_front log.old → StaysQuiet result log_front log.old log.new }
-    ensures others { IfErr result (λ error. error ≢ RestartError.NoRoom) }
+    ensures others { IfErr result (λ error. (error ≢ RestartError.NoRoom) × (error ≢ RestartError.BadAnchor)) }
     ensures same { records_of_log log.new ≡ records_of_log log.old }
     ensures log { SameLog log.old log.new }
     ensures bad_number { IfErr result (λ error. (n : ℕ) → error ≡ RestartError.BadRecord n → (n ≡ undone) × IsSome (id_in payload.now)) }
-    ensures any_pages { (front : List ℕ) (first disk : ℕ → List ℕ) (r : LogRecord) (t : ℕ) → IsHeld front first disk heap.old (records_of_log log.old) (length (records_of_log log.old))
-        → r.payload ≡ payload.now → payload.now ≡ undo_payload (unanswered t (records_of_log log.old)) → number ≡ length (records_of_log log.old) + 1
-        → WorksHeld result front first disk heap.old heap.new (length (records_of_log log.old)) (records_of_log log.old ++ r ∷ []) (length (records_of_log log.old) + 1) }
-    ensures any_bad { (front : List ℕ) (first disk : ℕ → List ℕ) → IsHeld front first disk heap.old (records_of_log log.old) (length (records_of_log log.old))
+    ensures any_pages { (front : List ℕ) (first disk : ℕ → List ℕ) (due : List LogRecord) (r : LogRecord) (t : ℕ) → length due ≡ length (log_seen log.old) → IsHeld front first disk heap.old due (length due)
+        → r.payload ≡ payload.now → payload.now ≡ undo_payload (unanswered t (log_seen log.old)) → number ≡ length due + 1
+        → WorksHeld result (IsOnPage r) front first disk heap.old heap.new (length due) (due ++ r ∷ []) (length due + 1) }
+    ensures any_bad { (front : List ℕ) (first disk : ℕ → List ℕ) (due : List LogRecord) → length due ≡ length (log_seen log.old) → IsHeld front first disk heap.old due (length due)
         → IfErr result (λ error. (n : ℕ) → error ≡ RestartError.BadRecord n → (n ≡ undone)
-        × FindsNoRoom (geometry_of heap.old) first (records_of_log log.old) (length (records_of_log log.old) + 1) payload.now) }
-    ensures any_fit { (front : List ℕ) (first disk : ℕ → List ℕ) (t : ℕ) → IsHeld front first disk heap.old (records_of_log log.old) (length (records_of_log log.old))
-        → payload.now ≡ undo_payload (unanswered t (records_of_log log.old))
-        → OnOk result (FindsNoRoom (geometry_of heap.old) first (records_of_log log.old) (length (records_of_log log.old) + 1) payload.now → ⊥) }
+        × FindsNoRoom (geometry_of heap.old) first due (length due + 1) payload.now) }
+    ensures any_fit { (front : List ℕ) (first disk : ℕ → List ℕ) (due : List LogRecord) (t : ℕ) → length due ≡ length (log_seen log.old) → IsHeld front first disk heap.old due (length due)
+        → payload.now ≡ undo_payload (unanswered t (log_seen log.old))
+        → OnOk result (FindsNoRoom (geometry_of heap.old) first due (length due + 1) payload.now → ⊥) }
     ensures volume { SameVolume heap.old heap.new }
     ensures volume_cause { HasCause (volume_answer result) (faults_of heap.old) (faults_of heap.new) }
     ensures log_cause { HasCause (log_answer result) (log_faults log.old) (log_faults log.new) }
@@ -210,30 +219,30 @@ fn put_back<L: Disk, V: Disk>(
     undone: Lsn,
 ) -> Result<(), RestartError>
     requires there { HasPage (geometry_of heap.old) id.page }
-    requires room { LeavesRoom (records_of_log log.old) (stream_bytes_of log.old) }
-    ensures appends { (log_front front : List ℕ) (disk : ℕ → List ℕ) (s : RecoveryState) (r : LogRecord) → IsReady log_front front disk log.old heap.old s
-        → image_in r.payload ≡ Some (id, image.now) → number ≡ length s.log + 1 → Appends result log_front front log.old log.new heap.old heap.new s r }
+    requires room { LeavesRoom (cut_of_log log.old) (records_of_log log.old) (stream_bytes_of log.old) }
+    ensures appends { (log_front front : List ℕ) (anchor : Anchor) (disk : ℕ → List ℕ) (s : RecoveryState) (r : LogRecord) → IsReady log_front front anchor disk log.old heap.old s
+        → image_in r.payload ≡ Some (id, image.now) → number ≡ length s.log + 1 → Appends result log_front front anchor log.old log.new heap.old heap.new s r }
     ensures reserved { OnOk result (HasRecordRoom log.new 1) }
-    ensures bad { (log_front front : List ℕ) (disk : ℕ → List ℕ) (s : RecoveryState) → IsReady log_front front disk log.old heap.old s
+    ensures bad { (log_front front : List ℕ) (anchor : Anchor) (disk : ℕ → List ℕ) (s : RecoveryState) → IsReady log_front front anchor disk log.old heap.old s
         → IfErr result (λ error. (n : ℕ) → error ≡ RestartError.BadRecord n → (n ≡ undone) × (Fits (slots_left s.log id.page) id.slot (image_len image.now) → ⊥)) }
-    ensures fits { (log_front front : List ℕ) (disk : ℕ → List ℕ) (s : RecoveryState) → IsReady log_front front disk log.old heap.old s
+    ensures fits { (log_front front : List ℕ) (anchor : Anchor) (disk : ℕ → List ℕ) (s : RecoveryState) → IsReady log_front front anchor disk log.old heap.old s
         → OnOk result (Fits (slots_left s.log id.page) id.slot (image_len image.now)) }
-    ensures device { (log_front front : List ℕ) (disk : ℕ → List ℕ) (s : RecoveryState) → IsReady log_front front disk log.old heap.old s
+    ensures device { (log_front front : List ℕ) (anchor : Anchor) (disk : ℕ → List ℕ) (s : RecoveryState) → IsReady log_front front anchor disk log.old heap.old s
         → IfErr result (λ error. (f : Fault) → error ≡ RestartError.Page f → f ≡ Fault.Device) }
     ensures log_device { (log_front : List ℕ) → IsQuiet log_front log.old → StaysQuiet result log_front log.old log.new }
-    ensures others { IfErr result (λ error. error ≢ RestartError.NoRoom) }
+    ensures others { IfErr result (λ error. (error ≢ RestartError.NoRoom) × (error ≢ RestartError.BadAnchor)) }
     ensures same { records_of_log log.new ≡ records_of_log log.old }
     ensures log { SameLog log.old log.new }
     ensures bad_number { IfErr result (λ error. (n : ℕ) → error ≡ RestartError.BadRecord n → n ≡ undone) }
-    ensures any_pages { (front : List ℕ) (first disk : ℕ → List ℕ) (r : LogRecord) → IsHeld front first disk heap.old (records_of_log log.old) (length (records_of_log log.old))
-        → image_in r.payload ≡ Some (id, image.now) → number ≡ length (records_of_log log.old) + 1
-        → WorksHeld result front first disk heap.old heap.new (length (records_of_log log.old)) (records_of_log log.old ++ r ∷ []) (length (records_of_log log.old) + 1) }
-    ensures any_bad { (front : List ℕ) (first disk : ℕ → List ℕ) (payload : Payload) → IsHeld front first disk heap.old (records_of_log log.old) (length (records_of_log log.old))
+    ensures any_pages { (front : List ℕ) (first disk : ℕ → List ℕ) (due : List LogRecord) (r : LogRecord) → length due ≡ length (log_seen log.old) → IsHeld front first disk heap.old due (length due)
+        → image_in r.payload ≡ Some (id, image.now) → number ≡ length due + 1
+        → WorksHeld result (IsOnPage r) front first disk heap.old heap.new (length due) (due ++ r ∷ []) (length due + 1) }
+    ensures any_bad { (front : List ℕ) (first disk : ℕ → List ℕ) (due : List LogRecord) (payload : Payload) → length due ≡ length (log_seen log.old) → IsHeld front first disk heap.old due (length due)
         → image_in payload ≡ Some (id, image.now) → IfErr result (λ error. (n : ℕ) → error ≡ RestartError.BadRecord n → (n ≡ undone)
-        × FindsNoRoom (geometry_of heap.old) first (records_of_log log.old) (length (records_of_log log.old) + 1) payload) }
-    ensures any_fit { (front : List ℕ) (first disk : ℕ → List ℕ) (payload : Payload) → IsHeld front first disk heap.old (records_of_log log.old) (length (records_of_log log.old))
+        × FindsNoRoom (geometry_of heap.old) first due (length due + 1) payload) }
+    ensures any_fit { (front : List ℕ) (first disk : ℕ → List ℕ) (due : List LogRecord) (payload : Payload) → length due ≡ length (log_seen log.old) → IsHeld front first disk heap.old due (length due)
         → image_in payload ≡ Some (id, image.now)
-        → OnOk result (FindsNoRoom (geometry_of heap.old) first (records_of_log log.old) (length (records_of_log log.old) + 1) payload → ⊥) }
+        → OnOk result (FindsNoRoom (geometry_of heap.old) first due (length due + 1) payload → ⊥) }
     ensures volume { SameVolume heap.old heap.new }
     ensures volume_cause { HasCause (volume_answer result) (faults_of heap.old) (faults_of heap.new) }
     ensures log_cause { HasCause (log_answer result) (log_faults log.old) (log_faults log.new) }
@@ -265,24 +274,24 @@ fn bring<L: Disk, V: Disk>(
     page: PageId,
 ) -> Result<(), RestartError>
     requires there { HasPage (geometry_of heap.old) page }
-    requires room { LeavesRoom (records_of_log log.old) (stream_bytes_of log.old) }
+    requires room { LeavesRoom (cut_of_log log.old) (records_of_log log.old) (stream_bytes_of log.old) }
     ensures held { OnOk result (IsTrue (is_some (frame_of heap.new page))) }
-    ensures moves { (log_front front : List ℕ) (disk : ℕ → List ℕ) (s : RecoveryState) → IsReady log_front front disk log.old heap.old s
-        → RestartMoves result log_front front log.old log.new heap.old heap.new s (λ later. (later.log ≡ s.log) × (later.in_place ≡ s.in_place)) }
+    ensures moves { (log_front front : List ℕ) (anchor : Anchor) (disk : ℕ → List ℕ) (s : RecoveryState) → IsReady log_front front anchor disk log.old heap.old s
+        → RestartMoves result log_front front anchor log.old log.new heap.old heap.new s (λ later. (later.log ≡ s.log) × (later.in_place ≡ s.in_place)) }
     ensures no_record { IfErr result (λ error. (n : ℕ) → error ≢ RestartError.BadRecord n) }
-    ensures device { (log_front front : List ℕ) (disk : ℕ → List ℕ) (s : RecoveryState) → IsReady log_front front disk log.old heap.old s
+    ensures device { (log_front front : List ℕ) (anchor : Anchor) (disk : ℕ → List ℕ) (s : RecoveryState) → IsReady log_front front anchor disk log.old heap.old s
         → IfErr result (λ error. (f : Fault) → error ≡ RestartError.Page f → f ≡ Fault.Device) }
     ensures log_device { (log_front : List ℕ) → IsQuiet log_front log.old → StaysQuiet result log_front log.old log.new }
-    ensures others { IfErr result (λ error. error ≢ RestartError.NoRoom) }
+    ensures others { IfErr result (λ error. (error ≢ RestartError.NoRoom) × (error ≢ RestartError.BadAnchor)) }
     ensures same { records_of_log log.new ≡ records_of_log log.old }
     ensures log { SameLog log.old log.new }
-    ensures any_pages { (front : List ℕ) (first disk : ℕ → List ℕ) (done : List LogRecord) → IsHeld front first disk heap.old done (length (records_of_log log.old))
-        → WorksHeld result front first disk heap.old heap.new (length (records_of_log log.old)) done (length (records_of_log log.old)) }
+    ensures any_pages { (front : List ℕ) (first disk : ℕ → List ℕ) (done : List LogRecord) → IsHeld front first disk heap.old done (length (log_seen log.old))
+        → WorksHeld result (λ p. p ≡ page) front first disk heap.old heap.new (length (log_seen log.old)) done (length (log_seen log.old)) }
     ensures volume { SameVolume heap.old heap.new }
     ensures volume_cause { HasCause (volume_answer result) (faults_of heap.old) (faults_of heap.new) }
     ensures log_cause { HasCause (log_answer result) (log_faults log.old) (log_faults log.new) }
 {
-    let last = Lsn(log.records().len() as u64);
+    let last = log.last();
     let durable = log.durable().number();
     let PageId { store, page } = page;
     let ends = LogEnds { last, durable };
@@ -320,7 +329,7 @@ fn is_force(error: &RestartError) -> bool
 // Takes the memory for a record more in the log.
 fn reserve<L: Disk>(log: &mut LogDev<L>) -> Result<(), RestartError>
     ensures room { OnOk result (HasRecordRoom log.new 1) }
-    ensures at_rest { (log_front : List ℕ) (s : RecoveryState) → IsAtRest log_front log.old s → IsAtRest log_front log.new s }
+    ensures at_rest { (log_front : List ℕ) (anchor : Anchor) (s : RecoveryState) → IsAtRest log_front anchor log.old s → IsAtRest log_front anchor log.new s }
     ensures log_device { (log_front : List ℕ) → IsQuiet log_front log.old → StaysQuiet result log_front log.old log.new }
     ensures refused { IfErr result (λ error. error ≡ RestartError.Memory) }
     ensures same { (records_of_log log.new ≡ records_of_log log.old) × (log_history log.new ≡ log_history log.old) × (log_faults log.new ≡ log_faults log.old) }

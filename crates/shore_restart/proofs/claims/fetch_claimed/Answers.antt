@@ -27,6 +27,7 @@ returns-in-Ok-clause-keeps g c so_far slots front disk s stands low =
         stands_fetched front disk left old mid s (kept_in c.args.txns.now) so_far slots stands c.args.page c.requires c.fetch.ensures.reads.geometry stay.same c.args.last (c.fetch.ensures.framed front disk stands.holds) kept holds
             c.fetch.ensures.bounds,
       );
+      notes = kept.notes;
     }
 
 pub returns-in-Err-clause-keeps : goal.returns-in-Err-clause-keeps
@@ -41,10 +42,11 @@ returns-in-Err-clause-keeps g c so_far slots front disk s stands low =
         same = record { log = refl; durable = refl; redone = refl; in_place = refl };
         volume = λ p. inl refl;
         stands = tt;
+        notes = tt;
       }
       | inr back ↦
           let kept = wrote front disk old mid s c.args.last stands.store stands.recoverable low moments back.0 c.fetch.ensures.reads.geometry back.1 back.2 in
-          record { later = kept.later; work = kept.work; same = kept.same; volume = kept.volume; stands = tt }
+          record { later = kept.later; work = kept.work; same = kept.same; volume = kept.volume; stands = tt; notes = tt }
     ]
 
 pub returns-in-Err-clause-device : goal.returns-in-Err-clause-device

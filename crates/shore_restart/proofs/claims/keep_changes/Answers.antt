@@ -13,12 +13,13 @@ use Rattle.shore_txn.specs.Transactions.{kept_in, txns_in}
 use Rattle.shore_txn.specs.UndoEntries.{claims_on}
 use Rattle.shore_txn.specs.declared.undo.UndoEntry.{UndoEntry}
 use Rattle.shore_restart.specs.declared.errors.RestartError.{RestartError}
-use Rattle.shore_restart.specs.GivenBack.{CannotKeepOn, Keeps, StandsSoFar}
+use Rattle.shore_restart.specs.GivenBack.{AreOfPage, CannotKeepOn, Keeps, StandsSoFar}
 use Rattle.shore_restart.specs.Held.{IsHeldSoFar, KeepsHeld, StaysHeldSoFar}
 use Rattle.shore_restart.proofs.ChangesBack.{among_at}
 use Rattle.shore_restart.proofs.ClaimsAll.{fit_everywhere, in_place_of, keeps_none}
 use Rattle.shore_restart.proofs.ClaimsKept.{keeps_then, so_far_left}
 use Rattle.shore_restart.proofs.DoubtsBack.{from_here}
+use Rattle.shore_restart.proofs.HeldPages.{fault_wider}
 use Rattle.shore_restart.proofs.AnyClaims.{so_far_fault, so_far_here, so_far_then}
 use Rattle.shore_restart.proofs.PageErrors.{err_with, passed_cause}
 use Rattle.shore_restart.proofs.RedoAll.{same_again}
@@ -95,7 +96,7 @@ returns-in_err-keep_claim-clause-keeps g c older newer slots front disk s order 
     let kept = c.in_err-keep_claim.ensures.keeps (older ++ take j es) (drop (j + 1) es ++ newer) slots front first.stands.0 first.later (in_place_of (all_changes (txns_in c.args.txns.now)) older es newer j e here order) st (omega (arith, durable, low)) in
     subst (λ (result : Result (Unit {0}) RestartError). Keeps result front c.args.heap.now new s (λ left later. StandsSoFar (kept_in c.args.txns.now) (λ p. claims_on p (es ++ newer)) slots front left new later))
     (sym (err_with c.from_residual.result c.in_err-keep_claim.field-0.0 c.from_residual.ensures.1))
-    (keeps_then so.volume.geometry first (record { later = kept.later; work = kept.work; same = kept.same; volume = kept.volume; stands = tt }))
+    (keeps_then so.volume.geometry first (record { later = kept.later; work = kept.work; same = kept.same; volume = kept.volume; stands = tt; notes = tt }))
 
 pub returns-in_err-keep_claim-clause-bad : goal.returns-in_err-keep_claim-clause-bad
 returns-in_err-keep_claim-clause-bad g c older newer slots front disk s order there stands low =
@@ -162,10 +163,11 @@ returns-in_err-keep_claim-clause-any_pages g c older newer front first disk done
     let s = so.any_pages older newer front first disk done order held in
     let st = subst (λ (k : ℕ). IsHeldSoFar (kept_in c.args.txns.now) (λ p. claims_on p (drop k es ++ newer)) front first s.left mid done c.args.last) place s.held in
     let kept = c.in_err-keep_claim.ensures.any_pages (older ++ take j es) (drop (j + 1) es ++ newer) front first s.left done (in_place_of (all_changes (txns_in c.args.txns.now)) older es newer j e here order) st in
-    subst (λ (result : Result (Unit {0}) RestartError). KeepsHeld result (kept_in c.args.txns.now) (λ p. claims_on p (es ++ newer)) front first disk c.args.heap.now c.keep_claim.new.heap done c.args.last)
+    subst (λ (result : Result (Unit {0}) RestartError). KeepsHeld result (AreOfPage es) (kept_in c.args.txns.now) (λ p. claims_on p (es ++ newer)) front first disk c.args.heap.now c.keep_claim.new.heap done c.args.last)
     (sym (err_with c.from_residual.result c.in_err-keep_claim.field-0.0 c.from_residual.ensures.1))
     (record {
-      named = λ f is. so_far_fault front first done c.args.last (kept_in c.args.txns.now) (λ p. claims_on p (drop c.loop-index.index es ++ newer)) disk c.args.heap.now mid so.volume.geometry s f (kept.named f is);
+      named = λ f is. so_far_fault front first done c.args.last (kept_in c.args.txns.now) (λ p. claims_on p (drop c.loop-index.index es ++ newer)) disk c.args.heap.now mid so.volume.geometry s (AreOfPage es) f
+          (fault_wider (geometry_of mid) (λ p. p ≡ e.id.page) (AreOfPage es) s.left c.args.last f (λ p on. (e, among_at es j e here, on)) (kept.named f is));
       stays = tt;
     })
 
@@ -188,7 +190,7 @@ returns-in_err-keep_claim-clause-any_bad g c older newer front first disk done o
 pub returns-in_err-keep_claim-clause-others : goal.returns-in_err-keep_claim-clause-others
 returns-in_err-keep_claim-clause-others g c =
     let others = c.in_err-keep_claim.ensures.others in
-    if_err c.from_residual.result c.from_residual.ensures.1 (λ error same. (λ is. others.0 (sym same ∙ is), λ f is. others.1 f (sym same ∙ is)))
+    if_err c.from_residual.result c.from_residual.ensures.1 (λ error same. (λ is. others.0 (sym same ∙ is), λ f is. others.1 f (sym same ∙ is), λ is. others.2 (sym same ∙ is)))
 
 pub returns-in_err-keep_claim-clause-volume : goal.returns-in_err-keep_claim-clause-volume
 returns-in_err-keep_claim-clause-volume g c = same_again c.args.heap.now c.loop-index.heap c.keep_claim.new.heap c.loop-index.invariant.volume c.keep_claim.ensures.volume

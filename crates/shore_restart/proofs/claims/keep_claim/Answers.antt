@@ -15,10 +15,11 @@ use Rattle.shore_restart.specs.declared.errors.RestartError.{RestartError}
 use Rattle.shore_restart.specs.declared.errors.RestartError.TheVariants.{BadRecord, Page}
 use Rattle.shore_restart.specs.GivenBack.{CannotKeepOn, Keeps, StandsSoFar}
 use Rattle.shore_restart.specs.Held.{KeepsHeld}
-use Rattle.shore_restart.proofs.ClaimsKept.{worked_on}
+use Rattle.shore_restart.proofs.ClaimsKept.{noted_on, worked_on}
 use Rattle.shore_restart.proofs.ClaimsMore.{claimed_more, has_place}
 use Rattle.shore_restart.proofs.AnyClaims.{claim_keeps, lacks_room}
 use Rattle.shore_restart.proofs.PageErrors.{err_with, passed_cause}
+use Rattle.shore_restart.proofs.Putting.{same_geometry}
 use Rattle.shore_restart.proofs.claims.keep_claim.Goals as goal
 
 -- ---- the page was not fetched
@@ -28,7 +29,7 @@ returns-in_err-fetch_claimed-clause-keeps g c older newer slots front disk s ord
     let kept = c.in_err-fetch_claimed.ensures.keeps (λ p. claims_on p newer) slots front disk s stands low in
     subst
     (λ (result : Result (Unit {0}) RestartError). Keeps result front c.args.heap.now c.fetch_claimed.new.heap s (λ left later. StandsSoFar (kept_in c.args.txns.now) (λ p. claims_on p (c.args.entry.now ∷ newer)) slots front left c.fetch_claimed.new.heap later))
-    (sym (err_with c.from_residual.result c.in_err-fetch_claimed.field-0.0 c.from_residual.ensures.1)) (record { later = kept.later; work = kept.work; same = kept.same; volume = kept.volume; stands = tt })
+    (sym (err_with c.from_residual.result c.in_err-fetch_claimed.field-0.0 c.from_residual.ensures.1)) (record { later = kept.later; work = kept.work; same = kept.same; volume = kept.volume; stands = tt; notes = tt })
 
 pub returns-in_err-fetch_claimed-clause-bad : goal.returns-in_err-fetch_claimed-clause-bad
 returns-in_err-fetch_claimed-clause-bad g c older newer slots front disk s order stands low =
@@ -46,7 +47,7 @@ pub returns-in_err-fetch_claimed-clause-any_pages : goal.returns-in_err-fetch_cl
 returns-in_err-fetch_claimed-clause-any_pages g c older newer front first disk done order held =
     let kept = c.in_err-fetch_claimed.ensures.any_pages (λ p. claims_on p newer) front first disk done held in
     subst
-    (λ (result : Result (Unit {0}) RestartError). KeepsHeld result (kept_in c.args.txns.now) (λ p. claims_on p (c.args.entry.now ∷ newer)) front first disk c.args.heap.now c.fetch_claimed.new.heap done c.args.last)
+    (λ (result : Result (Unit {0}) RestartError). KeepsHeld result (λ p. p ≡ c.args.entry.now.id.page) (kept_in c.args.txns.now) (λ p. claims_on p (c.args.entry.now ∷ newer)) front first disk c.args.heap.now c.fetch_claimed.new.heap done c.args.last)
     (sym (err_with c.from_residual.result c.in_err-fetch_claimed.field-0.0 c.from_residual.ensures.1)) (record { named = kept.named; stays = tt })
 
 pub returns-in_err-fetch_claimed-clause-any_bad : goal.returns-in_err-fetch_claimed-clause-any_bad
@@ -56,7 +57,7 @@ returns-in_err-fetch_claimed-clause-any_bad g c older newer front first disk don
 pub returns-in_err-fetch_claimed-clause-others : goal.returns-in_err-fetch_claimed-clause-others
 returns-in_err-fetch_claimed-clause-others g c =
     let others = c.in_err-fetch_claimed.ensures.others in
-    if_err c.from_residual.result c.from_residual.ensures.1 (λ error same. (λ is. others.0 (sym same ∙ is), λ f is. others.2 f (sym same ∙ is)))
+    if_err c.from_residual.result c.from_residual.ensures.1 (λ error same. (λ is. others.0 (sym same ∙ is), λ f is. others.2 f (sym same ∙ is), λ is. others.3 (sym same ∙ is)))
 
 pub returns-in_err-fetch_claimed-clause-cause : goal.returns-in_err-fetch_claimed-clause-cause
 returns-in_err-fetch_claimed-clause-cause g c =
@@ -74,6 +75,7 @@ returns-then-not-keep_claim-clause-keeps g c older newer slots front disk s orde
       same = kept.same;
       volume = kept.volume;
       stands = tt;
+      notes = tt;
     }
 
 pub returns-then-not-keep_claim-clause-bad : goal.returns-then-not-keep_claim-clause-bad
@@ -136,6 +138,7 @@ returns-clause-keeps g c older newer slots front disk s order stands low =
         claimed_more front left mid new kept.later (all_changes (txns_in c.args.txns.now)) older newer entry order slots there st can c.keep_claim.ensures.device c.keep_claim.ensures.bounds untouched.0 (c.keep_claim.ensures.same left) here
             c.keep_claim.ensures.others,
       );
+      notes = noted_on old mid new s kept.later c.keep_claim.ensures.dirt (same_geometry mid new c.keep_claim.ensures.device) kept.notes;
     }
 
 pub returns-clause-any_pages : goal.returns-clause-any_pages

@@ -4,7 +4,7 @@ use Rattle.std.proofs.lemmas.List.{at_drop_all, length-map, length-reverse}
 use Rattle.shore_types.specs.Layout.{HasPage}
 use Rattle.shore_types.specs.declared.layout.Geometry.{Geometry}
 use Rattle.shore_dwrite.proofs.Moves.{if_err}
-use Rattle.shore_heap.specs.Heaps.{faults_of}
+use Rattle.shore_heap.specs.Heaps.{faults_of, geometry_of}
 use Rattle.laws_lives.specs.Views.{IsAmong}
 use Rattle.laws_lives.proofs.Lists.{among_left, among_map, among_right, mapped_one}
 use Rattle.shore_txn.specs.ActiveTxns.{all_changes}
@@ -14,12 +14,13 @@ use Rattle.shore_txn.specs.UndoEntries.{claims_on}
 use Rattle.shore_txn.specs.declared.txn.Txn.{Txn}
 use Rattle.shore_txn.specs.declared.undo.UndoEntry.{UndoEntry}
 use Rattle.shore_restart.specs.declared.errors.RestartError.{RestartError}
-use Rattle.shore_restart.specs.GivenBack.{CannotKeepOn, Keeps, StandsSoFar, StandsWith}
+use Rattle.shore_restart.specs.GivenBack.{AreOfPage, CanKeepOn, CannotKeepOn, Keeps, StandsSoFar, StandsWith}
 use Rattle.shore_restart.specs.Held.{IsHeldSoFar, StaysHeldSoFar}
 use Rattle.shore_restart.proofs.ClaimsAll.{all_flat, all_so_far, flat, flat_here, keeps_none, none_so_far, some_at}
 use Rattle.shore_restart.proofs.ClaimsKept.{keeps_then, so_far_left}
 use Rattle.shore_restart.proofs.DoubtsBack.{from_here}
-use Rattle.shore_restart.proofs.AnyClaims.{held_unclaimed, so_far_fault, so_far_here, so_far_then}
+use Rattle.shore_restart.proofs.HeldPages.{fault_wider}
+use Rattle.shore_restart.proofs.AnyClaims.{fits_made, held_unclaimed, so_far_fault, so_far_here, so_far_then}
 use Rattle.shore_restart.proofs.PageErrors.{err_with, passed_cause}
 use Rattle.shore_restart.proofs.RedoAll.{same_again}
 use Rattle.shore_restart.proofs.claims.keep_claims.Goals as goal
@@ -127,7 +128,7 @@ returns-in_err-keep_changes-clause-keeps g c front disk s stands low =
     let kept = c.in_err-keep_changes.ensures.keeps (flat (take j rs)) (flat (drop (j + 1) rs)) stands.slots front first.stands.0 first.later at.order st (omega (arith, durable, low)) in
     subst (λ (result : Result (Unit {0}) RestartError). Keeps result front c.args.heap.now new s (λ left later. StandsWith (kept_in c.args.txns.now) front left new later))
     (sym (err_with c.from_residual.result c.in_err-keep_changes.field-0.0 c.from_residual.ensures.1))
-    (keeps_then so.volume.geometry first (record { later = kept.later; work = kept.work; same = kept.same; volume = kept.volume; stands = tt }))
+    (keeps_then so.volume.geometry first (record { later = kept.later; work = kept.work; same = kept.same; volume = kept.volume; stands = tt; notes = tt }))
 
 pub returns-in_err-keep_changes-clause-bad : goal.returns-in_err-keep_changes-clause-bad
 returns-in_err-keep_changes-clause-bad g c front disk s stands low =
@@ -188,7 +189,9 @@ returns-in_err-keep_changes-clause-any_pages g c front first disk done held =
     let st = subst (λ (k : ℕ). IsHeldSoFar (kept_in c.args.txns.now) (λ p. claims_on p (flat (drop k rs))) front first s.left mid done c.args.last) place s.held in
     let kept = c.in_err-keep_changes.ensures.any_pages (flat (take j rs)) (flat (drop (j + 1) rs)) front first s.left done at.order st in
     if_err c.from_residual.result c.from_residual.ensures.1 (λ error same f is.
-    so_far_fault front first done c.args.last (kept_in c.args.txns.now) (λ p. claims_on p (flat (drop c.loop-index.index rs))) disk c.args.heap.now mid so.volume.geometry s f (kept.named f (sym same ∙ is)))
+    so_far_fault front first done c.args.last (kept_in c.args.txns.now) (λ p. claims_on p (flat (drop c.loop-index.index rs))) disk c.args.heap.now mid so.volume.geometry s (AreOfPage (all_changes ts)) f
+    (fault_wider (geometry_of mid) (AreOfPage c.changes.result.now) (AreOfPage (all_changes ts)) s.left c.args.last f
+    (λ p on. (on.0, among_all ts (flat (take j rs)) c.changes.result.now (flat (drop (j + 1) rs)) on.0 at.order on.1, on.2)) (kept.named f (sym same ∙ is))))
 
 pub returns-in_err-keep_changes-clause-any_bad : goal.returns-in_err-keep_changes-clause-any_bad
 returns-in_err-keep_changes-clause-any_bad g c front first disk done held =
@@ -209,7 +212,7 @@ returns-in_err-keep_changes-clause-any_bad g c front first disk done held =
 pub returns-in_err-keep_changes-clause-others : goal.returns-in_err-keep_changes-clause-others
 returns-in_err-keep_changes-clause-others g c =
     let others = c.in_err-keep_changes.ensures.others in
-    if_err c.from_residual.result c.from_residual.ensures.1 (λ error same. (λ is. others.0 (sym same ∙ is), λ f is. others.1 f (sym same ∙ is)))
+    if_err c.from_residual.result c.from_residual.ensures.1 (λ error same. (λ is. others.0 (sym same ∙ is), λ f is. others.1 f (sym same ∙ is), λ is. others.2 (sym same ∙ is)))
 
 pub returns-in_err-keep_changes-clause-volume : goal.returns-in_err-keep_changes-clause-volume
 returns-in_err-keep_changes-clause-volume g c = same_again c.args.heap.now c.loop-index.heap c.keep_changes.new.heap c.loop-index.invariant.volume c.keep_changes.ensures.volume
@@ -234,4 +237,16 @@ returns-clause-keeps g c front disk s stands low =
       same = kept.same;
       volume = kept.volume;
       stands = (kept.stands.0, all_so_far (kept_in c.args.txns.now) stands.slots front kept.stands.0 c.loop-index.heap kept.later st);
+      notes = kept.notes;
     }
+
+pub returns-clause-any_fit : goal.returns-clause-any_fit
+returns-clause-any_fit g c front first disk done held =
+    let ts = txns_in c.args.txns.now in
+    let so = c.loop-index.invariant in
+    let none : c.loop-index.index ≡ 0 = omega (arith, c.loop-index-test.false) in
+    let whole : flat (drop c.loop-index.index (reverse ts)) ≡ all_changes ts = ap (λ (k : ℕ). flat (drop k (reverse ts))) none ∙ sym (all_flat ts) in
+    let s = so.any_pages front first disk done held in
+    let st = subst (λ (es : List UndoEntry). IsHeldSoFar (kept_in c.args.txns.now) (λ p. claims_on p es) front first s.left c.loop-index.heap done c.args.last) whole s.held in
+    subst (λ (k : Geometry). CanKeepOn k c.args.txns.now first done) so.volume.geometry
+    (fits_made front first done c.args.last (kept_in c.args.txns.now) (kept_in c.args.txns.now) s.left c.loop-index.heap st)

@@ -15,7 +15,9 @@ use Rattle.laws_room.proofs.Costs.{compensation_bytes}
 use Rattle.shore_txn.specs.Transactions.{room_in, txns_in}
 use Rattle.shore_restart.specs.Room.{HasSums}
 use Rattle.shore_restart.proofs.ChangesBack.{as_many_numbers, becomes_all, becomes_more, changes_to_undo, claims_short, claims_then, costs_most, costs_then, images_to_undo, never_unread, numbered_at, reads_as, seat_kept, short_before, some_short, starts_at, told_images}
-use Rattle.shore_restart.proofs.NoAnchor.{each_whole}
+use Rattle.shore_restart.proofs.ChangesBack.{told_behind}
+use Rattle.shore_analysis.specs.Padded.{padded}
+use Rattle.shore_restart.proofs.KeptReads.{fit_padded}
 use Rattle.shore_restart.proofs.doubts.restore_changes.Goals as goal
 
 pub loop-number-init : goal.loop-number-init
@@ -31,30 +33,30 @@ loop-number-init c = record {
 
 pub returns-in_default-clause-refused : goal.returns-in_default-clause-refused
 returns-in_default-clause-refused c =
-    let log = c.args.log.now in
+    let log = (padded c.args.cut c.args.kept.now) in
     let t = c.args.seat.now.txn in
     let i = c.loop-number.number-index in
     let n = c.number-item.result in
     let xs = c.deref-number-items.result.now in
     let here : slice_get (reverse (map (λ (x : UnansweredChange). x.number) (unanswered t log))) i ≡ Some n =
-    subst (λ (ns : List ℕ). slice_get ns i ≡ Some n) (c.deref-number-items.ensures.value ∙ c.in_ok-to_be_undone_behind.ensures.all c.requires.meant.0 t c.requires.some c.requires.meant.1 (each_whole c.requires.meant.0 log c.requires.meant.1 t c.requires.some) c.requires.newest)
+    subst (λ (ns : List ℕ). slice_get ns i ≡ Some n) (c.deref-number-items.ensures.value ∙ told_behind c.args.cut c.args.kept.now t c.requires.some c.in_ok-to_be_undone_behind.field-0.items c.args.newest (c.in_ok-to_be_undone_behind.ensures.all c.requires.meant.0 t c.requires.some c.requires.meant.1 c.requires.whole) c.requires.newest)
     (slice_get_read xs (length xs) i n refl c.loop-number-test.true c.number-item.is) in
     let its = numbered_at log t i n here in
     absurd (never_unread log n its.change its.logged its.number c.in_default.ensures.none)
 
 pub compensation_cost-undo-requires : goal.compensation_cost-undo-requires
 compensation_cost-undo-requires c x is =
-    some_short c.in-Some.before.now (short_before c.args.log.now c.number-item.result c.in-Some.id c.in-Some.before.now c.requires.fit c.in-Some.ensures.some) c.len_of.result c.len_of.ensures x is
+    some_short c.in-Some.before.now (short_before (padded c.args.cut c.args.kept.now) c.number-item.result c.in-Some.id c.in-Some.before.now (fit_padded c.args.cut c.args.kept.now c.requires.fit) c.in-Some.ensures.some) c.len_of.result c.len_of.ensures x is
 
 pub returns-then-not-holds-clause-refused : goal.returns-then-not-holds-clause-refused
 returns-then-not-holds-clause-refused c =
-    let log = c.args.log.now in
+    let log = (padded c.args.cut c.args.kept.now) in
     let t = c.args.seat.now.txn in
     let i = c.loop-number.number-index in
     let n = c.number-item.result in
     let xs = c.deref-number-items.result.now in
     let here : slice_get (reverse (map (λ (x : UnansweredChange). x.number) (unanswered t log))) i ≡ Some n =
-    subst (λ (ns : List ℕ). slice_get ns i ≡ Some n) (c.deref-number-items.ensures.value ∙ c.in_ok-to_be_undone_behind.ensures.all c.requires.meant.0 t c.requires.some c.requires.meant.1 (each_whole c.requires.meant.0 log c.requires.meant.1 t c.requires.some) c.requires.newest)
+    subst (λ (ns : List ℕ). slice_get ns i ≡ Some n) (c.deref-number-items.ensures.value ∙ told_behind c.args.cut c.args.kept.now t c.requires.some c.in_ok-to_be_undone_behind.field-0.items c.args.newest (c.in_ok-to_be_undone_behind.ensures.all c.requires.meant.0 t c.requires.some c.requires.meant.1 c.requires.whole) c.requires.newest)
     (slice_get_read xs (length xs) i n refl c.loop-number-test.true c.number-item.is) in
     let its = numbered_at log t i n here in
     let reads = reads_as log n c.in-Some.id c.in-Some.before.now its.change its.logged its.number c.in-Some.ensures.some in
@@ -75,30 +77,30 @@ pub overflow_cast-entry : goal.overflow_cast-entry
 overflow_cast-entry c =
     let is = c.claim_after.ensures in
     let bytes = c.bytes_in.ensures in
-    let short = short_before c.args.log.now c.number-item.result c.in-Some.id c.in-Some.before.now c.requires.fit c.in-Some.ensures.some in
+    let short = short_before (padded c.args.cut c.args.kept.now) c.number-item.result c.in-Some.id c.in-Some.before.now (fit_padded c.args.cut c.args.kept.now c.requires.fit) c.in-Some.ensures.some in
     let before = c.loop-number.invariant.short c.in-Some.id in
     omega (arith, is, bytes, short, before)
 
 pub restore_change-requires-clause-short : goal.restore_change-requires-clause-short
 restore_change-requires-clause-short c =
     subst (λ (image : Image). image_len image ≤ MAX_RECORD_BYTES) (sym c.in_ok-copy_of.ensures)
-    (short_before c.args.log.now c.number-item.result c.in-Some.id c.in-Some.before.now c.requires.fit c.in-Some.ensures.some)
+    (short_before (padded c.args.cut c.args.kept.now) c.number-item.result c.in-Some.id c.in-Some.before.now (fit_padded c.args.cut c.args.kept.now c.requires.fit) c.in-Some.ensures.some)
 
 pub loop-number-preserved : goal.loop-number-preserved
 loop-number-preserved c =
-    let log = c.args.log.now in
+    let log = (padded c.args.cut c.args.kept.now) in
     let t = c.args.seat.now.txn in
     let i = c.loop-number.number-index in
     let n = c.number-item.result in
     let xs = c.deref-number-items.result.now in
     let here : slice_get (reverse (map (λ (x : UnansweredChange). x.number) (unanswered t log))) i ≡ Some n =
-    subst (λ (ns : List ℕ). slice_get ns i ≡ Some n) (c.deref-number-items.ensures.value ∙ c.in_ok-to_be_undone_behind.ensures.all c.requires.meant.0 t c.requires.some c.requires.meant.1 (each_whole c.requires.meant.0 log c.requires.meant.1 t c.requires.some) c.requires.newest)
+    subst (λ (ns : List ℕ). slice_get ns i ≡ Some n) (c.deref-number-items.ensures.value ∙ told_behind c.args.cut c.args.kept.now t c.requires.some c.in_ok-to_be_undone_behind.field-0.items c.args.newest (c.in_ok-to_be_undone_behind.ensures.all c.requires.meant.0 t c.requires.some c.requires.meant.1 c.requires.whole) c.requires.newest)
     (slice_get_read xs (length xs) i n refl c.loop-number-test.true c.number-item.is) in
     let its = numbered_at log t i n here in
     let id = c.in-Some.id in
     let before = c.in-Some.before.now in
     let reads = reads_as log n id before its.change its.logged its.number c.in-Some.ensures.some in
-    let short = short_before log n id before c.requires.fit c.in-Some.ensures.some in
+    let short = short_before log n id before (fit_padded c.args.cut c.args.kept.now c.requires.fit) c.in-Some.ensures.some in
     let so = c.loop-number.invariant in
     let copy = c.in_ok-copy_of.ensures in
     let claim : c.claim_after.result ≡ max (image_len before) (unwrap_or (get rid_cmp c.loop-number.claims id) 0) = c.claim_after.ensures ∙ ap (λ (b : ℕ). max b (unwrap_or (get rid_cmp c.loop-number.claims id) 0)) c.bytes_in.ensures in
@@ -128,20 +130,20 @@ loop-number-preserved c =
 
 pub returns-clause-back : goal.returns-clause-back
 returns-clause-back c =
-    let log = c.args.log.now in
+    let log = (padded c.args.cut c.args.kept.now) in
     let t = c.args.seat.now.txn in
     let end = c.loop-number-test.false in
-    let long = ap length (c.deref-number-items.ensures.value ∙ c.in_ok-to_be_undone_behind.ensures.all c.requires.meant.0 t c.requires.some c.requires.meant.1 (each_whole c.requires.meant.0 log c.requires.meant.1 t c.requires.some) c.requires.newest) in
+    let long = ap length (c.deref-number-items.ensures.value ∙ told_behind c.args.cut c.args.kept.now t c.requires.some c.in_ok-to_be_undone_behind.field-0.items c.args.newest (c.in_ok-to_be_undone_behind.ensures.all c.requires.meant.0 t c.requires.some c.requires.meant.1 c.requires.whole) c.requires.newest) in
     let many = as_many_numbers log t in
     becomes_all log t c.loop-number.number-index (txns_in c.args.txns.now) (txns_in c.loop-number.txns) (omega (arith, end, long, many)) c.loop-number.invariant.so_far
 
 pub returns-clause-room : goal.returns-clause-room
 returns-clause-room c =
-    let log = c.args.log.now in
+    let log = (padded c.args.cut c.args.kept.now) in
     let t = c.args.seat.now.txn in
     let i = c.loop-number.number-index in
     let end = c.loop-number-test.false in
-    let long = ap length (c.deref-number-items.ensures.value ∙ c.in_ok-to_be_undone_behind.ensures.all c.requires.meant.0 t c.requires.some c.requires.meant.1 (each_whole c.requires.meant.0 log c.requires.meant.1 t c.requires.some) c.requires.newest) in
+    let long = ap length (c.deref-number-items.ensures.value ∙ told_behind c.args.cut c.args.kept.now t c.requires.some c.in_ok-to_be_undone_behind.field-0.items c.args.newest (c.in_ok-to_be_undone_behind.ensures.all c.requires.meant.0 t c.requires.some c.requires.meant.1 c.requires.whole) c.requires.newest) in
     let many = as_many_numbers log t in
     let room = room_in c.args.txns.now in
     subst (λ (images : List (Rid × Image)). HasSums room.stream_bytes room.kept (room.reserved + compensation_costs images) (room_in c.loop-number.txns))

@@ -1,13 +1,10 @@
-use Rattle.std.proofs.Common.{arith, inr, ◌-◌, ℕ, List, Bool, Result, refl, sym, ap, subst, ◌∙◌}
-use Rattle.shore_types.specs.declared.layout.TheConstants.{LOG_FRONT_BYTES}
-use Rattle.shore_model.specs.declared.log_records.LogRecord.{LogRecord}
-use Rattle.shore_log.specs.Settled.{records_of_log, waiting}
+use Rattle.std.proofs.Common.{arith, inr, Bool, Result, refl, sym, ap, subst, ◌∙◌}
+use Rattle.shore_log.specs.Settled.{waiting}
 use Rattle.shore_log.specs.declared.device.LogDev.{LogDev}
 use Rattle.laws_lives.specs.Recovery.{after_force}
 use Rattle.shore_restart.specs.declared.errors.RestartError.{RestartError}
-use Rattle.shore_restart.specs.Room.{LeavesRoom}
-use Rattle.shore_restart.specs.Standing.{Forces, log_faults, stream_bytes_of}
-use Rattle.shore_restart.proofs.Frames.{all_forced, none_so_far, one_more, same_on, shown_so_far, stopped}
+use Rattle.shore_restart.specs.Standing.{Forces, log_faults}
+use Rattle.shore_restart.proofs.Frames.{all_forced, none_so_far, one_more, room_same, same_on, shown_so_far, stopped}
 use Rattle.shore_restart.proofs.LogErrors.{passed_log_cause}
 use Rattle.shore_restart.proofs.PageErrors.{err_with}
 use Rattle.shore_restart.proofs.QuietLogs.{quiet_err, quiet_of}
@@ -15,10 +12,10 @@ use Rattle.shore_restart.proofs.forcing.force.Goals as goal
 
 pub loop-init : goal.loop-init
 loop-init g c = record {
-  so_far = λ log_front s rest geometry front h covered. none_so_far geometry log_front front h c.args.log.now s rest covered;
+  so_far = λ log_front anchor s rest geometry front h covered. none_so_far geometry log_front front anchor h c.args.log.now s rest covered;
   quiet = λ log_front quiet. (quiet, omega arith);
   records = refl;
-  same = record { honest = refl; size = refl };
+  same = record { tail = refl; anchors = refl; honest = refl; size = refl };
   faults = refl;
 }
 
@@ -26,8 +23,7 @@ pub force_frame-requires : goal.force_frame-requires
 force_frame-requires g c = record {
   room =
       let invariant = c.loop.invariant in
-      subst (λ (rs : List LogRecord). LeavesRoom rs (stream_bytes_of c.loop.log)) (sym invariant.records)
-      (subst (λ (n : ℕ). LeavesRoom (records_of_log c.args.log.now) n) (sym (ap (λ (bytes : ℕ). bytes - LOG_FRONT_BYTES) invariant.same.size)) c.requires.room);
+      room_same c.args.log.now c.loop.log invariant.same invariant.records c.requires.room;
 }
 
 pub loop-preserved : goal.loop-preserved
@@ -36,10 +32,10 @@ loop-preserved g c =
     let first = c.args.log.now in
     let old = c.loop.log in
     record {
-      so_far = λ log_front s rest geometry front h covered.
-          let so_far = invariant.so_far log_front s rest geometry front h covered in
-          one_more geometry log_front front h first old s so_far c.in_ok-force_frame.field-0 c.force_frame.new.log
-          (c.in_ok-force_frame.ensures.forces log_front (after_force s so_far.durable) so_far.at_rest geometry front h (shown_so_far geometry log_front front h first old s so_far));
+      so_far = λ log_front anchor s rest geometry front h covered.
+          let so_far = invariant.so_far log_front anchor s rest geometry front h covered in
+          one_more geometry log_front front anchor h first old s so_far c.in_ok-force_frame.field-0 c.force_frame.new.log
+          (c.in_ok-force_frame.ensures.forces log_front anchor (after_force s so_far.durable) so_far.at_rest geometry front h (shown_so_far geometry log_front front anchor h first old s so_far));
       quiet = λ log_front quiet.
           let now = invariant.quiet log_front quiet in
           let on = quiet_of log_front old c.force_frame.new.log c.in_ok-force_frame.field-0 (c.in_ok-force_frame.ensures.log_device log_front now.0) in
@@ -52,15 +48,15 @@ loop-preserved g c =
     }
 
 pub returns-in_err-force_frame-clause-forces : goal.returns-in_err-force_frame-clause-forces
-returns-in_err-force_frame-clause-forces g c log_front s rest redone geometry front h covered =
+returns-in_err-force_frame-clause-forces g c log_front anchor s rest redone geometry front h covered =
     let first = c.args.log.now in
     let old = c.loop.log in
     let error = c.in_err-force_frame.field-0.0 in
-    let so_far = c.loop.invariant.so_far log_front s rest geometry front h covered in
-    subst (λ (result : Result (Unit {0}) RestartError). Forces result geometry log_front front h first c.force_frame.new.log s)
+    let so_far = c.loop.invariant.so_far log_front anchor s rest geometry front h covered in
+    subst (λ (result : Result (Unit {0}) RestartError). Forces result geometry log_front front anchor h first c.force_frame.new.log s)
     (sym (err_with c.from_residual.result error c.from_residual.ensures.1))
-    (stopped geometry log_front front h first old s so_far (Unit {0}) error error c.force_frame.new.log
-    (c.in_err-force_frame.ensures.forces log_front (after_force s so_far.durable) so_far.at_rest geometry front h (shown_so_far geometry log_front front h first old s so_far)))
+    (stopped geometry log_front front anchor h first old s so_far (Unit {0}) error error c.force_frame.new.log
+    (c.in_err-force_frame.ensures.forces log_front anchor (after_force s so_far.durable) so_far.at_rest geometry front h (shown_so_far geometry log_front front anchor h first old s so_far)))
 
 pub returns-in_err-force_frame-clause-same : goal.returns-in_err-force_frame-clause-same
 returns-in_err-force_frame-clause-same g c =
@@ -75,15 +71,15 @@ pub returns-in_err-force_frame-clause-log : goal.returns-in_err-force_frame-clau
 returns-in_err-force_frame-clause-log g c = same_on c.args.log.now c.loop.log c.force_frame.new.log c.loop.invariant.same c.force_frame.ensures.log
 
 pub returns-clause-forces : goal.returns-clause-forces
-returns-clause-forces g c log_front s rest redone geometry front h covered =
+returns-clause-forces g c log_front anchor s rest redone geometry front h covered =
     let first = c.args.log.now in
     let old = c.loop.log in
     let new = c.force_frame.new.log in
-    let so_far = c.loop.invariant.so_far log_front s rest geometry front h covered in
-    let one = c.in_ok-force_frame.ensures.forces log_front (after_force s so_far.durable) so_far.at_rest geometry front h (shown_so_far geometry log_front front h first old s so_far) in
-    let last = one_more geometry log_front front h first old s so_far c.in_ok-force_frame.field-0 new one in
+    let so_far = c.loop.invariant.so_far log_front anchor s rest geometry front h covered in
+    let one = c.in_ok-force_frame.ensures.forces log_front anchor (after_force s so_far.durable) so_far.at_rest geometry front h (shown_so_far geometry log_front front anchor h first old s so_far) in
+    let last = one_more geometry log_front front anchor h first old s so_far c.in_ok-force_frame.field-0 new one in
     let none = c.in_ok-force_frame.ensures.none c.if-branch.false so_far.at_rest.none_staged in
-    all_forced geometry log_front front h first new s last (Unit {0}) tt (ap (λ (log : LogDev g.row.L.Denot g.L.Disk). waiting log) none.0 ∙ none.1)
+    all_forced geometry log_front front anchor h first new s last (Unit {0}) tt (ap (λ (log : LogDev g.row.L.Denot g.L.Disk). waiting log) none.0 ∙ none.1)
 
 pub returns-clause-same : goal.returns-clause-same
 returns-clause-same g c =

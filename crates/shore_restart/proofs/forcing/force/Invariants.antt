@@ -1,5 +1,6 @@
 use Rattle.std.proofs.Common.{◌≡◌, ◌≤◌, ℕ, List, length}
 use Rattle.shore_types.specs.declared.layout.Geometry.{Geometry}
+use Rattle.shore_gate.specs.declared.anchors.Anchor.{Anchor}
 use Rattle.shore_disk.specs.Device.{DeviceHistory, may_leave}
 use Rattle.shore_log.specs.Settled.{records_of_log, stable, waiting}
 use Rattle.laws_lives.specs.Recovery.{RecoveryState}
@@ -11,8 +12,8 @@ use Rattle.shore_restart.proofs.forcing.force.Given as goal
 
 abbrev pub invariant-loop : goal.invariant-loop
 invariant-loop g l = record {
-  so_far : (log_front : List ℕ) (s : RecoveryState) → IsAtRest log_front l.initial.log s → (geometry : Geometry) (front : List ℕ) (h : DeviceHistory)
-      → ((c : List ℕ) → may_leave h c → ShowsLeft geometry front s c) → SoFar geometry log_front front h l.initial.log l.log s;
+  so_far : (log_front : List ℕ) (anchor : Anchor) (s : RecoveryState) → IsAtRest log_front anchor l.initial.log s → (geometry : Geometry) (front : List ℕ) (h : DeviceHistory)
+      → ((c : List ℕ) → may_leave h c → ShowsLeft geometry front s c) → SoFar geometry log_front front anchor h l.initial.log l.log s;
   quiet : (log_front : List ℕ) → IsQuiet log_front l.initial.log → IsQuiet log_front l.log × (length (stable l.initial.log) ≤ length (stable l.log));
   records : records_of_log l.log ≡ records_of_log l.initial.log;
   same : SameLog l.initial.log l.log;

@@ -11,4 +11,4 @@ pub returns-clause-one : goal.returns-clause-one
 returns-clause-one c log limit n m a b = one_cannot log limit n m a b
 
 pub returns-clause-taken : goal.returns-clause-taken
-returns-clause-taken c g log n taken refused = taken_or_refused g log n taken refused
+returns-clause-taken c g cut checkpoint kept n taken refused = taken_or_refused g cut checkpoint kept n taken refused

@@ -1,13 +1,9 @@
 use Rattle.std.proofs.Common.{inl, inr}
-use Rattle.shore_analysis.proofs.KeptWholes.{whole_table}
-use Rattle.shore_restart.proofs.NoAnchor.{next_of_all}
+use Rattle.shore_analysis.proofs.UndoneKept.{padded_table}
 use Rattle.shore_restart.proofs.passes.tables_of.Goals as goal
 
 pub returns-in-Ok-clause-txns : goal.returns-in-Ok-clause-txns
-returns-in-Ok-clause-txns c = whole_table c.args.records.now c.in-Ok.tables.txns c.in-Ok.ensures.tables.txns
-
-pub returns-in-Ok-clause-next : goal.returns-in-Ok-clause-next
-returns-in-Ok-clause-next c = next_of_all c.args.geometry.now c.args.records.now c.in-Ok.tables.next c.in-Ok.ensures.meant c.in-Ok.ensures.tables.next
+returns-in-Ok-clause-txns c = padded_table c.args.cut c.args.kept.now c.in-Ok.tables.txns c.in-Ok.ensures.tables.txns
 
 pub returns-in-Err-clause-refused : goal.returns-in-Err-clause-refused
 returns-in-Err-clause-refused c = elim c.refusal.ensures [

@@ -11,11 +11,12 @@ use Rattle.laws_lives.specs.Pages.{LoggedPages}
 use Rattle.shore_restart.specs.declared.errors.RestartError.{RestartError}
 use Rattle.shore_restart.specs.declared.errors.RestartError.TheVariants.{BadRecord}
 use Rattle.shore_types.specs.Images.{image_len}
-use Rattle.shore_restart.specs.AnyPages.{FindsNoRoom}
+use Rattle.shore_restart.specs.AnyPages.{FindsNoRoom, IsOnPage}
 use Rattle.shore_restart.specs.Standing.{Redoes}
 use Rattle.shore_restart.proofs.PageErrors.{err_with}
+use Rattle.shore_restart.proofs.ReadPages.{on_page}
 use Rattle.shore_restart.proofs.Redoing.{does_not_fit, number_is, passed_behind, redo_stops, redone_behind, stood}
-use Rattle.shore_restart.proofs.HeldPages.{fetch_done, fetch_seen, finds_none_there, finds_some_there, held_changed, held_err, held_passed, some_then}
+use Rattle.shore_restart.proofs.HeldPages.{fetch_done, fetch_seen, finds_none_there, finds_some_there, held_changed, held_err, held_passed, held_wider, some_then}
 use Rattle.shore_restart.proofs.redo.redo_image.Goals as goal
 
 pub returns-in_err-fetch-clause-redone : goal.returns-in_err-fetch-clause-redone
@@ -81,13 +82,14 @@ returns-clause-redone g c front disk s r stands next says number last durable =
     let redone = f.same.redone in
     let next_now : slice_get f.later.log f.later.redone ≡ Some r = ap (λ (l : List LogRecord). slice_get l f.later.redone) f.same.log ∙ ap (slice_get s.log) f.same.redone ∙ next in
     let m = c.put.ensures.redone front is.0 f.later r is.1 next_now says (omega (arith, number, redone)) (omega (arith, lt, page, number, redone)) in
-    redone_behind front old mid s r f c.put.new.heap true is.0 next m.0 m.1 c.put.ensures.history (c.put.ensures.volume.geometry ∙ c.fetch.ensures.volume.geometry)
+    redone_behind front old mid s r f c.put.new.heap true is.0 next m.0 m.1 c.put.ensures.history (c.put.ensures.volume.geometry ∙ c.fetch.ensures.volume.geometry) m.2
 
 pub returns-in_err-fetch-clause-any_pages : goal.returns-in_err-fetch-clause-any_pages
 returns-in_err-fetch-clause-any_pages g c front first disk done r held says next low =
     let f = c.in_err-fetch.ensures.any_pages front first disk done held (omega arith) in
     held_err front first disk c.args.heap.now c.fetch.new.heap c.args.last done c.args.last (done ++ r ∷ []) c.args.last c.from_residual.result c.in_err-fetch.field-0.0 c.from_residual.ensures.1
-    (fetch_seen front first disk c.args.heap.now c.fetch.new.heap done c.args.last _ f)
+    (held_wider (λ p. p ≡ c.args.id.page) (IsOnPage r) _ front first disk c.args.heap.now c.fetch.new.heap c.args.last done c.args.last (λ p is. on_page r (c.args.id, c.args.image.now) p says is)
+    (fetch_seen front first disk c.args.heap.now c.fetch.new.heap done c.args.last _ f))
 
 pub returns-then-found-number-clause-any_pages : goal.returns-then-found-number-clause-any_pages
 returns-then-found-number-clause-any_pages g c front first disk done r held says next low =
