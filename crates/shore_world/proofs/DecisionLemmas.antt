@@ -1,9 +1,11 @@
 -- What the records decide that an event appends: of a call one thing at most, which it asks for, and of all else nothing.
-use Rattle.std.proofs.Common.{◌≡◌, ◌≢◌, ◌⊎◌, inl, inr, ⊎_elim, ◌++◌, ◌∷◌, ◌∙◌, ℕ, List, [], Option, None, Some, Err, refl, sym, ap, subst, length, map, append_assoc}
+use Rattle.std.proofs.Common.{◌≡◌, ◌≢◌, ◌⊎◌, inl, inr, ⊎_elim, ◌++◌, ◌∷◌, ◌∙◌, ℕ, List, [], Option, None, Some, Err, refl, sym, ap, subst, length, map, drop, append-nil, append_assoc}
 use Rattle.shore_types.specs.declared.layout.Geometry.{Geometry}
 use Rattle.shore_types.specs.declared.faults.Fault.{Fault}
 use Rattle.shore_model.specs.declared.calls.Answer.{Answer}
-use Rattle.shore_model.specs.declared.calls.Answer.TheVariants.{Forced, IsDurable, Staged}
+use Rattle.shore_model.specs.declared.calls.Answer.TheVariants.{Anchored, Begun, Ended, Forced, IsDurable, Moved, Staged}
+use Rattle.shore_model.specs.declared.log_records.Payload.TheVariants.{Anchor, CheckpointBegin}
+use Rattle.laws_checkpoints.specs.Checkpoints.{end_payload, of_checkpoint}
 use Rattle.shore_model.specs.declared.calls.Call.{Call}
 use Rattle.shore_model.specs.declared.calls.Call.TheVariants as call
 use Rattle.shore_model.specs.declared.calls.Outcome.{Outcome}
@@ -22,7 +24,9 @@ use Rattle.shore_model.specs.Calls.{IsServed}
 use Rattle.shore_model.specs.Histories.{decision_asked_by, decisions}
 use Rattle.shore_core.specs.Flushing.{FlushMoves}
 use Rattle.shore_cycles.specs.declared.victims.Victim.{Victim}
-use Rattle.laws_lives.specs.LogPrefixes.{decisions_in}
+use Rattle.laws_lives.specs.LogPrefixes.{decision_in, decisions_in}
+use Rattle.std.specs.List.{filter_map}
+use Rattle.std.proofs.Math.Seq.{drop-append_seam}
 use Rattle.laws_lives.specs.SessionSteps.{exchange}
 use Rattle.laws_lives.specs.Sessions.{SessionTxn}
 use Rattle.laws_calls.proofs.LongerLogs.{session_event_goes_on}
@@ -46,7 +50,7 @@ use Rattle.laws_calls.specs.States.{DoesNotWait, IsOfSession, State, Waiting, ne
 use Rattle.shore_world.specs.declared.event.Event.{Event}
 use Rattle.shore_world.specs.declared.event.Event.TheVariants as event
 use Rattle.shore_world.specs.Promises.{IsAskedFor}
-use Rattle.shore_world.specs.Worlds.{EventStep}
+use Rattle.shore_world.specs.Worlds.{CheckpointsState, EventStep, NotesCheckpoint}
 use Rattle.shore_world.proofs.DecidedLemmas.{commit_answered}
 
 ends_decide : (session n : ℕ) (c : Call) (step : Step) → decisions (ended_entries session n c step) ≡ []
@@ -62,12 +66,34 @@ resumed_decide s (Some w) (Refused f) = refl
 resumed_decide s (Some w) (Waits wait) = refl
 resumed_decide s (Some w) Nothing = refl
 
+none_more : (log : List LogRecord) → decisions_in (length log) log ≡ []
+none_more log = ap (filter_map decision_in) (ap (drop (length log)) (sym (append-nil log)) ∙ drop-append_seam log [])
+
+one_more : (log : List LogRecord) (r : LogRecord) → decisions_in (length log) (log ++ r ∷ []) ≡ filter_map decision_in (r ∷ [])
+one_more log r = ap (filter_map decision_in) (drop-append_seam log (r ∷ []))
+
+-- the records of a checkpoint decide nothing
+notes_nothing : (s : State) (answer : Answer) (new : State) → NotesCheckpoint s answer new → decisions_in (length s.log) new.log ≡ []
+notes_nothing s (Begun n) new h = ap (λ (x : State). decisions_in (length s.log) x.log) h.1 ∙ one_more s.log (of_checkpoint CheckpointBegin)
+notes_nothing s (Ended n) new h = ap (λ (x : State). decisions_in (length s.log) x.log) h.2 ∙ one_more s.log (of_checkpoint (end_payload h.0))
+notes_nothing s (Anchored checkpoint tail) new h = ap (λ (x : State). decisions_in (length s.log) x.log) h ∙ one_more s.log (of_checkpoint (Anchor checkpoint tail))
+notes_nothing s Moved new h = ap (λ (x : State). decisions_in (length s.log) x.log) h.1 ∙ none_more s.log
+notes_nothing s _ new h = absurd h
+
+checkpoint_decides_nothing : (s : State) (step : Step) (new : State) → CheckpointsState s step new → decisions_in (length s.log) new.log ≡ []
+checkpoint_decides_nothing s (Done answer) new h = notes_nothing s answer new h.1
+checkpoint_decides_nothing s Nothing new h = ap (λ (x : State). decisions_in (length s.log) x.log) h.1 ∙ none_more s.log
+checkpoint_decides_nothing s (Refused f) new (inl h) = ap (λ (x : State). decisions_in (length s.log) x.log) h.2 ∙ none_more s.log
+checkpoint_decides_nothing s (Refused f) new (inr (inl h)) = ap (λ (x : State). decisions_in (length s.log) x.log) h.2 ∙ none_more s.log
+checkpoint_decides_nothing s (Refused f) new (inr (inr h)) = ap (λ (x : State). decisions_in (length s.log) x.log) h.2 ∙ none_more s.log
+checkpoint_decides_nothing s (Waits wait) new h = absurd h
+
 -- asks, forces and flushes leave the log
-ask_log : (g : Geometry) (s new : State) (ticket : ℕ) (step : Step) → EventStep g s (event.Ask ticket) step new → new.log ≡ s.log
+pub ask_log : (g : Geometry) (s new : State) (ticket : ℕ) (step : Step) → EventStep g s (event.Ask ticket) step new → new.log ≡ s.log
 ask_log g s new ticket (Done (IsDurable answer)) h = ap (λ (x : State). x.log) h.1
 ask_log g s new ticket step h = absurd h
 
-stage_log : (g : Geometry) (s new : State) (step : Step) → EventStep g s event.ForceStage step new → new.log ≡ s.log
+pub stage_log : (g : Geometry) (s new : State) (step : Step) → EventStep g s event.ForceStage step new → new.log ≡ s.log
 stage_log g s new (Done (Staged n)) h = ap (λ (x : State). x.log) h.3
 stage_log g s new Nothing h = ap (λ (x : State). x.log) h.1
 stage_log g s new (Refused f) (inl h) = ap (λ (x : State). x.log) h.2
@@ -75,14 +101,14 @@ stage_log g s new (Refused f) (inr (inl h)) = ap (λ (x : State). x.log) h.2
 stage_log g s new (Refused f) (inr (inr h)) = ap (λ (x : State). x.log) h.2
 stage_log g s new step h = absurd h
 
-open_log : (g : Geometry) (s new : State) (step : Step) → EventStep g s event.ForceOpen step new → new.log ≡ s.log
+pub open_log : (g : Geometry) (s new : State) (step : Step) → EventStep g s event.ForceOpen step new → new.log ≡ s.log
 open_log g s new (Done (Forced n)) h = ap (λ (x : State). x.log) h.3
 open_log g s new Nothing h = ap (λ (x : State). x.log) h.1
 open_log g s new (Refused f) (inl h) = ap (λ (x : State). x.log) h.2
 open_log g s new (Refused f) (inr h) = ap (λ (x : State). x.log) h.2
 open_log g s new step h = absurd h
 
-flush_log : (s new : State) (step : Step) → FlushMoves s step new → new.log ≡ s.log
+pub flush_log : (s new : State) (step : Step) → FlushMoves s step new → new.log ≡ s.log
 flush_log s new (Done answer) h = ap (λ (x : State). x.log) h.2
 flush_log s new (Refused f) (inl h) = ap (λ (x : State). x.log) h.2
 flush_log s new (Refused f) (inr (runs, inl h)) = ap (λ (x : State). x.log) h.1
@@ -110,6 +136,7 @@ module _ (g : Geometry) (o : Opening) (found : List LogRecord) (es : List Entry)
   decides_nothing event.ForceStage step none h = same_decides_nothing (stage_log g s new step h)
   decides_nothing event.ForceOpen step none h = same_decides_nothing (open_log g s new step h)
   decides_nothing event.FlushStep step none h = same_decides_nothing (flush_log s new step h)
+  decides_nothing event.CheckpointStep step none h = checkpoint_decides_nothing s step new h
 
   -- ---- a call
 

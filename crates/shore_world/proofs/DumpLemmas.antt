@@ -5,24 +5,24 @@ use Rattle.shore_types.specs.declared.faults.Fault.TheVariants as fault
 use Rattle.shore_types.specs.declared.ids.Rid.{Rid}
 use Rattle.shore_model.specs.Records.{scan_of}
 use Rattle.shore_disk.specs.declared.device.Disk.{Ghosts}
-use Rattle.shore_log.specs.Settled.{records_of_log}
 use Rattle.shore_log.specs.declared.device.LogDev.{LogDev}
 use Rattle.laws_calls.specs.StateChanges.{after_refusal, with_failure}
 use Rattle.laws_calls.specs.States.{State}
-use Rattle.laws_lives.specs.Recovery.{RecoveryState}
+use Rattle.laws_checkpoints.specs.CheckpointedStores.{CheckpointedStore}
 use Rattle.shore_core.specs.Cores as cores
 use Rattle.shore_core.specs.Cores.{IsSafe, heap_of}
 use Rattle.shore_core.specs.Replies.{Fails, InEach, MayLeave, SameVolume}
 use Rattle.shore_core.proofs.Taking.{stays_after}
 use Rattle.shore_world.specs.declared.world.World.{World}
-use Rattle.shore_world.specs.Worlds.{WorldComesTo, HasFailedToRead, IsAt, IsDumpOf, IsInState, IsLike, IsOverStore, SurvivesCrashes, durable_in, failed_in, geometry_in, list_in, report_in}
+use Rattle.shore_world.specs.Worlds.{WorldComesTo, HasFailedToRead, IsAt, IsDumpOf, IsInState, IsLike, IsOverStore, SurvivesCrashes, before_in, durable_in, failed_in, geometry_in, list_in, report_in}
 use Rattle.shore_world.proofs.GrowLemmas.{HasSameLog, kept_same}
 use Rattle.shore_world.proofs.VolumeLemmas.{comes_written, volume_alone, volume_written}
-use Rattle.shore_world.proofs.WorldLemmas.{kept_as_before, ready_same}
+use Rattle.shore_world.proofs.WorldLemmas.{kept_as_before}
+use Rattle.shore_world.proofs.CallLemmas.{comes_beside}
 
 -- what it answers in whatever state the world is
 pub is_dump : {L V : Type 0} {G : Ghosts L} {H : Ghosts V} (w : World L V G H) (store : ℕ) (r : Result (List (Rid × List ℕ)) Fault)
-    → ((front : List ℕ) (disk : ℕ → List ℕ) (s : State) (kept : RecoveryState) → IsInState w front disk s → IsSafe (geometry_in w) s → IsOverStore w disk s kept
+    → ((front : List ℕ) (disk : ℕ → List ℕ) (s : State) (kept : CheckpointedStore) → IsInState w front disk s → IsSafe (geometry_in w) s → IsOverStore w disk s kept
     → IfOk r (λ pairs. pairs ≡ scan_of store s.sessions.records))
     → IfOk r (λ pairs. IsDumpOf w store pairs)
 is_dump w store (Ok pairs) h = h
@@ -62,6 +62,7 @@ module _ {A : Type 0} where
     -- what is known of the core behind it
     pub record HasDumped (old new : World L V G H) (r : Result A Fault) : Type 0 where
       pub log : new.log ≡ old.log
+      pub stage : new.stage ≡ old.stage
       pub report : report_in new ≡ report_in old
       pub same : SameVolume old.core new.core
       pub left : InEach (λ front disk before s store. MatchResult r (λ _. cores.CoreComesTo new.core front before store s) (λ f. cores.CoreComesTo new.core front before store (after_refusal f s))) old.core
@@ -76,28 +77,30 @@ module _ {A : Type 0} where
       history = ap (λ (l : LogDev L G). G.history l.device) it.log
 
       -- the state behind it, over its own store
-      comes : (log_front front : List ℕ) (disk : ℕ → List ℕ) (s : State) (store : RecoveryState) → IsAt old log_front front disk s store → SurvivesCrashes new log_front
-          → (later : State) → HasSameLog s later → cores.CoreComesTo new.core front (records_of_log old.log) store later → WorldComesTo new log_front front store later
+      comes : (log_front front : List ℕ) (disk : ℕ → List ℕ) (s : State) (store : CheckpointedStore) → IsAt old log_front front disk s store → SurvivesCrashes new log_front
+          → (later : State) → HasSameLog s later → cores.CoreComesTo new.core front (before_in old s) store later → WorldComesTo new log_front front store later
       comes log_front front disk s store at kept later same left =
-          comes_written old new it.same.geometry log_front front store (volume_written old new it.any_moment it.still log_front front disk s store at) kept later
-          (subst (λ (l : LogDev L G). cores.CoreComesTo new.core front (records_of_log l) store later) (sym it.log) left) (λ fails. kept_same s later store same at.over.kept)
+          comes_written old new it.same.geometry it.stage (ap (λ (l : LogDev L G). l.anchors) it.log) log_front front disk s store at
+          (volume_written old new it.any_moment it.still log_front front disk s store at) kept later
+          (comes_beside old new s later front store at.is_in.beside it.log left) (λ fails. kept_same s later store same at.over.kept)
 
       pub dumped_like : (IsErrAnd r Fails → ⊥) → failed_in new ≡ failed_in old → IsLike old new
       dumped_like none failed =
           let kept : (front : List ℕ) → SurvivesCrashes old front → SurvivesCrashes new front =
-          λ front k. kept_as_before old new it.list it.durable history (λ run. sym failed ∙ run) front (ready_same old.log new.log it.log front) k in
+          λ front k. kept_as_before old new it.log it.stage it.list it.durable (λ run. sym failed ∙ run) front k in
           record {
             geometry = it.same.geometry;
             state = λ log_front front disk s store at safe. comes log_front front disk s store at (kept log_front at.log) s (refl, refl)
-                (stays_so (λ x. cores.CoreComesTo new.core front (records_of_log old.log) store x) r s none (it.left front disk (records_of_log old.log) s store at.is_in safe at.over));
+                (stays_so (λ x. cores.CoreComesTo new.core front (before_in old s) store x) r s none (it.left front disk (before_in old s) s store at.is_in safe at.over));
             any_moment = volume_alone old new history it.any_moment it.still;
             list = it.list;
             durable = it.durable;
             failed = failed;
             history = history;
             staged = ap (λ (l : LogDev L G). l.staged) it.log;
+            anchors = ap (λ (l : LogDev L G). l.anchors) it.log;
+            stage = it.stage;
             report = it.report;
-            faults = ap (λ (l : LogDev L G). G.faults l.device) it.log;
             same = it.same;
             volume_faults = it.volume_faults (λ is. none (device_fails r is));
             kept = kept;
@@ -106,11 +109,11 @@ module _ {A : Type 0} where
       pub dumped_fails : IsErrAnd r Fails → failed_in old ≡ false → IsTrue (failed_in new) → HasFailedToRead old new
       dumped_fails fails running failed =
           let kept : (front : List ℕ) → SurvivesCrashes old front → SurvivesCrashes new front =
-          λ front k. kept_as_before old new it.list it.durable history (λ run. running) front (ready_same old.log new.log it.log front) k in
+          λ front k. kept_as_before old new it.log it.stage it.list it.durable (λ run. running) front k in
           record {
             geometry = it.same.geometry;
             state = λ log_front front disk s store at safe. comes log_front front disk s store at (kept log_front at.log) (with_failure s) (refl, refl)
-                (fails_then (λ x. cores.CoreComesTo new.core front (records_of_log old.log) store x) r s fails (it.left front disk (records_of_log old.log) s store at.is_in safe at.over));
+                (fails_then (λ x. cores.CoreComesTo new.core front (before_in old s) store x) r s fails (it.left front disk (before_in old s) s store at.is_in safe at.over));
             any_moment = volume_alone old new history it.any_moment it.still;
             list = it.list;
             durable = it.durable;
@@ -118,6 +121,8 @@ module _ {A : Type 0} where
             failed = failed;
             history = history;
             staged = ap (λ (l : LogDev L G). l.staged) it.log;
+            anchors = ap (λ (l : LogDev L G). l.anchors) it.log;
+            stage = it.stage;
             report = it.report;
             faults = ap (λ (l : LogDev L G). G.faults l.device) it.log;
             same = it.same;

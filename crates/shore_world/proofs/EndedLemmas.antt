@@ -2,16 +2,22 @@
 use Rattle.std.proofs.Common.{◌≡◌, ◌≤◌, inl, inr, ℕ, List, [], ◌∷◌, ◌++◌, sym, ◌∙◌, ap, subst, arith, length, length-append}
 use Rattle.shore_disk.specs.Device.{Call, DeviceHistory, IsLater, LeftAfter, LeftSince, Torn, left_since, may_leave, moment, noted, size, wrote}
 use Rattle.shore_disk.specs.declared.device.Disk.{Ghosts}
+use Rattle.shore_types.specs.declared.layout.Geometry.{Geometry}
+use Rattle.shore_gate.specs.declared.anchors.Anchor.{Anchor}
 use Rattle.laws_images.specs.Moments.{IsLostAlong, Moment}
-use Rattle.laws_images.specs.StandsFor.{begun_on}
+use Rattle.laws_images.specs.MomentsBehind.{PathBehind, begun_behind}
 use Rattle.shore_world.specs.declared.world.World.{World}
 use Rattle.shore_world.specs.Crashes.{AreEnded, AreLeft, IsEndedBetween}
 use Rattle.shore_world.specs.Managers.{AreFound}
 use Rattle.shore_world.specs.Opens.{AreEndedInOpen, IsEndedAlong, LeftByOpen}
 use Rattle.shore_world.specs.Worlds.{history_in, volume_history_in}
-use Rattle.shore_world.proofs.OpenPaths.{now_since}
 
 -- ---- one device
+
+-- what is left now is left since any moment
+now_since : (bytes : List ℕ) (calls : List Call) (t : ℕ) (c : List ℕ) → LeftAfter bytes calls c → LeftSince bytes calls t c
+now_since bytes [] t c left = left
+now_since bytes (call ∷ older) t c left = inl left
 
 left_on : (first : List ℕ) (more calls : List Call) (t : ℕ) (c : List ℕ) → t ≤ length calls → LeftAfter first calls c → LeftSince first (more ++ calls) t c
 left_on first [] calls t c le left = now_since first calls t c left
@@ -66,6 +72,16 @@ module _ {L V : Type 0} {G : Ghosts L} {H : Ghosts V} (w : World L V G H) (log v
 
 -- ---- an open
 
+-- power lost at its last moment is lost on its way
+pub lost_at_last : (g : Geometry) (of_log_front of_front : List ℕ) (anchor : Anchor) (begun : Moment) (moments : List Moment) (last : Moment)
+    → PathBehind g of_log_front of_front anchor begun moments last → (c d : List ℕ) → may_leave last.log c → may_leave last.volume d → IsLostAlong begun moments c d
+lost_at_last g log_f front_f anchor begun [] last path c d of_log of_volume =
+    let log_left = subst (λ (m : Moment). may_leave m.log c) path.0 of_log in
+    let volume_left = subst (λ (m : Moment). may_leave m.volume d) path.0 of_volume in
+    (now_since begun.log.first begun.log.calls (moment begun.log) c log_left, now_since begun.volume.first begun.volume.calls (moment begun.volume) d volume_left)
+lost_at_last g log_f front_f anchor begun (next ∷ later) last path c d of_log of_volume =
+    inr (lost_at_last g log_f front_f anchor next later last path.1 c d of_log of_volume)
+
 ended_along : (first : Moment) (moments : List Moment) (log volume : DeviceHistory) → IsEndedAlong first moments log volume → (c d : List ℕ) → may_leave log c → may_leave volume d
     → IsLostAlong first moments c d
 ended_along first [] log volume ended c d of_log of_volume =
@@ -76,8 +92,8 @@ ended_along first (next ∷ later) log volume (inr on) c d of_log of_volume = in
 
 pub ended_in_open : (log volume log_now volume_now : DeviceHistory) → AreEndedInOpen log volume log_now volume_now → (c d : List ℕ) → may_leave log_now c → may_leave volume_now d
     → LeftByOpen log volume c d
-ended_in_open log volume log_now volume_now ended c d of_log of_volume g rs pages stood = elim (ended g rs pages stood) [
+ended_in_open log volume log_now volume_now ended c d of_log of_volume g anchor rs pages stood = elim (ended g anchor rs pages stood) [
   | inl (log_later, volume_later, log_before, volume_before, log_ended, volume_ended) ↦
       inl (log_before.each c (ended_left log log_later log_now log_ended c of_log), volume_before.each d (ended_left volume volume_later volume_now volume_ended d of_volume))
-  | inr (way, on) ↦ inr (way, ended_along (begun_on way.log_behind way.volume_behind rs pages) way.moments log_now volume_now on c d of_log of_volume)
+  | inr (way, on) ↦ inr (way, ended_along (begun_behind way.log_behind way.volume_behind anchor rs pages) way.moments log_now volume_now on c d of_log of_volume)
 ]

@@ -33,13 +33,15 @@ use Rattle.laws_calls.specs.Events.{Called, Forced, HasFailed, IsStateAfter, Man
 use Rattle.laws_calls.specs.LockedStates.{decisions_made, entries_of_call, entries_of_resumed}
 use Rattle.laws_calls.specs.Settling.{SettledCall, SettledResume, Settles}
 use Rattle.laws_calls.specs.States.{DoesNotWait, State, Waiting}
-use Rattle.laws_runs.proofs.UnderWay.{step_under_way}
-use Rattle.laws_runs.specs.SoundStores.{IsUnderWay, managed}
-use Rattle.laws_runs.specs.StoredRuns.{Manage, StoredEvent, StoredMoves, StoredState, Tend}
+use Rattle.laws_runs.proofs.Checkpointing.{step_goes}
+use Rattle.laws_runs.specs.CheckpointSteps.{CheckpointedMove, CheckpointedMoves, CheckpointedState, Checkpoints, Goes}
+use Rattle.laws_runs.specs.CheckpointedStates.{IsAtCheckpoints}
+use Rattle.laws_runs.specs.StoredRuns.{Manage, Tend}
 use Rattle.shore_world.specs.declared.event.Event.{Event}
 use Rattle.shore_world.specs.declared.event.Event.TheVariants as event
 use Rattle.shore_world.specs.declared.world.World.{World}
-use Rattle.shore_world.specs.EventMoves.{asked_by, failure_by, forced_by, moves_by}
+use Rattle.shore_world.proofs.CheckpointLemmas.{moves_state, waits_kept}
+use Rattle.shore_world.specs.EventMoves.{OfCheckpoint, OfManager, PlainMove, asked_by, failure_by, forced_by, moves_among, moves_by}
 use Rattle.shore_world.specs.Exchanges.{AreLast, OfTicket, Telling, last_waited, telling_in, tellings_in, tellings_of, told_by, told_of, told_of_ticket, told_of_waiting, waited_after, waited_behind, waits_behind}
 use Rattle.shore_world.specs.Worlds.{Between, Runs}
 
@@ -51,42 +53,51 @@ Waited = List (ℕ × Call)
 
 -- ---- as moves of the manager over plain data
 
-abbrev told_by_move : Waited → ManagerEvent → Told
-told_by_move ws (Called session c step) = told_of session c step
-told_by_move ws (Resumed session step) = told_of_waiting session (last_waited session ws) step
-told_by_move ws (Forced n) = []
-told_by_move ws HasFailed = []
-told_by_move ws (TicketAsked ticket answer) = OfTicket ticket answer ∷ []
+abbrev told_by_event : Waited → ManagerEvent → Told
+told_by_event ws (Called session c step) = told_of session c step
+told_by_event ws (Resumed session step) = told_of_waiting session (last_waited session ws) step
+told_by_event ws (Forced n) = []
+told_by_event ws HasFailed = []
+told_by_event ws (TicketAsked ticket answer) = OfTicket ticket answer ∷ []
 
-abbrev waited_behind_move : Waited → ManagerEvent → Waited
-waited_behind_move ws (Called session c step) = waits_behind ws session c step
-waited_behind_move ws (Resumed session step) = ws
-waited_behind_move ws (Forced n) = ws
-waited_behind_move ws HasFailed = ws
-waited_behind_move ws (TicketAsked ticket answer) = ws
+abbrev waited_behind_event : Waited → ManagerEvent → Waited
+waited_behind_event ws (Called session c step) = waits_behind ws session c step
+waited_behind_event ws (Resumed session step) = ws
+waited_behind_event ws (Forced n) = ws
+waited_behind_event ws HasFailed = ws
+waited_behind_event ws (TicketAsked ticket answer) = ws
 
-abbrev pub told_in : Waited → List ManagerEvent → Told
+-- a step of a checkpoint tells nobody
+abbrev told_by_move : Waited → PlainMove → Told
+told_by_move ws (OfManager e) = told_by_event ws e
+told_by_move ws (OfCheckpoint step) = []
+
+abbrev waited_behind_move : Waited → PlainMove → Waited
+waited_behind_move ws (OfManager e) = waited_behind_event ws e
+waited_behind_move ws (OfCheckpoint step) = ws
+
+abbrev pub told_in : Waited → List PlainMove → Told
 told_in ws [] = []
-told_in ws (e ∷ events) = told_by_move ws e ++ told_in (waited_behind_move ws e) events
+told_in ws (e ∷ moves) = told_by_move ws e ++ told_in (waited_behind_move ws e) moves
 
-abbrev pub waited_in : Waited → List ManagerEvent → Waited
+abbrev pub waited_in : Waited → List PlainMove → Waited
 waited_in ws [] = ws
-waited_in ws (e ∷ events) = waited_in (waited_behind_move ws e) events
+waited_in ws (e ∷ moves) = waited_in (waited_behind_move ws e) moves
 
 -- what is told of a run's moves is what is told of its events
-failure_tells : (ws : Waited) (f : Fault) (later : List ManagerEvent) → told_in ws (failure_by f ++ later) ≡ told_in ws later
+failure_tells : (ws : Waited) (f : Fault) (later : List PlainMove) → told_in ws (failure_by f ++ later) ≡ told_in ws later
 failure_tells ws Device later = refl
 failure_tells ws _ later = refl
 
-forced_tells : (ws : Waited) (a : Answer) (later : List ManagerEvent) → told_in ws (forced_by a ++ later) ≡ told_in ws later
+forced_tells : (ws : Waited) (a : Answer) (later : List PlainMove) → told_in ws (forced_by a ++ later) ≡ told_in ws later
 forced_tells ws (answer.Forced n) later = refl
 forced_tells ws _ later = refl
 
-asked_tells : (ws : Waited) (ticket : ℕ) (a : Answer) (later : List ManagerEvent) → told_in ws (asked_by ticket a ++ later) ≡ told_of_ticket ticket a ++ told_in ws later
+asked_tells : (ws : Waited) (ticket : ℕ) (a : Answer) (later : List PlainMove) → told_in ws (asked_by ticket a ++ later) ≡ told_of_ticket ticket a ++ told_in ws later
 asked_tells ws ticket (answer.IsDurable durable) later = refl
 asked_tells ws ticket _ later = refl
 
-pub event_tells : (ws : Waited) (e : Event) (step : Step) (later : List ManagerEvent)
+pub event_tells : (ws : Waited) (e : Event) (step : Step) (later : List PlainMove)
     → told_in ws (moves_by e step ++ later) ≡ told_by ws e step ++ told_in (waited_behind ws e step) later
 event_tells ws (event.Call session c) step later = refl
 event_tells ws (event.Resume session) step later = refl
@@ -106,21 +117,22 @@ event_tells ws event.FlushStep (Done a) later = refl
 event_tells ws event.FlushStep (Refused f) later = failure_tells ws f later
 event_tells ws event.FlushStep (Waits wait) later = refl
 event_tells ws event.FlushStep Nothing later = refl
+event_tells ws event.CheckpointStep step later = refl
 
 -- .. and so it is with the calls that wait
-failure_waits : (ws : Waited) (f : Fault) (later : List ManagerEvent) → waited_in ws (failure_by f ++ later) ≡ waited_in ws later
+failure_waits : (ws : Waited) (f : Fault) (later : List PlainMove) → waited_in ws (failure_by f ++ later) ≡ waited_in ws later
 failure_waits ws Device later = refl
 failure_waits ws _ later = refl
 
-forced_waits : (ws : Waited) (a : Answer) (later : List ManagerEvent) → waited_in ws (forced_by a ++ later) ≡ waited_in ws later
+forced_waits : (ws : Waited) (a : Answer) (later : List PlainMove) → waited_in ws (forced_by a ++ later) ≡ waited_in ws later
 forced_waits ws (answer.Forced n) later = refl
 forced_waits ws _ later = refl
 
-asked_waits : (ws : Waited) (ticket : ℕ) (a : Answer) (later : List ManagerEvent) → waited_in ws (asked_by ticket a ++ later) ≡ waited_in ws later
+asked_waits : (ws : Waited) (ticket : ℕ) (a : Answer) (later : List PlainMove) → waited_in ws (asked_by ticket a ++ later) ≡ waited_in ws later
 asked_waits ws ticket (answer.IsDurable durable) later = refl
 asked_waits ws ticket _ later = refl
 
-pub event_waits : (ws : Waited) (e : Event) (step : Step) (later : List ManagerEvent) → waited_in ws (moves_by e step ++ later) ≡ waited_in (waited_behind ws e step) later
+pub event_waits : (ws : Waited) (e : Event) (step : Step) (later : List PlainMove) → waited_in ws (moves_by e step ++ later) ≡ waited_in (waited_behind ws e step) later
 event_waits ws (event.Call session c) step later = refl
 event_waits ws (event.Resume session) step later = refl
 event_waits ws (event.Ask ticket) (Done a) later = asked_waits ws ticket a later
@@ -139,25 +151,28 @@ event_waits ws event.FlushStep (Done a) later = refl
 event_waits ws event.FlushStep (Refused f) later = failure_waits ws f later
 event_waits ws event.FlushStep (Waits wait) later = refl
 event_waits ws event.FlushStep Nothing later = refl
+event_waits ws event.CheckpointStep step later = refl
 
 module _ {L V : Type 0} {G : Ghosts L} {H : Ghosts V} where
-  between_tells : (old new : World L V G H) (ws : Waited) (failures later : List ManagerEvent) → Between old failures new → told_in ws (failures ++ later) ≡ told_in ws later
+  between_tells : (old new : World L V G H) (ws : Waited) (failures later : List PlainMove) → Between old failures new → told_in ws (failures ++ later) ≡ told_in ws later
   between_tells old new ws [] later like = refl
-  between_tells old new ws (HasFailed ∷ failures) later (mid, fails, rest) = between_tells mid new ws failures later rest
-  between_tells old new ws (Called session c step ∷ failures) later between = absurd between
-  between_tells old new ws (Resumed session step ∷ failures) later between = absurd between
-  between_tells old new ws (Forced n ∷ failures) later between = absurd between
-  between_tells old new ws (TicketAsked ticket answer ∷ failures) later between = absurd between
+  between_tells old new ws (OfManager HasFailed ∷ failures) later (mid, fails, rest) = between_tells mid new ws failures later rest
+  between_tells old new ws (OfManager (Called session c step) ∷ failures) later between = absurd between
+  between_tells old new ws (OfManager (Resumed session step) ∷ failures) later between = absurd between
+  between_tells old new ws (OfManager (Forced n) ∷ failures) later between = absurd between
+  between_tells old new ws (OfManager (TicketAsked ticket answer) ∷ failures) later between = absurd between
+  between_tells old new ws (OfCheckpoint step ∷ failures) later between = absurd between
 
-  between_waits : (old new : World L V G H) (ws : Waited) (failures later : List ManagerEvent) → Between old failures new → waited_in ws (failures ++ later) ≡ waited_in ws later
+  between_waits : (old new : World L V G H) (ws : Waited) (failures later : List PlainMove) → Between old failures new → waited_in ws (failures ++ later) ≡ waited_in ws later
   between_waits old new ws [] later like = refl
-  between_waits old new ws (HasFailed ∷ failures) later (mid, fails, rest) = between_waits mid new ws failures later rest
-  between_waits old new ws (Called session c step ∷ failures) later between = absurd between
-  between_waits old new ws (Resumed session step ∷ failures) later between = absurd between
-  between_waits old new ws (Forced n ∷ failures) later between = absurd between
-  between_waits old new ws (TicketAsked ticket answer ∷ failures) later between = absurd between
+  between_waits old new ws (OfManager HasFailed ∷ failures) later (mid, fails, rest) = between_waits mid new ws failures later rest
+  between_waits old new ws (OfManager (Called session c step) ∷ failures) later between = absurd between
+  between_waits old new ws (OfManager (Resumed session step) ∷ failures) later between = absurd between
+  between_waits old new ws (OfManager (Forced n) ∷ failures) later between = absurd between
+  between_waits old new ws (OfManager (TicketAsked ticket answer) ∷ failures) later between = absurd between
+  between_waits old new ws (OfCheckpoint step ∷ failures) later between = absurd between
 
-  pub runs_wait : (old : World L V G H) (ws : Waited) (events : List Event) (steps : List Step) (moves : List ManagerEvent) (new : World L V G H) → Runs old events steps moves new
+  pub runs_wait : (old : World L V G H) (ws : Waited) (events : List Event) (steps : List Step) (moves : List PlainMove) (new : World L V G H) → Runs old events steps moves new
       → waited_in ws moves ≡ waited_after ws events steps
   runs_wait old ws [] [] moves new between = ap (waited_in ws) (sym (append-nil moves)) ∙ between_waits old new ws moves [] between
   runs_wait old ws (e ∷ events) (step ∷ steps) moves new (start, mid, failures, later, between, made, rest, is) =
@@ -166,7 +181,7 @@ module _ {L V : Type 0} {G : Ghosts L} {H : Ghosts V} where
   runs_wait old ws [] (step ∷ steps) moves new runs = absurd runs
   runs_wait old ws (e ∷ events) [] moves new runs = absurd runs
 
-  pub runs_told : (old : World L V G H) (ws : Waited) (events : List Event) (steps : List Step) (moves : List ManagerEvent) (new : World L V G H) → Runs old events steps moves new
+  pub runs_told : (old : World L V G H) (ws : Waited) (events : List Event) (steps : List Step) (moves : List PlainMove) (new : World L V G H) → Runs old events steps moves new
       → told_in ws moves ≡ tellings_of ws events steps
   runs_told old ws [] [] moves new between = ap (told_in ws) (sym (append-nil moves)) ∙ between_tells old new ws moves [] between
   runs_told old ws (e ∷ events) (step ∷ steps) moves new (start, mid, failures, later, between, made, rest, is) =
@@ -292,7 +307,7 @@ module _ (g : Geometry) (o : Opening) (found : List LogRecord) (es : List Entry)
   call_last session c (Waits wait) new h = begun session c (Waits wait) new (taken session c (Waits wait) new (λ f is. let clash = is in absurd cc) h) h
   call_last session c Nothing new h = begun session c Nothing new (taken session c Nothing new (λ f is. let clash = is in absurd cc) h) h
 
-  pub event_last : (e : ManagerEvent) (new : State) → EventMoves g s e new → AreLast (waited_behind_move ws e) new
+  pub event_last : (e : ManagerEvent) (new : State) → EventMoves g s e new → AreLast (waited_behind_event ws e) new
   event_last (Called session c step) new h = call_last session c step new h.1
   event_last (Resumed session step) new h = resume_waits_have g (IsLastOf ws) (same_lock ws) s new session step h last
   event_last (Forced n) new h = subst (AreLast ws) (sym h.2) last
@@ -345,7 +360,7 @@ module _ (g : Geometry) (o : Opening) (found : List LogRecord) (es : List Entry)
           let which : last_waited session ws ≡ Some w.call = ap (λ n. last_waited n ws) (sym is.1) ∙ last w is.0 in
           resumed_told w step ∙ ap (λ n. told_of n w.call step) is.1 ∙ ap (λ (o : Option Call). told_of_waiting session o step) (sym which)
 
-  pub event_told : (e : ManagerEvent) (new : State) → EventMoves g s e new → tellings_in (entries_of s e new) ≡ told_by_move ws e
+  pub event_told : (e : ManagerEvent) (new : State) → EventMoves g s e new → tellings_in (entries_of s e new) ≡ told_by_event ws e
   event_told (Called session c step) new h = call_told session c step new
   event_told (Resumed session step) new h = resume_told session step new h
   event_told (Forced n) new h = refl
@@ -354,26 +369,36 @@ module _ (g : Geometry) (o : Opening) (found : List LogRecord) (es : List Entry)
 
 -- ---- any number of them
 
--- what the events of a manager tell, and the calls that wait behind them
-pub record HasTold (ws : Waited) (moves : List ManagerEvent) (last : State) (made : List Entry) : Type 0 where
+-- what the moves of a manager tell, and the calls that wait behind them
+pub record HasTold (ws : Waited) (moves : List PlainMove) (last : State) (made : List Entry) : Type 0 where
   pub told : tellings_in made ≡ told_in ws moves
   pub waits : AreLast (waited_in ws moves) last
 
-module _ (g : Geometry) (stream_bytes : ℕ) (o : Opening) (found : List LogRecord) where
-  pub have_told : (es : List Entry) (ws : Waited) (m : StoredState) → IsUnderWay g stream_bytes o found es m → AreLast ws m.state → (events : List StoredEvent) (last : StoredState)
-      (made : List Entry) → StoredMoves g m events last made → HasTold ws (managed events) last.state made
-  have_told es ws m k are [] last made h = record { told = ap tellings_in h.1; waits = subst (λ (x : StoredState). AreLast ws x.state) (sym h.0) are }
-  have_told es ws m k are (Manage e works ∷ events) last made h =
+-- behind a step of a checkpoint they are the same
+same_last : (ws : Waited) (s new : State) → new.waiting ≡ s.waiting → AreLast ws s → AreLast ws new
+same_last ws s new same last w there = last w (subst (IsAmong w) same there)
+
+module _ (g : Geometry) (ring_bytes : ℕ) (o : Opening) (found : List LogRecord) where
+  pub have_told : (es : List Entry) (ws : Waited) (m : CheckpointedState) → IsAtCheckpoints g ring_bytes o found es m → AreLast ws m.state → (moves : List CheckpointedMove) (last : CheckpointedState)
+      (made : List Entry) → CheckpointedMoves g m moves last made → HasTold ws (moves_among moves) last.state made
+  have_told es ws m k are [] last made h = record { told = ap tellings_in h.1; waits = subst (λ (x : CheckpointedState). AreLast ws x.state) (sym h.0) are }
+  have_told es ws m k are (Goes (Manage e works) ∷ moves) last made h =
       let new = h.0 in
-      let next = step_under_way g stream_bytes o found es m (Manage e works) new k h.2 in
-      let rest = have_told (es ++ entries_of m.state e new.state) (waited_behind_move ws e) new next (event_last g o found es m.state k.state ws are e new.state h.2.0) events last h.1 h.3 in
+      let s = m.state in
+      let next = step_goes g ring_bytes o found es m k (Goes (Manage e works)) new h.2 in
+      let rest = have_told (es ++ entries_of s e new.state) (waited_behind_event ws e) new next (event_last g o found es s k.under_way.state ws are e new.state h.2.0.0) moves last h.1 h.3 in
       record {
-        told = ap tellings_in h.4 ∙ exchanges-append (entries_of m.state e new.state) h.1
-            ∙ ap (λ (l : Told). l ++ tellings_in h.1) (event_told g o found es m.state k.state ws are e new.state h.2.0) ∙ ap (λ (l : Told). told_by_move ws e ++ l) rest.told;
+        told = ap tellings_in h.4 ∙ exchanges-append (entries_of s e new.state) h.1
+            ∙ ap (λ (l : Told). l ++ tellings_in h.1) (event_told g o found es s k.under_way.state ws are e new.state h.2.0.0) ∙ ap (λ (l : Told). told_by_event ws e ++ l) rest.told;
         waits = rest.waits;
       }
-  have_told es ws m k are (Tend works ∷ events) last made h =
+  have_told es ws m k are (Goes (Tend works) ∷ moves) last made h =
       let new = h.0 in
-      let next = step_under_way g stream_bytes o found es m (Tend works) new k h.2 in
-      let rest = have_told (es ++ []) ws new next (subst (AreLast ws) (sym h.2.0) are) events last h.1 h.3 in
+      let next = step_goes g ring_bytes o found es m k (Goes (Tend works)) new h.2 in
+      let rest = have_told (es ++ []) ws new next (subst (AreLast ws) (sym h.2.0.0) are) moves last h.1 h.3 in
+      record { told = ap tellings_in h.4 ∙ rest.told; waits = rest.waits }
+  have_told es ws m k are (Checkpoints step ∷ moves) last made h =
+      let new = h.0 in
+      let next = step_goes g ring_bytes o found es m k (Checkpoints step) new h.2 in
+      let rest = have_told (es ++ []) ws new next (same_last ws m.state new.state (waits_kept m.state step new.state (moves_state m step new h.2)) are) moves last h.1 h.3 in
       record { told = ap tellings_in h.4 ∙ rest.told; waits = rest.waits }

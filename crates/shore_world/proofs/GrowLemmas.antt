@@ -1,5 +1,6 @@
 -- What no call and no resume takes away: the list grows, and what was durable stays so. Behind a failure log and durable number are as they were.
-use Rattle.std.proofs.Common.{◌≡◌, ◌⊎◌, inl, inr, ⊎_elim, List, [], ◌∷◌, ◌++◌, ℕ, false, true, refl, sym, ap, subst, ◌∙◌}
+use Rattle.std.proofs.lemmas.List.{drop-append-le}
+use Rattle.std.proofs.Common.{drop, ◌≡◌, ◌⊎◌, inl, inr, ⊎_elim, List, [], ◌∷◌, ◌++◌, ℕ, false, true, refl, sym, ap, subst, ◌∙◌}
 use Rattle.shore_types.specs.declared.layout.Geometry.{Geometry}
 use Rattle.shore_types.specs.declared.locking.Granule.{Granule}
 use Rattle.shore_model.specs.declared.calls.Answer.TheVariants.{Prepared, Resolved}
@@ -24,13 +25,14 @@ use Rattle.laws_calls.specs.Shapes.{with_locks_of}
 use Rattle.laws_calls.specs.States.{State, Waiting}
 use Rattle.laws_calls.specs.Victims.{TakesVictims, TellsVictim, Withdraws}
 use Rattle.shore_cycles.specs.declared.victims.Victim.{Victim}
-use Rattle.laws_lives.specs.Recovery.{RecoveryState}
+use Rattle.laws_checkpoints.specs.CheckpointedStores.{CheckpointedStore}
 use Rattle.shore_core.specs.Cores.{IsKept}
 use Rattle.shore_core.specs.Flushing.{FlushMoves}
 use Rattle.shore_world.specs.declared.world.World.{World}
-use Rattle.shore_world.specs.Worlds.{durable_in, geometry_in}
+use Rattle.shore_world.specs.Worlds.{cut_in, durable_in, geometry_in}
 use Rattle.shore_world.proofs.VolumeLemmas.{never_both}
-use Rattle.shore_world.proofs.WorldLemmas.{IsBesideOf, ListGrows}
+use Rattle.shore_world.proofs.LogParts.{IsBesideOf, log_of}
+use Rattle.shore_world.proofs.WorldLemmas.{ListGrows}
 
 -- ---- what runs ran before
 
@@ -211,7 +213,7 @@ flush_same s (Refused f) new (inr (running, (inr device))) = same_log_of s new (
 flush_same s Nothing new moves = same_log_of s new s moves.1 (refl, refl)
 
 -- so the store is the new state's too
-pub kept_same : (s new : State) (store : RecoveryState) → HasSameLog s new → IsKept s store → IsKept new store
+pub kept_same : (s new : State) (store : CheckpointedStore) → HasSameLog s new → IsKept s store → IsKept new store
 kept_same s new store same kept = record {
   stored = record { log = kept.stored.log ∙ sym same.0; durable = kept.stored.durable ∙ sym same.1 };
   redone = kept.redone;
@@ -221,24 +223,27 @@ kept_same s new store same kept = record {
 -- ---- the list
 
 module _ {L V : Type 0} {G : Ghosts L} {H : Ghosts V} where
-  -- from a state to a state
-  state_grows : (old new : World L V G H) (s later : State) → IsBesideOf old s → IsBesideOf new later
+  -- from a state to a state, with no more cut off
+  state_grows : (old new : World L V G H) (s later : State) → IsBesideOf old s → IsBesideOf new later → cut_in new ≡ cut_in old
       → durable_in new ≡ durable_in old → (more : List LogRecord) × (later.log ≡ s.log ++ more) → (later.failed ≡ false → s.failed ≡ false) → ListGrows old new
-  state_grows old new s later is now durable more runs = record {
-    more = more.0;
-    list = sym now.parts.log ∙ more.1 ∙ ap (λ (l : List LogRecord). l ++ more.0) is.parts.log;
-    durable = durable;
-    running = λ running. sym is.parts.failed_is ∙ runs (now.parts.failed_is ∙ running);
-  }
+  state_grows old new s later is now cut durable more runs =
+      let before = log_of old s is in
+      record {
+        more = more.0;
+        list = sym (log_of new later now).kept ∙ ap (λ n. drop n later.log) cut ∙ ap (drop (cut_in old)) more.1 ∙ drop-append-le (cut_in old) s.log more.0 before.within
+            ∙ ap (λ (l : List LogRecord). l ++ more.0) before.kept;
+        durable = durable;
+        running = λ running. sym is.parts.failed_is ∙ runs (now.parts.failed_is ∙ running);
+      }
 
   -- a call
-  pub call_grows : (old new : World L V G H) (s later : State) (session : ℕ) (c : Call) (step : Step) → IsBesideOf old s → IsBesideOf new later
+  pub call_grows : (old new : World L V G H) (s later : State) (session : ℕ) (c : Call) (step : Step) → IsBesideOf old s → IsBesideOf new later → cut_in new ≡ cut_in old
       → SettledCall (geometry_in old) s session c step later → durable_in new ≡ durable_in old → ListGrows old new
-  call_grows old new s later session c step is now moves durable =
-      state_grows old new s later is now durable (further_on s later (settled_call_further (geometry_in old) s session c step later moves)) (settled_call_runs (geometry_in old) s session c step later moves)
+  call_grows old new s later session c step is now cut moves durable =
+      state_grows old new s later is now cut durable (further_on s later (settled_call_further (geometry_in old) s session c step later moves)) (settled_call_runs (geometry_in old) s session c step later moves)
 
   -- a resume
-  pub resume_grows : (old new : World L V G H) (s later : State) (session : ℕ) (step : Step) → IsBesideOf old s → IsBesideOf new later
+  pub resume_grows : (old new : World L V G H) (s later : State) (session : ℕ) (step : Step) → IsBesideOf old s → IsBesideOf new later → cut_in new ≡ cut_in old
       → SettledResume (geometry_in old) s session step later → durable_in new ≡ durable_in old → ListGrows old new
-  resume_grows old new s later session step is now moves durable =
-      state_grows old new s later is now durable (further_on s later (settled_resume_further (geometry_in old) s session step later moves)) (settled_resume_runs (geometry_in old) s session step later moves)
+  resume_grows old new s later session step is now cut moves durable =
+      state_grows old new s later is now cut durable (further_on s later (settled_resume_further (geometry_in old) s session step later moves)) (settled_resume_runs (geometry_in old) s session step later moves)

@@ -2,7 +2,7 @@
 use Rattle.std.proofs.Common.{◌≡◌, inl, inr, ◌<◌, ◌≤◌, ℕ, List, [], ◌∷◌, ◌++◌, Bool, true, false, cond, max, length, map, refl, sym, ap, subst, ◌∙◌, append-nil, append_assoc, arith}
 use Rattle.std.specs.Prelude.{reverse}
 use Rattle.std.specs.FinMap.{get}
-use Rattle.std.specs.List.{AllByRecursion, filter_map}
+use Rattle.std.specs.List.{AllByRecursion}
 use Rattle.std.specs.Ordering.{eq_by_cmp}
 use Rattle.std.proofs.lemmas.List.{reverse-append, reverse-reverse}
 use Rattle.std.proofs.lemmas.Map.Views.{tells_apart}
@@ -13,7 +13,7 @@ use Rattle.shore_types.specs.declared.ids.Rid.{Rid}
 use Rattle.shore_types.specs.declared.layout.Geometry.{Geometry}
 use Rattle.shore_model.specs.declared.log_records.LogRecord.{LogRecord}
 use Rattle.shore_model.specs.declared.unanswered_changes.UnansweredChange.{UnansweredChange}
-use Rattle.shore_model.specs.Logs.{image_of_record, is_in_doubt, unanswered}
+use Rattle.shore_model.specs.Logs.{image_of_record, unanswered}
 use Rattle.shore_page.specs.Claims.{FitIn, claimed_by}
 use Rattle.shore_page.specs.Room.{Fits, HasRoom, raised}
 use Rattle.shore_page.specs.Slots.{Slot, settled, with_change}
@@ -22,16 +22,17 @@ use Rattle.shore_txn.proofs.ActiveKept.{claimed_join}
 use Rattle.laws_room.proofs.Fetching.{its_longest, kept_fits, longest_of_all, raised_less}
 use Rattle.laws_room.proofs.Leaving.{map_each, one_each, same_page}
 use Rattle.laws_room.specs.Claims.{Claimed, befores_at, befores_in, each_from, rid_on, undecided_at}
-use Rattle.laws_lives.proofs.DoubtRecords.{among_filter}
 use Rattle.laws_lives.proofs.Lists.{among_append, among_left, among_map, among_right, mapped_one}
 use Rattle.laws_lives.proofs.SessionsAgree.{each_at}
-use Rattle.laws_lives.specs.Doubts.{LoggedDoubt, doubt_of, doubts_in}
+use Rattle.laws_lives.specs.Doubts.{LoggedDoubt}
 use Rattle.laws_lives.specs.LogTells.{MatchesUndo}
 use Rattle.laws_lives.specs.Sessions.{EachOnce, SessionTxn, txns_of}
 use Rattle.laws_lives.specs.Views.{IsAmong}
 use Rattle.laws_runs.proofs.Undecided.{AreOfLog, some_claimed}
 use Rattle.laws_runs.specs.RoomyLogs.{IsRoomyLog, IsUndecided}
 use Rattle.laws_runs.specs.SlotCounts.{slot_count, slots_left}
+use Rattle.shore_analysis.specs.Doubts.{doubts_left}
+use Rattle.shore_restart.proofs.DoubtsNamed.{left_here}
 use Rattle.shore_restart.specs.Doubts.{IsUnkept, changes_in_doubt, changes_of, claims_of, undo_told, undos_told}
 
 -- ---- lists
@@ -79,18 +80,18 @@ txns_told log (d ∷ ds) = ap (λ (ts : List ℕ). d.txn ∷ ts) (txns_told log 
 -- they are undecided, with the undo lists that the log gives them
 pub doubts_of_log : (log : List LogRecord) → AreOfLog log (undos_told log)
 doubts_of_log log a there =
-    let d = mapped_one (undo_told log) a (doubts_in log) there in
+    let d = mapped_one (undo_told log) a (doubts_left log) there in
     subst (λ (b : SessionTxn). IsUndecided log b.txn × MatchesUndo log b.txn b.undo.images) d.2 (
-      inr (among_filter (λ (x : LoggedDoubt). is_in_doubt x.txn log) d.0 (filter_map doubt_of log) d.1).1,
+      inr (left_here log d.0 d.1).0,
       sym (reverse-reverse (map entry_of (unanswered d.0.txn log))),
     )
 
-pub doubts_told_once : (log : List LogRecord) → EachOnce (map (λ (d : LoggedDoubt). d.txn) (doubts_in log)) → EachOnce (txns_of (undos_told log))
-doubts_told_once log once = subst EachOnce (sym (txns_told log (doubts_in log))) once
+pub doubts_told_once : (log : List LogRecord) → EachOnce (map (λ (d : LoggedDoubt). d.txn) (doubts_left log)) → EachOnce (txns_of (undos_told log))
+doubts_told_once log once = subst EachOnce (sym (txns_told log (doubts_left log))) once
 
 -- ---- on a page
 
-module _ (g : Geometry) (stream_bytes : ℕ) (log : List LogRecord) (k : IsRoomyLog g stream_bytes log) (once : EachOnce (map (λ (d : LoggedDoubt). d.txn) (doubts_in log))) (p : PageId) where
+module _ (g : Geometry) (stream_bytes : ℕ) (log : List LogRecord) (k : IsRoomyLog g stream_bytes log) (once : EachOnce (map (λ (d : LoggedDoubt). d.txn) (doubts_left log))) (p : PageId) where
   abbrev undos : List SessionTxn
   undos = undos_told log
 
@@ -113,9 +114,9 @@ module _ (g : Geometry) (stream_bytes : ℕ) (log : List LogRecord) (k : IsRoomy
 
   each_within : (c : UnansweredChange) → IsAmong c (changes_in_doubt log) → IsWithin c
   each_within c there same =
-      let d = its_doubt log (doubts_in log) c there in
+      let d = its_doubt log (doubts_left log) c there in
       let a = undo_told log d.0 in
-      let own : IsAmong a undos = among_map (undo_told log) d.0 (doubts_in log) d.1 in
+      let own : IsAmong a undos = among_map (undo_told log) d.0 (doubts_left log) d.1 in
       let e : IsAmong (entry_of c) a.undo.images = among_reverse (entry_of c) (map entry_of (unanswered d.0.txn log)) (among_map entry_of c (unanswered d.0.txn log) d.2) in
       let slot = each_at (λ (x : Rid × Image). x.0.slot < slot_count log x.0.page) a.undo.images (entry_of c) (all_claimed.within a own) e in
       let long = each_at (λ (x : Rid × Image). image_len x.1 ≤ longest (befores_in x.0 a.undo.images)) a.undo.images (entry_of c) (its_longest a.undo.images) e in
@@ -170,7 +171,7 @@ module _ (g : Geometry) (stream_bytes : ℕ) (log : List LogRecord) (k : IsRoomy
       least l a b same = omega arith
 
 -- so none is left that finds no room
-pub none_unkept : (g : Geometry) (stream_bytes : ℕ) (log : List LogRecord) → IsRoomyLog g stream_bytes log → EachOnce (map (λ (d : LoggedDoubt). d.txn) (doubts_in log)) → (n : ℕ)
+pub none_unkept : (g : Geometry) (stream_bytes : ℕ) (log : List LogRecord) → IsRoomyLog g stream_bytes log → EachOnce (map (λ (d : LoggedDoubt). d.txn) (doubts_left log)) → (n : ℕ)
     → IsUnkept log n → ⊥
 none_unkept g stream_bytes log k once n unkept =
     let c = unkept.change in

@@ -8,7 +8,7 @@ use Rattle.shore_gate.specs.Checks.{IsFromOutside}
 use Rattle.shore_fronts.specs.Causes.{HasCauseOfPair}
 use Rattle.shore_restart.specs.Errors.{log_answer, volume_answer}
 use Rattle.shore_restart.specs.declared.errors.RestartError.{RestartError}
-use Rattle.shore_restart.specs.declared.errors.RestartError.TheVariants.{BadRecord, Log, Memory, NoRoom, Page}
+use Rattle.shore_restart.specs.declared.errors.RestartError.TheVariants.{BadAnchor, BadRecord, Log, Memory, NoRoom, Page}
 
 pub same_number : (n m : ℕ) → BadRecord n ≡ BadRecord m → n ≡ m
 same_number n m is = cc
@@ -71,6 +71,7 @@ module _ (T U : Type 0) (f : Fault) (a b c v w : ℕ) where
       → (((h : Fault) → e ≢ Page h) → ((h : Fault) → e ≢ Log h) → HasCause {T = Unit {0}} (Err f) b c) → HasCauseOfPair {T = U} (Err f) a c v w
   told_of Memory volume log page force other = of_neither (Ok tt) (Ok tt) refl refl volume log (other (λ h is. absurd cc) (λ h is. absurd cc))
   told_of NoRoom volume log page force other = of_neither (Ok tt) (Ok tt) refl refl volume log (other (λ h is. absurd cc) (λ h is. absurd cc))
+  told_of BadAnchor volume log page force other = of_neither (Ok tt) (Ok tt) refl refl volume log (other (λ h is. absurd cc) (λ h is. absurd cc))
   told_of (BadRecord n) volume log page force other = of_neither (Ok tt) (Ok tt) refl refl volume log (other (λ h is. absurd cc) (λ h is. absurd cc))
   told_of (Page h) volume log page force other =
       let is = page h refl in

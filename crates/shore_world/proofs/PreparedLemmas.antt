@@ -1,5 +1,5 @@
 -- What a prepare lists, and whom a session is told that asks who is in doubt, of a world that is a manager.
-use Rattle.std.proofs.Common.{◌≡◌, inl, inr, ◌++◌, ℕ, List, [], ◌∷◌, IsTrue, sym, ap, subst, ◌∙◌}
+use Rattle.std.proofs.Common.{◌≡◌, inl, inr, ℕ, List, [], ◌∷◌, IsTrue, sym, ap, subst, ◌∙◌}
 use Rattle.std.specs.Cmp.Lexicographic.{slice_cmp}
 use Rattle.std.specs.FinMap.{is_sorted}
 use Rattle.std.specs.List.Sorted.{IsStrictlySortedBy}
@@ -14,7 +14,6 @@ use Rattle.shore_model.specs.declared.calls.Call.TheVariants as call
 use Rattle.shore_model.specs.declared.histories.Entry.{Entry}
 use Rattle.shore_model.specs.declared.histories.Opening.{Opening}
 use Rattle.shore_model.specs.declared.holds.Hold.{Hold}
-use Rattle.shore_model.specs.declared.log_records.LogRecord.{LogRecord}
 use Rattle.shore_model.specs.declared.log_records.Payload.TheVariants as payload
 use Rattle.shore_model.specs.declared.step.Step.{Step}
 use Rattle.shore_model.specs.declared.step.Step.TheVariants.{Done, Waits}
@@ -38,10 +37,9 @@ use Rattle.laws_calls.specs.Shapes.{WaitsForItsRecord}
 use Rattle.laws_calls.specs.States.{IsOfSession, State}
 use Rattle.shore_world.specs.declared.event.Event.TheVariants as event
 use Rattle.shore_world.specs.declared.world.World.{World}
-use Rattle.shore_world.specs.Exchanges.{waited_behind}
-use Rattle.shore_world.specs.Promises.{IsManagerOf}
-use Rattle.shore_world.specs.Worlds.{Steps, geometry_in, list_in, requests_in}
-use Rattle.shore_world.proofs.PromiseLemmas.{after, held_now, in_doubt_now, seen, stepped}
+use Rattle.shore_world.specs.Promises.{GoesOnAs, IsManagerOf}
+use Rattle.shore_world.specs.Worlds.{Steps, geometry_in, requests_in}
+use Rattle.shore_world.proofs.PromiseLemmas.{after, held_now, in_doubt_now, stepped}
 
 -- ---- prepares
 
@@ -75,22 +73,25 @@ listed_at_once g s session step new h = by h.rounds h.settles
 
 module _ {L V : Type 0} {G : Ghosts L} {H : Ghosts V} (w : World L V G H) (o : Opening) (es : List Entry) (ws : List (ℕ × Call)) (k : IsManagerOf w o es ws) where
   pub lists_what_is_held : (session n : ℕ) (global : List ℕ) (new : World L V G H) → Steps w (event.Call session (call.Prepare global)) (Waits (Durable n)) new
-      → (a : SessionTxn) × IsOfSession k.now.state session a × ((granules : List Granule) × (list_in new ≡ and_record a.txn (list_in w) (payload.Prepare global granules))
-      × AreExclusive (held_by_all (requests_in w)) a.txn granules × IsStrictlySortedBy granule_cmp granules)
+      → (on : GoesOnAs new o es ws (event.Call session (call.Prepare global)) (Waits (Durable n)))
+      × ((a : SessionTxn) × IsOfSession k.now.state session a × ((granules : List Granule) × (on.manager.now.state.log ≡ and_record a.txn k.now.state.log (payload.Prepare global granules))
+      × AreExclusive (held_by_all (requests_in w)) a.txn granules × IsStrictlySortedBy granule_cmp granules))
   lists_what_is_held session n global new one =
       let s = k.now.state in
       let went = stepped w o es ws k (event.Call session (call.Prepare global)) (Waits (Durable n)) new tt one in
-      let later = seen new o (es ++ went.on.made) (waited_behind ws (event.Call session (call.Prepare global)) (Waits (Durable n))) went.on.manager in
       let truly = settled_record_waits (geometry_in w) o k.found es s (after w o es ws k) session n went.on.manager.now.state (call.Prepare global) went.moves in
       let its = prepare_waits s session n global went.on.manager.now.state truly.0 in
       let granules = granules_in_ex s its.txn in (
-        its.txn,
-        its.of,
+        went.on,
         (
-          granules,
-          sym later.log ∙ its.logged ∙ ap (λ (l : List LogRecord). and_record its.txn.txn l (payload.Prepare global granules)) (seen w o es ws k).log,
-          subst (λ (held : List Hold). AreExclusive held its.txn.txn granules) (held_now w o es ws k) (prepared_granules s its.txn),
-          granules_rise s its.txn,
+          its.txn,
+          its.of,
+          (
+            granules,
+            its.logged,
+            subst (λ (held : List Hold). AreExclusive held its.txn.txn granules) (held_now w o es ws k) (prepared_granules s its.txn),
+            granules_rise s its.txn,
+          ),
         ),
       )
 
@@ -105,13 +106,13 @@ module _ {L V : Type 0} {G : Ghosts L} {H : Ghosts V} (w : World L V G H) (o : O
       → IsAmong (global, t) pairs → IsAmong (t, global) (in_doubt o.in_doubt (decisions es))
   each_listed session t global pairs new one there =
       subst (IsAmong (t, global)) (in_doubt_now w o es ws k)
-      ((listed_are_those k.under_way.state.sessions).each t global (subst (IsAmong (global, t)) (told_pairs session pairs new one) there))
+      ((listed_are_those k.under_way.under_way.state.sessions).each t global (subst (IsAmong (global, t)) (told_pairs session pairs new one) there))
 
   pub all_listed : (session t : ℕ) (global : List ℕ) (pairs : List (List ℕ × ℕ)) (new : World L V G H) → Steps w (event.Call session call.InDoubt) (Done (AreInDoubt pairs)) new
       → IsAmong (t, global) (in_doubt o.in_doubt (decisions es)) → IsAmong (global, t) pairs
   all_listed session t global pairs new one there =
       subst (IsAmong (global, t)) (sym (told_pairs session pairs new one))
-      ((listed_are_those k.under_way.state.sessions).all t global (subst (IsAmong (t, global)) (sym (in_doubt_now w o es ws k)) there))
+      ((listed_are_those k.under_way.under_way.state.sessions).all t global (subst (IsAmong (t, global)) (sym (in_doubt_now w o es ws k)) there))
 
   pub listed_rising : (session : ℕ) (pairs : List (List ℕ × ℕ)) (new : World L V G H) → Steps w (event.Call session call.InDoubt) (Done (AreInDoubt pairs)) new
       → IsTrue (is_sorted (slice_cmp nat_cmp) pairs)

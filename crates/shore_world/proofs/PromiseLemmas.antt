@@ -1,5 +1,5 @@
 -- What a world that is a manager keeps, by the laws over plain data.
-use Rattle.std.proofs.Common.{◌≡◌, ◌≢◌, ◌<◌, ◌⊎◌, inl, inr, ⊎_elim, List, [], ◌++◌, ℕ, length, map, false, refl, sym, ap, subst, append-nil, ◌∙◌, arith}
+use Rattle.std.proofs.Common.{drop-drop, ◌≡◌, ◌≢◌, ◌+◌, ◌-◌, ◌≤◌, drop, ◌<◌, ◌⊎◌, inl, inr, ⊎_elim, List, [], ◌∷◌, ◌++◌, ℕ, length, map, take, false, refl, sym, ap, subst, append-nil, ◌∙◌, arith}
 use Rattle.std.proofs.lemmas.Bool.{true≢false}
 use Rattle.std.specs.List.{AllByRecursion}
 use Rattle.shore_types.specs.declared.layout.Geometry.{Geometry}
@@ -28,24 +28,91 @@ use Rattle.laws_lives.specs.Views.{IsAmong}
 use Rattle.laws_lives.proofs.Lists.{among_map, mapped_one}
 use Rattle.laws_lives.proofs.Members.{txn_of_one}
 use Rattle.laws_lives.proofs.WholeSteps.{among_or_not}
-use Rattle.laws_calls.proofs.OwnCycles.{events_begin}
 use Rattle.laws_calls.proofs.RolledDecisions.{rolled_back_decided, rolled_uncommitted}
 use Rattle.laws_calls.proofs.Rooted.{stay_rooted}
 use Rattle.laws_calls.proofs.SessionTells.{all_shown, session_runs_alone}
+use Rattle.laws_calls.proofs.OwnCycles.{events_begin}
 use Rattle.laws_calls.proofs.SettledThere.{events_there}
-use Rattle.laws_calls.specs.Events.{EventsMove, IsStateAfter, ManagerEvent}
-use Rattle.laws_runs.proofs.UnderWay.{plain_moves}
-use Rattle.laws_runs.specs.SoundStores.{IsUnderWay, managed}
+use Rattle.laws_calls.specs.Events.{HasFailed, IsStateAfter}
+use Rattle.laws_calls.specs.Events as calls
+use Rattle.laws_calls.specs.SessionWaits.{AllBeginWithTheirs, AllWaitThere}
+use Rattle.laws_calls.specs.States.{State}
+use Rattle.laws_runs.proofs.Checkpointing.{step_goes}
+use Rattle.laws_runs.specs.CheckpointSteps.{CheckpointMoves, CheckpointedMove, CheckpointedMoves, CheckpointedState, CheckpointedSteps, Checkpoints, Goes, entries_of_move}
+use Rattle.laws_runs.specs.CheckpointedStates.{IsAtCheckpoints}
+use Rattle.laws_runs.specs.StoredRuns.{Manage, Tend}
 use Rattle.shore_world.specs.declared.event.Event.{Event}
 use Rattle.shore_world.specs.declared.world.World.{World}
-use Rattle.shore_world.specs.EventMoves.{moves_by}
-use Rattle.shore_world.specs.Events.{IsServedEvent}
+use Rattle.shore_world.specs.EventMoves.{OfCheckpoint, OfManager, PlainMove, moves_among, moves_by}
+use Rattle.shore_world.proofs.CheckpointLemmas.{firsts_kept, moves_state, there_kept}
+use Rattle.shore_world.specs.Events.{IsOfCheckpoint, IsServedEvent}
 use Rattle.shore_world.specs.Exchanges.{AreLast, Telling, tellings_in, tellings_of, told_by, waited_after, waited_behind}
 use Rattle.shore_world.specs.Lives.{DumpsShow}
-use Rattle.shore_world.specs.Promises.{AreUnended, GoesOnAs, IsManagerOf, IsStateOf}
-use Rattle.shore_world.specs.Worlds.{Between, EventStep, Runs, Steps, geometry_in, list_in, requests_in, stream_bytes_in}
+use Rattle.shore_world.specs.Promises.{AreUnended, GoesOnAs, IsManagerOf, IsStateOf, gained}
+use Rattle.shore_gate.specs.declared.anchors.Anchors.{Anchors}
+use Rattle.shore_model.specs.declared.calls.Answer.TheVariants.{Moved}
+use Rattle.shore_model.specs.declared.step.Step.TheVariants.{Done}
+use Rattle.shore_world.specs.declared.event.Event.TheVariants as event
+use Rattle.shore_world.proofs.LogParts.{IsBesideOf, log_long, log_of}
+use Rattle.shore_world.specs.Worlds.{Between, CheckpointsState, EventStep, Runs, Steps, cut_in, geometry_in, last_in, requests_in, stream_bytes_in}
 use Rattle.shore_world.proofs.ExchangeLemmas.{Waited, event_tells, event_waits, have_told, runs_told, runs_wait, told_in, waited_in}
-use Rattle.shore_world.proofs.StoredLemmas.{HasRun, IsUpAt, moves_to, run_run, seen_of, up_safe}
+use Rattle.shore_world.proofs.StoredLemmas.{HasRun, IsUpAt, checkpoints_to, moves_to, run_run, seen_of, up_safe}
+
+-- ---- what moves over plain data keep
+
+-- the calls that wait do so at requests of their own, and each that is to be told a cycle is the first of it
+pub record StandInOrder (s : State) : Type 0 where
+  pub there : AllWaitThere s
+  pub firsts : AllBeginWithTheirs s
+
+pub moves_keep_order : (g : Geometry) (ring_bytes : ℕ) (o : Opening) (found : List LogRecord) (es : List Entry) (m : CheckpointedState) → IsAtCheckpoints g ring_bytes o found es m → StandInOrder m.state
+    → (moves : List CheckpointedMove) (last : CheckpointedState) (made : List Entry) → CheckpointedMoves g m moves last made → StandInOrder last.state
+moves_keep_order g ring_bytes o found es m k was [] last made h = subst (λ (x : CheckpointedState). StandInOrder x.state) (sym h.0) was
+moves_keep_order g ring_bytes o found es m k was (e ∷ moves) last made h =
+    moves_keep_order g ring_bytes o found (es ++ entries_of_move m e h.0) h.0 (step_goes g ring_bytes o found es m k e h.0 h.2) (by e h.2) moves last h.1 h.3
+  where
+    by : (e : CheckpointedMove) → CheckpointedSteps g m e h.0 → StandInOrder h.0.state
+    by (Goes (Manage x works)) steps = record {
+      there = events_there g o found es m.state (x ∷ []) h.0.state k.under_way.state was.there (h.0.state, steps.0.0, refl);
+      firsts = events_begin g o found es m.state (x ∷ []) h.0.state k.under_way.state was.firsts (h.0.state, steps.0.0, refl);
+    }
+    by (Goes (Tend works)) steps = subst StandInOrder (sym steps.0.0) was
+    by (Checkpoints step) steps =
+        let state = moves_state m step h.0 steps in
+        record { there = there_kept m.state step h.0.state state was.there; firsts = firsts_kept m.state step h.0.state state was.firsts }
+
+-- failures of the volume and nothing else
+abbrev AreFailures : List PlainMove → Type 0
+AreFailures [] = Unit {0}
+AreFailures (OfManager HasFailed ∷ moves) = AreFailures moves
+AreFailures (OfManager (calls.Called session c step) ∷ moves) = ⊥
+AreFailures (OfManager (calls.Resumed session step) ∷ moves) = ⊥
+AreFailures (OfManager (calls.Forced n) ∷ moves) = ⊥
+AreFailures (OfManager (calls.TicketAsked ticket answer) ∷ moves) = ⊥
+AreFailures (OfCheckpoint step ∷ moves) = ⊥
+
+between_fails : {L V : Type 0} {G : Ghosts L} {H : Ghosts V} (old new : World L V G H) (failures : List PlainMove) → Between old failures new → AreFailures failures
+between_fails old new [] between = tt
+between_fails old new (OfManager HasFailed ∷ failures) (mid, fails, rest) = between_fails mid new failures rest
+between_fails old new (OfManager (calls.Called session c step) ∷ failures) between = absurd between
+between_fails old new (OfManager (calls.Resumed session step) ∷ failures) between = absurd between
+between_fails old new (OfManager (calls.Forced n) ∷ failures) between = absurd between
+between_fails old new (OfManager (calls.TicketAsked ticket answer) ∷ failures) between = absurd between
+between_fails old new (OfCheckpoint step ∷ failures) between = absurd between
+
+-- no call begins to wait by them, and none is told
+failures_leave_waits : (g : Geometry) (m : CheckpointedState) (moves : List CheckpointedMove) (last : CheckpointedState) (made : List Entry) → CheckpointedMoves g m moves last made
+    → AreFailures (moves_among moves) → last.state.waiting ≡ m.state.waiting
+failures_leave_waits g m [] last made h fail = ap (λ (x : CheckpointedState). x.state.waiting) h.0
+failures_leave_waits g m (Goes (Manage HasFailed works) ∷ moves) last made h fail =
+    failures_leave_waits g h.0 moves last h.1 h.3 fail ∙ ap (λ (x : State). x.waiting) h.2.0.0
+failures_leave_waits g m (Goes (Manage (calls.Called session c step) works) ∷ moves) last made h fail = absurd fail
+failures_leave_waits g m (Goes (Manage (calls.Resumed session step) works) ∷ moves) last made h fail = absurd fail
+failures_leave_waits g m (Goes (Manage (calls.Forced n) works) ∷ moves) last made h fail = absurd fail
+failures_leave_waits g m (Goes (Manage (calls.TicketAsked ticket answer) works) ∷ moves) last made h fail = absurd fail
+failures_leave_waits g m (Goes (Tend works) ∷ moves) last made h fail =
+    failures_leave_waits g h.0 moves last h.1 h.3 fail ∙ ap (λ (x : State). x.waiting) h.2.0.0
+failures_leave_waits g m (Checkpoints step ∷ moves) last made h fail = absurd fail
 
 none_is : (t : ℕ) → 0 < t → 0 ≡ t → ⊥
 none_is t some is = omega arith
@@ -56,21 +123,21 @@ module _ {L V : Type 0} {G : Ghosts L} {H : Ghosts V} (w : World L V G H) (o : O
   same_requests = ap (λ (t : Table). t.requests) k.at.is_in.beside.parts.stands.locks
 
   pub held_now : k.now.state.sessions.held ≡ held_by_all (requests_in w)
-  held_now = k.under_way.state.sessions.locks.held ∙ ap held_by_all same_requests
+  held_now = k.under_way.under_way.state.sessions.locks.held ∙ ap held_by_all same_requests
 
   pub in_harmony : Harmony (held_by_all (requests_in w)) × WellRooted (held_by_all (requests_in w))
   in_harmony = (
-    subst Harmony held_now k.under_way.state.sessions.sound.stand.harmony,
-    subst WellRooted held_now (stay_rooted o k.found es k.now.state k.under_way.state),
+    subst Harmony held_now k.under_way.under_way.state.sessions.sound.stand.harmony,
+    subst WellRooted held_now (stay_rooted o k.found es k.now.state k.under_way.under_way.state),
   )
 
   pub on_no_cycle : HasNoCycle (requests_in w)
-  on_no_cycle = subst HasNoCycle same_requests k.under_way.no_cycle
+  on_no_cycle = subst HasNoCycle same_requests k.under_way.under_way.no_cycle
 
   -- ---- a run
 
-  pub as_up : IsUpAt (geometry_in w) (stream_bytes_in w) o k.found k.log_front k.front es w k.now
-  as_up = record { disk = k.disk; at = k.at; geometry = refl; long = refl; under_way = k.under_way }
+  pub as_up : IsUpAt (geometry_in w) (stream_bytes_in w) o k.found (take 512 k.log_front) k.front es w k.now
+  as_up = record { log_front = k.log_front; labelled = refl; disk = k.disk; at = k.at; geometry = refl; long = refl; under_way = k.under_way }
 
   -- what a run has come to is a manager again
   pub record HasGoneOn (new : World L V G H) (waited : Waited) (told : List Telling) : Type 0 where
@@ -80,64 +147,62 @@ module _ {L V : Type 0} {G : Ghosts L} {H : Ghosts V} (w : World L V G H) (o : O
     -- opened on the same log
     pub same : manager.found ≡ k.found
 
-  ran_manager : (moves : List ManagerEvent) (new : World L V G H) (ran : HasRun (geometry_in w) (stream_bytes_in w) o k.found k.log_front k.front es k.now moves new)
+  ran_manager : (moves : List PlainMove) (new : World L V G H) (ran : HasRun (geometry_in w) (stream_bytes_in w) o k.found (take 512 k.log_front) k.front es k.now moves new)
       → (waited : Waited) → waited_in ws moves ≡ waited → IsManagerOf new o (es ++ ran.made) waited
   ran_manager moves new ran waited is =
-      let told = have_told (geometry_in w) (stream_bytes_in w) o k.found es ws k.now k.under_way k.waited ran.events ran.last ran.made ran.stored in
+      let told = have_told (geometry_in w) (stream_bytes_in w) o k.found es ws k.now k.under_way k.waited ran.plain ran.last ran.made ran.stored in
+      let order = moves_keep_order (geometry_in w) (stream_bytes_in w) o k.found es k.now k.under_way (record { there = k.there; firsts = k.firsts }) ran.plain ran.last ran.made ran.stored in
       record {
         found = k.found;
         opening = k.opening;
-        log_front = k.log_front;
+        log_front = ran.up.log_front;
         front = k.front;
         disk = ran.up.disk;
         now = ran.last;
         at = ran.up.at;
-        under_way = subst (λ (g : Geometry). IsUnderWay g (stream_bytes_in new) o k.found (es ++ ran.made) ran.last) (sym ran.up.geometry)
-            (subst (λ n. IsUnderWay (geometry_in w) n o k.found (es ++ ran.made) ran.last) (sym ran.up.long) ran.up.under_way);
+        under_way = subst (λ (g : Geometry). IsAtCheckpoints g (stream_bytes_in new) o k.found (es ++ ran.made) ran.last) (sym ran.up.geometry)
+            (subst (λ n. IsAtCheckpoints (geometry_in w) n o k.found (es ++ ran.made) ran.last) (sym ran.up.long) ran.up.under_way);
         waited = subst (λ (l : Waited). AreLast l ran.last.state) (ap (waited_in ws) ran.same ∙ is) told.waits;
-        there = events_there (geometry_in w) o k.found es k.now.state (managed ran.events) ran.last.state k.under_way.state k.there
-            (plain_moves (geometry_in w) k.now ran.events ran.last ran.made ran.stored);
-        firsts = events_begin (geometry_in w) o k.found es k.now.state (managed ran.events) ran.last.state k.under_way.state k.firsts
-            (plain_moves (geometry_in w) k.now ran.events ran.last ran.made ran.stored);
+        there = order.there;
+        firsts = order.firsts;
       }
 
   -- it tells what its moves do
-  ran_told : (moves : List ManagerEvent) (new : World L V G H) (ran : HasRun (geometry_in w) (stream_bytes_in w) o k.found k.log_front k.front es k.now moves new)
+  ran_told : (moves : List PlainMove) (new : World L V G H) (ran : HasRun (geometry_in w) (stream_bytes_in w) o k.found (take 512 k.log_front) k.front es k.now moves new)
       → tellings_in ran.made ≡ told_in ws moves
   ran_told moves new ran =
-      (have_told (geometry_in w) (stream_bytes_in w) o k.found es ws k.now k.under_way k.waited ran.events ran.last ran.made ran.stored).told ∙ ap (told_in ws) ran.same
+      (have_told (geometry_in w) (stream_bytes_in w) o k.found es ws k.now k.under_way k.waited ran.plain ran.last ran.made ran.stored).told ∙ ap (told_in ws) ran.same
 
-  ran_on : (moves : List ManagerEvent) (new : World L V G H) → HasRun (geometry_in w) (stream_bytes_in w) o k.found k.log_front k.front es k.now moves new
+  ran_on : (moves : List PlainMove) (new : World L V G H) → HasRun (geometry_in w) (stream_bytes_in w) o k.found (take 512 k.log_front) k.front es k.now moves new
       → HasGoneOn new (waited_in ws moves) (told_in ws moves)
   unfolding ran_manager
   ran_on moves new ran = record { made = ran.made; manager = ran_manager moves new ran (waited_in ws moves) refl; is_told = ran_told moves new ran; same = refl }
 
-  pub goes_on : (events : List Event) (steps : List Step) (moves : List ManagerEvent) (new : World L V G H) → AllByRecursion IsServedEvent events → Runs w events steps moves new
+  pub goes_on : (events : List Event) (steps : List Step) (moves : List PlainMove) (new : World L V G H) → AllByRecursion IsServedEvent events → Runs w events steps moves new
       → HasGoneOn new (waited_after ws events steps) (tellings_of ws events steps)
   goes_on events steps moves new served runs =
-      let ran = run_run (geometry_in w) (stream_bytes_in w) o k.found k.log_front k.front es w k.now as_up events steps moves new served runs in
+      let ran = run_run (geometry_in w) (stream_bytes_in w) o k.found (take 512 k.log_front) k.front es w k.now as_up events steps moves new served runs in
       subst (λ (l : Waited). HasGoneOn new l (tellings_of ws events steps)) (runs_wait w ws events steps moves new runs)
       (subst (HasGoneOn new (waited_in ws moves)) (runs_told w ws events steps moves new runs) (ran_on moves new ran))
 
   -- ---- between two events
 
-  -- it is a manager of the same history, by these moves of the manager over plain data
-  pub record HasMovedBy (moves : List ManagerEvent) (new : World L V G H) : Type 0 where
+  -- it is a manager of the same history, and the same calls wait
+  pub record HasMovedBy (moves : List PlainMove) (new : World L V G H) : Type 0 where
     pub made : List Entry
     pub manager : IsManagerOf new o (es ++ made) ws
     pub told : tellings_in made ≡ []
-    pub moved : EventsMove (geometry_in w) k.now.state moves manager.now.state
+    pub waits : manager.now.state.waiting ≡ k.now.state.waiting
 
-  pub between_on : (failures : List ManagerEvent) (new : World L V G H) → Between w failures new → HasMovedBy failures new
+  pub between_on : (failures : List PlainMove) (new : World L V G H) → Between w failures new → HasMovedBy failures new
   unfolding as_up ran_manager
   between_on failures new between =
-      let ran = run_run (geometry_in w) (stream_bytes_in w) o k.found k.log_front k.front es w k.now as_up [] [] failures new tt between in
+      let ran = run_run (geometry_in w) (stream_bytes_in w) o k.found (take 512 k.log_front) k.front es w k.now as_up [] [] failures new tt between in
       record {
         made = ran.made;
         manager = ran_manager failures new ran ws (runs_wait w ws [] [] failures new between);
         told = ran_told failures new ran ∙ runs_told w ws [] [] failures new between;
-        moved = subst (λ (l : List ManagerEvent). EventsMove (geometry_in w) k.now.state l ran.last.state) ran.same
-            (plain_moves (geometry_in w) k.now ran.events ran.last ran.made ran.stored);
+        waits = failures_leave_waits (geometry_in w) k.now ran.plain ran.last ran.made ran.stored (subst AreFailures (sym ran.same) (between_fails w new failures between));
       }
 
   -- ---- one event
@@ -153,7 +218,7 @@ module _ {L V : Type 0} {G : Ghosts L} {H : Ghosts V} (w : World L V G H) (o : O
   pub stepped : (e : Event) (step : Step) (new : World L V G H) → IsServedEvent e → Steps w e step new → HasStepped e step new
   unfolding as_up ran_manager
   stepped e step new served one =
-      let moved = moves_to g (stream_bytes_in w) o k.found k.log_front k.front es w k.now as_up e step new served one in
+      let moved = moves_to g (stream_bytes_in w) o k.found (take 512 k.log_front) k.front es w k.now as_up e step new served one in
       let waits : waited_in ws (moves_by e step) ≡ waited_behind ws e step = ap (waited_in ws) (sym (append-nil (moves_by e step))) ∙ event_waits ws e step [] in
       record {
         on = record { made = moved.run.made; manager = ran_manager (moves_by e step) new moved.run (waited_behind ws e step) waits };
@@ -161,42 +226,52 @@ module _ {L V : Type 0} {G : Ghosts L} {H : Ghosts V} (w : World L V G H) (o : O
         moves = subst (EventStep g k.now.state e step) (sym moved.same) moved.moves;
       }
 
+  -- a step of a checkpoint is one over plain data, and adds nothing to the history
+  pub record HasCheckpointedOn (step : Step) (new : World L V G H) : Type 0 where
+    pub on : GoesOnAs new o es ws event.CheckpointStep step
+    pub none : on.made ≡ []
+    pub moves : CheckpointMoves k.now step on.manager.now
+
+  pub checkpointed : (step : Step) (new : World L V G H) → Steps w event.CheckpointStep step new → HasCheckpointedOn step new
+  unfolding as_up ran_manager
+  checkpointed step new one =
+      let moved = checkpoints_to g (stream_bytes_in w) o k.found (take 512 k.log_front) k.front es w k.now as_up step new one in
+      record {
+        on = record { made = moved.run.made; manager = ran_manager (moves_by event.CheckpointStep step) new moved.run ws refl };
+        none = moved.none;
+        moves = subst (CheckpointMoves k.now step) (sym moved.same) moved.moves;
+      }
+
   -- what can be seen of the state
   pub seen : IsStateOf w k.now.state
-  seen = seen_of g (stream_bytes_in w) o k.found k.log_front k.front es w k.now as_up
+  seen = seen_of g (stream_bytes_in w) o k.found (take 512 k.log_front) k.front es w k.now as_up
 
   pub after : IsStateAfter o k.found es k.now.state
-  after = k.under_way.state
+  after = k.under_way.under_way.state
 
   -- ---- its history
 
   pub sound_history : IsHistory (history_from o es) × Sound (history_from o es)
-  sound_history = (k.under_way.state.sessions.agree.history, k.under_way.state.sessions.sound.sound)
+  sound_history = (k.under_way.under_way.state.sessions.agree.history, k.under_way.under_way.state.sessions.sound.sound)
 
   -- its decisions are those of the records that its log has gained, and the log tells what they show
-  pub decided_records : decisions es ≡ decisions_in (length k.found) (list_in w)
-  decided_records = k.under_way.state.sessions.decides.all ∙ ap (decisions_in (length k.found)) k.at.is_in.beside.parts.log
+  pub decided_records : decisions es ≡ decisions_in (length k.found) k.now.state.log
+  decided_records = k.under_way.under_way.state.sessions.decides.all
 
-  pub told_is_shown : records_told (list_in w) ≡ shown (history_from o es) (decisions es)
-  told_is_shown = ap records_told (sym k.at.is_in.beside.parts.log) ∙ all_shown o k.found es k.now.state k.under_way.state
+  pub told_is_shown : records_told k.now.state.log ≡ shown (history_from o es) (decisions es)
+  told_is_shown = all_shown o k.found es k.now.state k.under_way.under_way.state
 
   -- ---- its records
 
   abbrev pub under_way_of : List ℕ
   under_way_of = txns_of k.now.state.sessions.active
 
-  same_log : k.now.state.log ≡ list_in w
-  same_log = k.at.is_in.beside.parts.log
-
-  pub dumps : DumpsShow w (overlays (serial_after o es) (map (logged_writes (list_in w)) under_way_of))
+  pub dumps : DumpsShow w (overlays (serial_after o es) (map (logged_writes k.now.state.log) under_way_of))
   dumps store pairs is =
       let s = k.now.state in
       is k.front k.disk s k.now.store k.at.is_in
-      (up_safe (geometry_in w) (stream_bytes_in w) o k.found k.log_front k.front es w k.now as_up) k.at.over
-      ∙ ap (scan_of store) (
-      is_overlaid (stand_logged k.under_way.state.sessions.sound k.under_way.state.sessions.log)
-      ∙ ap (λ (l : List LogRecord). overlays (serial_after o es) (map (logged_writes l) (txns_of s.sessions.active))) same_log
-      )
+      (up_safe (geometry_in w) (stream_bytes_in w) o k.found (take 512 k.log_front) k.front es w k.now as_up) k.at.over
+      ∙ ap (scan_of store) (is_overlaid (stand_logged k.under_way.under_way.state.sessions.sound k.under_way.under_way.state.sessions.log))
 
   abbrev pub sessions_now : Sessions
   sessions_now = k.now.state.sessions
@@ -204,22 +279,22 @@ module _ {L V : Type 0} {G : Ghosts L} {H : Ghosts V} (w : World L V G H) (o : O
   -- ---- those in doubt
 
   pub in_doubt_now : pairs_of sessions_now.prepared ≡ in_doubt o.in_doubt (decisions es)
-  in_doubt_now = sym k.under_way.state.sessions.agree.in_doubt
+  in_doubt_now = sym k.under_way.under_way.state.sessions.agree.in_doubt
 
   -- they are under way
   pub doubts_under_way : (t : ℕ) (global : List ℕ) → IsAmong (t, global) (in_doubt o.in_doubt (decisions es)) → IsAmong t under_way_of
   doubts_under_way t global there =
       let p = mapped_one pair_of (t, global) sessions_now.prepared (subst (IsAmong (t, global)) (sym in_doubt_now) there) in
-      k.under_way.state.sessions.agree.under_way t
+      k.under_way.under_way.state.sessions.agree.under_way t
       (subst (λ (n : ℕ). IsAmong n (in_doubt_of sessions_now)) (ap (λ (q : ℕ × List ℕ). q.0) p.2) (among_map (λ (x : PreparedTxn). x.txn) p.0 sessions_now.prepared p.1))
 
   -- ---- those that have not ended
 
-  pub under_way_not_over : (t : ℕ) → IsAmong t under_way_of → is_over t (list_in w) ≡ false
-  under_way_not_over t there = subst (λ (l : List LogRecord). is_over t l ≡ false) same_log (k.under_way.leaves.whole.unended t there)
+  pub under_way_not_over : (t : ℕ) → IsAmong t under_way_of → is_over t k.now.state.log ≡ false
+  under_way_not_over t there = k.under_way.under_way.leaves.whole.unended t there
 
-  pub losers_under_way : (t : ℕ) → IsLoser (list_in w) t → IsAmong t under_way_of
-  losers_under_way t loser = k.under_way.leaves.losers t (subst (λ (l : List LogRecord). IsLoser l t) (sym same_log) loser)
+  pub losers_under_way : (t : ℕ) → IsLoser k.now.state.log t → IsAmong t under_way_of
+  losers_under_way t loser = k.under_way.under_way.leaves.losers t loser
 
   -- one that a session is in
   unended_own : (t : ℕ) → IsAmong t under_way_of → IsFree sessions_now t
@@ -227,10 +302,10 @@ module _ {L V : Type 0} {G : Ghosts L} {H : Ghosts V} (w : World L V G H) (o : O
   unended_own t there free =
       let a = txn_of_one t sessions_now.active there in (
         a.0.session,
-        k.under_way.state.sessions.agree.seats a.0.session
-            ∙ k.under_way.state.sessions.seats.own a.0.session t
+        k.under_way.under_way.state.sessions.agree.seats a.0.session
+            ∙ k.under_way.under_way.state.sessions.seats.own a.0.session t
             (subst (λ (n : ℕ). IsAmong (a.0.session, n) (map seat_of sessions_now.active)) a.2 (among_map seat_of a.0 sessions_now.active a.1), free.0, free.1),
-        k.under_way.state.sessions.sound.undecided t there free,
+        k.under_way.under_way.state.sessions.sound.undecided t there free,
       )
 
   -- one in doubt
@@ -244,7 +319,7 @@ module _ {L V : Type 0} {G : Ghosts L} {H : Ghosts V} (w : World L V G H) (o : O
   unended_rolled t there resolved =
       let r = mapped_one (λ (x : ResolvedTxn). x.txn) t sessions_now.resolving resolved in
       let active = subst (λ (n : ℕ). IsAmong n under_way_of) (sym r.2) there in
-      let now = k.under_way.state.sessions in
+      let now = k.under_way.under_way.state.sessions in
       subst (λ (n : ℕ). IsAmong (RollBack n) (decisions es) × (IsAmong (Commit n) (decisions es) → ⊥)) r.2 (
         subst (IsAmong (RollBack r.0.txn)) (sym now.decides.all) (rolled_back_decided o k.found es k.now.state now r.0 r.1 active),
         rolled_uncommitted o k.found es k.now.state now r.0 r.1 active,
@@ -272,15 +347,15 @@ module _ {L V : Type 0} {G : Ghosts L} {H : Ghosts V} (w : World L V G H) (o : O
   IsSeated session t = IsIn (map seat_of sessions_now.active) (in_doubt_of sessions_now) (resolved_of sessions_now) session t
 
   each_seated : (session t : ℕ) → session_state session free es ≡ in_txn t → 0 < t → IsSeated session t
-  each_seated session t is some = by (k.under_way.state.sessions.seats.there session)
+  each_seated session t is some = by (k.under_way.under_way.state.sessions.seats.there session)
     where
       seat : in_txn t ≡ sessions_now.seats session
-      seat = sym is ∙ k.under_way.state.sessions.agree.seats session
+      seat = sym is ∙ k.under_way.under_way.state.sessions.agree.seats session
 
       by : (sessions_now.seats session ≡ free) ⊎ (((u : ℕ) × IsSeated session u) ⊎ ((u : ℕ) × IsAmong u (in_doubt_of sessions_now) × (sessions_now.seats session ≡ in_prepared u)))
           → IsSeated session t
       by (inl none) = absurd (none_is t some (ap (λ (x : SessionState). x.txn) (sym (seat ∙ none))))
-      by (inr (inl (u, there))) = subst (IsSeated session) (same_txn t u (seat ∙ k.under_way.state.sessions.seats.own session u there)) there
+      by (inr (inl (u, there))) = subst (IsSeated session) (same_txn t u (seat ∙ k.under_way.under_way.state.sessions.seats.own session u there)) there
       by (inr (inr (u, doubt, prepared))) = absurd (true≢false (sym (ap (λ (x : SessionState). x.prepared) (seat ∙ prepared))))
 
   pub each_there : (session t : ℕ) → session_state session free es ≡ in_txn t → 0 < t → IsAmong t under_way_of
@@ -290,15 +365,53 @@ module _ {L V : Type 0} {G : Ghosts L} {H : Ghosts V} (w : World L V G H) (o : O
   pub each_undecided : (session t : ℕ) → session_state session free es ≡ in_txn t → 0 < t → AllByRecursion (λ d. decided_txn d ≢ t) (decisions es)
   each_undecided session t is some =
       let seated = each_seated session t is some in
-      k.under_way.state.sessions.sound.undecided t (txn_seated session t sessions_now.active seated.0) (seated.1, seated.2)
+      k.under_way.under_way.state.sessions.sound.undecided t (txn_seated session t sessions_now.active seated.0) (seated.1, seated.2)
 
   -- .. and what it was answered it might have been answered alone, on what is decided
   pub each_alone : (session t : ℕ) → session_state session free es ≡ in_txn t → 0 < t → RunsAloneAfter (history_from o es) (decisions es) t
   each_alone session t is some =
       let seated = each_seated session t is some in
       let a = mapped_one seat_of (session, t) sessions_now.active seated.0 in
-      let own = k.under_way.state.sessions.seats.own session t seated in
+      let own = k.under_way.under_way.state.sessions.seats.own session t seated in
       let of : a.0.session ≡ session = ap (λ (p : ℕ × ℕ). p.0) a.2 in
       let its : a.0.txn ≡ t = ap (λ (p : ℕ × ℕ). p.1) a.2 in
       subst (RunsAloneAfter (history_from o es) (decisions es)) its
-      (session_runs_alone o k.found es k.now.state k.under_way.state a.0 (a.1, ap sessions_now.seats of ∙ own ∙ ap in_txn (sym its), subst (λ (n : ℕ). 0 < n) (sym its) some))
+      (session_runs_alone o k.found es k.now.state k.under_way.under_way.state a.0 (a.1, ap sessions_now.seats of ∙ own ∙ ap in_txn (sym its), subst (λ (n : ℕ). 0 < n) (sym its) some))
+
+  -- ---- what its log gains
+
+  pub log_seen : length k.now.state.log ≡ last_in w
+  log_seen = log_long w k.now.state k.at.is_in.beside
+
+  -- a move of the anchor appends no record
+  moved_appends_none : (e : Event) (step : Step) (later : State) → IsOfCheckpoint e → step ≡ Done Moved → EventStep g k.now.state e step later → later.log ≡ k.now.state.log
+  moved_appends_none (event.Call session call) step later is moved h = absurd is
+  moved_appends_none (event.Resume session) step later is moved h = absurd is
+  moved_appends_none (event.Ask ticket) step later is moved h = absurd is
+  moved_appends_none event.ForceStage step later is moved h = absurd is
+  moved_appends_none event.ForceOpen step later is moved h = absurd is
+  moved_appends_none event.FlushStep step later is moved h = absurd is
+  moved_appends_none event.CheckpointStep step later is moved h =
+      let noted = subst (λ (x : Step). CheckpointsState k.now.state x later) moved h in ap (λ (x : State). x.log) noted.1.1
+
+  pub cut_low : (e : Event) (step : Step) (new : World L V G H) (later : State) → Steps w e step new → EventStep g k.now.state e step later → IsBesideOf new later → cut_in new ≤ length k.now.state.log
+  cut_low e step new later one h now = ⊎_elim
+      (λ same.
+      let before = (log_of w k.now.state k.at.is_in.beside).within in
+      let tail = ap (λ (a : Anchors). a.anchor.tail) same in
+      let first = w.log.anchored.0 in
+      let first_now = new.log.anchored.0 in
+      omega (arith, before, tail, first, first_now))
+      (λ moved.
+      let within = (log_of new later now).within in
+      let long = ap length (moved_appends_none e step later moved.0 moved.1 h) in
+      omega (arith, within, long))
+      one.anchors
+
+  -- what an event appends is what the log gains of what is kept then
+  pub gains : (e : Event) (step : Step) (new : World L V G H) (later : State) → Steps w e step new → EventStep g k.now.state e step later → IsBesideOf new later
+      → drop (length k.now.state.log) later.log ≡ gained w new
+  gains e step new later one h now =
+      let low = cut_low e step new later one h now in
+      let parts : length k.now.state.log ≡ cut_in new + (last_in w - cut_in new) = omega (arith, low, log_seen) in
+      ap (λ n. drop n later.log) parts ∙ sym (drop-drop (last_in w - cut_in new) (cut_in new) later.log) ∙ ap (drop (last_in w - cut_in new)) (log_of new later now).kept

@@ -1,31 +1,37 @@
 -- What a restart that is refused names.
-use Rattle.std.proofs.Common.{◌≡◌, ◌⊎◌, ◌<◌, ◌≤◌, ℕ, List, [], Option, Some, None, Result, Err, inl, inr, refl, sym, ap, subst, ◌∙◌, length, arith}
+use Rattle.std.proofs.Common.{◌≡◌, ◌≢◌, ◌⊎◌, ◌+◌, ◌<◌, ◌≤◌, ℕ, List, [], Option, Some, None, inl, inr, refl, sym, subst, ◌∙◌, length, arith}
 use Rattle.shore_types.specs.declared.faults.Device.TheVariants as device
 use Rattle.shore_types.specs.declared.faults.Fault.{Fault}
 use Rattle.shore_types.specs.declared.faults.Fault.TheVariants as fault
 use Rattle.shore_types.specs.declared.layout.Geometry.{Geometry}
+use Rattle.shore_gate.specs.Anchor.{offset_of}
 use Rattle.shore_gate.specs.Checks.{IsFromOutside}
+use Rattle.shore_gate.specs.declared.anchors.Anchor.{Anchor}
+use Rattle.shore_gate.specs.declared.anchors.Anchors.{Anchors}
 use Rattle.shore_disk.specs.Device.{DeviceHistory, seen}
 use Rattle.shore_disk.specs.declared.device.Disk.{Ghosts}
 use Rattle.shore_dwrite.specs.Settled as settled_device
 use Rattle.shore_dwrite.specs.Shown.{Shows}
 use Rattle.shore_dwrite.specs.declared.device.PageDev.{PageDev}
-use Rattle.shore_dwrite.specs.Volumes.{page_number}
+use Rattle.shore_dwrite.specs.Volumes.{HasNoPage, page_number}
 use Rattle.shore_pool.specs.Pages.{IsPage}
 use Rattle.shore_pool.specs.declared.frame.Frame.{Frame}
 use Rattle.shore_heap.specs.declared.heap.Heap.{Heap}
 use Rattle.shore_heap.specs.Heaps as heaps
 use Rattle.shore_frames.specs.Offsets.{IsFrameOf}
-use Rattle.shore_log.specs.Settled.{IsSettled, records_of_log, stable}
-use Rattle.shore_log.specs.declared.device.LogDev.{LogDev}
 use Rattle.shore_model.specs.declared.log_records.LogRecord.{LogRecord}
+use Rattle.laws_lives.specs.Pages.{LoggedPages}
+use Rattle.shore_analysis.specs.Padded.{padded}
+use Rattle.shore_analysis.proofs.Padding.{length_padded}
 use Rattle.shore_restart.specs.declared.errors.RestartError.{RestartError}
 use Rattle.shore_restart.specs.declared.errors.RestartError.TheVariants as error
+use Rattle.shore_restart.specs.Anchors.{HasCheckpoint}
+use Rattle.shore_restart.specs.AnyPages.{IsBadOn, MayRead}
 use Rattle.shore_restart.specs.Held.{IsHeld, IsPageFault}
-use Rattle.shore_restart.specs.Quiet.{StaysQuiet}
-use Rattle.shore_restart.specs.Doubts.{IsTaken}
-use Rattle.shore_restart.specs.Turns.{LacksRoom}
-use Rattle.shore_world.specs.Refusals.{IsNamedFor, NamesAnchor, NamesPage, NamesRecord}
+use Rattle.shore_restart.specs.Doubts.{IsRefusedBy, IsTaken}
+use Rattle.shore_restart.specs.Turns.{IsBadRecord, IsMisfit, LacksRoom}
+use Rattle.shore_restart.proofs.DoubtLaws.{taken_or_refused}
+use Rattle.shore_world.specs.Refusals.{IsNamedFor, NamesAnchor, NamesPage, NamesRecord, ShowsLogged, cut_behind}
 
 -- a heap with no page in a frame, over a volume that is settled
 pub held_empty : {V : Type 0} {H : Ghosts V} (front : List ℕ) (disk : ℕ → List ℕ) (heap : Heap V H) (dev : PageDev V H) (last : ℕ) → heaps.device_of heap ≡ dev → ((k : ℕ) → heaps.frame_at heap k ≡ None)
@@ -47,34 +53,98 @@ held_empty front disk heap dev last same none settled = record {
     no_frame : (k : ℕ) (f : Frame) → heaps.frame_at heap k ≡ Some f → ⊥
     no_frame k f there = let clash : None ≡ Some f = sym (none k) ∙ there in cc
 
--- behind a refusal by a record the log device is settled, with all that was found
-pub settled_left : {L : Type 0} {G : Ghosts L} (log_front : List ℕ) (old new : LogDev L G) (e : RestartError) (n : ℕ) → e ≡ error.BadRecord n → StaysQuiet {A = Unit {0}} (Err e) log_front old new
-    → stable old ≡ records_of_log old → IsSettled new log_front × (n ≤ length (records_of_log old) → n ≤ length (stable new))
-settled_left log_front old new e n is quiet all = elim quiet.quiet [
-  | inl device ↦ absurd (no_record n (ap Err (sym is) ∙ device))
-  | inr now ↦ (now.0.0, λ most. let more = now.1 in let same = ap length all in omega (arith, most, more, same))
-]
+-- ---- as the log is judged first
+
+abbrev pub IsJudged : Geometry → ℕ → ℕ → List LogRecord → RestartError → Type 0
+IsJudged g cut checkpoint kept e = ((e ≡ error.BadAnchor) × (HasCheckpoint cut checkpoint kept → ⊥))
+    ⊎ (HasCheckpoint cut checkpoint kept × (e ≢ error.BadAnchor) × (IsTaken g cut checkpoint kept ⊎ ((n : ℕ) × (e ≡ error.BadRecord n) × IsRefusedBy g cut checkpoint kept n)))
+
+module _ (g : Geometry) (cut checkpoint : ℕ) (kept : List LogRecord) (e : RestartError) where
+  -- the anchor is named only if its checkpoint is not there
+  pub anchor_lost : IsJudged g cut checkpoint kept e → e ≡ error.BadAnchor → HasCheckpoint cut checkpoint kept → ⊥
+  anchor_lost (inl (is, lost)) same has = lost has
+  anchor_lost (inr (its, isnt, rest)) same has = isnt same
+
+  -- another error that is of no record comes behind that
+  judged_taken : IsJudged g cut checkpoint kept e → e ≢ error.BadAnchor → ((n : ℕ) → e ≢ error.BadRecord n) → HasCheckpoint cut checkpoint kept × IsTaken g cut checkpoint kept
+  judged_taken (inl (is, lost)) isnt none = absurd (isnt is)
+  judged_taken (inr (its, isnt, inl taken)) other none = (its, taken)
+  judged_taken (inr (its, isnt, inr (n, is, refused))) other none = absurd (none n is)
+
+-- a record is named for what it says of itself, or over the pages as they are, and as any log would have it
+pub named_for : (g : Geometry) (anchor : Anchor) (kept : List LogRecord) (volume : DeviceHistory) (texts : ℕ → List ℕ) (n : ℕ) → Shows g (seen volume) texts
+    → IsBadOn g texts (cut_behind anchor) anchor.checkpoint kept n
+    → ((rs : List LogRecord) (pages : LoggedPages) → ShowsLogged g anchor kept rs pages (seen volume) → IsBadRecord g (cut_behind anchor) anchor.checkpoint kept rs n) → IsNamedFor g anchor kept volume n
+named_for g anchor kept volume texts n shows (inl refused) bad = inl refused
+named_for g anchor kept volume texts n shows (inr (taken, misfit)) bad = inr (taken, (texts, shows, misfit), λ rs pages logged. misfits rs (bad rs pages logged))
   where
-    no_record : (n : ℕ) → ◌≡◌ {A = Result (Unit {0}) RestartError} (Err (error.BadRecord n)) (Err (error.Log fault.Device)) → ⊥
-    no_record n is = cc
+    misfits : (rs : List LogRecord) → IsBadRecord g (cut_behind anchor) anchor.checkpoint kept rs n → IsMisfit rs n
+    misfits rs (inl refused) = absurd (taken_or_refused g (cut_behind anchor) anchor.checkpoint kept n taken refused)
+    misfits rs (inr (also, its)) = its
+
+-- ---- what the error of a restart tells
+
+-- Of what is kept behind so many, over pages of these texts; and of each whole log of which this holds.
+pub record IsTold (g : Geometry) (cut checkpoint : ℕ) (kept : List LogRecord) (stream_bytes : ℕ) (texts : ℕ → List ℕ) (Holds : List LogRecord → Type 0) (e : RestartError) : Type 0 where
+  pub judged : e ≢ error.Memory → IsJudged g cut checkpoint kept e
+  pub lacks : e ≡ error.NoRoom → LacksRoom cut kept stream_bytes
+  pub within : (n : ℕ) → e ≡ error.BadRecord n → (cut < n) × (n ≤ length (padded cut kept))
+  pub page : (h : Fault) → e ≡ error.Page h → IsPageFault g (MayRead cut checkpoint kept) texts (length (padded cut kept)) h
+  pub bad : (n : ℕ) → e ≡ error.BadRecord n → IsBadOn g texts cut checkpoint kept n
+  pub every : (rs : List LogRecord) → Holds rs → (n : ℕ) → e ≡ error.BadRecord n → IsBadRecord g cut checkpoint kept rs n
 
 -- by the error, and by the fault that it is told as
-pub names_of : (g : Geometry) (rs : List LogRecord) (stream_bytes anchor : ℕ) (volume left : DeviceHistory) (pages : ℕ → List ℕ) → Shows g (seen volume) pages → (e : RestartError) (f : Fault) → (IsFromOutside f → ⊥)
-    → (e ≡ error.NoRoom → LacksRoom rs stream_bytes) → ((n : ℕ) → e ≡ error.BadRecord n → (0 < n) × (n ≤ length rs)) → ((h : Fault) → e ≡ error.Page h → IsPageFault g pages (length rs) h)
-    → ((h : Fault) → e ≡ error.Log h → h ≡ fault.Device) → ((n : ℕ) → e ≡ error.BadRecord n → IsNamedFor g rs volume n)
-    → ((e ≡ error.NoRoom) ⊎ ((h : Fault) × (e ≡ error.Page h)) → IsTaken g rs)
-    → (e ≡ error.Memory → f ≡ fault.Memory) → (e ≡ error.NoRoom → f ≡ fault.Damaged device.Log anchor)
-    → ((n : ℕ) → e ≡ error.BadRecord n → (offset : ℕ) × (f ≡ fault.Damaged device.Log offset) × (0 < n → n ≤ length rs → IsFrameOf 1 0 (seen left) n offset))
-    → ((h : Fault) → e ≡ error.Page h → f ≡ h) → ((h : Fault) → e ≡ error.Log h → f ≡ h)
-    → NamesRecord g rs volume left f ⊎ NamesAnchor g rs stream_bytes anchor f ⊎ NamesPage g rs volume f
-names_of g rs stream_bytes anchor volume left pages shows error.Memory f isnt lacks within page force named meant memory room record_of on_page on_log = absurd (isnt (inr (memory refl)))
-names_of g rs stream_bytes anchor volume left pages shows error.NoRoom f isnt lacks within page force named meant memory room record_of on_page on_log = inr (inl (room refl, meant (inl refl), lacks refl))
-names_of g rs stream_bytes anchor volume left pages shows (error.BadRecord n) f isnt lacks within page force named meant memory room record_of on_page on_log =
-    let r = record_of n refl in
-    let w = within n refl in
-    inl (n, r.0, w.0, w.1, r.1, r.2 w.0 w.1, named n refl)
-names_of g rs stream_bytes anchor volume left pages shows (error.Page h) f isnt lacks within page force named meant memory room record_of on_page on_log = elim (page h refl) [
-  | inl device ↦ absurd (isnt (inl (on_page h refl ∙ device)))
-  | inr (id, there, is, none) ↦ inr (inr (meant (inr (h, refl)), pages, shows, (id, there, on_page h refl ∙ is, none)))
-]
-names_of g rs stream_bytes anchor volume left pages shows (error.Log h) f isnt lacks within page force named meant memory room record_of on_page on_log = absurd (isnt (inl (on_log h refl ∙ force h refl)))
+module _ (g : Geometry) (counting : Anchors) (kept : List LogRecord) (stream_bytes : ℕ) (volume left : DeviceHistory) (pages : ℕ → List ℕ) (shows : Shows g (seen volume) pages) (some : 1 ≤ counting.anchor.tail) where
+  abbrev pub HasLogged : List LogRecord → Type 0
+  HasLogged rs = (its : LoggedPages) × ShowsLogged g counting.anchor kept rs its (seen volume)
+
+  abbrev cut : ℕ
+  cut = cut_behind counting.anchor
+
+  abbrev IsToldHere : RestartError → Type 0
+  IsToldHere e = IsTold g cut counting.anchor.checkpoint kept stream_bytes pages HasLogged e
+
+  abbrev Names : Fault → Type 0
+  Names f = NamesRecord g counting.anchor kept volume left f ⊎ NamesAnchor g counting kept stream_bytes f ⊎ NamesPage g counting.anchor kept volume f
+
+  taken_of : (e : RestartError) → IsToldHere e → e ≢ error.Memory → e ≢ error.BadAnchor → ((n : ℕ) → e ≢ error.BadRecord n) → HasCheckpoint cut counting.anchor.checkpoint kept × IsTaken g cut counting.anchor.checkpoint kept
+  taken_of e told isnt other none = judged_taken g cut counting.anchor.checkpoint kept e (told.judged isnt) other none
+
+  names : (e : RestartError) (f : Fault) → (IsFromOutside f → ⊥) → IsToldHere e → ((h : Fault) → e ≡ error.Log h → h ≡ fault.Device)
+      → (e ≡ error.Memory → f ≡ fault.Memory) → ((e ≡ error.NoRoom) ⊎ (e ≡ error.BadAnchor) → f ≡ fault.Damaged device.Log (offset_of counting.slot))
+      → ((n : ℕ) → e ≡ error.BadRecord n → (offset : ℕ) × (f ≡ fault.Damaged device.Log offset)
+      × (counting.anchor.tail ≤ n → n ≤ cut + length kept → IsFrameOf counting.anchor.tail counting.anchor.tail_place (seen left) n offset))
+      → ((h : Fault) → e ≡ error.Page h → f ≡ h) → ((h : Fault) → e ≡ error.Log h → f ≡ h) → Names f
+  names error.Memory f isnt told force memory anchor record_of on_page on_log = absurd (isnt (inr (memory refl)))
+  names error.NoRoom f isnt told force memory anchor record_of on_page on_log =
+      let t = taken_of error.NoRoom told (λ is. cc) (λ is. cc) (λ n is. cc) in
+      inr (inl (anchor (inl refl), inr (t.0, t.1, told.lacks refl)))
+  names error.BadAnchor f isnt told force memory anchor record_of on_page on_log =
+      inr (inl (anchor (inr refl), inl (anchor_lost g cut counting.anchor.checkpoint kept error.BadAnchor (told.judged (λ is. cc)) refl)))
+  names (error.BadRecord n) f isnt told force memory anchor record_of on_page on_log =
+      let r = record_of n refl in
+      let w = told.within n refl in
+      let least : counting.anchor.tail ≤ n = omega (arith, w.0, some) in
+      let most : n ≤ cut + length kept = omega (arith, w.1, length_padded cut kept) in
+      inl (n, r.0, least, most, r.1, r.2 least most, named_for g counting.anchor kept volume pages n shows (told.bad n refl) (λ rs its logged. told.every rs (its, logged) n refl))
+  names (error.Page h) f isnt told force memory anchor record_of on_page on_log = elim (told.page h refl) [
+    | inl device ↦ absurd (isnt (inl (on_page h refl ∙ device)))
+    | inr (id, there, read, is, none) ↦ inr (inr (
+      (taken_of (error.Page h) told (λ is. cc) (λ is. cc) (λ n is. cc)).1,
+      pages,
+      shows,
+      (id, there, read, on_page h refl ∙ is, subst (λ n. HasNoPage (pages (page_number g id)) id n) (length_padded cut kept) none),
+    ))
+  ]
+  names (error.Log h) f isnt told force memory anchor record_of on_page on_log = absurd (isnt (inl (on_log h refl ∙ force h refl)))
+
+  -- .. where the heap has this geometry and the log device has cut off so many
+  pub names_of : (h : Geometry) → h ≡ g → (n : ℕ) → n ≡ cut → (e : RestartError) → IsTold h n counting.anchor.checkpoint kept stream_bytes pages HasLogged e → (f : Fault) → (IsFromOutside f → ⊥)
+      → ((h : Fault) → e ≡ error.Log h → h ≡ fault.Device)
+      → (e ≡ error.Memory → f ≡ fault.Memory) → ((e ≡ error.NoRoom) ⊎ (e ≡ error.BadAnchor) → f ≡ fault.Damaged device.Log (offset_of counting.slot))
+      → ((n : ℕ) → e ≡ error.BadRecord n → (offset : ℕ) × (f ≡ fault.Damaged device.Log offset)
+      × (counting.anchor.tail ≤ n → n ≤ cut + length kept → IsFrameOf counting.anchor.tail counting.anchor.tail_place (seen left) n offset))
+      → ((h : Fault) → e ≡ error.Page h → f ≡ h) → ((h : Fault) → e ≡ error.Log h → f ≡ h) → Names f
+  names_of h geometry n cuts e told f isnt =
+      names e f isnt (subst (λ (x : Geometry). IsTold x cut counting.anchor.checkpoint kept stream_bytes pages HasLogged e) geometry
+      (subst (λ k. IsTold h k counting.anchor.checkpoint kept stream_bytes pages HasLogged e) cuts told))

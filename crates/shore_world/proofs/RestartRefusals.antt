@@ -1,91 +1,121 @@
--- Why a restart of a log that may be opened is refused by its devices and by want of memory alone.
-use Rattle.std.proofs.Common.{◌≡◌, inl, inr, ◌-◌, ◌≤◌, ◌++◌, ◌∷◌, [], ℕ, List, take, slice_get, Option, Some, None, refl, ◌∙◌, arith}
-use Rattle.std.specs.Prelude.{IsSomeAnd}
+-- Why a restart of what is kept of a log that may be opened is refused by its devices and by want of memory alone.
+use Rattle.std.proofs.Common.{◌≡◌, inl, inr, ◌-◌, ◌≤◌, ◌+◌, ◌++◌, ◌∷◌, [], ℕ, List, length, take, drop, map, refl, sym, ap, subst, ◌∙◌}
+use Rattle.std.proofs.lemmas.List.{drop-append-le, take-append-le}
 use Rattle.shore_types.specs.declared.faults.Fault.{Fault}
 use Rattle.shore_types.specs.declared.faults.Fault.TheVariants as fault
 use Rattle.shore_types.specs.declared.layout.Geometry.{Geometry}
-use Rattle.shore_types.specs.declared.layout.TheConstants.{MAX_LOG_BYTES}
+use Rattle.shore_gate.specs.Checks.{IsFromOutside}
+use Rattle.shore_gate.specs.declared.anchors.Anchor.{Anchor}
 use Rattle.shore_model.specs.declared.log_records.LogRecord.{LogRecord}
 use Rattle.shore_model.specs.Logs.{Lawful}
-use Rattle.laws_lives.specs.Doubts.{DoubtsStand, doubts_in}
+use Rattle.laws_lives.specs.Doubts.{LoggedDoubt}
+use Rattle.laws_lives.specs.Pages.{LoggedPages}
+use Rattle.laws_lives.specs.Sessions.{EachOnce}
 use Rattle.laws_lives.specs.Undo.{undo_record}
 use Rattle.laws_lives.proofs.DoubtsShown.{doubts_once}
 use Rattle.laws_lives.proofs.UndoRecords.{undone_lawful}
-use Rattle.shore_gate.specs.Checks.{IsFromOutside}
+use Rattle.laws_calls.specs.States.{cost_of_log}
+use Rattle.laws_checkpoints.specs.KeptLogs.{MayBeCut}
+use Rattle.laws_checkpoints.proofs.Kept.{cut_longer}
+use Rattle.laws_runs.specs.CheckpointedStates.{MayBeOpenedBehind}
+use Rattle.laws_runs.specs.CheckpointSteps.{log_limit}
 use Rattle.laws_runs.specs.RoomyLogs.{AreRoomy}
-use Rattle.laws_runs.proofs.Opens.{has_numbers, undo_fits}
+use Rattle.laws_runs.proofs.Opens.{undo_fits}
 use Rattle.laws_runs.proofs.Prefixes.{whole_roomy}
 use Rattle.laws_runs.proofs.Redoing.{each_fits}
-use Rattle.laws_runs.proofs.RoomyMeant.{all_kept_meant}
-use Rattle.laws_runs.proofs.Undecided.{some_owe_no_more}
+use Rattle.laws_runs.proofs.RoomyMeant.{all_kept_meant, anchored_meant}
 use Rattle.laws_runs.proofs.Undoing.{turns_are_roomy, undone_are_roomy}
+use Rattle.laws_images.specs.StandsBehind.{anchored_by, kept_behind}
 use Rattle.shore_analysis.proofs.InTurn.{in_order_undone}
-use Rattle.shore_analysis.proofs.KeptLawful.{none_unmeant}
+use Rattle.shore_analysis.specs.Doubts.{doubts_left}
+use Rattle.shore_analysis.specs.Padded.{padded}
 use Rattle.shore_restart.specs.declared.errors.RestartError.{RestartError}
 use Rattle.shore_restart.specs.declared.errors.RestartError.TheVariants as error
-use Rattle.shore_restart.specs.AnyPages.{IsBadOn, IsMisfitOn}
+use Rattle.shore_restart.specs.Anchors.{HasCheckpoint}
+use Rattle.shore_restart.specs.Doubts.{CanHold, IsTaken}
 use Rattle.shore_restart.specs.Room.{LeavesRoom}
 use Rattle.shore_restart.specs.Turns.{IsBadRecord, IsMisfit, IsUndoneSoFar, LacksRoom}
-use Rattle.shore_restart.specs.Doubts.{CannotHold, IsTaken, undos_told}
-use Rattle.shore_restart.proofs.DoubtLaws.{held_if_stand, none_cannot, reserved_same, taken_or_refused}
-use Rattle.shore_world.proofs.KeptDoubts.{doubts_of_log, doubts_told_once, none_unkept}
+use Rattle.shore_restart.proofs.DoubtLaws.{held_if_stand, taken_or_refused}
+use Rattle.shore_restart.proofs.DoubtsAll.{left_of_lawful}
+use Rattle.shore_restart.proofs.WholeLogs.{whole_loser, whole_record}
+use Rattle.shore_world.specs.Refusals.{cut_behind}
+use Rattle.shore_world.proofs.CutRooms.{HasWhole, ends_behind, has_whole, leaves_room}
+use Rattle.shore_world.proofs.KeptDoubts.{none_unkept}
+use Rattle.shore_world.proofs.LeftDoubts.{left_behind}
+use Rattle.shore_world.proofs.ShownPages.{begin_kept, cut_found, has_checkpoint}
 
--- if a restart may work on the log, a bad record is a misfit
-pub bad_misfit : (g : Geometry) (log : List LogRecord) (n : ℕ) → IsTaken g log → IsBadRecord g log n → IsMisfit log n
-bad_misfit g log n taken (inl refused) = absurd (taken_or_refused g log n taken refused)
-bad_misfit g log n taken (inr (also, misfit)) = misfit
+module _ (g : Geometry) (ring_bytes : ℕ) (anchor : Anchor) (rs : List LogRecord) (pages : LoggedPages) (may : MayBeOpenedBehind g ring_bytes (anchored_by anchor) rs pages) where
+  abbrev cut : ℕ
+  cut = cut_behind anchor
 
--- .. over the pages of these texts too
-pub bad_misfit_on : (g : Geometry) (texts : ℕ → List ℕ) (log : List LogRecord) (n : ℕ) → IsTaken g log → IsBadOn g texts log n → IsMisfitOn g texts log n
-bad_misfit_on g texts log n taken (inl refused) = absurd (taken_or_refused g log n taken refused)
-bad_misfit_on g texts log n taken (inr (also, misfit)) = misfit
+  abbrev kept : List LogRecord
+  kept = kept_behind anchor rs
 
-module _ (g : Geometry) (stream_bytes least : ℕ) (short : stream_bytes ≤ MAX_LOG_BYTES) where
-  -- beside what those in doubt have reserved
-  leaves_room : (log : List LogRecord) → AreRoomy g stream_bytes least log → Lawful log → LeavesRoom log stream_bytes
-  leaves_room log k lawful =
-      let whole = whole_roomy g stream_bytes least log k in
-      let owed = some_owe_no_more log whole.placed.undos whole.placed.undecided (undos_told log) (doubts_told_once log (doubts_once log lawful)) (doubts_of_log log) in
-      let reserved = reserved_same log (doubts_in log) in
-      let fits = whole.room.fits in
-      record { frame = omega (arith, fits, reserved, owed); numbers = has_numbers g stream_bytes log whole; short = short }
+  abbrev limit : ℕ
+  limit = log_limit ring_bytes cut rs
 
-  -- the log with some of the records of undo behind it
-  undone_so_far : (log so_far : List LogRecord) → AreRoomy g stream_bytes least log → IsUndoneSoFar log so_far → AreRoomy g stream_bytes least so_far
-  undone_so_far log so_far k undone = turns_are_roomy g stream_bytes least log undone.0 so_far k (in_order_undone log undone.0 so_far undone.1)
+  cuts : MayBeCut rs pages cut
+  cuts = cut_found g ring_bytes anchor rs pages may
 
-  lawful_so_far : (log so_far : List LogRecord) → Lawful log → IsUndoneSoFar log so_far → Lawful so_far
-  lawful_so_far log so_far lawful undone = undone_lawful log undone.0 so_far (in_order_undone log undone.0 so_far undone.1) lawful
+  -- a restart may work on what is kept
+  pub is_taken : IsTaken g cut anchor.checkpoint kept
+  is_taken = (
+    anchored_meant g limit (length rs) rs may.opened.roomy may.opened.lawful pages cut cuts anchor.checkpoint (begin_kept g ring_bytes anchor rs pages may),
+    subst (CanHold g.max_locks) (sym (left_behind rs may.opened.lawful pages cut cuts))
+        (held_if_stand g rs g.max_locks (all_kept_meant g limit (length rs) rs may.opened.roomy may.opened.lawful) (may.opened.doubts, (whole_roomy g limit (length rs) rs may.opened.roomy).locks)),
+  )
 
-  -- log and undo have room
-  pub lacks_no_room : (log : List LogRecord) → AreRoomy g stream_bytes least log → Lawful log → LacksRoom log stream_bytes → ⊥
-  lacks_no_room log k lawful (inl none) = none (leaves_room log k lawful)
-  lacks_no_room log k lawful (inr (so_far, undone, (t, loser, none))) =
-      none (leaves_room (so_far ++ undo_record so_far t ∷ []) (undone_are_roomy g stream_bytes least so_far t (undone_so_far log so_far k undone) loser)
-      (undone_lawful so_far (t ∷ []) (so_far ++ undo_record so_far t ∷ []) (loser, refl) (lawful_so_far log so_far lawful undone)))
+  -- ---- the log with some of the records of undo behind it
 
-  -- those in doubt can hold what is theirs
-  pub none_without_place : (log : List LogRecord) (n : ℕ) → AreRoomy g stream_bytes least log → Lawful log → DoubtsStand log → CannotHold g.max_locks log n → ⊥
-  none_without_place log n k lawful stand cannot =
-      none_cannot log g.max_locks n (held_if_stand g log g.max_locks (all_kept_meant g stream_bytes least log k lawful) (stand, (whole_roomy g stream_bytes least log k).locks)) cannot
+  roomy_so_far : (so_far : List LogRecord) → IsUndoneSoFar rs so_far → AreRoomy g limit (length rs) so_far
+  roomy_so_far so_far undone = turns_are_roomy g limit (length rs) rs undone.0 so_far may.opened.roomy (in_order_undone rs undone.0 so_far undone.1)
+
+  lawful_so_far : (so_far : List LogRecord) → IsUndoneSoFar rs so_far → Lawful so_far
+  lawful_so_far so_far undone = undone_lawful rs undone.0 so_far (in_order_undone rs undone.0 so_far undone.1) may.opened.lawful
+
+  once_so_far : (so_far : List LogRecord) → Lawful so_far → EachOnce (map (λ (d : LoggedDoubt). d.txn) (doubts_left so_far))
+  once_so_far so_far lawful = subst (λ (ds : List LoggedDoubt). EachOnce (map (λ (d : LoggedDoubt). d.txn) ds)) (sym (left_of_lawful so_far lawful)) (doubts_once so_far lawful)
 
   -- each record means what it has to, and fits its page, as does what its undo brings back, and what the rollback of one in doubt may
-  pub none_is_bad : (log : List LogRecord) (n : ℕ) → AreRoomy g stream_bytes least log → Lawful log → DoubtsStand log → IsBadRecord g log n → ⊥
-  none_is_bad log n k lawful stand (inl (inl unmeant)) = none_unmeant g 0 log n (all_kept_meant g stream_bytes least log k lawful) unmeant
-  none_is_bad log n k lawful stand (inl (inr (all, cannot))) = none_without_place log n k lawful stand cannot
-  none_is_bad log n k lawful stand (inr (taken, inl (some, (r, at, misfit)))) = misfit (each_fits g stream_bytes least log k (n - 1) r at)
-  none_is_bad log n k lawful stand (inr (taken, inr (so_far, undone, fit, inl (t, loser, next, is, misfit)))) =
-      misfit (undo_fits g stream_bytes so_far t (whole_roomy g stream_bytes least so_far (undone_so_far log so_far k undone)) loser)
-  none_is_bad log n k lawful stand (inr (taken, inr (so_far, undone, fit, inr (ended, unkept)))) =
-      none_unkept g stream_bytes so_far (whole_roomy g stream_bytes least so_far (undone_so_far log so_far k undone)) (doubts_once so_far (lawful_so_far log so_far lawful undone)) n unkept
+  none_misfits : (n : ℕ) → IsMisfit rs n → ⊥
+  none_misfits n (inl (some, (r, at, misfit))) = misfit (each_fits g limit (length rs) rs may.opened.roomy (n - 1) r at)
+  none_misfits n (inr (so_far, undone, fit, inl (t, loser, next, is, misfit))) = misfit (undo_fits g limit so_far t (whole_roomy g limit (length rs) so_far (roomy_so_far so_far undone)) loser)
+  none_misfits n (inr (so_far, undone, fit, inr (ended, unkept))) =
+      none_unkept g limit so_far (whole_roomy g limit (length rs) so_far (roomy_so_far so_far undone)) (once_so_far so_far (lawful_so_far so_far undone)) n unkept
+
+  none_is_bad : (n : ℕ) → IsBadRecord g cut anchor.checkpoint kept rs n → ⊥
+  none_is_bad n (inl refused) = taken_or_refused g cut anchor.checkpoint kept n is_taken refused
+  none_is_bad n (inr (taken, misfit)) = none_misfits n misfit
+
+  -- log and undo have room
+  room_behind : (last : List LogRecord) → AreRoomy g limit (length rs) last → Lawful last → MayBeCut last pages cut → log_limit ring_bytes cut last ≡ limit → LeavesRoom cut (drop cut last) ring_bytes
+  room_behind last k lawful its same = leaves_room last lawful pages cut its g ring_bytes (length rs) (subst (λ n. AreRoomy g n (length rs) last) (sym same) k) may.short
+
+  lacks_no_room : LacksRoom cut kept ring_bytes → ⊥
+  lacks_no_room (inl none) = none (room_behind rs may.opened.roomy may.opened.lawful cuts refl)
+  lacks_no_room (inr (so_far, (turns, undone), (t, loser, none))) =
+      let w : HasWhole pages cut rs turns so_far = has_whole pages cut turns rs may.opened.lawful cuts so_far undone in
+      let lawful = undone_lawful rs turns w.last w.undone may.opened.lawful in
+      let k = turns_are_roomy g limit (length rs) rs turns w.last may.opened.roomy w.undone in
+      let ends = ends_behind w.last lawful pages cut w.may in
+      let whole = whole_loser cut so_far w.last ends w.kept t loser in
+      let r = undo_record w.last t in
+      let more = w.last ++ r ∷ [] in
+      let its : MayBeCut more pages cut = cut_longer w.last pages cut w.may (r ∷ []) in
+      let front : take cut more ≡ take cut rs = take-append-le cut w.last (r ∷ []) w.may.within ∙ w.front in
+      let same : drop cut more ≡ so_far ++ undo_record (padded cut so_far) t ∷ [] =
+      drop-append-le cut w.last (r ∷ []) w.may.within ∙ ap (λ (l : List LogRecord). l ++ r ∷ []) w.kept ∙ ap (λ (x : LogRecord). so_far ++ x ∷ []) (whole_record cut so_far w.last ends w.kept t loser) in
+      none (subst (λ (l : List LogRecord). LeavesRoom cut l ring_bytes) same
+      (room_behind more (undone_are_roomy g limit (length rs) w.last t k whole) (undone_lawful w.last (t ∷ []) more (whole, refl) lawful) its (ap (λ (l : List LogRecord). ring_bytes + cost_of_log l) front)))
 
   -- so what it is refused with comes from outside
-  pub refused_from_outside : (log : List LogRecord) → AreRoomy g stream_bytes least log → Lawful log → DoubtsStand log → (e : RestartError) (f : Fault)
-      → ((n : ℕ) → e ≡ error.BadRecord n → IsBadRecord g log n) → (e ≡ error.NoRoom → LacksRoom log stream_bytes)
+  pub refused_from_outside : 1 ≤ anchor.tail → (e : RestartError) (f : Fault) → (e ≡ error.BadAnchor → HasCheckpoint cut anchor.checkpoint kept → ⊥)
+      → ((n : ℕ) → e ≡ error.BadRecord n → IsBadRecord g cut anchor.checkpoint kept rs n) → (e ≡ error.NoRoom → LacksRoom cut kept ring_bytes)
       → ((h : Fault) → e ≡ error.Page h → h ≡ fault.Device) → ((h : Fault) → e ≡ error.Log h → h ≡ fault.Device)
       → (e ≡ error.Memory → f ≡ fault.Memory) → ((h : Fault) → e ≡ error.Page h → f ≡ h) → ((h : Fault) → e ≡ error.Log h → f ≡ h) → IsFromOutside f
-  refused_from_outside log k lawful stand error.Memory f bad room page force memory on_page on_log = inr (memory refl)
-  refused_from_outside log k lawful stand error.NoRoom f bad room page force memory on_page on_log = absurd (lacks_no_room log k lawful (room refl))
-  refused_from_outside log k lawful stand (error.BadRecord n) f bad room page force memory on_page on_log = absurd (none_is_bad log n k lawful stand (bad n refl))
-  refused_from_outside log k lawful stand (error.Page h) f bad room page force memory on_page on_log = inl (on_page h refl ∙ page h refl)
-  refused_from_outside log k lawful stand (error.Log h) f bad room page force memory on_page on_log = inl (on_log h refl ∙ force h refl)
+  refused_from_outside some error.Memory f lost bad room page force memory on_page on_log = inr (memory refl)
+  refused_from_outside some error.NoRoom f lost bad room page force memory on_page on_log = absurd (lacks_no_room (room refl))
+  refused_from_outside some error.BadAnchor f lost bad room page force memory on_page on_log = absurd (lost refl (has_checkpoint g ring_bytes anchor rs pages may some))
+  refused_from_outside some (error.BadRecord n) f lost bad room page force memory on_page on_log = absurd (none_is_bad n (bad n refl))
+  refused_from_outside some (error.Page h) f lost bad room page force memory on_page on_log = inl (on_page h refl ∙ page h refl)
+  refused_from_outside some (error.Log h) f lost bad room page force memory on_page on_log = inl (on_log h refl ∙ force h refl)

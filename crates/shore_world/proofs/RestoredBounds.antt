@@ -16,6 +16,7 @@ use Rattle.shore_model.specs.declared.log_records.Payload.TheVariants.{Prepare}
 use Rattle.shore_model.specs.declared.requests.Request.{Request}
 use Rattle.shore_model.specs.Locks.{ancestors}
 use Rattle.shore_model.specs.Logs.{is_in_doubt}
+use Rattle.shore_model.specs.Requests.{held_by_all}
 use Rattle.shore_locks.specs.Orderly.{IsOfUse}
 use Rattle.shore_locks.specs.Tables.{Table}
 use Rattle.shore_locks.proofs.Members.{Contains-In, In, In-All}
@@ -29,7 +30,8 @@ use Rattle.laws_lives.specs.Views.{IsAmong}
 use Rattle.laws_calls.proofs.Rows.{page_has_store}
 use Rattle.laws_calls.specs.States.{State}
 use Rattle.laws_runs.specs.RoomyStates.{HasLocksInBounds}
-use Rattle.shore_restart.specs.Doubts.{IsLockOf}
+use Rattle.shore_analysis.specs.Doubts.{doubts_left}
+use Rattle.shore_restart.specs.Doubts.{AreLocksOf, IsLockOf}
 use Rattle.shore_restart.specs.GivenBack.{HasLocksBack}
 use Rattle.shore_restart.proofs.LockRefusals.{node_for, node_of_lock, once}
 use Rattle.shore_restart.proofs.Locks.{HeldAs, as_modes, hold_as}
@@ -84,9 +86,9 @@ module _ (g : Geometry) (log : List LogRecord) (inside : All (IsInBounds g) log)
 
   -- ---- the table
 
-  module _ (table : Table) (back : HasLocksBack g.max_locks log table) where
+  module _ (seen : List LogRecord) (same : doubts_left seen ≡ doubts_in log) (table : Table) (back : HasLocksBack g.max_locks seen table) where
     held : HeldAs (doubts_in log) table.requests
-    held = as_modes (doubts_in log) table.requests back.orderly.one_each (record { each = back.restored.each; all = back.restored.all; above = back.restored.above })
+    held = as_modes (doubts_in log) table.requests back.orderly.one_each (subst (λ (ds : List LoggedDoubt). AreLocksOf ds (held_by_all table.requests)) same back.restored)
 
     holds_some : (h w : Option Mode) → IsTrue (is_some h || is_some w) → is_some w ≡ false → (m : Mode) × (h ≡ Some m)
     holds_some (Some m) w of_use none = (m, refl)
@@ -115,15 +117,15 @@ module _ (g : Geometry) (log : List LogRecord) (inside : All (IsInBounds g) log)
     ]
 
     pub locks_in_bounds : (s : State) → s.locks ≡ table → (NeedMore g.max_locks (doubts_in log) → ⊥) → HasLocksInBounds g s
-    locks_in_bounds s same few =
+    locks_in_bounds s its few =
         let limit = back.limit_is in
         let most = within few in
-        let as_many = ap (λ (t : Table). length t.requests) same in
-        let as_limited = ap (λ (t : Table). t.limit) same in
+        let as_many = ap (λ (t : Table). length t.requests) its in
+        let as_limited = ap (λ (t : Table). t.limit) its in
         record {
           limit = omega (arith, as_limited, limit);
           within = omega (arith, as_many, as_limited, limit, most);
-          inside = subst (λ (t : Table). All (λ r. HasGranule g r.granule) t.requests) (sym same)
+          inside = subst (λ (t : Table). All (λ r. HasGranule g r.granule) t.requests) (sym its)
               (All-from_recursion (λ (r : Request). HasGranule g r.granule) table.requests
               (each_in (λ (r : Request). HasGranule g r.granule) table.requests (λ r there. let lock = its_lock r there in lock_there r.txn r.granule lock.0 lock.1)));
         }

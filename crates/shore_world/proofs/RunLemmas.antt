@@ -13,9 +13,9 @@ use Rattle.shore_model.specs.declared.step.Step.{Step}
 use Rattle.shore_model.specs.declared.step.Step.TheVariants.{Done, Waits, Refused, Nothing}
 use Rattle.shore_types.specs.declared.faults.Fault.{Fault}
 use Rattle.shore_types.specs.declared.faults.Fault.TheVariants as fault
-use Rattle.laws_calls.specs.Events.{ManagerEvent}
 use Rattle.laws_calls.specs.States.{State}
 use Rattle.shore_heap.specs.Heaps as heaps
+use Rattle.shore_log.specs.declared.device.LogDev.{LogDev}
 use Rattle.shore_log.specs.declared.tail.Tail as tail
 use Rattle.shore_core.specs.declared.core_calls.Core.{Core}
 use Rattle.shore_core.specs.Cores.{faults_of, heap_of}
@@ -26,8 +26,8 @@ use Rattle.shore_fronts.specs.Causes.{HasCauseOfPair}
 use Rattle.shore_world.specs.declared.event.Event.{Event}
 use Rattle.shore_world.specs.declared.event.Event.TheVariants as event
 use Rattle.shore_world.specs.declared.world.World.{World}
-use Rattle.shore_world.specs.Events.{IsCall, IsOfForce, IsOfNoSession, IsOfPages, ReadBy, force_needed_at}
-use Rattle.shore_world.specs.EventMoves.{all_moves, moves_by}
+use Rattle.shore_world.specs.Events.{IsCall, IsOfCheckpoint, IsOfForce, IsOfNoSession, IsOfPages, ReadBy, force_needed_at}
+use Rattle.shore_world.specs.EventMoves.{PlainMove, all_moves, moves_by}
 use Rattle.shore_world.specs.Worlds.{EventStep, HasFlushed, IsLike, IsUnchanged, EventMovesWorld, Runs, Steps, durable_in, report_in}
 use Rattle.shore_world.proofs.VolumeLemmas.{both_still, comes_unworked}
 
@@ -37,15 +37,16 @@ module _ {L V : Type 0} {G : Ghosts L} {H : Ghosts V} where
   pub like_itself : (w : World L V G H) → IsLike w w
   like_itself w = record {
     geometry = refl;
-    state = λ log_front front disk s store at safe. comes_unworked w w refl refl log_front front disk s store at s at.is_in at.over at.log;
+    state = λ log_front front disk s store at safe. comes_unworked w w refl refl refl refl log_front front disk s store at s at.is_in at.over at.log;
     any_moment = both_still w w refl refl;
     list = refl;
     durable = refl;
     failed = refl;
     history = refl;
     staged = refl;
+    anchors = refl;
+    stage = refl;
     report = refl;
-    faults = refl;
     same = record { geometry = refl; honest = refl; size = refl };
     volume_faults = refl;
     kept = λ front k. k;
@@ -54,9 +55,9 @@ module _ {L V : Type 0} {G : Ghosts L} {H : Ghosts V} where
   pub no_event : (w : World L V G H) → Runs w [] [] [] w
   no_event w = like_itself w
 
-  pub one_more : (old : World L V G H) (es : List Event) (steps : List Step) (moves : List ManagerEvent) (mid : World L V G H) (e : Event) (step : Step) (new : World L V G H)
+  pub one_more : (old : World L V G H) (es : List Event) (steps : List Step) (moves : List PlainMove) (mid : World L V G H) (e : Event) (step : Step) (new : World L V G H)
       → Runs old es steps moves mid → Steps mid e step new → Runs old (es ++ e ∷ []) (steps ++ step ∷ []) (moves ++ moves_by e step) new
-  one_more old [] [] moves mid e step new runs one = (mid, new, moves, [], runs, one, like_itself new, ap (λ (l : List ManagerEvent). moves ++ l) (sym (append-nil (moves_by e step))))
+  one_more old [] [] moves mid e step new runs one = (mid, new, moves, [], runs, one, like_itself new, ap (λ (l : List PlainMove). moves ++ l) (sym (append-nil (moves_by e step))))
   one_more old (first ∷ es) (s ∷ steps) moves mid e step new (start, next, failures, later, between, made, rest, is) one = (
     start,
     next,
@@ -65,18 +66,18 @@ module _ {L V : Type 0} {G : Ghosts L} {H : Ghosts V} where
     between,
     made,
     one_more next es steps later mid e step new rest one,
-    ap (λ (l : List ManagerEvent). l ++ moves_by e step) is ∙ append_assoc failures (moves_by first s ++ later) (moves_by e step)
-        ∙ ap (λ (l : List ManagerEvent). failures ++ l) (append_assoc (moves_by first s) later (moves_by e step)),
+    ap (λ (l : List PlainMove). l ++ moves_by e step) is ∙ append_assoc failures (moves_by first s ++ later) (moves_by e step)
+        ∙ ap (λ (l : List PlainMove). failures ++ l) (append_assoc (moves_by first s) later (moves_by e step)),
   )
   one_more old [] (s ∷ steps) moves mid e step new runs one = absurd runs
   one_more old (first ∷ es) [] moves mid e step new runs one = absurd runs
 
   -- the moves of the events alone, one event further
-  pub all_further : (old : World L V G H) (es : List Event) (steps : List Step) (moves : List ManagerEvent) (mid : World L V G H) (e : Event) (step : Step)
+  pub all_further : (old : World L V G H) (es : List Event) (steps : List Step) (moves : List PlainMove) (mid : World L V G H) (e : Event) (step : Step)
       → Runs old es steps moves mid → all_moves (es ++ e ∷ []) (steps ++ step ∷ []) ≡ all_moves es steps ++ moves_by e step
   all_further old [] [] moves mid e step runs = append-nil (moves_by e step)
   all_further old (first ∷ es) (s ∷ steps) moves mid e step (start, next, failures, later, between, made, rest, is) =
-      ap (λ (l : List ManagerEvent). moves_by first s ++ l) (all_further next es steps later mid e step rest) ∙ sym (append_assoc (moves_by first s) (all_moves es steps) (moves_by e step))
+      ap (λ (l : List PlainMove). moves_by first s ++ l) (all_further next es steps later mid e step rest) ∙ sym (append_assoc (moves_by first s) (all_moves es steps) (moves_by e step))
   all_further old [] (s ∷ steps) moves mid e step runs = absurd runs
   all_further old (first ∷ es) [] moves mid e step runs = absurd runs
 
@@ -89,6 +90,7 @@ call_is_no_force (event.Ask ticket) is = absurd is
 call_is_no_force event.ForceStage is = absurd is
 call_is_no_force event.ForceOpen is = absurd is
 call_is_no_force event.FlushStep is = absurd is
+call_is_no_force event.CheckpointStep is = absurd is
 
 of_both : (e : Event) → IsOfPages e → IsOfForce e → ⊥
 of_both (event.Call session call) one other = other
@@ -97,6 +99,21 @@ of_both (event.Ask ticket) one other = other
 of_both event.ForceStage one other = one
 of_both event.ForceOpen one other = one
 of_both event.FlushStep one other = other
+of_both event.CheckpointStep one other = one
+
+pub pages_are_no_checkpoint : (e : Event) → IsOfPages e → IsOfCheckpoint e → ⊥
+pages_are_no_checkpoint (event.Call session call) one other = other
+pages_are_no_checkpoint (event.Resume session) one other = other
+pages_are_no_checkpoint (event.Ask ticket) one other = other
+pages_are_no_checkpoint event.ForceStage one other = other
+pages_are_no_checkpoint event.ForceOpen one other = other
+pages_are_no_checkpoint event.FlushStep one other = other
+pages_are_no_checkpoint event.CheckpointStep one other = one
+
+-- an event that calls the volume at most is no step of a force or of a checkpoint
+pub of_pages_alone : (e : Event) → IsOfPages e → IsOfForce e ⊎ IsOfCheckpoint e → ⊥
+of_pages_alone e pages (inl force) = of_both e pages force
+of_pages_alone e pages (inr checkpoint) = pages_are_no_checkpoint e pages checkpoint
 
 pub call_is_no_flush : (e : Event) → IsCall e → e ≡ event.FlushStep → ⊥
 call_is_no_flush e call is = subst IsCall is call
@@ -108,6 +125,7 @@ call_is_no_own_step (event.Ask ticket) is other = is
 call_is_no_own_step event.ForceStage is other = is
 call_is_no_own_step event.ForceOpen is other = is
 call_is_no_own_step event.FlushStep is other = is
+call_is_no_own_step event.CheckpointStep is other = is
 
 pub call_is_no_resume : (e : Event) (session : ℕ) → IsCall e → e ≡ event.Resume session → ⊥
 call_is_no_resume e session call is = subst IsCall is call
@@ -139,6 +157,18 @@ stage_is_no_open is = absurd cc
 
 pub resume_is_no_flush : (session : ℕ) → event.Resume session ≡ event.FlushStep → ⊥
 resume_is_no_flush session is = absurd cc
+
+pub checkpoint_is_no_stage : event.CheckpointStep ≡ event.ForceStage → ⊥
+checkpoint_is_no_stage is = absurd cc
+
+pub checkpoint_is_no_open : event.CheckpointStep ≡ event.ForceOpen → ⊥
+checkpoint_is_no_open is = absurd cc
+
+pub checkpoint_is_no_flush : event.CheckpointStep ≡ event.FlushStep → ⊥
+checkpoint_is_no_flush is = absurd cc
+
+pub checkpoint_is_no_ask : (ticket : ℕ) → event.CheckpointStep ≡ event.Ask ticket → ⊥
+checkpoint_is_no_ask ticket is = absurd cc
 
 pub stage_is_no_flush : event.ForceStage ≡ event.FlushStep → ⊥
 stage_is_no_flush is = absurd cc
@@ -175,16 +205,18 @@ log_cause step log log_now volume volume_now same cause = record {
 }
 
 -- one for which the log device stands still
-pub no_force : {L V : Type 0} {G : Ghosts L} {H : Ghosts V} (old new : World L V G H) (e : Event) (step : Step) → IsOfPages e → new.log.device ≡ old.log.device
+pub no_force : {L V : Type 0} {G : Ghosts L} {H : Ghosts V} (old new : World L V G H) (e : Event) (step : Step) → IsOfPages e → new.log ≡ old.log
     → report_in new ≡ report_in old → EventMovesWorld old e step new → SameVolume old.core new.core → (e ≡ event.FlushStep → HasFlushed old step new)
     → Earns old.core (ReadBy old.core e) (fault_at step) → NeedsForceIn old.core (force_needed_at e old.core new.core) (fault_at step)
     → HasCause (fault_at step) (faults_of old.core) (faults_of new.core) → (IsOfNoSession e → step ≡ Nothing → IsUnchanged old new)
     → ((session : ℕ) → e ≡ event.Resume session → NoneWaits old.core session → (step ≡ Nothing) × IsUnchanged old new)
     → ((ticket : ℕ) → e ≡ event.Ask ticket → (answer : Bool) × (step ≡ Done (IsDurable answer)) × ((answer ≡ true) ↔ (ticket ≤ durable_in old)) × IsUnchanged old new) → Steps old e step new
-no_force {G = G} old new e step other device report moves same flushed earned unforced cause quiet none asked = record {
+no_force {L = L} {G = G} old new e step other log report moves same flushed earned unforced cause quiet none asked = record {
   moves = moves;
-  still = λ is. device;
-  volume = λ is. absurd (of_both e other is);
+  still = λ is. ap (λ (l : LogDev L G). l.device) log;
+  volume = λ is. absurd (of_pages_alone e other is);
+  unmoved = λ is. inl log;
+  anchors = inl (ap (λ (l : LogDev L G). l.anchors) log);
   same = same;
   staged = λ n is done. absurd (subst IsOfPages is other);
   forced = λ n is done. absurd (subst IsOfPages is other);
@@ -195,10 +227,14 @@ no_force {G = G} old new e step other device report moves same flushed earned un
   asked = asked;
   full = λ is refused room. subst IsOfPages is other;
   flushed = flushed;
+  moved = λ is done. absurd (of_pages_alone e other (inr is));
+  full_begin = λ is refused. absurd (of_pages_alone e other (inr is));
+  roomy_begin = λ n is done. absurd (of_pages_alone e other (inr is));
+  no_memory = λ is. absurd (of_pages_alone e other (inr is));
   report = report;
   damaged = earned;
   unforced = unforced;
-  cause = volume_cause step (G.faults old.log.device) (G.faults new.log.device) (faults_of old.core) (faults_of new.core) (ap G.faults device) cause;
+  cause = volume_cause step (G.faults old.log.device) (G.faults new.log.device) (faults_of old.core) (faults_of new.core) (ap (λ (l : LogDev L G). G.faults l.device) log) cause;
 }
 
 -- an event that could not be copied is refused, and nothing has changed
@@ -209,6 +245,7 @@ not_copied g s (event.Ask ticket) is = absurd is
 not_copied g s event.ForceStage is = absurd is
 not_copied g s event.ForceOpen is = absurd is
 not_copied g s event.FlushStep is = absurd is
+not_copied g s event.CheckpointStep is = absurd is
 
 -- nothing is reported of a failed allocation
 pub memory_cause : (n : ℕ) → HasCause (fault_at (Refused Memory)) n n

@@ -16,7 +16,7 @@ use Rattle.laws_calls.proofs.OwnCycles.{resume_told_first}
 use Rattle.laws_calls.proofs.SettledRefusals.{settled_resume_deadlock}
 use Rattle.laws_calls.proofs.ToldLater.{told_among}
 use Rattle.laws_calls.specs.Events as calls
-use Rattle.laws_calls.specs.Events.{Called, EventMoves, EventsMove, HasFailed, IsStateAfter, ManagerEvent, Resumed}
+use Rattle.laws_calls.specs.Events.{Called, EventMoves, IsStateAfter, ManagerEvent, Resumed}
 use Rattle.laws_calls.specs.Midway.{IsItsCycle}
 use Rattle.laws_calls.specs.States.{State, Waiting}
 use Rattle.laws_calls.specs.StoodCycles.{IsWithin, StoodAmong}
@@ -24,7 +24,8 @@ use Rattle.shore_core.specs.Flushing.{FlushMoves}
 use Rattle.shore_world.specs.declared.event.Event.{Event}
 use Rattle.shore_world.specs.declared.event.Event.TheVariants as event
 use Rattle.shore_world.specs.declared.world.World.{World}
-use Rattle.shore_world.specs.EventMoves.{moves_by}
+use Rattle.shore_world.proofs.CheckpointLemmas.{waits_kept}
+use Rattle.shore_world.specs.EventMoves.{OfManager, PlainMove, moves_by}
 use Rattle.shore_world.specs.Events.{IsServedEvent}
 use Rattle.shore_world.specs.Exchanges.{tellings_in, tellings_of, told_by, waited_after, waited_behind}
 use Rattle.shore_world.specs.Promises.{HasStood, IsManagerOf, IsToldByItsFirst}
@@ -37,38 +38,38 @@ use Rattle.shore_world.proofs.RunLemmas.{no_event, one_more}
 
 module _ (g : Geometry) (o : Opening) (found : List LogRecord) (es : List Entry) (s new : State) (k : IsStateAfter o found es s) where
   -- the cycle stood in the midst of the event, as a move of the manager over plain data
-  record StoodIn (moves : List ManagerEvent) (session : ℕ) (cycle : List ℕ) : Type 0 where
+  record StoodIn (moves : List PlainMove) (session : ℕ) (cycle : List ℕ) : Type 0 where
     move : ManagerEvent
-    is_move : moves ≡ move ∷ []
+    is_move : moves ≡ OfManager move ∷ []
     mid : State
     within : IsWithin g s move new mid
     stood : IsItsCycle mid session cycle
 
   -- who is to be told a cycle was to be told it before, or it stood in the midst
-  abbrev ToldBefore : List ManagerEvent → Type 0
+  abbrev ToldBefore : List PlainMove → Type 0
   ToldBefore moves = (x : Waiting) → IsAmong x new.waiting → (cycle : List ℕ) → x.cycle ≡ Some cycle → IsAmong x s.waiting ⊎ StoodIn moves x.session cycle
 
-  by_move : (move : ManagerEvent) → EventMoves g s move new → ToldBefore (move ∷ [])
+  by_move : (move : ManagerEvent) → EventMoves g s move new → ToldBefore (OfManager move ∷ [])
   by_move move moves x there cycle is = ⊎_elim (λ before. inl before) (λ stood. inr (read stood)) (told_among g o found es s k (move ∷ []) new (new, moves, refl) x there cycle is)
     where
-      read : StoodAmong g s (move ∷ []) new x.session cycle → StoodIn (move ∷ []) x.session cycle
+      read : StoodAmong g s (move ∷ []) new x.session cycle → StoodIn (OfManager move ∷ []) x.session cycle
       read (later, made, same, (inl h)) =
           record { move = move; is_move = refl; mid = h.0; within = subst (λ (n : State). IsWithin g s move n h.0) (sym same) h.1; stood = h.2 }
       read (later, made, same, (inr none)) = absurd none
 
-  same_waits : (moves : List ManagerEvent) → new.waiting ≡ s.waiting → ToldBefore moves
+  same_waits : (moves : List PlainMove) → new.waiting ≡ s.waiting → ToldBefore moves
   same_waits moves same x there cycle is = inl (subst (IsAmong x) same there)
 
-  refused_waits : (moves : List ManagerEvent) (f : Fault) → ForceRefused s f new → ToldBefore moves
+  refused_waits : (moves : List PlainMove) (f : Fault) → ForceRefused s f new → ToldBefore moves
   refused_waits moves f (inl h) = same_waits moves (ap (λ (y : State). y.waiting) h.2)
   refused_waits moves f (inr (inl h)) = same_waits moves (ap (λ (y : State). y.waiting) h.2)
   refused_waits moves f (inr (inr h)) = same_waits moves (ap (λ (y : State). y.waiting) h.2)
 
-  open_refused_waits : (moves : List ManagerEvent) (f : Fault) → OpenRefused s f new → ToldBefore moves
+  open_refused_waits : (moves : List PlainMove) (f : Fault) → OpenRefused s f new → ToldBefore moves
   open_refused_waits moves f (inl h) = same_waits moves (ap (λ (y : State). y.waiting) h.2)
   open_refused_waits moves f (inr h) = same_waits moves (ap (λ (y : State). y.waiting) h.2)
 
-  flush_waits : (moves : List ManagerEvent) (step : Step) → FlushMoves s step new → ToldBefore moves
+  flush_waits : (moves : List PlainMove) (step : Step) → FlushMoves s step new → ToldBefore moves
   flush_waits moves (Done answer) h = same_waits moves (ap (λ (y : State). y.waiting) h.2)
   flush_waits moves (Waits wait) h = absurd h
   flush_waits moves (Refused f) (inl h) = same_waits moves (ap (λ (y : State). y.waiting) h.2)
@@ -79,14 +80,15 @@ module _ (g : Geometry) (o : Opening) (found : List LogRecord) (es : List Entry)
   event_told : (e : Event) (step : Step) → IsServedEvent e → EventStep g s e step new → ToldBefore (moves_by e step)
   event_told (event.Call session c) step served h = by_move (Called session c step) (served, h)
   event_told (event.Resume session) step served h = by_move (Resumed session step) h
-  event_told (event.Ask ticket) (Done (IsDurable answer)) served h = same_waits (calls.TicketAsked ticket answer ∷ []) (ap (λ (y : State). y.waiting) h.1)
+  event_told (event.Ask ticket) (Done (IsDurable answer)) served h = same_waits (OfManager (calls.TicketAsked ticket answer) ∷ []) (ap (λ (y : State). y.waiting) h.1)
   event_told event.ForceStage (Done (Staged n)) served h = same_waits [] (ap (λ (y : State). y.waiting) h.3)
   event_told event.ForceStage Nothing served h = same_waits [] (ap (λ (y : State). y.waiting) h.1)
   event_told event.ForceStage (Refused f) served h = refused_waits (moves_by event.ForceStage (Refused f)) f h
-  event_told event.ForceOpen (Done (Forced n)) served h = same_waits (calls.Forced n ∷ []) (ap (λ (y : State). y.waiting) h.3)
+  event_told event.ForceOpen (Done (Forced n)) served h = same_waits (OfManager (calls.Forced n) ∷ []) (ap (λ (y : State). y.waiting) h.3)
   event_told event.ForceOpen Nothing served h = same_waits [] (ap (λ (y : State). y.waiting) h.1)
   event_told event.ForceOpen (Refused f) served h = open_refused_waits (moves_by event.ForceOpen (Refused f)) f h
   event_told event.FlushStep step served h = flush_waits (moves_by event.FlushStep step) step h
+  event_told event.CheckpointStep step served h = same_waits (moves_by event.CheckpointStep step) (waits_kept s step new h)
   event_told (event.Ask ticket) step served h = absurd h
   event_told event.ForceStage step served h = absurd h
   event_told event.ForceOpen step served h = absurd h
@@ -94,16 +96,6 @@ module _ (g : Geometry) (o : Opening) (found : List LogRecord) (es : List Entry)
 -- ---- a run
 
 module _ {L V : Type 0} {G : Ghosts L} {H : Ghosts V} where
-  -- between two events no call begins to wait, and none is told
-  between_waits : (g : Geometry) (old new : World L V G H) (failures : List ManagerEvent) → Between old failures new → (s last : State) → EventsMove g s failures last → last.waiting ≡ s.waiting
-  between_waits g old new [] between s last h = ap (λ (y : State). y.waiting) h
-  between_waits g old new (HasFailed ∷ failures) (mid, fails, rest) s last (next, moves, later) =
-      between_waits g mid new failures rest next last later ∙ ap (λ (y : State). y.waiting) moves
-  between_waits g old new (Called session c step ∷ failures) between s last h = absurd between
-  between_waits g old new (Resumed session step ∷ failures) between s last h = absurd between
-  between_waits g old new (calls.Forced n ∷ failures) between s last h = absurd between
-  between_waits g old new (calls.TicketAsked ticket answer ∷ failures) between s last h = absurd between
-
   module _ (o : Opening) where
     -- what a run from a manager has come to: whoever is to be told a cycle was to be told it at first, or it stood on the way
     record HasRunTelling (w : World L V G H) (es : List Entry) (ws : Waited) (k : IsManagerOf w o es ws) (events : List Event) (steps : List Step) (last : World L V G H) : Type 0 where
@@ -116,7 +108,7 @@ module _ {L V : Type 0} {G : Ghosts L} {H : Ghosts V} where
           → IsAmong x k.now.state.waiting ⊎ HasStood w o es ws events steps last x.session cycle
 
     -- of a run that goes on from there
-    module _ (w start mid : World L V G H) (failures : List ManagerEvent) (between : Between w failures start) (e : Event) (step : Step) (one : Steps start e step mid)
+    module _ (w start mid : World L V G H) (failures : List PlainMove) (between : Between w failures start) (e : Event) (step : Step) (one : Steps start e step mid)
         (es first second : List Entry) (ws : Waited) (quiet : tellings_in first ≡ []) (tells : tellings_in second ≡ told_by ws e step) (events : List Event) (steps : List Step) (last : World L V G H) (session : ℕ) (cycle : List ℕ) where
       stood_later : HasStood mid o ((es ++ first) ++ second) (waited_behind ws e step) events steps last session cycle → HasStood w o es ws (e ∷ events) (step ∷ steps) last session cycle
       stood_later h = record {
@@ -151,7 +143,7 @@ module _ {L V : Type 0} {G : Ghosts L} {H : Ghosts V} where
         stood = h.stood;
       }
 
-    run_tells : (w : World L V G H) (es : List Entry) (ws : Waited) (k : IsManagerOf w o es ws) (events : List Event) (steps : List Step) (moves : List ManagerEvent) (last : World L V G H)
+    run_tells : (w : World L V G H) (es : List Entry) (ws : Waited) (k : IsManagerOf w o es ws) (events : List Event) (steps : List Step) (moves : List PlainMove) (last : World L V G H)
         → AllByRecursion IsServedEvent events → Runs w events steps moves last → HasRunTelling w es ws k events steps last
     run_tells w es ws k [] [] moves last served between =
         let on = between_on w o es ws k moves last between in
@@ -161,7 +153,7 @@ module _ {L V : Type 0} {G : Ghosts L} {H : Ghosts V} where
           goes_on = refl;
           tells = on.told;
           manager = on.manager;
-          told = λ x there cycle is. inl (subst (IsAmong x) (between_waits (geometry_in w) w last moves between k.now.state on.manager.now.state on.moved) there);
+          told = λ x there cycle is. inl (subst (IsAmong x) on.waits there);
         }
     run_tells w es ws k (e ∷ events) (step ∷ steps) moves last served (start, mid, failures, later, between, one, rest, is) =
         let on = between_on w o es ws k failures start between in
@@ -176,7 +168,7 @@ module _ {L V : Type 0} {G : Ghosts L} {H : Ghosts V} where
           manager = next.manager;
           told = λ x there cycle told. ⊎_elim
               (λ before. ⊎_elim
-              (λ waited. inl (subst (IsAmong x) (between_waits (geometry_in w) w start failures between k.now.state on.manager.now.state on.moved) waited))
+              (λ waited. inl (subst (IsAmong x) on.waits waited))
               (λ here. inr (record {
                 before = [];
                 before_steps = [];
@@ -207,7 +199,7 @@ module _ {L V : Type 0} {G : Ghosts L} {H : Ghosts V} where
                 within = here.within;
                 stood = here.stood;
               }))
-              (event_told (geometry_in start) o on.manager.found (es ++ on.made) on.manager.now.state went.on.manager.now.state on.manager.under_way.state e step served.0 went.moves x before cycle told))
+              (event_told (geometry_in start) o on.manager.found (es ++ on.made) on.manager.now.state went.on.manager.now.state on.manager.under_way.under_way.state e step served.0 went.moves x before cycle told))
               (λ stood. inr (stood_later w start mid failures between e step one es on.made went.on.made ws on.told went.told events steps last x.session cycle stood))
               (next.told x there cycle told);
         }
@@ -253,7 +245,7 @@ module _ {L V : Type 0} {G : Ghosts L} {H : Ghosts V} where
     none_to_tell : (w : World L V G H) (es : List Entry) (k : IsManagerOf w o es []) (x : Waiting) → IsAmong x k.now.state.waiting → ⊥
     none_to_tell w es k x there = let clash = k.waited x there in absurd cc
 
-    pub told_has_stood : (w : World L V G H) (es : List Entry) (k : IsManagerOf w o es []) (events : List Event) (steps : List Step) (moves : List ManagerEvent) (last new : World L V G H)
+    pub told_has_stood : (w : World L V G H) (es : List Entry) (k : IsManagerOf w o es []) (events : List Event) (steps : List Step) (moves : List PlainMove) (last new : World L V G H)
         (session : ℕ) (cycle : List ℕ) → AllByRecursion IsServedEvent events → Runs w events steps moves last → Steps last (event.Resume session) (Refused (Deadlock cycle)) new
         → HasStood w o es [] (events ++ event.Resume session ∷ []) (steps ++ Refused (Deadlock cycle) ∷ []) new session cycle
     told_has_stood w es k events steps moves last new session cycle served runs one =
@@ -295,10 +287,10 @@ module _ {L V : Type 0} {G : Ghosts L} {H : Ghosts V} where
           within = (here.0, here.2, (here.4.0, here.4.1, here.4.2, inr (inl (inl here.4.3))));
           stood = here.3;
         })
-        (settled_resume_deadlock (geometry_in last) o ran.manager.found ran.entries ran.manager.now.state (after last o ran.entries ws ran.manager) session ran.manager.under_way.asks cycle
+        (settled_resume_deadlock (geometry_in last) o ran.manager.found ran.entries ran.manager.now.state (after last o ran.entries ws ran.manager) session ran.manager.under_way.under_way.asks cycle
         went.on.manager.now.state went.moves)
 
-    pub told_by_its_first : (w : World L V G H) (es : List Entry) (k : IsManagerOf w o es []) (events : List Event) (steps : List Step) (moves : List ManagerEvent) (last new : World L V G H)
+    pub told_by_its_first : (w : World L V G H) (es : List Entry) (k : IsManagerOf w o es []) (events : List Event) (steps : List Step) (moves : List PlainMove) (last new : World L V G H)
         (session : ℕ) (cycle : List ℕ) → AllByRecursion IsServedEvent events → Runs w events steps moves last → Steps last (event.Resume session) (Refused (Deadlock cycle)) new
         → IsToldByItsFirst new o (waited_after [] events steps) session cycle
     told_by_its_first w es k events steps moves last new session cycle served runs one =
@@ -308,6 +300,6 @@ module _ {L V : Type 0} {G : Ghosts L} {H : Ghosts V} where
         record {
           entries = ran.entries;
           on = went.on;
-          first = resume_told_first (geometry_in last) o ran.manager.found ran.entries ran.manager.now.state (after last o ran.entries ws ran.manager) ran.manager.under_way.asks session cycle
+          first = resume_told_first (geometry_in last) o ran.manager.found ran.entries ran.manager.now.state (after last o ran.entries ws ran.manager) ran.manager.under_way.under_way.asks session cycle
               went.on.manager.now.state ran.manager.firsts went.moves;
         }

@@ -1,5 +1,5 @@
 -- A core of which nothing has changed: no page has left its frame or come to one, and all else is as it was.
-use Rattle.std.proofs.Common.{◌≡◌, ℕ, List, Bool, sym, ◌∙◌, ap, subst}
+use Rattle.std.proofs.Common.{◌≡◌, ◌≢◌, ℕ, List, Bool, Some, sym, ◌∙◌, ap, subst}
 use Rattle.shore_types.specs.Layout.{HasPage}
 use Rattle.shore_types.specs.declared.ids.PageId.{PageId}
 use Rattle.shore_types.specs.declared.layout.Geometry.{Geometry}
@@ -21,6 +21,10 @@ use Rattle.shore_txn.specs.Transactions.{kept_in}
 use Rattle.laws_calls.specs.States.{DoesNotWait, State, page_slots}
 use Rattle.laws_heaps.specs.LoggedHeaps.{AreInside, AreTextsOf, IsStoreOf}
 use Rattle.laws_lives.specs.Recovery.{RecoveryState}
+use Rattle.laws_checkpoints.specs.CheckpointedStores.{CheckpointedStore}
+use Rattle.laws_checkpoints.specs.RecoveryNumbers.{RecoveryNumbers}
+use Rattle.laws_heaps.specs.HeapRecoveries.{HasRecoveries, recovery_in}
+use Rattle.shore_pool.specs.declared.frame.Frame.{Frame}
 use Rattle.shore_core.specs.Cores as cores
 use Rattle.shore_core.specs.Cores.{IsBeside, IsIn, IsOver, control_of, durable_of, has_failed, heap_of, tail_of, waiting_of}
 use Rattle.shore_core.specs.Parts.{HasParts}
@@ -53,6 +57,15 @@ module _ {T V : Type 0} {G : tail.Ghosts T} {H : Ghosts V} (old new : Core T V G
         done = h.done;
       }
 
+  same_recoveries : (recovery : RecoveryNumbers) → HasRecoveries (heap_of old) recovery → HasRecoveries (heap_of new) recovery
+  same_recoveries recovery h =
+      let geometry : cores.geometry_of new ≡ cores.geometry_of old = ap (λ (p : Pool V H). pools.geometry_of p) pool in
+      record {
+        each = λ p there. subst (λ (q : Pool V H). recovery p ≡ recovery_in (pools.frame_of q p)) (sym pool) (h.each p (subst (λ (g : Geometry). HasPage g p) geometry there));
+        inside = λ p none. h.inside p (λ there. none (subst (λ (g : Geometry). HasPage g p) (sym geometry) there));
+        some = subst (λ (q : Pool V H). (k : ℕ) (f : Frame) → pools.frame_at q k ≡ Some f → f.recovery ≢ Some 0) (sym pool) h.some;
+      }
+
   module _ (tails : tail_of new ≡ tail_of old) (control : control_of new ≡ control_of old) (durable : durable_of new ≡ durable_of old) (failed : has_failed new ≡ has_failed old) where
     pub same_in : (front : List ℕ) (disk : ℕ → List ℕ) (before : List LogRecord) (s : State) → IsIn front disk before old s → IsIn front disk before new s
     same_in front disk before s is = record {
@@ -67,8 +80,11 @@ module _ {T V : Type 0} {G : tail.Ghosts T} {H : Ghosts V} (old new : Core T V G
           (same_shows (kept_in (txns_in (control_of old))) front disk (page_slots s) (is.pages runs));
     }
 
-  pub same_over : (disk : ℕ → List ℕ) (s : State) (store : RecoveryState) → IsOver disk old s store → IsOver disk new s store
-  same_over disk s store over = record { kept = over.kept; pages = λ runs. same_store disk store (over.pages runs) }
+  pub same_over : (disk : ℕ → List ℕ) (s : State) (store : CheckpointedStore) → IsOver disk old s store → IsOver disk new s store
+  same_over disk s store over = record {
+    kept = over.kept;
+    pages = λ runs. record { pages = same_store disk store.store (over.pages runs).pages; recoveries = same_recoveries store.recovery (over.pages runs).recoveries };
+  }
 
 -- no call of a session waits if none does in the state
 pub none_waits : {T V : Type 0} {G : tail.Ghosts T} {H : Ghosts V} (core : Core T V G H) (before : List LogRecord) (s : State) → IsBeside before core s → (session : ℕ) → DoesNotWait s session

@@ -1,5 +1,5 @@
 -- Steps do their work: what each step comes to, of a world that is a manager.
-use Rattle.std.proofs.Common.{◌≡◌, ◌<◌, ◌≤◌, ◌⊎◌, ◌-◌, inl, inr, ⊎_elim, ℕ, List, [], ◌∷◌, ◌++◌, Bool, false, IsTrue, None, Option, Some, refl, sym, ap, subst, ◌∙◌, arith, length}
+use Rattle.std.proofs.Common.{◌≡◌, ◌<◌, ◌≤◌, ◌⊎◌, ◌-◌, inl, inr, ⊎_elim, ℕ, List, [], ◌∷◌, ◌++◌, Bool, false, IsTrue, None, Option, Some, refl, sym, ap, subst, ◌∙◌, arith, length, take}
 use Rattle.std.specs.Prelude.{◌==◌, ◌↔◌, IsSomeAnd}
 use Rattle.std.specs.List.{AllByRecursion}
 use Rattle.std.proofs.lemmas.Bool.{cases_Bool, eqb-false, eqb-true}
@@ -16,13 +16,11 @@ use Rattle.shore_model.specs.declared.calls.Answer.TheVariants.{Forced, Staged}
 use Rattle.shore_model.specs.declared.calls.Call.{Call}
 use Rattle.shore_model.specs.declared.histories.Entry.{Entry}
 use Rattle.shore_model.specs.declared.histories.Opening.{Opening}
-use Rattle.shore_model.specs.declared.log_records.LogRecord.{LogRecord}
 use Rattle.shore_model.specs.declared.step.Step.{Step}
 use Rattle.shore_model.specs.declared.step.Step.TheVariants.{Done, Nothing, Refused, Waits}
 use Rattle.shore_model.specs.declared.step.Wait.{Wait}
 use Rattle.shore_model.specs.declared.step.Wait.TheVariants.{Durable, Lock}
 use Rattle.shore_cycles.specs.declared.victims.Victim.{Victim}
-use Rattle.shore_log.specs.Settled.{records_of_log}
 use Rattle.shore_flush.specs.Flushes.{Flushes, NoneDue}
 use Rattle.shore_heap.specs.Heaps.{pool_of}
 use Rattle.shore_pool.specs.FrameMaps.{IsDue}
@@ -38,7 +36,7 @@ use Rattle.laws_calls.specs.CallSteps.{CallStep, ResumeStep, ResumesWait, lock_w
 use Rattle.laws_calls.specs.Settling.{SettledCall, SettledResume, Settles}
 use Rattle.laws_calls.specs.States.{DoesNotWait, State, Waiting}
 use Rattle.laws_calls.specs.Victims.{TakesVictims}
-use Rattle.laws_runs.specs.SoundStores.{IsUnderWay}
+use Rattle.laws_runs.specs.CheckpointedStates.{IsAtCheckpoints}
 use Rattle.shore_core.specs.Cores.{heap_of}
 use Rattle.shore_core.specs.Flushing.{FlushAnswers, FlushMoves}
 use Rattle.shore_world.specs.declared.event.Event.{Event}
@@ -47,9 +45,10 @@ use Rattle.shore_world.specs.declared.world.World.{World}
 use Rattle.shore_world.specs.Events.{IsServedEvent}
 use Rattle.shore_world.specs.Exchanges.{waited_behind}
 use Rattle.shore_world.specs.Promises.{FlushesIfAny, HasFailedStep, IsManagerOf, IsRefusedStep, OpensIfAny, StagesIfAny}
-use Rattle.shore_world.specs.Worlds.{EventStep, ForceRefused, HasForceRoom, IsIdle, IsUnchanged, OpenRefused, Steps, durable_in, failed_in, geometry_in, list_in, stream_bytes_in}
+use Rattle.shore_world.specs.Worlds.{EventStep, ForceRefused, HasForceRoom, IsIdle, IsUnchanged, OpenRefused, Steps, before_in, durable_in, failed_in, geometry_in, last_in, stream_bytes_in}
 use Rattle.shore_world.proofs.ExchangeLemmas.{nothing_waits}
 use Rattle.shore_world.proofs.PromiseLemmas.{as_up, seen, stepped}
+use Rattle.shore_world.proofs.LogParts.{log_long}
 use Rattle.shore_world.proofs.StoredLemmas.{has_room}
 use Rattle.shore_world.proofs.UnmovedLemmas.{none_waits}
 use Rattle.shore_world.proofs.WorldLemmas.{some_stands}
@@ -152,10 +151,10 @@ module _ {L V : Type 0} {G : Ghosts L} {H : Ghosts V} (w : World L V G H) (o : O
   room = record {
     log_front = k.log_front;
     kept = k.at.log;
-    room = has_room (geometry_in w) (stream_bytes_in w) o k.found k.log_front k.front es w k.now (as_up w o es ws k);
+    room = has_room (geometry_in w) (stream_bytes_in w) o k.found (take 512 k.log_front) k.front es w k.now (as_up w o es ws k);
   }
 
-  not_idle : (n : ℕ) → w.log.staged ≡ None → durable_in w < n → n ≤ length (list_in w) → IsIdle w → ⊥
+  not_idle : (n : ℕ) → w.log.staged ≡ None → durable_in w < n → n ≤ last_in w → IsIdle w → ⊥
   not_idle n none above within (inl staged) = some_stands w.log.staged staged none
   not_idle n none above within (inr durable) = omega (arith, above, within, durable)
 
@@ -170,7 +169,7 @@ module _ {L V : Type 0} {G : Ghosts L} {H : Ghosts V} (w : World L V G H) (o : O
   stages_so (Done (Staged n)) new later one h =
       let staged = one.staged n refl refl in
       let above : durable_in w < n = subst (λ (m : ℕ). m < n) (seen w o es ws k).durable h.1 in
-      let within : n ≤ length (list_in w) = subst (λ (l : List LogRecord). n ≤ length l) (seen w o es ws k).log h.2 in
+      let within : n ≤ last_in w = subst (λ (m : ℕ). n ≤ m) (log_long w s k.at.is_in.beside) h.2 in
       inr (inr (not_idle n staged.none_before above within, (n, refl, above, within, staged)))
   stages_so Nothing new later one h = inr (inl (one.idle refl refl, refl))
   stages_so (Refused f) new later one h = inl (refused_so f later h (λ full. one.full refl full room))
@@ -190,7 +189,7 @@ module _ {L V : Type 0} {G : Ghosts L} {H : Ghosts V} (w : World L V G H) (o : O
         n,
         refl,
         subst (λ (m : ℕ). m < n) (seen w o es ws k).durable h.1,
-        subst (λ (l : List LogRecord). n ≤ length l) (seen w o es ws k).log h.2,
+        subst (λ (m : ℕ). n ≤ m) (log_long w s k.at.is_in.beside) h.2,
         one.forced n refl refl,
         durable ∙ ap (λ (x : State). x.durable) h.3,
       ))
@@ -224,7 +223,7 @@ module _ {L V : Type 0} {G : Ghosts L} {H : Ghosts V} (w : World L V G H) (o : O
       let went = stepped w o es ws k (event.Resume session) step new tt one in
       let later = went.on.manager.now.state in (
         (λ nothing. settled_to_nothing (geometry_in w) session s later (subst (λ (x : Step). SettledResume (geometry_in w) s session x later) nothing went.moves)),
-        (λ idle. nothing_waits (geometry_in w) o k.found es s k.under_way.state ws k.waited session step later idle went.moves),
+        (λ idle. nothing_waits (geometry_in w) o k.found es s k.under_way.under_way.state ws k.waited session step later idle went.moves),
       )
 
   pub calls_to_nothing : (session : ℕ) (c : Call) (new : World L V G H) → IsServedEvent (event.Call session c) → Steps w (event.Call session c) Nothing new → ⊥
@@ -250,8 +249,8 @@ module _ {L V : Type 0} {G : Ghosts L} {H : Ghosts V} (w : World L V G H) (o : O
             disk = k.disk;
             now = k.now;
             at = same.at k.log_front k.front k.disk k.now.state k.now.store k.at;
-            under_way = subst (λ (g : Geometry). IsUnderWay g (stream_bytes_in new) o k.found es k.now) (sym geometry)
-                (subst (λ n. IsUnderWay (geometry_in w) n o k.found es k.now) (sym long) k.under_way);
+            under_way = subst (λ (g : Geometry). IsAtCheckpoints g (stream_bytes_in new) o k.found es k.now) (sym geometry)
+                (subst (λ n. IsAtCheckpoints (geometry_in w) n o k.found es k.now) (sym long) k.under_way);
             waited = k.waited;
             there = k.there;
             firsts = k.firsts;
@@ -263,8 +262,9 @@ module _ {L V : Type 0} {G : Ghosts L} {H : Ghosts V} (w : World L V G H) (o : O
   pub stays_same : (e : Event) (new : World L V G H) → IsServedEvent e → Steps w e Nothing new → IsSame new
   stays_same (event.Call session c) new served one = absurd (calls_to_nothing session c new served one)
   stays_same (event.Resume session) new served one =
-      is_same new (one.none session refl (none_waits w.core (records_of_log w.log) s k.at.is_in.beside session ((resumes_to_nothing session Nothing new one).0 refl))).1
+      is_same new (one.none session refl (none_waits w.core (before_in w s) s k.at.is_in.beside session ((resumes_to_nothing session Nothing new one).0 refl))).1
   stays_same (event.Ask ticket) new served one = is_same new (one.quiet tt refl)
   stays_same event.ForceStage new served one = is_same new (one.quiet tt refl)
   stays_same event.ForceOpen new served one = is_same new (one.quiet tt refl)
   stays_same event.FlushStep new served one = is_same new (one.quiet tt refl)
+  stays_same event.CheckpointStep new served one = is_same new (one.quiet tt refl)

@@ -16,6 +16,7 @@ IsServedEvent (event.Ask ticket) = Unit {0}
 IsServedEvent event.ForceStage = Unit {0}
 IsServedEvent event.ForceOpen = Unit {0}
 IsServedEvent event.FlushStep = Unit {0}
+IsServedEvent event.CheckpointStep = Unit {0}
 
 -- an event that owns memory
 abbrev pub IsCall : Event → Type 0
@@ -25,8 +26,9 @@ IsCall (event.Ask ticket) = ⊥
 IsCall event.ForceStage = ⊥
 IsCall event.ForceOpen = ⊥
 IsCall event.FlushStep = ⊥
+IsCall event.CheckpointStep = ⊥
 
--- an event that is no step of a force: it calls the volume at most, and an ask no device
+-- an event that is no step of a force or of a checkpoint: it calls the volume at most, and an ask no device
 abbrev pub IsOfPages : Event → Type 0
 IsOfPages (event.Call session call) = Unit {0}
 IsOfPages (event.Resume session) = Unit {0}
@@ -34,8 +36,9 @@ IsOfPages (event.Ask ticket) = Unit {0}
 IsOfPages event.ForceStage = ⊥
 IsOfPages event.ForceOpen = ⊥
 IsOfPages event.FlushStep = Unit {0}
+IsOfPages event.CheckpointStep = ⊥
 
--- .. and one that is: it calls the log device at most
+-- a step of a force: it calls the log device at most
 abbrev pub IsOfForce : Event → Type 0
 IsOfForce (event.Call session call) = ⊥
 IsOfForce (event.Resume session) = ⊥
@@ -43,8 +46,19 @@ IsOfForce (event.Ask ticket) = ⊥
 IsOfForce event.ForceStage = Unit {0}
 IsOfForce event.ForceOpen = Unit {0}
 IsOfForce event.FlushStep = ⊥
+IsOfForce event.CheckpointStep = ⊥
 
--- a step that no session asks for: an ask, or one of a force or of the flush
+-- a step of a checkpoint: it calls the log device at most, and that at the move of the anchor alone
+abbrev pub IsOfCheckpoint : Event → Type 0
+IsOfCheckpoint (event.Call session call) = ⊥
+IsOfCheckpoint (event.Resume session) = ⊥
+IsOfCheckpoint (event.Ask ticket) = ⊥
+IsOfCheckpoint event.ForceStage = ⊥
+IsOfCheckpoint event.ForceOpen = ⊥
+IsOfCheckpoint event.FlushStep = ⊥
+IsOfCheckpoint event.CheckpointStep = Unit {0}
+
+-- a step that no session asks for: an ask, or one of a force, of the flush or of a checkpoint
 abbrev pub IsOfNoSession : Event → Type 0
 IsOfNoSession (event.Call session call) = ⊥
 IsOfNoSession (event.Resume session) = ⊥
@@ -52,6 +66,7 @@ IsOfNoSession (event.Ask ticket) = Unit {0}
 IsOfNoSession event.ForceStage = Unit {0}
 IsOfNoSession event.ForceOpen = Unit {0}
 IsOfNoSession event.FlushStep = Unit {0}
+IsOfNoSession event.CheckpointStep = Unit {0}
 
 -- the pages of the volume that an event of a core may read: going on with a call may read what the call may
 abbrev pub ReadBy : {T V : Type 0} {G : tail.Ghosts T} {H : disk.Ghosts V} → Core T V G H → Event → PageId → Type 0
@@ -61,6 +76,7 @@ ReadBy core (event.Ask ticket) page = ⊥
 ReadBy core event.ForceStage page = ⊥
 ReadBy core event.ForceOpen page = ⊥
 ReadBy core event.FlushStep page = ⊥
+ReadBy core event.CheckpointStep page = ⊥
 
 -- When an event of a core has to need the force that it asks for: a call when it says so, and every other event as it begins.
 abbrev pub force_needed_at : {T V : Type 0} {G : tail.Ghosts T} {H : disk.Ghosts V} → Event → Core T V G H → Core T V G H → Core T V G H
@@ -70,3 +86,4 @@ force_needed_at (event.Ask ticket) old new = old
 force_needed_at event.ForceStage old new = old
 force_needed_at event.ForceOpen old new = old
 force_needed_at event.FlushStep old new = old
+force_needed_at event.CheckpointStep old new = old

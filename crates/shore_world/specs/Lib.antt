@@ -5,7 +5,9 @@ pub mod Exchanges
 pub mod OpenedVolumes
 pub mod Opens
 pub mod Refusals
+pub mod InOrder
 pub mod Worlds
 pub mod Managers
 pub mod Lives
 pub mod Promises
+pub mod Ready

@@ -5,19 +5,19 @@ use Rattle.shore_types.specs.declared.faults.Fault.TheVariants.{LogFull}
 use Rattle.shore_types.specs.declared.layout.Geometry.{Geometry}
 use Rattle.shore_disk.specs.Device.{DeviceHistory, may_leave, seen, size}
 use Rattle.shore_disk.specs.declared.device.Disk.{Ghosts}
+use Rattle.shore_gate.specs.declared.anchors.Anchor.{Anchor}
 use Rattle.shore_model.specs.declared.log_records.LogRecord.{LogRecord}
 use Rattle.laws_lives.specs.Pages.{LoggedPages}
-use Rattle.laws_runs.specs.StoredRuns.{StoredRun}
 use Rattle.shore_model.specs.declared.step.Step.{Step}
 use Rattle.shore_model.specs.declared.step.Step.TheVariants.{Refused}
-use Rattle.laws_calls.specs.Events.{ManagerEvent}
-use Rattle.laws_runs.specs.SoundStores.{managed}
-use Rattle.laws_images.specs.StandsFor.{StandsFor}
+use Rattle.laws_runs.specs.CheckpointedStays.{CheckpointedRun, CheckpointedStay, CutOff, WasUp}
+use Rattle.laws_images.specs.StandsBehind.{StandsForBehind}
 use Rattle.shore_world.specs.declared.event.Event.{Event}
 use Rattle.shore_world.specs.declared.event.Event.TheVariants as event
 use Rattle.shore_world.specs.declared.world.World.{World}
 use Rattle.shore_world.specs.Crashes.{AreLeft}
 use Rattle.shore_world.specs.Events.{IsServedEvent}
+use Rattle.shore_world.specs.EventMoves.{PlainMove, moves_among}
 use Rattle.shore_world.specs.Exchanges.{tellings_in, tellings_of}
 use Rattle.shore_world.specs.Opens.{HasOpened, LeftByOpen}
 use Rattle.shore_world.specs.Worlds.{IsAt, Runs}
@@ -31,7 +31,7 @@ NoForceIsFull (e ∷ es) [] = ⊥
 
 -- ---- one stay
 
--- One manager on a pair: it is opened on devices with these calls behind them and makes these events, which are these moves of the manager over plain
+-- One manager on a pair: it is opened on devices with these calls behind them and makes these events, which are these moves over plain
 -- data.
 pub record Manager (L V : Type 0) (G : Ghosts L) (H : Ghosts V) : Type 0 where
   pub log : DeviceHistory
@@ -39,13 +39,13 @@ pub record Manager (L V : Type 0) (G : Ghosts L) (H : Ghosts V) : Type 0 where
   pub opened : World L V G H
   pub events : List Event
   pub steps : List Step
-  pub moves : List ManagerEvent
+  pub moves : List PlainMove
   pub ended : World L V G H
 
 -- It is opened at the end of the way of an open, and makes its events.
 pub record IsManager {L V : Type 0} {G : Ghosts L} {H : Ghosts V} (m : Manager L V G H) : Type 0 where
-  pub opens : (g : Geometry) (rs : List LogRecord) (pages : LoggedPages) → StandsFor g (size m.log) (size m.volume) rs pages (seen m.log) (seen m.volume)
-      → HasOpened m.opened g m.log m.volume rs pages
+  pub opens : (g : Geometry) (anchor : Anchor) (rs : List LogRecord) (pages : LoggedPages) → StandsForBehind g (size m.log) (size m.volume) anchor rs pages (seen m.log) (seen m.volume)
+      → HasOpened m.opened g anchor m.log m.volume rs pages
   pub served : All IsServedEvent m.events
   pub runs : Runs m.opened m.events m.steps m.moves m.ended
 
@@ -73,19 +73,26 @@ AreStays log_bytes volume_bytes left (Up m ∷ stays) log_last volume_last =
 -- ---- as runs of the manager over plain data
 
 -- The run is one from a state that the manager was opened in to one that it ended in, by its moves. The calls and answers of its history are those of the
--- manager's events.
-pub record IsRunOf {L V : Type 0} {G : Ghosts L} {H : Ghosts V} (m : Manager L V G H) (run : StoredRun) : Type 0 where
+-- manager's events. The front of the log may have changed by moves of the anchor.
+pub record IsRunOf {L V : Type 0} {G : Ghosts L} {H : Ghosts V} (m : Manager L V G H) (run : CheckpointedRun) : Type 0 where
   pub log_front : List ℕ
+  pub last_front : List ℕ
   pub front : List ℕ
   pub first_disk : ℕ → List ℕ
   pub last_disk : ℕ → List ℕ
   pub opened : IsAt m.opened log_front front first_disk run.first run.ready
-  pub moves : managed run.events ≡ m.moves
+  pub moves : moves_among run.events ≡ m.moves
   pub told : tellings_in run.made ≡ tellings_of [] m.events m.steps
-  pub ended : IsAt m.ended log_front front last_disk run.last.state run.last.store
+  pub ended : IsAt m.ended last_front front last_disk run.last.state run.last.store
 
--- each manager has its run; an open that came to none is part of the run behind it, if it got past its barriers
-abbrev pub AreRunsOf : {L V : Type 0} {G : Ghosts L} {H : Ghosts V} → List (Stay L V G H) → List StoredRun → Type 0
+-- the managers among stays over plain data
+abbrev pub runs_among : List CheckpointedStay → List CheckpointedRun
+runs_among [] = []
+runs_among (CutOff c ∷ stays) = runs_among stays
+runs_among (WasUp run ∷ stays) = run ∷ runs_among stays
+
+-- each manager has its run; an open that came to none is one that lost power, if it got past its barriers
+abbrev pub AreRunsOf : {L V : Type 0} {G : Ghosts L} {H : Ghosts V} → List (Stay L V G H) → List CheckpointedRun → Type 0
 AreRunsOf [] [] = Unit {0}
 AreRunsOf [] (run ∷ runs) = ⊥
 AreRunsOf (Tried log volume ∷ stays) runs = AreRunsOf stays runs

@@ -1,9 +1,12 @@
 -- What stands behind a world that is a manager: the one hidden state that the promises speak of.
-use Rattle.std.specs.Prelude.{◌≡◌, ◌≢◌, ◌⊎◌, ◌<◌, ◌≤◌, ◌∷◌, ◌++◌, ℕ, List, [], IsTrue, None, Some, false, length, map}
+use Rattle.std.specs.Prelude.{◌≡◌, ◌≢◌, ◌⊎◌, ◌+◌, ◌-◌, ◌<◌, ◌≤◌, ◌∷◌, ◌++◌, ℕ, List, [], IsTrue, None, Some, drop, false, map}
 use Rattle.std.specs.List.{AllByRecursion}
 use Rattle.shore_types.specs.declared.faults.Fault.TheVariants.{Deadlock, Device, Failed, Memory}
 use Rattle.shore_disk.specs.declared.device.Disk.{Ghosts}
-use Rattle.shore_model.specs.declared.calls.Answer.TheVariants.{Committed, Flushed, Forced, Staged}
+use Rattle.shore_check.specs.declared.stage.Stage.{Stage}
+use Rattle.shore_check.specs.declared.stage.Stage.TheVariants as stage
+use Rattle.shore_model.specs.declared.calls.Answer.{Answer}
+use Rattle.shore_model.specs.declared.calls.Answer.TheVariants.{Anchored, Begun, Committed, Ended, Flushed, Forced, Moved, Staged}
 use Rattle.shore_model.specs.declared.calls.Call.{Call}
 use Rattle.shore_model.specs.declared.calls.Call.TheVariants as call
 use Rattle.shore_model.specs.declared.histories.Decision.{Decision}
@@ -23,20 +26,21 @@ use Rattle.laws_lives.specs.Soundness.{decided_txn, found_in_doubt}
 use Rattle.laws_lives.specs.Views.{IsAmong}
 use Rattle.shore_model.specs.Histories.{decision_asked_by, decisions, free, in_doubt, session_state}
 use Rattle.shore_model.specs.Requests.{held_by_all}
-use Rattle.laws_runs.specs.SoundStores.{IsUnderWay}
-use Rattle.laws_runs.specs.StoredRuns.{StoredState}
+use Rattle.laws_runs.specs.CheckpointSteps.{CheckpointedState}
+use Rattle.laws_runs.specs.CheckpointedStates.{IsAtCheckpoints}
 use Rattle.shore_world.specs.declared.event.Event.{Event}
 use Rattle.shore_world.specs.declared.event.Event.TheVariants as event
 use Rattle.shore_world.specs.declared.world.World.{World}
 use Rattle.shore_world.specs.EventMoves.{moves_by}
 use Rattle.shore_world.specs.Exchanges.{AreLast, tellings_in, tellings_of, waited_after, waited_behind}
 use Rattle.laws_calls.specs.Events.{ManagerEvent}
+use Rattle.shore_world.specs.EventMoves.{OfManager, PlainMove}
 use Rattle.laws_calls.specs.Midway.{IsItsCycle}
 use Rattle.laws_calls.specs.SessionWaits.{AllBeginWithTheirs, AllWaitThere, HasTheFirst}
 use Rattle.laws_calls.specs.States.{State}
 use Rattle.laws_calls.specs.StoodCycles.{IsWithin}
 use Rattle.shore_world.specs.Lives.{DumpsShow}
-use Rattle.shore_world.specs.Worlds.{HasForced, HasStaged, IsAt, IsIdle, Runs, Steps, durable_in, failed_in, geometry_in, list_in, requests_in, stream_bytes_in}
+use Rattle.shore_world.specs.Worlds.{HasForced, HasMoved, HasStaged, IsAt, IsIdle, IsLogOf, Runs, Steps, anchor_in, cut_in, durable_in, failed_in, geometry_in, last_in, list_in, requests_in, stream_bytes_in}
 
 -- The world is a manager that opened so, with these records and those in doubt, and since then has come to these entries of its history, and to these calls
 -- with which sessions began to wait, the newest first. What else is here a reader of the promises need not know: an open makes such a world, and each run of one another.
@@ -46,12 +50,16 @@ pub record IsManagerOf {L V : Type 0} {G : Ghosts L} {H : Ghosts V} (w : World L
   pub log_front : List ℕ
   pub front : List ℕ
   pub disk : ℕ → List ℕ
-  pub now : StoredState
+  pub now : CheckpointedState
   pub at : IsAt w log_front front disk now.state now.store
-  pub under_way : IsUnderWay (geometry_in w) (stream_bytes_in w) o found es now
+  pub under_way : IsAtCheckpoints (geometry_in w) (stream_bytes_in w) o found es now
   pub waited : AreLast ws now.state
   pub there : AllWaitThere now.state
   pub firsts : AllBeginWithTheirs now.state
+
+-- the records that the log has gained from one world to a later one, of which this keeps all
+abbrev pub gained : {L V : Type 0} {G : Ghosts L} {H : Ghosts V} → World L V G H → World L V G H → List LogRecord
+gained old new = drop (last_in old - cut_in new) (list_in new)
 
 -- Those whom the opening has in doubt, and nobody else, are in doubt and under way in the state, each under its name and to be resolved. They hold EX on the granules
 -- that their Prepares name in the log that was found, and IX above these. Nobody holds anything else, and nobody waits for a lock.
@@ -73,10 +81,10 @@ AreUnended o es ts = (t : ℕ) → IsAmong t ts →
 abbrev pub IsAskedFor : ℕ → Call → Step → Decision → Type 0
 IsAskedFor t c step d = (decision_asked_by t c ≡ Some d) ⊎ ((c ≡ call.Commit) × ((ticket : ℕ) × (step ≡ Done (Committed ticket))) × (d ≡ Commit t))
 
--- The world is in this state, as far as it can be seen: its lock requests, its log, what of it is durable, whether a device has failed, and what dumps show.
+-- The world is in this state, as far as it can be seen: its lock requests, what is kept of its log, what of it is durable, whether a device has failed, and what dumps show.
 pub record IsStateOf {L V : Type 0} {G : Ghosts L} {H : Ghosts V} (w : World L V G H) (s : State) : Type 0 where
   pub requests : s.locks.requests ≡ requests_in w
-  pub log : s.log ≡ list_in w
+  pub log : IsLogOf w s.log
   pub durable : s.durable ≡ durable_in w
   pub failed : s.failed ≡ failed_in w
   pub dumps : DumpsShow w s.sessions.records
@@ -89,12 +97,12 @@ pub record GoesOnAs {L V : Type 0} {G : Ghosts L} {H : Ghosts V} (new : World L 
 -- A run comes to this event by some events before it, goes on by it, and from there by others to its end.
 pub record IsEventOf {L V : Type 0} {G : Ghosts L} {H : Ghosts V} (w : World L V G H) (events : List Event) (steps : List Step) (last : World L V G H) (before : List Event)
     (before_steps : List Step) (start : World L V G H) (e : Event) (step : Step) (next : World L V G H) : Type 0 where
-  pub first_moves : List ManagerEvent
+  pub first_moves : List PlainMove
   pub first : Runs w before before_steps first_moves start
   pub one : Steps start e step next
   pub after : List Event
   pub after_steps : List Step
-  pub rest_moves : List ManagerEvent
+  pub rest_moves : List PlainMove
   pub rest : Runs next after after_steps rest_moves last
   pub events_are : events ≡ before ++ e ∷ after
   pub steps_are : steps ≡ before_steps ++ step ∷ after_steps
@@ -118,7 +126,7 @@ pub record HasStood {L V : Type 0} {G : Ghosts L} {H : Ghosts V} (w : World L V 
   pub on : GoesOnAs next o entries (waited_after ws before before_steps) during step
   -- the event as the manager over plain data has it
   pub move : ManagerEvent
-  pub is_move : moves_by during step ≡ move ∷ []
+  pub is_move : moves_by during step ≡ OfManager move ∷ []
   pub mid : State
   pub within : IsWithin (geometry_in start) manager.now.state move on.manager.now.state mid
   pub stood : IsItsCycle mid session cycle
@@ -143,13 +151,13 @@ IsRefusedStep w step = HasFailedStep w step ⊎ ((failed_in w ≡ false) × (ste
 abbrev pub StagesIfAny : {L V : Type 0} {G : Ghosts L} {H : Ghosts V} → World L V G H → Step → World L V G H → Type 0
 StagesIfAny w step new =
     (IsIdle w × (step ≡ Nothing))
-    ⊎ ((IsIdle w → ⊥) × ((n : ℕ) × (step ≡ Done (Staged n)) × (durable_in w < n) × (n ≤ length (list_in w)) × HasStaged w new n))
+    ⊎ ((IsIdle w → ⊥) × ((n : ℕ) × (step ≡ Done (Staged n)) × (durable_in w < n) × (n ≤ last_in w) × HasStaged w new n))
 
 -- the frame that was under way is durable now, up to its last record, of this number; or none was
 abbrev pub OpensIfAny : {L V : Type 0} {G : Ghosts L} {H : Ghosts V} → World L V G H → Step → World L V G H → Type 0
 OpensIfAny w step new =
     ((w.log.staged ≡ None) × (step ≡ Nothing))
-    ⊎ ((n : ℕ) × (step ≡ Done (Forced n)) × (durable_in w < n) × (n ≤ length (list_in w)) × HasForced w new n × (durable_in new ≡ n))
+    ⊎ ((n : ℕ) × (step ≡ Done (Forced n)) × (durable_in w < n) × (n ≤ last_in w) × HasForced w new n × (durable_in new ≡ n))
 
 -- so many pages were written back, the first of the volume that are due; or none is due
 abbrev pub FlushesIfAny : {L V : Type 0} {G : Ghosts L} {H : Ghosts V} → World L V G H → Step → World L V G H → Type 0
@@ -157,3 +165,31 @@ FlushesIfAny w step new =
     (NoneDue (pool_of (heap_of w.core)) (durable_in w) × (step ≡ Nothing))
     ⊎ ((NoneDue (pool_of (heap_of w.core)) (durable_in w) → ⊥)
     × ((count : ℕ) × (step ≡ Done (Flushed count)) × (0 < count) × Flushes (pool_of (heap_of w.core)) (pool_of (heap_of new.core)) (durable_in w) count))
+
+-- the number that the next step of a checkpoint needs durable, 0 if none
+abbrev pub awaited_at : Stage → ℕ
+awaited_at stage.Resting = 0
+awaited_at (stage.Begun b) = 0
+awaited_at (stage.Ended e) = e.number
+awaited_at (stage.Named m) = m.number
+
+-- What a step of a checkpoint answers that is made: the begin and the End the number of their record, the next of the log; the Anchor record what it says; and behind the
+-- move the anchor is one of a later checkpoint, that of the Anchor record, with a tail no higher than it says and no lower than before: of the frames that were kept, just those
+-- are let go that end before it (`HasMoved`).
+abbrev pub CheckpointAnswer : {L V : Type 0} {G : Ghosts L} {H : Ghosts V} → Stage → World L V G H → Answer → World L V G H → Type 0
+CheckpointAnswer stage.Resting w answer new = answer ≡ Begun (last_in w + 1)
+CheckpointAnswer (stage.Begun b) w answer new = answer ≡ Ended (last_in w + 1)
+CheckpointAnswer (stage.Ended e) w answer new = answer ≡ Anchored e.mark.checkpoint e.mark.tail
+CheckpointAnswer (stage.Named m) w answer new =
+    (answer ≡ Moved) × ((anchor_in new).checkpoint ≡ m.mark.checkpoint) × ((anchor_in w).checkpoint < m.mark.checkpoint)
+    × ((anchor_in w).tail ≤ (anchor_in new).tail) × ((anchor_in new).tail ≤ m.mark.tail) × HasMoved w new
+
+-- The next step of a checkpoint is made, or it needs a number that is not durable.
+abbrev pub ChecksIfAny : {L V : Type 0} {G : Ghosts L} {H : Ghosts V} → World L V G H → Step → World L V G H → Type 0
+ChecksIfAny w step new =
+    ((durable_in w < awaited_at w.stage) × (step ≡ Nothing))
+    ⊎ ((awaited_at w.stage ≤ durable_in w) × ((answer : Answer) × (step ≡ Done answer) × CheckpointAnswer w.stage w answer new))
+
+-- The state is as before, but for its log and the room that this has, and for a failure of a device.
+abbrev pub IsSameButForLog : State → State → Type 0
+IsSameButForLog s new = new ≡ record s { log = new.log; stream_bytes = new.stream_bytes; failed = new.failed }

@@ -21,6 +21,8 @@ pub enum Event {
     ForceOpen,
     /// A batch of dirty pages with durable numbers, the first of the volume, is written back.
     FlushStep,
+    /// The next of the four steps of a checkpoint.
+    CheckpointStep,
 }
 
 impl Event {
@@ -36,6 +38,7 @@ impl Event {
             Event::ForceStage => Event::ForceStage,
             Event::ForceOpen => Event::ForceOpen,
             Event::FlushStep => Event::FlushStep,
+            Event::CheckpointStep => Event::CheckpointStep,
         })
     }
 }

@@ -1,9 +1,10 @@
 //! What the contracts of the calls come to over whole lives of a pair of devices. Each law is stated as the contract of an empty function.
-ghost use Rattle.std.specs.Prelude.{◌≡◌, ◌-◌, ◌++◌, ℕ, List, [], All, Err};
+ghost use Rattle.std.specs.Prelude.{◌≡◌, ◌-◌, ◌++◌, ℕ, List, [], All, Err, take};
 ghost use Rattle.shore_types.specs.declared.faults.Fault.{Fault};
 ghost use Rattle.shore_types.specs.declared.layout.Geometry.{Geometry};
 ghost use Rattle.shore_types.specs.declared.layout.TheConstants.{LOG_FRONT_BYTES};
 ghost use Rattle.shore_disk.specs.Device.{DeviceHistory, Stands, may_leave, seen, size};
+ghost use Rattle.shore_gate.specs.declared.anchors.Anchor.{Anchor};
 ghost use Rattle.shore_model.specs.declared.histories.Entry.{Entry};
 ghost use Rattle.shore_model.specs.declared.histories.Opening.{Opening};
 ghost use Rattle.shore_model.specs.declared.log_records.LogRecord.{LogRecord};
@@ -15,16 +16,16 @@ ghost use Rattle.shore_model.specs.Requests.{held_by_all};
 ghost use Rattle.laws_lives.specs.Doubts.{IsOpeningOf};
 ghost use Rattle.laws_lives.specs.Pages.{LoggedPages};
 ghost use Rattle.laws_lives.specs.Soundness.{history_from};
-ghost use Rattle.laws_calls.specs.Events.{ManagerEvent};
-ghost use Rattle.laws_runs.specs.StoredRuns.{StoredEvent, StoredMoves, StoredRun, StoredState};
+ghost use Rattle.laws_runs.specs.CheckpointSteps.{CheckpointedMove, CheckpointedMoves, CheckpointedState};
+ghost use Rattle.laws_runs.specs.CheckpointedStates.{IsAtCheckpoints};
+ghost use Rattle.laws_runs.specs.CheckpointedStays.{CheckpointedRun, IsCheckpointedUp};
 ghost use Rattle.shore_format.specs.Pairs.{AreFormatted};
-ghost use Rattle.laws_runs.specs.SoundStores.{IsUnderWay, found_state, managed};
-ghost use Rattle.laws_runs.specs.Stays.{IsStoredUp};
-ghost use Rattle.laws_images.specs.StandsFor.{StandsFor};
+ghost use Rattle.laws_images.specs.StandsBehind.{StandsForBehind, anchored_by};
 ghost use Rattle.shore_world.specs.declared.event.Event.{Event};
 ghost use Rattle.shore_world.specs.declared.world.World.{World};
 ghost use Rattle.shore_world.specs.Crashes.{AreEnded, AreLeft};
 ghost use Rattle.shore_world.specs.Events.{IsServedEvent};
+ghost use Rattle.shore_world.specs.EventMoves.{PlainMove, moves_among};
 ghost use Rattle.shore_world.specs.Lives.{DumpsShow, HaveLived};
 ghost use Rattle.shore_world.specs.Managers.{AreFound, AreStays, IsManager, IsRunOf, Manager, NoForceIsFull, Stay};
 ghost use Rattle.shore_world.specs.Opens.{AreEndedInOpen, HasOpened, LeftByOpen, OpensAlong};
@@ -33,19 +34,21 @@ ghost use Rattle.shore_world.specs.Worlds.{IsAt, Runs, geometry_in, history_in, 
 
 use shore_disk::Disk;
 
-/// A run of the world, from the state and the store of a manager under way, is a run of the manager over plain data with its store: calls with their
-/// work, a failure for each read of a dump that failed, and work between them. The manager stays under way, so that pages and log have room for what
-/// stands and for each undo, and its store may lose power at any moment.
+/// A run of the world, from the state and the store of a manager under way with its checkpoints, is a run of such a manager over plain data: calls with their
+/// work, a failure for each read of a dump that failed, work between them, and steps of checkpoints. The manager stays under way, so that pages and log have room for what
+/// stands, for each undo and for the checkpoint under way, and its store may lose power at any moment. The front of the log keeps its label, and its anchor may move.
 pub fn runs_are_stored_runs<L: Disk, V: Disk>()
-    ensures { (old new : World L V L.Disk V.Disk) (events : List Event) (steps : List Step) (moves : List ManagerEvent) (log_front front : List ℕ) (disk : ℕ → List ℕ)
-        (o : Opening) (found : List LogRecord) (es : List Entry) (m : StoredState) →
-        All IsServedEvent events → Runs old events steps moves new → IsAt old log_front front disk m.state m.store → IsUnderWay (geometry_in old) (stream_bytes_in old) o found es m →
-        (stored : List StoredEvent) × (last : StoredState) × (made : List Entry) × (left : ℕ → List ℕ) × StoredMoves (geometry_in old) m stored last made × (managed stored ≡ moves)
-        × IsAt new log_front front left last.state last.store × IsUnderWay (geometry_in old) (stream_bytes_in old) o found (es ++ made) last }
+    ensures { (old new : World L V L.Disk V.Disk) (events : List Event) (steps : List Step) (moves : List PlainMove) (log_front front : List ℕ) (disk : ℕ → List ℕ)
+        (o : Opening) (found : List LogRecord) (es : List Entry) (m : CheckpointedState) →
+        All IsServedEvent events → Runs old events steps moves new → IsAt old log_front front disk m.state m.store → IsAtCheckpoints (geometry_in old) (stream_bytes_in old) o found es m →
+        (plain : List CheckpointedMove) × (last : CheckpointedState) × (made : List Entry) × (left : ℕ → List ℕ) × (last_front : List ℕ)
+        × CheckpointedMoves (geometry_in old) m plain last made × (moves_among plain ≡ moves) × IsAt new last_front front left last.state last.store
+        × IsAtCheckpoints (geometry_in old) (stream_bytes_in old) o found (es ++ made) last × (take 512 last_front ≡ take 512 log_front) }
 {}
 
 /// Format, and then any number of stays: managers, and opens that came to none. Each ends at any moment, in opens too: both devices lose power at once, or the
-/// process ends, or the devices are handed back; and then they are opened again. Whatever pair of images may be left in the end, it stands for a log, and for
+/// process ends, or the devices are handed back; and then they are opened again. Among the events of a manager are the steps of checkpoints, which cut the log off below the tail that
+/// its anchor names. Whatever pair of images may be left in the end, it stands, behind the anchor that counts there, for a log, and for
 /// pages with whatever of undecided transactions was written back (`left`): so its open answers unless a device or an allocation fails. What that log
 /// tells is the empty store with the committed transactions of each manager applied in turn, those of a prefix of its decisions that holds every acknowledged
 /// one, each transaction alone, in the order of the commits; and in doubt are those that these decisions have prepared and not decided further. Each open on the
@@ -57,11 +60,13 @@ pub fn runs_are_stored_runs<L: Disk, V: Disk>()
 pub fn committed_work_survives_every_crash<L: Disk, V: Disk>()
     ensures left { (g : Geometry) (log_bytes volume_bytes : ℕ) (stays : List (Stay L V L.Disk V.Disk)) (log volume : DeviceHistory) (log_image volume_image : List ℕ) →
         AreStays log_bytes volume_bytes (AreFormatted g log_bytes volume_bytes) stays log volume → may_leave log log_image → may_leave volume volume_image →
-        (rs : List LogRecord) × (pages : LoggedPages) × (o : Opening) × StandsFor g log_bytes volume_bytes rs pages log_image volume_image × HaveLived g stays o rs pages }
+        (anchor : Anchor) × (rs : List LogRecord) × (pages : LoggedPages) × (o : Opening) × StandsForBehind g log_bytes volume_bytes anchor rs pages log_image volume_image
+        × HaveLived g (log_bytes - LOG_FRONT_BYTES) stays o (anchored_by anchor) rs pages }
     ensures shown { (g : Geometry) (log_bytes volume_bytes : ℕ) (stays : List (Stay L V L.Disk V.Disk)) (log volume : DeviceHistory) (w : World L V L.Disk V.Disk) →
         AreStays log_bytes volume_bytes (AreFormatted g log_bytes volume_bytes) stays log volume →
-        ((rs : List LogRecord) (pages : LoggedPages) → StandsFor g (size log) (size volume) rs pages (seen log) (seen volume) → HasOpened w g log volume rs pages) →
-        (rs : List LogRecord) × (pages : LoggedPages) × (o : Opening) × HaveLived g stays o rs pages × ((k : IsManagerOf w o [] []) × HasInDoubt w o rs k.now.state)
+        ((anchor : Anchor) (rs : List LogRecord) (pages : LoggedPages) → StandsForBehind g (size log) (size volume) anchor rs pages (seen log) (seen volume) → HasOpened w g anchor log volume rs pages) →
+        (anchor : Anchor) × (rs : List LogRecord) × (pages : LoggedPages) × (o : Opening) × HaveLived g (log_bytes - LOG_FRONT_BYTES) stays o (anchored_by anchor) rs pages
+        × ((k : IsManagerOf w o [] []) × HasInDoubt w o rs k.now.state)
         × DumpsShow w (records_told rs) × (records_told rs ≡ shown (history_from o []) []) × Harmony (held_by_all (requests_in w)) × WellRooted (held_by_all (requests_in w)) }
 {}
 
@@ -76,8 +81,8 @@ pub fn pairs_are_found_again<L: Disk, V: Disk>()
         Stands volume_now volume_image → AreFound (size log_now) (size volume_now) (LeftByOpen log volume) log_now volume_now }
     ensures closed { (w : World L V L.Disk V.Disk) → AreFound (size (history_in w)) (size (volume_history_in w)) (AreLeft w) (history_in w) (volume_history_in w) }
     ensures refused { (log volume log_now volume_now : DeviceHistory) (fault : Fault) (l : L) (v : V) → L.Disk.history l ≡ log_now → V.Disk.history v ≡ volume_now →
-        ((g : Geometry) (rs : List LogRecord) (pages : LoggedPages) → StandsFor g (size log) (size volume) rs pages (seen log) (seen volume) →
-        OpensAlong {G = L.Disk} {H = V.Disk} (Err (fault, l, v)) g log volume rs pages) →
+        ((g : Geometry) (anchor : Anchor) (rs : List LogRecord) (pages : LoggedPages) → StandsForBehind g (size log) (size volume) anchor rs pages (seen log) (seen volume) →
+        OpensAlong {G = L.Disk} {H = V.Disk} (Err (fault, l, v)) g anchor log volume rs pages) →
         (log_image volume_image : List ℕ) → may_leave log_now log_image → may_leave volume_now volume_image → LeftByOpen log volume log_image volume_image }
     ensures ended { (w : World L V L.Disk V.Disk) (log volume : DeviceHistory) → AreEnded w log volume →
         AreFound (size (history_in w)) (size (volume_history_in w)) (AreLeft w) log volume }
@@ -87,8 +92,8 @@ pub fn pairs_are_found_again<L: Disk, V: Disk>()
 
 /// A manager on a pair that stands for a log and pages is a stay of the power over plain data, and no force of it is refused by `LogFull`.
 pub fn runs_stay_in_bounds<L: Disk, V: Disk>()
-    ensures { (g : Geometry) (o : Opening) (rs : List LogRecord) (pages : LoggedPages) (manager : Manager L V L.Disk V.Disk) →
-        StandsFor g (size manager.log) (size manager.volume) rs pages (seen manager.log) (seen manager.volume) → IsOpeningOf rs o → IsManager manager →
-        ((run : StoredRun) × IsRunOf manager run × IsStoredUp g (size manager.log - LOG_FRONT_BYTES) o (found_state rs pages) run)
+    ensures { (g : Geometry) (o : Opening) (anchor : Anchor) (rs : List LogRecord) (pages : LoggedPages) (manager : Manager L V L.Disk V.Disk) →
+        StandsForBehind g (size manager.log) (size manager.volume) anchor rs pages (seen manager.log) (seen manager.volume) → IsOpeningOf rs o → IsManager manager →
+        ((run : CheckpointedRun) × IsRunOf manager run × IsCheckpointedUp g (size manager.log - LOG_FRONT_BYTES) o (anchored_by anchor) rs pages run)
         × NoForceIsFull manager.events manager.steps }
 {}

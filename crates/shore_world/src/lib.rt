@@ -3,6 +3,7 @@
 //! redoes what pages lack and undoes the losers.
 #![tactic(auto)]
 
+mod checkpointing;
 mod event;
 pub mod laws;
 mod opening;

@@ -1,5 +1,5 @@
 //! What an open makes of the volume, and what it is refused with.
-ghost use Rattle.std.specs.Prelude.{◌≡◌, ◌≢◌, ◌⊎◌, ◌≤◌, ℕ, List, [], ◌∷◌, IsTrue, IfOk, IfErr, OnOk, Err, None, length, map, take};
+ghost use Rattle.std.specs.Prelude.{◌≡◌, ◌≢◌, ◌⊎◌, ◌+◌, ◌≤◌, ℕ, List, [], ◌∷◌, IsTrue, IfOk, IfErr, OnOk, Err, None, length, map, take};
 ghost use Rattle.shore_types.specs.Images.{Image};
 ghost use Rattle.shore_types.specs.Layout.{HasPage, IsInLimits};
 ghost use Rattle.shore_types.specs.declared.faults.Device.TheVariants as Device;
@@ -7,6 +7,7 @@ ghost use Rattle.shore_types.specs.declared.ids.PageId.{PageId};
 ghost use Rattle.shore_types.specs.declared.layout.TheConstants.{MAX_POOL_FRAMES, MIN_POOL_FRAMES};
 ghost use Rattle.shore_disk.specs.Cause.{HasCause};
 ghost use Rattle.shore_disk.specs.Device.{LeavesOnly, size, seen, Stands};
+ghost use Rattle.shore_gate.specs.Anchor.{offset_of};
 ghost use Rattle.shore_gate.specs.Checks.{IsFromOutside};
 ghost use Rattle.shore_gate.specs.declared.gates.TheConstants.{OPEN};
 ghost use Rattle.shore_page.specs.Slots.{settled};
@@ -21,7 +22,7 @@ ghost use Rattle.shore_heap.specs.Heaps as heaps;
 ghost use Rattle.shore_heap.specs.Heaps.{frame_at, limit_of};
 ghost use Rattle.shore_frames.specs.Offsets.{IsFrameOf};
 ghost use Rattle.shore_log.specs.Settled as logs;
-ghost use Rattle.shore_log.specs.Settled.{stable};
+ghost use Rattle.shore_log.specs.Settled.{cut_of_log, stable};
 ghost use Rattle.shore_restart.specs.declared.errors.RestartError.TheVariants as RestartError;
 ghost use Rattle.shore_restart.specs.Held.{IsHeld};
 ghost use Rattle.shore_world.specs.OpenedVolumes.{fault_of_volume, volume_of};
@@ -77,11 +78,12 @@ pub fn open_volume<D: Disk>(
 }
 
 /// What an open is refused with, by the place that the error of its restart speaks of.
-pub fn fault_of<D: Disk>(error: RestartError, anchor_offset: u64, log: &LogDev<D>) -> Fault
+pub fn fault_of<D: Disk>(error: RestartError, log: &LogDev<D>) -> Fault
     ensures memory { error ≡ RestartError.Memory → result ≡ Fault.Memory }
-    ensures room { error ≡ RestartError.NoRoom → result ≡ Fault.Damaged Device.Log anchor_offset }
+    ensures anchor { (error ≡ RestartError.NoRoom) ⊎ (error ≡ RestartError.BadAnchor) → result ≡ Fault.Damaged Device.Log (offset_of log.now.anchors.slot) }
     ensures record_of { (n : ℕ) → error ≡ RestartError.BadRecord n → (offset : ℕ) × (result ≡ Fault.Damaged Device.Log offset)
-        × ((front : List ℕ) → logs.IsSettled log.now front → 1 ≤ n → n ≤ length (stable log.now) → IsFrameOf 1 0 (seen (D.history log.now.device)) n offset) }
+        × ((tail place : ℕ) (front : List ℕ) → logs.IsSettledFrom tail place log.now front → tail ≤ n → n ≤ cut_of_log log.now + length (stable log.now)
+        → IsFrameOf tail place (seen (D.history log.now.device)) n offset) }
     ensures page { (fault : Fault) → error ≡ RestartError.Page fault → result ≡ fault }
     ensures force { (fault : Fault) → error ≡ RestartError.Log fault → result ≡ fault }
     ensures others { ((fault : Fault) → error ≢ RestartError.Page fault) → ((fault : Fault) → error ≢ RestartError.Log fault) → result ≢ Fault.Device }
@@ -89,7 +91,9 @@ pub fn fault_of<D: Disk>(error: RestartError, anchor_offset: u64, log: &LogDev<D
     match error {
         RestartError::Page(fault) | RestartError::Log(fault) => fault,
         RestartError::Memory => Fault::Memory,
-        RestartError::NoRoom => Fault::damaged(Device::Log, anchor_offset),
+        RestartError::NoRoom | RestartError::BadAnchor => {
+            Fault::damaged(Device::Log, log.anchor_offset())
+        }
         RestartError::BadRecord(number) => Fault::damaged(Device::Log, log.frame_of(number)),
     }
 }

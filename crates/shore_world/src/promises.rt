@@ -3,9 +3,10 @@
 //! of one makes another (`runs_are_histories`).
 ghost use Rattle.std.specs.Cmp.Lexicographic.{slice_cmp};
 ghost use Rattle.std.specs.FinMap.{is_sorted};
+ghost use Rattle.std.specs.List.{AllByRecursion};
 ghost use Rattle.std.specs.List.Sorted.{IsStrictlySortedBy};
 ghost use Rattle.std.specs.Ordering.{nat_cmp};
-ghost use Rattle.std.specs.Prelude.{◌≡◌, ◌≢◌, ◌↔◌, ◌⊎◌, ◌<◌, ◌≤◌, ◌∷◌, ◌++◌, ℕ, Bool, List, [], All, IsTrue, None, Some, false, length, map, take, true};
+ghost use Rattle.std.specs.Prelude.{◌≡◌, ◌≢◌, ◌↔◌, ◌⊎◌, ◌<◌, ◌≤◌, ◌∷◌, ◌++◌, ◌-◌, ℕ, Bool, List, [], All, IsTrue, None, Some, drop, false, length, map, take, true};
 ghost use Rattle.shore_types.specs.declared.faults.Device.{Device};
 ghost use Rattle.shore_types.specs.declared.faults.Fault.{Fault};
 ghost use Rattle.shore_types.specs.declared.faults.Fault.TheVariants as fault;
@@ -17,7 +18,7 @@ ghost use Rattle.shore_model.specs.Locks.{Harmony, WellRooted};
 ghost use Rattle.shore_model.specs.Logs.{is_over, logged_writes, records_told};
 ghost use Rattle.shore_model.specs.Records.{overlays};
 ghost use Rattle.shore_model.specs.Requests.{HasNoCycle, held_by_all};
-ghost use Rattle.shore_model.specs.declared.calls.Answer.TheVariants.{Aborted, AreInDoubt, Committed, IsDurable};
+ghost use Rattle.shore_model.specs.declared.calls.Answer.TheVariants.{Aborted, AreInDoubt, Committed, IsDurable, Moved};
 ghost use Rattle.shore_model.specs.declared.calls.Call.TheVariants.{Abort, Commit, InDoubt, Prepare, Resolve};
 ghost use Rattle.shore_model.specs.declared.calls.Call.{Call};
 ghost use Rattle.shore_model.specs.declared.calls.Outcome.{Outcome};
@@ -40,7 +41,6 @@ ghost use Rattle.laws_lives.specs.Undo.{IsLoser};
 ghost use Rattle.laws_lives.specs.Views.{IsAmong};
 ghost use Rattle.laws_calls.specs.CallSteps.{CallStep};
 ghost use Rattle.laws_calls.specs.Causes.{EarnsRefusal};
-ghost use Rattle.laws_calls.specs.Events.{ManagerEvent};
 ghost use Rattle.laws_calls.specs.LockChanges.{ChangesLocks};
 ghost use Rattle.laws_calls.specs.Midway.{AsksAgainIn, AsksIn, HasItsWait, Interlude, Intervene, IsItsCycle, IsMidway, but_doomed, cycles_among, victims_among};
 ghost use Rattle.laws_calls.specs.Shapes.{EndsAtOnce, IsLackOfRoom, IsNoRefusal, ResolvesTxn, WaitsForItsRecord, rollback_of};
@@ -50,18 +50,23 @@ ghost use Rattle.shore_world.specs.declared.event.Event.TheVariants as event;
 ghost use Rattle.shore_world.specs.declared.event.Event.{Event};
 ghost use Rattle.shore_world.specs.declared.world.World.{World};
 ghost use Rattle.shore_world.specs.Events.{IsServedEvent};
+ghost use Rattle.shore_world.specs.EventMoves.{PlainMove};
 ghost use Rattle.shore_world.specs.Exchanges.{tellings_in, tellings_of, waited_after};
 ghost use Rattle.shore_world.specs.Lives.{DumpsShow};
-ghost use Rattle.shore_world.specs.Promises.{AreUnended, FlushesIfAny, GoesOnAs, HasFailedStep, HasStood, IsAskedFor, IsManagerOf, IsRefusedStep, IsStateOf, IsToldByItsFirst, OpensIfAny, StagesIfAny};
+ghost use Rattle.laws_runs.specs.CheckpointSteps.{CheckpointMoves};
+ghost use Rattle.shore_check.specs.declared.stage.Named.{Named};
+ghost use Rattle.shore_check.specs.declared.stage.Stage.TheVariants as stage;
+ghost use Rattle.shore_core.specs.Cores.{heap_of};
+ghost use Rattle.shore_world.specs.Promises.{AreUnended, ChecksIfAny, FlushesIfAny, GoesOnAs, HasFailedStep, HasStood, IsAskedFor, IsManagerOf, IsRefusedStep, IsSameButForLog, IsStateOf, IsToldByItsFirst, OpensIfAny, StagesIfAny, gained};
 ghost use Rattle.laws_calls.specs.SessionWaits.{HasTheFirst, IsDecisionWait};
-ghost use Rattle.shore_world.specs.Worlds.{IsUnchanged, Runs, Steps, durable_in, failed_in, geometry_in, list_in, requests_in};
+ghost use Rattle.shore_world.specs.Worlds.{IsFullIn, IsRoomyIn, IsUnchanged, Runs, Steps, cut_in, durable_in, failed_in, geometry_in, last_in, list_in, requests_in};
 
 use shore_disk::Disk;
 
 /// A run goes on with the history of its manager: what it adds are the calls of its events with the very answers and refusals of their steps, and the tickets that were
 /// asked for with what was said of them, in their order.
 pub fn runs_are_histories<L: Disk, V: Disk>()
-    ensures { (w new : World L V L.Disk V.Disk) (o : Opening) (es : List Entry) (ws : List (ℕ × Call)) (events : List Event) (steps : List Step) (moves : List ManagerEvent) →
+    ensures { (w new : World L V L.Disk V.Disk) (o : Opening) (es : List Entry) (ws : List (ℕ × Call)) (events : List Event) (steps : List Step) (moves : List PlainMove) →
         IsManagerOf w o es ws → All IsServedEvent events → Runs w events steps moves new →
         (made : List Entry) × IsManagerOf new o (es ++ made) (waited_after ws events steps) × (tellings_in made ≡ tellings_of ws events steps) }
 {}
@@ -81,27 +86,28 @@ pub fn histories_are_sound<L: Disk, V: Disk>()
     ensures sound { (w : World L V L.Disk V.Disk) (o : Opening) (es : List Entry) (ws : List (ℕ × Call)) → IsManagerOf w o es ws →
         IsHistory (history_from o es) × Sound (history_from o es) }
     ensures decided { (w : World L V L.Disk V.Disk) (o : Opening) (es : List Entry) (ws : List (ℕ × Call)) → (k : IsManagerOf w o es ws) →
-        decisions es ≡ decisions_in (length k.found) (list_in w) }
+        decisions es ≡ decisions_in (length k.found) k.now.state.log }
 {}
 
 /// Nothing is decided but by the call that asks for it: the records that a call appends decide nothing, or one thing, which it asks for (`IsAskedFor`), of the transaction
-/// that its session is in or that it resolves. A commit decides as it is answered, and a prepare and a resolve before that. A resume, an ask, a force and a flush append no
-/// decision.
+/// that its session is in or that it resolves. A commit decides as it is answered, and a prepare and a resolve before that. A resume, an ask, a force, a flush and a checkpoint
+/// append no decision.
 pub fn decisions_come_by_the_calls_that_ask_for_them<L: Disk, V: Disk>()
     ensures call { (w new : World L V L.Disk V.Disk) (o : Opening) (es : List Entry) (ws : List (ℕ × Call)) (session : ℕ) (c : Call) (step : Step) →
-        (k : IsManagerOf w o es ws) → IsServed c → Steps w (event.Call session c) step new → (decisions_in (length (list_in w)) (list_in new) ≡ [])
-        ⊎ ((a : SessionTxn) × (d : Decision) × (decisions_in (length (list_in w)) (list_in new) ≡ d ∷ []) × IsAskedFor a.txn c step d
+        (k : IsManagerOf w o es ws) → IsServed c → Steps w (event.Call session c) step new → (decisions_in 0 (gained w new) ≡ [])
+        ⊎ ((a : SessionTxn) × (d : Decision) × (decisions_in 0 (gained w new) ≡ d ∷ []) × IsAskedFor a.txn c step d
         × (IsOfSession k.now.state session a ⊎ ResolvesTxn k.now.state c a)) }
     ensures others { (w new : World L V L.Disk V.Disk) (o : Opening) (es : List Entry) (ws : List (ℕ × Call)) (e : Event) (step : Step) →
-        IsManagerOf w o es ws → ((session : ℕ) (c : Call) → e ≢ event.Call session c) → Steps w e step new → decisions_in (length (list_in w)) (list_in new) ≡ [] }
+        IsManagerOf w o es ws → ((session : ℕ) (c : Call) → e ≢ event.Call session c) → Steps w e step new → decisions_in 0 (gained w new) ≡ [] }
 {}
 
 /// A prepare that waits has appended its record, which lists, rising, all granules that its transaction holds in EX, and no others.
 pub fn prepares_list_what_is_held<L: Disk, V: Disk>()
     ensures { (w new : World L V L.Disk V.Disk) (o : Opening) (es : List Entry) (ws : List (ℕ × Call)) (session n : ℕ) (global : List ℕ) → (k : IsManagerOf w o es ws) →
-        Steps w (event.Call session (Prepare global)) (Waits (Durable n)) new → (a : SessionTxn) × IsOfSession k.now.state session a × ((granules : List Granule)
-        × (list_in new ≡ and_record a.txn (list_in w) (logged.Prepare global granules)) × AreExclusive (held_by_all (requests_in w)) a.txn granules
-        × IsStrictlySortedBy granule_cmp granules) }
+        Steps w (event.Call session (Prepare global)) (Waits (Durable n)) new → (on : GoesOnAs new o es ws (event.Call session (Prepare global)) (Waits (Durable n)))
+        × ((a : SessionTxn) × IsOfSession k.now.state session a × ((granules : List Granule)
+        × (on.manager.now.state.log ≡ and_record a.txn k.now.state.log (logged.Prepare global granules)) × AreExclusive (held_by_all (requests_in w)) a.txn granules
+        × IsStrictlySortedBy granule_cmp granules)) }
 {}
 
 /// Who is in doubt is told to whoever asks: those, and nobody else, whom the history has prepared and not decided further, its opening's too, rising by the bytes of their
@@ -115,10 +121,11 @@ pub fn those_in_doubt_are_listed<L: Disk, V: Disk>()
         IsManagerOf w o es ws → Steps w (event.Call session InDoubt) (Done (AreInDoubt pairs)) new → IsTrue (is_sorted (slice_cmp nat_cmp) pairs) }
 {}
 
-/// The log tells what is shown: the serial records of all decisions, with what those in doubt have written over them.
+/// The log tells what is shown: the serial records of all decisions, with what those in doubt have written over them. That is the whole log, of which the world keeps what
+/// `states_are_seen` says: what is cut off has done its part.
 pub fn the_log_tells_what_is_shown<L: Disk, V: Disk>()
-    ensures { (w : World L V L.Disk V.Disk) (o : Opening) (es : List Entry) (ws : List (ℕ × Call)) → IsManagerOf w o es ws →
-        records_told (list_in w) ≡ shown (history_from o es) (decisions es) }
+    ensures { (w : World L V L.Disk V.Disk) (o : Opening) (es : List Entry) (ws : List (ℕ × Call)) → (k : IsManagerOf w o es ws) →
+        records_told k.now.state.log ≡ shown (history_from o es) (decisions es) }
 {}
 
 /// Records in place: a dump shows the serial records, overlaid with what each transaction under way has logged last at each id. That is what it has written,
@@ -126,7 +133,7 @@ pub fn the_log_tells_what_is_shown<L: Disk, V: Disk>()
 /// history is in one of these, and all in doubt are among them. By the log none of these is over, and each loser is among them.
 pub fn records_are_in_place<L: Disk, V: Disk>()
     ensures shown { (w : World L V L.Disk V.Disk) (o : Opening) (es : List Entry) (ws : List (ℕ × Call)) → (k : IsManagerOf w o es ws) →
-        DumpsShow w (overlays (serial_after o es) (map (logged_writes (list_in w)) (txns_of k.now.state.sessions.active))) }
+        DumpsShow w (overlays (serial_after o es) (map (logged_writes k.now.state.log) (txns_of k.now.state.sessions.active))) }
     ensures unended { (w : World L V L.Disk V.Disk) (o : Opening) (es : List Entry) (ws : List (ℕ × Call)) → (k : IsManagerOf w o es ws) →
         AreUnended o es (txns_of k.now.state.sessions.active) }
     ensures all { (w : World L V L.Disk V.Disk) (o : Opening) (es : List Entry) (ws : List (ℕ × Call)) (session t : ℕ) → (k : IsManagerOf w o es ws) →
@@ -135,9 +142,9 @@ pub fn records_are_in_place<L: Disk, V: Disk>()
     ensures doubts { (w : World L V L.Disk V.Disk) (o : Opening) (es : List Entry) (ws : List (ℕ × Call)) (t : ℕ) (global : List ℕ) → (k : IsManagerOf w o es ws) →
         IsAmong (t, global) (in_doubt o.in_doubt (decisions es)) → IsAmong t (txns_of k.now.state.sessions.active) }
     ensures not_over { (w : World L V L.Disk V.Disk) (o : Opening) (es : List Entry) (ws : List (ℕ × Call)) (t : ℕ) → (k : IsManagerOf w o es ws) →
-        IsAmong t (txns_of k.now.state.sessions.active) → is_over t (list_in w) ≡ false }
+        IsAmong t (txns_of k.now.state.sessions.active) → is_over t k.now.state.log ≡ false }
     ensures losers { (w : World L V L.Disk V.Disk) (o : Opening) (es : List Entry) (ws : List (ℕ × Call)) (t : ℕ) → (k : IsManagerOf w o es ws) →
-        IsLoser (list_in w) t → IsAmong t (txns_of k.now.state.sessions.active) }
+        IsLoser k.now.state.log t → IsAmong t (txns_of k.now.state.sessions.active) }
 {}
 
 /// Undo is never refused: neither an abort nor a way back nor a resolve to abort is refused by `StoreFull`, `LogFull`, `LockTableFull` or as a victim.
@@ -183,10 +190,10 @@ pub fn refusals_are_earned<L: Disk, V: Disk>()
 /// that stood in the midst of an event of the run, perhaps of this very resume, from the session's transaction on, the greatest of it. It is told in that very
 /// transaction: the one with which the cycle begins.
 pub fn cycles_that_are_told_stood<L: Disk, V: Disk>()
-    ensures stood { (w last new : World L V L.Disk V.Disk) (o : Opening) (es : List Entry) (events : List Event) (steps : List Step) (moves : List ManagerEvent) (session : ℕ) (cycle : List ℕ) →
+    ensures stood { (w last new : World L V L.Disk V.Disk) (o : Opening) (es : List Entry) (events : List Event) (steps : List Step) (moves : List PlainMove) (session : ℕ) (cycle : List ℕ) →
         IsManagerOf w o es [] → All IsServedEvent events → Runs w events steps moves last → Steps last (event.Resume session) (Refused (fault.Deadlock cycle)) new →
         HasStood w o es [] (events ++ event.Resume session ∷ []) (steps ++ Refused (fault.Deadlock cycle) ∷ []) new session cycle }
-    ensures first { (w last new : World L V L.Disk V.Disk) (o : Opening) (es : List Entry) (events : List Event) (steps : List Step) (moves : List ManagerEvent) (session : ℕ) (cycle : List ℕ) →
+    ensures first { (w last new : World L V L.Disk V.Disk) (o : Opening) (es : List Entry) (events : List Event) (steps : List Step) (moves : List PlainMove) (session : ℕ) (cycle : List ℕ) →
         IsManagerOf w o es [] → All IsServedEvent events → Runs w events steps moves last → Steps last (event.Resume session) (Refused (fault.Deadlock cycle)) new →
         IsToldByItsFirst new o (waited_after [] events steps) session cycle }
 {}
@@ -223,7 +230,7 @@ pub fn waits_are_true<L: Disk, V: Disk>()
         (on : GoesOnAs new o es ws (event.Resume session) (Waits (Lock at))) × HasItsWait on.manager.now.state session at }
     ensures record_of { (w new : World L V L.Disk V.Disk) (o : Opening) (es : List Entry) (ws : List (ℕ × Call)) (session n : ℕ) (c : Call) →
         (k : IsManagerOf w o es ws) → IsServed c → Steps w (event.Call session c) (Waits (Durable n)) new → (on : GoesOnAs new o es ws (event.Call session c) (Waits (Durable n)))
-        × WaitsForItsRecord k.now.state session c n on.manager.now.state × (durable_in new < n) × (n ≤ length (list_in new)) }
+        × WaitsForItsRecord k.now.state session c n on.manager.now.state × (durable_in new < n) × (n ≤ last_in new) }
     ensures record_on { (w new : World L V L.Disk V.Disk) (o : Opening) (es : List Entry) (ws : List (ℕ × Call)) (session n : ℕ) →
         (k : IsManagerOf w o es ws) → Steps w (event.Resume session) (Waits (Durable n)) new →
         (waited : Waiting) × IsAmong waited k.now.state.waiting × (waited.session ≡ session) × (waited.wait ≡ Durable n)
@@ -234,9 +241,10 @@ pub fn waits_are_true<L: Disk, V: Disk>()
 /// ticket is told to be durable just if its record is, whatever has failed, and the world is what it was.
 pub fn tickets_are_true<L: Disk, V: Disk>()
     ensures commit { (w new : World L V L.Disk V.Disk) (o : Opening) (es : List Entry) (ws : List (ℕ × Call)) (session ticket : ℕ) → (k : IsManagerOf w o es ws) →
-        Steps w (event.Call session Commit) (Done (Committed ticket)) new → (a : SessionTxn) × IsOfSession k.now.state session a × (list_in new ≡ and_record a.txn (list_in w) logged.Commit)
-        × (ticket ≡ length (list_in new)) × (requests_in new ≡ released a.txn (requests_in w))
-        × ((on : GoesOnAs new o es ws (event.Call session Commit) (Done (Committed ticket))) × (session_state session free (es ++ on.made) ≡ free)) }
+        Steps w (event.Call session Commit) (Done (Committed ticket)) new → (a : SessionTxn) × IsOfSession k.now.state session a
+        × (ticket ≡ last_in new) × (requests_in new ≡ released a.txn (requests_in w))
+        × ((on : GoesOnAs new o es ws (event.Call session Commit) (Done (Committed ticket))) × (on.manager.now.state.log ≡ and_record a.txn k.now.state.log logged.Commit)
+        × (session_state session free (es ++ on.made) ≡ free)) }
     ensures waits { (w new : World L V L.Disk V.Disk) (o : Opening) (es : List Entry) (ws : List (ℕ × Call)) (session : ℕ) (wait : Wait) →
         IsManagerOf w o es ws → Steps w (event.Call session Commit) (Waits wait) new → ⊥ }
     ensures asked { (w new : World L V L.Disk V.Disk) (o : Opening) (es : List Entry) (ws : List (ℕ × Call)) (ticket : ℕ) (step : Step) → IsManagerOf w o es ws →
@@ -249,10 +257,10 @@ pub fn tickets_are_true<L: Disk, V: Disk>()
 pub fn readers_are_not_kept_alone<L: Disk, V: Disk>()
     ensures read { (w : World L V L.Disk V.Disk) (o : Opening) (es : List Entry) (ws : List (ℕ × Call)) (session t : ℕ) → IsManagerOf w o es ws → session_state session free es ≡ in_txn t → 0 < t →
         RunsAloneAfter (history_from o es) (decisions es) t }
-    ensures kept { (w last : World L V L.Disk V.Disk) (o : Opening) (es : List Entry) (ws : List (ℕ × Call)) (events : List Event) (steps : List Step) (moves : List ManagerEvent) (session t n : ℕ)
-        (d before : Decision) → (k : IsManagerOf w o es ws) → All IsServedEvent events → Runs w events steps moves last → session_state session free es ≡ in_txn t → 0 < t →
-        decided_txn d ≡ t → IsAmong d (decisions_in (length k.found) (take n (list_in last))) → IsAmong before (decisions es) →
-        IsAmong before (decisions_in (length k.found) (take n (list_in last))) }
+    ensures kept { (w last : World L V L.Disk V.Disk) (o : Opening) (es : List Entry) (ws : List (ℕ × Call)) (events : List Event) (steps : List Step) (moves : List PlainMove) (session t : ℕ) →
+        IsManagerOf w o es ws → All IsServedEvent events → Runs w events steps moves last → session_state session free es ≡ in_txn t → 0 < t →
+        (made : List Entry) × ((on : IsManagerOf last o (es ++ made) (waited_after ws events steps)) × ((n : ℕ) (d before : Decision) → decided_txn d ≡ t →
+        IsAmong d (decisions_in (length on.found) (take n on.now.state.log)) → IsAmong before (decisions es) → IsAmong before (decisions_in (length on.found) (take n on.now.state.log)))) }
 {}
 
 /// Locks only as asked: by a call the requests stay; or a commit or an abort is answered, or a resolve decided and carried out, and all of its transaction's go; or they
@@ -288,7 +296,8 @@ pub fn locks_go_with_decisions<L: Disk, V: Disk>()
 
 /// Steps do their work, unless a device has failed or memory is short. A `ForceStage` stages the longest list of the records not yet durable that one frame holds, and
 /// nothing if there is none of them or a frame is under way. A `ForceOpen` makes durable just the frame that is under way, up to its last record, and nothing if
-/// none is. A step of the flush writes back as many pages as it answers, the first of the volume that are due, and nothing if none is. A resume has nothing to do if no
+/// none is. A step of the flush writes back as many pages as it answers, the first of the volume that are due, and nothing if none is. A step of a checkpoint makes the next of its
+/// four, and nothing exactly if the number that this needs is not durable; it is LogFull at the begin alone, just if a checkpoint as it would be now has no room, though all frames are counted as free that end before its cut point. A resume has nothing to do if no
 /// call of its session waits, and only then; a call always comes to something. Whatever comes to nothing has changed nothing: the world is a manager of the
 /// same state, no call of a device was made, and each page is in its frame.
 pub fn steps_do_their_work<L: Disk, V: Disk>()
@@ -298,6 +307,14 @@ pub fn steps_do_their_work<L: Disk, V: Disk>()
         IsManagerOf w o es ws → Steps w event.ForceOpen step new → HasFailedStep w step ⊎ OpensIfAny w step new }
     ensures flush { (w new : World L V L.Disk V.Disk) (o : Opening) (es : List Entry) (ws : List (ℕ × Call)) (step : Step) →
         IsManagerOf w o es ws → Steps w event.FlushStep step new → IsRefusedStep w step ⊎ FlushesIfAny w step new }
+    ensures checkpoint { (w new : World L V L.Disk V.Disk) (o : Opening) (es : List Entry) (ws : List (ℕ × Call)) (step : Step) →
+        (k : IsManagerOf w o es ws) → Steps w event.CheckpointStep step new →
+        IsRefusedStep w step ⊎ ((w.stage ≡ stage.Resting) × (step ≡ Refused fault.LogFull) × IsFullIn w k.now)
+        ⊎ (ChecksIfAny w step new × (w.stage ≡ stage.Resting → IsRoomyIn w k.now)) }
+    ensures move_takes_no_memory { (w new : World L V L.Disk V.Disk) (named : Named) (step : Step) → Steps w event.CheckpointStep step new → w.stage ≡ stage.Named named → step ≢ Refused fault.Memory }
+    ensures as_plain { (w new : World L V L.Disk V.Disk) (o : Opening) (es : List Entry) (ws : List (ℕ × Call)) (step : Step) →
+        (k : IsManagerOf w o es ws) → Steps w event.CheckpointStep step new →
+        (on : GoesOnAs new o es ws event.CheckpointStep step) × (on.made ≡ []) × CheckpointMoves k.now step on.manager.now }
     ensures resume { (w new : World L V L.Disk V.Disk) (o : Opening) (es : List Entry) (ws : List (ℕ × Call)) (session : ℕ) (step : Step) →
         (k : IsManagerOf w o es ws) → Steps w (event.Resume session) step new → (step ≡ Nothing) ↔ DoesNotWait k.now.state session }
     ensures call { (w new : World L V L.Disk V.Disk) (o : Opening) (es : List Entry) (ws : List (ℕ × Call)) (session : ℕ) (c : Call) →
@@ -306,7 +323,34 @@ pub fn steps_do_their_work<L: Disk, V: Disk>()
         (k : IsManagerOf w o es ws) → IsServedEvent e → Steps w e Nothing new → IsUnchanged w new × ((on : IsManagerOf new o es ws) × (on.now ≡ k.now)) }
 {}
 
-/// What can be seen of the state of a manager, of which the promises speak: its lock requests, its log, what of it is durable, whether a device has failed, and
+/// A checkpoint changes nothing that is shown, and no lock. A step of it is no entry of the history; the state is as before, but for its log, and for a failure of the device: so its
+/// sessions, those in doubt and the calls that wait. Dumps show the same records, as does the whole log, the same requests hold and wait for locks, the same records are durable,
+/// and no page is written. What the log gains are records of checkpoints: of no transaction.
+pub fn checkpoints_change_nothing_shown<L: Disk, V: Disk>()
+    ensures state { (w new : World L V L.Disk V.Disk) (o : Opening) (es : List Entry) (ws : List (ℕ × Call)) (step : Step) → (k : IsManagerOf w o es ws) →
+        Steps w event.CheckpointStep step new → (on : GoesOnAs new o es ws event.CheckpointStep step) × (on.made ≡ [])
+        × IsSameButForLog k.now.state on.manager.now.state × (records_told on.manager.now.state.log ≡ records_told k.now.state.log) }
+    ensures records { (w new : World L V L.Disk V.Disk) (o : Opening) (es : List Entry) (ws : List (ℕ × Call)) (step : Step) → (k : IsManagerOf w o es ws) →
+        Steps w event.CheckpointStep step new → DumpsShow w k.now.state.sessions.records × DumpsShow new k.now.state.sessions.records }
+    ensures locks { (w new : World L V L.Disk V.Disk) (o : Opening) (es : List Entry) (ws : List (ℕ × Call)) (step : Step) → IsManagerOf w o es ws →
+        Steps w event.CheckpointStep step new → requests_in new ≡ requests_in w }
+    ensures durable { (w new : World L V L.Disk V.Disk) (o : Opening) (es : List Entry) (ws : List (ℕ × Call)) (step : Step) → IsManagerOf w o es ws →
+        Steps w event.CheckpointStep step new → durable_in new ≡ durable_in w }
+    ensures pages { (w new : World L V L.Disk V.Disk) (step : Step) → Steps w event.CheckpointStep step new → heap_of new.core ≡ heap_of w.core }
+    ensures gained { (w new : World L V L.Disk V.Disk) (o : Opening) (es : List Entry) (ws : List (ℕ × Call)) (step : Step) → IsManagerOf w o es ws →
+        Steps w event.CheckpointStep step new → AllByRecursion (λ r. r.txn ≡ 0) (gained w new) }
+{}
+
+/// Logs go on: what an event adds stands behind all records that are kept, and it lets go of none of them but by the last step of a checkpoint, the move of the anchor: then of the
+/// first ones, below the anchor's tail.
+pub fn logs_go_on<L: Disk, V: Disk>()
+    ensures kept { (w new : World L V L.Disk V.Disk) (o : Opening) (es : List Entry) (ws : List (ℕ × Call)) (e : Event) (step : Step) → IsManagerOf w o es ws → IsServedEvent e →
+        Steps w e step new → (cut_in w ≤ cut_in new) × (list_in new ≡ drop (cut_in new - cut_in w) (list_in w) ++ gained w new) }
+    ensures cut { (w new : World L V L.Disk V.Disk) (o : Opening) (es : List Entry) (ws : List (ℕ × Call)) (e : Event) (step : Step) → IsManagerOf w o es ws → IsServedEvent e →
+        Steps w e step new → (cut_in new ≡ cut_in w) ⊎ ((e ≡ event.CheckpointStep) × (step ≡ Done Moved)) }
+{}
+
+/// What can be seen of the state of a manager, of which the promises speak: its lock requests, what is kept of its log, what of it is durable, whether a device has failed, and
 /// what dumps show.
 pub fn states_are_seen<L: Disk, V: Disk>()
     ensures { (w : World L V L.Disk V.Disk) (o : Opening) (es : List Entry) (ws : List (ℕ × Call)) → (k : IsManagerOf w o es ws) → IsStateOf w k.now.state }

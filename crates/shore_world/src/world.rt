@@ -1,22 +1,25 @@
 //! The world: a core over its log device and its volume, one event at a time.
 ghost use Rattle.std.specs.List.Sorted.{IsPermutation, IsSorted};
-ghost use Rattle.std.specs.Prelude.{◌≡◌, ◌≢◌, ◌⊎◌, ◌+◌, ◌-◌, ◌≤◌, ◌++◌, ℕ, List, [], ◌∷◌, All, IsTrue, IfOk, IfErr, IsErrAnd, MatchResult, OnOk, OnErr, Err, None, length};
+ghost use Rattle.std.specs.Prelude.{◌≡◌, ◌≢◌, ◌⊎◌, ◌+◌, ◌-◌, ◌≤◌, ◌++◌, ℕ, List, [], ◌∷◌, All, IsTrue, IfOk, IfErr, IsErrAnd, MatchResult, OnOk, OnErr, Err, None, false, length};
 ghost use Rattle.shore_types.specs.Layout.{HasStore};
+ghost use Rattle.shore_types.specs.declared.layout.TheConstants.{LOG_FRONT_BYTES};
 ghost use Rattle.shore_locks.specs.Listing.{request_cmp};
 ghost use Rattle.shore_disk.specs.Device.{size, seen, may_leave};
 ghost use Rattle.shore_disk.specs.Cause.{HasCause};
 ghost use Rattle.shore_disk.specs.Fuse.{fuse_inner};
 ghost use Rattle.shore_disk.specs.AnyDisk.{any_history, is_in_memory};
 ghost use Rattle.shore_disk.specs.Memory.{picked_after};
-ghost use Rattle.shore_log.specs.Settled.{records_of_log, stable};
+ghost use Rattle.shore_log.specs.Settled.{anchor_of, cut_of_log, records_of_log, stable};
 ghost use Rattle.laws_calls.specs.StateChanges.{IsPageFault, with_failure};
 ghost use Rattle.laws_calls.specs.States.{State};
-ghost use Rattle.laws_lives.specs.Recovery.{RecoveryState};
-ghost use Rattle.shore_core.specs.Cores.{IsSafe, durable_of, first_of, heap_of, waiting_of};
+ghost use Rattle.laws_checkpoints.specs.CheckpointedStores.{CheckpointedStore};
+ghost use Rattle.shore_core.specs.Cores.{IsSafe, durable_of, first_of, heap_of, txns_of, waiting_of};
+ghost use Rattle.shore_txn.specs.Transactions.{room_in};
 ghost use Rattle.shore_world.specs.Events.{IsServedEvent, ReadBy};
 
 use crate::Event;
 use crate::opening::{fault_of, open_volume};
+use shore_check::Stage;
 use shore_core::{Core, Step};
 use shore_disk::{AnyDisk, Disk, FuseDisk, Pick};
 use shore_fronts::{Fronts, read_fronts};
@@ -30,29 +33,35 @@ use std::alloc::{AllocError, Global};
 #[derive(Drop)]
 pub struct World<L: Disk, V: Disk> {
     // The calls of the sessions, their transactions and locks, the pages, and the log buffer.
-    core: Core<PlainTail, V>,
+    pub(crate) core: Core<PlainTail, V>,
     // The log device, with all records but those in the log buffer.
-    log: LogDev<L>,
+    pub(crate) log: LogDev<L>,
+    // How far a checkpoint has come.
+    pub(crate) stage: Stage,
     // What the restart did that opened it.
     report: Report,
-    ghost numbers: { first_of core ≡ 1 + length (records_of_log log) },
-    ghost durable_agrees: { durable_of core ≡ length (stable log) },
+    ghost numbers: { first_of core ≡ cut_of_log log + 1 + length (records_of_log log) },
+    ghost durable_agrees: { durable_of core ≡ cut_of_log log + length (stable log) },
+    // The sums of the log count the bytes of its stream.
+    ghost ring: { (room_in (txns_of core)).stream_bytes + LOG_FRONT_BYTES ≡ size (L.Disk.history log.device) },
 }
 
 impl<L: Disk, V: Disk> World<L, V> {
-    ghost use Rattle.shore_world.specs.Worlds.{IsDumpOf, IsInState, IsOverStore, EventMovesWorld, HasForced, HasStaged, HasFailedToRead, IsLike, IsUnchanged, Steps, Runs, HasForceRoom, IsIdle, durable_in, failed_in, frames_in, geometry_in, list_in, report_in, requests_in, fault_in, log_in, volume_in};
+    ghost use Rattle.shore_world.specs.Worlds.{IsAt, IsDumpOf, IsInState, IsOverStore, EventMovesWorld, HasForced, HasStaged, HasFailedToRead, IsLike, IsUnchanged, Steps, Runs, HasForceRoom, IsIdle, anchor_in, anchors_in, cut_in, durable_in, failed_in, frames_in, geometry_in, last_in, list_in, report_in, requests_in, stream_bytes_in, unforced_in, fault_in, log_in, volume_in};
     ghost use Rattle.shore_world.specs.Opens.{OpensAlong};
-    ghost use Rattle.shore_frames.specs.Frames.{Gives};
-    ghost use Rattle.shore_restart.specs.Doubts.{IsTaken};
+    ghost use Rattle.shore_frames.specs.Frames.{GivesFrom};
+    ghost use Rattle.shore_gate.specs.declared.anchors.Anchor.{Anchor};
+    ghost use Rattle.shore_gate.specs.declared.anchors.Anchors.{Anchors};
     ghost use Rattle.shore_restart.specs.Reports.{IsReportOf};
+    ghost use Rattle.shore_restart.specs.Room.{LeavesRoom};
+    ghost use Rattle.shore_world.specs.InOrder.{WereInOrder};
     ghost use Rattle.shore_world.specs.Refusals.{RefusesOpen};
     ghost use Rattle.shore_restart.specs.Missing.{missing_on};
-    ghost use Rattle.laws_images.specs.StandsFor.{StandsFor};
+    ghost use Rattle.laws_images.specs.StandsBehind.{StandsForBehind};
     ghost use Rattle.shore_fronts.specs.Barriers.{IsBeforeBarrier};
     ghost use Rattle.shore_fronts.specs.Causes.{HasCauseOfPair};
     ghost use Rattle.shore_fronts.specs.Pairs.{HaveFronts};
     ghost use Rattle.shore_gate.specs.Checks.{IsFromOutside};
-    ghost use Rattle.shore_dwrite.specs.Shown.{Shows};
     ghost use Rattle.laws_lives.specs.Pages.{LoggedPages};
     ghost use Rattle.shore_model.specs.declared.log_records.LogRecord.{LogRecord};
     ghost use Rattle.shore_types.specs.declared.layout.Geometry.{Geometry};
@@ -75,39 +84,40 @@ impl<L: Disk, V: Disk> World<L, V> {
         requires some { MIN_POOL_FRAMES ≤ frames }
         requires most { frames ≤ MAX_POOL_FRAMES }
 
-        // Its geometry is that of the labels.
-        ensures fronts { IsTrue (L.is_honest log) → IsTrue (V.is_honest volume) → IfOk result (λ w. HaveFronts (geometry_in w) (L.history log) (V.history volume)) }
-        ensures geometry { IsTrue (L.is_honest log) → IsTrue (V.is_honest volume) → (g : Geometry) → HaveFronts g (L.history log) (V.history volume)
-            → IfOk result (λ w. geometry_in w ≡ g) }
+        // Its geometry is that of the labels, and its log is read behind the anchor that counts.
+        ensures fronts { IsTrue (L.is_honest log) → IsTrue (V.is_honest volume) → IfOk result (λ w. HaveFronts (geometry_in w) (anchors_in w) (L.history log) (V.history volume)) }
+        ensures geometry { IsTrue (L.is_honest log) → IsTrue (V.is_honest volume) → (g : Geometry) (counting : Anchors) → HaveFronts g counting (L.history log) (V.history volume)
+            → IfOk result (λ w. (geometry_in w ≡ g) × (anchors_in w ≡ counting)) }
 
-        // If what is read of the devices stands for a log and pages, it passes both barriers and makes its way by steps of a restart, at each moment of
+        // If what is read of the devices stands behind an anchor for a log and pages, it passes both barriers and makes its way by steps of a restart, at each moment of
         // which a crash leaves what may be opened again; the world at its end has all records done and no loser.
-        ensures along { IsTrue (L.is_honest log) → IsTrue (V.is_honest volume) → (g : Geometry) (rs : List LogRecord) (pages : LoggedPages)
-            → StandsFor g (size (L.history log)) (size (V.history volume)) rs pages (seen (L.history log)) (seen (V.history volume))
-            → OpensAlong result g (L.history log) (V.history volume) rs pages }
+        ensures along { IsTrue (L.is_honest log) → IsTrue (V.is_honest volume) → (g : Geometry) (anchor : Anchor) (rs : List LogRecord) (pages : LoggedPages)
+            → StandsForBehind g (size (L.history log)) (size (V.history volume)) anchor rs pages (seen (L.history log)) (seen (V.history volume))
+            → OpensAlong result g anchor (L.history log) (V.history volume) rs pages }
 
-        // It tells what its restart did with the log that the frames give.
-        ensures report { IsTrue (L.is_honest log) → (rs : List LogRecord) → Gives rs (seen (L.history log)) → IfOk result (λ w. IsReportOf rs (report_in w)) }
+        // It tells what its restart did with the records that the frames give.
+        ensures report { IsTrue (L.is_honest log) → IfOk result (λ w. (kept : List LogRecord) → GivesFrom (anchor_in w).tail (anchor_in w).tail_place kept (seen (L.history log))
+            → IsReportOf ((anchor_in w).tail - 1) (anchor_in w).checkpoint kept (report_in w)) }
         // .. of which so many were missing on the pages.
-        ensures redone { IsTrue (L.is_honest log) → IsTrue (V.is_honest volume) → (g : Geometry) (rs : List LogRecord) (pages : LoggedPages)
-            → StandsFor g (size (L.history log)) (size (V.history volume)) rs pages (seen (L.history log)) (seen (V.history volume))
+        ensures redone { IsTrue (L.is_honest log) → IsTrue (V.is_honest volume) → (g : Geometry) (anchor : Anchor) (rs : List LogRecord) (pages : LoggedPages)
+            → StandsForBehind g (size (L.history log)) (size (V.history volume)) anchor rs pages (seen (L.history log)) (seen (V.history volume))
             → IfOk result (λ w. (report_in w).redone ≡ missing_on rs pages) }
         ensures frames { IfOk result (λ w. frames_in w ≡ frames) }
 
-        // What is opened was in order: the frames give the log, each record of it means what it has to, those in doubt can hold what is theirs beside each other, and the
-        // volume shows pages.
-        ensures in_order { IsTrue (L.is_honest log) → IsTrue (V.is_honest volume) → IfOk result (λ w. ((rs : List LogRecord) × Gives rs (seen (L.history log)) × IsTaken (geometry_in w) rs)
-            × ((pages : ℕ → List ℕ) × Shows (geometry_in w) (seen (V.history volume)) pages)) }
+        // What is opened was in order, whatever its pages hold, and the log leaves room in its stream, and numbers, beside what those in doubt have reserved.
+        ensures in_order { IsTrue (L.is_honest log) → IsTrue (V.is_honest volume)
+            → IfOk result (λ w. WereInOrder (geometry_in w) (anchor_in w) (L.history log) (V.history volume) (list_in w)) }
+        ensures room { IfOk result (λ w. LeavesRoom (cut_in w) (list_in w) (stream_bytes_in w)) }
 
         // What is refused goes by the checks in their order. What stands for a log and pages is opened, unless a device or an allocation fails.
         ensures refused { IsTrue (L.is_honest log) → IsTrue (V.is_honest volume)
             → IfErr result (λ e. IsFromOutside e.0 ⊎ RefusesOpen (L.history log) (V.history volume) (L.history e.1) e.0) }
-        ensures stands { IsTrue (L.is_honest log) → IsTrue (V.is_honest volume) → (g : Geometry) (rs : List LogRecord) (pages : LoggedPages)
-            → StandsFor g (size (L.history log)) (size (V.history volume)) rs pages (seen (L.history log)) (seen (V.history volume))
+        ensures stands { IsTrue (L.is_honest log) → IsTrue (V.is_honest volume) → (g : Geometry) (anchor : Anchor) (rs : List LogRecord) (pages : LoggedPages)
+            → StandsForBehind g (size (L.history log)) (size (V.history volume)) anchor rs pages (seen (L.history log)) (seen (V.history volume))
             → IfErr result (λ e. IsFromOutside e.0) }
 
         // Where no label and anchor of one pair stand, nothing is changed: a crash leaves of both devices what it could have left before.
-        ensures kept { IsTrue (L.is_honest log) → IsTrue (V.is_honest volume) → ((g : Geometry) → HaveFronts g (L.history log) (V.history volume) → ⊥)
+        ensures kept { IsTrue (L.is_honest log) → IsTrue (V.is_honest volume) → ((g : Geometry) (counting : Anchors) → HaveFronts g counting (L.history log) (V.history volume) → ⊥)
             → IfErr result (λ e. IsBeforeBarrier (L.history log) (L.history e.1) × IsBeforeBarrier (V.history volume) (V.history e.2)) }
 
         ensures honest { (L.is_honest (log_in result) ≡ L.is_honest log) × (V.is_honest (volume_in result) ≡ V.is_honest volume) }
@@ -115,15 +125,14 @@ impl<L: Disk, V: Disk> World<L, V> {
         ensures cause { HasCauseOfPair (fault_in result) (L.faults log) (L.faults (log_in result)) (V.faults volume) (V.faults (volume_in result)) }
     {
         // Four parts are opened, and each refusal hands back both devices, of which all clauses speak: so its proof keeps more steps than others do.
-        let Fronts {
-            of_pages,
-            anchor_offset,
-            ..
-        } = match read_fronts(alloc, &mut log, &mut volume) {
+        let fronts = match read_fronts(alloc, &mut log, &mut volume) {
             Ok(fronts) => fronts,
             Err(fault) => return Err((fault, log, volume)),
         };
-        let mut log = match LogDev::open(alloc, log) {
+        let anchors = fronts.anchors;
+        let checkpoint = fronts.anchors.anchor.checkpoint;
+        let of_pages = fronts.of_pages;
+        let mut log = match LogDev::open(alloc, log, anchors) {
             Ok(log) => log,
             Err((fault, log)) => return Err((fault, log, volume)),
         };
@@ -131,10 +140,15 @@ impl<L: Disk, V: Disk> World<L, V> {
             Ok(heap) => heap,
             Err((fault, volume)) => return Err((fault, log.into_device(), volume)),
         };
-        match restart(alloc, &mut log, heap) {
-            Ok((core, report)) => Ok(World { core, log, report }),
+        match restart(alloc, &mut log, heap, checkpoint) {
+            Ok((core, report)) => Ok(World {
+                core,
+                log,
+                stage: Stage::Resting,
+                report,
+            }),
             Err((error, heap)) => {
-                let fault = fault_of(error, anchor_offset, &log);
+                let fault = fault_of(error, &log);
                 let volume = heap.into_device().into_device();
                 Err((fault, log.into_device(), volume))
             }
@@ -179,7 +193,7 @@ impl<L: Disk, V: Disk> World<L, V> {
         ensures forced { NeedsForce self.old.core result }
         ensures failed { IsTrue (failed_in self.old) → IfErr result (λ fault. fault ≡ Fault.Failed) }
         ensures served { IfOk result (λ _. HasStore (geometry_in self.old) store) }
-        ensures refused { (front : List ℕ) (disk : ℕ → List ℕ) (s : State) (kept : RecoveryState) → IsInState self.old front disk s → IsSafe (geometry_in self.old) s
+        ensures refused { (front : List ℕ) (disk : ℕ → List ℕ) (s : State) (kept : CheckpointedStore) → IsInState self.old front disk s → IsSafe (geometry_in self.old) s
             → IsOverStore self.old disk s kept → IfErr result (λ fault. (IsTrue (failed_in self.old) × (fault ≡ Fault.Failed))
             ⊎ ((fault ≡ Fault.NoStore) × ¬ HasStore (geometry_in self.old) store) ⊎ (fault ≡ Fault.Memory) ⊎ IsPageFault s fault) }
         ensures volume { SameVolume self.old.core self.new.core }
@@ -191,13 +205,45 @@ impl<L: Disk, V: Disk> World<L, V> {
         self.core.dump(alloc, store)
     }
 
-    /// Every record of the log from the oldest kept number on, in two parts: those that the log device has, and those that have not
-    /// been handed to it yet.
-    pub fn records(&self) -> (&[LogRecord], &[LogRecord])
-        ensures list { result.0.now ++ result.1.now ≡ list_in self.now }
-        ensures parts { (result.0.now ≡ records_of_log self.now.log) × (result.1.now ≡ waiting_of self.now.core) }
+    /// The durable records of the log from the oldest kept number on, which are read from the log device: so it may be refused by `Device`, `Damaged` and
+    /// `Memory`. Nothing else changes.
+    pub fn durable_records(&mut self, alloc: Global) -> Result<Vec<LogRecord>, Fault>
+        ensures found { (log_front front : List ℕ) (disk : ℕ → List ℕ) (s : State) (store : CheckpointedStore) → IsAt self.old log_front front disk s store → failed_in self.old ≡ false
+            → IfOk result (λ records. records.items ≡ stable self.old.log) }
+        ensures undamaged { (log_front front : List ℕ) (disk : ℕ → List ℕ) (s : State) (store : CheckpointedStore) → IsAt self.old log_front front disk s store → failed_in self.old ≡ false
+            → IfErr result (λ fault. (fault ≡ Fault.Device) ⊎ (fault ≡ Fault.Memory)) }
+        ensures list { list_in self.new ≡ list_in self.old }
+        ensures durable { durable_in self.new ≡ durable_in self.old }
+        ensures core { self.new.core ≡ self.old.core }
+
+        // Whatever it answers, runs before and behind it join.
+        ensures like { IsTrue (L.is_honest self.old.log.device) → IsLike self.old self.new }
+        ensures cause { HasCause result (L.faults self.old.log.device) (L.faults self.new.log.device) }
     {
-        (self.log.records(), self.core.waiting())
+        self.log.read_from(alloc)
+    }
+
+    /// The number of the oldest record that is kept, or of the next one where none is.
+    pub fn tail(&self) -> Lsn
+        ensures { result ≡ cut_in self.now + 1 }
+    {
+        Lsn(self.log.cut_off() + 1)
+    }
+
+    /// Copies of the records that are not durable.
+    pub fn waiting(&self, alloc: Global) -> Result<Vec<LogRecord>, AllocError>
+        ensures { IfOk result (λ records. records.items ≡ unforced_in self.now) }
+    {
+        let mut records = self.log.waiting(alloc)?;
+        records.append(&mut self.core.waiting(alloc)?)?;
+        Ok(records)
+    }
+
+    /// The number of the last record, 0 if there is none.
+    pub fn last(&self) -> Lsn
+        ensures { result ≡ last_in self.now }
+    {
+        Lsn(self.core.next().0 - 1)
     }
 
     /// The number of the last durable record, 0 if there is none.
@@ -236,6 +282,7 @@ impl<L: Disk, V: Disk> World<L, V> {
             Event::ForceStage => self.force_stage(alloc),
             Event::ForceOpen => self.force_open(),
             Event::FlushStep => self.core.flush_step(alloc),
+            Event::CheckpointStep => self.checkpoint_step(alloc),
         }
     }
 
@@ -243,6 +290,7 @@ impl<L: Disk, V: Disk> World<L, V> {
         ensures moves { EventMovesWorld self.old Event.ForceStage result self.new }
         ensures staged { (n : ℕ) → result ≡ Step.Done (Answer.Staged n) → HasStaged self.old self.new n }
         ensures volume { heap_of self.new.core ≡ heap_of self.old.core }
+        ensures anchors { anchors_in self.new ≡ anchors_in self.old }
         ensures report { report_in self.new ≡ report_in self.old }
         ensures idle { result ≡ Step.Nothing → IsIdle self.old }
         ensures quiet { result ≡ Step.Nothing → IsUnchanged self.old self.new }
@@ -271,6 +319,7 @@ impl<L: Disk, V: Disk> World<L, V> {
         ensures moves { EventMovesWorld self.old Event.ForceOpen result self.new }
         ensures forced { (n : ℕ) → result ≡ Step.Done (Answer.Forced n) → HasForced self.old self.new n }
         ensures volume { heap_of self.new.core ≡ heap_of self.old.core }
+        ensures anchors { anchors_in self.new ≡ anchors_in self.old }
         ensures report { report_in self.new ≡ report_in self.old }
         ensures shut { result ≡ Step.Nothing → self.old.log.staged ≡ None }
         ensures quiet { result ≡ Step.Nothing → IsUnchanged self.old self.new }
@@ -294,16 +343,17 @@ impl<L: Disk, V: Disk> World<L, V> {
     }
 
     // After a failure of the log device every call is refused.
-    fn refuse(&mut self, fault: Fault) -> Step
+    pub(crate) fn refuse(&mut self, fault: Fault) -> Step
         ensures refused { result ≡ Step.Refused fault }
         ensures failed { fault ≡ Fault.Device → IsTrue (failed_in self.new) }
-        ensures state { fault ≡ Fault.Device → (front : List ℕ) (disk : ℕ → List ℕ) (s : State) (store : RecoveryState) → IsInState self.old front disk s
+        ensures state { fault ≡ Fault.Device → (front : List ℕ) (disk : ℕ → List ℕ) (s : State) (store : CheckpointedStore) → IsInState self.old front disk s
             → IsSafe (geometry_in self.old) s → IsOverStore self.old disk s store → IsInState self.new front disk (with_failure s) × IsOverStore self.new disk (with_failure s) store }
         ensures other { fault ≢ Fault.Device → self.new ≡ self.old }
         ensures list { list_in self.new ≡ list_in self.old }
         ensures durable { durable_in self.new ≡ durable_in self.old }
         ensures heap { heap_of self.new.core ≡ heap_of self.old.core }
         ensures log { self.new.log ≡ self.old.log }
+        ensures stage { self.new.stage ≡ self.old.stage }
         ensures report { report_in self.new ≡ report_in self.old }
     {
         if matches!(fault, Fault::Device) {
@@ -340,7 +390,7 @@ impl<L: Disk, V: Disk> World<L, V> {
 }
 
 impl<L: Disk, V: Disk> World<FuseDisk<L>, V> {
-    ghost use Rattle.shore_disk.specs.Fuse.{fuse_calls};
+    ghost use Rattle.shore_disk.specs.Fuse.{fuse_calls, fuse_refused};
     ghost use Rattle.shore_world.specs.Worlds.{IsLike};
 
     /// Lets so many more writes and syncs of the log device pass; then every call of it fails.
@@ -348,6 +398,7 @@ impl<L: Disk, V: Disk> World<FuseDisk<L>, V> {
         ensures calls { fuse_calls self.new.log.device ≡ calls }
         ensures core { self.new.core ≡ self.old.core }
         ensures inner { fuse_inner self.new.log.device ≡ fuse_inner self.old.log.device }
+        ensures refused { fuse_refused self.new.log.device ≡ fuse_refused self.old.log.device }
         ensures like { IsLike self.old self.new }
     {
         self.log.set_fuse(calls);
@@ -364,6 +415,7 @@ impl<L: Disk, V: Disk> World<L, FuseDisk<V>> {
         ensures calls { fuse_calls (volume_of self.new.core) ≡ calls }
         ensures volume { volume_history_in self.new ≡ volume_history_in self.old }
         ensures inner { fuse_inner (volume_of self.new.core) ≡ fuse_inner (volume_of self.old.core) }
+        ensures log { self.new.log ≡ self.old.log }
         ensures like { IsLike self.old self.new }
     {
         self.core.set_volume_fuse(calls);

@@ -3,8 +3,7 @@ use Rattle.shore_disk.proofs.Moments.{at_end}
 use Rattle.shore_disk.specs.Device.{DeviceHistory, may_leave}
 use Rattle.shore_world.specs.Crashes.{AreLeft}
 use Rattle.shore_world.specs.Opens.{LeftByOpen}
-use Rattle.shore_world.proofs.EndedLemmas.{ended_found, ended_in_open}
-use Rattle.shore_world.proofs.OpenPaths.{lost_at_last}
+use Rattle.shore_world.proofs.EndedLemmas.{ended_found, ended_in_open, lost_at_last}
 use Rattle.shore_world.proofs.laws.pairs_are_found_again.Goals as goal
 
 pub returns-clause-crash : goal.returns-clause-crash
@@ -25,16 +24,16 @@ pub returns-clause-closed : goal.returns-clause-closed
 returns-clause-closed c d w = record { lengths = (refl, refl); among = λ i j may_log may_volume. inl (may_log, may_volume) }
 
 pub returns-clause-refused : goal.returns-clause-refused
-returns-clause-refused c d log volume log_now volume_now fault l v log_is volume_is along i j may_log may_volume g rs pages stood =
+returns-clause-refused c d log volume log_now volume_now fault l v log_is volume_is along i j may_log may_volume g anchor rs pages stood =
     let log_may = subst (λ (h : DeviceHistory). may_leave h i) (sym log_is) may_log in
     let volume_may = subst (λ (h : DeviceHistory). may_leave h j) (sym volume_is) may_volume in
     ⊎_elim
     (λ early. inl (at_end log (c.L.Disk.history l) (may_leave log) early.0 i log_may, at_end volume (c.V.Disk.history v) (may_leave volume) early.1 j volume_may))
     (λ went. inr (
       went.0,
-      lost_at_last g _ _ _ went.0.moments went.0.last went.0.path i j (subst (λ (h : DeviceHistory). may_leave h i) (sym went.1) log_may) (subst (λ (h : DeviceHistory). may_leave h j) (sym went.2) volume_may),
+      lost_at_last g _ _ anchor _ went.0.moments went.0.last went.0.path i j (subst (λ (h : DeviceHistory). may_leave h i) (sym went.1) log_may) (subst (λ (h : DeviceHistory). may_leave h j) (sym went.2) volume_may),
     ))
-    (along g rs pages stood)
+    (along g anchor rs pages stood)
 
 pub returns-clause-ended : goal.returns-clause-ended
 returns-clause-ended c d w log volume ended = ended_found w log volume ended

@@ -9,6 +9,7 @@ returns-in-BadRecord-clause-record_of g c n is =
     let same : c.in-BadRecord.number ≡ n = same_number _ _ (sym c.in-BadRecord.is ∙ is) in (
       c.frame_of.result,
       c.damaged-in-BadRecord.ensures,
-      λ front settled some most.
-          subst (λ k. IsFrameOf 1 0 (seen (g.D.Disk.history c.args.log.now.device)) k c.frame_of.result) same (c.frame_of.ensures 1 0 front settled (omega (arith, same, some)) (omega (arith, same, most))),
+      λ tail place front settled some most.
+          subst (λ k. IsFrameOf tail place (seen (g.D.Disk.history c.args.log.now.device)) k c.frame_of.result) same
+          (c.frame_of.ensures tail place front settled (omega (arith, same, some)) (omega (arith, same, most))),
     )

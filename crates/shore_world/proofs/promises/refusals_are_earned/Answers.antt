@@ -16,7 +16,7 @@ returns-clause-call c d w new o es ws session call f k served one none ample =
 pub returns-clause-resume : goal.returns-clause-resume
 returns-clause-resume c d w new o es ws session f k one none ample =
     let went = stepped w o es ws k (event.Resume session) (Refused f) new tt one in
-    let earned = settled_resume_earned (geometry_in w) o k.found es k.now.state (after w o es ws k) session k.under_way.asks f went.on.manager.now.state none ample went.moves in
+    let earned = settled_resume_earned (geometry_in w) o k.found es k.now.state (after w o es ws k) session k.under_way.under_way.asks f went.on.manager.now.state none ample went.moves in
     (went.on, earned)
 
 pub returns-clause-victim : goal.returns-clause-victim
@@ -28,5 +28,5 @@ returns-clause-victim c d w new o es ws session call cycle k served one =
 pub returns-clause-told : goal.returns-clause-told
 returns-clause-told c d w new o es ws session cycle k one =
     let went = stepped w o es ws k (event.Resume session) (Refused (Deadlock cycle)) new tt one in
-    let told = settled_resume_deadlock (geometry_in w) o k.found es k.now.state (after w o es ws k) session k.under_way.asks cycle went.on.manager.now.state went.moves in
-    (went.on, resume_told_first (geometry_in w) o k.found es k.now.state (after w o es ws k) k.under_way.asks session cycle went.on.manager.now.state k.firsts went.moves, told)
+    let told = settled_resume_deadlock (geometry_in w) o k.found es k.now.state (after w o es ws k) session k.under_way.under_way.asks cycle went.on.manager.now.state went.moves in
+    (went.on, resume_told_first (geometry_in w) o k.found es k.now.state (after w o es ws k) k.under_way.under_way.asks session cycle went.on.manager.now.state k.firsts went.moves, told)

@@ -1,4 +1,5 @@
 use Rattle.shore_world.proofs.WorkLemmas.{calls_to_nothing, flushes, opens, resumes_to_nothing, stages, stays_same}
+use Rattle.shore_world.proofs.CheckpointWorks.{checks, goes_plainly}
 use Rattle.shore_world.proofs.promises.steps_do_their_work.Goals as goal
 
 pub returns-clause-stage : goal.returns-clause-stage
@@ -18,3 +19,12 @@ returns-clause-call c d w new o es ws session call k served one = calls_to_nothi
 
 pub returns-clause-unchanged : goal.returns-clause-unchanged
 returns-clause-unchanged c d w new o es ws e k served one = stays_same w o es ws k e new served one
+
+pub returns-clause-checkpoint : goal.returns-clause-checkpoint
+returns-clause-checkpoint c d w new o es ws step k one = checks w o es ws k step new one
+
+pub returns-clause-as_plain : goal.returns-clause-as_plain
+returns-clause-as_plain c d w new o es ws step k one = goes_plainly w o es ws k step new one
+
+pub returns-clause-move_takes_no_memory : goal.returns-clause-move_takes_no_memory
+returns-clause-move_takes_no_memory c d w new named step one at = one.no_memory tt named at

@@ -12,9 +12,9 @@ use Rattle.laws_lives.specs.Logged.{and_record}
 use Rattle.laws_calls.specs.States.{State}
 use Rattle.shore_world.specs.declared.event.Event.TheVariants as event
 use Rattle.shore_world.specs.Exchanges.{waited_behind}
-use Rattle.shore_world.specs.Worlds.{geometry_in, list_in}
+use Rattle.shore_world.specs.Worlds.{geometry_in}
 use Rattle.shore_world.proofs.DecidedLemmas.{commit_answered, commit_ends, no_commit_waits}
-use Rattle.shore_world.proofs.PromiseLemmas.{after, seen, stepped}
+use Rattle.shore_world.proofs.PromiseLemmas.{after, log_seen, seen, stepped}
 use Rattle.shore_world.proofs.promises.tickets_are_true.Goals as goal
 
 one_ticket : (m n : ℕ) → Committed m ≡ Committed n → m ≡ n
@@ -25,21 +25,24 @@ returns-clause-commit c d w new o es ws session ticket k one =
     let s = k.now.state in
     let went = stepped w o es ws k (event.Call session Commit) (Done (Committed ticket)) new tt one in
     let before = seen w o es ws k in
-    let later = seen new o (es ++ went.on.made) (waited_behind ws (event.Call session Commit) (Done (Committed ticket))) went.on.manager in
+    let ws_now = waited_behind ws (event.Call session Commit) (Done (Committed ticket)) in
+    let later = seen new o (es ++ went.on.made) ws_now went.on.manager in
     let its = commit_answered (geometry_in w) s went.on.manager.now.state session (Committed ticket) went.moves in
     let t = its.0.txn in
-    let list : list_in new ≡ and_record t s.log logged.Commit = sym later.log ∙ ap (λ (x : State). x.log) its.3 in
+    let list : went.on.manager.now.state.log ≡ and_record t s.log logged.Commit = ap (λ (x : State). x.log) its.3 in
     let number : ticket ≡ 1 + length s.log = one_ticket ticket (1 + length s.log) its.2 in
     let long = ap (λ (l : List LogRecord). length l) list in
-    let more = length-push s.log (record { txn = t; previous = previous_of t s.log; payload = logged.Commit }) in (
+    let more = length-push s.log (record { txn = t; previous = previous_of t s.log; payload = logged.Commit }) in
+    let last = log_seen new o (es ++ went.on.made) ws_now went.on.manager in (
       its.0,
       its.1,
-      list ∙ ap (λ (l : List LogRecord). and_record t l logged.Commit) before.log,
-      omega (arith, number, long, more),
+      omega (arith, number, long, more, last),
       sym later.requests ∙ ap (λ (x : State). x.locks.requests) its.3 ∙ ap (λ (rs : List Request). released t rs) before.requests,
       (
         went.on,
-        went.on.manager.under_way.state.sessions.agree.seats session ∙ commit_ends (geometry_in w) o k.found es s went.on.manager.now.state (after w o es ws k) session (Committed ticket) went.moves,
+        list,
+        went.on.manager.under_way.under_way.state.sessions.agree.seats session
+            ∙ commit_ends (geometry_in w) o k.found es s went.on.manager.now.state (after w o es ws k) session (Committed ticket) went.moves,
       ),
     )
 

@@ -1,12 +1,11 @@
-use Rattle.std.proofs.Common.{◌<◌, ◌≤◌, List, ℕ, length, subst, ◌++◌}
-use Rattle.shore_model.specs.declared.log_records.LogRecord.{LogRecord}
+use Rattle.std.proofs.Common.{◌<◌, ◌≤◌, ℕ, subst, ◌++◌}
 use Rattle.shore_model.specs.declared.step.Step.TheVariants.{Waits}
 use Rattle.shore_model.specs.declared.step.Wait.TheVariants.{Durable, Lock}
 use Rattle.laws_calls.proofs.SettledThere.{settled_call_waits_at, settled_record_waits, settled_resume_waits_at, settled_resume_waits_on}
 use Rattle.shore_world.specs.declared.event.Event.TheVariants as event
 use Rattle.shore_world.specs.Exchanges.{waited_behind}
 use Rattle.shore_world.specs.Worlds.{geometry_in}
-use Rattle.shore_world.proofs.PromiseLemmas.{after, seen, stepped}
+use Rattle.shore_world.proofs.PromiseLemmas.{after, log_seen, seen, stepped}
 use Rattle.shore_world.proofs.promises.waits_are_true.Goals as goal
 
 pub returns-clause-lock : goal.returns-clause-lock
@@ -24,7 +23,7 @@ returns-clause-record_of c d w new o es ws session n call k served one =
     let went = stepped w o es ws k (event.Call session call) (Waits (Durable n)) new served one in
     let later = seen new o (es ++ went.on.made) (waited_behind ws (event.Call session call) (Waits (Durable n))) went.on.manager in
     let waits = settled_record_waits (geometry_in w) o k.found es k.now.state (after w o es ws k) session n went.on.manager.now.state call went.moves in
-    (went.on, waits.0, subst (λ (m : ℕ). m < n) later.durable waits.1, subst (λ (l : List LogRecord). n ≤ length l) later.log waits.2)
+    (went.on, waits.0, subst (λ (m : ℕ). m < n) later.durable waits.1, subst (λ (m : ℕ). n ≤ m) (log_seen new o (es ++ went.on.made) (waited_behind ws (event.Call session call) (Waits (Durable n))) went.on.manager) waits.2)
 
 pub returns-clause-record_on : goal.returns-clause-record_on
 returns-clause-record_on c d w new o es ws session n k one =

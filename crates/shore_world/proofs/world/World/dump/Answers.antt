@@ -1,17 +1,16 @@
 use Rattle.std.proofs.Common.{◌≡◌, inl, inr, refl}
-use Rattle.shore_log.specs.Settled.{records_of_log}
 use Rattle.shore_core.specs.Cores.{has_failed}
-use Rattle.shore_world.specs.Worlds.{failed_in}
+use Rattle.shore_world.specs.Worlds.{before_in, failed_in}
 use Rattle.shore_world.proofs.DumpLemmas.{dumped_fails, dumped_like, failed_before, is_dump, never_true, same_truth}
 use Rattle.shore_world.proofs.WorldLemmas.{same_list}
 use Rattle.shore_world.proofs.world.World.dump.Goals as goal
 
 pub returns-clause-shown : goal.returns-clause-shown
 returns-clause-shown g c =
-    is_dump c.args.self.now c.args.store c.dump.result (λ front disk s kept is safe over. c.dump.ensures.shown front disk (records_of_log c.args.self.now.log) s kept is safe over)
+    is_dump c.args.self.now c.args.store c.dump.result (λ front disk s kept is safe over. c.dump.ensures.shown front disk (before_in c.args.self.now s) s kept is safe over)
 
 pub returns-clause-refused : goal.returns-clause-refused
-returns-clause-refused g c front disk s store is safe over = c.dump.ensures.refused front disk (records_of_log c.args.self.now.log) s store is safe over
+returns-clause-refused g c front disk s store is safe over = c.dump.ensures.refused front disk (before_in c.args.self.now s) s store is safe over
 
 pub returns-clause-list : goal.returns-clause-list
 returns-clause-list g c = same_list _ _ c.args.self.now.core c.dump.new.self refl c.dump.ensures.tail
@@ -24,6 +23,7 @@ returns-clause-like g c none =
     dumped_like old _ c.dump.result
     (record {
       log = refl;
+      stage = refl;
       report = refl;
       same = e.serves.volume;
       left = e.left;
@@ -42,6 +42,7 @@ returns-clause-fails g c fails =
     dumped_fails old _ c.dump.result
     (record {
       log = refl;
+      stage = refl;
       report = refl;
       same = e.serves.volume;
       left = e.left;

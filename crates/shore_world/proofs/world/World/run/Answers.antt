@@ -3,8 +3,7 @@ use Rattle.std.proofs.lemmas.List.{take_all, take_more}
 use Rattle.shore_model.specs.declared.step.Step.{Step}
 use Rattle.shore_world.specs.declared.event.Event.{Event}
 use Rattle.shore_world.specs.Worlds.{Runs}
-use Rattle.laws_calls.specs.Events.{ManagerEvent}
-use Rattle.shore_world.specs.EventMoves.{all_moves}
+use Rattle.shore_world.specs.EventMoves.{PlainMove, all_moves}
 use Rattle.shore_world.proofs.RunLemmas.{all_further, no_event, one_more}
 use Rattle.shore_world.proofs.world.World.run.Goals as goal
 
@@ -35,7 +34,7 @@ loop-event-preserved g c =
         r.0 ++ c.step_of-step.result ∷ [],
         c.push_reserved.ensures.items ∙ ap (λ (l : List Step). l ++ c.step_of-step.result ∷ []) r.1 ∙ append_assoc c.reserve.new.self.items r.0 (c.step_of-step.result ∷ []),
         subst (λ (l : List Event). Runs c.args.self.now l (r.0 ++ c.step_of-step.result ∷ []) (all_moves l (r.0 ++ c.step_of-step.result ∷ [])) c.step_of-step.new.self) (sym longer)
-            (subst (λ (moves : List ManagerEvent). Runs c.args.self.now (take i xs ++ c.event-item.result ∷ []) (r.0 ++ c.step_of-step.result ∷ []) moves c.step_of-step.new.self)
+            (subst (λ (moves : List PlainMove). Runs c.args.self.now (take i xs ++ c.event-item.result ∷ []) (r.0 ++ c.step_of-step.result ∷ []) moves c.step_of-step.new.self)
             (sym (all_further _ _ _ _ _ _ _ r.2)) (one_more _ _ _ _ _ _ _ _ r.2 c.step_of-step.ensures)),
       );
     }
