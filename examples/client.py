@@ -5,11 +5,13 @@ usage: examples/client.py [PROGRAM] [--batches]
 
 What a server has to know: once it has read `committed`, the transaction is durable; so it answers its own caller then, and not before. Here money
 is moved between accounts, the program is killed by SIGKILL in the midst of a transfer and started again with `format = false`. It has each
-transfer that it acknowledged then, and the one in the midst not at all, or the whole of it if its commit was asked for.
+transfer that it acknowledged then, and the one in the midst not at all, or the whole of it if its commit was asked for. Every so often the server
+makes a checkpoint, so that the log never fills and an open has little to read; some kills come in the midst of one.
 
 With --batches it serves many clients over the one pipe: each makes transactions in a session of its own, and ends them with `lazy`, which answers a ticket at once. One `force` is
 for all of a batch, and only behind it, as `forced N` reaches their tickets, the clients are answered. The next batch is on its way meanwhile. Killed in the midst, the store has all that
-was acknowledged, and of what was asked behind that the first transactions, each whole, in the order of their commits. How many are acknowledged in a second is printed.
+was acknowledged, and of what was asked behind that the first transactions, each whole, in the order of their commits. Every so many batches begin with a checkpoint: they log several
+times what the log has room for. How many are acknowledged in a second is printed.
 
 How it talks with the program is in tools/pipes.py, which another server may take over. The program is the proved one, if no other is named by its path.
 
@@ -29,12 +31,14 @@ from pipes import Child, Ended
 from programs import named_program
 
 SETTINGS = 'devices = "files"\nlog_path = "client.log"\nvolume_path = "client.volume"\nstores = [4]\n'
-ACCOUNTS, ROUNDS, TRANSFERS = 4, 5, 20
+# A checkpoint is made behind so many transfers.
+ACCOUNTS, ROUNDS, TRANSFERS, TRANSFERS_A_CHECKPOINT = 4, 6, 20, 8
 # Of batches: so many clients, and so many batches that are under way at once. What they are answered together fits into a pipe.
 CLIENTS, LIVES, UNDER_WAY = 400, 5, 2
-# A life ends by batches and not by a clock, so that no store, as fast as it may be, fills its log: so many batches are answered at most before the kill is set going, and so many
-# are sent at most from then on until it comes.
-LONGEST_LIFE, LAST_SENT = 40, 16
+# A checkpoint is made before each of so many batches, which log some 60 KB each: the log has room for 15.
+BATCHES_A_CHECKPOINT = 6
+# Behind so many batches at most that are answered the kill is set going.
+LONGEST_LIFE = 40
 # The kill comes so many seconds later at most: in the midst of a batch.
 LONGEST_WAIT = 0.02
 
@@ -42,8 +46,8 @@ LONGEST_WAIT = 0.02
 class Store:
     """The program as it runs on the pair of files in a folder. Each call writes one line and waits for its answer."""
 
-    def __init__(self, program, folder, is_anew, settings=SETTINGS):
-        self.child = Child(program, f"format = {str(is_anew).lower()}\n{settings}", folder)
+    def __init__(self, program, folder, is_anew):
+        self.child = Child(program, f"format = {str(is_anew).lower()}\n{SETTINGS}", folder)
 
     def answer(self):
         try:
@@ -72,6 +76,13 @@ class Store:
 
     def update(self, account, money):
         self.demand(f"update {account} {money:08x}", "ok")
+
+    def checkpoint(self):
+        """After this the log has room again: no page waits to be written back, and no transaction is under way."""
+        self.child.send("flush\ncheckpoint")
+        for wanted in ("flushed ", "checkpoint "):
+            if not (said := self.answer()).startswith(wanted):
+                raise SystemExit(f"client: FAILED: a checkpoint was answered by {said!r}")
 
     def records(self):
         """All that is in the store, by its id."""
@@ -116,9 +127,14 @@ def serve(program, folder):
         for transfer in range(TRANSFERS):
             accounts = move(store, accounts, transfer)
             store.commit()
+            if transfer % TRANSFERS_A_CHECKPOINT == TRANSFERS_A_CHECKPOINT - 1:
+                store.checkpoint()
         moved = move(store, accounts, TRANSFERS)
-        if is_asked := number % 2 == 1:
+        # The kill comes in the midst of a transfer, of its commit, or of a checkpoint.
+        if is_asked := number % 3 == 1:
             store.child.send("1 commit")
+        if number % 3 == 2:
+            store.child.send("checkpoint")
         store.kill()
         store = Store(program, folder, is_anew=False)
         found = store.records()
@@ -141,10 +157,14 @@ class Clients:
         self.acknowledged = [0] * CLIENTS
         # The batches under way: the clients in the order of their commits, and the number that each has written.
         self.batches = collections.deque()
+        self.sent = 0
 
     def send(self, child, chance):
         """A batch: a transaction of each client, in some order, some of them side by side."""
         batch, lines = chance.sample(range(CLIENTS), CLIENTS), []
+        if self.sent % BATCHES_A_CHECKPOINT == 0:
+            lines += ["flush", "checkpoint"]
+        self.sent += 1
         for start in range(0, CLIENTS, 10):
             side_by_side = batch[start : start + 10]
             lines += [f"{client + 1} begin" for client in side_by_side]
@@ -162,11 +182,11 @@ class Clients:
         """The answers of the oldest batch. Behind its force each client is answered. How many are."""
         tickets = {}
         while not (line := child.answer()).startswith("forced "):
-            session, said = line.split(": ", 1)
+            if "fault" in line:
+                raise SystemExit(f"client: FAILED: the store answered {line!r}")
+            session, _, said = line.partition(": ")
             if said.startswith("ticket "):
                 tickets[int(session) - 1] = int(said.removeprefix("ticket "))
-            elif "fault" in said:
-                raise SystemExit(f"client: FAILED: the store answered {line!r}")
         forced = int(line.removeprefix("forced "))
         for client, number in self.batches.popleft():
             if tickets[client] <= forced:
@@ -187,6 +207,7 @@ class Clients:
         self.numbers = [one for one, _ in pairs]
         self.acknowledged = list(self.numbers)
         self.batches.clear()
+        self.sent = 0
         return sum(kept), len(kept)
 
 
@@ -196,12 +217,11 @@ def serve_until_killed(store, clients, chance):
     last = started
     life = chance.randint(LONGEST_LIFE // 2, LONGEST_LIFE)
     timer = threading.Timer(chance.uniform(0, LONGEST_WAIT), store.child.kill)
-    sent = answered = 0
+    answered = 0
     try:
         while True:
-            while len(clients.batches) < UNDER_WAY and sent < life + LAST_SENT:
+            while len(clients.batches) < UNDER_WAY:
                 clients.send(store.child, chance)
-                sent += 1
             count += clients.receive(store.child)
             last = time.monotonic()
             answered += 1
@@ -216,15 +236,14 @@ def serve_until_killed(store, clients, chance):
 
 
 def serve_batches(program, folder):
-    settings = f"{SETTINGS}log_bytes = 67108864\n"
     chance = random.Random()
-    store = Store(program, folder, is_anew=True, settings=settings)
+    store = Store(program, folder, is_anew=True)
     clients = Clients(store)
     total, seconds, shown, under_way = 0, 0.0, 0, 0
     for _ in range(LIVES):
         count, took = serve_until_killed(store, clients, chance)
         total, seconds = total + count, seconds + took
-        store = Store(program, folder, is_anew=False, settings=settings)
+        store = Store(program, folder, is_anew=False)
         kept, asked = clients.check(store.records())
         shown, under_way = shown + kept, under_way + asked
     store.close()

@@ -1,8 +1,8 @@
 -- What a force and a flush have done.
-use Rattle.std.specs.Prelude.{◌≡◌, length}
+use Rattle.std.specs.Prelude.{◌≡◌}
 use Rattle.shore_disk.specs.declared.device.Disk.{Ghosts}
 use Rattle.shore_model.specs.declared.step.Step.TheVariants.{Nothing}
-use Rattle.shore_world.specs.Worlds.{Steps, durable_in, list_in}
+use Rattle.shore_world.specs.Worlds.{Steps, durable_in, last_in}
 use Rattle.shore_world.specs.declared.event.Event.TheVariants as event
 use Rattle.shore_world.specs.declared.world.World.{World}
 
@@ -17,4 +17,4 @@ module _ {L V : Type 0} {G : Ghosts L} {H : Ghosts V} where
 
   -- each record of the log is durable
   abbrev pub AreAllDurable : World L V G H → Type 0
-  AreAllDurable w = durable_in w ≡ length (list_in w)
+  AreAllDurable w = durable_in w ≡ last_in w

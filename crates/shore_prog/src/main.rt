@@ -1,11 +1,13 @@
 //! The storage manager as a program: settings and a script come on standard input, the answers go to standard output.
 #![tactic(auto)]
 
+mod checkpoints;
 mod devices;
 mod forcing;
 mod manager;
 mod program;
 mod rounds;
+mod shown;
 
 pub use program::run;
 pub use shore_world as world;

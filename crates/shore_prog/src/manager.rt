@@ -7,14 +7,17 @@ ghost use Rattle.shore_model.specs.Calls.{IsServed};
 ghost use Rattle.shore_script.specs.Commands.{IsServedCommand};
 ghost use Rattle.shore_script.specs.Limits.{AreInLimits};
 ghost use Rattle.shore_prog.specs.Commands.{IsTaken};
+ghost use Rattle.shore_prog.specs.Due.{IsDue, IsDueIn};
 ghost use Rattle.shore_prog.specs.Doing.{EndsFlush};
 ghost use Rattle.shore_prog.specs.declared.manager.Progress.TheVariants.{Again};
 
+use crate::checkpoints::{Begun, begin_line, checkpoint_line, end_line};
 use crate::devices::{ScriptDisk, first_pair, pair_after_crash};
 use crate::forcing::{force, force_up_to};
 use crate::rounds::{WaitingLines, go_first, go_round};
+use crate::shown::{dump, locks, log};
 use shore_disk::Pick;
-use shore_model::{Answer, Call, Wait};
+use shore_model::{Answer, Call, LogRecord, Wait};
 use shore_script::{Command, Devices, Fuse, Fuses, Settings, render};
 use shore_types::layout::MAX_STORES;
 use shore_types::{Device, Fault, Pairs, SessionId, StoreId, Ticket};
@@ -67,6 +70,34 @@ struct Opened {
     world: Box<ScriptWorld>,
     // The lines whose calls wait, by session.
     waiting: WaitingLines,
+    // The checkpoint that a line has begun.
+    checkpoint: Option<Begun>,
+}
+
+impl Opened {
+    // Whether a checkpoint may begin or end now. A manager that has failed refuses both.
+    fn takes(&self, command: &Command) -> bool
+        ensures { IsTrue result ↔ IsDueIn self.now command.now }
+    {
+        match command {
+            Command::BeginCheckpoint | Command::Checkpoint => {
+                self.checkpoint.is_none() || self.world.has_failed()
+            }
+            Command::EndCheckpoint => self.checkpoint.is_some() || self.world.has_failed(),
+            Command::Nothing
+            | Command::Ask(..)
+            | Command::Lazy(_)
+            | Command::Durable(_)
+            | Command::Force
+            | Command::Flush
+            | Command::Crash(_)
+            | Command::Fuse(_)
+            | Command::NextFuse(_)
+            | Command::Dump
+            | Command::Log
+            | Command::Locks => true,
+        }
+    }
 }
 
 impl Manager {
@@ -96,16 +127,21 @@ impl Manager {
         matches!(self.access, Access::Open(_))
     }
 
-    /// Whether the line is one for these devices: files have no fuse, and a crash of them picks nothing.
+    /// Whether the line is one for these devices and now: files have no fuse, and a crash of them picks nothing; and no checkpoint begins within another, or ends
+    /// before it begins.
     pub fn takes(&self, command: &Command) -> bool
-        ensures { IsTrue result ↔ IsTaken self.now.devices command.now }
+        ensures { IsTrue result ↔ (IsTaken self.now.devices command.now × IsDue self.now.access command.now) }
     {
-        match (&self.devices, command) {
-            (
-                Devices::Files(_),
-                Command::Fuse(_) | Command::NextFuse(_) | Command::Crash(Some(_)),
-            ) => false,
-            _ => true,
+        is_for(&self.devices, command) && self.is_due(command)
+    }
+
+    // Whether a checkpoint may begin or end now. A manager that was refused answers that it failed.
+    fn is_due(&self, command: &Command) -> bool
+        ensures { IsTrue result ↔ IsDue self.now.access command.now }
+    {
+        match &self.access {
+            Access::Open(opened) => opened.takes(command),
+            Access::Closed(..) | Access::Lost => true,
         }
     }
 
@@ -141,10 +177,20 @@ impl Manager {
     ) -> io::Result<Progress>
         requires { IsServedCommand command }
     {
-        let Access::Open(Opened { world, waiting }) = &mut self.access else {
+        let Access::Open(opened) = &mut self.access else {
             return tell(out, asker_of(&command), &Fault::Failed);
         };
-        let progress = answer(alloc, world, waiting, command, line, out)?;
+        let Opened {
+            world,
+            waiting,
+            checkpoint,
+        } = opened;
+        let progress = match command {
+            Command::BeginCheckpoint => begin_line(alloc, world, checkpoint, out)?,
+            Command::EndCheckpoint => end_line(alloc, world, checkpoint, out)?,
+            Command::Checkpoint => checkpoint_line(alloc, world, checkpoint, out)?,
+            command => answer(alloc, world, waiting, command, line, out)?,
+        };
         if progress == Progress::Done {
             go_round(alloc, world, waiting, out)?;
         }
@@ -190,6 +236,19 @@ impl Manager {
     }
 }
 
+// Files have no fuse, and a crash of them picks nothing.
+fn is_for(devices: &Devices, command: &Command) -> bool
+    ensures { IsTrue result ↔ IsTaken devices.now command.now }
+{
+    !matches!(
+        (devices, command),
+        (
+            Devices::Files(_),
+            Command::Fuse(_) | Command::NextFuse(_) | Command::Crash(Some(_)),
+        ),
+    )
+}
+
 // Opens the pair. A refusal is told with its fault.
 fn open(
     alloc: Global,
@@ -212,6 +271,7 @@ fn boxed(alloc: Global, world: ScriptWorld) -> (Access, Option<Fault>) {
             let opened = Opened {
                 world,
                 waiting: WaitingLines::new(alloc),
+                checkpoint: None,
             };
             (Access::Open(opened), None)
         }
@@ -258,9 +318,16 @@ fn answer<W: Write>(
             None,
             &Fault::Failed,
         )?,
-        Command::Log => log(world, out)?,
+        Command::Log => log(alloc, world, out)?,
         Command::Locks => locks(alloc, world, out)?,
-        Command::Nothing | Command::Crash(_) | Command::Fuse(_) | Command::NextFuse(_) => {}
+        // These are no lines of this function.
+        Command::BeginCheckpoint
+        | Command::EndCheckpoint
+        | Command::Checkpoint
+        | Command::Nothing
+        | Command::Crash(_)
+        | Command::Fuse(_)
+        | Command::NextFuse(_) => {}
     }
     Ok(Progress::Done)
 }
@@ -407,68 +474,4 @@ fn flush_line<W: Write>(alloc: Global, world: &mut ScriptWorld, out: &mut W) -> 
         Ok(count) => writeln!(out, "flushed {count}"),
         Err(fault) => render::fault(out, None, &fault),
     }
-}
-
-// All records are read before the first is written: a dump that is refused writes the fault alone.
-fn dump<W: Write>(alloc: Global, world: &mut ScriptWorld, out: &mut W) -> io::Result<Progress> {
-    match records_in_place(alloc, world) {
-        Ok(stores) => {
-            write_records(&stores, out)?;
-            Ok(Progress::Done)
-        }
-        Err(fault) => refuse(alloc, world, None, fault, out),
-    }
-}
-
-// The records of each store.
-fn records_in_place(alloc: Global, world: &mut ScriptWorld) -> Result<Vec<Pairs>, Fault>
-    // As many as the volume has stores.
-    ensures { IfOk result (λ found. vec_len found ≡ min MAX_STORES (length (geometry_in world.old).stores)) }
-{
-    let mut found = Vec::new(alloc);
-    for number in 0..MAX_STORES as u32 {
-        let store = StoreId(number);
-        if !world.geometry().has_store(store) {
-            break;
-        }
-        found.push(world.dump(alloc, store)?)?;
-    }
-    Ok(found)
-}
-
-fn write_records<W: Write>(stores: &[Pairs], out: &mut W) -> io::Result<()> {
-    let mut is_empty = true;
-    for records in stores {
-        is_empty = is_empty && records.len() == 0;
-        render::records(out, records)?;
-    }
-    if is_empty {
-        out.write_all(b"empty\n")?;
-    }
-    Ok(())
-}
-
-fn log<W: Write>(world: &ScriptWorld, out: &mut W) -> io::Result<()> {
-    let (forced, waiting) = world.records();
-    if forced.is_empty() && waiting.is_empty() {
-        return out.write_all(b"no records\n");
-    }
-    let next = render::log_records(out, 1, forced)?;
-    render::log_records(out, next, waiting)?;
-    Ok(())
-}
-
-// Every node of the lock table, by granule and then by transaction: so the world lists them.
-fn locks<W: Write>(alloc: Global, world: &ScriptWorld, out: &mut W) -> io::Result<()> {
-    let nodes = match world.nodes(alloc) {
-        Ok(nodes) => nodes,
-        Err(_) => return render::fault(out, None, &Fault::Memory),
-    };
-    if nodes.is_empty() {
-        return out.write_all(b"no locks\n");
-    }
-    for node in &nodes {
-        render::lock(out, node)?;
-    }
-    Ok(())
 }

@@ -82,6 +82,9 @@ device-lacks : (d : Device) (word : List ℕ) → word ≡ device_name d → Lac
 device-lacks device.Log word h = subst (Lacks 32) (sym h) refl
 device-lacks device.Volume word h = subst (Lacks 32) (sym h) refl
 
+word-lacks : (wanted : List ℕ) → Lacks 32 wanted → (word : List ℕ) → word ≡ wanted → Lacks 32 word
+word-lacks wanted lacks word h = subst (Lacks 32) (sym h) lacks
+
 pick-lacks : (p : Pick) (word : List ℕ) → word ≡ pick_word p → Lacks 32 word
 pick-lacks pick.Old word h = subst (Lacks 32) (sym h) refl
 pick-lacks pick.New word h = subst (Lacks 32) (sym h) refl
@@ -118,6 +121,9 @@ AskPlain-spaceless words (command.Durable ticket) h = one-spaceless words (codes
 AskPlain-spaceless words command.Nothing h = absurd h
 AskPlain-spaceless words command.Force h = alone-spaceless words (codes "force") h refl
 AskPlain-spaceless words command.Flush h = alone-spaceless words (codes "flush") h refl
+AskPlain-spaceless words command.BeginCheckpoint h = one-spaceless words (codes "checkpoint") _ h refl (word-lacks (codes "begin") refl)
+AskPlain-spaceless words command.EndCheckpoint h = one-spaceless words (codes "checkpoint") _ h refl (word-lacks (codes "end") refl)
+AskPlain-spaceless words command.Checkpoint h = alone-spaceless words (codes "checkpoint") h refl
 AskPlain-spaceless words (command.Crash pick) h = AskCrash-spaceless words pick h
 AskPlain-spaceless words (command.Fuse fuse) h = two-spaceless words (codes "fuse") _ _ h refl (device-lacks fuse.device)
 AskPlain-spaceless words (command.NextFuse fuse) h = two-spaceless words (codes "nextfuse") _ _ h refl (device-lacks fuse.device)
@@ -156,6 +162,9 @@ AskPlain-letter first others (command.Durable ticket) h = one-letter first other
 AskPlain-letter first others command.Nothing h = absurd h
 AskPlain-letter first others command.Force h = alone-letter first others (codes "force") h (omega arith)
 AskPlain-letter first others command.Flush h = alone-letter first others (codes "flush") h (omega arith)
+AskPlain-letter first others command.BeginCheckpoint h = one-letter first others (codes "checkpoint") _ h (omega arith)
+AskPlain-letter first others command.EndCheckpoint h = one-letter first others (codes "checkpoint") _ h (omega arith)
+AskPlain-letter first others command.Checkpoint h = alone-letter first others (codes "checkpoint") h (omega arith)
 AskPlain-letter first others (command.Crash pick) h = crash-letter first others pick h
 AskPlain-letter first others (command.Fuse fuse) h = two-letter first others (codes "fuse") _ _ h (omega arith)
 AskPlain-letter first others (command.NextFuse fuse) h = two-letter first others (codes "nextfuse") _ _ h (omega arith)

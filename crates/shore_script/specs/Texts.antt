@@ -84,6 +84,14 @@ abbrev pub durable_line : Bool → List ℕ
 durable_line true = codes "durable yes" ++ line_end
 durable_line false = codes "durable no" ++ line_end
 
+-- a checkpoint has begun, under this number
+abbrev pub checkpoint_begun_line : ℕ → List ℕ
+checkpoint_begun_line number = codes "checkpoint begun " ++ (decimal number ++ line_end)
+
+-- the checkpoint of this begin is made, and the log is read from the tail on
+abbrev pub checkpoint_line : ℕ → ℕ → List ℕ
+checkpoint_line begin tail = codes "checkpoint " ++ (decimal begin ++ (codes " tail " ++ (decimal tail ++ line_end)))
+
 -- a fault of a session's call, or of another line
 abbrev pub fault_line : Option ℕ → Fault → List ℕ
 fault_line None fault = codes "fault " ++ (text_of fault ++ line_end)

@@ -30,6 +30,12 @@ pub enum Command {
     Force,
     /// Every dirty page with a durable number is written back.
     Flush,
+    /// A checkpoint begins.
+    BeginCheckpoint,
+    /// The checkpoint that has begun ends, and the log's anchor moves to it.
+    EndCheckpoint,
+    /// A checkpoint begins and ends.
+    Checkpoint,
     /// The power is lost, and the manager opened again. The line may pick what becomes of writes that were not synced.
     Crash(Option<Pick>),
     /// A device gets this fuse.
@@ -125,6 +131,7 @@ fn command_of_a_word(word: &str) -> Option<Command>
     match word {
         "force" => Some(Command::Force),
         "flush" => Some(Command::Flush),
+        "checkpoint" => Some(Command::Checkpoint),
         "crash" => Some(Command::Crash(None)),
         "dump" => Some(Command::Dump),
         "log" => Some(Command::Log),
@@ -139,7 +146,19 @@ fn command_with_one(word: &str, object: &str) -> Option<Command>
 {
     match word {
         "crash" => Some(Command::Crash(Some(pick_of(object)?))),
+        "checkpoint" => half_of_checkpoint(object),
         "durable" => Some(Command::Durable(words::ticket(object)?)),
+        _ => None,
+    }
+}
+
+fn half_of_checkpoint(word: &str) -> Option<Command>
+    ensures served { IfSome result IsServedCommand }
+    ensures asks { Reads (AskPlain (codes "checkpoint" ∷ word.now ∷ [])) result }
+{
+    match word {
+        "begin" => Some(Command::BeginCheckpoint),
+        "end" => Some(Command::EndCheckpoint),
         _ => None,
     }
 }

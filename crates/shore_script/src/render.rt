@@ -2,11 +2,11 @@
 ghost use Rattle.std.specs.Prelude.{◌≡◌, ◌≤◌, ◌+◌, ◌^◌, ◌-◌, IfOk, OnOk, length, min, slice_get};
 ghost use Rattle.std.specs.Io.KnownBytes.{Appends};
 ghost use Rattle.hex.specs.Hex.{encode_lower};
-ghost use Rattle.shore_script.specs.Texts.{answer_line, answer_text, bytes_text, committed_line, doubt_line, durable_line, doubt_lines, fault_line, kind_text, lock_line, log_line, log_lines, open_fault_line, record_line, record_lines, some_record_line, waits_line};
+ghost use Rattle.shore_script.specs.Texts.{answer_line, answer_text, bytes_text, checkpoint_begun_line, checkpoint_line, committed_line, doubt_line, durable_line, doubt_lines, fault_line, kind_text, lock_line, log_line, log_lines, open_fault_line, record_line, record_lines, some_record_line, waits_line};
 ghost use Rattle.shore_script.specs.declared.render.TheConstants.{PART};
 
 use shore_model::{Answer, LogRecord, Payload, Request};
-use shore_types::{Fault, GlobalId, Granule, Pairs, Rid, SessionId, TxnId};
+use shore_types::{Fault, GlobalId, Granule, Lsn, Pairs, Rid, SessionId, TxnId};
 use std::io::{self, Write};
 
 /// So many bytes of a record are written at a time.
@@ -44,6 +44,20 @@ pub fn durable<W: Write>(out: &mut W, is_durable: bool) -> io::Result<()>
         true => out.write_all(b"durable yes\n"),
         false => out.write_all(b"durable no\n"),
     }
+}
+
+/// Writes the line of a checkpoint that has begun, with the number of its begin.
+pub fn checkpoint_begun<W: Write>(out: &mut W, number: Lsn) -> io::Result<()>
+    ensures { OnOk result (Appends (W.contents out.old) (W.contents out.new) (checkpoint_begun_line number)) }
+{
+    writeln!(out, "checkpoint begun {number}")
+}
+
+/// Writes the line of a checkpoint that is made: the number of its begin, and the tail of its Anchor record.
+pub fn checkpoint<W: Write>(out: &mut W, begin: Lsn, tail: Lsn) -> io::Result<()>
+    ensures { OnOk result (Appends (W.contents out.old) (W.contents out.new) (checkpoint_line begin tail)) }
+{
+    writeln!(out, "checkpoint {begin} tail {tail}")
 }
 
 /// Writes the line of a session's answer, and those of a scan's pairs. A commit's is its ticket.

@@ -1,6 +1,6 @@
 use Rattle.std.proofs.Common.{◌≡◌, ◌≤◌, length, vec_len}
 use Rattle.shore_world.specs.Worlds.{geometry_in}
-use Rattle.shore_prog.proofs.manager.records_in_place.Given as goal
+use Rattle.shore_prog.proofs.shown.records_in_place.Given as goal
 
 abbrev pub invariant-loop-number : goal.invariant-loop-number
 invariant-loop-number l = record {
