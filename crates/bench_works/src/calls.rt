@@ -2,7 +2,7 @@
 ghost use Rattle.std.specs.Prelude.{◌≤◌};
 
 use crate::manager::{FRAMES, LAST_SESSION, Manager, Pair, SESSION, new_manager, opened};
-use crate::{preparing, waiting};
+use crate::{checkpointing, preparing, waiting};
 use bench_parts::host::Host;
 use bench_parts::layout::STORE;
 use bench_parts::records::record_of;
@@ -12,7 +12,7 @@ use shore_types::{Granule, Mode, SessionId};
 use std::io;
 
 /// All works with a manager in memory, by their names.
-pub const WORKS: [(&str, Work); 25] = [
+pub const WORKS: [(&str, Work); 26] = [
     ("call_get", Work::Call(Kind::Get, 1_000, None)),
     (
         "call_get_beside",
@@ -65,6 +65,7 @@ pub const WORKS: [(&str, Work); 25] = [
         "call_in_doubt_256",
         Work::Preparing(preparing::Work::InDoubt(256)),
     ),
+    ("call_checkpoint", Work::Checkpoint),
     ("call_let_through", Work::Waiting(waiting::Work::LetThrough)),
     ("call_wait", Work::Waiting(waiting::Work::Wait)),
     ("call_victims", Work::Waiting(waiting::Work::Victims)),
@@ -103,6 +104,8 @@ pub enum Work {
     OpenInDoubt,
     /// What is measured of a round of transactions of one update, or of those in doubt.
     Preparing(preparing::Work),
+    /// A checkpoint with full tables: its steps alone.
+    Checkpoint,
     /// What is measured of a round of sessions that wait for one another.
     Waiting(waiting::Work),
 }
@@ -178,6 +181,7 @@ fn prepare(manager: &mut Manager, work: Work, rounds: u64) -> bool {
             is_ready &= preparing::prepare_each(manager, sessions, preparing::CHANGES_OF_EACH);
         }
         Work::Preparing(work) => is_ready &= preparing::prepare(manager, work),
+        Work::Checkpoint => is_ready &= checkpointing::prepare(manager),
         Work::Waiting(work) => is_ready &= waiting::prepare(manager, work),
     }
     is_ready
@@ -193,6 +197,7 @@ pub fn measured(host: &Host, work: Work, rounds: u64) -> (u64, u64) {
         Work::Abort | Work::Preparing(_) => (4_096, 1_000),
         Work::Open => (4_096, rounds),
         Work::Waiting(_) => (16, 2),
+        Work::Checkpoint => (4_096, checkpointing::RECORDS),
     };
     let mut manager = match new_manager(host.alloc(), pages) {
         Ok(manager) => manager,
@@ -205,6 +210,7 @@ pub fn measured(host: &Host, work: Work, rounds: u64) -> (u64, u64) {
         Work::Abort => measured_abort(host, &mut manager, rounds),
         Work::Preparing(work) => preparing::measured(host, &mut manager, work, rounds),
         Work::Waiting(work) => waiting::measured(host, &mut manager, work, rounds),
+        Work::Checkpoint => checkpointing::measured(host, &mut manager, rounds),
         Work::Open | Work::OpenInDoubt => (0, 0),
     };
     let pair = manager.into_devices();

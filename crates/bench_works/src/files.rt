@@ -1,6 +1,7 @@
 //! How long a manager takes over two files: one kind of work on records of so many bytes, with a line `NAME.rSIZE VALUE UNIT` for each figure.
 //! Exit status 0: done. 1: refused, or a record was not as acknowledged. 2: there is no such work, or it takes no such size or count.
 mod plan;
+mod rings;
 mod store;
 mod works;
 

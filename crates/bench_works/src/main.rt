@@ -4,6 +4,7 @@
 #![tactic(auto)]
 
 mod calls;
+mod checkpointing;
 mod files;
 mod manager;
 mod preparing;

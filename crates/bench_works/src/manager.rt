@@ -96,8 +96,7 @@ impl Manager {
 
     /// How many records the log has.
     pub fn logged(&self) -> u64 {
-        let (handed_over, waiting) = self.world.records();
-        (handed_over.len() as u64).saturating_add(waiting.len() as u64)
+        self.world.last().0
     }
 
     /// Whether an event was done; else it waits, or there was nothing to do.
@@ -191,6 +190,20 @@ impl Manager {
         for _ in 0..u64::MAX {
             if !self.is_done(Event::FlushStep)? {
                 break;
+            }
+        }
+        Ok(())
+    }
+
+    /// A whole checkpoint, with a force of what its steps wait for.
+    pub fn checkpoint(&mut self) -> Result<(), Fault> {
+        for _ in 0..u64::MAX {
+            match self.world.step(self.alloc, Event::CheckpointStep) {
+                Step::Done(Answer::Moved) => break,
+                Step::Done(_) => {}
+                Step::Nothing => self.force()?,
+                Step::Refused(fault) => return Err(fault),
+                Step::Waits(_) => return Err(Fault::Failed),
             }
         }
         Ok(())

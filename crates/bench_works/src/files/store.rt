@@ -3,7 +3,7 @@ use super::plan::Plan;
 use crate::manager::{Manager, SESSION, formatted, opened};
 use bench_parts::counted::CountDisk;
 use bench_parts::files::{file_of, of_device};
-use bench_parts::layout::{STORE, geometry, log_bytes_for, pages_for, volume_bytes};
+use bench_parts::layout::{STORE, geometry, volume_bytes};
 use bench_parts::records::numbered;
 use shore_disk::AnyDisk;
 use shore_model::Call;
@@ -17,10 +17,9 @@ fn device(plan: &Plan, name: &str, zeros: Option<u64>) -> Result<CountDisk, Faul
 
 /// Makes both files anew, as the plan wants them, and opens them.
 pub fn new_manager(plan: &Plan) -> Result<Manager, Fault> {
-    let pages = pages_for(plan.count, plan.size);
-    let log_bytes = log_bytes_for(plan.count, plan.size);
+    let pages = plan.pages();
     let geometry = geometry(plan.host.alloc(), 1_024, pages)?;
-    let log = device(plan, "log", Some(log_bytes))?;
+    let log = device(plan, "log", Some(plan.log_bytes()))?;
     let volume = device(plan, "volume", Some(volume_bytes(pages)))?;
     formatted(plan.host.alloc(), (log, volume), &geometry, MAX_POOL_FRAMES)
 }

@@ -1,5 +1,6 @@
 //! The works, each over a pair of files of a folder.
 use super::plan::{Plan, Work};
+use super::rings;
 use super::store::{change_record, new_manager, open_manager};
 use crate::manager::{Manager, SESSION};
 use bench_parts::figures::{Figure, tell};
@@ -9,7 +10,7 @@ use shore_disk::FileDisk;
 use shore_model::Call;
 use shore_types::{Fault, Pairs};
 
-const MILLION: u64 = 1_000_000;
+pub(super) const MILLION: u64 = 1_000_000;
 
 // A force carries so many lazy commits.
 const LAZY_COMMITS: u64 = 100;
@@ -18,6 +19,7 @@ const LAZY_COMMITS: u64 = 100;
 pub fn perform(plan: &Plan) -> Result<(), Fault> {
     match plan.work {
         Work::Recover | Work::Verify | Work::Undo => on_opened(plan),
+        Work::RingOpen | Work::FullOpen => on_opened(plan),
         _ => on_new(plan),
     }
 }
@@ -131,12 +133,19 @@ fn updates(plan: &Plan, manager: &mut Manager) -> Result<(), Fault> {
     match plan.work {
         Work::Durable => durable(plan, manager, &pairs),
         Work::Crash => crash(plan, manager, &pairs),
+        Work::Ring | Work::Whole => rings::updated(plan, manager, &pairs),
+        Work::Full => rings::filled(plan, manager, &pairs),
         _ => lose(plan, manager, &pairs),
     }
 }
 
 // Update N is of record N of those in place, counted round and round.
-fn update_one(plan: &Plan, manager: &mut Manager, pairs: &Pairs, nth: u64) -> Result<bool, Fault> {
+pub(super) fn update_one(
+    plan: &Plan,
+    manager: &mut Manager,
+    pairs: &Pairs,
+    nth: u64,
+) -> Result<bool, Fault> {
     let place = nth % (pairs.len() as u64).max(1);
     match pairs.get(place as usize) {
         Some((id, _)) => change_record(plan, manager, &Some(id), told(plan, nth)),
@@ -226,6 +235,7 @@ fn on_opened(plan: &Plan) -> Result<(), Fault> {
 fn tell_opened(plan: &Plan, manager: &mut Manager, nanos: u64) -> Result<(), Fault> {
     match plan.work {
         Work::Recover => recover(plan, manager, nanos),
+        Work::RingOpen | Work::FullOpen => rings::opened(plan, manager, nanos),
         Work::Verify => {
             let count = shown(plan, manager)?;
             let figures = [Figure::whole("verify", count, "records_as_acknowledged")];

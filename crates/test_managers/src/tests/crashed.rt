@@ -5,6 +5,10 @@
 //! device, twice in a row, and then made whole. Then there are
 //! random runs. The counts are those of the first run: another one says that an event or a restart makes other calls than it did.
 mod chances;
+mod checkpoint_failures;
+mod checkpoint_lists;
+mod checkpointed_together;
+mod checkpoints;
 mod crashes;
 mod cuts;
 mod deadlocks;
@@ -20,6 +24,7 @@ mod lives;
 mod lock_lists;
 mod log_copies;
 mod losses;
+mod meetings;
 mod prepared_lists;
 mod prepared_together;
 mod prepares;

@@ -5,6 +5,22 @@ use shore_disk::Pick;
 use shore_model::Outcome;
 use shore_types::Mode;
 
+// A checkpoint with the forces that it waits for, behind a flush.
+const A_ROUND: [Doing; 12] = [
+    Doing::ForceStage,
+    Doing::ForceOpen,
+    Doing::FlushStep,
+    Doing::CheckpointStep,
+    Doing::CheckpointStep,
+    Doing::ForceStage,
+    Doing::ForceOpen,
+    Doing::CheckpointStep,
+    Doing::ForceStage,
+    Doing::ForceOpen,
+    Doing::CheckpointStep,
+    Doing::FlushStep,
+];
+
 /// Where the choices come from. Each seed has its own.
 #[derive(Drop)]
 pub(super) struct Chance {
@@ -151,6 +167,36 @@ impl Chance {
             _ if prepares => Doing::Prepare(self.name()),
             _ => Doing::Resolve(self.name(), self.outcome()),
         })
+    }
+
+    /// The next of a round with a checkpoint, in a part of all turns, whoever's turn it is; seldom one of another place in it. In a transaction also a change that takes a good part of
+    /// the log, or its commit. It is told how far the round has come.
+    pub(super) fn doing_about_checkpoints(
+        &mut self,
+        is_in_transaction: bool,
+        round: &mut usize,
+    ) -> Option<Doing> {
+        match self.below(20) {
+            0 | 1 | 2 | 3 | 4 | 5 | 6 => {
+                let next = *round % A_ROUND.len();
+                *round = next + 1;
+                Some(A_ROUND[next])
+            }
+            7 => Some(A_ROUND[self.below(12) as usize % A_ROUND.len()]),
+            8 | 9 | 10 if is_in_transaction => {
+                Some(Doing::UpdateOf(self.near_place(), self.byte(), self.long()))
+            }
+            11 if is_in_transaction => {
+                Some(Doing::InsertOf(self.below(2), self.byte(), self.long()))
+            }
+            12 | 13 if is_in_transaction => Some(Doing::Commit),
+            _ => None,
+        }
+    }
+
+    // Of such records a page takes two.
+    fn long(&mut self) -> usize {
+        (self.below(2_000) as usize).saturating_add(2_000)
     }
 
     // One of a few, of which seldom none is no name.

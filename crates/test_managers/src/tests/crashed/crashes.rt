@@ -3,7 +3,7 @@ use super::devices::{Devices, Manager, NO_FUSES, cut_off};
 use super::doings::{ONE_COMMIT, STORES};
 use super::doubts::{check_given_back, opening_of};
 use super::lives::{Ground, Life, Pair, Past, live};
-use super::log_copies::copy_of_log;
+use super::log_copies::{copy_of_log, cut_off_of, log_of};
 use super::short_histories::decision_of;
 use super::trouble::{Trouble, require, require_all};
 use shore_disk::Pick;
@@ -39,16 +39,17 @@ fn check_opened(
     past: &Past,
     world: &mut Manager,
 ) -> Result<Ground, Trouble> {
-    let (found, waiting) = world.records();
-    let is_durable = waiting.is_empty() && world.durable().0 == found.len() as u64;
+    let cut_off = cut_off_of(world);
+    let found = log_of(alloc, world, &past.list)?;
+    let is_durable = world.durable().0 == found.len() as u64;
     require(is_durable, "a record is not durable after an open")?;
     let report = world.report();
     let told = check_log(
         alloc,
         ground,
         past,
-        found,
-        report.read as usize,
+        &found,
+        cut_off.saturating_add(report.read as usize),
         report.undone,
     )?;
     let in_doubt = told.opening.in_doubt.as_slice().len() as u64;
@@ -59,7 +60,7 @@ fn check_opened(
     Ok(told)
 }
 
-// What the log tells behind this past, of which so many records were read, and so many transactions undone.
+// What the log tells behind this past, of which so many records were there before the open, and so many transactions undone.
 fn check_log(
     alloc: Global,
     ground: &Ground,
@@ -72,7 +73,7 @@ fn check_log(
     let shown = records_told(alloc, found)?;
     let opening = opening_of(alloc, found)?;
     check_kept(alloc, ground, past, found, &opening.records, &shown)?;
-    let found = copy_of_log(alloc, found, &[])?;
+    let found = copy_of_log(alloc, found)?;
     Ok(Ground {
         opening,
         shown,
@@ -81,7 +82,7 @@ fn check_log(
     })
 }
 
-// What the restart read is a prefix of the list with all that was durable. Behind it are records of undo alone, and with them each transaction is over.
+// What the restart found is a prefix of the list with all that was durable, of which it read what lies behind the tail. Behind it are records of undo alone, and with them each transaction is over.
 fn check_found(
     alloc: Global,
     past: &Past,
@@ -119,7 +120,9 @@ fn count_undone(records: &[LogRecord]) -> Result<u64, Trouble> {
 // Each transaction is over, or in doubt.
 fn are_over(records: &[LogRecord]) -> bool {
     for logged in records {
-        if !is_over(records, logged.txn) && !is_in_doubt(records, logged.txn) {
+        let is_of_one = logged.txn.0 > 0;
+        let is_settled = is_over(records, logged.txn) || is_in_doubt(records, logged.txn);
+        if is_of_one && !is_settled {
             return false;
         }
     }

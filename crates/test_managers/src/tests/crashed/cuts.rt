@@ -3,6 +3,7 @@ use super::crashes::{are_in_place, check_crash};
 use super::devices::{Calls, Devices, Manager, NO_FUSES, cut_off};
 use super::doubts::check_given_back;
 use super::lives::{Ground, Pair, Past};
+use super::log_copies::log_of;
 use super::trouble::{Trouble, require};
 use shore_disk::Pick;
 use std::alloc::Global;
@@ -71,9 +72,11 @@ pub(super) fn check_whole(
 }
 
 fn require_restarted(alloc: Global, world: &mut Manager, wanted: &Ground) -> Result<(), Trouble> {
-    let (found, waiting) = world.records();
+    let found = log_of(alloc, world, &wanted.found)?;
     require(
-        waiting.is_empty() && found.len() == wanted.found.len() && found.starts_with(&wanted.found),
+        world.durable() == world.last()
+            && found.len() == wanted.found.len()
+            && found.starts_with(&wanted.found),
         "another log behind a restart that was cut off",
     )?;
     let is_shown = are_in_place(alloc, world, &wanted.shown)?;

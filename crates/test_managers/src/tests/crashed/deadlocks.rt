@@ -29,7 +29,7 @@ pub(super) struct Deadlocks {
     pub(super) longer: u64,
     /// Calls of a victim that were refused.
     pub(super) refused: u64,
-    /// Victims that a loss of power found with a change that the log device had.
+    /// Victims that a loss of power found with a record that was durable.
     pub(super) lost: u64,
 }
 
@@ -190,7 +190,7 @@ impl Victims {
         }
         let is_refused = match asking.doing {
             Doing::ForceStage | Doing::ForceOpen | Doing::FlushStep | Doing::Resume => true,
-            Doing::InDoubt | Doing::Ask(_) => true,
+            Doing::CheckpointStep | Doing::InDoubt | Doing::Ask(_) => true,
             _ => is_refused(asking, tally),
         };
         require_all(&[

@@ -58,6 +58,8 @@ pub(super) enum Doing {
     ForceOpen,
     Resume,
     FlushStep,
+    /// The next of the four steps of a checkpoint.
+    CheckpointStep,
 }
 
 /// An insert of a byte into the store that lists work with.
@@ -131,7 +133,7 @@ impl Doing {
                 Some(Call::TryLock(granule_at(place, depth), mode))
             }
             Doing::ForceStage | Doing::ForceOpen | Doing::Resume | Doing::FlushStep => None,
-            Doing::Ask(_) => None,
+            Doing::CheckpointStep | Doing::Ask(_) => None,
         })
     }
 
@@ -182,6 +184,7 @@ impl Doing {
             Doing::ForceStage => Event::ForceStage,
             Doing::ForceOpen => Event::ForceOpen,
             Doing::FlushStep => Event::FlushStep,
+            Doing::CheckpointStep => Event::CheckpointStep,
             _ => Event::Resume(session),
         })
     }

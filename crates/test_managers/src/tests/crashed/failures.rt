@@ -62,11 +62,11 @@ fn make_run(
     turns: &[Turn],
     at: Calls,
 ) -> Result<Run, Trouble> {
-    let mut history = ShortHistory::new(alloc);
+    let mut history = ShortHistory::over(alloc, &ground.found)?;
     let mut world = match devices.open_failing(alloc, at)? {
         Opened::Manager(world) => world,
         Opened::Refused(devices) => {
-            let past = past_of(alloc, ground, history, &ground.found, &[], Lsn(0))?;
+            let past = past_of(alloc, ground, history, Lsn(0))?;
             return Ok(Run {
                 past,
                 devices,
@@ -75,9 +75,8 @@ fn make_run(
         }
     };
     let made = make_each(alloc, ground, &mut world, &mut history, turns);
-    let (handed_over, waiting) = world.records();
     let durable = world.durable();
-    let past = past_of(alloc, ground, history, handed_over, waiting, durable);
+    let past = past_of(alloc, ground, history, durable);
     let (devices, has_failed) = cut_off_failing(world);
     made?;
     Ok(Run {

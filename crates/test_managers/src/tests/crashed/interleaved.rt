@@ -1,14 +1,17 @@
 //! Managers with a few sessions side by side, by chance: behind each event the history and the locks are judged, and each crash as with one session.
 use super::chances::Chance;
+use super::checkpoints::Checkpointing;
 use super::crashes::are_in_place;
-use super::deadlocks::{Asking, Deadlocks, NO_DEADLOCKS, Victims};
-use super::decided::{Deciding, NO_PREPARES, Prepares, is_rolling_back};
+use super::deadlocks::{Asking, Victims};
+use super::decided::{Deciding, Prepares, is_rolling_back};
 use super::devices::{Manager, NO_FUSES, cut_off};
 use super::doings::Doing;
 use super::judged_locks::{check_asked, check_locks, waits_at, would_wait};
 use super::lives::{Ground, Life, Pair, Past, formatted, logged, past_of};
 use super::lock_lists::{has_cycle, in_order, waiting_request};
-use super::losses::{NOTHING_YET, Tally, check_dump, check_loss};
+use super::log_copies::copy_of_log;
+use super::losses::{check_dump, check_loss};
+use super::meetings::Meetings;
 use super::rollbacks::{check_appended, records_put_back};
 use super::short_histories::ShortHistory;
 use super::trouble::{Trouble, require};
@@ -18,52 +21,21 @@ use shore_world::{Step, Wait};
 use slow_histories::decisions::{decisions, has_prepared};
 use std::alloc::{AllocError, Global};
 
-// A pair is made anew behind so many crashes.
-const LIVES_OF_A_PAIR: u32 = 6;
-
-/// What has come up.
+/// What is done with a pair besides: sessions prepare their transactions, and the log's front is cut off behind checkpoints.
 #[derive(Clone, Copy)]
-pub(super) struct Meetings {
-    pub(super) all: Tally,
-    /// Calls that came to wait for a lock.
-    pub(super) lock_waits: u64,
-    /// .. and those that were answered once they waited no more.
-    pub(super) answered_behind: u64,
-    /// Tries that somebody was in the way of.
-    pub(super) blocked: u64,
-    /// Asks that were answered by yes, and by no.
-    pub(super) told_durable: u64,
-    pub(super) told_waiting: u64,
-    pub(super) deadlocks: Deadlocks,
-    pub(super) prepares: Prepares,
+pub(super) struct Ways {
+    pub(super) prepares: bool,
+    pub(super) checkpoints: bool,
+    /// How many managers are opened on a pair, one behind another, and so many events at most one is given.
+    pub(super) lives: u32,
+    pub(super) events: u32,
 }
 
-impl Meetings {
-    /// So many events, and something of each kind.
-    pub(super) fn has_each(&self, events: u64) -> bool {
-        let of_locks = self.lock_waits > 0 && self.answered_behind > 0 && self.blocked > 0;
-        let of_rollbacks = self.all.rollbacks.has_each() && self.all.losers_begun > 0;
-        let of_tickets = self.told_durable > 0 && self.told_waiting > 0;
-        self.all.events >= events && of_locks && of_rollbacks && of_tickets && self.all.has_each()
-    }
-}
-
-pub(super) const NO_MEETINGS: Meetings = Meetings {
-    all: NOTHING_YET,
-    lock_waits: 0,
-    answered_behind: 0,
-    blocked: 0,
-    told_durable: 0,
-    told_waiting: 0,
-    deadlocks: NO_DEADLOCKS,
-    prepares: NO_PREPARES,
-};
-
-/// So many sessions, which may prepare their transactions, or do not.
+// So many sessions, and what they do.
 #[derive(Clone, Copy)]
 struct Party {
     sessions: u32,
-    prepares: bool,
+    ways: Ways,
 }
 
 // The sessions of a manager, as they are seen from outside.
@@ -73,6 +45,8 @@ struct Meeting {
     // In the order in which they came.
     requests: Vec<Request>,
     victims: Victims,
+    // How far a round with a checkpoint has come.
+    round: usize,
 }
 
 // A session, the transaction that it stands in, its call that waited, and what it does.
@@ -95,19 +69,21 @@ struct Told<'a> {
     has_failed: bool,
 }
 
-/// A pair is formatted, and then is opened, worked with by one to eight sessions and crashed a few times. They may prepare, or do not.
+/// A pair is formatted, and then is opened, worked with by one to eight sessions in these ways and crashed a few times.
 pub(super) fn check_meetings(
     alloc: Global,
     chance: &mut Chance,
-    prepares: bool,
+    ways: Ways,
     tally: &mut Meetings,
 ) -> Result<(), Trouble> {
     let mut pair = formatted(alloc)?;
     let sessions = chance.below(8).saturating_add(1);
-    let party = Party { sessions, prepares };
-    for _ in 0..LIVES_OF_A_PAIR {
+    let party = Party { sessions, ways };
+    let before = tally.checkpoints.cut_bytes;
+    for _ in 0..ways.lives {
         pair = check_life(alloc, &pair, party, chance, tally)?;
     }
+    tally.checkpoints.count_turns(before);
     Ok(())
 }
 
@@ -153,21 +129,13 @@ fn meet(
     tally: &mut Meetings,
 ) -> Result<Past, Trouble> {
     let mut meeting = Meeting {
-        history: ShortHistory::new(alloc),
+        history: ShortHistory::over(alloc, &ground.found)?,
         requests: world.nodes(alloc)?,
         victims: Victims::new(alloc),
+        round: 0,
     };
     meeting.go_on_by_chance(alloc, ground, world, party, chance, tally)?;
-    let (handed_over, waiting) = world.records();
-    let history = meeting.history;
-    past_of(
-        alloc,
-        ground,
-        history,
-        handed_over,
-        waiting,
-        world.durable(),
-    )
+    past_of(alloc, ground, meeting.history, world.durable())
 }
 
 impl Meeting {
@@ -180,7 +148,7 @@ impl Meeting {
         chance: &mut Chance,
         tally: &mut Meetings,
     ) -> Result<(), Trouble> {
-        for _ in 0..chance.below(140) {
+        for _ in 0..chance.below(party.ways.events) {
             self.make_one(alloc, ground, world, party, chance, tally)?;
             if world.has_failed() && chance.below(4) == 0 {
                 break;
@@ -189,7 +157,9 @@ impl Meeting {
         if world.has_failed() {
             tally.all.failures = tally.all.failures.saturating_add(1);
         }
-        let lost = self.victims.count_with_records(world.records().0);
+        let lost = self
+            .victims
+            .count_with_records(self.history.durable_log(world));
         tally.deadlocks.lost = tally.deadlocks.lost.saturating_add(lost);
         Ok(())
     }
@@ -207,11 +177,11 @@ impl Meeting {
         match chance.below(400) {
             0 => world.set_log_fuse(u64::from(chance.below(12))),
             1 => world.set_volume_fuse(u64::from(chance.below(40))),
-            2 | 3 | 4 => check_dump(alloc, world, &mut tally.all)?,
+            2 | 3 | 4 => check_dump(alloc, world, self.history.log(), &mut tally.all)?,
             _ => {
                 let session = self.session_by_chance(party.sessions, chance);
                 let savepoints = self.savepoints(alloc, session)?;
-                let about = self.about_prepared(session, party, chance);
+                let about = self.besides(session, party, chance);
                 let mut turn = self.turn(session, savepoints, about, chance);
                 turn.doing = self.history.with_a_ticket(turn.doing, world);
                 if self.go_on(alloc, ground, world, &turn, tally)? {
@@ -231,14 +201,19 @@ impl Meeting {
         }
     }
 
-    // What a session that waits for nothing does about prepared transactions, if anything.
-    fn about_prepared(
-        &self,
-        session: SessionId,
-        party: Party,
-        chance: &mut Chance,
-    ) -> Option<Doing> {
-        if !party.prepares || self.history.waiting(session).is_some() {
+    // A step of a checkpoint or what goes with one, in anybody's turn; or what a session that waits for nothing does about prepared transactions; if anything.
+    fn besides(&mut self, session: SessionId, party: Party, chance: &mut Chance) -> Option<Doing> {
+        if party.ways.checkpoints {
+            let is_free = self.history.waiting(session).is_none();
+            let is_in_transaction = is_free && self.history.txn(session).0 > 0;
+            if let Some(doing) = chance.doing_about_checkpoints(
+                is_in_transaction,
+                &mut self.round,
+            ) {
+                return Some(doing);
+            }
+        }
+        if !party.ways.prepares || self.history.waiting(session).is_some() {
             return None;
         }
         let is_in_transaction = self.history.txn(session).0 > 0;
@@ -289,21 +264,31 @@ impl Meeting {
         tally: &mut Meetings,
     ) -> Result<bool, Trouble> {
         let opening = &ground.opening;
-        let (_, waiting) = world.records();
-        let waited = waiting.len();
+        let (waited, tail) = (world.waiting(alloc)?.len(), world.tail());
         let event = turn.doing.event(alloc, turn.session, logged(world))?;
         let step = world.step(alloc, event);
         let judged = self.judge(alloc, opening, world, turn, waited, &step, tally);
-        let (handed_over, waiting) = world.records();
+        let waiting = world.waiting(alloc)?;
         let appended = waiting.get(waited..).unwrap_or(&[]);
+        let checkpointing = Checkpointing {
+            log: self.history.log(),
+            appended,
+            step: &step,
+            durable: world.durable(),
+            has_failed: world.has_failed(),
+            tails: (tail, world.tail()),
+        };
+        let checkpointed = checkpointing.judge(turn.doing, &mut tally.checkpoints);
         let has_ended = ends_one(appended)
             || matches!(step, Step::Done(Answer::WentBack | Answer::Aborted));
-        let ends_rollback = has_ended && !is_rolling_back(handed_over, waiting);
-        self.history.note_decisions(alloc, appended)?;
+        let ends_rollback = has_ended
+            && !is_rolling_back(self.history.durable_log(world), &waiting);
+        self.history.note_appended(alloc, appended)?;
         self.history.note_tickets(turn.doing, world, &step)?;
         self.history
             .note(alloc, opening, turn.session, turn.doing, step)?;
         judged?;
+        checkpointed?;
         self.history.check(alloc, opening)?;
         Ok(ends_rollback)
     }
@@ -319,15 +304,17 @@ impl Meeting {
         step: &Step,
         tally: &mut Meetings,
     ) -> Result<(), Trouble> {
-        let (handed_over, waiting) = world.records();
-        let appended = check_appended(handed_over, waiting, turn.txn, waited, step)?;
+        let waiting = world.waiting(alloc)?;
+        let log = copy_of_log(alloc, self.history.durable_log(world))?;
+        let handed_over = log.as_slice();
+        let appended = check_appended(handed_over, &waiting, turn.txn, waited, step)?;
         tally.all.events = tally.all.events.saturating_add(1);
         tally.all.rollbacks.count(step, appended);
         let requests = self.in_order(alloc, &world.nodes(alloc)?)?;
         let told = Told {
             step,
             handed_over,
-            waiting: waiting.get(..waited).unwrap_or(&[]),
+            waiting: waiting.get(..waited).unwrap_or(&waiting),
             appended: waiting.get(waited..).unwrap_or(&[]),
             durable: world.durable(),
             has_failed: world.has_failed(),
@@ -335,7 +322,7 @@ impl Meeting {
         self.judge_prepared(alloc, opening, turn, &told, &mut tally.prepares)?;
         let judged = self.judge_locks(alloc, opening, turn, &requests, &told, tally);
         self.requests = requests;
-        count(turn, step, tally);
+        tally.count(turn.waited, turn.doing, step);
         judged
     }
 
@@ -465,31 +452,6 @@ impl Meeting {
             }
             _ => Ok(false),
         }
-    }
-}
-
-fn count(turn: &Turn, step: &Step, tally: &mut Meetings) {
-    let counted = match step {
-        Step::Waits(Wait::Lock(_)) if turn.waited.is_none() => &mut tally.lock_waits,
-        Step::Done(Answer::Flushed(pages)) => {
-            let flushed = &mut tally.all.pages_flushed;
-            *flushed = flushed.saturating_add(*pages as u64);
-            return;
-        }
-        Step::Done(Answer::IsDurable(true)) => &mut tally.told_durable,
-        Step::Done(Answer::IsDurable(false)) => &mut tally.told_waiting,
-        Step::Done(_) if goes_on(turn) => &mut tally.answered_behind,
-        Step::Refused(Fault::WouldBlock { .. }) => &mut tally.blocked,
-        _ => return,
-    };
-    *counted = counted.saturating_add(1);
-}
-
-// The turn goes on with a call that waited for a lock.
-fn goes_on(turn: &Turn) -> bool {
-    match turn.waited {
-        Some(Doing::Prepare(_) | Doing::Resolve(_, _)) | None => false,
-        Some(_) => matches!(turn.doing, Doing::Resume),
     }
 }
 

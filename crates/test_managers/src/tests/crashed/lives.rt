@@ -19,7 +19,7 @@ pub(super) struct Ground {
     pub(super) shown: RidMap<Bytes>,
     /// The log at the end of the open.
     pub(super) found: Vec<LogRecord>,
-    /// How many of its records the restart read; those behind are its own.
+    /// How many of its records were there before the restart, which read those from the tail on; those behind are its own.
     pub(super) read: usize,
 }
 
@@ -79,13 +79,11 @@ pub(super) fn past_of(
     alloc: Global,
     ground: &Ground,
     history: ShortHistory,
-    handed_over: &[LogRecord],
-    waiting: &[LogRecord],
     durable: Lsn,
 ) -> Result<Past, Trouble> {
     history.check(alloc, &ground.opening)?;
     let acknowledged = acknowledged(alloc, history.entries())?.as_slice().len();
-    let list = copy_of_log(alloc, handed_over, waiting)?;
+    let list = copy_of_log(alloc, history.log())?;
     Ok(Past {
         history,
         acknowledged,
@@ -131,26 +129,17 @@ fn make_behind(
     turns: &[Turn],
     fuses: Calls,
 ) -> Result<Past, Trouble> {
-    let mut history = ShortHistory::new(alloc);
+    let mut history = ShortHistory::over(alloc, &ground.found)?;
     make_each(alloc, ground, world, &mut history, before)?;
     world.set_log_fuse(fuses.log);
     world.set_volume_fuse(fuses.volume);
     make_each(alloc, ground, world, &mut history, turns)?;
-    let (handed_over, waiting) = world.records();
-    past_of(
-        alloc,
-        ground,
-        history,
-        handed_over,
-        waiting,
-        world.durable(),
-    )
+    past_of(alloc, ground, history, world.durable())
 }
 
 /// How many records the log has.
 pub(super) fn logged(world: &Manager) -> u64 {
-    let (handed_over, waiting) = world.records();
-    (handed_over.len() as u64).saturating_add(waiting.len() as u64)
+    world.last().0
 }
 
 /// Makes the events, and notes what each comes to.
@@ -164,11 +153,11 @@ pub(super) fn make_each(
     for turn in turns {
         let (number, doing) = *turn;
         let session = SessionId(number);
-        let waited = world.records().1.len();
+        let waited = world.waiting(alloc)?.len();
         let event = doing.event(alloc, session, logged(world))?;
         let step = world.step(alloc, event);
-        let (_, waiting) = world.records();
-        history.note_decisions(alloc, waiting.get(waited..).unwrap_or(&[]))?;
+        let waiting = world.waiting(alloc)?;
+        history.note_appended(alloc, waiting.get(waited..).unwrap_or(&[]))?;
         history.note_tickets(doing, world, &step)?;
         history.note(alloc, &ground.opening, session, doing, step)?;
     }

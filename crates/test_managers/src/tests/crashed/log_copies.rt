@@ -1,22 +1,42 @@
 //! Copies of a manager's log.
+use super::devices::Manager;
 use super::trouble::Trouble;
 use shore_model::{LogRecord, Payload};
 use shore_types::images;
 use std::alloc::Global;
 
-/// The records of a log, forced or not.
-pub(super) fn copy_of_log(
-    alloc: Global,
-    handed_over: &[LogRecord],
-    waiting: &[LogRecord],
-) -> Result<Vec<LogRecord>, Trouble> {
+/// A list of records once more.
+pub(super) fn copy_of_log(alloc: Global, records: &[LogRecord]) -> Result<Vec<LogRecord>, Trouble> {
     let mut list = Vec::new(alloc);
-    push_copies(alloc, &mut list, handed_over)?;
-    push_copies(alloc, &mut list, waiting)?;
+    push_copies(alloc, &mut list, records)?;
     Ok(list)
 }
 
-fn push_copies(
+/// How many records lie below the tail of a manager's log: its device has them no more.
+pub(super) fn cut_off_of(world: &Manager) -> usize {
+    world.tail().0.saturating_sub(1) as usize
+}
+
+/// All records of a manager that has not failed: those below the tail as they were logged once, and the others as its log device and its log buffer have them.
+pub(super) fn log_of(
+    alloc: Global,
+    world: &mut Manager,
+    logged: &[LogRecord],
+) -> Result<Vec<LogRecord>, Trouble> {
+    let Some(below) = logged.get(..cut_off_of(world)) else {
+        return Err(Trouble("more is cut off than was logged"));
+    };
+    let Ok(mut kept) = world.durable_records(alloc) else {
+        return Err(Trouble("the durable records are not read"));
+    };
+    let mut list = copy_of_log(alloc, below)?;
+    list.append(&mut kept)?;
+    list.append(&mut world.waiting(alloc)?)?;
+    Ok(list)
+}
+
+/// Adds copies of records to a list.
+pub(super) fn push_copies(
     alloc: Global,
     list: &mut Vec<LogRecord>,
     records: &[LogRecord],
@@ -54,6 +74,21 @@ fn copy_of(alloc: Global, payload: &Payload) -> Result<Payload, Trouble> {
             granules: granules.try_clone(alloc)?,
         }),
         Payload::RollbackDecided => Ok(Payload::RollbackDecided),
-        _ => Err(Trouble("a record that is not written as yet")),
+        Payload::CheckpointBegin => Ok(Payload::CheckpointBegin),
+        Payload::CheckpointEnd {
+            begin,
+            next,
+            txns,
+            dirty,
+        } => Ok(Payload::CheckpointEnd {
+            begin: *begin,
+            next: *next,
+            txns: txns.try_clone(alloc)?,
+            dirty: dirty.try_clone(alloc)?,
+        }),
+        Payload::Anchor { checkpoint, tail } => Ok(Payload::Anchor {
+            checkpoint: *checkpoint,
+            tail: *tail,
+        }),
     }
 }

@@ -8,10 +8,10 @@ use super::rollbacks::{NO_ROLLBACKS, Rollbacks};
 use super::trouble::{Trouble, require};
 use shore_model::rid_map::overlaid;
 use shore_model::{LogRecord, Payload, RidMap};
-use shore_types::{Bytes, TxnId};
+use shore_types::TxnId;
 use slow_logs::lawful_logs::is_lawful;
 use slow_logs::recovered_records::last_images;
-use std::alloc::{AllocError, Global};
+use std::alloc::Global;
 
 /// What has come up.
 #[derive(Clone, Copy)]
@@ -63,33 +63,14 @@ pub(super) const NOTHING_YET: Tally = Tally {
 pub(super) fn check_dump(
     alloc: Global,
     world: &mut Manager,
+    log: &[LogRecord],
     tally: &mut Tally,
 ) -> Result<(), Trouble> {
-    let (handed_over, waiting) = world.records();
-    let records = logged_records(alloc, handed_over, waiting)?;
+    let records = overlaid(alloc, &RidMap::new(alloc), &last_images(alloc, log)?)?;
     if are_in_place(alloc, world, &records)? {
         tally.dumps = tally.dumps.saturating_add(1);
     }
     Ok(())
-}
-
-// What the records of the log come to, forced or not.
-fn logged_records(
-    alloc: Global,
-    handed_over: &[LogRecord],
-    waiting: &[LogRecord],
-) -> Result<RidMap<Bytes>, AllocError> {
-    let forced = behind(alloc, &RidMap::new(alloc), handed_over)?;
-    behind(alloc, &forced, waiting)
-}
-
-// The records as they are behind some changes.
-fn behind(
-    alloc: Global,
-    records: &RidMap<Bytes>,
-    changes: &[LogRecord],
-) -> Result<RidMap<Bytes>, AllocError> {
-    overlaid(alloc, records, &last_images(alloc, changes)?)
 }
 
 /// Power is lost, on each device as it comes. A whole restart is judged; then some are cut off in a row, and another whole one shows the same. Answers

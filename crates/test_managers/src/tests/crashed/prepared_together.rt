@@ -1,14 +1,22 @@
 //! One to eight sessions side by side that prepare and decide too, from six seeds. The counts of what comes up of prepared transactions are those of the first run.
 use super::chances::Chance;
 use super::decided::Prepares;
-use super::interleaved::{Meetings, NO_MEETINGS, check_meetings};
+use super::interleaved::{Ways, check_meetings};
 use super::losses::Tally;
+use super::meetings::{Meetings, NO_MEETINGS};
 use std::alloc::Global;
 use std::io;
 use std::test::Fail;
 
 /// Of each seed sessions make so many events.
 const EVENTS_TOGETHER: u64 = 17_000;
+
+const WAYS: Ways = Ways {
+    prepares: true,
+    checkpoints: false,
+    lives: 6,
+    events: 140,
+};
 
 /// Pairs that sessions work on together, from a seed, until there were so many events, of which so many were of prepared transactions.
 fn check_prepared(rt: &HostRuntime, seed: u64, wanted: Prepares) -> Result<(), Fail> {
@@ -27,7 +35,7 @@ fn meet_often(alloc: Global, seed: u64, tally: &mut Meetings) -> Result<(), Fail
         if tally.all.events >= EVENTS_TOGETHER {
             break;
         }
-        if let Err(trouble) = check_meetings(alloc, &mut chance, true, tally) {
+        if let Err(trouble) = check_meetings(alloc, &mut chance, WAYS, tally) {
             let events = tally.all.events;
             return Err(Fail::new(format_args!("{trouble:?}: seed {seed}, behind {events} events")));
         }

@@ -2,6 +2,7 @@
 use super::devices::Manager;
 use super::doings::Doing;
 use super::lives::logged;
+use super::log_copies::{copy_of_log, push_copies};
 use super::trouble::{Trouble, require};
 use shore_model::{Answer, Call, Decision, Entry, Exchange, LogRecord, Opening, Payload};
 use shore_types::{Fault, GlobalId, Lsn, SessionId, TxnId};
@@ -19,16 +20,32 @@ const SESSIONS: usize = 9;
 #[derive(Drop)]
 pub(super) struct ShortHistory {
     entries: Vec<Entry>,
+    // The log: what an open found, and what was appended since.
+    log: Vec<LogRecord>,
     // The call of each session that waits, by the session's number.
     waiting: [Option<Doing>; SESSIONS],
 }
 
 impl ShortHistory {
-    pub(super) fn new(alloc: Global) -> ShortHistory {
-        ShortHistory {
+    /// Over the log of an open.
+    pub(super) fn over(alloc: Global, found: &[LogRecord]) -> Result<ShortHistory, Trouble> {
+        Ok(ShortHistory {
             entries: Vec::new(alloc),
+            log: copy_of_log(alloc, found)?,
             waiting: [None; SESSIONS],
-        }
+        })
+    }
+
+    /// All records of the log.
+    pub(super) fn log(&self) -> &[LogRecord] {
+        &self.log
+    }
+
+    /// Those of them that are durable.
+    pub(super) fn durable_log(&self, world: &Manager) -> &[LogRecord] {
+        self.log
+            .get(..world.durable().0 as usize)
+            .unwrap_or(&self.log)
     }
 
     pub(super) fn entries(&self) -> &[Entry] {
@@ -81,11 +98,12 @@ impl ShortHistory {
     }
 
     /// Notes the decisions of the records that an event has appended.
-    pub(super) fn note_decisions(
+    pub(super) fn note_appended(
         &mut self,
         alloc: Global,
         appended: &[LogRecord],
-    ) -> Result<(), AllocError> {
+    ) -> Result<(), Trouble> {
+        push_copies(alloc, &mut self.log, appended)?;
         for logged in appended {
             if let Some(decision) = decision_of(alloc, logged)? {
                 self.entries.push(Entry::Decided(decision))?;
@@ -148,7 +166,7 @@ impl ShortHistory {
         require(is_right, "an ask that is not true")
     }
 
-    /// Notes what a session did and what it came to, behind its decisions. A force and a flush add nothing.
+    /// Notes what a session did and what it came to, behind its decisions. A force, a flush and a step of a checkpoint add nothing.
     pub(super) fn note(
         &mut self,
         alloc: Global,
@@ -226,6 +244,7 @@ impl ShortHistory {
     fn may_be_idle(&self, session: SessionId, doing: Doing) -> bool {
         match doing {
             Doing::ForceStage | Doing::ForceOpen | Doing::FlushStep => true,
+            Doing::CheckpointStep => true,
             Doing::Resume => self.waiting(session).is_none(),
             _ => false,
         }

@@ -1,8 +1,9 @@
 //! One to eight sessions side by side, from six seeds. The counts of deadlocks are those of the first run.
 use super::chances::Chance;
 use super::deadlocks::Deadlocks;
-use super::interleaved::{Meetings, NO_MEETINGS, check_meetings};
+use super::interleaved::{Ways, check_meetings};
 use super::losses::Tally;
+use super::meetings::{Meetings, NO_MEETINGS};
 use super::rollbacks::Rollbacks;
 use std::alloc::Global;
 use std::io;
@@ -10,6 +11,13 @@ use std::test::Fail;
 
 /// Of each seed sessions make so many events.
 const EVENTS_TOGETHER: u64 = 18_000;
+
+const WAYS: Ways = Ways {
+    prepares: false,
+    checkpoints: false,
+    lives: 6,
+    events: 140,
+};
 
 /// Pairs that sessions work on together, from a seed, until there were so many events. Each kind of what is counted has come up, and deadlocks so often.
 fn check_together(rt: &HostRuntime, seed: u64, wanted: Deadlocks) -> Result<(), Fail> {
@@ -25,7 +33,7 @@ fn meet_often(alloc: Global, seed: u64, tally: &mut Meetings) -> Result<(), Fail
         if tally.all.events >= EVENTS_TOGETHER {
             break;
         }
-        if let Err(trouble) = check_meetings(alloc, &mut chance, false, tally) {
+        if let Err(trouble) = check_meetings(alloc, &mut chance, WAYS, tally) {
             let events = tally.all.events;
             return Err(Fail::new(format_args!("{trouble:?}: seed {seed}, behind {events} events")));
         }
@@ -111,7 +119,7 @@ fn from_seed_4(rt: HostRuntime) -> Result<(), Fail> {
             of_several: 10,
             longer: 32,
             refused: 72,
-            lost: 2,
+            lost: 1,
         },
     )
 }
@@ -130,7 +138,7 @@ fn from_seed_5(rt: HostRuntime) -> Result<(), Fail> {
             of_several: 16,
             longer: 61,
             refused: 106,
-            lost: 4,
+            lost: 3,
         },
     )
 }
@@ -149,7 +157,7 @@ fn from_seed_6(rt: HostRuntime) -> Result<(), Fail> {
             of_several: 22,
             longer: 52,
             refused: 96,
-            lost: 5,
+            lost: 4,
         },
     )
 }
@@ -168,7 +176,7 @@ fn from_seed_7(rt: HostRuntime) -> Result<(), Fail> {
             of_several: 15,
             longer: 48,
             refused: 95,
-            lost: 7,
+            lost: 5,
         },
     )
 }
@@ -187,7 +195,7 @@ fn from_seed_8(rt: HostRuntime) -> Result<(), Fail> {
             of_several: 16,
             longer: 35,
             refused: 105,
-            lost: 5,
+            lost: 3,
         },
     )
 }
