@@ -1,0 +1,73 @@
+-- The durable word, the stop word and the tail word: what is seen was told, who asked for the stop or found it knows that it is asked for, and the two seats that know the
+-- tail know one.
+use Rattle.std.specs.Prelude.{◌≡◌, ℕ, ◌≤◌, ◌<◌, ◌==◌, true, false, List, [], ◌∷◌}
+use mathlib.Core.Option.{some}
+use lib.ListN.{get_elem?}
+use Rattle.atomic_table.specs.Table.{State, Me, Step}
+use Rattle.atomic_table.specs.Seated.{TableId}
+use Rattle.atomic_table.specs.declared.shared.Seat.{Seat}
+use Rattle.shore_words.specs.declared.rule.View.{View}
+
+-- the name of no words
+abbrev pub no_words : TableId
+no_words = record { words = 0; slots = 0; views_name = 0; atom = 0; block = 0; offset = 0; slot_names = [] }
+
+-- one that has seen so much and knows nothing else
+abbrev pub looker : ℕ → View
+looker seen = record { seen = seen; tells = false; told = 0; tail = 0; keeps = false; kept = 0; asked = false; stopped = false }
+
+-- one that tells, and keeps
+abbrev pub teller : ℕ → ℕ → View
+teller number tail = record (looker number) { tells = true; told = number; tail = tail; keeps = true; kept = tail }
+
+-- one that keeps
+abbrev pub keeper : ℕ → ℕ → View
+keeper seen tail = record (looker seen) { keeps = true; kept = tail }
+
+-- What a seat knows of the words, of who tells, and of who keeps.
+pub record Knows (number stop tail tells_at keeps_at seat : ℕ) (v : View) : Type 0 where
+  pub seen : v.seen ≤ number
+  pub tells : v.tells ≡ true → (seat ≡ tells_at) × (v.told ≡ number) × (v.tail ≡ tail)
+  pub keeps : v.keeps ≡ true → (seat ≡ keeps_at) × (v.kept ≡ tail)
+  pub asked : v.asked ≡ true → stop ≡ 1
+  pub stopped : v.stopped ≡ true → stop ≡ 1
+
+-- a seat asked for the stop
+abbrev pub HasAsked : List View → Type 0
+HasAsked views = (seat : ℕ) × (v : View) × (get_elem? views seat ≡ some v) × (v.asked ≡ true)
+
+-- The words are the number told, the stop word, which is 0 or 1, and 1 only if a seat asked for it, and the tail.
+pub record IsTold (s : State ℕ View) : Type 0 where
+  pub number : ℕ
+  pub stop : ℕ
+  pub tail : ℕ
+  pub tells_at : ℕ
+  pub keeps_at : ℕ
+  pub words : s.words ≡ number ∷ stop ∷ tail ∷ []
+  pub bit : stop ≤ 1
+  pub by : stop ≡ 1 → HasAsked s.views
+  pub each : (seat : ℕ) (v : View) → get_elem? s.views seat ≡ some v → Knows number stop tail tells_at keeps_at seat v
+
+-- ---- what a step tells, of the seat before it, the word found or stored, and the seat behind it
+
+abbrev pub Tells : Step ℕ → Me ℕ View → ℕ → Me ℕ View → Type 0
+Tells s me number new = new ≡ (record me.0 { tells = true; told = s.first }, me.1)
+
+abbrev pub Looks : Step ℕ → Me ℕ View → ℕ → Me ℕ View → Type 0
+Looks s me number new = (new ≡ (record me.0 { seen = number }, me.1)) × (me.0.seen ≤ number) × (me.0.tells ≡ true → number ≡ me.0.told)
+
+abbrev pub Asks : Step ℕ → Me ℕ View → ℕ → Me ℕ View → Type 0
+Asks s me number new = new ≡ (record me.0 { asked = true }, me.1)
+
+abbrev pub Stops : Step ℕ → Me ℕ View → ℕ → Me ℕ View → Type 0
+Stops s me number new = (new ≡ (record me.0 { stopped = number == 1 }, me.1)) × (me.0.asked ≡ true → number ≡ 1) × (me.0.stopped ≡ true → number ≡ 1)
+
+abbrev pub LooksForTail : Step ℕ → Me ℕ View → ℕ → Me ℕ View → Type 0
+LooksForTail s me tail new = (new ≡ me) × (me.0.tells ≡ true → tail ≡ me.0.tail) × (me.0.keeps ≡ true → tail ≡ me.0.kept)
+
+abbrev pub Moves : Step ℕ → Me ℕ View → ℕ → Me ℕ View → Type 0
+Moves s me tail new = new ≡ (record me.0 { tells = true; tail = s.first; keeps = true; kept = s.first }, me.1)
+
+-- the seat is of these words
+abbrev pub IsOf : TableId → Seat ℕ View → Type 0
+IsOf words seat = (seat.table_id ≡ words) × (2 < words.words)

@@ -1,0 +1,63 @@
+//! Words to sleep on, one for each who may. They tell nothing: who wakes looks again for what it waits for.
+ghost use Rattle.std.specs.Prelude.{◌≡◌, IfOk, vec_len};
+
+use std::alloc::{AllocError, Global};
+use std::sync::Wait;
+use std::sync::atomic::{AtomicU64, Ordering};
+use std::time::Duration;
+
+/// Words that are raised by who wakes. A sleeper glances at its word first, then looks whether it has to wait, and sleeps only as long as the word is as it was:
+/// so no call of `wake` between the two is lost.
+#[derive(Drop)]
+pub struct WakeWords {
+    // One for each who may sleep.
+    words: Vec<AtomicU64>,
+}
+
+impl WakeWords {
+    /// So many words.
+    pub fn new(alloc: Global, count: u32) -> Result<WakeWords, AllocError>
+        ensures { IfOk result (λ made. vec_len made.words ≡ count) }
+    {
+        let mut words = Vec::with_capacity(alloc, count as usize)?;
+        for _ in 0..count {
+            words.push(AtomicU64::new(0))?;
+        }
+        Ok(WakeWords { words })
+    }
+
+    /// What a sleeper remembers before it looks. 0 if there is no such word.
+    pub fn glance(&self, sleeper: u32) -> u64 {
+        match self.words.get(sleeper as usize) {
+            Some(word) => word.load(Ordering::SeqCst),
+            None => 0,
+        }
+    }
+
+    /// Wakes all that sleep on this word, and whoever glanced at it and does not sleep yet.
+    pub fn wake(&self, sleeper: u32) {
+        if let Some(word) = self.words.get(sleeper as usize) {
+            word.fetch_add(1, Ordering::SeqCst);
+            word.wake_all();
+        }
+    }
+
+    /// Sleeps until a wake behind the glance. It may return for no reason, and does at once if there is no such word.
+    pub fn sleep<R: Wait>(&self, rt: &R, sleeper: u32, glanced: u64) {
+        if let Some(word) = self.words.get(sleeper as usize) {
+            word.park(rt, low_half(glanced));
+        }
+    }
+
+    /// Sleeps so, and no longer than this.
+    pub fn nap<R: Wait>(&self, rt: &R, sleeper: u32, glanced: u64, most: Duration) {
+        if let Some(word) = self.words.get(sleeper as usize) {
+            word.park_timeout(rt, low_half(glanced), most);
+        }
+    }
+}
+
+// The half of a word that a sleep compares.
+fn low_half(word: u64) -> u32 {
+    (word % (1 << 32)) as u32
+}

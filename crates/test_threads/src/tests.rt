@@ -1,0 +1,3 @@
+mod queues;
+mod sends;
+mod words;
