@@ -18,8 +18,9 @@ class Analysis:
         self.last, self.unanswered = {}, collections.defaultdict(list)
         # The number of the Prepare of each transaction that has one, those that have a RollbackDecided, and those whose first record here names one that is cut off.
         self.prepared, self.decided, self.cut_off = {}, set(), set()
-        # Who has a record here, and no end.
-        self.unended = {it.txn for _, it in records} - {it.txn for _, it in records if it.kind in (COMMIT, END)} - {0}
+        # Who has an end here, and who has a record, but none.
+        self.ended = {it.txn for _, it in records if it.kind in (COMMIT, END)}
+        self.unended = {it.txn for _, it in records} - self.ended - {0}
 
     def record(self, number):
         return self.records[number - self.tail][1]
@@ -28,13 +29,17 @@ class Analysis:
         """The table of the first CheckpointEnd that names this begin; None if there is none."""
         return next((it.table for _, it in self.records if it.table and it.table.begin == checkpoint), None)
 
-    def first_unmeant(self):
-        """The number of the first record that does not mean what it has to; None if all do."""
+    def first_unmeant(self, checkpoint):
+        """The number of the first record that does not mean what it has to, behind an anchor that names this checkpoint, 0 if it names none; None if all do."""
+        anchored = self.end_of(checkpoint)
         for number, (_, read) in enumerate(self.records, self.tail):
             if not self.is_meant(number, read):
                 return number
             self.note(number, read)
             if sum(it > 0 for it in self.last.values()) > MOST_TXNS or self.takes_as_ended(read) & self.unended:
+                return number
+            # Whom the anchored checkpoint's CheckpointEnd lists had not ended as that began.
+            if anchored and read.table is anchored and self.takes_as_ended(read) - self.ended:
                 return number
         return None
 

@@ -34,6 +34,7 @@ WORDS = {
     "N": (lambda it: is_number(it, 2**64 - 1), "a number, such as 0"),
     "DEVICE": (lambda it: it in ("log", "volume"), "log or volume"),
     "PICK": (lambda it: it in ("old", "new", "noise"), "old, new or noise"),
+    "HALF": (lambda it: it in ("begin", "end"), "begin or end"),
 }
 
 # What a session calls, each behind its number; then the other lines.
@@ -58,11 +59,13 @@ CALLS = [
 ]
 OTHERS = [
     ("dump", "every record in place"),
-    ("log", "every record of the log"),
+    ("log", "every record of the log that is kept"),
     ("locks", "every node of the lock table"),
     ("durable N", "whether the commit with ticket N is durable"),
     ("force", "makes all records of the log durable"),
     ("flush", "writes back all pages whose last change is durable"),
+    ("checkpoint", "an open reads the log from here on, but for what transactions and pages still need"),
+    ("checkpoint HALF", "begins a checkpoint, or ends it, with other lines between"),
     ("crash", "the power is lost, and the pair is opened again"),
     ("crash PICK", "the same, with unsynced bytes as before, as written, or noise; in memory alone"),
     ("fuse DEVICE N", "N more writes and syncs pass, then the device fails; in memory alone"),

@@ -98,7 +98,8 @@ class Stream:
         return found != shown(self.acknowledged)
 
     def start(self, found):
-        """An open has shown this: it is one of these, or a pair made anew."""
+        """An open has shown this: it is one of these, or a pair made anew. A checkpoint that was begun is dropped."""
+        self.has_begun = False
         known = [state for state in (self.acknowledged, *(state for _, state in self.asked)) if shown(state) == found]
         self.acknowledged, self.asked = known[-1] if known else State(found[0], {}), []
         self.session = 1
@@ -135,6 +136,14 @@ class Stream:
         said = run.ask(line)
         if said != wanted:
             raise Failure(f"{line!r} was answered by {said!r}")
+
+    def checkpoint(self, run):
+        """A whole checkpoint, or a half of one. Of one that is begun the other half comes later, with other lines between. One that would free too little is refused at its begin."""
+        line = "checkpoint end" if self.has_begun else self.chance.choice(["checkpoint", "checkpoint begin"])
+        said = run.ask(line)
+        if "fault" in said and (self.has_begun or "LogFull" not in said):
+            raise Failure(f"{line!r} was answered by {said!r}")
+        self.has_begun = said.startswith("checkpoint begun")
 
     def decide(self, run):
         """A resolve of one in doubt, from the session of another transaction or of none."""
@@ -193,6 +202,8 @@ class Stream:
             self.change(run, writes)
             if self.chance.random() < 0.2:
                 write_back(run)
+            if self.chance.random() < 0.1:
+                self.checkpoint(run)
         if len(self.state.doubts) < MOST_IN_DOUBT and self.chance.random() < 0.3:
             return count + self.prepare(run, writes)
         records = overlaid(self.state.records, writes)

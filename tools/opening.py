@@ -5,7 +5,7 @@ import collections
 import itertools
 
 from analysis import Analysis
-from formats import CHECKPOINT_BEGIN, COMPENSATION, END, FIRST_ANCHOR, GATE_AT, IMAGES_AT, LAST_OPENED, LONGEST_FRAME, MOST_OF_A_BATCH, MOST_OF_A_FRAME, OPEN, PAGE, PAGES_AT, SHUT, STREAM_AT
+from formats import CHECKPOINT_BEGIN, COMPENSATION, END, GATE_AT, IMAGES_AT, LAST_OPENED, LONGEST_FRAME, MOST_OF_A_BATCH, MOST_OF_A_FRAME, OPEN, PAGE, PAGES_AT, SHUT, STREAM_AT
 from formats import TABLE_AT, NoText, Record, Refused, byte_of, compensation, damaged, field, frame, laid_at, places_of, read_anchors, read_entries, read_frames, read_label, read_page
 from formats import record
 
@@ -35,14 +35,11 @@ class Opening:
         _, self.most_locks, self.stores = of_log
         self.places = places_of(self.stores)
         self.anchor_at, self.counts = read_anchors(self.log)
-        # No anchor that a checkpoint has moved is read yet, so the log has to begin at its first record.
-        if self.counts != FIRST_ANCHOR:
-            raise damaged("log", self.anchor_at, "an anchor that a checkpoint has moved is not read yet")
         self.records, self.end = read_frames(self.log, self.counts)
         self.replay()
         self.told = Analysis(self.stores, self.places, self.counts.tail, self.records)
         table = self.checkpoint()
-        unmeant = self.told.first_unmeant()
+        unmeant = self.told.first_unmeant(self.counts.checkpoint)
         if unmeant:
             raise damaged("log", self.frame_of(unmeant), f"record {unmeant} does not go with those before it, or with the volume")
         self.doubts = self.told.doubts()

@@ -1,7 +1,7 @@
 """Logs of checkpoints, worked by hand, and what is read of each: both anchors, a log that begins behind its first record, and a stream that goes on over its end. They are tried by
 tools/check-formats."""
 from formats import ACTIVE, ANCHOR, CHANGE, CHECKPOINT_BEGIN, CHECKPOINT_END, COMMIT, COMPENSATION, END, FIRST_ANCHOR, OPEN, PREPARED, ROLLING_BACK, SHUT, STREAM_AT, Anchor, Dirty
-from formats import Geometry, Named, Table, Txn, anchor, anchor_record, change, checkpoint_begin, checkpoint_end, compensation, frame, log_file, number, record
+from formats import Geometry, Named, Table, Txn, anchor, anchor_record, change, checkpoint_begin, checkpoint_end, compensation, frame, log_file, page, prepare, record
 from logs_by_hand import of_length
 
 # Records of checkpoints as bytes worked by hand, and the tables or the names that they have.
@@ -192,3 +192,128 @@ SHOWN = {
       4166  closed gate: the log ends, 131002 bytes before the file does
 """,
 }
+
+
+def page_of(number_of_last, *contents):
+    """Page 0.0 with these records, one behind the other."""
+    places = [24 + len(b"".join(contents[:it])) for it in range(len(contents))]
+    return {0: page((0, 0), number_of_last, [(at, len(it)) for at, it in zip(places, contents)], [(24, b"".join(contents))])}
+
+
+OPENED, A, B, MOVED = "opened", b"\xaa", b"\xbb", anchor(2, 3, 3, 70)
+# Transaction 1 has committed below the tail, and the End behind it lists it still; transaction 2 is under way.
+OLDER_END = [
+    [change(1, 0, "0.0.0", None, A), checkpoint_begin(), record(COMMIT, 1, 1)],
+    [change(2, 0, "0.0.1", None, B), checkpoint_end(2, 2, [Txn(1, ACTIVE, 1, 1, 1, 0)], [("0.0", 1)])],
+    [anchor_record(2, 1)],
+    [checkpoint_begin(), checkpoint_end(7, 3, [Txn(2, ACTIVE, 4, 4, 4, 0)], [("0.0", 4)])],
+    [anchor_record(7, 4)],
+]
+OLDER_TAIL = 13 + 36 + 21 + 21
+IN_DOUBT = [
+    [change(1, 0, "0.0.0", None, A), prepare(1, 1, b"g1", ["0.0.0"])],
+    [checkpoint_begin(), checkpoint_end(3, 2, [Txn(1, PREPARED, 1, 2, 1, 2)], [("0.0", 1)])],
+    [anchor_record(3, 1)],
+]
+
+
+def ends_by_hand():
+    """A checkpoint's End behind a Change and a Prepare of transaction 1 and its begin, at number 3; and whether it means what it has to."""
+    right = Txn(1, PREPARED, 1, 2, 1, 2)
+    entries = [
+        (right, True),
+        (right._replace(state=ACTIVE), True),
+        (right._replace(state=ACTIVE, prepare=3), True),
+        (right._replace(state=ACTIVE, prepare=4), False),
+        (right._replace(first=0), False),
+        (right._replace(first=2), True),
+        (right._replace(first=3), False),
+        (right._replace(first=4), False),
+        (right._replace(last=0), False),
+        (right._replace(last=1), True),
+        (right._replace(last=3), False),
+        (right._replace(following=0), True),
+        (right._replace(following=2), False),
+        (right._replace(following=4), False),
+        (right._replace(prepare=0), False),
+        (right._replace(prepare=1), False),
+        (right._replace(prepare=4), False),
+        (right._replace(txn=2), False),
+        (right._replace(txn=2**62), False),
+    ]
+    for entry, is_right in entries:
+        yield f"the entry {tuple(entry)}", checkpoint_end(3, 2, [entry], [("0.0", 1)]), is_right
+    for begin, following, dirty, is_right in [
+        (0, 2, [], False),
+        (1, 2, [], False),
+        (4, 2, [], False),
+        (3, 0, [], True),
+        (3, 2**62, [], True),
+        (3, 2**62 + 1, [], False),
+        (3, 2, [("0.1", 0)], True),
+        (3, 2, [("0.1", 3)], True),
+        (3, 2, [("0.1", 4)], False),
+        (3, 2, [("0.2", 1)], False),
+        (3, 2, [("1.0", 1)], False),
+    ]:
+        yield f"the begin {begin}, the next number {following}, the pages {dirty}", checkpoint_end(begin, following, [right], dirty), is_right
+
+
+def logs_behind_a_tail():
+    """Logs that begin with number 3, at place 70, with a checkpoint there; the records behind it; and whether these mean what they have to."""
+    yield "a transaction that is whole", [change(2, 0, "0.0.0", None, A), record(COMMIT, 2, 5)], True
+    yield "one that is cut off, and ends", [change(2, 1, "0.0.0", None, A), change(2, 5, "0.0.1", None, B), record(COMMIT, 2, 6)], True
+    yield "one whose last record alone is kept", [record(COMMIT, 2, 2)], True
+    yield "one that is cut off, and does not end", [change(2, 1, "0.0.0", None, A)], False
+    yield "one that names no record of its own", [change(2, 4, "0.0.0", None, A), record(COMMIT, 2, 5)], False
+    yield "one that names none behind the first", [change(2, 1, "0.0.0", None, A), change(2, 0, "0.0.1", None, B), record(COMMIT, 2, 6)], False
+    yield "one that names another", [change(2, 1, "0.0.0", None, A), record(COMMIT, 3, 0), record(COMMIT, 2, 6)], False
+    yield "one that goes on behind its end", [record(COMMIT, 2, 1), record(COMMIT, 2, 5)], False
+    yield "a Compensation of one that is cut off", [compensation(2, 1, "0.0.0", A, 2), record(END, 2, 5)], True
+    yield "a Compensation that names no Change of it", [compensation(2, 1, "0.0.0", A, 3), record(END, 2, 5)], False
+    yield "an entry of one that is cut off, and has no record", [checkpoint_begin(), checkpoint_end(5, 9, [Txn(2, ACTIVE, 1, 2, 1, 0)])], True
+    yield "an entry of one that is cut off, and ends", [record(COMMIT, 2, 2), checkpoint_begin(), checkpoint_end(6, 9, [Txn(2, ACTIVE, 1, 2, 1, 0)])], True
+    yield "an entry of one that takes it as cut off", [change(2, 0, "0.0.0", None, A), checkpoint_begin(), checkpoint_end(6, 9, [Txn(2, ACTIVE, 1, 5, 5, 0)])], False
+    yield "an End whose begin is cut off", [checkpoint_end(2, 9)], True
+    yield "an End whose begin is none", [checkpoint_end(4, 9)], False
+    yield "a Prepare of one that is cut off", [prepare(2, 1, b"g", []), record(COMMIT, 2, 5)], True
+    yield "a Prepare of one that is cut off, and stays", [prepare(2, 1, b"g", [])], False
+
+
+def anchored_ends():
+    """The transactions that the anchored checkpoint's End lists behind a tail with number 3; the records behind it; and whether that End means what it has to."""
+    active, prepared = Txn(2, ACTIVE, 1, 2, 1, 0), Txn(2, PREPARED, 1, 2, 1, 2)
+    yield "one that is cut off, and has no record", [active], [], False
+    yield "one in doubt that is cut off, and has no record", [prepared], [], False
+    yield "one that is cut off, and ends", [active], [record(COMMIT, 2, 2)], True
+    yield "one that is cut off, and is rolled back", [active], [compensation(2, 2, "0.0.0", None, 0), record(END, 2, 5)], True
+    yield "one that ends, and one that does not", [active, active._replace(txn=3)], [record(COMMIT, 2, 2)], False
+    yield "one that is cut off, before a record that names none", [active], [record(COMMIT, 3, 4)], False
+
+
+def opens_by_hand():
+    """Pairs that checkpoints leave, and what an open and a dump print; the frame at 4,166 is that of the checkpoint."""
+    gone, whole = [OPENED, "0.0.0 aa"], [OPENED, "0.0.0 aa", "0.0.1 bb"]
+    yield "a page that the checkpoint has, written back", laid(IN_HALVES, anchor(), anchor(2, 2)), page_of(1, A), gone
+    yield "that page, not written back", laid(IN_HALVES, anchor(), anchor(2, 2)), {}, gone
+    yield "a page that the checkpoint has not", laid([SETUP, *QUIET], anchor(), MOVED), page_of(1, A), gone
+    yield "redo that begins at the checkpoint", laid([SETUP, *QUIET], anchor(), anchor(2, 3)), {}, [OPENED, "empty"]
+    yield "a transaction across the tail, done again", laid(ACROSS, anchor(), anchor(2, 4, 2, 49)), page_of(1, A), whole
+    yield "a rollback over the end, done again", turned(), page_of(82, OLD), [OPENED, f"0.0.0 {OLD.hex()}"]
+    yield "a rollback over the end, on its page", turned(), page_of(110, OLD), [OPENED, f"0.0.0 {OLD.hex()}"]
+    yield "a page above the last number, which redo reads", turned(), page_of(115, OLD), ["open fault 25 Damaged volume 270336", "fault 24 Failed"]
+    yield "a page above the last number, which it does not read", laid([SETUP, *QUIET], anchor(), MOVED), page_of(6, A), [OPENED, "fault 25 Damaged volume 270336"]
+    yield "a page above the last number, whose kept record it passes over", laid([SETUP, *QUIET], anchor(), anchor(2, 3)), page_of(6, A), [OPENED, "fault 25 Damaged volume 270336"]
+    yield "a loser behind an older End", laid(OLDER_END, anchor(3, 7, 4, OLDER_TAIL), anchor(2, 2)), page_of(1, A), gone
+    yield "one in doubt before a checkpoint", laid(IN_DOUBT, anchor(), anchor(2, 3)), {}, gone
+    for what, log in [("no End", [SETUP, [checkpoint_begin()]]), ("no begin", [SETUP, [anchor_record(3, 3), checkpoint_end(3, 2)]]), ("another begin", [SETUP, [checkpoint_begin(), checkpoint_begin(), checkpoint_end(4, 2)]])]:
+        yield f"an anchor whose checkpoint has {what}", laid(log, anchor(), MOVED), {}, ["open fault 25 Damaged log 2048", "fault 24 Failed"]
+    yield "an anchor whose checkpoint is not there yet", laid([SETUP, *QUIET], anchor(), anchor(2, 6, 3, 70)), {}, ["open fault 25 Damaged log 2048", "fault 24 Failed"]
+    for what, end, is_right in ends_by_hand():
+        yield f"an End with {what}", laid([IN_DOUBT[0], [checkpoint_begin(), end]], anchor()), {}, gone if is_right else ["open fault 25 Damaged log 4184", "fault 24 Failed"]
+    for what, records, is_right in logs_behind_a_tail():
+        log = laid([[checkpoint_begin(), checkpoint_end(3, 9)], records], anchor(), MOVED, first=3, place=70, older=WRAPPED)
+        yield what, log, {}, [OPENED] if is_right else ["open fault 25 Damaged log 4241", "fault 24 Failed"]
+    for what, txns, records, is_right in anchored_ends():
+        log = laid([[checkpoint_begin(), checkpoint_end(3, 9, txns)], *([records] if records else [])], anchor(), MOVED, first=3, place=70, older=WRAPPED)
+        yield f"an anchored End that lists {what}", log, {}, [OPENED] if is_right else ["open fault 25 Damaged log 4166", "fault 24 Failed"]
