@@ -32,6 +32,8 @@ from programs import named_program
 
 ACCOUNTS, MONEY = 4, 1000
 SECONDS_TO_START = 30
+# A manager makes a checkpoint behind so many prepares, for which its log has room several times over, and as it starts.
+PREPARES_A_CHECKPOINT = 500
 
 
 class Lost(Exception):
@@ -58,7 +60,7 @@ class Manager(Store):
 
     def __init__(self, name, program, folder):
         self.name, self.program, self.folder = name, program, folder
-        self.child, self.is_begun = None, False
+        self.child, self.is_begun, self.prepares = None, False, 0
 
     def answer(self):
         try:
@@ -83,7 +85,8 @@ class Manager(Store):
                 time.sleep(0.05)
                 continue
             print(f"start {self.name} {self.child.process.pid}", flush=True)
-            return self.make_accounts() if is_anew else None
+            # Nobody knows how full the log was left.
+            return self.make_accounts() if is_anew else self.checkpoint()
         raise SystemExit(f"two_phase: FAILED: {self.name} cannot be opened")
 
     def make_accounts(self):
@@ -115,6 +118,7 @@ class Manager(Store):
 
     def prepare(self, name):
         self.demand(f"prepare {name.encode().hex()}", "prepared")
+        self.prepares += 1
 
     def commit(self, name):
         self.resolve(name, "commit")
@@ -129,6 +133,12 @@ class Manager(Store):
             if "NoGlobalId" not in str(fault):
                 raise
         self.is_begun = False
+        if self.prepares >= PREPARES_A_CHECKPOINT:
+            self.checkpoint()
+
+    def checkpoint(self):
+        super().checkpoint()
+        self.prepares = 0
 
     def in_doubt(self):
         count = int(self.ask("indoubt").removeprefix("indoubt "))

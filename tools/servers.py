@@ -66,17 +66,20 @@ class Etcd:
                  "--listen-peer-urls", f"http://127.0.0.1:{peer}", "--initial-advertise-peer-urls", f"http://127.0.0.1:{peer}"],
                 stdout=log, stderr=log)
 
-    def is_up(self):
-        """Most members answer a read, which asks most of them."""
+    def changes(self):
+        """How often a key was changed since it began: the revision that a read tells."""
         for url in self.urls():
             try:
                 request = urllib.request.Request(f"{url}/v3/kv/range", json.dumps({"key": "AA=="}).encode())
                 with urllib.request.urlopen(request, timeout=2) as answer:
-                    json.load(answer)
-                    return True
+                    return int(json.load(answer)["header"]["revision"])
             except OSError:
                 pass
-        return False
+        return None
+
+    def is_up(self):
+        """Most members answer a read, which asks most of them."""
+        return self.changes() is not None
 
     def restart(self, name):
         """A member is killed, and comes back."""
