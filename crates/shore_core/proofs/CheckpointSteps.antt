@@ -39,7 +39,7 @@ use Rattle.laws_heaps.specs.LoggedHeaps.{IsStoreOf}
 use Rattle.laws_heaps.proofs.Made.{appended_without}
 use Rattle.laws_checkpoints.specs.RecoveryNumbers.{IsDirtyTableOf}
 use Rattle.shore_logrec.specs.Text.{texts}
-use Rattle.std.proofs.lemmas.List.{drop-append-le, drop-take, take-append-le}
+use Rattle.std.proofs.lemmas.List.{drop-take, take-append-le}
 use Rattle.laws_runs.specs.CheckpointSteps.{CheckpointMoves, CheckpointedState, IsCheckpointNow, freed_to, moved_to, noted, owed_to, ring_room, with_record}
 use Rattle.shore_core.specs.declared.core_calls.Core.{Core}
 use Rattle.shore_core.specs.Checkpointing.{Begins, HasKept, IsNow, IsReady, MakesStep, sums_of, with_store}
@@ -87,9 +87,9 @@ module _ (s : State) (store : CheckpointedStore) (logged : IsStored s store.stor
   ready next_is = (c, record { begin = takes.begin; next = next_is; tables = tables; fits = begun.fits; behind = cut_behind }, begun)
 
 -- what is freed by what the log device has is what the checkpoint counts on
-pub counts_on : {D : Type 0} {L : disk.Ghosts D} (log : LogDev D L) (before : List LogRecord) (s : State) (store : CheckpointedStore) (c : Checkpoint) → IsInOrder store → HasKept log before (with_store s store)
+pub counts_on : {D : Type 0} {L : disk.Ghosts D} (log : LogDev D L) (s : State) (store : CheckpointedStore) (c : Checkpoint) → IsInOrder store → HasKept log (with_store s store)
     → IsNow (with_store s store) c → (kept_from freed : ℕ) → FreesBelow log (cut_point c) kept_from freed → IsCheckpointNow (with_store s store) c kept_from
-counts_on log before s store c order kept now kept_from freed frees = record {
+counts_on log s store c order kept now kept_from freed frees = record {
   begin = now.begin;
   next = now.next;
   tables = now.tables;
@@ -98,6 +98,28 @@ counts_on log before s store c order kept now kept_from freed frees = record {
   forced = omega (arith, frees.forced, kept.forced);
   no_higher = frees.below;
 }
+
+-- ---- what a cut frees
+
+module _ {D : Type 0} {L : disk.Ghosts D} (log : LogDev D L) (s : State) (store : CheckpointedStore) (kept : HasKept log (with_store s store)) where
+  abbrev cut : ℕ
+  cut = cut_of store.anchored
+
+  pub freed_is : (number kept_from freed : ℕ) → FreesBelow log number kept_from freed → freed ≡ freed_to (with_store s store) kept_from
+  freed_is number kept_from freed frees =
+      let more = kept_from - 1 - cut in
+      let from : cut < kept_from = omega (arith, frees.from, kept.cut) in
+      let same : kept_from - 1 - cut_of_log log ≡ more = ap (λ n. kept_from - 1 - n) kept.cut in
+      let all = records_of_log log in
+      let records : take (kept_from - 1 - cut_of_log log) all ≡ take more all = ap (λ n. take n all) same in
+      let least : length (stable log) ≤ length all = stable_short log in
+      let long : more ≤ length all = omega (arith, from, frees.forced, least, kept.cut) in
+      let sum : kept_from - 1 ≡ cut + more = omega (arith, from) in
+      let those : drop cut (take (kept_from - 1) s.log) ≡ take more all =
+      ap (λ n. drop cut (take n s.log)) sum ∙ drop-take cut more s.log ∙ ap (take more) kept.kept ∙ take-append-le more all kept.coming long in
+      let cost = cost_texts (take more all) in
+      let count = length-take-le more all long in
+      omega (arith, frees.cost, same, ap (λ l. length (texts l)) records, cost, count, ap cost_of_log those)
 
 -- ---- cores
 
@@ -197,29 +219,6 @@ module _ {T V : Type 0} {G : tail.Ghosts T} {H : disk.Ghosts V} where
         has_owed core before s front left is cost (owed_to store.stage) less (omega (arith, fits)),
         number_owed core before s front left is (owed_to store.stage) LAST_OPENED (omega (arith, some, less)) (omega (arith, numbers)),
       )
-
-  -- ---- what a cut frees
-
-  module _ {D : Type 0} {L : disk.Ghosts D} (log : LogDev D L) (core : Core T V G H) (before : List LogRecord) (s : State) (store : CheckpointedStore) (front : List ℕ) (left : ℕ → List ℕ)
-      (is : IsIn front left before core s) (kept : HasKept log before (with_store s store)) where
-    abbrev cut : ℕ
-    cut = cut_of store.anchored
-
-    pub freed_is : (number kept_from freed : ℕ) → FreesBelow log number kept_from freed → freed ≡ freed_to (with_store s store) kept_from
-    freed_is number kept_from freed frees =
-        let more = kept_from - 1 - cut in
-        let from : cut < kept_from = omega (arith, frees.from, kept.cut) in
-        let same : kept_from - 1 - cut_of_log log ≡ more = ap (λ n. kept_from - 1 - n) kept.cut in
-        let records : take (kept_from - 1 - cut_of_log log) (records_of_log log) ≡ take more (drop cut before) = ap (λ n. take n (records_of_log log)) same ∙ ap (take more) kept.kept in
-        let least : length (stable log) ≤ length (records_of_log log) = stable_short log in
-        let long : more ≤ length (drop cut before) = omega (arith, from, frees.forced, least, ap length kept.kept, kept.cut) in
-        let sum : kept_from - 1 ≡ cut + more = omega (arith, from) in
-        let those : drop cut (take (kept_from - 1) s.log) ≡ take more (drop cut before) =
-        ap (λ n. drop cut (take n s.log)) sum ∙ drop-take cut more s.log ∙ ap (λ l. take more (drop cut l)) is.beside.parts.log
-        ∙ ap (take more) (drop-append-le cut before (waiting_of core) kept.within) ∙ take-append-le more (drop cut before) (waiting_of core) long in
-        let cost = cost_texts (take more (drop cut before)) in
-        let count = length-take-le more (drop cut before) long in
-        omega (arith, frees.cost, same, ap (λ l. length (texts l)) records, cost, count, ap cost_of_log those)
 
   -- an allocation failed
   pub begins_none : (tail : ℕ) (groups : List (List LogRecord)) (new : Core T V G H) (front : List ℕ) (left : ℕ → List ℕ) (before : List LogRecord) (s : State) (store : CheckpointedStore) (r : Result (ℕ × Begun) Fault)

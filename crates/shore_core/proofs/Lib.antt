@@ -37,3 +37,4 @@ pub mod Ended
 pub mod Stopped
 pub mod CheckpointSteps
 pub mod CheckpointFull
+pub mod LetThrough

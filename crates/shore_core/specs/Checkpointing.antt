@@ -1,5 +1,5 @@
 -- What a step of a checkpoint comes to, from a state and a store.
-use Rattle.std.specs.Prelude.{◌≡◌, ◌⊎◌, ◌+◌, ◌≤◌, ℕ, List, Result, Ok, Err, drop, false, length}
+use Rattle.std.specs.Prelude.{◌≡◌, ◌⊎◌, ◌+◌, ◌++◌, ◌≤◌, ℕ, List, Result, Ok, Err, drop, false, length}
 use Rattle.shore_types.specs.declared.faults.Fault.{Fault}
 use Rattle.shore_types.specs.declared.faults.Fault.TheVariants.{LogFull, Memory}
 use Rattle.shore_model.specs.declared.log_records.Payload.TheVariants.{CheckpointBegin}
@@ -32,11 +32,11 @@ use Rattle.shore_core.specs.Cores.{IsIn, IsOver, last_of, txns_of}
 abbrev pub with_store : State → CheckpointedStore → CheckpointedState
 with_store s store = record { state = s; store = store }
 
--- The log device has what is kept of the records before the core's, as much of it forced as was told.
-pub record HasKept {D : Type 0} {L : disk.Ghosts D} (log : LogDev D L) (before : List LogRecord) (m : CheckpointedState) : Type 0 where
+-- The log device has the first of the records that are kept, as much of it forced as was told; the others are on their way to it.
+pub record HasKept {D : Type 0} {L : disk.Ghosts D} (log : LogDev D L) (m : CheckpointedState) : Type 0 where
   pub cut : cut_of_log log ≡ cut_of m.store.anchored
-  pub within : cut_of m.store.anchored ≤ length before
-  pub kept : records_of_log log ≡ drop (cut_of m.store.anchored) before
+  pub coming : List LogRecord
+  pub kept : drop (cut_of m.store.anchored) m.state.log ≡ records_of_log log ++ coming
   pub forced : cut_of_log log + length (stable log) ≡ m.state.durable
 
 -- A checkpoint may go on: its owner's stage is that of the store, which is in order, and what is owed to it has room.

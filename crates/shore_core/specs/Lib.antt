@@ -8,3 +8,5 @@ pub mod Undoing
 pub mod Resolving
 pub mod Resumes
 pub mod Checkpointing
+pub mod Waking
+pub mod Trails

@@ -53,14 +53,14 @@ impl<T: Tail, V: Disk> Core<T, V> {
     ) -> CheckpointStep
         // It is a step of the manager with its checkpoints over plain data, in whatever state it was; or the log device is asked for the move, once that may be.
         ensures step { (tail place : ℕ) (groups : List (List LogRecord)) → HoldsFrom tail place log.now groups → InEach (λ front disk before s store.
-            HasKept log.now before (with_store s store) → MayGoOn stage.old (with_store s store) → StepsCheckpoint result stage.new self.new front disk before (with_store s store)) self.old }
+            HasKept log.now (with_store s store) → MayGoOn stage.old (with_store s store) → StepsCheckpoint result stage.new self.new front disk before (with_store s store)) self.old }
         ensures failed { IsTrue (has_failed self.old) → (result ≡ CheckpointStep.Made (Step.Refused Fault.Failed)) × (self.new ≡ self.old) × (stage.new ≡ stage.old) }
 
         // A begin is `LogFull` just where the log has no room for the checkpoint, though all frames are counted as free that end before its cut point.
         ensures full { (tail place : ℕ) (groups : List (List LogRecord)) → HoldsFrom tail place log.now groups → InEach (λ front disk before s store.
-            HasKept log.now before (with_store s store) → MayGoOn stage.old (with_store s store) → result ≡ CheckpointStep.Made (Step.Refused Fault.LogFull) → IsFullFor tail groups (with_store s store)) self.old }
+            HasKept log.now (with_store s store) → MayGoOn stage.old (with_store s store) → result ≡ CheckpointStep.Made (Step.Refused Fault.LogFull) → IsFullFor tail groups (with_store s store)) self.old }
         ensures roomy { (tail place : ℕ) (groups : List (List LogRecord)) → HoldsFrom tail place log.now groups → InEach (λ front disk before s store.
-            HasKept log.now before (with_store s store) → MayGoOn stage.old (with_store s store) → (n : ℕ) → result ≡ CheckpointStep.Made (Step.Done (Answer.Begun n)) → IsRoomyFor tail groups (with_store s store)) self.old }
+            HasKept log.now (with_store s store) → MayGoOn stage.old (with_store s store) → (n : ℕ) → result ≡ CheckpointStep.Made (Step.Done (Answer.Begun n)) → IsRoomyFor tail groups (with_store s store)) self.old }
 
         // No page is touched, and no device is called.
         ensures heap { heap_of self.new ≡ heap_of self.old }
@@ -104,11 +104,11 @@ impl<T: Tail, V: Disk> Core<T, V> {
     ) -> Step
         requires { stage.old ≡ Stage.Resting }
         ensures step { has_failed self.old ≡ false → (tail place : ℕ) (groups : List (List LogRecord)) → HoldsFrom tail place log.now groups → InEach (λ front disk before s store.
-            HasKept log.now before (with_store s store) → MayGoOn Stage.Resting (with_store s store) → MakesStep result stage.new self.new front disk before (with_store s store)) self.old }
+            HasKept log.now (with_store s store) → MayGoOn Stage.Resting (with_store s store) → MakesStep result stage.new self.new front disk before (with_store s store)) self.old }
         ensures full { has_failed self.old ≡ false → (tail place : ℕ) (groups : List (List LogRecord)) → HoldsFrom tail place log.now groups → InEach (λ front disk before s store.
-            HasKept log.now before (with_store s store) → MayGoOn Stage.Resting (with_store s store) → result ≡ Step.Refused Fault.LogFull → IsFullFor tail groups (with_store s store)) self.old }
+            HasKept log.now (with_store s store) → MayGoOn Stage.Resting (with_store s store) → result ≡ Step.Refused Fault.LogFull → IsFullFor tail groups (with_store s store)) self.old }
         ensures roomy { has_failed self.old ≡ false → (tail place : ℕ) (groups : List (List LogRecord)) → HoldsFrom tail place log.now groups → InEach (λ front disk before s store.
-            HasKept log.now before (with_store s store) → MayGoOn Stage.Resting (with_store s store) → (n : ℕ) → result ≡ Step.Done (Answer.Begun n) → IsRoomyFor tail groups (with_store s store)) self.old }
+            HasKept log.now (with_store s store) → MayGoOn Stage.Resting (with_store s store) → (n : ℕ) → result ≡ Step.Done (Answer.Begun n) → IsRoomyFor tail groups (with_store s store)) self.old }
         ensures heap { heap_of self.new ≡ heap_of self.old }
         ensures durable { durable_of self.new ≡ durable_of self.old }
         ensures first { first_of self.new ≡ first_of self.old }
@@ -146,7 +146,7 @@ impl<T: Tail, V: Disk> Core<T, V> {
     // Its room is asked for before its begin is logged.
     fn try_begin<D: Disk>(&mut self, alloc: Global, log: &LogDev<D>) -> Result<(Lsn, Begun), Fault>
         ensures begins { has_failed self.old ≡ false → (tail place : ℕ) (groups : List (List LogRecord)) → HoldsFrom tail place log.now groups → InEach (λ front disk before s store.
-            HasKept log.now before (with_store s store) → MayGoOn Stage.Resting (with_store s store) → Begins tail groups result self.new front disk before (with_store s store)) self.old }
+            HasKept log.now (with_store s store) → MayGoOn Stage.Resting (with_store s store) → Begins tail groups result self.new front disk before (with_store s store)) self.old }
         ensures heap { heap_of self.new ≡ heap_of self.old }
         ensures durable { durable_of self.new ≡ durable_of self.old }
         ensures first { first_of self.new ≡ first_of self.old }

@@ -130,6 +130,13 @@ impl Control {
         self.waits.of(session)
     }
 
+    /// All calls that wait, the oldest first.
+    pub fn calls(&self) -> &[WaitingCall]
+        ensures { result.now ≡ waits_in self.now }
+    {
+        self.waits.all()
+    }
+
     // ---- locks
 
     /// The lock table.

@@ -43,6 +43,13 @@ impl Waits {
         }
     }
 
+    /// All of them, the oldest first.
+    pub(crate) fn all(&self) -> &[WaitingCall]
+        ensures { result.now ≡ calls_in self.now }
+    {
+        &self.calls
+    }
+
     /// The call of a session that waits.
     pub(crate) fn of(&self, session: SessionId) -> Option<&WaitingCall>
         ensures some { IfSome result (λ w. IsAmong w.now (calls_in self.now) × (w.now.session ≡ session)) }

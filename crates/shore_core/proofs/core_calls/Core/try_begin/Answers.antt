@@ -39,14 +39,14 @@ returns-then-not-admits_checkpoint-clause-begins g c running tail place groups h
     let low = k.1.behind in
     let frees = c.cost_below-freed.ensures.freed tail place groups holds (omega (arith, mark, holds.first, holds.some, kept.cut, least, low)) in
     let found = subst (λ n. FreesBelow c.args.log.now n frees.0 c.cost_below-freed.result) mark frees.1 in
-    let freed = freed_is c.args.log.now old before s store front disk is kept (cut_point k.0) frees.0 c.cost_below-freed.result found in
+    let freed = freed_is c.args.log.now s store kept (cut_point k.0) frees.0 c.cost_below-freed.result found in
     let cost = c.cost.ensures k.0 k.2 in (
       inr (
         refl,
         (
           k.0,
           frees.0,
-          record { now = counts_on c.args.log.now before s store k.0 may.in_order kept k.1 frees.0 c.cost_below-freed.result found; before = frees.2.0; below = subst (λ n. AreBelow tail groups n frees.2.0 frees.0) mark frees.2.1 },
+          record { now = counts_on c.args.log.now s store k.0 may.in_order kept k.1 frees.0 c.cost_below-freed.result found; before = frees.2.0; below = subst (λ n. AreBelow tail groups n frees.2.0 frees.0) mark frees.2.1 },
           λ admitted. true_false (sym (c.admits_checkpoint.ensures.1 (subst (λ (x : LogRoom). AdmitsCheckpoint x c.cost.result c.cost_below-freed.result) (sym (sums_are c.args.self.now c.sums.result c.sums.ensures.kept c.sums.ensures.reserved c.sums.ensures.stream c.sums.ensures.last))
               (admits_back old before s front disk is c.cost.result c.cost_below-freed.result
               (subst (AdmitsCheckpoint (log_room s) c.cost.result) (sym freed) (subst (λ n. AdmitsCheckpoint (log_room s) n (freed_to (with_store s store) frees.0)) (sym cost) admitted))))) ∙ c.if-not-admits_checkpoint.true),
@@ -110,14 +110,14 @@ returns-clause-begins g c running tail place groups holds front disk before s st
     let low = k.1.behind in
     let frees = c.cost_below-freed.ensures.freed tail place groups holds (omega (arith, mark, holds.first, holds.some, kept.cut, least, low)) in
     let found = subst (λ n. FreesBelow c.args.log.now n frees.0 c.cost_below-freed.result) mark frees.1 in
-    let freed = freed_is c.args.log.now old before s store front disk is kept (cut_point k.0) frees.0 c.cost_below-freed.result found in
+    let freed = freed_is c.args.log.now s store kept (cut_point k.0) frees.0 c.cost_below-freed.result found in
     let admitted = subst (λ (x : LogRoom). AdmitsCheckpoint x c.cost.result c.cost_below-freed.result) (sums_are c.args.self.now c.sums.result c.sums.ensures.kept c.sums.ensures.reserved c.sums.ensures.stream c.sums.ensures.last) (c.admits_checkpoint.ensures.0 c.if-not-admits_checkpoint.false) in
     let number = c.in-Ok.ensures.number ∙ sym (next_is (control_of old) (waiting_of old) (durable_of old) (has_failed old) before s is.beside.parts (first_of old) is.beside.first 0) ∙ sym k.1.begin in
     let r = of_checkpoint CheckpointBegin in
     let added = c.in-Ok.ensures.added ∙ ap (λ x. waiting_of old ++ x ∷ []) c.begin_record.ensures.is in (
       k.0,
       frees.0,
-      record { now = counts_on c.args.log.now before s store k.0 may.in_order kept k.1 frees.0 c.cost_below-freed.result found; before = frees.2.0; below = subst (λ n. AreBelow tail groups n frees.2.0 frees.0) mark frees.2.1 },
+      record { now = counts_on c.args.log.now s store k.0 may.in_order kept k.1 frees.0 c.cost_below-freed.result found; before = frees.2.0; below = subst (λ n. AreBelow tail groups n frees.2.0 frees.0) mark frees.2.1 },
       subst (λ n. AdmitsCheckpoint (log_room s) n (freed_to (with_store s store) frees.0)) (c.cost.ensures k.0 k.2)
           (subst (AdmitsCheckpoint (log_room s) c.cost.result) freed (admits_as old before s front disk is c.cost.result c.cost_below-freed.result admitted)),
       number,
