@@ -1,4 +1,5 @@
 pub mod Moments
 pub mod StandsFor
 pub mod StandsBehind
+pub mod StandsBeside
 pub mod MomentsBehind
