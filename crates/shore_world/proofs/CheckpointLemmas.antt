@@ -74,6 +74,7 @@ checkpoint_step g s event.ForceStage step new is h = absurd is
 checkpoint_step g s event.ForceOpen step new is h = absurd is
 checkpoint_step g s event.FlushStep step new is h = absurd is
 checkpoint_step g s event.CheckpointStep step new is h = h
+checkpoint_step g s event.CutTrail step new is h = absurd is
 
 pub checkpoint_moves : (e : Event) (step : Step) → IsOfCheckpoint e → moves_by e step ≡ OfCheckpoint step ∷ []
 checkpoint_moves (event.Call session call) step is = absurd is
@@ -83,3 +84,4 @@ checkpoint_moves event.ForceStage step is = absurd is
 checkpoint_moves event.ForceOpen step is = absurd is
 checkpoint_moves event.FlushStep step is = absurd is
 checkpoint_moves event.CheckpointStep step is = refl
+checkpoint_moves event.CutTrail step is = absurd is

@@ -3,7 +3,7 @@ use Rattle.std.proofs.Common.{◌≡◌, ◌≢◌, ◌⊎◌, inl, inr, ⊎_eli
 use Rattle.shore_types.specs.declared.layout.Geometry.{Geometry}
 use Rattle.shore_types.specs.declared.faults.Fault.{Fault}
 use Rattle.shore_model.specs.declared.calls.Answer.{Answer}
-use Rattle.shore_model.specs.declared.calls.Answer.TheVariants.{Anchored, Begun, Ended, Forced, IsDurable, Moved, Staged}
+use Rattle.shore_model.specs.declared.calls.Answer.TheVariants.{Anchored, Begun, Cut, Ended, Forced, IsDurable, Moved, Staged}
 use Rattle.shore_model.specs.declared.log_records.Payload.TheVariants.{Anchor, CheckpointBegin}
 use Rattle.laws_checkpoints.specs.Checkpoints.{end_payload, of_checkpoint}
 use Rattle.shore_model.specs.declared.calls.Call.{Call}
@@ -88,10 +88,15 @@ checkpoint_decides_nothing s (Refused f) new (inr (inl h)) = ap (λ (x : State).
 checkpoint_decides_nothing s (Refused f) new (inr (inr h)) = ap (λ (x : State). decisions_in (length s.log) x.log) h.2 ∙ none_more s.log
 checkpoint_decides_nothing s (Waits wait) new h = absurd h
 
--- asks, forces and flushes leave the log
+-- asks, cuts of the trail, forces and flushes leave the log
 pub ask_log : (g : Geometry) (s new : State) (ticket : ℕ) (step : Step) → EventStep g s (event.Ask ticket) step new → new.log ≡ s.log
 ask_log g s new ticket (Done (IsDurable answer)) h = ap (λ (x : State). x.log) h.1
 ask_log g s new ticket step h = absurd h
+
+pub cut_log : (g : Geometry) (s new : State) (step : Step) → EventStep g s event.CutTrail step new → new.log ≡ s.log
+cut_log g s new (Done Cut) h = ap (λ (x : State). x.log) h.2
+cut_log g s new (Refused f) h = ap (λ (x : State). x.log) h.1
+cut_log g s new step h = absurd h
 
 pub stage_log : (g : Geometry) (s new : State) (step : Step) → EventStep g s event.ForceStage step new → new.log ≡ s.log
 stage_log g s new (Done (Staged n)) h = ap (λ (x : State). x.log) h.3
@@ -137,6 +142,7 @@ module _ (g : Geometry) (o : Opening) (found : List LogRecord) (es : List Entry)
   decides_nothing event.ForceOpen step none h = same_decides_nothing (open_log g s new step h)
   decides_nothing event.FlushStep step none h = same_decides_nothing (flush_log s new step h)
   decides_nothing event.CheckpointStep step none h = checkpoint_decides_nothing s step new h
+  decides_nothing event.CutTrail step none h = same_decides_nothing (cut_log g s new step h)
 
   -- ---- a call
 

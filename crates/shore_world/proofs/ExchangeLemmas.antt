@@ -118,6 +118,7 @@ event_tells ws event.FlushStep (Refused f) later = failure_tells ws f later
 event_tells ws event.FlushStep (Waits wait) later = refl
 event_tells ws event.FlushStep Nothing later = refl
 event_tells ws event.CheckpointStep step later = refl
+event_tells ws event.CutTrail step later = refl
 
 -- .. and so it is with the calls that wait
 failure_waits : (ws : Waited) (f : Fault) (later : List PlainMove) → waited_in ws (failure_by f ++ later) ≡ waited_in ws later
@@ -152,6 +153,7 @@ event_waits ws event.FlushStep (Refused f) later = failure_waits ws f later
 event_waits ws event.FlushStep (Waits wait) later = refl
 event_waits ws event.FlushStep Nothing later = refl
 event_waits ws event.CheckpointStep step later = refl
+event_waits ws event.CutTrail step later = refl
 
 module _ {L V : Type 0} {G : Ghosts L} {H : Ghosts V} where
   between_tells : (old new : World L V G H) (ws : Waited) (failures later : List PlainMove) → Between old failures new → told_in ws (failures ++ later) ≡ told_in ws later

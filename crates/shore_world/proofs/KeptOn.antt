@@ -28,7 +28,7 @@ use Rattle.shore_world.specs.Events.{IsOfCheckpoint, IsServedEvent}
 use Rattle.shore_world.specs.Promises.{IsManagerOf, gained}
 use Rattle.shore_world.specs.Worlds.{CheckpointsState, EventStep, NotesCheckpoint, Steps, anchors_in, cut_in, geometry_in, list_in}
 use Rattle.shore_world.proofs.CheckpointWorks.{goes_plainly}
-use Rattle.shore_world.proofs.DecisionLemmas.{ask_log, flush_log, open_log, stage_log}
+use Rattle.shore_world.proofs.DecisionLemmas.{ask_log, cut_log, flush_log, open_log, stage_log}
 use Rattle.shore_world.proofs.LogParts.{log_of}
 use Rattle.shore_world.proofs.PromiseLemmas.{HasStepped, cut_low, gains, stepped}
 
@@ -60,6 +60,7 @@ event_goes_on g s event.ForceStage step new served h = same_goes_on s new (stage
 event_goes_on g s event.ForceOpen step new served h = same_goes_on s new (open_log g s new step h)
 event_goes_on g s event.FlushStep step new served h = same_goes_on s new (flush_log s new step h)
 event_goes_on g s event.CheckpointStep step new served h = checkpoint_goes_on s step new h
+event_goes_on g s event.CutTrail step new served h = same_goes_on s new (cut_log g s new step h)
 
 -- ---- what is kept of it
 
@@ -71,6 +72,7 @@ is_checkpoint event.ForceStage is = absurd is
 is_checkpoint event.ForceOpen is = absurd is
 is_checkpoint event.FlushStep is = absurd is
 is_checkpoint event.CheckpointStep is = refl
+is_checkpoint event.CutTrail is = absurd is
 
 -- a front that is cut off of all is cut off of the first part
 cut_of_parts : (first more : List LogRecord) (cut later : ℕ) → cut ≤ later → later ≤ length first → drop later (first ++ more) ≡ drop (later - cut) (drop cut first) ++ more

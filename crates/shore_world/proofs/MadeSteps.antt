@@ -1,6 +1,5 @@
 -- What a step of a checkpoint that calls no device makes of a world.
-use Rattle.std.proofs.Common.{◌≡◌, ◌⊎◌, inl, inr, ℕ, ◌+◌, ◌-◌, ◌≤◌, ◌++◌, ◌∷◌, [], List, Bool, true, false, IsTrue, length, length-append, take, drop, refl, sym, ap, subst, ◌∙◌, arith}
-use Rattle.std.proofs.Math.Seq.{drop-append_seam}
+use Rattle.std.proofs.Common.{◌≡◌, inl, inr, ℕ, ◌-◌, List, false, IsTrue, drop, refl, sym, ap, subst, ◌∙◌}
 use Rattle.shore_types.specs.declared.faults.Fault.{Fault}
 use Rattle.shore_types.specs.declared.faults.Fault.TheVariants as fault
 use Rattle.shore_disk.specs.Device.{may_leave}
@@ -15,7 +14,7 @@ use Rattle.shore_heap.specs.Heaps as heaps
 use Rattle.shore_check.specs.Stages as stages
 use Rattle.shore_check.specs.declared.stage.Stage.{Stage}
 use Rattle.shore_log.specs.declared.device.LogDev.{LogDev}
-use Rattle.shore_log.specs.Settled.{HoldsFrom, IsAnchored, cut_of_log, records_of_log, stable}
+use Rattle.shore_log.specs.Settled.{HoldsFrom, IsAnchored, stable}
 use Rattle.laws_calls.specs.States.{State}
 use Rattle.laws_checkpoints.specs.Checkpoints as checkpoints
 use Rattle.laws_checkpoints.specs.Checkpoints.{cut_of}
@@ -31,7 +30,7 @@ use Rattle.shore_world.specs.declared.event.Event.TheVariants.{CheckpointStep}
 use Rattle.shore_world.specs.declared.world.World.{World}
 use Rattle.shore_world.specs.Ready.{IsReadyLog}
 use Rattle.shore_world.specs.Worlds.{ComesByCheckpoint, EventMovesWorld, ForCheckpoint, IsAt, IsUnchanged, MayCheckpoint, SurvivesCrashes, anchor_in, before_in, cut_in, durable_in, failed_in, geometry_in, report_in, volume_history_in}
-use Rattle.shore_world.proofs.LogParts.{IsBesideOf, before_stays, gone_long}
+use Rattle.shore_world.proofs.LogParts.{IsBesideOf, before_stays, log_of}
 use Rattle.shore_world.proofs.UnchangedLemmas.{unchanged_parts}
 use Rattle.shore_world.proofs.VolumeLemmas.{both_still, runs_or_failed}
 use Rattle.shore_world.proofs.WorldLemmas.{length-stable, ready_gives, ready_same, stable_gives}
@@ -65,15 +64,13 @@ module _ {L V : Type 0} {G : Ghosts L} {H : Ghosts V} where
   pub cut_same : (w : World L V G H) (store : CheckpointedStore) → store.anchored ≡ anchored_by (anchor_in w) → cut_in w ≡ cut_of store.anchored
   cut_same w store anchored = ap (λ n. n - 1) (sym w.log.anchored.0) ∙ ap cut_of (sym anchored)
 
-  pub has_kept : (w : World L V G H) (s : State) (store : CheckpointedStore) → IsBesideOf w s → store.anchored ≡ anchored_by (anchor_in w) → HasKept w.log (before_in w s) (with_store s store)
+  pub has_kept : (w : World L V G H) (s : State) (store : CheckpointedStore) → IsBesideOf w s → store.anchored ≡ anchored_by (anchor_in w) → HasKept w.log (with_store s store)
   has_kept w s store is anchored =
       let cut = cut_same w store anchored in
-      let long = gone_long w s is in
-      let parts = length-append (take (cut_in w) s.log) (records_of_log w.log) in
       record {
         cut = cut;
-        within = omega (arith, cut, long, parts);
-        kept = sym (ap (λ n. drop n (take (cut_in w) s.log ++ records_of_log w.log)) (sym cut ∙ sym long) ∙ drop-append_seam (take (cut_in w) s.log) (records_of_log w.log));
+        coming = waiting_of w.core;
+        kept = ap (λ n. drop n s.log) (sym cut) ∙ (log_of w s is).kept;
         forced = sym (is.parts.durable_is ∙ w.durable_agrees);
       }
 
@@ -134,7 +131,7 @@ module _ {L V : Type 0} {G : Ghosts L} {H : Ghosts V} where
 
     pub made_moves : (IsTrue (failed_in old) → (step ≡ Refused fault.Failed) × (new.core ≡ old.core) × (new.stage ≡ old.stage)) → report_in new ≡ report_in old
         → ((tail place : ℕ) (groups : List (List LogRecord)) → HoldsFrom tail place old.log groups → InEach (λ front disk before s store.
-        HasKept old.log before (with_store s store) → MayGoOn old.stage (with_store s store) → MakesStep step new.stage new.core front disk before (with_store s store)) old.core)
+        HasKept old.log (with_store s store) → MayGoOn old.stage (with_store s store) → MakesStep step new.stage new.core front disk before (with_store s store)) old.core)
         → EventMovesWorld old CheckpointStep step new
     made_moves refused report made = record {
       geometry = ap heaps.geometry_of heap;
@@ -157,7 +154,7 @@ module _ {L V : Type 0} {G : Ghosts L} {H : Ghosts V} where
   -- what the core says of a begin it says of the world
   pub each_begin : (w : World L V G H) → failed_in w ≡ false → (P : ℕ → List (List LogRecord) → CheckpointedState → Type 0)
       → ((tail place : ℕ) (groups : List (List LogRecord)) → HoldsFrom tail place w.log groups → InEach (λ front disk before s store.
-      HasKept w.log before (with_store s store) → MayGoOn w.stage (with_store s store) → P tail groups (with_store s store)) w.core)
+      HasKept w.log (with_store s store) → MayGoOn w.stage (with_store s store) → P tail groups (with_store s store)) w.core)
       → ForCheckpoint w (λ m. (groups : List (List LogRecord)) × HoldsFrom (anchor_in w).tail (anchor_in w).tail_place w.log groups × P (anchor_in w).tail groups m)
   each_begin w running P each log_front front disk s store at safe may =
       let frames = frames_of w log_front at.log running in (

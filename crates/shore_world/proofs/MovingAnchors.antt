@@ -223,7 +223,7 @@ module _ {L V : Type 0} {G : Ghosts L} {H : Ghosts V} (old : World L V G H) (mar
           let freed_now = frees (anchor_in old).tail (anchor_in old).tail_place frames.0 frames.1 in
           let tail : (anchor_in new).tail ≡ next.tail = ap (λ (x : Anchors). x.anchor.tail) anchors in
           let freed_as : freed ≡ freed_to (with_store s store) next.tail =
-          freed_is old.log old.core (before_in old s) s store front disk at.is_in kept mark.tail (anchor_in new).tail freed freed_now ∙ ap (freed_to (with_store s store)) tail in
+          freed_is old.log s store kept mark.tail (anchor_in new).tail freed freed_now ∙ ap (freed_to (with_store s store)) tail in
           let old_tail : store.anchored.tail ≡ (anchor_in old).tail = ap (λ (x : Anchored). x.tail) at.anchored in
           let room = freed_room s store at.is_in.beside at.anchored may next.tail (omega (arith, old_tail, reaches.rises)) in
           let went = steps front disk (before_in old s) s store at.is_in safe at.over a runs reaches.may freed_as (omega (arith, freed_as, room)) in

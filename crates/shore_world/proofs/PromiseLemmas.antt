@@ -391,6 +391,7 @@ module _ {L V : Type 0} {G : Ghosts L} {H : Ghosts V} (w : World L V G H) (o : O
   moved_appends_none event.ForceStage step later is moved h = absurd is
   moved_appends_none event.ForceOpen step later is moved h = absurd is
   moved_appends_none event.FlushStep step later is moved h = absurd is
+  moved_appends_none event.CutTrail step later is moved h = absurd is
   moved_appends_none event.CheckpointStep step later is moved h =
       let noted = subst (λ (x : Step). CheckpointsState k.now.state x later) moved h in ap (λ (x : State). x.log) noted.1.1
 

@@ -22,6 +22,7 @@ use Rattle.shore_core.specs.Cores.{faults_of, heap_of}
 use Rattle.shore_core.specs.Flushing.{FlushAnswers}
 use Rattle.shore_core.specs.Replies.{Earns, NeedsForce, NeedsForceIn, SameVolume, fault_at}
 use Rattle.shore_core.specs.Resumes.{NoneWaits}
+use Rattle.shore_core.specs.Trails.{AnswersCut}
 use Rattle.shore_fronts.specs.Causes.{HasCauseOfPair}
 use Rattle.shore_world.specs.declared.event.Event.{Event}
 use Rattle.shore_world.specs.declared.event.Event.TheVariants as event
@@ -91,6 +92,7 @@ call_is_no_force event.ForceStage is = absurd is
 call_is_no_force event.ForceOpen is = absurd is
 call_is_no_force event.FlushStep is = absurd is
 call_is_no_force event.CheckpointStep is = absurd is
+call_is_no_force event.CutTrail is = absurd is
 
 of_both : (e : Event) → IsOfPages e → IsOfForce e → ⊥
 of_both (event.Call session call) one other = other
@@ -100,6 +102,7 @@ of_both event.ForceStage one other = one
 of_both event.ForceOpen one other = one
 of_both event.FlushStep one other = other
 of_both event.CheckpointStep one other = one
+of_both event.CutTrail one other = other
 
 pub pages_are_no_checkpoint : (e : Event) → IsOfPages e → IsOfCheckpoint e → ⊥
 pages_are_no_checkpoint (event.Call session call) one other = other
@@ -109,6 +112,7 @@ pages_are_no_checkpoint event.ForceStage one other = other
 pages_are_no_checkpoint event.ForceOpen one other = other
 pages_are_no_checkpoint event.FlushStep one other = other
 pages_are_no_checkpoint event.CheckpointStep one other = one
+pages_are_no_checkpoint event.CutTrail one other = other
 
 -- an event that calls the volume at most is no step of a force or of a checkpoint
 pub of_pages_alone : (e : Event) → IsOfPages e → IsOfForce e ⊎ IsOfCheckpoint e → ⊥
@@ -126,6 +130,7 @@ call_is_no_own_step event.ForceStage is other = is
 call_is_no_own_step event.ForceOpen is other = is
 call_is_no_own_step event.FlushStep is other = is
 call_is_no_own_step event.CheckpointStep is other = is
+call_is_no_own_step event.CutTrail is other = is
 
 pub call_is_no_resume : (e : Event) (session : ℕ) → IsCall e → e ≡ event.Resume session → ⊥
 call_is_no_resume e session call is = subst IsCall is call
@@ -186,6 +191,28 @@ open_is_no_flush is = absurd cc
 pub flush_is_no_stage : event.FlushStep ≡ event.ForceStage → ⊥
 flush_is_no_stage is = absurd cc
 
+pub call_is_no_cut : (e : Event) → IsCall e → e ≡ event.CutTrail → ⊥
+call_is_no_cut e call is = subst IsCall is call
+
+pub other_is_no_cut : (e : Event) → IsOfForce e ⊎ IsOfCheckpoint e → e ≡ event.CutTrail → ⊥
+other_is_no_cut e (inl force) is = subst IsOfForce is force
+other_is_no_cut e (inr checkpoint) is = subst IsOfCheckpoint is checkpoint
+
+pub resume_is_no_cut : (session : ℕ) → event.Resume session ≡ event.CutTrail → ⊥
+resume_is_no_cut session is = absurd cc
+
+pub flush_is_no_cut : event.FlushStep ≡ event.CutTrail → ⊥
+flush_is_no_cut is = absurd cc
+
+pub ask_is_no_cut : (ticket : ℕ) → event.Ask ticket ≡ event.CutTrail → ⊥
+ask_is_no_cut ticket is = absurd cc
+
+pub cut_is_no_flush : event.CutTrail ≡ event.FlushStep → ⊥
+cut_is_no_flush is = absurd cc
+
+pub cut_is_no_ask : (ticket : ℕ) → event.CutTrail ≡ event.Ask ticket → ⊥
+cut_is_no_ask ticket is = absurd cc
+
 -- a cause that lies at the volume
 pub volume_cause : (step : Step) (log log_now volume volume_now : ℕ) → log_now ≡ log → HasCause (fault_at step) volume volume_now → HasCauseOfPair (fault_at step) log log_now volume volume_now
 volume_cause step log log_now volume volume_now same cause = record {
@@ -210,8 +237,9 @@ pub no_force : {L V : Type 0} {G : Ghosts L} {H : Ghosts V} (old new : World L V
     → Earns old.core (ReadBy old.core e) (fault_at step) → NeedsForceIn old.core (force_needed_at e old.core new.core) (fault_at step)
     → HasCause (fault_at step) (faults_of old.core) (faults_of new.core) → (IsOfNoSession e → step ≡ Nothing → IsUnchanged old new)
     → ((session : ℕ) → e ≡ event.Resume session → NoneWaits old.core session → (step ≡ Nothing) × IsUnchanged old new)
-    → ((ticket : ℕ) → e ≡ event.Ask ticket → (answer : Bool) × (step ≡ Done (IsDurable answer)) × ((answer ≡ true) ↔ (ticket ≤ durable_in old)) × IsUnchanged old new) → Steps old e step new
-no_force {L = L} {G = G} old new e step other log report moves same flushed earned unforced cause quiet none asked = record {
+    → ((ticket : ℕ) → e ≡ event.Ask ticket → (answer : Bool) × (step ≡ Done (IsDurable answer)) × ((answer ≡ true) ↔ (ticket ≤ durable_in old)) × IsUnchanged old new)
+    → (e ≡ event.CutTrail → AnswersCut old.core step × IsUnchanged old new) → Steps old e step new
+no_force {L = L} {G = G} old new e step other log report moves same flushed earned unforced cause quiet none asked cut = record {
   moves = moves;
   still = λ is. ap (λ (l : LogDev L G). l.device) log;
   volume = λ is. absurd (of_pages_alone e other is);
@@ -225,6 +253,7 @@ no_force {L = L} {G = G} old new e step other log report moves same flushed earn
   quiet = quiet;
   none = none;
   asked = asked;
+  cut = cut;
   full = λ is refused room. subst IsOfPages is other;
   flushed = flushed;
   moved = λ is done. absurd (of_pages_alone e other (inr is));
@@ -246,6 +275,7 @@ not_copied g s event.ForceStage is = absurd is
 not_copied g s event.ForceOpen is = absurd is
 not_copied g s event.FlushStep is = absurd is
 not_copied g s event.CheckpointStep is = absurd is
+not_copied g s event.CutTrail is = absurd is
 
 -- nothing is reported of a failed allocation
 pub memory_cause : (n : ℕ) → HasCause (fault_at (Refused Memory)) n n

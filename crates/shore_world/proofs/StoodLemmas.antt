@@ -5,7 +5,7 @@ use Rattle.shore_types.specs.declared.faults.Fault.{Fault}
 use Rattle.shore_types.specs.declared.faults.Fault.TheVariants.{Deadlock}
 use Rattle.shore_types.specs.declared.layout.Geometry.{Geometry}
 use Rattle.shore_disk.specs.declared.device.Disk.{Ghosts}
-use Rattle.shore_model.specs.declared.calls.Answer.TheVariants.{Forced, IsDurable, Staged}
+use Rattle.shore_model.specs.declared.calls.Answer.TheVariants.{Cut, Forced, IsDurable, Staged}
 use Rattle.shore_model.specs.declared.histories.Entry.{Entry}
 use Rattle.shore_model.specs.declared.histories.Opening.{Opening}
 use Rattle.shore_model.specs.declared.log_records.LogRecord.{LogRecord}
@@ -89,9 +89,12 @@ module _ (g : Geometry) (o : Opening) (found : List LogRecord) (es : List Entry)
   event_told event.ForceOpen (Refused f) served h = open_refused_waits (moves_by event.ForceOpen (Refused f)) f h
   event_told event.FlushStep step served h = flush_waits (moves_by event.FlushStep step) step h
   event_told event.CheckpointStep step served h = same_waits (moves_by event.CheckpointStep step) (waits_kept s step new h)
+  event_told event.CutTrail (Done Cut) served h = same_waits [] (ap (λ (y : State). y.waiting) h.2)
+  event_told event.CutTrail (Refused f) served h = same_waits [] (ap (λ (y : State). y.waiting) h.1)
   event_told (event.Ask ticket) step served h = absurd h
   event_told event.ForceStage step served h = absurd h
   event_told event.ForceOpen step served h = absurd h
+  event_told event.CutTrail step served h = absurd h
 
 -- ---- a run
 

@@ -10,7 +10,7 @@ use Rattle.shore_disk.specs.declared.device.Disk.{Ghosts}
 use Rattle.shore_gate.specs.Anchor.{Counts}
 use Rattle.shore_gate.specs.declared.anchors.Anchor.{Anchor}
 use Rattle.shore_gate.specs.declared.anchors.Slot.{Slot}
-use Rattle.shore_model.specs.declared.calls.Answer.TheVariants.{Staged, Forced, IsDurable}
+use Rattle.shore_model.specs.declared.calls.Answer.TheVariants.{Cut, Staged, Forced, IsDurable}
 use Rattle.shore_model.specs.declared.histories.Entry.{Entry}
 use Rattle.shore_model.specs.declared.histories.Opening.{Opening}
 use Rattle.shore_model.specs.declared.log_records.LogRecord.{LogRecord}
@@ -38,7 +38,7 @@ use Rattle.shore_core.specs.Flushing.{FlushMoves}
 use Rattle.shore_core.specs.Stores.{WorksOn}
 use Rattle.shore_core.proofs.Works.{stores_to, works_to}
 use Rattle.shore_world.specs.declared.event.Event.{Event}
-use Rattle.shore_world.specs.declared.event.Event.TheVariants.{Call, Resume, Ask, ForceStage, ForceOpen, FlushStep, CheckpointStep}
+use Rattle.shore_world.specs.declared.event.Event.TheVariants.{Call, Resume, Ask, ForceStage, ForceOpen, FlushStep, CheckpointStep, CutTrail}
 use Rattle.shore_world.specs.declared.world.World.{World}
 use Rattle.shore_world.specs.Crashes.{AreLeft, AreLeftBetween}
 use Rattle.shore_world.specs.Events.{IsOfCheckpoint, IsServedEvent}
@@ -100,9 +100,12 @@ module _ (g : Geometry) (m : CheckpointedState) (works : List RecoveryEvent) (st
   one_stored ForceOpen (Refused f) beside served p = open_refused f p
   one_stored FlushStep step beside served p = flush_stored step p
   one_stored CheckpointStep step beside served p = absurd (beside tt)
+  one_stored CutTrail (Done Cut) beside served p = tended p.2
+  one_stored CutTrail (Refused f) beside served p = tended p.1
   one_stored (Ask ticket) step beside served p = absurd p
   one_stored ForceStage step beside served p = absurd p
   one_stored ForceOpen step beside served p = absurd p
+  one_stored CutTrail step beside served p = absurd p
 
 -- ---- any number of moves
 

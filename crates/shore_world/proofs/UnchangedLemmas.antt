@@ -1,17 +1,21 @@
 -- What comes to nothing has changed nothing.
-use Rattle.std.proofs.Common.{◌≡◌, ◌≤◌, ◌++◌, ℕ, List, Bool, take, true, false, IsTrue, refl, sym, ◌∙◌, ap, subst, arith}
+use Rattle.std.proofs.Common.{◌≡◌, ◌≤◌, ◌++◌, ℕ, List, Bool, take, true, false, IsTrue, inl, inr, refl, sym, ◌∙◌, ap, subst, arith}
 use Rattle.std.specs.Prelude.{◌↔◌}
 use Rattle.shore_types.specs.declared.layout.Geometry.{Geometry}
 use Rattle.shore_disk.specs.Device.{DeviceHistory, may_leave}
 use Rattle.shore_disk.specs.declared.device.Disk.{Ghosts}
-use Rattle.shore_model.specs.declared.calls.Answer.TheVariants.{IsDurable}
+use Rattle.shore_disk.specs.Cause.{HasCause}
+use Rattle.shore_types.specs.declared.faults.Fault.TheVariants.{Failed, NotQuiet}
+use Rattle.shore_model.specs.declared.calls.Answer.TheVariants.{Cut, IsDurable}
+use Rattle.shore_model.specs.declared.log_records.LogRecord.{LogRecord}
 use Rattle.shore_model.specs.declared.step.Step.{Step}
-use Rattle.shore_model.specs.declared.step.Step.TheVariants.{Done}
+use Rattle.shore_model.specs.declared.step.Step.TheVariants.{Done, Refused}
 use Rattle.shore_log.specs.Settled.{cut_of_log, records_of_log}
 use Rattle.shore_log.specs.declared.device.LogDev.{LogDev}
 use Rattle.shore_pool.specs.Pools as pools
 use Rattle.shore_pool.specs.declared.pool.Pool.{Pool}
 use Rattle.shore_heap.specs.Heaps.{bounds_of, pool_of}
+use Rattle.laws_calls.specs.CallSteps.{txn_count}
 use Rattle.laws_calls.specs.States.{State}
 use Rattle.laws_images.specs.Moments.{ShowsLeft}
 use Rattle.laws_checkpoints.specs.CheckpointedStores.{CheckpointedStore}
@@ -20,11 +24,15 @@ use Rattle.shore_check.specs.Stages as stages
 use Rattle.shore_check.specs.declared.stage.Stage.{Stage}
 use Rattle.shore_gate.specs.declared.anchors.Anchors.{Anchors}
 use Rattle.shore_world.proofs.UnmovedLemmas.{same_in, same_over}
-use Rattle.shore_core.specs.Cores.{IsIn, IsOver, control_of, durable_of, has_failed, heap_of, tail_of, waiting_of}
+use Rattle.shore_core.specs.Replies.{Earns, NeedsForceIn, fault_at}
+use Rattle.shore_core.specs.Trails.{AnswersCut, count_of}
+use Rattle.shore_core.specs.Cores.{IsBeside, IsIn, IsOver, control_of, durable_of, faults_of, has_failed, heap_of, tail_of, waiting_of}
 use Rattle.shore_world.specs.declared.event.Event.TheVariants as event
 use Rattle.shore_world.specs.declared.world.World.{World}
-use Rattle.shore_world.specs.Worlds.{IsInState, IsOverStore, IsUnchanged, Steps, SurvivesCrashes, anchors_in, durable_in, failed_in, geometry_in, list_in, report_in, volume_history_in}
-use Rattle.shore_world.proofs.RunLemmas.{ask_is_no_flush, no_force, own_is_no_resume, same_ticket, same_volume}
+use Rattle.shore_world.specs.Events.{ReadBy}
+use Rattle.shore_world.specs.Worlds.{EventStep, IsInState, IsOverStore, IsUnchanged, Steps, SurvivesCrashes, anchors_in, before_in, durable_in, failed_in, geometry_in, list_in, report_in, volume_history_in}
+use Rattle.shore_world.proofs.LogParts.{IsBesideOf}
+use Rattle.shore_world.proofs.RunLemmas.{ask_is_no_cut, ask_is_no_flush, cut_is_no_ask, cut_is_no_flush, no_force, own_is_no_resume, same_ticket, same_volume}
 use Rattle.shore_world.proofs.WorldLemmas.{kept_as_before, nothing_done, same_list}
 
 -- ---- a world
@@ -120,6 +128,34 @@ module _ {L V : Type 0} {G : Ghosts L} {H : Ghosts V} (w : World L V G H) (ticke
       (record { no_lower = omega arith; reported = λ told. absurd cc; unreported = λ other. refl }) (λ own nothing. let clash = nothing in absurd cc)
       (λ session resume. absurd (own_is_no_resume (event.Ask ticket) session tt resume))
       (λ n same. (answer, refl, subst (λ n. (answer ≡ true) ↔ (n ≤ durable_in w)) (same_ticket ticket n same) is, unchanged_itself w))
+      (λ cut. absurd (ask_is_no_cut ticket cut))
 
   pub ask_steps : (step : Step) → (answer : Bool) × (step ≡ Done (IsDurable answer)) × ((answer ≡ true) ↔ (ticket ≤ durable_in w)) → Steps w (event.Ask ticket) step w
   ask_steps step (answer, same, is) = subst (λ (x : Step). Steps w (event.Ask ticket) x w) (sym same) (answered_so answer is)
+
+-- ---- a cut of the trail
+
+-- it is answered, and that is all
+module _ {L V : Type 0} {G : Ghosts L} {H : Ghosts V} (w : World L V G H)
+    (counts : (before : List LogRecord) (s : State) → IsBeside before w.core s → s.failed ≡ false → txn_count s ≡ count_of w.core) where
+  cut_so : (step : Step) → ((s : State) → IsBesideOf w s → EventStep (geometry_in w) s event.CutTrail step s) → Earns w.core (ReadBy w.core event.CutTrail) (fault_at step)
+      → NeedsForceIn w.core w.core (fault_at step) → HasCause (fault_at step) (faults_of w.core) (faults_of w.core) → AnswersCut w.core step → Steps w event.CutTrail step w
+  cut_so step moves earned unforced cause answers =
+      no_force w w event.CutTrail step tt refl refl (nothing_done w event.CutTrail step (λ is. is) cut_is_no_flush moves) (same_volume w.core w.core refl)
+      (λ flush. absurd (cut_is_no_flush flush)) earned unforced cause (λ own nothing. unchanged_itself w)
+      (λ session resume. absurd (own_is_no_resume event.CutTrail session tt resume)) (λ ticket ask. absurd (cut_is_no_ask ticket ask)) (λ cut. (answers, unchanged_itself w))
+
+  pub cut_steps : (step : Step) → AnswersCut w.core step → Steps w event.CutTrail step w
+  cut_steps step (inl (failed, same)) =
+      subst (λ (x : Step). Steps w event.CutTrail x w) (sym same)
+      (cut_so (Refused Failed) (λ s at. (inl (at.parts.failed_is ∙ failed, refl), refl)) (λ front disk holds d offset is. absurd cc) (λ front disk holds n is. absurd cc)
+      (record { no_lower = omega arith; reported = λ told. absurd cc; unreported = λ other. refl }) (inl (failed, refl)))
+  cut_steps step (inr (inl (running, none, same))) =
+      subst (λ (x : Step). Steps w event.CutTrail x w) (sym same)
+      (cut_so (Done Cut) (λ s at. let works = at.parts.failed_is ∙ running in (works, counts (before_in w s) s at works ∙ none, refl)) (λ front disk holds. tt) (λ front disk holds. tt)
+      (record { no_lower = omega arith; reported = λ told. absurd cc; unreported = λ other. refl }) (inr (inl (running, none, refl))))
+  cut_steps step (inr (inr (running, some, same))) =
+      subst (λ (x : Step). Steps w event.CutTrail x w) (sym same)
+      (cut_so (Refused NotQuiet) (λ s at. let works = at.parts.failed_is ∙ running in (inr (works, omega (arith, some, counts (before_in w s) s at works), refl), refl))
+      (λ front disk holds d offset is. absurd cc) (λ front disk holds n is. absurd cc)
+      (record { no_lower = omega arith; reported = λ told. absurd cc; unreported = λ other. refl }) (inr (inr (running, some, refl))))

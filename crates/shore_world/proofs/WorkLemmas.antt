@@ -268,3 +268,4 @@ module _ {L V : Type 0} {G : Ghosts L} {H : Ghosts V} (w : World L V G H) (o : O
   stays_same event.ForceOpen new served one = is_same new (one.quiet tt refl)
   stays_same event.FlushStep new served one = is_same new (one.quiet tt refl)
   stays_same event.CheckpointStep new served one = is_same new (one.quiet tt refl)
+  stays_same event.CutTrail new served one = is_same new (one.quiet tt refl)

@@ -83,7 +83,7 @@ asked_by ticket Moved = []
 asked_by ticket Cut = []
 
 -- a call and a resume with what they came to; an ask with its answer; of a force the number that it made durable, or the device's failure; of a flush nothing
--- but the volume's; a step of a checkpoint with what it came to
+-- but the volume's; a step of a checkpoint with what it came to; a cut of the trail leaves no trace
 abbrev pub moves_by : Event → Step → List PlainMove
 moves_by (event.Call session call) step = OfManager (calls.Called session call step) ∷ []
 moves_by (event.Resume session) step = OfManager (calls.Resumed session step) ∷ []
@@ -104,6 +104,7 @@ moves_by event.FlushStep (Refused fault) = failure_by fault
 moves_by event.FlushStep (Waits wait) = []
 moves_by event.FlushStep Nothing = []
 moves_by event.CheckpointStep step = OfCheckpoint step ∷ []
+moves_by event.CutTrail step = []
 
 -- .. of all, one after another
 abbrev pub all_moves : List Event → List Step → List PlainMove

@@ -17,6 +17,7 @@ IsServedEvent event.ForceStage = Unit {0}
 IsServedEvent event.ForceOpen = Unit {0}
 IsServedEvent event.FlushStep = Unit {0}
 IsServedEvent event.CheckpointStep = Unit {0}
+IsServedEvent event.CutTrail = Unit {0}
 
 -- an event that owns memory
 abbrev pub IsCall : Event → Type 0
@@ -27,8 +28,9 @@ IsCall event.ForceStage = ⊥
 IsCall event.ForceOpen = ⊥
 IsCall event.FlushStep = ⊥
 IsCall event.CheckpointStep = ⊥
+IsCall event.CutTrail = ⊥
 
--- an event that is no step of a force or of a checkpoint: it calls the volume at most, and an ask no device
+-- an event that is no step of a force or of a checkpoint: it calls the volume at most, and an ask and a cut of the trail no device
 abbrev pub IsOfPages : Event → Type 0
 IsOfPages (event.Call session call) = Unit {0}
 IsOfPages (event.Resume session) = Unit {0}
@@ -37,6 +39,7 @@ IsOfPages event.ForceStage = ⊥
 IsOfPages event.ForceOpen = ⊥
 IsOfPages event.FlushStep = Unit {0}
 IsOfPages event.CheckpointStep = ⊥
+IsOfPages event.CutTrail = Unit {0}
 
 -- a step of a force: it calls the log device at most
 abbrev pub IsOfForce : Event → Type 0
@@ -47,6 +50,7 @@ IsOfForce event.ForceStage = Unit {0}
 IsOfForce event.ForceOpen = Unit {0}
 IsOfForce event.FlushStep = ⊥
 IsOfForce event.CheckpointStep = ⊥
+IsOfForce event.CutTrail = ⊥
 
 -- a step of a checkpoint: it calls the log device at most, and that at the move of the anchor alone
 abbrev pub IsOfCheckpoint : Event → Type 0
@@ -57,8 +61,9 @@ IsOfCheckpoint event.ForceStage = ⊥
 IsOfCheckpoint event.ForceOpen = ⊥
 IsOfCheckpoint event.FlushStep = ⊥
 IsOfCheckpoint event.CheckpointStep = Unit {0}
+IsOfCheckpoint event.CutTrail = ⊥
 
--- a step that no session asks for: an ask, or one of a force, of the flush or of a checkpoint
+-- a step that no session asks for: an ask, a cut of the trail, or one of a force, of the flush or of a checkpoint
 abbrev pub IsOfNoSession : Event → Type 0
 IsOfNoSession (event.Call session call) = ⊥
 IsOfNoSession (event.Resume session) = ⊥
@@ -67,6 +72,7 @@ IsOfNoSession event.ForceStage = Unit {0}
 IsOfNoSession event.ForceOpen = Unit {0}
 IsOfNoSession event.FlushStep = Unit {0}
 IsOfNoSession event.CheckpointStep = Unit {0}
+IsOfNoSession event.CutTrail = Unit {0}
 
 -- the pages of the volume that an event of a core may read: going on with a call may read what the call may
 abbrev pub ReadBy : {T V : Type 0} {G : tail.Ghosts T} {H : disk.Ghosts V} → Core T V G H → Event → PageId → Type 0
@@ -77,6 +83,7 @@ ReadBy core event.ForceStage page = ⊥
 ReadBy core event.ForceOpen page = ⊥
 ReadBy core event.FlushStep page = ⊥
 ReadBy core event.CheckpointStep page = ⊥
+ReadBy core event.CutTrail page = ⊥
 
 -- When an event of a core has to need the force that it asks for: a call when it says so, and every other event as it begins.
 abbrev pub force_needed_at : {T V : Type 0} {G : tail.Ghosts T} {H : disk.Ghosts V} → Event → Core T V G H → Core T V G H → Core T V G H
@@ -87,3 +94,4 @@ force_needed_at event.ForceStage old new = old
 force_needed_at event.ForceOpen old new = old
 force_needed_at event.FlushStep old new = old
 force_needed_at event.CheckpointStep old new = old
+force_needed_at event.CutTrail old new = old

@@ -80,7 +80,7 @@ told_of_ask ticket (Refused fault) = []
 told_of_ask ticket (Waits wait) = []
 told_of_ask ticket Nothing = []
 
--- a call is told at once, or by a resume once it waits no more, and a ticket by an ask; a step of a force, of the flush or of a checkpoint tells nobody
+-- a call is told at once, or by a resume once it waits no more, and a ticket by an ask; a step of a force, of the flush or of a checkpoint, and a cut of the trail, tell nobody
 abbrev pub told_by : List (ℕ × Call) → Event → Step → List Telling
 told_by ws (event.Call session c) step = told_of session c step
 told_by ws (event.Resume session) step = told_of_waiting session (last_waited session ws) step
@@ -89,6 +89,7 @@ told_by ws event.ForceStage step = []
 told_by ws event.ForceOpen step = []
 told_by ws event.FlushStep step = []
 told_by ws event.CheckpointStep step = []
+told_by ws event.CutTrail step = []
 
 -- a call that is neither answered nor refused
 abbrev pub waits_behind : List (ℕ × Call) → ℕ → Call → Step → List (ℕ × Call)
@@ -105,6 +106,7 @@ waited_behind ws event.ForceStage step = ws
 waited_behind ws event.ForceOpen step = ws
 waited_behind ws event.FlushStep step = ws
 waited_behind ws event.CheckpointStep step = ws
+waited_behind ws event.CutTrail step = ws
 
 -- .. and behind all
 abbrev pub waited_after : List (ℕ × Call) → List Event → List Step → List (ℕ × Call)

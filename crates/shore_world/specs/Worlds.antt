@@ -1,7 +1,7 @@
 -- What a world is, what an event does to it, and what a crash leaves of it.
 use Rattle.std.specs.Prelude.{◌≡◌, ◌≢◌, ◌⊎◌, ◌↔◌, ℕ, ◌+◌, ◌-◌, ◌<◌, ◌≤◌, List, [], ◌∷◌, ◌++◌, Bool, false, true, IsTrue, IsSome, IsSomeAnd, MatchResult, None, Result, Ok, Err, length, take, drop}
 use Rattle.shore_types.specs.declared.faults.Fault.{Fault}
-use Rattle.shore_types.specs.declared.faults.Fault.TheVariants.{Device, Failed, Memory, LogFull}
+use Rattle.shore_types.specs.declared.faults.Fault.TheVariants.{Device, Failed, LogFull, Memory, NotQuiet}
 use Rattle.shore_types.specs.declared.ids.Rid.{Rid}
 use Rattle.shore_types.specs.declared.layout.Geometry.{Geometry}
 use Rattle.shore_types.specs.declared.layout.TheConstants.{LOG_FRONT_BYTES, LONGEST_FRAME}
@@ -25,6 +25,7 @@ use Rattle.laws_calls.specs.Events.{Called, HasFailed, Resumed}
 use Rattle.laws_calls.specs.StateChanges.{with_durable, with_failure}
 use Rattle.laws_calls.specs.Events as calls
 use Rattle.laws_calls.specs.Settling.{SettledCall, SettledResume}
+use Rattle.laws_calls.specs.CallSteps.{txn_count}
 use Rattle.laws_calls.specs.States.{State, cost_of_log, next_number}
 use Rattle.shore_frames.specs.Frames.{GivesBehindFrom, IsLongest}
 use Rattle.shore_log.specs.Settled.{HoldsFrom, IsAnchored, IsCutTo, IsLeftByMove, IsStagedFrom, anchor_of, cut_of_log, next_anchor, records_of_log, stable}
@@ -45,6 +46,7 @@ use Rattle.shore_core.specs.Cores.{IsIn, IsOver, IsSafe}
 use Rattle.shore_core.specs.Flushing.{AreFlushes, FlushAnswers, FlushMoves}
 use Rattle.shore_core.specs.Replies.{Earns, NeedsForceIn, SameVolume, fault_at}
 use Rattle.shore_core.specs.Resumes.{NoneWaits}
+use Rattle.shore_core.specs.Trails.{AnswersCut}
 use Rattle.shore_restart.specs.declared.passes.Report.{Report}
 use Rattle.laws_images.specs.Moments.{ShowsLeft}
 use Rattle.laws_images.specs.StandsBehind.{anchored_by}
@@ -189,8 +191,13 @@ CheckpointsState s Nothing new = (s.failed ≡ false) × (new ≡ s)
 CheckpointsState s (Refused fault) new = ForceRefused s fault new
 CheckpointsState s (Waits wait) new = ⊥
 
+-- the trail was not cut: a device had failed before, or a transaction is under way
+abbrev pub CutRefused : State → Fault → Type 0
+CutRefused s fault = (IsTrue s.failed × (fault ≡ Failed)) ⊎ ((s.failed ≡ false) × (0 < txn_count s) × (fault ≡ NotQuiet))
+
 -- An ask tells whether a ticket's Commit is durable, whatever has failed. A force is made in two steps, and only the second makes records durable. A step of
--- the flush leaves the state, but for a failure of the volume. What a step of a checkpoint does beside, the state does not have.
+-- the flush leaves the state, but for a failure of the volume. What a step of a checkpoint does beside, the state does not have. A cut of the
+-- trail leaves it too.
 abbrev pub EventStep : Geometry → State → Event → Step → State → Type 0
 EventStep g s (event.Call session call) step new = SettledCall g s session call step new
 EventStep g s (event.Resume session) step new = SettledResume g s session step new
@@ -203,6 +210,8 @@ EventStep g s event.ForceOpen Nothing new = (s.failed ≡ false) × (new ≡ s)
 EventStep g s event.ForceOpen (Refused fault) new = OpenRefused s fault new
 EventStep g s event.FlushStep step new = FlushMoves s step new
 EventStep g s event.CheckpointStep step new = CheckpointsState s step new
+EventStep g s event.CutTrail (Done Cut) new = (s.failed ≡ false) × (txn_count s ≡ 0) × (new ≡ s)
+EventStep g s event.CutTrail (Refused fault) new = CutRefused s fault × (new ≡ s)
 EventStep g s event step new = ⊥
 
 -- A checkpoint may go on over this state and store: that is in order, what is still to be logged for it has room, and the log may cost what the stream has and what is cut
@@ -368,7 +377,7 @@ module _ {L V : Type 0} {G : Ghosts L} {H : Ghosts V} where
   -- One event: what it moves, what a step of a force or of the flush has done, when it may come to nothing, and who tells of a failure.
   pub record Steps (old : World L V G H) (e : Event) (step : Step) (new : World L V G H) : Type 0 where
     pub moves : EventMovesWorld old e step new
-    -- a call, a resume, an ask and a step of the flush make no call of the log device, and a step of a force or of a checkpoint none of the volume
+    -- a call, a resume, an ask, a cut of the trail and a step of the flush make no call of the log device, and a step of a force or of a checkpoint none of the volume
     pub still : IsOfPages e → new.log.device ≡ old.log.device
     pub volume : IsOfForce e ⊎ IsOfCheckpoint e → cores.heap_of new.core ≡ cores.heap_of old.core
     -- a step of a checkpoint calls the log device at the move of the anchor alone, and no other event moves it
@@ -386,6 +395,8 @@ module _ {L V : Type 0} {G : Ghosts L} {H : Ghosts V} where
     pub none : (session : ℕ) → e ≡ event.Resume session → NoneWaits old.core session → (step ≡ Nothing) × IsUnchanged old new
     -- an ask is answered whatever has failed, and changes nothing
     pub asked : (ticket : ℕ) → e ≡ event.Ask ticket → (answer : Bool) × (step ≡ Done (IsDurable answer)) × ((answer ≡ true) ↔ (ticket ≤ durable_in old)) × IsUnchanged old new
+    -- the trail may be cut just while no transaction is under way, and that changes nothing
+    pub cut : e ≡ event.CutTrail → AnswersCut old.core step × IsUnchanged old new
     pub full : e ≡ event.ForceStage → step ≡ Refused LogFull → ¬ HasForceRoom old
     pub flushed : e ≡ event.FlushStep → HasFlushed old step new
     -- a checkpoint begins just where the log has room for it

@@ -23,6 +23,8 @@ pub enum Event {
     FlushStep,
     /// The next of the four steps of a checkpoint.
     CheckpointStep,
+    /// The trail of the answers may be let go, by whoever keeps one. It changes nothing.
+    CutTrail,
 }
 
 impl Event {
@@ -39,6 +41,7 @@ impl Event {
             Event::ForceOpen => Event::ForceOpen,
             Event::FlushStep => Event::FlushStep,
             Event::CheckpointStep => Event::CheckpointStep,
+            Event::CutTrail => Event::CutTrail,
         })
     }
 }

@@ -4,9 +4,11 @@
 #![tactic(auto)]
 
 mod checkpointing;
+mod counts;
 mod event;
 pub mod laws;
 mod opening;
+mod parts;
 pub mod promises;
 mod world;
 

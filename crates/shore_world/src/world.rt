@@ -39,7 +39,7 @@ pub struct World<L: Disk, V: Disk> {
     // How far a checkpoint has come.
     pub(crate) stage: Stage,
     // What the restart did that opened it.
-    report: Report,
+    pub(crate) report: Report,
     ghost numbers: { first_of core ≡ cut_of_log log + 1 + length (records_of_log log) },
     ghost durable_agrees: { durable_of core ≡ cut_of_log log + length (stable log) },
     // The sums of the log count the bytes of its stream.
@@ -283,6 +283,7 @@ impl<L: Disk, V: Disk> World<L, V> {
             Event::ForceOpen => self.force_open(),
             Event::FlushStep => self.core.flush_step(alloc),
             Event::CheckpointStep => self.checkpoint_step(alloc),
+            Event::CutTrail => self.core.cut_trail(),
         }
     }
 

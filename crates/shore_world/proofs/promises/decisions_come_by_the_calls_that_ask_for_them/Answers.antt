@@ -30,6 +30,7 @@ is_served event.ForceStage none = tt
 is_served event.ForceOpen none = tt
 is_served event.FlushStep none = tt
 is_served event.CheckpointStep none = tt
+is_served event.CutTrail none = tt
 
 pub returns-clause-call : goal.returns-clause-call
 returns-clause-call d f w new o es ws session c step k served one =

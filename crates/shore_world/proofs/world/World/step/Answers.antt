@@ -10,8 +10,8 @@ use Rattle.shore_core.specs.Resumes.{NoneWaits}
 use Rattle.shore_world.specs.declared.event.Event.TheVariants as event
 use Rattle.shore_world.proofs.CallLemmas.{call_moves, flush_moves, resume_moves}
 use Rattle.shore_world.proofs.DumpLemmas.{never_true}
-use Rattle.shore_world.proofs.RunLemmas.{checkpoint_is_no_ask, checkpoint_is_no_flush, checkpoint_is_no_open, checkpoint_is_no_stage, call_is_no_ask, call_is_no_flush, call_is_no_resume, flush_asks_nothing, flush_faults, flush_is_no_ask, flush_says_nothing, force_is_no_ask, log_cause, no_force, open_is_no_flush, open_is_no_stage, own_is_no_resume, resume_is_no_ask, resume_is_no_flush, same_session, same_volume, stage_is_no_flush, stage_is_no_open}
-use Rattle.shore_world.proofs.UnchangedLemmas.{ask_steps, flush_unchanged, unchanged_parts}
+use Rattle.shore_world.proofs.RunLemmas.{checkpoint_is_no_ask, checkpoint_is_no_flush, checkpoint_is_no_open, checkpoint_is_no_stage, call_is_no_ask, call_is_no_cut, call_is_no_flush, call_is_no_resume, flush_asks_nothing, flush_faults, flush_is_no_ask, flush_is_no_cut, flush_says_nothing, force_is_no_ask, log_cause, no_force, open_is_no_flush, open_is_no_stage, other_is_no_cut, own_is_no_resume, resume_is_no_ask, resume_is_no_cut, resume_is_no_flush, same_session, same_volume, stage_is_no_flush, stage_is_no_open}
+use Rattle.shore_world.proofs.UnchangedLemmas.{ask_steps, cut_steps, flush_unchanged, unchanged_parts}
 use Rattle.shore_world.proofs.WorldLemmas.{failed_runs}
 use Rattle.shore_world.specs.Worlds.{failed_in}
 use Rattle.shore_world.proofs.world.World.step.Goals as goal
@@ -29,7 +29,8 @@ returns-in-Call g c =
     no_force old _ _ _ tt refl refl (call_moves old _ _ _ _ e.serves.volume.geometry refl refl e.step e.serves.any_moment e.still e.serves.durable) e.serves.volume
     (λ is. absurd (call_is_no_flush (event.Call c.in-Call.session c.in-Call.call) tt is)) e.serves.damaged e.serves.forced e.serves.cause
     (λ own. absurd own) (λ session is. absurd (call_is_no_resume (event.Call c.in-Call.session c.in-Call.call) session tt is))
-    (λ ticket is. absurd (call_is_no_ask (event.Call c.in-Call.session c.in-Call.call) ticket tt is)))
+    (λ ticket is. absurd (call_is_no_ask (event.Call c.in-Call.session c.in-Call.call) ticket tt is))
+    (λ is. absurd (call_is_no_cut (event.Call c.in-Call.session c.in-Call.call) tt is)))
 
 pub returns-in-Resume : goal.returns-in-Resume
 returns-in-Resume g c =
@@ -41,10 +42,13 @@ returns-in-Resume g c =
     (λ session is idle.
     let nothing = e.none (subst (λ (n : ℕ). NoneWaits old.core n) (sym (same_session c.in-Resume.session session is)) idle) in
     (nothing.0, unchanged_parts old _ nothing.1 refl refl refl))
-    (λ ticket is. absurd (resume_is_no_ask c.in-Resume.session ticket is)))
+    (λ ticket is. absurd (resume_is_no_ask c.in-Resume.session ticket is)) (λ is. absurd (resume_is_no_cut c.in-Resume.session is)))
 
 pub returns-in-Ask : goal.returns-in-Ask
 returns-in-Ask g c = rw c.in-Ask.is (ask_steps c.args.self.now c.in-Ask.ticket c.ask.result c.ask.ensures.answered)
+
+pub returns-in-CutTrail : goal.returns-in-CutTrail
+returns-in-CutTrail g c = rw c.in-CutTrail.is (cut_steps c.args.self.now c.cut_trail.ensures.count c.cut_trail.result c.cut_trail.ensures.answers)
 
 pub returns-in-ForceStage : goal.returns-in-ForceStage
 returns-in-ForceStage g c =
@@ -63,6 +67,7 @@ returns-in-ForceStage g c =
       quiet = λ own nothing. e.quiet nothing;
       none = λ session is. absurd (own_is_no_resume _ session tt is);
       asked = λ ticket is. absurd (force_is_no_ask _ ticket tt is);
+      cut = λ is. absurd (other_is_no_cut _ (inl tt) is);
       full = λ is refused. e.full refused;
       flushed = λ is. absurd (stage_is_no_flush is);
       moved = λ is. absurd is;
@@ -92,6 +97,7 @@ returns-in-ForceOpen g c =
       quiet = λ own nothing. e.quiet nothing;
       none = λ session is. absurd (own_is_no_resume _ session tt is);
       asked = λ ticket is. absurd (force_is_no_ask _ ticket tt is);
+      cut = λ is. absurd (other_is_no_cut _ (inl tt) is);
       full = λ is. absurd (open_is_no_stage is);
       flushed = λ is. absurd (open_is_no_flush is);
       moved = λ is. absurd is;
@@ -117,7 +123,7 @@ returns-in-FlushStep g c =
     let answers = subst (λ (x : Step). FlushAnswers old.core x c.flush_step.new.self) nothing e.answers in
     let fails = subst (λ (x : Step). IsTrue (has_failed c.flush_step.new.self) ↔ (IsTrue (has_failed old.core) ⊎ IsErrAnd (fault_at x) (λ f. f ≡ fault.Device))) nothing e.fails in
     flush_unchanged old _ refl refl refl e.tail e.control e.serves.durable ((λ yes. or_none (fails.0 yes)), (λ was. fails.1 (inl was))) answers.1 answers.2)
-    (λ session is. absurd (own_is_no_resume event.FlushStep session tt is)) (λ ticket is. absurd (flush_is_no_ask ticket is)))
+    (λ session is. absurd (own_is_no_resume event.FlushStep session tt is)) (λ ticket is. absurd (flush_is_no_ask ticket is)) (λ is. absurd (flush_is_no_cut is)))
 
 pub returns-in-CheckpointStep : goal.returns-in-CheckpointStep
 returns-in-CheckpointStep g c =
@@ -136,6 +142,7 @@ returns-in-CheckpointStep g c =
       quiet = λ own nothing. e.quiet nothing;
       none = λ session is. absurd (own_is_no_resume _ session tt is);
       asked = λ ticket is. absurd (checkpoint_is_no_ask ticket is);
+      cut = λ is. absurd (other_is_no_cut _ (inr tt) is);
       full = λ is. absurd (checkpoint_is_no_stage is);
       flushed = λ is. absurd (checkpoint_is_no_flush is);
       moved = λ is done. e.moved done;
