@@ -8,7 +8,7 @@ use lib.ListN.{get_elem?}
 use Rattle.atomic_table.specs.Table.{Me, Allows, Splits, Joins, keeps, step}
 use Rattle.atomic_table.proofs.Lists.{at_set, at_snoc, set_else, at_longer}
 use Rattle.shore_words.specs.declared.rule.View.{View}
-use Rattle.shore_words.specs.Words.{keeper, looker, teller, Knows, HasAsked, IsTold, Tells, Looks, Asks, Stops, LooksForTail, Moves}
+use Rattle.shore_words.specs.Words.{keeper, looker, teller, Knows, HasAsked, IsTold, Tells, Looks, Asks, Stops, LooksForCheckpoint, LooksForTail, MovesCheckpoint, MovesTail}
 
 abbrev All : (ℕ → View → Type 0) → List View → Type 0
 All F views = (seat : ℕ) (v : View) → get_elem? views seat ≡ some v → F seat v
@@ -44,14 +44,14 @@ is_one : (n : ℕ) → (n == 1) ≡ true → n ≡ 1
 is_one n p = grind (arith, nat_tests)
 
 -- who looks knows what it has seen
-looks_so : (number stop tail tells_at keeps_at seat seen : ℕ) → seen ≤ number → Knows number stop tail tells_at keeps_at seat (looker seen)
-looks_so number stop tail tells_at keeps_at seat seen most = record { seen = most; tells = λ p. off p; keeps = λ p. off p; asked = λ p. off p; stopped = λ p. off p }
+looks_so : (number stop : ℕ) (anchor : ℕ × ℕ) (tells_at keeps_at seat seen : ℕ) → seen ≤ number → Knows number stop anchor tells_at keeps_at seat (looker seen)
+looks_so number stop anchor tells_at keeps_at seat seen most = record { seen = most; tells = λ p. off p; keeps = λ p. off p; asked = λ p. off p; stopped = λ p. off p }
 
-pub opens : (number stop tail : ℕ) → stop ≡ 0 → IsTold record { words = number ∷ stop ∷ tail ∷ []; homes = []; views = teller number tail ∷ [] }
-opens number stop tail none = record {
+pub opens : (number stop checkpoint tail : ℕ) → stop ≡ 0 → IsTold record { words = number ∷ stop ∷ tail ∷ checkpoint ∷ []; homes = []; views = teller number (checkpoint, tail) ∷ [] }
+opens number stop checkpoint tail none = record {
   number = number;
   stop = stop;
-  tail = tail;
+  anchor = (checkpoint, tail);
   tells_at = 0;
   keeps_at = 0;
   words = refl;
@@ -60,11 +60,11 @@ opens number stop tail none = record {
   each = one;
 }
   where
-    first : Knows number stop tail 0 0 0 (teller number tail)
+    first : Knows number stop (checkpoint, tail) 0 0 0 (teller number (checkpoint, tail))
     first = record { seen = omega arith; tells = λ _. (refl, refl, refl); keeps = λ _. (refl, refl); asked = λ p. off p; stopped = λ p. off p }
 
-    one : (seat : ℕ) (v : View) → get_elem? (teller number tail ∷ []) seat ≡ some v → Knows number stop tail 0 0 seat v
-    one zero v e = subst (Knows number stop tail 0 0 0) (some-injective _ _ e) first
+    one : (seat : ℕ) (v : View) → get_elem? (teller number (checkpoint, tail) ∷ []) seat ≡ some v → Knows number stop (checkpoint, tail) 0 0 seat v
+    one zero v e = subst (Knows number stop (checkpoint, tail) 0 0 0) (some-injective _ _ e) first
     one (suc seat) v e = absurd (some-ne-none v (sym e))
 
 -- a store by the seat that tells
@@ -74,7 +74,7 @@ tells slots seat me number x may higher s h homes at fits =
     let mine = h.each seat me.0 at in
     let own = mine.tells may in
     let told : me.0.told ≡ h.number = own.1 in
-    let F = Knows number h.stop h.tail h.tells_at h.keeps_at in
+    let F = Knows number h.stop h.anchor h.tells_at h.keeps_at in
     let w : View = record me.0 { tells = true; told = number } in
     let now : F seat w = record { seen = omega (arith, mine.seen, told, higher); tells = λ _. (own.0, refl, own.2); keeps = mine.keeps; asked = mine.asked; stopped = mine.stopped } in
     let others : (j : ℕ) (u : View) → j ≢ seat → get_elem? s.views j ≡ some u → F j u = λ j u other e. let k = h.each j u e in record {
@@ -90,7 +90,7 @@ tells slots seat me number x may higher s h homes at fits =
       record {
         number = number;
         stop = h.stop;
-        tail = h.tail;
+        anchor = h.anchor;
         tells_at = h.tells_at;
         keeps_at = h.keeps_at;
         words = ap (λ (words : List ℕ). slice_set words 0 number) h.words;
@@ -106,7 +106,7 @@ pub looks : (slots seat : ℕ) (me : Me ℕ View) (x : _) → Allows IsTold slot
 looks slots seat me x s h homes at fits =
     let mine = h.each seat me.0 at in
     let found : slice_index s.words 0 ≡ h.number = ap (λ (words : List ℕ). slice_index words 0) h.words in
-    let F = Knows h.number h.stop h.tail h.tells_at h.keeps_at in
+    let F = Knows h.number h.stop h.anchor h.tells_at h.keeps_at in
     let w : View = record me.0 { seen = slice_index s.words 0 } in
     let now : F seat w = record { seen = omega (arith, found); tells = mine.tells; keeps = mine.keeps; asked = mine.asked; stopped = mine.stopped } in (
       w,
@@ -115,7 +115,7 @@ looks slots seat me x s h homes at fits =
       record {
         number = h.number;
         stop = h.stop;
-        tail = h.tail;
+        anchor = h.anchor;
         tells_at = h.tells_at;
         keeps_at = h.keeps_at;
         words = λ i. slice_set (h.words i) 0 (found i);
@@ -130,7 +130,7 @@ looks slots seat me x s h homes at fits =
 pub asks : (slots seat : ℕ) (me : Me ℕ View) (set : ℕ) (x : _) → set ≡ 1 → Allows IsTold slots seat me 1 (λ _. set) (λ _. Asks (step slots 1 set 0 x) me set)
 asks slots seat me set x one s h homes at fits =
     let mine = h.each seat me.0 at in
-    let F = Knows h.number set h.tail h.tells_at h.keeps_at in
+    let F = Knows h.number set h.anchor h.tells_at h.keeps_at in
     let w : View = record me.0 { asked = true } in
     let now : F seat w = record { seen = mine.seen; tells = mine.tells; keeps = mine.keeps; asked = λ _. one; stopped = λ _. one } in
     let others : (j : ℕ) (u : View) → j ≢ seat → get_elem? s.views j ≡ some u → F j u = λ j u other e. let k = h.each j u e in record {
@@ -146,7 +146,7 @@ asks slots seat me set x one s h homes at fits =
       record {
         number = h.number;
         stop = set;
-        tail = h.tail;
+        anchor = h.anchor;
         tells_at = h.tells_at;
         keeps_at = h.keeps_at;
         words = ap (λ (words : List ℕ). slice_set words 1 set) h.words;
@@ -162,7 +162,7 @@ pub stops : (slots seat : ℕ) (me : Me ℕ View) (x : _) → Allows IsTold slot
 stops slots seat me x s h homes at fits =
     let mine = h.each seat me.0 at in
     let found : slice_index s.words 1 ≡ h.stop = ap (λ (words : List ℕ). slice_index words 1) h.words in
-    let F = Knows h.number h.stop h.tail h.tells_at h.keeps_at in
+    let F = Knows h.number h.stop h.anchor h.tells_at h.keeps_at in
     let w : View = record me.0 { stopped = slice_index s.words 1 == 1 } in
     let now : F seat w = record { seen = mine.seen; tells = mine.tells; keeps = mine.keeps; asked = mine.asked; stopped = λ p. sym found ∙ is_one _ p } in (
       w,
@@ -171,7 +171,7 @@ stops slots seat me x s h homes at fits =
       record {
         number = h.number;
         stop = h.stop;
-        tail = h.tail;
+        anchor = h.anchor;
         tells_at = h.tells_at;
         keeps_at = h.keeps_at;
         words = λ i. slice_set (h.words i) 1 (found i);
@@ -186,15 +186,15 @@ stops slots seat me x s h homes at fits =
 pub looks_for_tail : (slots seat : ℕ) (me : Me ℕ View) (x : _) → Allows IsTold slots seat me 2 (λ n. n) (LooksForTail (step slots 2 0 0 x) me)
 looks_for_tail slots seat me x s h homes at fits =
     let mine = h.each seat me.0 at in
-    let found : slice_index s.words 2 ≡ h.tail = ap (λ (words : List ℕ). slice_index words 2) h.words in
-    let F = Knows h.number h.stop h.tail h.tells_at h.keeps_at in (
+    let found : slice_index s.words 2 ≡ h.anchor.1 = ap (λ (words : List ℕ). slice_index words 2) h.words in
+    let F = Knows h.number h.stop h.anchor h.tells_at h.keeps_at in (
       me.0,
       keeps,
       tt,
       record {
         number = h.number;
         stop = h.stop;
-        tail = h.tail;
+        anchor = h.anchor;
         tells_at = h.tells_at;
         keeps_at = h.keeps_at;
         words = λ i. slice_set (h.words i) 2 (found i);
@@ -202,19 +202,43 @@ looks_for_tail slots seat me x s h homes at fits =
         by = λ p. asked_set s.views seat me.0 me.0 at (λ q. q) (h.by p);
         each = all_set F s.views seat me.0 mine (λ j u other e. h.each j u e);
       },
-      (refl, (λ p. found ∙ sym (mine.tells p).2), (λ p. found ∙ sym (mine.keeps p).1)),
+      (refl, (λ p. found ∙ sym (ap (λ (a : ℕ × ℕ). a.1) (mine.tells p).2)), (λ p. found ∙ sym (ap (λ (a : ℕ × ℕ). a.1) (mine.keeps p).1))),
+    )
+
+-- the checkpoint is read
+pub looks_for_checkpoint : (slots seat : ℕ) (me : Me ℕ View) (x : _) → Allows IsTold slots seat me 3 (λ n. n) (LooksForCheckpoint (step slots 3 0 0 x) me)
+looks_for_checkpoint slots seat me x s h homes at fits =
+    let mine = h.each seat me.0 at in
+    let found : slice_index s.words 3 ≡ h.anchor.0 = ap (λ (words : List ℕ). slice_index words 3) h.words in
+    let F = Knows h.number h.stop h.anchor h.tells_at h.keeps_at in (
+      me.0,
+      keeps,
+      tt,
+      record {
+        number = h.number;
+        stop = h.stop;
+        anchor = h.anchor;
+        tells_at = h.tells_at;
+        keeps_at = h.keeps_at;
+        words = λ i. slice_set (h.words i) 3 (found i);
+        bit = h.bit;
+        by = λ p. asked_set s.views seat me.0 me.0 at (λ q. q) (h.by p);
+        each = all_set F s.views seat me.0 mine (λ j u other e. h.each j u e);
+      },
+      (refl, (λ p. found ∙ sym (ap (λ (a : ℕ × ℕ). a.0) (mine.tells p).2)), (λ p. found ∙ sym (ap (λ (a : ℕ × ℕ). a.0) (mine.keeps p).1))),
     )
 
 -- the tail is moved by a seat that tells and keeps
-pub moves : (slots seat : ℕ) (me : Me ℕ View) (tail : ℕ) (x : _) → me.0.tells ≡ true → me.0.keeps ≡ true
-    → Allows IsTold slots seat me 2 (λ _. tail) (λ _. Moves (step slots 2 tail 0 x) me tail)
-moves slots seat me tail x tells keeps_it s h homes at fits =
+pub moves_tail : (slots seat : ℕ) (me : Me ℕ View) (tail : ℕ) (x : _) → me.0.tells ≡ true → me.0.keeps ≡ true
+    → Allows IsTold slots seat me 2 (λ _. tail) (λ _. MovesTail (step slots 2 tail 0 x) me tail)
+moves_tail slots seat me tail x tells keeps_it s h homes at fits =
     let mine = h.each seat me.0 at in
     let own = mine.tells tells in
     let keep = mine.keeps keeps_it in
-    let F = Knows h.number h.stop tail h.tells_at h.keeps_at in
-    let w : View = record me.0 { tells = true; tail = tail; keeps = true; kept = tail } in
-    let now : F seat w = record { seen = mine.seen; tells = λ _. (own.0, own.1, refl); keeps = λ _. (keep.0, refl); asked = mine.asked; stopped = mine.stopped } in
+    let F = Knows h.number h.stop (h.anchor.0, tail) h.tells_at h.keeps_at in
+    let w : View = record me.0 { tells = true; anchor = (me.0.anchor.0, tail); keeps = true; kept = (me.0.anchor.0, tail) } in
+    let same : (me.0.anchor.0, tail) ≡ (h.anchor.0, tail) = ap (λ (a : ℕ × ℕ). (a.0, tail)) own.2 in
+    let now : F seat w = record { seen = mine.seen; tells = λ _. (own.0, own.1, same); keeps = λ _. (keep.0, same); asked = mine.asked; stopped = mine.stopped } in
     let others : (j : ℕ) (u : View) → j ≢ seat → get_elem? s.views j ≡ some u → F j u = λ j u other e. let k = h.each j u e in record {
       seen = k.seen;
       tells = λ p. absurd (other ((k.tells p).0 ∙ sym own.0));
@@ -228,7 +252,7 @@ moves slots seat me tail x tells keeps_it s h homes at fits =
       record {
         number = h.number;
         stop = h.stop;
-        tail = tail;
+        anchor = (h.anchor.0, tail);
         tells_at = h.tells_at;
         keeps_at = h.keeps_at;
         words = ap (λ (words : List ℕ). slice_set words 2 tail) h.words;
@@ -239,21 +263,56 @@ moves slots seat me tail x tells keeps_it s h homes at fits =
       refl,
     )
 
+-- the checkpoint is moved by a seat that tells and keeps
+pub moves_checkpoint : (slots seat : ℕ) (me : Me ℕ View) (checkpoint : ℕ) (x : _) → me.0.tells ≡ true → me.0.keeps ≡ true
+    → Allows IsTold slots seat me 3 (λ _. checkpoint) (λ _. MovesCheckpoint (step slots 3 checkpoint 0 x) me checkpoint)
+moves_checkpoint slots seat me checkpoint x tells keeps_it s h homes at fits =
+    let mine = h.each seat me.0 at in
+    let own = mine.tells tells in
+    let keep = mine.keeps keeps_it in
+    let F = Knows h.number h.stop (checkpoint, h.anchor.1) h.tells_at h.keeps_at in
+    let w : View = record me.0 { tells = true; anchor = (checkpoint, me.0.anchor.1); keeps = true; kept = (checkpoint, me.0.anchor.1) } in
+    let same : (checkpoint, me.0.anchor.1) ≡ (checkpoint, h.anchor.1) = ap (λ (a : ℕ × ℕ). (checkpoint, a.1)) own.2 in
+    let now : F seat w = record { seen = mine.seen; tells = λ _. (own.0, own.1, same); keeps = λ _. (keep.0, same); asked = mine.asked; stopped = mine.stopped } in
+    let others : (j : ℕ) (u : View) → j ≢ seat → get_elem? s.views j ≡ some u → F j u = λ j u other e. let k = h.each j u e in record {
+      seen = k.seen;
+      tells = λ p. absurd (other ((k.tells p).0 ∙ sym own.0));
+      keeps = λ p. absurd (other ((k.keeps p).0 ∙ sym keep.0));
+      asked = k.asked;
+      stopped = k.stopped;
+    } in (
+      w,
+      keeps,
+      tt,
+      record {
+        number = h.number;
+        stop = h.stop;
+        anchor = (checkpoint, h.anchor.1);
+        tells_at = h.tells_at;
+        keeps_at = h.keeps_at;
+        words = ap (λ (words : List ℕ). slice_set words 3 checkpoint) h.words;
+        bit = h.bit;
+        by = λ p. asked_set s.views seat me.0 w at (λ q. q) (h.by p);
+        each = all_set F s.views seat w now others;
+      },
+      refl,
+    )
+
 -- a new seat that looks
 pub splits : (seat : ℕ) (v : View) → Splits IsTold seat v v (looker v.seen)
 splits seat v s h at =
-    let F = Knows h.number h.stop h.tail h.tells_at h.keeps_at in
+    let F = Knows h.number h.stop h.anchor h.tells_at h.keeps_at in
     let mine = h.each seat v at in
     let same : All F (slice_set s.views seat v) = all_set F s.views seat v mine (λ j u other e. h.each j u e) in record {
       number = h.number;
       stop = h.stop;
-      tail = h.tail;
+      anchor = h.anchor;
       tells_at = h.tells_at;
       keeps_at = h.keeps_at;
       words = h.words;
       bit = h.bit;
       by = λ p. asked_more (slice_set s.views seat v) (looker v.seen) (asked_set s.views seat v v at (λ q. q) (h.by p));
-      each = all_more F (slice_set s.views seat v) (looker v.seen) same (λ j. looks_so h.number h.stop h.tail h.tells_at h.keeps_at j v.seen mine.seen);
+      each = all_more F (slice_set s.views seat v) (looker v.seen) same (λ j. looks_so h.number h.stop h.anchor h.tells_at h.keeps_at j v.seen mine.seen);
     }
 
 at_end : (l : List View) (a b : View) (j : ℕ) → get_elem? l j ≢ some b → get_elem? (l ++ a ∷ []) j ≡ some b → j ≡ length l
@@ -263,14 +322,14 @@ at_end (x ∷ xs) a b zero n e = absurd (n e)
 at_end (x ∷ xs) a b (suc j) n e = ap suc (at_end xs a b j n e)
 
 -- the right to keep goes to a new seat
-pub hands_on : (seat : ℕ) (v : View) → v.keeps ≡ true → Splits IsTold seat v (record v { keeps = false; kept = 0 }) (keeper v.seen v.kept)
+pub hands_on : (seat : ℕ) (v : View) → v.keeps ≡ true → Splits IsTold seat v (record v { keeps = false; kept = (0, 0) }) (keeper v.seen v.kept)
 hands_on seat v may s h at =
-    let left : View = record v { keeps = false; kept = 0 } in
+    let left : View = record v { keeps = false; kept = (0, 0) } in
     let right : View = keeper v.seen v.kept in
     let mine = h.each seat v at in
     let own = mine.keeps may in
     let vs : List View = slice_set s.views seat left in
-    let F = Knows h.number h.stop h.tail h.tells_at (length vs) in
+    let F = Knows h.number h.stop h.anchor h.tells_at (length vs) in
     let Old : ℕ → View → Type 0 = λ j u. F j u × (u.keeps ≢ true) in
     let rest : Old seat left = (record { seen = mine.seen; tells = mine.tells; keeps = λ p. off p; asked = mine.asked; stopped = mine.stopped }, λ p. true≢false (sym p)) in
     let others : (j : ℕ) (u : View) → j ≢ seat → get_elem? s.views j ≡ some u → Old j u = λ j u other e.
@@ -280,7 +339,7 @@ hands_on seat v may s h at =
     let old : All Old vs = all_set Old s.views seat left rest others in record {
       number = h.number;
       stop = h.stop;
-      tail = h.tail;
+      anchor = h.anchor;
       tells_at = h.tells_at;
       keeps_at = length vs;
       words = h.words;
@@ -300,7 +359,7 @@ hands_on seat v may s h at =
 -- what another has seen is taken over
 pub claims : (seat : ℕ) (v : View) (other : ℕ) (w : View) → w.asked ≡ false → Joins IsTold seat v other w (record v { seen = max v.seen w.seen }) (looker 0)
 claims seat v other w never s h at apart at' =
-    let F = Knows h.number h.stop h.tail h.tells_at h.keeps_at in
+    let F = Knows h.number h.stop h.anchor h.tells_at h.keeps_at in
     let both : View = record v { seen = max v.seen w.seen } in
     let mine = h.each seat v at in
     let was : get_elem? s.views other ≡ some w = ⊎_elim (λ (x : (other ≡ seat) × (both ≡ w)). absurd (apart x.0)) (λ (x : (other ≢ seat) × (get_elem? s.views other ≡ some w)). x.1) (at_set s.views seat other both w at') in
@@ -309,19 +368,19 @@ claims seat v other w never s h at apart at' =
     let one : All F (slice_set s.views seat both) = all_set F s.views seat both joint (λ j u _ e. h.each j u e) in record {
       number = h.number;
       stop = h.stop;
-      tail = h.tail;
+      anchor = h.anchor;
       tells_at = h.tells_at;
       keeps_at = h.keeps_at;
       words = h.words;
       bit = h.bit;
       by = λ p. asked_set (slice_set s.views seat both) other w (looker 0) at' (λ q. absurd (true≢false (sym q ∙ never))) (asked_set s.views seat v both at (λ q. q) (h.by p));
-      each = all_set F (slice_set s.views seat both) other (looker 0) (looks_so h.number h.stop h.tail h.tells_at h.keeps_at other 0 (omega arith)) (λ j u _ e. one j u e);
+      each = all_set F (slice_set s.views seat both) other (looker 0) (looks_so h.number h.stop h.anchor h.tells_at h.keeps_at other 0 (omega arith)) (λ j u _ e. one j u e);
     }
 
 -- .. and the right to keep
-pub takes_tail : (seat : ℕ) (v : View) (other : ℕ) (w : View) → w.keeps ≡ true → w.asked ≡ false → Joins IsTold seat v other w (record v { seen = max v.seen w.seen; keeps = true; kept = w.kept }) (looker 0)
-takes_tail seat v other w may never s h at apart at' =
-    let F = Knows h.number h.stop h.tail h.tells_at seat in
+pub takes_anchor : (seat : ℕ) (v : View) (other : ℕ) (w : View) → w.keeps ≡ true → w.asked ≡ false → Joins IsTold seat v other w (record v { seen = max v.seen w.seen; keeps = true; kept = w.kept }) (looker 0)
+takes_anchor seat v other w may never s h at apart at' =
+    let F = Knows h.number h.stop h.anchor h.tells_at seat in
     let both : View = record v { seen = max v.seen w.seen; keeps = true; kept = w.kept } in
     let mine = h.each seat v at in
     let was : get_elem? s.views other ≡ some w = ⊎_elim (λ (x : (other ≡ seat) × (both ≡ w)). absurd (apart x.0)) (λ (x : (other ≢ seat) × (get_elem? s.views other ≡ some w)). x.1) (at_set s.views seat other both w at') in
@@ -333,11 +392,11 @@ takes_tail seat v other w may never s h at apart at' =
     let k = h.each j u e in record { seen = k.seen; tells = k.tells; keeps = λ p. absurd (apart ((k.keeps p).0 ∙ sym own.0)); asked = k.asked; stopped = k.stopped }) in record {
       number = h.number;
       stop = h.stop;
-      tail = h.tail;
+      anchor = h.anchor;
       tells_at = h.tells_at;
       keeps_at = seat;
       words = h.words;
       bit = h.bit;
       by = λ p. asked_set (slice_set s.views seat both) other w (looker 0) at' (λ q. absurd (true≢false (sym q ∙ never))) (asked_set s.views seat v both at (λ q. q) (h.by p));
-      each = all_set F (slice_set s.views seat both) other (looker 0) (looks_so h.number h.stop h.tail h.tells_at seat other 0 (omega arith)) (λ j u apart e. now j u e apart);
+      each = all_set F (slice_set s.views seat both) other (looker 0) (looks_so h.number h.stop h.anchor h.tells_at seat other 0 (omega arith)) (λ j u apart e. now j u e apart);
     }

@@ -1,5 +1,5 @@
--- The durable word, the stop word and the tail word: what is seen was told, who asked for the stop or found it knows that it is asked for, and the two seats that know the
--- tail know one.
+-- The durable word, the stop word, and the anchor's two words: what is seen was told, who asked for the stop or found it knows that it is asked for, and the two seats that
+-- know the anchor know one.
 use Rattle.std.specs.Prelude.{◌≡◌, ℕ, ◌≤◌, ◌<◌, ◌==◌, true, false, List, [], ◌∷◌}
 use mathlib.Core.Option.{some}
 use lib.ListN.{get_elem?}
@@ -14,21 +14,21 @@ no_words = record { words = 0; slots = 0; views_name = 0; atom = 0; block = 0; o
 
 -- one that has seen so much and knows nothing else
 abbrev pub looker : ℕ → View
-looker seen = record { seen = seen; tells = false; told = 0; tail = 0; keeps = false; kept = 0; asked = false; stopped = false }
+looker seen = record { seen = seen; tells = false; told = 0; anchor = (0, 0); keeps = false; kept = (0, 0); asked = false; stopped = false }
 
 -- one that tells, and keeps
-abbrev pub teller : ℕ → ℕ → View
-teller number tail = record (looker number) { tells = true; told = number; tail = tail; keeps = true; kept = tail }
+abbrev pub teller : ℕ → ℕ × ℕ → View
+teller number anchor = record (looker number) { tells = true; told = number; anchor = anchor; keeps = true; kept = anchor }
 
 -- one that keeps
-abbrev pub keeper : ℕ → ℕ → View
-keeper seen tail = record (looker seen) { keeps = true; kept = tail }
+abbrev pub keeper : ℕ → ℕ × ℕ → View
+keeper seen anchor = record (looker seen) { keeps = true; kept = anchor }
 
 -- What a seat knows of the words, of who tells, and of who keeps.
-pub record Knows (number stop tail tells_at keeps_at seat : ℕ) (v : View) : Type 0 where
+pub record Knows (number stop : ℕ) (anchor : ℕ × ℕ) (tells_at keeps_at seat : ℕ) (v : View) : Type 0 where
   pub seen : v.seen ≤ number
-  pub tells : v.tells ≡ true → (seat ≡ tells_at) × (v.told ≡ number) × (v.tail ≡ tail)
-  pub keeps : v.keeps ≡ true → (seat ≡ keeps_at) × (v.kept ≡ tail)
+  pub tells : v.tells ≡ true → (seat ≡ tells_at) × (v.told ≡ number) × (v.anchor ≡ anchor)
+  pub keeps : v.keeps ≡ true → (seat ≡ keeps_at) × (v.kept ≡ anchor)
   pub asked : v.asked ≡ true → stop ≡ 1
   pub stopped : v.stopped ≡ true → stop ≡ 1
 
@@ -36,17 +36,17 @@ pub record Knows (number stop tail tells_at keeps_at seat : ℕ) (v : View) : Ty
 abbrev pub HasAsked : List View → Type 0
 HasAsked views = (seat : ℕ) × (v : View) × (get_elem? views seat ≡ some v) × (v.asked ≡ true)
 
--- The words are the number told, the stop word, which is 0 or 1, and 1 only if a seat asked for it, and the tail.
+-- The words are the number told, the stop word, which is 0 or 1, and 1 only if a seat asked for it, and the tail and the checkpoint of the anchor.
 pub record IsTold (s : State ℕ View) : Type 0 where
   pub number : ℕ
   pub stop : ℕ
-  pub tail : ℕ
+  pub anchor : ℕ × ℕ
   pub tells_at : ℕ
   pub keeps_at : ℕ
-  pub words : s.words ≡ number ∷ stop ∷ tail ∷ []
+  pub words : s.words ≡ number ∷ stop ∷ anchor.1 ∷ anchor.0 ∷ []
   pub bit : stop ≤ 1
   pub by : stop ≡ 1 → HasAsked s.views
-  pub each : (seat : ℕ) (v : View) → get_elem? s.views seat ≡ some v → Knows number stop tail tells_at keeps_at seat v
+  pub each : (seat : ℕ) (v : View) → get_elem? s.views seat ≡ some v → Knows number stop anchor tells_at keeps_at seat v
 
 -- ---- what a step tells, of the seat before it, the word found or stored, and the seat behind it
 
@@ -63,11 +63,18 @@ abbrev pub Stops : Step ℕ → Me ℕ View → ℕ → Me ℕ View → Type 0
 Stops s me number new = (new ≡ (record me.0 { stopped = number == 1 }, me.1)) × (me.0.asked ≡ true → number ≡ 1) × (me.0.stopped ≡ true → number ≡ 1)
 
 abbrev pub LooksForTail : Step ℕ → Me ℕ View → ℕ → Me ℕ View → Type 0
-LooksForTail s me tail new = (new ≡ me) × (me.0.tells ≡ true → tail ≡ me.0.tail) × (me.0.keeps ≡ true → tail ≡ me.0.kept)
+LooksForTail s me tail new = (new ≡ me) × (me.0.tells ≡ true → tail ≡ me.0.anchor.1) × (me.0.keeps ≡ true → tail ≡ me.0.kept.1)
 
-abbrev pub Moves : Step ℕ → Me ℕ View → ℕ → Me ℕ View → Type 0
-Moves s me tail new = new ≡ (record me.0 { tells = true; tail = s.first; keeps = true; kept = s.first }, me.1)
+abbrev pub LooksForCheckpoint : Step ℕ → Me ℕ View → ℕ → Me ℕ View → Type 0
+LooksForCheckpoint s me checkpoint new = (new ≡ me) × (me.0.tells ≡ true → checkpoint ≡ me.0.anchor.0) × (me.0.keeps ≡ true → checkpoint ≡ me.0.kept.0)
+
+-- who tells and keeps moves one part of the anchor
+abbrev pub MovesTail : Step ℕ → Me ℕ View → ℕ → Me ℕ View → Type 0
+MovesTail s me tail new = new ≡ (record me.0 { tells = true; anchor = (me.0.anchor.0, s.first); keeps = true; kept = (me.0.anchor.0, s.first) }, me.1)
+
+abbrev pub MovesCheckpoint : Step ℕ → Me ℕ View → ℕ → Me ℕ View → Type 0
+MovesCheckpoint s me checkpoint new = new ≡ (record me.0 { tells = true; anchor = (s.first, me.0.anchor.1); keeps = true; kept = (s.first, me.0.anchor.1) }, me.1)
 
 -- the seat is of these words
 abbrev pub IsOf : TableId → Seat ℕ View → Type 0
-IsOf words seat = (seat.table_id ≡ words) × (2 < words.words)
+IsOf words seat = (seat.table_id ≡ words) × (3 < words.words)

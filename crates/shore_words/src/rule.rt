@@ -9,12 +9,12 @@ pub struct View {
     pub tells: bool,
     /// The number that it told, if it is.
     pub told: u64,
-    /// The tail that it knows, if it is.
-    pub tail: u64,
-    /// Whether it is the one that keeps the tail.
+    /// The anchor that it knows, if it is: the number of its checkpoint, and its tail.
+    pub anchor: (u64, u64),
+    /// Whether it is the one that keeps the anchor.
     pub keeps: bool,
-    /// That tail, if it is.
-    pub kept: u64,
+    /// That anchor, if it is.
+    pub kept: (u64, u64),
     /// Whether it asked the workers to stop.
     pub asked: bool,
     /// Whether its last look found that somebody did.
@@ -24,15 +24,15 @@ pub struct View {
 /// A seat: what one thread knows of the words. It takes no memory.
 pub type WordSeat = Seat<u8, View>;
 
-/// What is seen is at most what was told, by one seat; the stop word is 1 exactly if a seat asked for the stop; and who tells and who keeps know one tail.
+/// What is seen is at most what was told, by one seat; the stop word is 1 exactly if a seat asked for the stop; and who tells and who keeps know one anchor.
 pub struct Told;
 
-impl TableRule<u8, View, (u64, u64)> for Told {
+impl TableRule<u8, View, (u64, u64, u64)> for Told {
     ghost use Rattle.shore_words.specs.Words.{teller, IsTold};
 
     ghost holds = { λ _. IsTold };
 
-    ghost first = { λ start. teller start.0 start.1 };
+    ghost first = { λ start. teller start.0 (start.1, start.2) };
 }
 
 // A number is told.
@@ -71,7 +71,7 @@ impl Play<u8, View> for Stop {
     ghost then = { Stops };
 }
 
-// The tail is looked at.
+// The tail of the anchor is looked at.
 pub(crate) struct Tail;
 
 impl Play<u8, View> for Tail {
@@ -80,13 +80,31 @@ impl Play<u8, View> for Tail {
     ghost then = { LooksForTail };
 }
 
+// Its checkpoint is looked at.
+pub(crate) struct Checkpoint;
+
+impl Play<u8, View> for Checkpoint {
+    ghost use Rattle.shore_words.specs.Words.{LooksForCheckpoint};
+
+    ghost then = { LooksForCheckpoint };
+}
+
 // The tail moves.
-pub(crate) struct Move;
+pub(crate) struct MoveTail;
 
-impl Play<u8, View> for Move {
-    ghost use Rattle.shore_words.specs.Words.{Moves};
+impl Play<u8, View> for MoveTail {
+    ghost use Rattle.shore_words.specs.Words.{MovesTail};
 
-    ghost then = { Moves };
+    ghost then = { MovesTail };
+}
+
+// The checkpoint moves.
+pub(crate) struct MoveCheckpoint;
+
+impl Play<u8, View> for MoveCheckpoint {
+    ghost use Rattle.shore_words.specs.Words.{MovesCheckpoint};
+
+    ghost then = { MovesCheckpoint };
 }
 
 // A new seat has seen what this one has, and looks.
@@ -100,14 +118,14 @@ impl Split<View> for Reader {
     ghost right = { λ v. looker v.seen };
 }
 
-// A new seat has seen what this one has, and keeps the tail in its place.
+// A new seat has seen what this one has, and keeps the anchor in its place.
 pub(crate) struct Keeper;
 
 impl Split<View> for Keeper {
     ghost use Rattle.std.specs.Prelude.{false};
     ghost use Rattle.shore_words.specs.Words.{keeper};
 
-    ghost left = { λ v. record v { keeps = false; kept = 0 } };
+    ghost left = { λ v. record v { keeps = false; kept = (0, 0) } };
 
     ghost right = { λ v. keeper v.seen v.kept };
 }
@@ -124,7 +142,7 @@ impl Join<View> for Claim {
     ghost spent = { looker 0 };
 }
 
-// .. and the tail that it keeps.
+// .. and the anchor that it keeps.
 pub(crate) struct Take;
 
 impl Join<View> for Take {

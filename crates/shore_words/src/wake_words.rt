@@ -6,12 +6,20 @@ use std::sync::Wait;
 use std::sync::atomic::{AtomicU64, Ordering};
 use std::time::Duration;
 
+// A word, and how many sleep on it or are about to: where there are none, nobody has to be woken. No two lie in one line of a processor's cache.
+#[derive(Drop)]
+struct WakeWord {
+    word: AtomicU64,
+    asleep: AtomicU64,
+    apart: [u64; 6],
+}
+
 /// Words that are raised by who wakes. A sleeper glances at its word first, then looks whether it has to wait, and sleeps only as long as the word is as it was:
 /// so no call of `wake` between the two is lost.
 #[derive(Drop)]
 pub struct WakeWords {
     // One for each who may sleep.
-    words: Vec<AtomicU64>,
+    words: Vec<WakeWord>,
 }
 
 impl WakeWords {
@@ -21,7 +29,11 @@ impl WakeWords {
     {
         let mut words = Vec::with_capacity(alloc, count as usize)?;
         for _ in 0..count {
-            words.push(AtomicU64::new(0))?;
+            words.push(WakeWord {
+                word: AtomicU64::new(0),
+                asleep: AtomicU64::new(0),
+                apart: [0; 6],
+            })?;
         }
         Ok(WakeWords { words })
     }
@@ -29,30 +41,36 @@ impl WakeWords {
     /// What a sleeper remembers before it looks. 0 if there is no such word.
     pub fn glance(&self, sleeper: u32) -> u64 {
         match self.words.get(sleeper as usize) {
-            Some(word) => word.load(Ordering::SeqCst),
+            Some(one) => one.word.load(Ordering::SeqCst),
             None => 0,
         }
     }
 
     /// Wakes all that sleep on this word, and whoever glanced at it and does not sleep yet.
     pub fn wake(&self, sleeper: u32) {
-        if let Some(word) = self.words.get(sleeper as usize) {
-            word.fetch_add(1, Ordering::SeqCst);
-            word.wake_all();
+        if let Some(one) = self.words.get(sleeper as usize) {
+            one.word.fetch_add(1, Ordering::SeqCst);
+            if one.asleep.load(Ordering::SeqCst) > 0 {
+                one.word.wake_all();
+            }
         }
     }
 
     /// Sleeps until a wake behind the glance. It may return for no reason, and does at once if there is no such word.
     pub fn sleep<R: Wait>(&self, rt: &R, sleeper: u32, glanced: u64) {
-        if let Some(word) = self.words.get(sleeper as usize) {
-            word.park(rt, low_half(glanced));
+        if let Some(one) = self.words.get(sleeper as usize) {
+            one.asleep.fetch_add(1, Ordering::SeqCst);
+            one.word.park(rt, low_half(glanced));
+            one.asleep.fetch_sub(1, Ordering::SeqCst);
         }
     }
 
     /// Sleeps so, and no longer than this.
     pub fn nap<R: Wait>(&self, rt: &R, sleeper: u32, glanced: u64, most: Duration) {
-        if let Some(word) = self.words.get(sleeper as usize) {
-            word.park_timeout(rt, low_half(glanced), most);
+        if let Some(one) = self.words.get(sleeper as usize) {
+            one.asleep.fetch_add(1, Ordering::SeqCst);
+            one.word.park_timeout(rt, low_half(glanced), most);
+            one.asleep.fetch_sub(1, Ordering::SeqCst);
         }
     }
 }

@@ -1,10 +1,11 @@
-//! The durable word, the stop word and the tail word. Nobody waits for a step on them.
+//! The durable word, the stop word, and the two words of the anchor. Nobody waits for a step on them.
 ghost use Rattle.std.specs.Prelude.{◌≡◌, ◌≤◌, ◌<◌, true, false, [], IfOk};
 ghost use Rattle.atomic_table.specs.Seated.{TableId};
 ghost use Rattle.shore_words.specs.Words.{keeper, looker, teller, IsOf};
 
 use crate::rule::{
-    Ask, Claim, Keeper, Look, Move, Reader, Stop, Tail, Take, Tell, Told, View, WordSeat,
+    Ask, Checkpoint, Claim, Keeper, Look, MoveCheckpoint, MoveTail, Reader, Stop, Tail, Take, Tell,
+    Told, View, WordSeat,
 };
 use atomic_table::Table;
 use std::alloc::{AllocError, Global};
@@ -15,23 +16,35 @@ const DURABLE: usize = 0;
 // The stop word: 1 once the workers are to stop.
 const STOP: usize = 1;
 
-// The tail word: from which record on the log is kept.
+// The tail word: from which record on the log is kept, as the anchor names it.
 const TAIL: usize = 2;
 
-/// The number up to which the log is durable, which one seat tells and every seat may look at; whether the workers are to stop; and the tail of the log, which that
-/// seat knows and one more, which keeps it. The tail moves only where both are.
+// The number of the anchor's checkpoint.
+const CHECKPOINT: usize = 3;
+
+/// The number up to which the log is durable, which one seat tells and every seat may look at; whether the workers are to stop; and the anchor of the log, which that
+/// seat knows and one more, which keeps it. The anchor moves only where both are.
 #[derive(Drop)]
 pub struct Words {
     // The words.
-    table: Table<u8, View, (u64, u64), Told, Global>,
+    table: Table<u8, View, (u64, u64, u64), Told, Global>,
 }
 
 impl Words {
-    /// The words of a log that is durable up to this number and kept from this tail on, and the seat that tells and keeps.
-    pub fn new(alloc: Global, durable: u64, tail: u64) -> Result<(Words, WordSeat), AllocError>
-        ensures { IfOk result (λ made. IsOf made.0.table.shared.table_id made.1 × (made.1.me ≡ (teller durable tail, []))) }
+    /// The words of a log that is durable up to this number, with an anchor of this checkpoint and this tail, and the seat that tells and keeps.
+    pub fn new(
+        alloc: Global,
+        durable: u64,
+        checkpoint: u64,
+        tail: u64,
+    ) -> Result<(Words, WordSeat), AllocError>
+        ensures { IfOk result (λ made. IsOf made.0.table.shared.table_id made.1 × (made.1.me ≡ (teller durable (checkpoint, tail), []))) }
     {
-        let (table, seat) = Table::of_words(alloc, &[durable, 0, tail], &(durable, tail))?;
+        let (table, seat) = Table::of_words(
+            alloc,
+            &[durable, 0, tail, checkpoint],
+            &(durable, checkpoint, tail),
+        )?;
         Ok((Words { table }, seat))
     }
 
@@ -84,10 +97,10 @@ impl Words {
         self.table.shared.split_seat::<Reader>(seat)
     }
 
-    /// A seat that keeps the tail in the place of this one.
+    /// A seat that keeps the anchor in the place of this one.
     pub fn keeper(&self, seat: &mut WordSeat) -> WordSeat
         requires { IsOf self.now.table.shared.table_id seat.old × (seat.old.me.0.keeps ≡ true) }
-        ensures same { (seat.new.table_id ≡ seat.old.table_id) × (seat.new.me ≡ (record seat.old.me.0 { keeps = false; kept = 0 }, seat.old.me.1)) }
+        ensures same { (seat.new.table_id ≡ seat.old.table_id) × (seat.new.me ≡ (record seat.old.me.0 { keeps = false; kept = (0, 0) }, seat.old.me.1)) }
         ensures new { IsOf self.now.table.shared.table_id result × (result.me ≡ (keeper seat.old.me.0.seen seat.old.me.0.kept, [])) }
     {
         self.table.shared.split_seat::<Keeper>(seat)
@@ -106,45 +119,55 @@ impl Words {
         self.table.shared.load::<Look>(teller, DURABLE);
     }
 
-    // The seat that tells takes over what the one that keeps has seen, and the tail; it is shown that the two tails are one.
-    fn take_tail(&self, teller: &mut WordSeat, seat: &mut WordSeat)
+    // The seat that tells takes over what the one that keeps has seen, and the anchor; it is shown that the two anchors are one.
+    fn take_anchor(&self, teller: &mut WordSeat, seat: &mut WordSeat)
         requires teller { IsOf self.now.table.shared.table_id teller.old × (teller.old.me.0.tells ≡ true) }
         requires seat { IsOf self.now.table.shared.table_id seat.old × (seat.old.me.0.keeps ≡ true) }
         ensures same { (seat.new.table_id ≡ seat.old.table_id) × (teller.new.table_id ≡ teller.old.table_id) }
-        ensures teller { teller.new.me ≡ (record teller.old.me.0 { seen = teller.old.me.0.told; keeps = true; kept = teller.old.me.0.tail }, teller.old.me.1) }
+        ensures teller { teller.new.me ≡ (record teller.old.me.0 { seen = teller.old.me.0.told; keeps = true; kept = teller.old.me.0.anchor }, teller.old.me.1) }
         ensures seen { (seat.old.me.0.seen ≤ teller.old.me.0.told) × (teller.old.me.0.seen ≤ teller.old.me.0.told) }
-        ensures one { seat.old.me.0.kept ≡ teller.old.me.0.tail }
+        ensures one { seat.old.me.0.kept ≡ teller.old.me.0.anchor }
     {
         let right = self.keeper(seat);
         self.table.shared.join_seat::<Take>(teller, right);
         self.table.shared.load::<Look>(teller, DURABLE);
         self.table.shared.load::<Tail>(teller, TAIL);
+        self.table.shared.load::<Checkpoint>(teller, CHECKPOINT);
     }
 
-    /// Shows that the seat that keeps has the tail that the one that tells knows, and that what it has seen was told; it has then seen all that was told.
+    /// Shows that the seat that keeps has the anchor that the one that tells knows, and that what it has seen was told; it has then seen all that was told.
     pub fn meet(&self, teller: &mut WordSeat, seat: &mut WordSeat)
         requires teller { IsOf self.now.table.shared.table_id teller.old × (teller.old.me.0.tells ≡ true) }
         requires seat { IsOf self.now.table.shared.table_id seat.old × (seat.old.me.0.keeps ≡ true) }
-        ensures teller { (teller.new.table_id ≡ teller.old.table_id) × (teller.new.me ≡ (record teller.old.me.0 { seen = teller.old.me.0.told; keeps = false; kept = 0 }, teller.old.me.1)) }
-        ensures seat { IsOf self.now.table.shared.table_id seat.new × (seat.new.me ≡ (keeper teller.old.me.0.told teller.old.me.0.tail, [])) }
+        ensures teller { (teller.new.table_id ≡ teller.old.table_id) × (teller.new.me ≡ (record teller.old.me.0 { seen = teller.old.me.0.told; keeps = false; kept = (0, 0) }, teller.old.me.1)) }
+        ensures seat { IsOf self.now.table.shared.table_id seat.new × (seat.new.me ≡ (keeper teller.old.me.0.told teller.old.me.0.anchor, [])) }
         ensures seen { (seat.old.me.0.seen ≤ teller.old.me.0.told) × (teller.old.me.0.seen ≤ teller.old.me.0.told) }
-        ensures one { seat.old.me.0.kept ≡ teller.old.me.0.tail }
+        ensures one { seat.old.me.0.kept ≡ teller.old.me.0.anchor }
     {
-        self.take_tail(teller, seat);
+        self.take_anchor(teller, seat);
         *seat = self.keeper(teller);
     }
 
-    /// Moves the tail, where the seat that tells and the one that keeps are.
-    pub fn move_tail(&self, teller: &mut WordSeat, seat: &mut WordSeat, tail: u64)
+    /// Moves the anchor, where the seat that tells and the one that keeps are.
+    pub fn move_anchor(
+        &self,
+        teller: &mut WordSeat,
+        seat: &mut WordSeat,
+        checkpoint: u64,
+        tail: u64,
+    )
         requires teller { IsOf self.now.table.shared.table_id teller.old × (teller.old.me.0.tells ≡ true) }
         requires seat { IsOf self.now.table.shared.table_id seat.old × (seat.old.me.0.keeps ≡ true) }
-        ensures teller { (teller.new.table_id ≡ teller.old.table_id) × (teller.new.me ≡ (record teller.old.me.0 { seen = teller.old.me.0.told; tail = tail; keeps = false; kept = 0 }, teller.old.me.1)) }
-        ensures seat { IsOf self.now.table.shared.table_id seat.new × (seat.new.me ≡ (keeper teller.old.me.0.told tail, [])) }
+        ensures teller { (teller.new.table_id ≡ teller.old.table_id) × (teller.new.me ≡ (record teller.old.me.0 { seen = teller.old.me.0.told; anchor = (checkpoint, tail); keeps = false; kept = (0, 0) }, teller.old.me.1)) }
+        ensures seat { IsOf self.now.table.shared.table_id seat.new × (seat.new.me ≡ (keeper teller.old.me.0.told (checkpoint, tail), [])) }
         ensures seen { (seat.old.me.0.seen ≤ teller.old.me.0.told) × (teller.old.me.0.seen ≤ teller.old.me.0.told) }
-        ensures one { seat.old.me.0.kept ≡ teller.old.me.0.tail }
+        ensures one { seat.old.me.0.kept ≡ teller.old.me.0.anchor }
     {
-        self.take_tail(teller, seat);
-        self.table.shared.store::<Move>(teller, TAIL, tail);
+        self.take_anchor(teller, seat);
+        self.table.shared.store::<MoveTail>(teller, TAIL, tail);
+        self.table
+            .shared
+            .store::<MoveCheckpoint>(teller, CHECKPOINT, checkpoint);
         *seat = self.keeper(teller);
     }
 }

@@ -3,4 +3,4 @@ use Rattle.shore_words.proofs.Keeps.{opens}
 use Rattle.shore_words.proofs.words.Words.new.Goals as goal
 
 pub of_words-requires : goal.of_words-requires
-of_words-requires c = opens _ _ _ (omega arith)
+of_words-requires c = opens _ _ _ _ (omega arith)
