@@ -15,8 +15,8 @@ use Rattle.shore_types.specs.Names.{device_name}
 use Rattle.shore_script.specs.declared.command.Command.{Command}
 use Rattle.shore_script.specs.declared.command.Command.TheVariants as command
 use Rattle.shore_script.specs.Bytes.{IsPairs, SpellsBytes}
-use Rattle.shore_script.specs.Ids.{IsGranule, IsNumber, IsRecord}
-use Rattle.shore_script.specs.Words.{AskCall, AskCrash, AskPlain, HasOne, HasTwo, IsAlone, outcome_word, pick_word}
+use Rattle.shore_script.specs.Ids.{IsCount, IsGranule, IsNumber, IsRecord}
+use Rattle.shore_script.specs.Words.{AskCall, AskCrash, AskPlain, HasOne, HasThree, HasTwo, IsAlone, outcome_word, pick_word}
 use Rattle.shore_script.proofs.Cuts.{Lacks, Lacks-append, Lacks-cons}
 use Rattle.shore_script.proofs.Digits.{decimal-Lacks}
 use Rattle.shore_script.proofs.Hexes.{encoded-lacks}
@@ -51,10 +51,51 @@ two-spaceless (first ∷ second ∷ []) word P Q h lacks also = absurd h
 two-spaceless (first ∷ second ∷ third ∷ []) word P Q h lacks also = record { few = omega arith; first = subst (Lacks 32) (sym h.0) lacks; second = also second h.1 }
 two-spaceless (first ∷ second ∷ third ∷ fourth ∷ words) word P Q h lacks also = absurd h
 
+-- .. or four, of which the third has none either
+pub record AreFour (words : List (List ℕ)) : Type 0 where
+  pub few : length words ≤ 4
+  pub first : Lacks 32 (word_at words 0)
+  pub second : Lacks 32 (word_at words 1)
+  pub third : Lacks 32 (word_at words 2)
+
+alone-four : (words : List (List ℕ)) (word : List ℕ) → IsAlone words word → Lacks 32 word → AreFour words
+alone-four [] word h lacks = absurd h
+alone-four (first ∷ []) word h lacks = record { few = omega arith; first = subst (Lacks 32) (sym h) lacks; second = refl; third = refl }
+alone-four (first ∷ second ∷ words) word h lacks = absurd h
+
+one-four : (words : List (List ℕ)) (word : List ℕ) (P : List ℕ → Type 0) → HasOne words word P → Lacks 32 word → ((w : List ℕ) → P w → Lacks 32 w) → AreFour words
+one-four [] word P h lacks also = absurd h
+one-four (first ∷ []) word P h lacks also = absurd h
+one-four (first ∷ second ∷ []) word P h lacks also =
+    record { few = omega arith; first = subst (Lacks 32) (sym h.0) lacks; second = also second h.1; third = refl }
+one-four (first ∷ second ∷ third ∷ words) word P h lacks also = absurd h
+
+two-four : (words : List (List ℕ)) (word : List ℕ) (P Q : List ℕ → Type 0) → HasTwo words word P Q → Lacks 32 word → ((w : List ℕ) → P w → Lacks 32 w) → ((w : List ℕ) → Q w → Lacks 32 w)
+    → AreFour words
+two-four [] word P Q h lacks also more = absurd h
+two-four (first ∷ []) word P Q h lacks also more = absurd h
+two-four (first ∷ second ∷ []) word P Q h lacks also more = absurd h
+two-four (first ∷ second ∷ third ∷ []) word P Q h lacks also more =
+    record { few = omega arith; first = subst (Lacks 32) (sym h.0) lacks; second = also second h.1; third = more third h.2 }
+two-four (first ∷ second ∷ third ∷ fourth ∷ words) word P Q h lacks also more = absurd h
+
+three-four : (words : List (List ℕ)) (word : List ℕ) (P Q R : List ℕ → Type 0) → HasThree words word P Q R → Lacks 32 word
+    → ((w : List ℕ) → P w → Lacks 32 w) → ((w : List ℕ) → Q w → Lacks 32 w) → AreFour words
+three-four [] word P Q R h lacks also more = absurd h
+three-four (first ∷ []) word P Q R h lacks also more = absurd h
+three-four (first ∷ second ∷ []) word P Q R h lacks also more = absurd h
+three-four (first ∷ second ∷ third ∷ []) word P Q R h lacks also more = absurd h
+three-four (first ∷ second ∷ third ∷ fourth ∷ []) word P Q R h lacks also more =
+    record { few = omega arith; first = subst (Lacks 32) (sym h.0) lacks; second = also second h.1; third = more third h.2 }
+three-four (first ∷ second ∷ third ∷ fourth ∷ fifth ∷ words) word P Q R h lacks also more = absurd h
+
 -- ---- each kind of word
 
 number-lacks : (limit : ℕ) → limit ≤ 2 ^ 64 → (n : ℕ) (word : List ℕ) → IsNumber limit word n → Lacks 32 word
 number-lacks limit low n word h = subst (Lacks 32) (sym h.0) (decimal-Lacks 32 n (omega (arith, low, h.1)) (omega arith))
+
+count-lacks : (most : ℕ) → most < 2 ^ 64 → (n : ℕ) (word : List ℕ) → IsCount most word n → Lacks 32 word
+count-lacks most low n word h = subst (Lacks 32) (sym h.0) (decimal-Lacks 32 n (omega (arith, low, h.2)) (omega arith))
 
 short-lacks : (n : ℕ) → n < 2 ^ 32 → Lacks 32 (decimal n)
 short-lacks n small = decimal-Lacks 32 n (omega arith) (omega arith)
@@ -110,26 +151,28 @@ AskCall-spaceless words (call.Prepare global) h = one-spaceless words (codes "pr
 AskCall-spaceless words (call.Resolve global outcome) h = two-spaceless words (codes "resolve") _ _ h refl (pairs-lacks global)
 AskCall-spaceless words call.InDoubt h = alone-spaceless words (codes "indoubt") h refl
 
-AskCrash-spaceless : (words : List (List ℕ)) (p : Option Pick) → AskCrash words p → AreSpaceless words
-AskCrash-spaceless words None h = alone-spaceless words (codes "crash") h refl
-AskCrash-spaceless words (Some p) h = one-spaceless words (codes "crash") _ h refl (pick-lacks p)
+AskCrash-four : (words : List (List ℕ)) (p : Option Pick) → AskCrash words p → AreFour words
+AskCrash-four words None h = alone-four words (codes "crash") h refl
+AskCrash-four words (Some p) h = one-four words (codes "crash") _ h refl (pick-lacks p)
 
-pub AskPlain-spaceless : (words : List (List ℕ)) (x : Command) → AskPlain words x → AreSpaceless words
-AskPlain-spaceless words (command.Ask session call) h = absurd h
-AskPlain-spaceless words (command.Lazy session) h = absurd h
-AskPlain-spaceless words (command.Durable ticket) h = one-spaceless words (codes "durable") _ h refl (number-lacks (2 ^ 64) (omega arith) ticket)
-AskPlain-spaceless words command.Nothing h = absurd h
-AskPlain-spaceless words command.Force h = alone-spaceless words (codes "force") h refl
-AskPlain-spaceless words command.Flush h = alone-spaceless words (codes "flush") h refl
-AskPlain-spaceless words command.BeginCheckpoint h = one-spaceless words (codes "checkpoint") _ h refl (word-lacks (codes "begin") refl)
-AskPlain-spaceless words command.EndCheckpoint h = one-spaceless words (codes "checkpoint") _ h refl (word-lacks (codes "end") refl)
-AskPlain-spaceless words command.Checkpoint h = alone-spaceless words (codes "checkpoint") h refl
-AskPlain-spaceless words (command.Crash pick) h = AskCrash-spaceless words pick h
-AskPlain-spaceless words (command.Fuse fuse) h = two-spaceless words (codes "fuse") _ _ h refl (device-lacks fuse.device)
-AskPlain-spaceless words (command.NextFuse fuse) h = two-spaceless words (codes "nextfuse") _ _ h refl (device-lacks fuse.device)
-AskPlain-spaceless words command.Dump h = alone-spaceless words (codes "dump") h refl
-AskPlain-spaceless words command.Log h = alone-spaceless words (codes "log") h refl
-AskPlain-spaceless words command.Locks h = alone-spaceless words (codes "locks") h refl
+pub AskPlain-four : (words : List (List ℕ)) (x : Command) → AskPlain words x → AreFour words
+AskPlain-four words (command.Ask session call) h = absurd h
+AskPlain-four words (command.Lazy session) h = absurd h
+AskPlain-four words (command.Durable ticket) h = one-four words (codes "durable") _ h refl (number-lacks (2 ^ 64) (omega arith) ticket)
+AskPlain-four words command.Nothing h = absurd h
+AskPlain-four words command.Force h = alone-four words (codes "force") h refl
+AskPlain-four words command.Flush h = alone-four words (codes "flush") h refl
+AskPlain-four words command.BeginCheckpoint h = one-four words (codes "checkpoint") _ h refl (word-lacks (codes "begin") refl)
+AskPlain-four words command.EndCheckpoint h = one-four words (codes "checkpoint") _ h refl (word-lacks (codes "end") refl)
+AskPlain-four words command.Checkpoint h = alone-four words (codes "checkpoint") h refl
+AskPlain-four words (command.Crash pick) h = AskCrash-four words pick h
+AskPlain-four words (command.Fuse fuse) h = two-four words (codes "fuse") _ _ h refl (device-lacks fuse.device) (number-lacks (2 ^ 64) (omega arith) fuse.calls)
+AskPlain-four words (command.NextFuse fuse) h = two-four words (codes "nextfuse") _ _ h refl (device-lacks fuse.device) (number-lacks (2 ^ 64) (omega arith) fuse.calls)
+AskPlain-four words command.Dump h = alone-four words (codes "dump") h refl
+AskPlain-four words command.Log h = alone-four words (codes "log") h refl
+AskPlain-four words command.Locks h = alone-four words (codes "locks") h refl
+AskPlain-four words (command.Threads counting) h =
+    three-four words (codes "threads") _ _ _ h refl (count-lacks 16 (omega arith) counting.threads) (count-lacks 1000 (omega arith) counting.rounds)
 
 -- ---- the word of what is no call begins with a letter
 
@@ -151,6 +194,13 @@ two-letter first (second ∷ []) word P Q e h = absurd e
 two-letter first (second ∷ third ∷ []) word P Q e h = letter first word e.0 h
 two-letter first (second ∷ third ∷ fourth ∷ words) word P Q e h = absurd e
 
+three-letter : (first : List ℕ) (others : List (List ℕ)) (word : List ℕ) (P Q R : List ℕ → Type 0) → HasThree (first ∷ others) word P Q R → 97 ≤ get_or word 0 0 → 97 ≤ get_or first 0 0
+three-letter first [] word P Q R e h = absurd e
+three-letter first (second ∷ []) word P Q R e h = absurd e
+three-letter first (second ∷ third ∷ []) word P Q R e h = absurd e
+three-letter first (second ∷ third ∷ fourth ∷ []) word P Q R e h = letter first word e.0 h
+three-letter first (second ∷ third ∷ fourth ∷ fifth ∷ words) word P Q R e h = absurd e
+
 crash-letter : (first : List ℕ) (others : List (List ℕ)) (p : Option Pick) → AskCrash (first ∷ others) p → 97 ≤ get_or first 0 0
 crash-letter first others None h = alone-letter first others (codes "crash") h (omega arith)
 crash-letter first others (Some p) h = one-letter first others (codes "crash") _ h (omega arith)
@@ -171,6 +221,7 @@ AskPlain-letter first others (command.NextFuse fuse) h = two-letter first others
 AskPlain-letter first others command.Dump h = alone-letter first others (codes "dump") h (omega arith)
 AskPlain-letter first others command.Log h = alone-letter first others (codes "log") h (omega arith)
 AskPlain-letter first others command.Locks h = alone-letter first others (codes "locks") h (omega arith)
+AskPlain-letter first others (command.Threads counting) h = three-letter first others (codes "threads") _ _ _ h (omega arith)
 
 -- ---- bytes that no word spells
 

@@ -4,6 +4,7 @@ use Rattle.std.specs.Prelude.{IfOk}
 use Rattle.std.specs.Fmt.{decimal}
 use Rattle.std.specs.Str.{IsUtf8}
 use Rattle.std.proofs.lemmas.Fmt.{decimal_nonempty}
+use Rattle.shore_model.specs.declared.calls.Call.{Call}
 use Rattle.shore_script.specs.declared.command.Command.{Command}
 use Rattle.shore_script.specs.declared.command.Command.TheVariants as command
 use Rattle.shore_script.specs.declared.lines.TheConstants.{MAX_LINE_BYTES}
@@ -13,9 +14,11 @@ use Rattle.shore_script.specs.Reading.{Reads}
 use Rattle.shore_script.specs.Words.{AskCall, AskPlain, spaced}
 use Rattle.shore_script.proofs.Cuts.{Lacks, cut_once, holds_cut}
 use Rattle.shore_script.proofs.Digits.{decimal-Lacks, decimal-first}
-use Rattle.shore_script.proofs.Spaceless.{AreSpaceless, AskPlain-letter}
+use Rattle.shore_script.proofs.Spaceless.{AreFour, AskCall-spaceless, AskPlain-four, AskPlain-letter, word_at}
 
-module _ {X : Type 0} (P : List (List ℕ) → X → Type 0) (spaceless : (words : List (List ℕ)) (x : X) → P words x → AreSpaceless words) where
+-- in words that are in the relation neither the first nor the second has a space
+module _ {X : Type 0} (P : List (List ℕ) → X → Type 0) (no_first : (words : List (List ℕ)) (x : X) → P words x → Lacks 32 (word_at words 0))
+    (no_second : (words : List (List ℕ)) (x : X) → P words x → Lacks 32 (word_at words 1)) where
   one-none : (text : List ℕ) → Lacks 32 text → ((x : X) → ¬ (P (text ∷ []) x)) → (x : X) (first : List ℕ) (others : List (List ℕ)) → text ≡ spaced first others → P (first ∷ others) x → ⊥
   one-none text lacks none x first [] e h = none x (subst (λ (t : List ℕ). P (t ∷ []) x) (sym e) h)
   one-none text lacks none x first (next ∷ others) e h = holds_cut 32 first (spaced next others) (subst (Lacks 32) e lacks)
@@ -27,14 +30,14 @@ module _ {X : Type 0} (P : List (List ℕ) → X → Type 0) (spaceless : (words
   two-none : (text word rest : List ℕ) → text ≡ word ++ (32 ∷ rest) → Lacks 32 word → Lacks 32 rest → ((x : X) → ¬ (P (word ∷ rest ∷ []) x))
       → (x : X) (first : List ℕ) (others : List (List ℕ)) → text ≡ spaced first others → P (first ∷ others) x → ⊥
   two-none text word rest c lacks also none x first [] e h =
-      holds_cut 32 word rest (subst (Lacks 32) (sym e ∙ c) (spaceless (first ∷ []) x h).first)
+      holds_cut 32 word rest (subst (Lacks 32) (sym e ∙ c) (no_first (first ∷ []) x h))
   two-none text word rest c lacks also none x first (next ∷ []) e h =
-      let cut = cut_once 32 word rest first next lacks (spaceless (first ∷ next ∷ []) x h).first (sym c ∙ e) in
+      let cut = cut_once 32 word rest first next lacks (no_first (first ∷ next ∷ []) x h) (sym c ∙ e) in
       let Q : List (List ℕ) → Type 0 = λ l. P l x in
       let same : first ∷ next ∷ [] ≡ word ∷ rest ∷ [] = rw (cut.0, cut.1) refl in
       none x (subst Q same h)
   two-none text word rest c lacks also none x first (next ∷ more ∷ others) e h =
-      let cut = cut_once 32 word rest first (spaced next (more ∷ others)) lacks (spaceless (first ∷ next ∷ more ∷ others) x h).first (sym c ∙ e) in
+      let cut = cut_once 32 word rest first (spaced next (more ∷ others)) lacks (no_first (first ∷ next ∷ more ∷ others) x h) (sym c ∙ e) in
       holds_cut 32 next (spaced more others) (subst (Lacks 32) cut.1 also)
 
   pub two_words : (text word rest : List ℕ) → text ≡ word ++ (32 ∷ rest) → Lacks 32 word → Lacks 32 rest → (found : Option X) → Reads (P (word ∷ rest ∷ [])) found → Reads (InWords P text) found
@@ -42,28 +45,79 @@ module _ {X : Type 0} (P : List (List ℕ) → X → Type 0) (spaceless : (words
   two_words text word rest c lacks also (Some x) h = (word, rest ∷ [], c, h)
 
   three-none : (text word rest second third : List ℕ) → text ≡ word ++ (32 ∷ rest) → Lacks 32 word → rest ≡ second ++ (32 ∷ third) → Lacks 32 second
+      → ((first next last more : List ℕ) (others : List (List ℕ)) (x : X) → P (first ∷ next ∷ last ∷ more ∷ others) x → third ≡ last ++ (32 ∷ spaced more others) → ⊥)
       → ((x : X) → ¬ (P (word ∷ second ∷ third ∷ []) x)) → (x : X) (first : List ℕ) (others : List (List ℕ)) → text ≡ spaced first others → P (first ∷ others) x → ⊥
-  three-none text word rest second third c lacks d also none x first [] e h =
-      holds_cut 32 word rest (subst (Lacks 32) (sym e ∙ c) (spaceless (first ∷ []) x h).first)
-  three-none text word rest second third c lacks d also none x first (next ∷ []) e h =
-      let s = spaceless (first ∷ next ∷ []) x h in
-      let cut = cut_once 32 word rest first next lacks s.first (sym c ∙ e) in
-      holds_cut 32 second third (subst (Lacks 32) (sym cut.1 ∙ d) s.second)
-  three-none text word rest second third c lacks d also none x first (next ∷ last ∷ []) e h =
-      let s = spaceless (first ∷ next ∷ last ∷ []) x h in
-      let cut = cut_once 32 word rest first (next ++ (32 ∷ last)) lacks s.first (sym c ∙ e) in
-      let again = cut_once 32 second third next last also s.second (sym d ∙ cut.1) in
+  three-none text word rest second third c lacks d also long none x first [] e h =
+      holds_cut 32 word rest (subst (Lacks 32) (sym e ∙ c) (no_first (first ∷ []) x h))
+  three-none text word rest second third c lacks d also long none x first (next ∷ []) e h =
+      let cut = cut_once 32 word rest first next lacks (no_first (first ∷ next ∷ []) x h) (sym c ∙ e) in
+      holds_cut 32 second third (subst (Lacks 32) (sym cut.1 ∙ d) (no_second (first ∷ next ∷ []) x h))
+  three-none text word rest second third c lacks d also long none x first (next ∷ last ∷ []) e h =
+      let cut = cut_once 32 word rest first (next ++ (32 ∷ last)) lacks (no_first (first ∷ next ∷ last ∷ []) x h) (sym c ∙ e) in
+      let again = cut_once 32 second third next last also (no_second (first ∷ next ∷ last ∷ []) x h) (sym d ∙ cut.1) in
       let Q : List (List ℕ) → Type 0 = λ l. P l x in
       let same : first ∷ next ∷ last ∷ [] ≡ word ∷ second ∷ third ∷ [] = rw (cut.0, again.0, again.1) refl in
       none x (subst Q same h)
-  three-none text word rest second third c lacks d also none x first (next ∷ last ∷ more ∷ others) e h =
-      let s = spaceless (first ∷ next ∷ last ∷ more ∷ others) x h in
-      omega (arith, s.few)
+  three-none text word rest second third c lacks d also long none x first (next ∷ last ∷ more ∷ others) e h =
+      let words : List (List ℕ) = first ∷ next ∷ last ∷ more ∷ others in
+      let cut = cut_once 32 word rest first (spaced next (last ∷ more ∷ others)) lacks (no_first words x h) (sym c ∙ e) in
+      let again = cut_once 32 second third next (spaced last (more ∷ others)) also (no_second words x h) (sym d ∙ cut.1) in
+      long first next last more others x h again.1
 
   pub three_words : (text word rest second third : List ℕ) → text ≡ word ++ (32 ∷ rest) → Lacks 32 word → rest ≡ second ++ (32 ∷ third) → Lacks 32 second
+      → ((first next last more : List ℕ) (others : List (List ℕ)) (x : X) → P (first ∷ next ∷ last ∷ more ∷ others) x → third ≡ last ++ (32 ∷ spaced more others) → ⊥)
       → (found : Option X) → Reads (P (word ∷ second ∷ third ∷ [])) found → Reads (InWords P text) found
-  three_words text word rest second third c lacks d also None none = λ x h. three-none text word rest second third c lacks d also none x h.0 h.1 h.2 h.3
-  three_words text word rest second third c lacks d also (Some x) h = (word, second ∷ third ∷ [], c ∙ ap (λ (r : List ℕ). word ++ (32 ∷ r)) d, h)
+  three_words text word rest second third c lacks d also long None none = λ x h. three-none text word rest second third c lacks d also long none x h.0 h.1 h.2 h.3
+  three_words text word rest second third c lacks d also long (Some x) h = (word, second ∷ third ∷ [], c ∙ ap (λ (r : List ℕ). word ++ (32 ∷ r)) d, h)
+
+-- .. of calls there are three at most
+pub three_of_call : (text word rest second third : List ℕ) → text ≡ word ++ (32 ∷ rest) → Lacks 32 word → rest ≡ second ++ (32 ∷ third) → Lacks 32 second
+    → (found : Option Call) → Reads (AskCall (word ∷ second ∷ third ∷ [])) found → Reads (InWords AskCall text) found
+three_of_call text word rest second third c lacks d also =
+    three_words AskCall (λ words x h. (AskCall-spaceless words x h).first) (λ words x h. (AskCall-spaceless words x h).second) text word rest second third c lacks d also
+    (λ first next last more others x h e. let s = AskCall-spaceless (first ∷ next ∷ last ∷ more ∷ others) x h in omega (arith, s.few))
+
+-- .. of what is no call two
+pub two_of_plain : (text word rest : List ℕ) → text ≡ word ++ (32 ∷ rest) → Lacks 32 word → Lacks 32 rest
+    → (found : Option Command) → Reads (AskPlain (word ∷ rest ∷ [])) found → Reads (InWords AskPlain text) found
+two_of_plain text word rest c lacks also =
+    two_words AskPlain (λ words x h. (AskPlain-four words x h).first) (λ words x h. (AskPlain-four words x h).second) text word rest c lacks also
+
+-- .. or three, if the third has no space
+pub three_of_plain : (text word rest second third : List ℕ) → text ≡ word ++ (32 ∷ rest) → Lacks 32 word → rest ≡ second ++ (32 ∷ third) → Lacks 32 second → Lacks 32 third
+    → (found : Option Command) → Reads (AskPlain (word ∷ second ∷ third ∷ [])) found → Reads (InWords AskPlain text) found
+three_of_plain text word rest second third c lacks d also more =
+    three_words AskPlain (λ words x h. (AskPlain-four words x h).first) (λ words x h. (AskPlain-four words x h).second) text word rest second third c lacks d also
+    (λ first next last after others x h e. holds_cut 32 last (spaced after others) (subst (Lacks 32) e more))
+
+four-none : (text word rest second others third fourth : List ℕ) → text ≡ word ++ (32 ∷ rest) → Lacks 32 word → rest ≡ second ++ (32 ∷ others) → Lacks 32 second
+    → others ≡ third ++ (32 ∷ fourth) → Lacks 32 third → ((x : Command) → ¬ (AskPlain (word ∷ second ∷ third ∷ fourth ∷ []) x))
+    → (x : Command) (first : List ℕ) (more : List (List ℕ)) → text ≡ spaced first more → AskPlain (first ∷ more) x → AreFour (first ∷ more) → ⊥
+four-none text word rest second others third fourth c lacks d also f last_lacks none x first [] e h s =
+    holds_cut 32 word rest (subst (Lacks 32) (sym e ∙ c) s.first)
+four-none text word rest second others third fourth c lacks d also f last_lacks none x first (next ∷ []) e h s =
+    let cut = cut_once 32 word rest first next lacks s.first (sym c ∙ e) in
+    holds_cut 32 second others (subst (Lacks 32) (sym cut.1 ∙ d) s.second)
+four-none text word rest second others third fourth c lacks d also f last_lacks none x first (next ∷ after ∷ []) e h s =
+    let cut = cut_once 32 word rest first (next ++ (32 ∷ after)) lacks s.first (sym c ∙ e) in
+    let again = cut_once 32 second others next after also s.second (sym d ∙ cut.1) in
+    holds_cut 32 third fourth (subst (Lacks 32) (sym again.1 ∙ f) s.third)
+four-none text word rest second others third fourth c lacks d also f last_lacks none x first (next ∷ after ∷ last ∷ []) e h s =
+    let cut = cut_once 32 word rest first (next ++ (32 ∷ (after ++ (32 ∷ last)))) lacks s.first (sym c ∙ e) in
+    let again = cut_once 32 second others next (after ++ (32 ∷ last)) also s.second (sym d ∙ cut.1) in
+    let third_cut = cut_once 32 third fourth after last last_lacks s.third (sym f ∙ again.1) in
+    let Q : List (List ℕ) → Type 0 = λ l. AskPlain l x in
+    let same : first ∷ next ∷ after ∷ last ∷ [] ≡ word ∷ second ∷ third ∷ fourth ∷ [] = rw (cut.0, again.0, third_cut.0, third_cut.1) refl in
+    none x (subst Q same h)
+four-none text word rest second others third fourth c lacks d also f last_lacks none x first (next ∷ after ∷ last ∷ too_many ∷ more) e h s = omega (arith, s.few)
+
+-- .. and four
+pub four_of_plain : (text word rest second others third fourth : List ℕ) → text ≡ word ++ (32 ∷ rest) → Lacks 32 word → rest ≡ second ++ (32 ∷ others) → Lacks 32 second
+    → others ≡ third ++ (32 ∷ fourth) → Lacks 32 third → (found : Option Command) → Reads (AskPlain (word ∷ second ∷ third ∷ fourth ∷ [])) found → Reads (InWords AskPlain text) found
+four_of_plain text word rest second others third fourth c lacks d also f more None none =
+    λ x h. four-none text word rest second others third fourth c lacks d also f more none x h.0 h.1 h.2 h.3 (AskPlain-four (h.0 ∷ h.1) x h.3)
+four_of_plain text word rest second others third fourth c lacks d also f more (Some x) h =
+    (word, second ∷ third ∷ fourth ∷ [], c ∙ ap (λ (r : List ℕ). word ++ (32 ∷ r)) (d ∙ ap (λ (r : List ℕ). second ++ (32 ∷ r)) f), h)
 
 -- what holds of what is found, if a call fails for want of memory alone
 pub on_ok : {X E : Type 0} (P Q : X → Type 0) → ((x : X) → P x → Q x) → (r : Result X E) → IfOk r P → IfOk r Q

@@ -20,3 +20,4 @@ IsServedCommand (command.NextFuse fuse) = Unit {0}
 IsServedCommand command.Dump = Unit {0}
 IsServedCommand command.Log = Unit {0}
 IsServedCommand command.Locks = Unit {0}
+IsServedCommand (command.Threads counting) = Unit {0}

@@ -12,8 +12,12 @@ use Rattle.shore_types.specs.declared.locking.Granule.TheVariants as granule
 abbrev pub IsNumber : ℕ → List ℕ → ℕ → Type 0
 IsNumber limit word number = (word ≡ decimal number) × (number < limit)
 
+-- .. of a number from 1 to the most
+abbrev pub IsCount : ℕ → List ℕ → ℕ → Type 0
+IsCount most word number = (word ≡ decimal number) × (1 ≤ number) × (number ≤ most)
+
 abbrev pub IsSession : List ℕ → ℕ → Type 0
-IsSession word session = (word ≡ decimal session) × (1 ≤ session) × (session ≤ MOST_SESSIONS)
+IsSession word session = IsCount MOST_SESSIONS word session
 
 -- as `0.1`
 abbrev pub IsPage : List ℕ → PageId → Type 0

@@ -92,6 +92,10 @@ checkpoint_begun_line number = codes "checkpoint begun " ++ (decimal number ++ l
 abbrev pub checkpoint_line : ℕ → ℕ → List ℕ
 checkpoint_line begin tail = codes "checkpoint " ++ (decimal begin ++ (codes " tail " ++ (decimal tail ++ line_end)))
 
+-- threads have counted a record up so often
+abbrev pub threads_line : ℕ → List ℕ
+threads_line total = codes "threads " ++ (decimal total ++ line_end)
+
 -- a fault of a session's call, or of another line
 abbrev pub fault_line : Option ℕ → Fault → List ℕ
 fault_line None fault = codes "fault " ++ (text_of fault ++ line_end)

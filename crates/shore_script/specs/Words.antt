@@ -8,9 +8,10 @@ use Rattle.shore_model.specs.declared.calls.Outcome.{Outcome}
 use Rattle.shore_model.specs.declared.calls.Outcome.TheVariants as outcome
 use Rattle.shore_types.specs.Names.{device_name, mode_name}
 use Rattle.shore_script.specs.Bytes.{IsPairs, SpellsBytes}
-use Rattle.shore_script.specs.Ids.{IsNumber, IsRecord, IsGranule}
+use Rattle.shore_script.specs.Ids.{IsCount, IsNumber, IsRecord, IsGranule}
 use Rattle.shore_script.specs.declared.command.Command.{Command}
 use Rattle.shore_script.specs.declared.command.Command.TheVariants as command
+use Rattle.shore_script.specs.declared.words.TheConstants.{MOST_ROUNDS, MOST_THREADS}
 
 -- one space between two words
 abbrev pub spaced : List ℕ → List (List ℕ) → List ℕ
@@ -37,6 +38,15 @@ HasTwo (first ∷ []) word P Q = ⊥
 HasTwo (first ∷ second ∷ []) word P Q = ⊥
 HasTwo (first ∷ second ∷ third ∷ []) word P Q = (first ≡ word) × P second × Q third
 HasTwo (first ∷ second ∷ third ∷ fourth ∷ words) word P Q = ⊥
+
+-- this word, and behind it three, each in its relation
+abbrev pub HasThree : List (List ℕ) → List ℕ → (List ℕ → Type 0) → (List ℕ → Type 0) → (List ℕ → Type 0) → Type 0
+HasThree [] word P Q R = ⊥
+HasThree (first ∷ []) word P Q R = ⊥
+HasThree (first ∷ second ∷ []) word P Q R = ⊥
+HasThree (first ∷ second ∷ third ∷ []) word P Q R = ⊥
+HasThree (first ∷ second ∷ third ∷ fourth ∷ []) word P Q R = (first ≡ word) × P second × Q third × R fourth
+HasThree (first ∷ second ∷ third ∷ fourth ∷ fifth ∷ words) word P Q R = ⊥
 
 abbrev pub outcome_word : Outcome → List ℕ
 outcome_word outcome.Commit = codes "commit"
@@ -88,3 +98,5 @@ AskPlain words (command.NextFuse fuse) = HasTwo words (codes "nextfuse") (λ wor
 AskPlain words command.Dump = IsAlone words (codes "dump")
 AskPlain words command.Log = IsAlone words (codes "log")
 AskPlain words command.Locks = IsAlone words (codes "locks")
+AskPlain words (command.Threads counting) = HasThree words (codes "threads")
+    (λ word. IsCount MOST_THREADS word counting.threads) (λ word. IsCount MOST_ROUNDS word counting.rounds) (λ word. IsRecord word counting.record)

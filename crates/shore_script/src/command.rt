@@ -7,6 +7,7 @@ ghost use Rattle.shore_script.specs.Reading.{Reads};
 ghost use Rattle.shore_script.specs.Words.{AskCall, AskPlain, outcome_word, pick_word};
 ghost use Rattle.shore_types.specs.Names.{device_name};
 
+use crate::counting::Counting;
 use crate::fuses::Fuse;
 use crate::lines::MAX_LINE_BYTES;
 use crate::words;
@@ -48,6 +49,8 @@ pub enum Command {
     Log,
     /// Every lock, held or waited for.
     Locks,
+    /// Threads, each with a session of its own, count a record up.
+    Threads(Counting),
 }
 
 /// What a line asks for. `Ok(None)`: it is too long, no UTF-8 or no line of the script.
@@ -117,7 +120,10 @@ fn plain_command(text: &str) -> Option<Command>
 {
     match text.split_once(' ') {
         Some((word, rest)) => match rest.split_once(' ') {
-            Some((device, calls)) => fuse_command(word, device, calls),
+            Some((first, others)) => match others.split_once(' ') {
+                Some((second, third)) => command_with_three(word, first, second, third),
+                None => fuse_command(word, first, others),
+            },
             None => command_with_one(word, rest),
         },
         None => command_of_a_word(text),
@@ -174,6 +180,20 @@ fn fuse_command(word: &str, device: &str, calls: &str) -> Option<Command>
     match word {
         "fuse" => Some(Command::Fuse(fuse)),
         "nextfuse" => Some(Command::NextFuse(fuse)),
+        _ => None,
+    }
+}
+
+fn command_with_three(word: &str, first: &str, second: &str, third: &str) -> Option<Command>
+    ensures served { IfSome result IsServedCommand }
+    ensures asks { Reads (AskPlain (word.now ∷ first.now ∷ second.now ∷ third.now ∷ [])) result }
+{
+    match word {
+        "threads" => Some(Command::Threads(Counting {
+            threads: words::threads(first)?,
+            rounds: words::rounds(second)?,
+            record: words::record(third)?,
+        })),
         _ => None,
     }
 }

@@ -3,6 +3,7 @@
 #![tactic(auto)]
 
 mod command;
+mod counting;
 mod fuses;
 pub mod laws;
 mod lines;
@@ -12,6 +13,7 @@ mod stop;
 mod words;
 
 pub use command::{Command, read_line};
+pub use counting::Counting;
 pub use fuses::{Fuse, Fuses};
 pub use lines::Lines;
 pub use settings::{Devices, FilePair, Settings, read_settings};

@@ -2,7 +2,7 @@
 ghost use Rattle.std.specs.Prelude.{◌≡◌, ◌≤◌, ◌+◌, ◌^◌, ◌-◌, IfOk, OnOk, length, min, slice_get};
 ghost use Rattle.std.specs.Io.KnownBytes.{Appends};
 ghost use Rattle.hex.specs.Hex.{encode_lower};
-ghost use Rattle.shore_script.specs.Texts.{answer_line, answer_text, bytes_text, checkpoint_begun_line, checkpoint_line, committed_line, doubt_line, durable_line, doubt_lines, fault_line, kind_text, lock_line, log_line, log_lines, open_fault_line, record_line, record_lines, some_record_line, waits_line};
+ghost use Rattle.shore_script.specs.Texts.{answer_line, answer_text, bytes_text, checkpoint_begun_line, checkpoint_line, committed_line, doubt_line, durable_line, doubt_lines, fault_line, kind_text, lock_line, log_line, log_lines, open_fault_line, record_line, record_lines, some_record_line, threads_line, waits_line};
 ghost use Rattle.shore_script.specs.declared.render.TheConstants.{PART};
 
 use shore_model::{Answer, LogRecord, Payload, Request};
@@ -44,6 +44,13 @@ pub fn durable<W: Write>(out: &mut W, is_durable: bool) -> io::Result<()>
         true => out.write_all(b"durable yes\n"),
         false => out.write_all(b"durable no\n"),
     }
+}
+
+/// Writes the line of threads that have all counted a record up: how often, together.
+pub fn threads<W: Write>(out: &mut W, total: u64) -> io::Result<()>
+    ensures { OnOk result (Appends (W.contents out.old) (W.contents out.new) (threads_line total)) }
+{
+    writeln!(out, "threads {total}")
 }
 
 /// Writes the line of a checkpoint that has begun, with the number of its begin.

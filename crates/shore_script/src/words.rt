@@ -2,7 +2,7 @@
 ghost use Rattle.std.specs.Prelude.{◌≡◌, ◌^◌, IfOk};
 ghost use Rattle.std.specs.List.{list_any};
 ghost use Rattle.shore_script.specs.Bytes.{AreCopies, IsPair, IsPairs, SpellsBytes, is_upper};
-ghost use Rattle.shore_script.specs.Ids.{IsGranule, IsNumber, IsPage, IsRecord, IsSession};
+ghost use Rattle.shore_script.specs.Ids.{IsCount, IsGranule, IsNumber, IsPage, IsRecord, IsSession};
 ghost use Rattle.shore_script.specs.Reading.{Reads};
 ghost use Rattle.shore_types.specs.Names.{mode_name};
 
@@ -16,6 +16,10 @@ use std::alloc::{AllocError, Global};
 const MOST_COPIES: u64 = 99_999;
 /// The greatest session number.
 const MOST_SESSIONS: u32 = 999;
+/// The most threads of a line.
+const MOST_THREADS: u32 = 16;
+/// The most transactions that each of them makes.
+const MOST_ROUNDS: u32 = 1_000;
 
 /// A decimal number with no sign and no leading zero.
 pub fn number(word: &str) -> Option<u64>
@@ -52,9 +56,30 @@ pub fn ticket(word: &str) -> Option<Ticket>
 pub fn session(word: &str) -> Option<SessionId>
     ensures { Reads (IsSession word.now) result }
 {
-    let id = short_number(word)?;
-    if 1 <= id && id <= MOST_SESSIONS {
-        Some(SessionId(id))
+    Some(SessionId(count(word, MOST_SESSIONS)?))
+}
+
+/// How many threads, 1 to 16.
+pub fn threads(word: &str) -> Option<u32>
+    ensures { Reads (IsCount MOST_THREADS word.now) result }
+{
+    count(word, MOST_THREADS)
+}
+
+/// How many transactions of each, 1 to 1,000.
+pub fn rounds(word: &str) -> Option<u32>
+    ensures { Reads (IsCount MOST_ROUNDS word.now) result }
+{
+    count(word, MOST_ROUNDS)
+}
+
+// A number from 1 to the most.
+fn count(word: &str, most: u32) -> Option<u32>
+    ensures { Reads (IsCount most word.now) result }
+{
+    let number = short_number(word)?;
+    if 1 <= number && number <= most {
+        Some(number)
     } else {
         None
     }
