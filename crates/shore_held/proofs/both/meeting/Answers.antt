@@ -1,0 +1,74 @@
+use Rattle.std.proofs.Common.{◌≡◌, ◌++◌, length, arith, sym, ap, subst, ◌∙◌, append_assoc, length-append}
+use Rattle.std.proofs.Math.Logic.{∥∥₁_map}
+use Rattle.std.proofs.lemmas.List.{length-take-le}
+use Rattle.shore_log.specs.PlainTails.{waiting_in}
+use Rattle.shore_log.specs.Settled.{records_of_log}
+use Rattle.shore_heap.specs.Heaps as heaps
+use Rattle.shore_sessions.specs.Controls.{txns_in}
+use Rattle.shore_txn.specs.Transactions.{room_in}
+use Rattle.shore_held.specs.Comings.{HasComeBy, anchored_at}
+use Rattle.shore_held.specs.Trails.{moves_of}
+use Rattle.shore_held.proofs.Comings.{is_like}
+use Rattle.shore_held.proofs.both.meeting.Goals as goal
+
+-- The core is as it was, and its seat has seen more; it keeps the anchor that it kept, which is the log device's.
+pub invariant_of-core : goal.invariant_of-core
+invariant_of-core g c =
+    let i = c.args.core.now in
+    let p = c.probe.ensures in
+    let met = c.meet.ensures in
+    let kept : c.meet.new.seat.kept ≡ i.seat.kept = ap (λ v. v.kept) met.seat ∙ sym met.one in
+    let sees : c.meet.new.seat.seen ≡ c.held.inside.seat.told = ap (λ v. v.seen) met.seat in
+    record {
+      come_by = λ honest. ∥∥₁_map (i.come_by honest) (λ h. subst (λ a. HasComeBy g.B.Named.cut g.B.Named.before c.probe.new.self i.stage (anchored_at a) (moves_of i.asked.items i.stepped.items)) (sym kept)
+          (is_like g.B.Named.cut g.B.Named.before i.core i.stage (anchored_at i.seat.kept) (moves_of i.asked.items i.stepped.items) h c.probe.new.self p.heap (ap (λ k. (room_in (txns_in k)).stream_bytes) p.control) p.state p.over));
+      layout = ap heaps.geometry_of p.heap ∙ i.layout;
+      ring = omega (arith, ap (λ k. (room_in (txns_in k)).stream_bytes) p.control, i.ring);
+      as_many = i.as_many;
+      keeps = ap (λ v. v.keeps) met.seat;
+      durable_seen = omega (arith, p.durable, i.durable_seen, met.seen, sees);
+      counted = i.counted;
+      parts = i.parts;
+      none_kept = i.none_kept;
+    }
+
+pub returns-clause-begins : goal.returns-clause-begins
+returns-clause-begins g c =
+    let before = g.B.Named.before in
+    let t = c.probe.ensures.tells.1 in
+    let got = ap (λ v. v.got) c.handed_on-pass.ensures.1 in
+    let f = c.held.invariant.3 in
+    let list = ap (λ s. s.list) c.held.view_is in (
+      f.gone,
+      t.0,
+      ap (λ l. before ++ l) (t.1 ∙ ap (λ l. l ++ t.0) got) ∙ sym (append_assoc before _ t.0) ∙ ap (λ l. l ++ t.0) f.parts ∙ append_assoc f.gone _ t.0 ∙ ap (λ l. f.gone ++ (l ++ t.0)) list,
+      sym (ap (λ s. s.cut) c.held.view_is) ∙ f.cut_off,
+    )
+
+pub returns-clause-order : goal.returns-clause-order
+returns-clause-order g c =
+    let i = c.held.invariant in
+    let log = c.held.inside.log in
+    let rs = records_of_log log in
+    let waits = waiting_in c.held.inside.next in
+    let came = c.held.inside.pass.me.view.client.got in
+    let t = c.probe.ensures.tells.1 in
+    let sent = t.1 ∙ ap (λ l. l ++ t.0) (ap (λ v. v.got) c.handed_on-pass.ensures.1) in (
+      omega (arith, ap (λ v. v.seen) c.look-seen.ensures.seen, c.compare.ensures.seen, ap (λ v. v.told) c.meet.ensures.teller, i.8, c.number.ensures, c.durable.ensures),
+      omega (
+        arith,
+        c.last.ensures,
+        ap length c.probe.ensures.tail,
+        i.5,
+        ap length sent,
+        length-append came t.0,
+        ap length i.3.parts,
+        length-append g.B.Named.before came,
+        length-append i.3.gone (rs ++ waits),
+        length-append rs waits,
+        i.3.cut_off,
+        length-take-le log.forced rs log.forced_inside,
+        c.number.ensures,
+        c.durable.ensures,
+      ),
+    )

@@ -1,0 +1,5 @@
+pub mod Comings
+pub mod Labels
+pub mod Logs
+pub mod Trails
+pub mod Worlds

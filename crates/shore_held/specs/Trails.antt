@@ -1,0 +1,38 @@
+-- The trail of a core under its lock: what was asked of it, and what that came to.
+use Rattle.std.specs.Prelude.{◌≡◌, ◌⊎◌, ◌+◌, ℕ, List, [], ◌∷◌, ◌++◌}
+use Rattle.shore_model.specs.declared.step.Step.{Step}
+use Rattle.shore_model.specs.declared.step.Step.TheVariants as made
+use Rattle.laws_calls.specs.Events.{Called, Forced, HasFailed, Resumed}
+use Rattle.shore_world.specs.EventMoves.{OfCheckpoint, OfManager, PlainMove}
+use Rattle.shore_held.specs.declared.asked.Asked.{Asked}
+use Rattle.shore_held.specs.declared.asked.Asked.TheVariants as asked
+
+-- what was asked, by which session, with what it came to, as a move of the manager over plain data
+abbrev pub move_of : Asked → ℕ → Step → PlainMove
+move_of (asked.Call c) session step = OfManager (Called session c step)
+move_of asked.Resume session step = OfManager (Resumed session step)
+move_of (asked.Told n) session step = OfManager (Forced n)
+move_of asked.Checkpoint session step = OfCheckpoint step
+move_of asked.Failed session step = OfManager HasFailed
+
+abbrev pub moves_of : List (Asked × ℕ) → List (Step × ℕ) → List PlainMove
+moves_of [] steps = []
+moves_of (a ∷ others) [] = []
+moves_of (a ∷ others) (step ∷ steps) = move_of a.0 a.1 step.0 ∷ moves_of others steps
+
+-- how many of them are calls and resumes of sessions
+abbrev pub counted : Asked → ℕ
+counted (asked.Call c) = 1
+counted asked.Resume = 1
+counted (asked.Told n) = 0
+counted asked.Checkpoint = 0
+counted asked.Failed = 0
+
+abbrev pub calls_in : List (Asked × ℕ) → ℕ
+calls_in [] = 0
+calls_in (a ∷ others) = counted a.0 + calls_in others
+
+-- A trail, what was asked and what that came to, has gone on by what was learned of the log, if that was more, and then by these.
+abbrev pub GoesOn : List (Asked × ℕ) × List (Step × ℕ) → List (Asked × ℕ) × List (Step × ℕ) → List (Asked × ℕ) → List (Step × ℕ) → Type 0
+GoesOn old new more steps =
+    (new ≡ (old.0 ++ more, old.1 ++ steps)) ⊎ ((n : ℕ) × (new ≡ (old.0 ++ (asked.Told n, 0) ∷ more, old.1 ++ (made.Nothing, 0) ∷ steps)))

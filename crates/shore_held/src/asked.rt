@@ -1,0 +1,16 @@
+//! What is asked of the core.
+use shore_model::Call;
+use shore_types::Lsn;
+
+/// What a session asks, a worker, or the log device tells.
+#[derive(Drop)]
+pub enum Asked {
+    Call(Call),
+    Resume,
+    /// The log is durable up to this number.
+    Told(Lsn),
+    /// The next step of a checkpoint.
+    Checkpoint,
+    /// A device has failed.
+    Failed,
+}

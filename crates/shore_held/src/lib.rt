@@ -1,0 +1,22 @@
+//! What lies under the locks of a manager for threads: the core with its trail under one, the log device with its end of the queue under the other; and what is done with both.
+#![tactic(auto)]
+
+mod asked;
+mod both;
+mod checkpointing;
+mod core_held;
+mod ends;
+mod log_held;
+mod names;
+mod seat;
+mod tape;
+
+pub use asked::Asked;
+pub use both::meeting;
+pub use checkpointing::checkpoint;
+pub use core_held::{ALL_PARTS, CoreHeld};
+pub use ends::Meeting;
+pub use log_held::LogHeld;
+pub use names::Named;
+pub use seat::Seat;
+pub use tape::{Taped, sum_of_answer, sum_of_fault};

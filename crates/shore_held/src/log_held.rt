@@ -1,0 +1,176 @@
+//! What lies under the log device's lock.
+ghost use Rattle.std.specs.Prelude.{◌≡◌, ◌↔◌, ◌≤◌, ◌<◌, ◌+◌, [], ◌++◌, length, ℕ, List, IfErr, IsTrue, OnErr, OnOk, Ok, Err, false, true};
+ghost use Rattle.std.specs.Arc.{arc_value};
+ghost use Rattle.crossbeam_queue.specs.SegTies.{IsSegPassOf};
+ghost use Rattle.shore_types.specs.declared.faults.Fault.TheVariants as Fault;
+ghost use Rattle.shore_types.specs.declared.layout.TheConstants.{LAST_OPENED};
+ghost use Rattle.shore_disk.specs.Device as devices;
+ghost use Rattle.shore_log.specs.PlainTails.{first_of, waiting_in};
+ghost use Rattle.shore_log.specs.Settled.{cut_of_log, records_of_log, stable};
+ghost use Rattle.shore_model.specs.declared.log_records.LogRecord.{LogRecord};
+ghost use Rattle.shore_queue.specs.Queues.{ends};
+ghost use Rattle.shore_held.specs.Logs.{Follows, IsKept, LogState};
+
+use crate::names::Named;
+use crate::seat::Seat;
+use shore_disk::Disk;
+use shore_log::{LogDev, PlainTail};
+use shore_queue::{Channel, Numbers, QueuePass, receive};
+use shore_types::{Fault, Lsn};
+use shore_words::Words;
+use std::alloc::Global;
+use std::marker::{Model, PhantomData};
+use std::sync::{Arc, Wait};
+
+/// The log device with its end of the queue, and the seat that tells how far it is durable.
+#[derive(Drop)]
+pub struct LogHeld<N: Numbers, B: Named, L: Disk> {
+    // The log device.
+    pub(crate) log: LogDev<L>,
+    // The queue, and the end that receives.
+    pub(crate) channel: Arc<Channel<N>, Global>,
+    pub(crate) pass: QueuePass,
+    // What came through the queue and was not taken in yet: an allocation failed.
+    pub(crate) next: PlainTail,
+    // The seat that tells how far the log is durable, and knows the anchor.
+    pub(crate) seat: Seat<B>,
+    // Whether the device has failed.
+    pub(crate) failed: bool,
+    of: PhantomData<B>,
+}
+
+impl<N: Numbers, B: Named, L: Disk> Model for LogHeld<N, B, L> {
+    ghost Value = { LogState };
+
+    ghost view = { λ h. record { anchors = h.log.anchors; cut = cut_of_log h.log; list = records_of_log h.log ++ waiting_in h.next; waits = waiting_in h.next; stable = stable h.log; got = h.pass.me.view.client.got; told = h.seat.told; failed = h.failed } };
+
+    ghost invariant = { λ h. ((arc_value h.channel).queue ≡ B.queue) × IsSegPassOf B.queue h.pass × (h.pass.me.view.client ≡ ends false true [] h.pass.me.view.client.got)
+        × Follows B.cut B.before h.pass.me.view.client.got (cut_of_log h.log) (records_of_log h.log ++ waiting_in h.next)
+        × (first_of h.next ≡ cut_of_log h.log + 1 + length (records_of_log h.log)) × (N.first_number ≡ B.cut + 1 + length B.before)
+        × (h.seat.tells ≡ true) × (h.seat.anchor ≡ (h.log.anchors.anchor.checkpoint, h.log.anchors.anchor.tail)) × (h.seat.told ≤ cut_of_log h.log + length (stable h.log))
+        × (devices.size (L.Disk.history h.log.device) ≡ B.log_bytes)
+        × (B.honest → ∥ IsKept B.geometry B.log_bytes h.log h.failed ∥₁) };
+}
+
+impl<N: Numbers, B: Named, L: Disk> LogHeld<N, B, L> {
+    pub fn new(
+        alloc: Global,
+        log: LogDev<L>,
+        channel: Arc<Channel<N>, Global>,
+        pass: QueuePass,
+        seat: Seat<B>,
+    ) -> LogHeld<N, B, L>
+        requires queue { ((arc_value channel).queue ≡ B.queue) × IsSegPassOf B.queue pass × (pass.me.view.client ≡ ends false true [] []) }
+        requires before { (records_of_log log ≡ B.before) × (cut_of_log log ≡ B.cut) × (N.first_number ≡ B.cut + 1 + length B.before) }
+        requires few { N.first_number ≤ LAST_OPENED }
+        requires seat { (seat.tells ≡ true) × (seat.anchor ≡ (log.anchors.anchor.checkpoint, log.anchors.anchor.tail)) × (seat.told ≤ cut_of_log log + length (stable log)) }
+        requires long { devices.size (L.Disk.history log.device) ≡ B.log_bytes }
+        requires kept { B.honest → ∥ IsKept B.geometry B.log_bytes log false ∥₁ }
+        ensures { (result.anchors ≡ log.anchors) × (result.list ≡ records_of_log log) × (result.waits ≡ []) × (result.cut ≡ cut_of_log log) × (result.stable ≡ stable log) × (result.got ≡ []) × (result.told ≡ seat.told)
+            × (result.failed ≡ false) }
+    {
+        let next = PlainTail::new(alloc, Lsn(log.last().0 + 1));
+        LogHeld {
+            log,
+            channel,
+            pass,
+            next,
+            seat,
+            failed: false,
+            of: PhantomData,
+        }
+    }
+
+    /// Takes in what came through the queue and waits for memory, and then one push more. False if there was none more. `Memory` if an allocation failed: nothing is lost.
+    pub fn take_one<R: Wait>(&mut self, rt: &R) -> Result<bool, Fault>
+        ensures same { (self.new.anchors ≡ self.old.anchors) × (self.new.cut ≡ self.old.cut) × (self.new.stable ≡ self.old.stable) × (self.new.told ≡ self.old.told) × (self.new.failed ≡ self.old.failed) }
+        ensures more { (more : List LogRecord) × (self.new.list ≡ self.old.list ++ more) × (self.new.got ≡ self.old.got ++ more) }
+        ensures none { result ≡ Ok false → (self.new.list ≡ self.old.list) × (self.new.got ≡ self.old.got) }
+        ensures taken { OnOk result (self.new.waits ≡ []) }
+        ensures only_memory { IfErr result (λ fault. fault ≡ Fault.Memory) }
+    {
+        self.log.take_in(&mut self.next)?;
+        match receive(rt, &self.channel.queue, &mut self.pass) {
+            Some(records) => {
+                self.next = records;
+                self.log.take_in(&mut self.next)?;
+                Ok(true)
+            }
+            None => Ok(false),
+        }
+    }
+
+    /// Forces the longest list of its records that one frame holds. False if all that it took in is durable. After `Device` it is not called any more.
+    pub fn force(&mut self, alloc: Global) -> Result<bool, Fault>
+        ensures same { (self.new.anchors ≡ self.old.anchors) × (self.new.cut ≡ self.old.cut) × (self.new.list ≡ self.old.list) × (self.new.waits ≡ self.old.waits) × (self.new.got ≡ self.old.got)
+            × (self.new.told ≡ self.old.told) }
+        ensures failed { IsTrue self.old.failed → result ≡ Err Fault.Device }
+        ensures unforced { OnErr result (self.new.stable ≡ self.old.stable) }
+        ensures none { result ≡ Ok false → (self.new.stable ≡ self.old.stable) × (self.new.list ≡ self.new.stable ++ self.new.waits) }
+        ensures forced { result ≡ Ok true → length self.old.stable < length self.new.stable }
+        ensures broken { OnOk result (self.new.failed ≡ self.old.failed) }
+        ensures breaks { IfErr result (λ fault. IsTrue self.new.failed ↔ (fault ≡ Fault.Device)) }
+    {
+        // An honest device has no frame under way here. Of another nobody knows what it holds, so it counts as one that has failed.
+        if self.failed || self.log.is_staged() {
+            self.failed = true;
+            return Err(Fault::Device);
+        }
+        match self.log.append_frame(alloc) {
+            Ok(durable) => Ok(durable.is_some()),
+            Err(fault) => {
+                self.failed = is_device(&fault);
+                Err(fault)
+            }
+        }
+    }
+
+    /// Tells how far it is durable.
+    pub fn tell(&mut self, words: &Words) -> Lsn
+        requires { (words.now.table.shared.table_id ≡ B.table) × (3 < B.table.words) }
+        ensures told { (result ≡ self.new.told) × (self.new.told ≡ self.new.cut + length self.new.stable) }
+        ensures same { (self.new.anchors ≡ self.old.anchors) × (self.new.cut ≡ self.old.cut) × (self.new.list ≡ self.old.list) × (self.new.waits ≡ self.old.waits) × (self.new.stable ≡ self.old.stable) × (self.new.got ≡ self.old.got)
+            × (self.new.failed ≡ self.old.failed) }
+    {
+        let durable = self.log.durable().number();
+        self.seat.tell(words, durable.0);
+        durable
+    }
+
+    /// Shows that what a seat has seen was told.
+    pub fn compare(&mut self, words: &Words, seat: &mut Seat<B>)
+        requires { (words.now.table.shared.table_id ≡ B.table) × (3 < B.table.words) }
+        ensures same { (self.new ≡ self.old) × (seat.new ≡ seat.old) }
+        ensures seen { seat.old.seen ≤ self.old.told }
+    {
+        self.seat.compare(words, seat);
+    }
+
+    /// The number of the last record that it took in.
+    pub fn last(&self) -> Lsn
+        ensures { result + length self.now.waits ≡ self.now.cut + length self.now.list }
+    {
+        self.log.last()
+    }
+
+    pub fn has_failed(&self) -> bool
+        ensures { result ≡ self.now.failed }
+    {
+        self.failed
+    }
+
+    /// The log device.
+    pub fn into_log(self) -> LogDev<L>
+        ensures log { (result.anchors ≡ self.anchors) × (cut_of_log result ≡ self.cut) × (stable result ≡ self.stable) × (self.list ≡ records_of_log result ++ self.waits) }
+        ensures long { devices.size (L.Disk.history result.device) ≡ B.log_bytes }
+        ensures kept { B.honest → ∥ IsKept B.geometry B.log_bytes result self.failed ∥₁ }
+    {
+        self.log
+    }
+}
+
+fn is_device(fault: &Fault) -> bool
+    ensures { IsTrue result ↔ (fault.now ≡ Fault.Device) }
+{
+    matches!(fault, Fault::Device)
+}
