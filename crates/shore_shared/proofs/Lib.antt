@@ -1,0 +1,3 @@
+mod HeldManagers
+mod Lives
+mod OpenedUp

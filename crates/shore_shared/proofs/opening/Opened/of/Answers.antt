@@ -1,0 +1,13 @@
+use Rattle.std.proofs.Common.{◌≡◌, sym, subst}
+use Rattle.shore_shared.specs.Lives.{AreKept}
+use Rattle.shore_shared.proofs.Lives.{are_kept}
+use Rattle.shore_shared.proofs.opening.Opened.of.Goals as goal
+
+pub returns-clause-kept : goal.returns-clause-kept
+returns-clause-kept g c opening found entries up =
+    let w = c.hand_over.new.self in
+    let e = c.in_default.ensures in
+    let p = c.into_parts-core.ensures in
+    let r = c.into_parts-core.result in
+    subst (λ x. AreKept x r.1 r.2) (sym p.0) (subst (λ x. AreKept w.core x r.2) (sym p.1) (subst (λ x. AreKept w.core w.log x) (sym p.2)
+    (are_kept c.args.world w e.unchanged e.emptied e.running.0 e.running.1 opening found entries up)))

@@ -1,0 +1,264 @@
+//! The calls of a session, which wait.
+ghost use Rattle.std.specs.Prelude.{◌≡◌, ◌↔◌, ◌⊎◌, ◌≤◌, ◌<◌, ◌+◌, [], ◌∷◌, ◌++◌, IfOk, IsTrue, MatchOption, Some, None};
+ghost use Rattle.shore_types.specs.declared.faults.Fault.TheVariants as Fault;
+ghost use Rattle.shore_model.specs.declared.step.Step.TheVariants as Step;
+ghost use Rattle.shore_model.specs.Calls.{IsServed};
+ghost use Rattle.shore_model.specs.declared.calls.Call.{Call};
+ghost use Rattle.shore_core.specs.Replies.{InEach, Reads, ReadsWaiting, Resumed, Serves, Stepped, fault_at, forced_at};
+ghost use Rattle.shore_held.specs.declared.asked.Asked.TheVariants as Asked;
+
+use crate::session::Session;
+use crate::shared::{Shared, sleeper_of};
+use crate::waiting::{may_let_through, waits_for_lock};
+use shore_core::{Step, Wait as Awaits};
+use shore_disk::Disk;
+use shore_held::{CoreHeld, Named};
+use shore_log::Tail;
+use shore_model::{Answer, Call};
+use shore_queue::Numbers;
+use shore_types::{Fault, Lsn, Ticket};
+use std::alloc::Global;
+use std::sync::{MutexGuard, Wait};
+
+// A session that found the core's lock taken by so many steps in turn gives way.
+const MOST_CROWDED: u32 = 8;
+
+/// The step that a session makes under the core's lock: a call, or it goes on with that which waits.
+pub fn session_step<B: Named, T: Tail, V: Disk>(
+    alloc: Global,
+    core: &mut CoreHeld<B, T, V>,
+    session: &mut Session<B>,
+    call: Option<Call>,
+) -> Step
+    requires { (c : Call) → call ≡ Some c → IsServed c }
+    ensures call { (c : Call) → call ≡ Some c → InEach (λ front disk before s store. Stepped session.old.number c result core.old.core core.new.core front before s store) core.old.core }
+    ensures resume { call ≡ None → InEach (λ front disk before s store. Resumed session.old.number result core.old.core core.new.core front before s store) core.old.core }
+    // At any moment no page of the volume has a number above what the core knows to be durable, which its seat has seen.
+    ensures call_serves { (c : Call) → call ≡ Some c → Serves (Reads c) (forced_at c core.old.core core.new.core) (fault_at result) core.old.core core.new.core }
+    ensures resume_serves { call ≡ None → Serves (ReadsWaiting core.old.core session.old.number) core.old.core (fault_at result) core.old.core core.new.core }
+    ensures asked { MatchOption call (core.new.asked.items ≡ core.old.asked.items ++ (Asked.Resume, session.old.number) ∷ [])
+        (λ c. core.new.asked.items ≡ core.old.asked.items ++ (Asked.Call c, session.old.number) ∷ []) }
+    ensures stepped { core.new.stepped.items ≡ core.old.stepped.items ++ (result, session.old.number) ∷ [] }
+    ensures share { session.new.share.amount ≡ session.old.share.amount + 1 }
+    ensures session { (session.new.number ≡ session.old.number) × (session.new.seat ≡ session.old.seat) }
+    ensures same { (core.new.stage ≡ core.old.stage) × (core.new.made ≡ core.old.made) × (core.new.seat ≡ core.old.seat) }
+{
+    match call {
+        Some(call) => core.call(alloc, session.number, &mut session.share, call),
+        None => core.resume(alloc, session.number, &mut session.share),
+    }
+}
+
+// What a call that is over was answered.
+fn answer_of(step: Step) -> Result<Answer, Fault>
+    ensures { IfOk result (λ answer. step ≡ Step.Done answer) }
+{
+    match step {
+        Step::Done(answer) => Ok(answer),
+        Step::Refused(fault) => Err(fault),
+        Step::Waits(_) | Step::Nothing => Err(Fault::NotQuiet),
+    }
+}
+
+// The number that has to be durable before the call goes on, or before it is made again.
+fn number_awaited(step: &Step) -> Option<u64> {
+    match step {
+        Step::Waits(Awaits::Durable(number)) => Some(number.0),
+        Step::Refused(Fault::NeedForce { number }) => Some(number.0),
+        _ => None,
+    }
+}
+
+fn is_log_full(step: &Step) -> bool {
+    matches!(step, Step::Refused(Fault::LogFull))
+}
+
+fn is_refused(step: &Step) -> bool {
+    matches!(step, Step::Refused(_))
+}
+
+// Whether the session is in a transaction behind a step.
+fn is_in_txn(was: bool, step: &Step) -> bool {
+    match step {
+        Step::Done(Answer::Began(_)) => true,
+        Step::Done(Answer::Committed(_) | Answer::Aborted | Answer::Prepared | Answer::Resolved) =>
+            { false }
+        Step::Done(_) | Step::Waits(_) | Step::Refused(_) | Step::Nothing => was,
+    }
+}
+
+// The ticket of a commit.
+fn ticket_of(answer: &Answer) -> Option<Ticket> {
+    match answer {
+        Answer::Committed(ticket) => Some(Ticket::of(ticket.number())),
+        _ => None,
+    }
+}
+
+impl<B: Named> Session<B> {
+    // A step of the session, with what the core has seen; who is let through by it is woken, still under the lock.
+    fn step<N: Numbers, R: Wait, T: Tail, L: Disk, V: Disk>(
+        &mut self,
+        rt: &R,
+        alloc: Global,
+        shared: &Shared<N, B, T, L, V>,
+        call: Option<Call>,
+    ) -> Step
+        requires { (c : Call) → call ≡ Some c → IsServed c }
+        ensures { (self.new.number ≡ self.old.number) × (self.new.seat ≡ self.old.seat) × (self.new.share.amount ≡ self.old.share.amount + 1) }
+    {
+        let mut core = self.take_core(rt, shared);
+        core.look(&shared.words);
+        let step = session_step(alloc, &mut core, self, call);
+        if may_let_through(&step) {
+            shared.wake_let_through(&core);
+        }
+        drop(core);
+        if is_log_full(&step) {
+            shared.note_full();
+        }
+        self.note_busy(shared, &step);
+        step
+    }
+
+    // The core's lock. Where it is taken again and again, others make one call behind another, and turns would cost more than the calls: then this one leaves it to
+    // them for a while.
+    fn take_core<'a, N: Numbers, R: Wait, T: Tail, L: Disk, V: Disk>(
+        &mut self,
+        rt: &R,
+        shared: &'a Shared<N, B, T, L, V>,
+    ) -> MutexGuard<'a, CoreHeld<B, T, V>>
+        ensures { (self.new.number ≡ self.old.number) × (self.new.share ≡ self.old.share) × (self.new.seat ≡ self.old.seat) }
+    {
+        if let Some(core) = shared.core.try_lock() {
+            self.crowded = 0;
+            return core;
+        }
+        self.crowded = self.crowded.saturating_add(1);
+        if self.crowded >= MOST_CROWDED {
+            self.crowded = 0;
+            shared.give_way(rt, self.number);
+        }
+        shared.lock_core(rt)
+    }
+
+    // The log writer gathers the commits of those that are busy: in a transaction, and waiting for no lock.
+    fn note_busy<N: Numbers, T: Tail, L: Disk, V: Disk>(
+        &mut self,
+        shared: &Shared<N, B, T, L, V>,
+        step: &Step,
+    )
+        ensures { (self.new.number ≡ self.old.number) × (self.new.share ≡ self.old.share) × (self.new.seat ≡ self.old.seat) }
+    {
+        self.in_txn = is_in_txn(self.in_txn, step);
+        let is_busy = self.in_txn && !waits_for_lock(step);
+        if is_busy && !self.is_counted {
+            shared.count_in();
+        }
+        if !is_busy && self.is_counted {
+            shared.count_out();
+        }
+        self.is_counted = is_busy;
+    }
+
+    // Waits until the number is durable, and is not awaited with a commit meanwhile. Behind it the log writer awaits its next one.
+    fn wait_for<N: Numbers, R: Wait, T: Tail, L: Disk, V: Disk>(
+        &mut self,
+        rt: &R,
+        shared: &Shared<N, B, T, L, V>,
+        number: Lsn,
+    ) -> bool
+        ensures seen { IsTrue result ↔ (number ≤ self.new.seat.seen) }
+        ensures seat { (self.new.seat ≡ record self.old.seat { seen = self.new.seat.seen }) × (self.old.seat.seen ≤ self.new.seat.seen) }
+        ensures same { (self.new.number ≡ self.old.number) × (self.new.share ≡ self.old.share) }
+    {
+        if self.is_counted {
+            shared.count_out();
+        }
+        self.crowded = 0;
+        let turn = shared.turn();
+        let told = shared.wait_for(rt, &mut self.seat, &mut self.spared, number);
+        self.is_counted = shared.turn() != turn;
+        told
+    }
+
+    // The first step of a call, which may have to be made again.
+    fn first_step<N: Numbers, R: Wait, T: Tail, L: Disk, V: Disk>(
+        &mut self,
+        rt: &R,
+        alloc: Global,
+        shared: &Shared<N, B, T, L, V>,
+        call: &Call,
+    ) -> Step
+        requires { IsServed call.now }
+        ensures same { (self.new.number ≡ self.old.number) × (self.new.seat ≡ self.old.seat) }
+        // It is made, or an allocation failed before.
+        ensures made { (self.new.share.amount ≡ self.old.share.amount + 1) ⊎ ((result ≡ Step.Refused Fault.Memory) × (self.new.share.amount ≡ self.old.share.amount)) }
+    {
+        match call.try_clone(alloc) {
+            Ok(copy) => self.step(rt, alloc, shared, Some(copy)),
+            Err(_) => Step::Refused(Fault::Memory),
+        }
+    }
+
+    /// A call of the session. It is answered once its locks are free, and a prepare or a resolve once its record is durable; a call that needs a force is made again
+    /// behind it. A commit is answered with its ticket, before it is durable. `Device` if a device fails while it waits for the log.
+    pub fn call<N: Numbers, R: Wait, T: Tail, L: Disk, V: Disk>(
+        &mut self,
+        rt: &R,
+        alloc: Global,
+        shared: &Shared<N, B, T, L, V>,
+        call: Call,
+    ) -> Result<Answer, Fault>
+        requires { IsServed call }
+        ensures same { self.new.number ≡ self.old.number }
+        ensures seat { (self.new.seat ≡ record self.old.seat { seen = self.new.seat.seen }) × (self.old.seat.seen ≤ self.new.seat.seen) }
+        // What is answered was asked of the core: each step counts.
+        ensures counted { self.old.share.amount ≤ self.new.share.amount }
+        ensures asked { IfOk result (λ _. self.old.share.amount < self.new.share.amount) }
+    {
+        let mut glanced = shared.sleepers.glance(sleeper_of(self.number));
+        let mut step = self.first_step(rt, alloc, shared, &call);
+        for _ in rt.forever() {
+            if let Some(number) = number_awaited(&step) {
+                if !self.wait_for(rt, shared, Lsn(number)) {
+                    return Err(Fault::Device);
+                }
+            } else if waits_for_lock(&step) {
+                shared.sleep_for_lock(rt, self.number, glanced);
+            } else {
+                return answer_of(step);
+            }
+            glanced = shared.sleepers.glance(sleeper_of(self.number));
+            step = if is_refused(&step) {
+                self.first_step(rt, alloc, shared, &call)
+            } else {
+                self.step(rt, alloc, shared, None)
+            };
+        }
+        unreachable!()
+    }
+
+    /// Commits, and waits until that is durable. `Device` if a device fails meanwhile: then the commit may be durable or not.
+    pub fn commit_durable<N: Numbers, R: Wait, T: Tail, L: Disk, V: Disk>(
+        &mut self,
+        rt: &R,
+        alloc: Global,
+        shared: &Shared<N, B, T, L, V>,
+    ) -> Result<Ticket, Fault>
+        ensures durable { IfOk result (λ ticket. ticket ≤ self.new.seat.seen) }
+        ensures same { self.new.number ≡ self.old.number }
+        ensures seat { (self.new.seat ≡ record self.old.seat { seen = self.new.seat.seen }) × (self.old.seat.seen ≤ self.new.seat.seen) }
+        ensures asked { IfOk result (λ _. self.old.share.amount < self.new.share.amount) }
+    {
+        let answer = self.call(rt, alloc, shared, Call::Commit)?;
+        let Some(ticket) = ticket_of(&answer) else {
+            return Err(Fault::NotQuiet);
+        };
+        if self.wait_for(rt, shared, ticket.number()) {
+            Ok(ticket)
+        } else {
+            Err(Fault::Device)
+        }
+    }
+}
