@@ -22,6 +22,7 @@ IsForFiles (command.NextFuse fuse) = ⊥
 IsForFiles command.Dump = Unit {0}
 IsForFiles command.Log = Unit {0}
 IsForFiles command.Locks = Unit {0}
+IsForFiles (command.Threads counting) = Unit {0}
 
 -- a line that these devices take
 abbrev pub IsTaken : Devices → Command → Type 0

@@ -25,6 +25,7 @@ IsDueIn opened (command.NextFuse fuse) = Unit {0}
 IsDueIn opened command.Dump = Unit {0}
 IsDueIn opened command.Log = Unit {0}
 IsDueIn opened command.Locks = Unit {0}
+IsDueIn opened (command.Threads counting) = Unit {0}
 
 -- so does one that was refused at its open
 abbrev pub IsDue : Access → Command → Type 0

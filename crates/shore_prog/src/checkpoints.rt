@@ -25,13 +25,21 @@ pub struct Begun {
     named: Option<Named>,
 }
 
-// A checkpoint begins. Answers the number of its begin.
+// A checkpoint begins. Answers the number of its begin. One that threads have left under way is ended first.
 fn begin(alloc: Global, world: &mut ScriptWorld) -> Result<u64, Fault> {
-    match world.step(alloc, Event::CheckpointStep) {
-        Step::Done(answer) => begun_by(&answer).ok_or(Fault::Failed),
-        Step::Refused(fault) => Err(fault),
-        Step::Waits(_) | Step::Nothing => Err(Fault::Failed),
+    for _ in 0..u64::MAX {
+        match world.step(alloc, Event::CheckpointStep) {
+            Step::Done(answer) => {
+                if let Some(number) = begun_by(&answer) {
+                    return Ok(number);
+                }
+            }
+            Step::Nothing => force(alloc, world)?,
+            Step::Refused(fault) => return Err(fault),
+            Step::Waits(_) => return Err(Fault::Failed),
+        }
     }
+    Err(Fault::Failed)
 }
 
 // The number of the begin that is answered.
@@ -43,11 +51,12 @@ fn begun_by(answer: &Answer) -> Option<u64> {
 }
 
 impl Begun {
-    // The steps that are left: its end, its Anchor record and the move, each behind a force of what it needs.
+    // The steps that are left: its end, its Anchor record and the move, each behind a force of what it needs. If threads have made them, or are at the last one of
+    // their own, another checkpoint is made, whose Anchor record is told.
     fn end(&mut self, alloc: Global, world: &mut ScriptWorld) -> Result<Named, Fault> {
         for _ in 0..u64::MAX {
             match world.step(alloc, Event::CheckpointStep) {
-                Step::Done(Answer::Moved) => break,
+                Step::Done(Answer::Moved) if self.named.is_some() => break,
                 Step::Done(answer) => self.note(&answer),
                 Step::Nothing => force(alloc, world)?,
                 Step::Refused(fault) => return Err(fault),

@@ -1,13 +1,15 @@
-//! Forces.
+//! Forces and flushes.
 ghost use Rattle.std.specs.Prelude.{◌≤◌, OnOk};
 ghost use Rattle.shore_world.specs.Worlds.{durable_in};
-ghost use Rattle.shore_prog.specs.Doing.{AreAllDurable, EndsForce};
+ghost use Rattle.shore_prog.specs.Doing.{AreAllDurable, EndsFlush, EndsForce};
 
 use crate::manager::ScriptWorld;
 use shore_model::Answer;
+use shore_script::render;
 use shore_types::{Fault, Ticket};
 use shore_world::{Event, Step};
 use std::alloc::Global;
+use std::io::{self, Write};
 
 /// Forces every waiting record: if it answers Ok each record of the log is durable.
 pub fn force(alloc: Global, world: &mut ScriptWorld) -> Result<(), Fault>
@@ -50,4 +52,40 @@ fn force_frames(alloc: Global, world: &mut ScriptWorld) -> Result<(), Fault>
     }
     // No log has so many records.
     Err(Fault::LogFull)
+}
+
+/// Forces every waiting record, and tells the durable number.
+pub fn force_line<W: Write>(alloc: Global, world: &mut ScriptWorld, out: &mut W) -> io::Result<()> {
+    match force(alloc, world) {
+        Ok(()) => {
+            let durable = world.durable();
+            writeln!(out, "forced {durable}")
+        }
+        Err(fault) => render::fault(out, None, &fault),
+    }
+}
+
+// Writes back every dirty page with a durable number, a batch at each step, and answers how many. One that fails has written some of them.
+fn flush(alloc: Global, world: &mut ScriptWorld) -> Result<u64, Fault>
+    ensures { OnOk result (EndsFlush world.new) }
+{
+    let mut count = 0u64;
+    for _ in 0..u64::MAX {
+        match world.step(alloc, Event::FlushStep) {
+            Step::Done(Answer::Flushed(pages)) => count = count.saturating_add(pages as u64),
+            Step::Refused(fault) => return Err(fault),
+            Step::Nothing => return Ok(count),
+            Step::Done(_) | Step::Waits(_) => break,
+        }
+    }
+    // A step of the flush answers nothing else, and no pool has so many pages.
+    Err(Fault::Failed)
+}
+
+/// Writes back every dirty page with a durable number, and tells how many.
+pub fn flush_line<W: Write>(alloc: Global, world: &mut ScriptWorld, out: &mut W) -> io::Result<()> {
+    match flush(alloc, world) {
+        Ok(count) => writeln!(out, "flushed {count}"),
+        Err(fault) => render::fault(out, None, &fault),
+    }
 }

@@ -2,12 +2,15 @@
 #![tactic(auto)]
 
 mod checkpoints;
+mod crew;
 mod devices;
 mod forcing;
 mod manager;
 mod program;
 mod rounds;
 mod shown;
+mod threads;
+mod tickets;
 
 pub use program::run;
 pub use shore_world as world;

@@ -1,5 +1,5 @@
 //! The manager that a script works with: a world over two devices in memory or in files, each behind a fuse.
-ghost use Rattle.std.specs.Prelude.{◌≡◌, ◌≤◌, ◌↔◌, ℕ, IsTrue, IfOk, OnOk, length, min, vec_len};
+ghost use Rattle.std.specs.Prelude.{◌≡◌, ◌≤◌, ◌↔◌, ℕ, IsTrue, IfOk, length, min, vec_len};
 ghost use Rattle.shore_types.specs.declared.faults.Fault.TheVariants.{NeedForce};
 ghost use Rattle.shore_types.specs.declared.layout.TheConstants.{MAX_POOL_FRAMES, MAX_STORES, MIN_POOL_FRAMES};
 ghost use Rattle.shore_world.specs.Worlds.{geometry_in};
@@ -8,24 +8,26 @@ ghost use Rattle.shore_script.specs.Commands.{IsServedCommand};
 ghost use Rattle.shore_script.specs.Limits.{AreInLimits};
 ghost use Rattle.shore_prog.specs.Commands.{IsTaken};
 ghost use Rattle.shore_prog.specs.Due.{IsDue, IsDueIn};
-ghost use Rattle.shore_prog.specs.Doing.{EndsFlush};
 ghost use Rattle.shore_prog.specs.declared.manager.Progress.TheVariants.{Again};
 
 use crate::checkpoints::{Begun, begin_line, checkpoint_line, end_line};
 use crate::devices::{ScriptDisk, first_pair, pair_after_crash};
-use crate::forcing::{force, force_up_to};
+use crate::forcing::{flush_line, force, force_line};
 use crate::rounds::{WaitingLines, go_first, go_round};
 use crate::shown::{dump, locks, log};
+use crate::threads::{Left, count_up, has_number};
+use crate::tickets::{commit, durable, lazy};
 use shore_disk::Pick;
 use shore_model::{Answer, Call, LogRecord, Wait};
-use shore_script::{Command, Devices, Fuse, Fuses, Settings, render};
+use shore_script::{Command, Counting, Devices, Fuse, Fuses, Settings, render};
 use shore_types::layout::MAX_STORES;
 use shore_types::{Device, Fault, Pairs, SessionId, StoreId, Ticket};
 use shore_world::{Event, Step, World, crashed};
 use std::alloc::Global;
 use std::fs::{File, Files};
 use std::io::{self, Write};
-use std::mem;
+use std::thread::Threads;
+use std::{mem, sync};
 
 /// A world over two devices.
 pub type ScriptWorld = World<ScriptDisk, ScriptDisk>;
@@ -61,6 +63,8 @@ pub enum Progress {
     Done,
     /// It needed a force, which was made. Nothing else was done, and nothing written: the line is to be made again.
     Again,
+    /// It is no line for the manager as it is. Nothing was done, and nothing written.
+    Bad,
 }
 
 /// A world that is open, and the lines whose calls wait. The world is in a box, since each function that moves what is not would be dear to prove.
@@ -95,7 +99,8 @@ impl Opened {
             | Command::NextFuse(_)
             | Command::Dump
             | Command::Log
-            | Command::Locks => true,
+            | Command::Locks
+            | Command::Threads(_) => true,
         }
     }
 }
@@ -146,10 +151,10 @@ impl Manager {
     }
 
     /// Does what a line asks for, and writes its answers, or forces the log for it. If its call has to wait for a lock, the line is kept.
-    pub fn execute<F: Files<File = File>, W: Write>(
+    pub fn execute<H: Files<File = File> + Threads + sync::Wait + Sync + Send + Copy, W: Write>(
         &mut self,
         alloc: Global,
-        files: &F,
+        host: &H,
         command: Command,
         line: &[u8],
         out: &mut W,
@@ -159,9 +164,10 @@ impl Manager {
     {
         match command {
             Command::Nothing => {}
-            Command::Crash(pick) => self.crash(alloc, files, pick.unwrap_or(Pick::Old), out)?,
+            Command::Crash(pick) => self.crash(alloc, host, pick.unwrap_or(Pick::Old), out)?,
             Command::Fuse(fuse) => self.set_fuse(fuse),
             Command::NextFuse(fuse) => self.next_fuses.set(fuse),
+            Command::Threads(counting) => return self.threads_line(*host, alloc, counting, out),
             command => return self.serve(alloc, command, line, out),
         }
         Ok(Progress::Done)
@@ -195,6 +201,62 @@ impl Manager {
             go_round(alloc, world, waiting, out)?;
         }
         Ok(progress)
+    }
+
+    // Threads count a record up, once it was looked at.
+    fn threads_line<R: Threads + sync::Wait + Sync + Send + Copy, W: Write>(
+        &mut self,
+        rt: R,
+        alloc: Global,
+        counting: Counting,
+        out: &mut W,
+    ) -> io::Result<Progress> {
+        let Access::Open(opened) = &mut self.access else {
+            return tell(out, None, &Fault::Failed);
+        };
+        match has_number(alloc, &mut opened.world, &counting.record) {
+            Ok(true) => match self.count_up(rt, alloc, counting) {
+                Ok(()) => render::threads(out, total_of(&counting))?,
+                Err(fault) => render::fault(out, None, &fault)?,
+            },
+            Ok(false) => return Ok(Progress::Bad),
+            Err(fault) => {
+                if refuse(alloc, &mut opened.world, None, fault, out)? == Progress::Again {
+                    return Ok(Progress::Again);
+                }
+            }
+        }
+        if let Access::Open(opened) = &mut self.access {
+            go_round(alloc, &mut opened.world, &mut opened.waiting, out)?;
+        }
+        Ok(Progress::Done)
+    }
+
+    // The world is a manager for threads, and then a world again. No call waits meanwhile: the table has no transaction.
+    fn count_up<R: Threads + sync::Wait + Sync + Send + Copy>(
+        &mut self,
+        rt: R,
+        alloc: Global,
+        counting: Counting,
+    ) -> Result<(), Fault> {
+        let opened = match mem::replace(&mut self.access, Access::Lost) {
+            Access::Open(opened) => opened,
+            other => {
+                self.access = other;
+                return Err(Fault::Failed);
+            }
+        };
+        let (world, checkpoint) = (Box::into_inner(opened.world), opened.checkpoint);
+        let (left, counted) = count_up(rt, alloc, world, counting);
+        let (access, refused) = match left {
+            Left::World(world) => boxed(alloc, world, checkpoint),
+            Left::Devices(log, volume) => (Access::Closed(log, volume), None),
+        };
+        self.access = access;
+        match refused {
+            None => counted,
+            Some(fault) => Err(fault),
+        }
     }
 
     // Everything in memory is lost, and the fuses go away, but for those that were set for this open.
@@ -260,18 +322,19 @@ fn open(
     requires few { frames ≤ MAX_POOL_FRAMES }
 {
     match World::open(alloc, log, volume, frames) {
-        Ok(world) => boxed(alloc, world),
+        Ok(world) => boxed(alloc, world, None),
         Err((fault, log, volume)) => (Access::Closed(log, volume), Some(fault)),
     }
 }
 
-fn boxed(alloc: Global, world: ScriptWorld) -> (Access, Option<Fault>) {
+// A world with the checkpoint that a line has begun, and no call that waits.
+fn boxed(alloc: Global, world: ScriptWorld, checkpoint: Option<Begun>) -> (Access, Option<Fault>) {
     match Box::new(alloc, world) {
         Ok(world) => {
             let opened = Opened {
                 world,
                 waiting: WaitingLines::new(alloc),
-                checkpoint: None,
+                checkpoint,
             };
             (Access::Open(opened), None)
         }
@@ -280,6 +343,11 @@ fn boxed(alloc: Global, world: ScriptWorld) -> (Access, Option<Fault>) {
             (Access::Closed(log, volume), Some(Fault::Memory))
         }
     }
+}
+
+// How many transactions all threads make.
+fn total_of(counting: &Counting) -> u64 {
+    counting.threads as u64 * counting.rounds as u64
 }
 
 // A line that is answered by a fault is done.
@@ -327,7 +395,8 @@ fn answer<W: Write>(
         | Command::Nothing
         | Command::Crash(_)
         | Command::Fuse(_)
-        | Command::NextFuse(_) => {}
+        | Command::NextFuse(_)
+        | Command::Threads(_) => {}
     }
     Ok(Progress::Done)
 }
@@ -377,48 +446,6 @@ fn tell_answer<W: Write>(
     }
 }
 
-// The session's commit has its ticket. The log is forced up to it, and the session is answered before any that waited for its locks. A force that fails is
-// the fault of the line: whether the commit is kept the next open shows.
-fn commit<W: Write>(
-    alloc: Global,
-    world: &mut ScriptWorld,
-    session: SessionId,
-    ticket: Ticket,
-    out: &mut W,
-) -> io::Result<()> {
-    match force_up_to(alloc, world, ticket) {
-        Ok(()) => render::committed(out, session),
-        Err(fault) => render::fault(out, Some(session), &fault),
-    }
-}
-
-// A commit that is not forced: its ticket is the answer. It asks for no page, so it needs no force to begin.
-fn lazy<W: Write>(
-    alloc: Global,
-    world: &mut ScriptWorld,
-    session: SessionId,
-    out: &mut W,
-) -> io::Result<()> {
-    match world.step(alloc, Event::Call(session, Call::Commit)) {
-        Step::Done(answer) => render::answer(out, session, &answer),
-        Step::Refused(fault) => render::fault(out, Some(session), &fault),
-        Step::Waits(_) | Step::Nothing => Ok(()),
-    }
-}
-
-fn durable<W: Write>(
-    alloc: Global,
-    world: &mut ScriptWorld,
-    ticket: Ticket,
-    out: &mut W,
-) -> io::Result<()> {
-    match world.step(alloc, Event::Ask(ticket)) {
-        Step::Done(Answer::IsDurable(is_durable)) => render::durable(out, is_durable),
-        // An ask answers nothing else.
-        _ => Ok(()),
-    }
-}
-
 // A line that is refused, of a session's call or another, answers its fault. If it needs a force, which no line answers, the log is forced for
 // it; then every record is durable, and no page has to stay in its frame. A force that fails is the fault of the line.
 pub(crate) fn refuse<W: Write>(
@@ -440,38 +467,4 @@ pub(crate) fn refuse<W: Write>(
     };
     render::fault(out, session, &fault)?;
     Ok(Progress::Done)
-}
-
-fn force_line<W: Write>(alloc: Global, world: &mut ScriptWorld, out: &mut W) -> io::Result<()> {
-    match force(alloc, world) {
-        Ok(()) => {
-            let durable = world.durable();
-            writeln!(out, "forced {durable}")
-        }
-        Err(fault) => render::fault(out, None, &fault),
-    }
-}
-
-// Writes back every dirty page with a durable number, a batch at each step, and answers how many. One that fails has written some of them.
-fn flush(alloc: Global, world: &mut ScriptWorld) -> Result<u64, Fault>
-    ensures { OnOk result (EndsFlush world.new) }
-{
-    let mut count = 0u64;
-    for _ in 0..u64::MAX {
-        match world.step(alloc, Event::FlushStep) {
-            Step::Done(Answer::Flushed(pages)) => count = count.saturating_add(pages as u64),
-            Step::Refused(fault) => return Err(fault),
-            Step::Nothing => return Ok(count),
-            Step::Done(_) | Step::Waits(_) => break,
-        }
-    }
-    // A step of the flush answers nothing else, and no pool has so many pages.
-    Err(Fault::Failed)
-}
-
-fn flush_line<W: Write>(alloc: Global, world: &mut ScriptWorld, out: &mut W) -> io::Result<()> {
-    match flush(alloc, world) {
-        Ok(count) => writeln!(out, "flushed {count}"),
-        Err(fault) => render::fault(out, None, &fault),
-    }
 }

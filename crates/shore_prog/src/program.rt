@@ -9,17 +9,18 @@ use std::alloc::Global;
 use std::fs::{File, Files};
 use std::io::{self, BufWriter, Read, Write};
 use std::process::ExitCode;
+use std::sync::Wait;
+use std::thread::Threads;
 
 /// Runs the script of the input under its settings, line by line, and writes the answers to the output, at the latest before the input
 /// has to be waited for. Exit status 0: done. 1: bad settings or a bad line, at which the run ends, or input or output failed, or memory
 /// ended. 2: the first format or open was refused, or the last open of the script was.
-pub fn run<F: Files<File = File>, R: Read + Drop, W: Write + Drop>(
-    alloc: Global,
-    files: &F,
-    input: R,
-    mut output: W,
-) -> ExitCode {
-    let status = match run_buffered(alloc, files, input, &mut output) {
+pub fn run<
+    H: Files<File = File> + Threads + Wait + Sync + Send + Copy,
+    R: Read + Drop,
+    W: Write + Drop,
+>(alloc: Global, host: &H, input: R, mut output: W) -> ExitCode {
+    let status = match run_buffered(alloc, host, input, &mut output) {
         Some(status) => status,
         None => Stop::Memory.tell(&mut output),
     };
@@ -27,39 +28,38 @@ pub fn run<F: Files<File = File>, R: Read + Drop, W: Write + Drop>(
 }
 
 // `None`: there was no memory for a buffer.
-fn run_buffered<F: Files<File = File>, R: Read + Drop, W: Write>(
-    alloc: Global,
-    files: &F,
-    input: R,
-    output: &mut W,
-) -> Option<Status> {
+fn run_buffered<
+    H: Files<File = File> + Threads + Wait + Sync + Send + Copy,
+    R: Read + Drop,
+    W: Write,
+>(alloc: Global, host: &H, input: R, output: &mut W) -> Option<Status> {
     let mut output = BufWriter::new(alloc, output).ok()?;
-    match run_input(alloc, files, input, &mut output) {
+    match run_input(alloc, host, input, &mut output) {
         Ok(status) => Some(status),
         Err(stop) => Some(stop.tell(&mut output)),
     }
 }
 
-fn run_input<F: Files<File = File>, R: Read + Drop, W: Write>(
+fn run_input<H: Files<File = File> + Threads + Wait + Sync + Send + Copy, R: Read + Drop, W: Write>(
     alloc: Global,
-    files: &F,
+    host: &H,
     input: R,
     output: &mut W,
 ) -> Result<Status, Stop> {
     let mut lines = Lines::new(alloc, input)?;
-    let mut manager = start(alloc, files, &mut lines)?;
-    run_with(alloc, files, &mut manager, &mut lines, output)
+    let mut manager = start(alloc, host, &mut lines)?;
+    run_with(alloc, host, &mut manager, &mut lines, output)
 }
 
 // The manager is lent, for what a function owns makes each of its ways out dear to prove.
-fn run_with<F: Files<File = File>, R: Read + Drop, W: Write>(
+fn run_with<H: Files<File = File> + Threads + Wait + Sync + Send + Copy, R: Read + Drop, W: Write>(
     alloc: Global,
-    files: &F,
+    host: &H,
     manager: &mut Manager,
     lines: &mut Lines<R>,
     output: &mut W,
 ) -> Result<Status, Stop> {
-    run_script(alloc, files, manager, lines, output)?;
+    run_script(alloc, host, manager, lines, output)?;
     output.flush()?;
     Ok(if manager.is_open() {
         Status::Done
@@ -108,9 +108,13 @@ fn no_toml() -> Stop {
 }
 
 // Runs each line, up to a bad one.
-fn run_script<F: Files<File = File>, R: Read + Drop, W: Write>(
+fn run_script<
+    H: Files<File = File> + Threads + Wait + Sync + Send + Copy,
+    R: Read + Drop,
+    W: Write,
+>(
     alloc: Global,
-    files: &F,
+    host: &H,
     manager: &mut Manager,
     lines: &mut Lines<R>,
     output: &mut W,
@@ -122,7 +126,7 @@ fn run_script<F: Files<File = File>, R: Read + Drop, W: Write>(
         let Some(line) = lines.next_line()? else {
             return Ok(());
         };
-        if !run_line(alloc, files, manager, line, output)? {
+        if !run_line(alloc, host, manager, line, output)? {
             return Err(Stop::Bad(Fault::BadConfig(ConfigPlace::Line(number))));
         }
     }
@@ -131,9 +135,9 @@ fn run_script<F: Files<File = File>, R: Read + Drop, W: Write>(
 
 // Whether the line is one of the script, which has been run then. One that needed a force is read again behind it, so that no call is copied
 // for the sake of a force that may not come.
-fn run_line<F: Files<File = File>, W: Write>(
+fn run_line<H: Files<File = File> + Threads + Wait + Sync + Send + Copy, W: Write>(
     alloc: Global,
-    files: &F,
+    host: &H,
     manager: &mut Manager,
     line: &[u8],
     output: &mut W,
@@ -141,8 +145,10 @@ fn run_line<F: Files<File = File>, W: Write>(
     for _ in 0..u64::MAX {
         match read_line(alloc, line)? {
             Some(command) if manager.takes(&command) => {
-                if manager.execute(alloc, files, command, line, output)? == Progress::Done {
-                    return Ok(true);
+                match manager.execute(alloc, host, command, line, output)? {
+                    Progress::Done => return Ok(true),
+                    Progress::Bad => return Ok(false),
+                    Progress::Again => {}
                 }
             }
             _ => return Ok(false),
