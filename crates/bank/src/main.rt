@@ -1,0 +1,45 @@
+//! The manager as a library with sessions in threads: eight clients move money between accounts, a transfer that is a victim of a deadlock is made again, and the sum stays.
+#![tactic(auto)]
+
+mod transfers;
+
+use anyhow::{Error, Result};
+use shore_disk::FileDisk;
+use shore_shared::serve;
+use shore_types::{Geometry, Sequence};
+use shore_world::{World, format, volume_bytes};
+use transfers::{CLIENTS, Task};
+
+// Makes both files anew: a log that has no room for all transfers, so that checkpoints have to free it, and a volume of one store with 16 pages.
+fn make(rt: &HostRuntime) -> Result<(FileDisk, FileDisk)> {
+    let stores = Sequence::from_vec(Vec::from_slice(rt.alloc(), &[16u32])?);
+    let geometry = Geometry {
+        pair: 1,
+        max_locks: 1_024,
+        stores,
+    };
+    let mut log = FileDisk::open_or_create(rt, "bank.log")?.cleared(1 << 19)?;
+    let mut volume = FileDisk::open_or_create(rt, "bank.volume")?.cleared(volume_bytes(&geometry))?;
+    format(rt.alloc(), &mut log, &mut volume, &geometry)?;
+    Ok((log, volume))
+}
+
+fn main(rt: HostRuntime) -> Result<()> {
+    let (log, volume) = make(&rt)?;
+    let tasks = [Task::Open, Task::Transfer, Task::Look];
+    let (left, served) = match World::open(rt.alloc(), log, volume, 64) {
+        // The log writer, the flusher and the checkpointer turn meanwhile, and are stopped in the end.
+        Ok(manager) => serve(rt, rt.alloc(), manager, CLIENTS as u32, &tasks),
+        Err((fault, _, _)) => return Err(Error::from(fault)),
+    };
+    let _files = left.into_devices();
+    let done = served?;
+    let names = ["opened with", "victims that were made again", "the sum is"];
+    for (name, amounts) in names.iter().zip(done.iter()) {
+        let sum = amounts
+            .iter()
+            .fold(0u64, |sum, amount| sum.wrapping_add(*amount));
+        println!(&rt; "{name} {sum}")?;
+    }
+    Ok(())
+}

@@ -1,0 +1,26 @@
+//! The records of the beginning, made by one client.
+use crate::clients::{ACCOUNTS, FIRST, MOST_CLIENTS, bytes_of};
+use shore_model::Call;
+use shore_shared::{Client, Job};
+use shore_types::{Fault, StoreId};
+use std::alloc::Global;
+
+/// The accounts, and a counter for each client that there may be, on pages of their own.
+#[derive(Drop)]
+pub struct Fill;
+
+impl Job for Fill {
+    type Done = ();
+
+    fn work<C: Client>(&self, alloc: Global, _number: usize, client: &mut C) -> Result<(), Fault> {
+        client.call(Call::Begin)?;
+        for _ in 0..ACCOUNTS {
+            client.call(Call::Insert(StoreId(0), bytes_of(alloc, FIRST)?))?;
+        }
+        for nth in 0..MOST_CLIENTS {
+            client.call(Call::Insert(StoreId(1 + nth as u32), bytes_of(alloc, 0)?))?;
+        }
+        client.commit_durable()?;
+        Ok(())
+    }
+}

@@ -1,0 +1,128 @@
+//! A manager over files whose clients meet deadlocks, roll back and go back to savepoints, for a check that kills it: `turmoil make DIR`, `turmoil run DIR CLIENTS`, which ends by a
+//! kill alone, and `turmoil look DIR`. See tools/check-threads.
+#![tactic(auto)]
+
+mod clients;
+mod filling;
+
+use anyhow::{Error, Result};
+use clients::{MOST_CLIENTS, Turmoil, number_of};
+use filling::Fill;
+use shore_disk::FileDisk;
+use shore_shared::serve;
+use shore_types::{Geometry, Sequence, StoreId};
+use shore_world::{World, format, volume_bytes};
+use std::env;
+use std::sync::Wait;
+use std::thread::Threads;
+
+const LOG_BYTES: u64 = 1 << 20;
+
+// Fewer frames than pages, so that some are written back to make room for others.
+const FRAMES: usize = 8;
+
+type Manager = World<FileDisk, FileDisk>;
+
+fn open(rt: &HostRuntime, folder: &str) -> Result<Manager> {
+    let (log, volume) = (
+        format!(in rt.alloc(); "{folder}/log")?,
+        format!(in rt.alloc(); "{folder}/volume")?,
+    );
+    let (log, volume) = (
+        FileDisk::open(rt, log.as_str())?,
+        FileDisk::open(rt, volume.as_str())?,
+    );
+    match World::open(rt.alloc(), log, volume, FRAMES) {
+        Ok(manager) => Ok(manager),
+        Err((fault, _, _)) => Err(Error::from(fault)),
+    }
+}
+
+// Both files, formatted.
+fn format_files(rt: &HostRuntime, folder: &str) -> Result<()> {
+    let stores = Vec::from_elem(rt.alloc(), 1u32, 1 + MOST_CLIENTS)?;
+    let geometry = Geometry {
+        pair: 1,
+        max_locks: 4_096,
+        stores: Sequence::from_vec(stores),
+    };
+    let (log, volume) = (
+        format!(in rt.alloc(); "{folder}/log")?,
+        format!(in rt.alloc(); "{folder}/volume")?,
+    );
+    let mut log = FileDisk::open_or_create(rt, log.as_str())?.cleared(LOG_BYTES)?;
+    let mut volume = FileDisk::open_or_create(rt, volume.as_str())?.cleared(volume_bytes(
+        &geometry,
+    ))?;
+    format(rt.alloc(), &mut log, &mut volume, &geometry)?;
+    Ok(())
+}
+
+fn make<R: Threads + Wait + Sync + Send + Copy>(
+    threads: R,
+    rt: &HostRuntime,
+    folder: &str,
+) -> Result<()> {
+    format_files(rt, folder)?;
+    let (left, served) = serve(threads, rt.alloc(), open(rt, folder)?, 1, &[Fill]);
+    let _files = left.into_devices();
+    served?;
+    Ok(())
+}
+
+fn run<R: Threads + Wait + Sync + Send + Copy>(
+    threads: R,
+    rt: &HostRuntime,
+    folder: &str,
+    clients: u32,
+) -> Result<()> {
+    let manager = open(rt, folder)?;
+    let told = println!(rt; "opened");
+    let turmoil = Turmoil { rt, folder };
+    let (left, served) = serve(threads, rt.alloc(), manager, clients, &[turmoil]);
+    let _files = left.into_devices();
+    told?;
+    served?;
+    Ok(())
+}
+
+// What all accounts have together, and the counter of each client.
+fn look(rt: &HostRuntime, folder: &str) -> Result<()> {
+    let mut manager = open(rt, folder)?;
+    let shown = show(rt, &mut manager);
+    let _files = manager.into_devices();
+    shown
+}
+
+fn show(rt: &HostRuntime, manager: &mut Manager) -> Result<()> {
+    let mut sum = 0u64;
+    for store in 0..1 + MOST_CLIENTS {
+        let pairs = manager.dump(rt.alloc(), StoreId(store as u32))?;
+        for nth in 0..pairs.len() {
+            if let Some((_, bytes)) = pairs.get(nth) {
+                if store == 0 {
+                    sum = sum.wrapping_add(number_of(bytes));
+                } else {
+                    println!(rt; "counter {} {}", store - 1, number_of(bytes))?;
+                }
+            }
+        }
+    }
+    println!(rt; "sum {sum}")?;
+    Ok(())
+}
+
+fn main(rt: HostRuntime) -> Result<()> {
+    let words: Vec<String> = env::args(&rt)?.collect(rt.alloc())?;
+    match words.as_slice() {
+        [_, what, folder] if what.as_str() == "make" => make(rt, &rt, folder.as_str()),
+        [_, what, folder] if what.as_str() == "look" => look(&rt, folder.as_str()),
+        [_, what, folder, clients] if what.as_str() == "run" => {
+            run(rt, &rt, folder.as_str(), clients.as_str().parse::<u32>()?)
+        }
+        _ => {
+            println!(&rt; "turmoil make DIR; turmoil run DIR CLIENTS; turmoil look DIR")?;
+            Ok(())
+        }
+    }
+}
