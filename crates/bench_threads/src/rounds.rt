@@ -1,0 +1,100 @@
+//! The rounds of a client.
+use crate::works::{Plan, Work, update};
+use bench_parts::host::Host;
+use shore_model::Call;
+use shore_shared::{Client, Job};
+use shore_types::{Fault, Granule, Mode, Rid};
+use std::alloc::Global;
+use std::thread;
+use std::time::Duration;
+
+/// How many rounds a client did, and when they began and ended, in nanoseconds of the run. Where calls alone are timed, they begin at 0 and end at what these took.
+#[derive(Clone, Copy)]
+pub struct Span {
+    pub done: u64,
+    pub began: u64,
+    pub ended: u64,
+}
+
+/// What is done, the records, and the clock.
+#[derive(Drop)]
+pub struct Rounds<'a> {
+    pub plan: Plan,
+    pub records: Vec<Rid>,
+    pub host: Host<'a>,
+}
+
+impl<'a> Job for Rounds<'a> {
+    type Done = Span;
+
+    fn work<C: Client>(&self, alloc: Global, number: usize, client: &mut C) -> Result<Span, Fault> {
+        let nth = if self.plan.work == Work::Record {
+            0
+        } else {
+            number
+        };
+        let Some(record) = self.records.get(nth) else {
+            return Err(Fault::NoRecord);
+        };
+        let done = self.plan.rounds as u64;
+        let (began, ended) = match self.plan.work {
+            Work::Lock => (0, self.lock(client, record)?),
+            Work::Commit => (0, self.commit(alloc, client, record)?),
+            Work::Idle | Work::Gets | Work::Pages | Work::Page | Work::Record => {
+                let began = self.host.nanos();
+                self.go_on(alloc, client, record)?;
+                (began, self.host.nanos())
+            }
+        };
+        Ok(Span { done, began, ended })
+    }
+}
+
+impl<'a> Rounds<'a> {
+    // The rounds of a work that is timed as a whole.
+    fn go_on(&self, alloc: Global, client: &mut impl Client, record: &Rid) -> Result<(), Fault> {
+        match self.plan.work {
+            Work::Idle => {
+                thread::sleep(self.host.rt, Duration::from_secs(self.plan.rounds as u64));
+            }
+            Work::Gets => {
+                client.call(Call::Begin)?;
+                for _ in 0..self.plan.rounds {
+                    client.call(Call::Get(*record))?;
+                }
+                client.call(Call::Commit)?;
+            }
+            Work::Pages | Work::Page | Work::Record | Work::Lock | Work::Commit => {
+                for round in 0..self.plan.rounds {
+                    update(alloc, client, *record, (round % 256) as u8)?;
+                    client.commit_durable()?;
+                }
+            }
+        }
+        Ok(())
+    }
+
+    // One call of each round is timed: it has the core's lock for all of it but the taking. These come to the nanoseconds.
+    fn lock(&self, client: &mut impl Client, record: &Rid) -> Result<u64, Fault> {
+        let mut nanos = 0u64;
+        for _ in 0..self.plan.rounds {
+            client.call(Call::Begin)?;
+            let start = self.host.nanos();
+            client.call(Call::Lock(Granule::Record(*record), Mode::EX))?;
+            nanos = nanos.saturating_add(self.host.nanos_since(start));
+            client.call(Call::Commit)?;
+        }
+        Ok(nanos)
+    }
+
+    fn commit(&self, alloc: Global, client: &mut impl Client, record: &Rid) -> Result<u64, Fault> {
+        let mut nanos = 0u64;
+        for round in 0..self.plan.rounds {
+            update(alloc, client, *record, (round % 256) as u8)?;
+            let start = self.host.nanos();
+            client.call(Call::Commit)?;
+            nanos = nanos.saturating_add(self.host.nanos_since(start));
+        }
+        Ok(nanos)
+    }
+}

@@ -1,0 +1,90 @@
+//! A work over a manager: one client makes the records, and then each does its rounds.
+use crate::rounds::{Rounds, Span};
+use crate::works::{Fill, Plan, Work};
+use bench_parts::host::Host;
+use shore_disk::FileDisk;
+use shore_shared::{Left, serve};
+use shore_types::{Fault, Rid};
+use shore_world::World;
+use std::sync::Wait;
+use std::thread::Threads;
+
+/// How many rounds were done, in how many nanoseconds.
+#[derive(Drop)]
+pub struct Took {
+    pub done: u64,
+    pub nanos: u64,
+}
+
+/// What a plan takes.
+pub fn run<R: Threads + Wait + Sync + Send + Copy>(
+    threads: R,
+    host: Host<'_>,
+    world: World<FileDisk, FileDisk>,
+    plan: Plan,
+) -> Result<Took, Fault> {
+    let (left, filled) = serve(threads, host.alloc(), world, 1, &[Fill { plan }]);
+    match (left, filled) {
+        (Left::World(world), Ok(filled)) => go_on(threads, host, world, plan, filled),
+        (left, Ok(_)) => {
+            let _files = left.into_devices();
+            Err(Fault::Memory)
+        }
+        (left, Err(fault)) => {
+            let _files = left.into_devices();
+            Err(fault)
+        }
+    }
+}
+
+// .. behind its records.
+fn go_on<R: Threads + Wait + Sync + Send + Copy>(
+    threads: R,
+    host: Host<'_>,
+    world: World<FileDisk, FileDisk>,
+    plan: Plan,
+    filled: Vec<Vec<Vec<Rid>>>,
+) -> Result<Took, Fault> {
+    let records = records_of(filled)?;
+    let rounds = [Rounds {
+        plan,
+        records,
+        host,
+    }];
+    let (left, served) = serve(threads, host.alloc(), world, clients_of(plan), &rounds);
+    let _files = left.into_devices();
+    Ok(whole_of(served?))
+}
+
+// What the one client of the one job made.
+fn records_of(filled: Vec<Vec<Vec<Rid>>>) -> Result<Vec<Rid>, Fault> {
+    for made in filled {
+        for records in made {
+            return Ok(records);
+        }
+    }
+    Err(Fault::NoRecord)
+}
+
+fn clients_of(plan: Plan) -> u32 {
+    match plan.work {
+        Work::Idle | Work::Lock | Work::Commit => 1,
+        Work::Pages | Work::Page | Work::Record | Work::Gets => plan.threads as u32,
+    }
+}
+
+// From the first that began to the last that ended.
+fn whole_of(served: Vec<Vec<Span>>) -> Took {
+    let (mut done, mut began, mut ended) = (0u64, u64::MAX, 0u64);
+    for spans in served {
+        for span in spans {
+            done = done.saturating_add(span.done);
+            began = began.min(span.began);
+            ended = ended.max(span.ended);
+        }
+    }
+    Took {
+        done,
+        nanos: ended.saturating_sub(began),
+    }
+}
