@@ -1,3 +1,10 @@
+mod crashes;
+mod frees;
+mod gates;
+mod life;
+mod prepares;
 mod queues;
 mod sends;
+mod tapes;
+mod waits;
 mod words;

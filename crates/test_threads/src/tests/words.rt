@@ -12,7 +12,7 @@ const ROUNDS: u64 = 1_000;
 
 #[test]
 fn what_is_told_is_seen(rt: HostRuntime) -> Result<(), Fail> {
-    let (words, mut teller) = Words::new(rt.alloc(), 3, 1)?;
+    let (words, mut teller) = Words::new(rt.alloc(), 3, 0, 1)?;
     let mut reader = words.reader(&mut teller);
     assert_eq!(rt; words.seen(&mut reader), 3);
     words.tell(&mut teller, 3);
@@ -71,8 +71,8 @@ fn play<R: Wait>(
 }
 
 fn game<R: Threads + Wait + Sync>(rt: &R, alloc: Global) -> Result<(u64, u64), AllocError> {
-    let (first, mut one) = Words::new(alloc, 0, 1)?;
-    let (second, mut two) = Words::new(alloc, 0, 1)?;
+    let (first, mut one) = Words::new(alloc, 0, 0, 1)?;
+    let (second, mut two) = Words::new(alloc, 0, 0, 1)?;
     let sees_two = second.reader(&mut two);
     let sees_one = first.reader(&mut one);
     let sleepers = WakeWords::new(alloc, 2)?;

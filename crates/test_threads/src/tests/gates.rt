@@ -1,0 +1,118 @@
+//! While the log writer syncs, other sessions are answered.
+use super::life::{RECORD, add_one, insert, live};
+use shore_model::Call;
+use shore_shared::{Client, Gate, Job, Place, Role};
+use shore_types::Fault;
+use std::alloc::Global;
+use std::process::Abort;
+use std::sync::atomic::{AtomicU64, Ordering};
+use std::test::Fail;
+use std::thread::yield_now;
+
+const MOST_TURNS: u32 = 1_000_000;
+
+// Where the test is.
+const MAKING: u64 = 0;
+
+const COMMITTING: u64 = 1;
+
+const HELD: u64 = 2;
+
+const ANSWERED: u64 = 3;
+
+// It holds the log writer before its sync of a commit, until the other session was answered.
+#[derive(Drop)]
+struct Holding {
+    at: AtomicU64,
+    gave_up: AtomicU64,
+}
+
+impl Holding {
+    fn is_at(&self, stage: u64) -> bool {
+        self.at.load(Ordering::SeqCst) == stage
+    }
+
+    fn goes_to(&self, stage: u64) {
+        self.at.store(stage, Ordering::SeqCst);
+    }
+
+    // Whether the stage came within so many turns.
+    fn waits_for(&self, stage: u64) -> bool {
+        for _ in 0..MOST_TURNS {
+            if self.is_at(stage) {
+                return true;
+            }
+            yield_now();
+        }
+        false
+    }
+}
+
+impl Gate for Holding {
+    fn pass(&self, place: Place) {
+        if place == Place::Sync(Role::LogWriter) && self.is_at(COMMITTING) {
+            self.goes_to(HELD);
+            if !self.waits_for(ANSWERED) {
+                self.gave_up.store(1, Ordering::SeqCst);
+            }
+        }
+    }
+}
+
+// The first client makes the record. Then it commits, and the other begins and gets while the log writer is held before its sync.
+#[derive(Drop)]
+struct Task<'r, 'h, A: Abort> {
+    rt: &'r A,
+    holding: &'h Holding,
+    makes: bool,
+}
+
+impl<'r, 'h, A: Abort> Job for Task<'r, 'h, A> {
+    type Done = ();
+
+    fn work<C: Client>(&self, alloc: Global, number: usize, client: &mut C) -> Result<(), Fault> {
+        let stage = self.holding;
+        if self.makes {
+            if number == 0 {
+                insert(alloc, client)?;
+                stage.goes_to(COMMITTING);
+            }
+            return Ok(());
+        }
+        if number == 0 {
+            add_one(alloc, client)?;
+            client.commit_durable()?;
+            return Ok(());
+        }
+        if !stage.waits_for(HELD) {
+            // The first client would wait for ever.
+            self.rt.abort();
+        }
+        client.call(Call::Begin)?;
+        client.call(Call::Get(RECORD))?;
+        stage.goes_to(ANSWERED);
+        client.call(Call::Commit)?;
+        Ok(())
+    }
+}
+
+#[test]
+fn gate_holds_sync(rt: HostRuntime) -> Result<(), Fail> {
+    let holding = Holding {
+        at: AtomicU64::new(MAKING),
+        gave_up: AtomicU64::new(0),
+    };
+    let begins = |makes| Task {
+        rt: &rt,
+        holding: &holding,
+        makes,
+    };
+    let tasks = [begins(true), begins(false)];
+    let lived = live(rt, rt.alloc(), 1 << 20, 2, &tasks, &holding);
+    let gave_up = holding.gave_up.load(Ordering::SeqCst) != 0;
+    match lived {
+        Ok(_) if !gave_up => Ok(()),
+        Ok(_) => Err(Fail::new(format_args!("nobody was answered while the log writer was held"))),
+        Err(fault) => Err(Fail::new(format_args!("{fault}"))),
+    }
+}
