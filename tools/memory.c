@@ -19,7 +19,7 @@ __attribute__((constructor)) static void begin(void) {
     failing = number ? strtoul(number, 0, 10) : 0;
 }
 
-__attribute__((destructor)) static void end(void) {
+static void tell(void) {
     const char *path = getenv("MEMORY_COUNT");
     unsigned long count = asked;
     FILE *file = path ? fopen(path, "w") : 0;
@@ -29,9 +29,18 @@ __attribute__((destructor)) static void end(void) {
     }
 }
 
+__attribute__((destructor)) static void end(void) { tell(); }
+
+/* A program that may start threads ends so, and no destructor runs. */
+void _exit(int status) {
+    void (*system_exit)(int) = (void (*)(int))dlsym(RTLD_NEXT, "_exit");
+    tell();
+    system_exit(status);
+    __builtin_unreachable();
+}
+
 static int is_refused(void) {
-    asked++;
-    if (asked != failing) return 0;
+    if (__atomic_add_fetch(&asked, 1, __ATOMIC_RELAXED) != failing) return 0;
     errno = ENOMEM;
     return 1;
 }
