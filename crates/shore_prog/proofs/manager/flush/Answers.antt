@@ -1,4 +1,0 @@
-use Rattle.shore_prog.proofs.manager.flush.Goals as goal
-
-pub returns-in-Nothing : goal.returns-in-Nothing
-returns-in-Nothing c = (_, c.in-Nothing.ensures)
