@@ -19,7 +19,7 @@ pushed_ends from [] last id end h more = (omega (arith, h, more), refl)
 pushed_ends from (e ∷ rest) last id end h more = (h.0, pushed_ends e.1 rest last id end h.1 more)
 
 -- what lies before the end of a list is the same if more is behind it
-between_kept : (a b : ℕ) (xs ys : List ℕ) → a ≤ b → b ≤ length xs → between a b (xs ++ ys) ≡ between a b xs
+pub between_kept : (a b : ℕ) (xs ys : List ℕ) → a ≤ b → b ≤ length xs → between a b (xs ++ ys) ≡ between a b xs
 between_kept a b xs ys order inside =
     let long = length-drop a xs in
     ap (take (b - a)) (drop-append-le a xs ys (omega (arith, order, inside)))

@@ -6,3 +6,4 @@ pub mod Layout
 pub mod Locking
 pub mod Names
 pub mod Pairs
+pub mod Runs

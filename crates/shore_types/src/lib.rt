@@ -11,6 +11,7 @@ pub mod locking;
 pub mod log_ends;
 pub mod pairs;
 pub mod sequences;
+pub mod slotted;
 
 pub use config::{ConfigPlace, Setting, Text};
 pub use faults::{Device, Fault};
@@ -20,3 +21,4 @@ pub use locking::{Granule, Level, Mode};
 pub use log_ends::LogEnds;
 pub use pairs::Pairs;
 pub use sequences::{Bytes, Sequence};
+pub use slotted::Slotted;

@@ -1,9 +1,11 @@
 //! Ids with the bytes of their records, in few allocations.
-ghost use Rattle.std.specs.Prelude.{◌≡◌, ◌<◌, ◌≤◌, ◌↔◌, ◌++◌, ◌∷◌, [], length, slice_get, option_map, IsTrue, IfOk, OnOk, OnErr};
-ghost use Rattle.std.specs.List.{between};
+ghost use Rattle.std.specs.Prelude.{◌≡◌, ◌+◌, ◌^◌, ◌<◌, ◌≤◌, ◌↔◌, ◌++◌, ◌∷◌, [], length, slice_get, option_map, IsTrue, IfOk, OnOk, OnErr, vec_capacity};
+ghost use Rattle.std.specs.List.{between, sum_by};
+ghost use Rattle.shore_types.specs.Images.{image_len};
 ghost use Rattle.shore_types.specs.Pairs.{begin_in};
+ghost use Rattle.shore_types.specs.Runs.{IsRun, ends_from, records_from, slotted_images};
 
-use crate::Rid;
+use crate::{PageId, Rid, Slotted};
 use std::alloc::{AllocError, Global};
 use std::marker::Model;
 
@@ -48,6 +50,14 @@ impl Pairs {
         })
     }
 
+    /// Drops all pairs, and keeps the memory.
+    pub fn clear(&mut self)
+        ensures { self.new ≡ [] }
+    {
+        self.bytes.clear();
+        self.ends.clear();
+    }
+
     pub fn len(&self) -> usize
         ensures { result ≡ length self.now }
     {
@@ -62,6 +72,24 @@ impl Pairs {
         self.ends.reserve(1)?;
         self.bytes.extend_from_slice(bytes)?;
         self.ends.push_reserved((id, self.bytes.len()));
+        Ok(())
+    }
+
+    /// Adds the records of a page, of which these are the bytes: they are copied at once. Nothing is changed if an allocation fails.
+    pub fn push_run<S: Slotted>(
+        &mut self,
+        id: &PageId,
+        slots: &S,
+        bytes: &[u8],
+    ) -> Result<(), AllocError>
+        requires { IsRun bytes.now (slotted_images S.Slotted slots.now) }
+        ensures ok { OnOk result (self.new ≡ self.old ++ records_from id.now 0 (slotted_images S.Slotted slots.now)) }
+        ensures err { OnErr result (self.new ≡ self.old) }
+    {
+        let from = self.bytes.len();
+        self.ends.reserve(slots.slots() as usize)?;
+        self.bytes.extend_from_slice(bytes)?;
+        push_ends(&mut self.ends, id, slots, from);
         Ok(())
     }
 
@@ -83,6 +111,23 @@ impl Pairs {
     {
         self.ends.as_slice() == other.ends.as_slice()
             && self.bytes.as_slice() == other.bytes.as_slice()
+    }
+}
+
+// The ids of a page's records, each with the end of its bytes: these lie one behind another from a place on.
+fn push_ends<S: Slotted>(ends: &mut Vec<(Rid, usize)>, id: &PageId, slots: &S, from: usize)
+    requires capacity { length ends.old.items + length (slotted_images S.Slotted slots.now) ≤ vec_capacity ends.old }
+    requires room { from + sum_by image_len (slotted_images S.Slotted slots.now) < 2 ^ 64 }
+    ensures { ends.new.items ≡ ends.old.items ++ ends_from id.now 0 from (slotted_images S.Slotted slots.now) }
+{
+    let mut end = from;
+    for slot in 0..slots.slots() {
+        end += slots.len_at(slot);
+        let page = PageId {
+            store: id.store,
+            page: id.page,
+        };
+        ends.push_reserved((Rid { page, slot }, end));
     }
 }
 
