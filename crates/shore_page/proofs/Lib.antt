@@ -1,6 +1,8 @@
 pub mod RoomLemmas
+pub mod RunLemmas
 pub mod UndoLemmas
 pub mod Fitting
+pub mod FullLemmas
 pub mod WritingLemmas
 pub mod LayoutLemmas
 pub mod SlotsWritten

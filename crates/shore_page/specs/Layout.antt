@@ -1,5 +1,5 @@
 -- How the bytes of a page hold its records, and how the claims go beside them.
-use Rattle.std.specs.Prelude.{◌≡◌, ◌≢◌, ◌⊎◌, ℕ, ◌+◌, ◌<◌, ◌≤◌, List, [], ◌∷◌, length}
+use Rattle.std.specs.Prelude.{◌≡◌, ◌≢◌, ◌⊎◌, ℕ, ◌+◌, ◌<◌, ◌≤◌, List, [], ◌∷◌, length, slice_index_or, None}
 use Rattle.std.specs.List.{sum_by}
 use Rattle.shore_types.specs.declared.ids.PageId.{PageId}
 use Rattle.shore_types.specs.declared.layout.TheConstants.{PAGE_BYTES, MAX_SLOTS}
@@ -7,7 +7,7 @@ use Rattle.shore_types.specs.Images.{Image, image_len}
 use Rattle.shore_page.specs.Slots.{Slot}
 use Rattle.shore_page.specs.Room.{KeepsClaims}
 use Rattle.shore_page.specs.Text.{HasHeader, table_of, offset_at, length_at, Covers}
-use Rattle.shore_page.specs.Reading.{IsTable, slot_image}
+use Rattle.shore_page.specs.Reading.{IsTable, images_in, slot_image}
 
 -- a page without its claims
 pub record PageImages : Type 0 where
@@ -28,10 +28,16 @@ pub record IsLaidOut (bytes : List ℕ) (slots end : ℕ) : Type 0 where
   pub back : end ≤ table_of slots
   pub ends : (slot : ℕ) → slot < slots → offset_at bytes slot + length_at bytes slot ≤ end
 
--- what the bytes of a page are at all times: a header, and a slot table with its records
-pub record IsPageBytes (bytes : List ℕ) (id : PageId) (number slots end : ℕ) : Type 0 where
+-- the slots below one are there, and each of them has a record
+pub record AreFull (images : List Image) (full : ℕ) : Type 0 where
+  pub there : full ≤ length images
+  pub each : (slot : ℕ) → slot < full → slice_index_or images slot None ≢ None
+
+-- what the bytes of a page are at all times: a header, and a slot table with its records, of which the first slots are known to be full
+pub record IsPageBytes (bytes : List ℕ) (id : PageId) (number slots end full : ℕ) : Type 0 where
   pub header : HasHeader bytes id number slots
   pub laid_out : IsLaidOut bytes slots end
+  pub filled : AreFull (images_in bytes slots) full
 
 -- so many bytes at an offset lie between the header and the slot table, and belong to no other slot's record
 pub record IsFreeSpace (bytes : List ℕ) (slots slot offset len : ℕ) : Type 0 where

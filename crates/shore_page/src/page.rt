@@ -2,6 +2,7 @@
 ghost use Rattle.std.specs.Prelude.{◌≡◌, ◌≢◌, ◌+◌, ◌-◌, ◌*◌, ◌<◌, ◌≤◌, ◌++◌, ◌∷◌, ◌↔◌, ℕ, [], length, replicate, slice_get, Some, None, option_map, IsTrue, IfOk, IfSome, List, vec_capacity};
 ghost use Rattle.shore_page.specs.Slots.{image_at_slot, with_change, with_slot, with_image};
 ghost use Rattle.shore_types.specs.Images.{image_len, Image};
+ghost use Rattle.shore_types.specs.Runs.{IsRun};
 ghost use Rattle.shore_page.specs.Room.{claim_at, free_bytes, need, Fits, HasRoom, IsCandidate, IsFirstCandidate, ChangesOne, raised, lowered};
 ghost use Rattle.shore_types.specs.declared.layout.TheConstants.{PAGE_BYTES, MAX_RECORD_BYTES, MAX_SLOTS};
 ghost use Rattle.shore_page.specs.Text.{IsPageText, images_of, settled_page};
@@ -9,7 +10,7 @@ ghost use Rattle.shore_page.specs.Text.{IsPageText, images_of, settled_page};
 use crate::claims::{add_claims, claim_records};
 use crate::text::PageBytes;
 use shore_types::layout::{MAX_RECORD_BYTES, MAX_SLOTS, PAGE_ROOM, SLOT_ENTRY_BYTES};
-use shore_types::{Lsn, PageId};
+use shore_types::{Lsn, PageId, Slotted};
 use std::alloc::{AllocError, Global};
 use std::marker::Model;
 
@@ -80,6 +81,14 @@ impl Page {
             return None;
         }
         self.text.image(slot as usize)
+    }
+
+    /// The bytes of all records, if they lie one behind another in the order of their slots, and each slot has one. None only says that they are
+    /// to be read one by one.
+    pub fn run(&self) -> Option<&[u8]>
+        ensures { IfSome result (λ bytes. IsRun bytes.now (images_of self.now.slots)) }
+    {
+        self.text.run()
     }
 
     /// The bytes that are kept for a slot, none for one that is not there.
@@ -307,5 +316,19 @@ impl Page {
         let slot = slot as usize;
         self.raise(slot, 0);
         self.text.clear(slot);
+    }
+}
+
+impl Slotted for Page {
+    ghost use Rattle.shore_page.specs.Text.{images_of};
+
+    ghost images = { λ p. images_of p.slots };
+
+    fn slots(&self) -> u16 {
+        self.text.slot_count() as u16
+    }
+
+    fn len_at(&self, slot: u16) -> usize {
+        self.text.record_len(slot as usize)
     }
 }

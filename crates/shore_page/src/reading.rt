@@ -1,7 +1,7 @@
 //! Which bytes are a page's: the check of a header, and of a slot table.
 ghost use Rattle.std.specs.Prelude.{◌≡◌, ◌+◌, ◌-◌, ◌*◌, ◌<◌, ◌≤◌, ◌↔◌, ℕ, false, length, Some, None, IsTrue, IsSome, IfSome};
 ghost use Rattle.shore_types.specs.declared.layout.TheConstants.{MAX_SLOTS};
-ghost use Rattle.shore_page.specs.Layout.{IsLaidOut, record_bytes};
+ghost use Rattle.shore_page.specs.Layout.{AreFull, IsLaidOut, record_bytes};
 ghost use Rattle.shore_page.specs.Text.{HasHeader};
 ghost use Rattle.shore_page.specs.Reading.{Lies, Follows, IsEntry, IsTable, images_in, marks_of, Marks, IsTaken};
 
@@ -143,4 +143,18 @@ pub fn check_slots(bytes: &[u8], slots: usize) -> Option<usize>
         return rising;
     }
     marked_end(bytes, slots)
+}
+
+/// So many slots have a record, from the first on.
+pub fn full_slots(bytes: &[u8], slots: usize) -> usize
+    requires whole { length bytes.now ≡ 8192 }
+    requires few { slots ≤ MAX_SLOTS }
+    ensures { AreFull (images_in bytes.now slots) result }
+{
+    for slot in 0..slots {
+        if entry_at(bytes, slot).offset == 0 {
+            return slot;
+        }
+    }
+    slots
 }

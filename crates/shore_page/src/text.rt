@@ -1,14 +1,15 @@
 //! A page's text with its records: the bytes are a text at all times, and only they are kept.
-ghost use Rattle.std.specs.Prelude.{◌≡◌, ◌≢◌, ◌↔◌, ◌+◌, ◌-◌, ◌*◌, ◌<◌, ◌≤◌, ◌++◌, ◌∷◌, ℕ, [], length, replicate, set, slice_get, slice_index_or, Some, None, option_map, IsTrue, IfOk, IfSome, List};
+ghost use Rattle.std.specs.Prelude.{◌≡◌, ◌≢◌, ◌↔◌, ◌⊎◌, ◌+◌, ◌-◌, ◌*◌, ◌<◌, ◌≤◌, ◌++◌, ◌∷◌, ℕ, [], length, replicate, set, slice_get, slice_index_or, Some, None, option_map, IsTrue, IfOk, IfSome, List};
 ghost use Rattle.std.specs.Option.{option_and_then};
 ghost use Rattle.shore_types.specs.Images.{Image, image_len};
+ghost use Rattle.shore_types.specs.Runs.{IsRun};
 ghost use Rattle.shore_types.specs.declared.layout.TheConstants.{PAGE_BYTES, MAX_RECORD_BYTES, MAX_SLOTS};
 ghost use Rattle.shore_page.specs.Text.{IsPageText};
 ghost use Rattle.shore_page.specs.Layout.{record_bytes};
 
 use crate::entries::{entry_at, image_at};
 use crate::placing::{append_image, clear_slot, grow_table, put_image};
-use crate::reading::{check_slots, read_header};
+use crate::reading::{check_slots, full_slots, read_header};
 use crate::writing::{put_header, put_number};
 use shore_types::layout::{PAGE_BYTES, PAGE_HEADER_BYTES, SLOT_ENTRY_BYTES};
 use shore_types::{Lsn, PageId};
@@ -28,6 +29,8 @@ pub struct PageBytes {
     slots: usize,
     // No record ends behind it. What is between it and the slot table is free; so are holes below it.
     end: usize,
+    // All slots below it have a record, so that no search for an empty one looks at them. It may be lower than need be.
+    full: usize,
 }
 
 impl Model for PageBytes {
@@ -39,7 +42,7 @@ impl Model for PageBytes {
 
     ghost view = { λ p. record { id = p.id; number = p.number; images = images_in p.bytes.items p.slots } };
 
-    ghost invariant = { λ p. IsPageBytes p.bytes.items p.id p.number p.slots p.end };
+    ghost invariant = { λ p. IsPageBytes p.bytes.items p.id p.number p.slots p.end p.full };
 }
 
 impl PageBytes {
@@ -55,6 +58,7 @@ impl PageBytes {
             bytes,
             slots: 0,
             end: PAGE_HEADER_BYTES,
+            full: 0,
         })
     }
 
@@ -93,6 +97,22 @@ impl PageBytes {
         image_at(&self.bytes, slot)
     }
 
+    /// The bytes of all records, if they lie one behind another from the header on, in the order of their slots, and each slot has one. None only
+    /// says that they are to be read one by one.
+    pub fn run(&self) -> Option<&[u8]>
+        ensures { IfSome result (λ bytes. IsRun bytes.now self.now.images) }
+    {
+        let mut end = PAGE_HEADER_BYTES;
+        for slot in 0..self.slots {
+            let entry = entry_at(&self.bytes, slot);
+            if entry.offset != end {
+                return None;
+            }
+            end += entry.bytes;
+        }
+        Some(&self.bytes[PAGE_HEADER_BYTES..end])
+    }
+
     /// Whether a slot that is there has no record.
     pub fn is_empty(&self, slot: usize) -> bool
         requires { slot < length self.now.images }
@@ -110,7 +130,7 @@ impl PageBytes {
         ensures full { (slot : ℕ) → from ≤ slot → slot < result → slice_index_or self.now.images slot None ≢ None }
     {
         let slots = self.slot_count();
-        let mut slot = from;
+        let mut slot = from.max(self.full);
         while slot + 4 <= slots && self.are_full(slot) {
             slot += 4;
         }
@@ -156,6 +176,10 @@ impl PageBytes {
         ensures { self.new ≡ record self.old { images = set self.old.images slot (Some bytes.now) } }
     {
         self.end = put_image(&mut self.bytes, self.slots, self.end, slot, bytes);
+        // Those behind it may have been full all the while.
+        if slot == self.full {
+            self.full = full_slots(&self.bytes, self.slots);
+        }
     }
 
     /// Puts a record into the slot behind the last one.
@@ -166,6 +190,7 @@ impl PageBytes {
         ensures { self.new ≡ record self.old { images = self.old.images ++ Some bytes.now ∷ [] } }
     {
         self.end = append_image(&mut self.bytes, self.slots, self.end, bytes);
+        self.full = full_with(self.full, self.slots);
         self.slots += 1;
     }
 
@@ -175,6 +200,7 @@ impl PageBytes {
         ensures { self.new ≡ record self.old { images = set self.old.images slot None } }
     {
         clear_slot(&mut self.bytes, self.slots, slot);
+        self.full = self.full.min(slot);
     }
 
     /// The text itself.
@@ -213,6 +239,7 @@ impl PageBytes {
         let Some(end) = check_slots(bytes, header.slots) else {
             return Ok(None);
         };
+        let full = full_slots(bytes, header.slots);
         let bytes = Vec::from_slice(alloc, bytes)?;
         Ok(Some(PageBytes {
             id,
@@ -220,6 +247,18 @@ impl PageBytes {
             bytes,
             slots: header.slots,
             end,
+            full,
         }))
     }
+}
+
+// Below which slot all are known to be full once one more slot has a record.
+fn full_with(full: usize, slot: usize) -> usize
+    requires { full ≤ MAX_SLOTS }
+    ensures { (result ≡ full) ⊎ ((full ≡ slot) × (result ≡ full + 1)) }
+{
+    if full == slot {
+        return full + 1;
+    }
+    full
 }

@@ -1,7 +1,9 @@
 use Rattle.std.proofs.Common.{◌≡◌, ◌+◌, ◌++◌, ◌∷◌, [], ℕ, List, length, Some, sym, ap, subst, ◌∙◌, arith}
 use Rattle.std.proofs.lemmas.List.{with_items_is}
+use Rattle.shore_types.specs.Images.{Image}
 use Rattle.shore_page.specs.Reading.{images_in}
-use Rattle.shore_page.specs.Layout.{PageImages, IsPageBytes, IsLaidOut, record_bytes}
+use Rattle.shore_page.specs.Layout.{AreFull, PageImages, IsPageBytes, IsLaidOut, record_bytes}
+use Rattle.shore_page.proofs.FullLemmas.{full_pushed}
 use Rattle.shore_page.proofs.LayoutLemmas.{length-images, same_but_images}
 use Rattle.shore_page.proofs.text.PageBytes.append.Goals as goal
 
@@ -24,12 +26,15 @@ invariant_of-self c =
     let kept = c.self.invariant in
     let new = c.append_image-self-inside.new.bytes in
     let more = c.self.inside.slots + 1 in
-    let old = subst (λ (b : List ℕ). IsPageBytes b c.self.inside.id c.self.inside.number c.self.inside.slots c.self.inside.end) (sym c.deref_mut.ensures.value) kept in
+    let old = subst (λ (b : List ℕ). IsPageBytes b c.self.inside.id c.self.inside.number c.self.inside.slots c.self.inside.end c.self.inside.full) (sym c.deref_mut.ensures.value) kept in
     let laid_out = c.append_image-self-inside.ensures.laid_out in
     let after = with_items_is c.self.inside.bytes new (omega (arith, laid_out.whole, old.laid_out.whole, c.deref_mut.ensures.len)) in
-    subst (λ (b : List ℕ). IsPageBytes b c.self.inside.id c.self.inside.number more c.append_image-self-inside.result) (sym after) record {
+    subst (λ (b : List ℕ). IsPageBytes b c.self.inside.id c.self.inside.number more c.append_image-self-inside.result c.full_with-self-inside.result) (sym after) record {
       header = c.append_image-self-inside.ensures.header c.self.inside.id c.self.inside.number old.header;
       laid_out = laid_out;
+      filled = subst (λ (l : List Image). AreFull l c.full_with-self-inside.result) (sym c.append_image-self-inside.ensures.images)
+          (full_pushed (images_in c.deref_mut.result.now c.self.inside.slots) c.self.inside.full c.self.inside.slots c.full_with-self-inside.result c.args.bytes.now
+          (sym (length-images c.deref_mut.result.now c.self.inside.slots)) old.filled c.full_with-self-inside.ensures);
     }
 
 pub returns : goal.returns
@@ -44,3 +49,6 @@ returns c =
     (ap (λ (b : List ℕ). images_in b (slots + 1)) after ∙ c.append_image-self-inside.ensures.images
     ∙ ap (λ (b : List ℕ). images_in b slots ++ Some c.args.bytes.now ∷ []) c.deref_mut.ensures.value
     ∙ ap (λ (p : PageImages). p.images ++ Some c.args.bytes.now ∷ []) c.self.view_is)
+
+pub full_with-self-inside-requires : goal.full_with-self-inside-requires
+full_with-self-inside-requires c = omega (arith, c.self.invariant.filled.there, length-images c.self.inside.bytes.items c.self.inside.slots, c.self.invariant.laid_out.few)

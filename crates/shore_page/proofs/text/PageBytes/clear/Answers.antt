@@ -1,9 +1,11 @@
 use Rattle.std.proofs.Common.{ℕ, List, length, None, sym, ap, subst, ◌∙◌, arith}
 use Rattle.std.proofs.Math.ListN.{set}
 use Rattle.std.proofs.lemmas.List.{with_items_is}
+use Rattle.shore_types.specs.Images.{Image}
 use Rattle.shore_page.specs.Reading.{images_in}
-use Rattle.shore_page.specs.Layout.{PageImages, IsPageBytes, IsLaidOut}
+use Rattle.shore_page.specs.Layout.{AreFull, PageImages, IsPageBytes, IsLaidOut}
 use Rattle.shore_page.proofs.WritingLemmas.{header_same}
+use Rattle.shore_page.proofs.FullLemmas.{full_cleared}
 use Rattle.shore_page.proofs.LayoutLemmas.{length-images, same_but_images}
 use Rattle.shore_page.proofs.text.PageBytes.clear.Goals as goal
 
@@ -20,12 +22,15 @@ pub invariant_of-self : goal.invariant_of-self
 invariant_of-self c =
     let kept = c.self.invariant in
     let new = c.clear_slot.new.bytes in
-    let old = subst (λ (b : List ℕ). IsPageBytes b c.self.inside.id c.self.inside.number c.self.inside.slots c.self.inside.end) (sym c.deref_mut.ensures.value) kept in
+    let old = subst (λ (b : List ℕ). IsPageBytes b c.self.inside.id c.self.inside.number c.self.inside.slots c.self.inside.end c.self.inside.full) (sym c.deref_mut.ensures.value) kept in
     let laid_out = c.clear_slot.ensures.laid_out c.self.inside.end old.laid_out in
     let after = with_items_is c.self.inside.bytes new (omega (arith, laid_out.whole, old.laid_out.whole, c.deref_mut.ensures.len)) in
-    subst (λ (b : List ℕ). IsPageBytes b c.self.inside.id c.self.inside.number c.self.inside.slots c.self.inside.end) (sym after) record {
+    subst (λ (b : List ℕ). IsPageBytes b c.self.inside.id c.self.inside.number c.self.inside.slots c.self.inside.end c.min-self-inside.result) (sym after) record {
       header = header_same c.deref_mut.result.now new c.self.inside.id c.self.inside.number c.self.inside.slots old.laid_out.whole c.clear_slot.ensures.header old.header;
       laid_out = laid_out;
+      filled = subst (λ (l : List Image). AreFull l c.min-self-inside.result) (sym (c.clear_slot.ensures.images c.self.inside.end old.laid_out))
+          (subst (AreFull (set (images_in c.deref_mut.result.now c.self.inside.slots) c.args.slot None)) (sym c.min-self-inside.ensures)
+          (full_cleared (images_in c.deref_mut.result.now c.self.inside.slots) c.self.inside.full c.args.slot old.filled));
     }
 
 pub returns : goal.returns

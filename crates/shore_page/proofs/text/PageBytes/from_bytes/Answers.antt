@@ -23,8 +23,8 @@ returns-in_default-check_slots-clause-only c number images text =
 
 pub invariant_of-result : goal.invariant_of-result
 invariant_of-result c =
-    subst (λ (b : List ℕ). IsPageBytes b c.args.id c.in-Some.header.number c.in-Some.header.slots c.in-Some-check_slots.end) (sym c.in_ok-bytes.ensures.items)
-    record { header = c.in-Some.ensures.found; laid_out = c.in-Some-check_slots.ensures.laid_out }
+    subst (λ (b : List ℕ). IsPageBytes b c.args.id c.in-Some.header.number c.in-Some.header.slots c.in-Some-check_slots.end c.full_slots-full.result) (sym c.in_ok-bytes.ensures.items)
+    record { header = c.in-Some.ensures.found; laid_out = c.in-Some-check_slots.ensures.laid_out; filled = c.full_slots-full.ensures }
 
 pub returns-clause-found : goal.returns-clause-found
 returns-clause-found c =

@@ -1,7 +1,9 @@
 use Rattle.std.proofs.Common.{◌≡◌, ◌-◌, ◌++◌, ℕ, List, length, replicate, None, sym, ap, subst, ◌∙◌, arith}
 use Rattle.std.proofs.lemmas.List.{with_items_is}
+use Rattle.shore_types.specs.Images.{Image}
 use Rattle.shore_page.specs.Reading.{images_in}
-use Rattle.shore_page.specs.Layout.{PageImages, IsPageBytes, IsLaidOut, record_bytes}
+use Rattle.shore_page.specs.Layout.{AreFull, PageImages, IsPageBytes, IsLaidOut, record_bytes}
+use Rattle.shore_page.proofs.FullLemmas.{full_behind}
 use Rattle.shore_page.proofs.LayoutLemmas.{length-images, same_but_images}
 use Rattle.shore_page.proofs.text.PageBytes.grow.Goals as goal
 
@@ -23,12 +25,14 @@ pub invariant_of-self : goal.invariant_of-self
 invariant_of-self c =
     let kept = c.self.invariant in
     let new = c.grow_table-self-inside.new.bytes in
-    let old = subst (λ (b : List ℕ). IsPageBytes b c.self.inside.id c.self.inside.number c.self.inside.slots c.self.inside.end) (sym c.deref_mut.ensures.value) kept in
+    let old = subst (λ (b : List ℕ). IsPageBytes b c.self.inside.id c.self.inside.number c.self.inside.slots c.self.inside.end c.self.inside.full) (sym c.deref_mut.ensures.value) kept in
     let laid_out = c.grow_table-self-inside.ensures.laid_out in
     let after = with_items_is c.self.inside.bytes new (omega (arith, laid_out.whole, old.laid_out.whole, c.deref_mut.ensures.len)) in
-    subst (λ (b : List ℕ). IsPageBytes b c.self.inside.id c.self.inside.number c.args.slots c.grow_table-self-inside.result) (sym after) record {
+    subst (λ (b : List ℕ). IsPageBytes b c.self.inside.id c.self.inside.number c.args.slots c.grow_table-self-inside.result c.self.inside.full) (sym after) record {
       header = c.grow_table-self-inside.ensures.header c.self.inside.id c.self.inside.number old.header;
       laid_out = laid_out;
+      filled = subst (λ (l : List Image). AreFull l c.self.inside.full) (sym c.grow_table-self-inside.ensures.images)
+          (full_behind (images_in c.deref_mut.result.now c.self.inside.slots) (replicate (c.args.slots - c.self.inside.slots) None) c.self.inside.full old.filled);
     }
 
 pub returns : goal.returns

@@ -1,10 +1,11 @@
-use Rattle.std.proofs.Common.{◌≡◌, ℕ, List, length, Some, None, sym, ap, subst, ◌∙◌, arith}
+use Rattle.std.proofs.Common.{◌≡◌, ℕ, List, length, Some, None, inl, refl, sym, ap, subst, ◌∙◌, arith}
 use Rattle.std.proofs.Math.ListN.{set}
 use Rattle.std.proofs.lemmas.List.{with_items_is}
 use Rattle.shore_types.specs.Images.{Image}
 use Rattle.shore_page.specs.Reading.{images_in}
-use Rattle.shore_page.specs.Layout.{PageImages, IsPageBytes, IsLaidOut, record_bytes}
+use Rattle.shore_page.specs.Layout.{AreFull, PageImages, IsPageBytes, IsLaidOut, record_bytes}
 use Rattle.shore_page.proofs.WritingLemmas.{header_same}
+use Rattle.shore_page.proofs.FullLemmas.{full_more}
 use Rattle.shore_page.proofs.LayoutLemmas.{length-images, same_but_images}
 use Rattle.shore_page.proofs.text.PageBytes.put.Goals as goal
 
@@ -26,16 +27,47 @@ pub invariant_of-self : goal.invariant_of-self
 invariant_of-self c =
     let kept = c.self.invariant in
     let new = c.put_image-self-inside.new.bytes in
-    let old = subst (λ (b : List ℕ). IsPageBytes b c.self.inside.id c.self.inside.number c.self.inside.slots c.self.inside.end) (sym c.deref_mut.ensures.value) kept in
+    let slots = c.self.inside.slots in
+    let full = c.full_slots-self-inside.result in
+    let old = subst (λ (b : List ℕ). IsPageBytes b c.self.inside.id c.self.inside.number slots c.self.inside.end c.self.inside.full) (sym c.deref_mut.ensures.value) kept in
     let laid_out = c.put_image-self-inside.ensures.laid_out in
     let after = with_items_is c.self.inside.bytes new (omega (arith, laid_out.whole, old.laid_out.whole, c.deref_mut.ensures.len)) in
-    subst (λ (b : List ℕ). IsPageBytes b c.self.inside.id c.self.inside.number c.self.inside.slots c.put_image-self-inside.result) (sym after) record {
-      header = header_same c.deref_mut.result.now new c.self.inside.id c.self.inside.number c.self.inside.slots old.laid_out.whole c.put_image-self-inside.ensures.header old.header;
+    subst (λ (b : List ℕ). IsPageBytes b c.self.inside.id c.self.inside.number slots c.put_image-self-inside.result full) (sym after) record {
+      header = header_same c.deref_mut.result.now new c.self.inside.id c.self.inside.number slots old.laid_out.whole c.put_image-self-inside.ensures.header old.header;
       laid_out = laid_out;
+      filled = subst (λ (b : List ℕ). AreFull (images_in b slots) full) (c.deref.ensures.value ∙ after) c.full_slots-self-inside.ensures;
     }
 
-pub returns : goal.returns
-returns c =
+pub invariant_of-self-else-slot-self : goal.invariant_of-self-else-slot-self
+invariant_of-self-else-slot-self c =
+    let kept = c.self.invariant in
+    let new = c.put_image-self-inside.new.bytes in
+    let old = subst (λ (b : List ℕ). IsPageBytes b c.self.inside.id c.self.inside.number c.self.inside.slots c.self.inside.end c.self.inside.full) (sym c.deref_mut.ensures.value) kept in
+    let laid_out = c.put_image-self-inside.ensures.laid_out in
+    let after = with_items_is c.self.inside.bytes new (omega (arith, laid_out.whole, old.laid_out.whole, c.deref_mut.ensures.len)) in
+    subst (λ (b : List ℕ). IsPageBytes b c.self.inside.id c.self.inside.number c.self.inside.slots c.put_image-self-inside.result c.self.inside.full) (sym after) record {
+      header = header_same c.deref_mut.result.now new c.self.inside.id c.self.inside.number c.self.inside.slots old.laid_out.whole c.put_image-self-inside.ensures.header old.header;
+      laid_out = laid_out;
+      filled = subst (λ (l : List Image). AreFull l c.self.inside.full) (sym c.put_image-self-inside.ensures.images)
+          (full_more (images_in c.deref_mut.result.now c.self.inside.slots) c.self.inside.full c.args.slot c.self.inside.full c.args.bytes.now
+          (omega (arith, c.requires.there, ap (λ (p : PageImages). length p.images) c.self.view_is, length-images c.self.inside.bytes.items c.self.inside.slots, length-images c.deref_mut.result.now c.self.inside.slots)) old.filled (inl refl));
+    }
+
+pub returns-then-slot-self : goal.returns-then-slot-self
+returns-then-slot-self c =
+    let kept = c.self.invariant in
+    let new = c.put_image-self-inside.new.bytes in
+    let slots = c.self.inside.slots in
+    let old = subst (λ (b : List ℕ). IsLaidOut b slots c.self.inside.end) (sym c.deref_mut.ensures.value) kept.laid_out in
+    let laid_out = c.put_image-self-inside.ensures.laid_out in
+    let after = with_items_is c.self.inside.bytes new (omega (arith, laid_out.whole, old.whole, c.deref_mut.ensures.len)) in
+    same_but_images _ c.args.self.now _ _ c.self.view_is
+    (ap (λ (b : List ℕ). images_in b slots) after ∙ c.put_image-self-inside.ensures.images
+    ∙ ap (λ (b : List ℕ). set (images_in b slots) c.args.slot (Some c.args.bytes.now)) c.deref_mut.ensures.value
+    ∙ ap (λ (p : PageImages). set p.images c.args.slot (Some c.args.bytes.now)) c.self.view_is)
+
+pub returns-else-slot-self : goal.returns-else-slot-self
+returns-else-slot-self c =
     let kept = c.self.invariant in
     let new = c.put_image-self-inside.new.bytes in
     let slots = c.self.inside.slots in

@@ -3,7 +3,7 @@ use Rattle.std.specs.Vec.{with_items}
 use Rattle.std.proofs.lemmas.List.{with_items_is}
 use Rattle.shore_types.specs.Images.{Image}
 use Rattle.shore_page.specs.Reading.{images_in}
-use Rattle.shore_page.specs.Layout.{PageImages, IsPageBytes, IsLaidOut}
+use Rattle.shore_page.specs.Layout.{AreFull, PageImages, IsPageBytes, IsLaidOut}
 use Rattle.shore_page.proofs.LayoutLemmas.{number_laid_out, number_images}
 use Rattle.shore_page.proofs.text.PageBytes.set_number.Goals as goal
 
@@ -14,12 +14,13 @@ pub invariant_of-self : goal.invariant_of-self
 invariant_of-self c =
     let kept = c.self.invariant in
     let new = c.put_number.new.out in
-    let old = subst (λ (b : List ℕ). IsPageBytes b c.self.inside.id c.self.inside.number c.self.inside.slots c.self.inside.end) (sym c.deref_mut.ensures.value) kept in
+    let old = subst (λ (b : List ℕ). IsPageBytes b c.self.inside.id c.self.inside.number c.self.inside.slots c.self.inside.end c.self.inside.full) (sym c.deref_mut.ensures.value) kept in
     let laid_out = number_laid_out c.deref_mut.result.now new c.self.inside.slots c.self.inside.end old.laid_out c.put_number.ensures.beside in
     let after = with_items_is c.self.inside.bytes new (omega (arith, laid_out.whole, old.laid_out.whole, c.deref_mut.ensures.len)) in
-    subst (λ (b : List ℕ). IsPageBytes b c.self.inside.id c.args.number c.self.inside.slots c.self.inside.end) (sym after) record {
+    subst (λ (b : List ℕ). IsPageBytes b c.self.inside.id c.args.number c.self.inside.slots c.self.inside.end c.self.inside.full) (sym after) record {
       header = c.put_number.ensures.header c.self.inside.id c.self.inside.number c.self.inside.slots old.header;
       laid_out = laid_out;
+      filled = subst (λ (l : List Image). AreFull l c.self.inside.full) (sym (number_images c.deref_mut.result.now new c.self.inside.slots c.self.inside.end old.laid_out c.put_number.ensures.beside)) old.filled;
     }
 
 pub returns : goal.returns
