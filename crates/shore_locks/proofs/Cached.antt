@@ -14,7 +14,7 @@ use Rattle.shore_model.specs.declared.requests.Request.{Request}
 use Rattle.shore_model.specs.Requests.{are_alike, AreRequests, placed_last, requests_by}
 use Rattle.shore_nodes.specs.Tables.{is_for, is_waiting, mode_held, request_for, waiting_request}
 use Rattle.shore_locks.specs.declared.cache.Entry.{Entry}
-use Rattle.shore_locks.specs.Cache.{AreHeld, IsForgotten, IsNoted, IsNotedIn, cached, index_of, mode_in, nothing_of, said_of}
+use Rattle.shore_locks.specs.Cache.{AreHeld, AreQuiet, IsForgotten, IsNoted, IsNotedIn, cached, index_of, mode_in, nothing_of, said_of}
 use Rattle.shore_locks.specs.Grants.{after_grant, asking, first_hold, given_up, granted, is_enough, passed, put, released, removed, replaced, taken_back, withdrawn}
 use Rattle.shore_nodes.proofs.Members.{In, either, Contains-In, In-Contains, In-filter, In-left, filter-In}
 use Rattle.shore_nodes.proofs.Keys.{alike-Decides, only_one, same_granule-Decides}
@@ -119,6 +119,16 @@ known_without old new rs after t gone known stay u h k is =
 
 pub known_as : (entries : List Entry) (rs after : List Request) → AreHeld entries rs → ((u : ℕ) (h : Granule) (k : Mode) → In (first_hold u h k) rs → In (first_hold u h k) after) → AreHeld entries after
 known_as entries rs after known stay u h k is = In-Contains after (first_hold u h k) (stay u h k (Contains-In rs (first_hold u h k) (known u h k is)))
+
+-- ---- and nobody of whom something is known waits
+
+pub quiet_noted : (old new : List Entry) (rs after : List Request) (t : ℕ) (g : Granule) (m : Mode) → IsNoted old new t g m → AreQuiet old rs → is_waiting t after ≡ false
+    → ((u : ℕ) → is_waiting u rs ≡ false → is_waiting u after ≡ false) → AreQuiet new after
+quiet_noted old new rs after t g m noted known own stay u h k is =
+    ⊎_elim (λ that. subst (λ (n : ℕ). is_waiting n after ≡ false) (ap (λ (r : Request). r.txn) that) own) (λ was. stay u (known u h k was.0)) (noted u h k is)
+
+pub quiet_without : (old new : List Entry) (rs after : List Request) (t : ℕ) → IsForgotten old new t → AreQuiet old rs → ((u : ℕ) → (u ≡ t → ⊥) → is_waiting u rs ≡ false → is_waiting u after ≡ false) → AreQuiet new after
+quiet_without old new rs after t gone known stay u h k is = let was = gone u h k is in stay u was.1 (known u h k was.0)
 
 -- ---- which locks the changes leave
 

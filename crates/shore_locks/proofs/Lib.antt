@@ -7,6 +7,7 @@ pub mod ExclusiveKeys
 pub mod Exclusives
 mod Firsts
 mod Lasts
+mod Quiets
 pub mod LawLemmas
 pub mod Outcomes
 pub mod Tables

@@ -1,5 +1,5 @@
 -- What the cache of locks says of a transaction.
-use Rattle.std.specs.Prelude.{◌≡◌, ◌⊎◌, ◌==◌, ◌%◌, ℕ, List, Option, None, Some, Contains, cond, slice_index_or}
+use Rattle.std.specs.Prelude.{◌≡◌, ◌⊎◌, ◌==◌, ◌%◌, false, ℕ, List, Option, None, Some, Contains, cond, slice_index_or}
 use Rattle.shore_types.specs.declared.ids.PageId.{PageId}
 use Rattle.shore_types.specs.declared.locking.Granule.{Granule}
 use Rattle.shore_types.specs.declared.locking.Granule.TheVariants.{Page, Record, Store, Volume}
@@ -9,7 +9,7 @@ use Rattle.shore_model.specs.declared.requests.Request.{Request}
 use Rattle.shore_locks.specs.declared.cache.Entry.{Entry}
 use Rattle.shore_locks.specs.declared.cache.TheConstants.{ENTRIES}
 use Rattle.shore_nodes.specs.Orderly.{IsOrderlyWithin}
-use Rattle.shore_nodes.specs.Tables.{Table}
+use Rattle.shore_nodes.specs.Tables.{Table, is_waiting}
 use Rattle.shore_locks.specs.Grants.{first_hold}
 
 -- where the entry of a transaction is
@@ -67,7 +67,12 @@ IsForgotten old new t = (u : ℕ) (h : Granule) (k : Mode) → cached new u h �
 abbrev pub AreHeld : List Entry → List Request → Type 0
 AreHeld entries rs = (t : ℕ) (g : Granule) (m : Mode) → cached entries t g ≡ Some m → Contains rs (first_hold t g m)
 
+-- nobody of whom the cache says anything waits
+abbrev pub AreQuiet : List Entry → List Request → Type 0
+AreQuiet entries rs = (t : ℕ) (g : Granule) (m : Mode) → cached entries t g ≡ Some m → is_waiting t rs ≡ false
+
 -- the requests are orderly, and what the cache says of them is so
 pub record IsSound (table : Table) (entries : List Entry) : Type 0 where
   pub kept : IsOrderlyWithin table.limit table.requests
   pub known : AreHeld entries table.requests
+  pub quiet : AreQuiet entries table.requests

@@ -142,10 +142,13 @@ impl LockTable {
         Some(mode)
     }
 
-    /// Whether a transaction waits.
+    /// Whether a transaction waits. Of one that asked for a record of late it is known without a search.
     pub fn is_waiting(&self, txn: TxnId) -> bool
         ensures { result ≡ is_waiting txn self.now.requests }
     {
+        if self.cache.held(txn, &Granule::Volume).is_some() {
+            return false;
+        }
         searches::waiting_request(self.nodes.nodes(), txn).is_some()
     }
 

@@ -1,6 +1,6 @@
 use Rattle.std.proofs.Common.{ap, sym, ◌∙◌}
 use Rattle.shore_nodes.specs.Tables.{Table, is_waiting, mode_held}
-use Rattle.shore_locks.proofs.Cached.{held_so, holds_still, known_noted}
+use Rattle.shore_locks.proofs.Cached.{held_so, holds_still, known_noted, quiet_noted}
 use Rattle.shore_locks.proofs.table.LockTable.find.Goals as goal
 
 pub returns-in-Some-clause-held : goal.returns-in-Some-clause-held
@@ -16,4 +16,6 @@ invariant_of-self c =
       kept = c.self.invariant.kept;
       known = known_noted c.self.inside.cache.entries c.note.new.self.entries rs rs c.args.txn c.args.granule.now c.in_ok-mode.mode c.note.ensures c.self.invariant.known
           (holds_still c.args.txn c.args.granule.now c.in_ok-mode.mode rs (ap (λ (t : Table). is_waiting c.args.txn t.requests) c.self.view_is ∙ c.requires) held) (λ u h k there other. there);
+      quiet = quiet_noted c.self.inside.cache.entries c.note.new.self.entries rs rs c.args.txn c.args.granule.now c.in_ok-mode.mode c.note.ensures c.self.invariant.quiet
+          (ap (λ (t : Table). is_waiting c.args.txn t.requests) c.self.view_is ∙ c.requires) (λ u quiet. quiet);
     }

@@ -1,7 +1,8 @@
 use Rattle.std.proofs.Common.{sym, subst}
-use Rattle.shore_locks.specs.Cache.{AreHeld}
+use Rattle.shore_locks.specs.Cache.{AreHeld, AreQuiet}
 use Rattle.shore_locks.specs.Grants.{released}
-use Rattle.shore_locks.proofs.Cached.{known_without, left_released}
+use Rattle.shore_locks.proofs.Cached.{known_without, left_released, quiet_without}
+use Rattle.shore_locks.proofs.Quiets.{quiet_released}
 use Rattle.shore_locks.proofs.Tables.{kept_as, kept_released}
 use Rattle.shore_locks.proofs.table.LockTable.release_all.Goals as goal
 
@@ -14,4 +15,7 @@ invariant_of-self c =
       known = subst (AreHeld c.forget.new.self.entries) (sym c.release.ensures.items)
           (known_without c.self.inside.cache.entries c.forget.new.self.entries rs (released c.args.txn rs) c.args.txn c.forget.ensures c.self.invariant.known
           (left_released c.args.txn rs c.self.invariant.kept.orderly.one_each));
+      quiet = subst (AreQuiet c.forget.new.self.entries) (sym c.release.ensures.items)
+          (quiet_without c.self.inside.cache.entries c.forget.new.self.entries rs (released c.args.txn rs) c.args.txn c.forget.ensures c.self.invariant.quiet
+          (λ u other quiet. quiet_released c.args.txn u rs c.self.invariant.kept.orderly.one_each quiet));
     }

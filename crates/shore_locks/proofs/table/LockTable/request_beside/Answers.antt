@@ -1,14 +1,15 @@
 use Rattle.std.proofs.Common.{◌≡◌, ap, subst, sym, true, ◌∙◌}
 use Rattle.shore_model.specs.declared.requests.Request.{Request}
 use Rattle.shore_model.specs.Requests.{placed_last}
-use Rattle.shore_locks.specs.Cache.{AreHeld, IsForgotten, IsNoted}
+use Rattle.shore_locks.specs.Cache.{AreHeld, AreQuiet, IsForgotten, IsNoted}
 use Rattle.shore_locks.specs.Findings.{FindsNode}
 use Rattle.shore_locks.specs.Grants.{after_grant, asking, granted, is_enough, passed, put, wanted_mode}
 use Rattle.shore_nodes.specs.Tables.{Table, is_waiting, mode_held}
 use Rattle.shore_locks.proofs.Tables.{node_found}
 use Rattle.shore_nodes.proofs.Entering.{known_as, some_from}
-use Rattle.shore_locks.proofs.Cached.{enough_so, granted_there, known_noted, known_without, left_asking, left_granted}
+use Rattle.shore_locks.proofs.Cached.{enough_so, granted_there, known_noted, known_without, quiet_noted, quiet_without, left_asking, left_granted}
 use Rattle.shore_locks.proofs.Tables.{cond_true, free_of, kept_as, kept_granted, kept_placed}
+use Rattle.shore_locks.proofs.Quiets.{quiet_granted, quiet_placed}
 use Rattle.shore_locks.proofs.table.LockTable.request_beside.Goals as goal
 use Rattle.shore_locks.proofs.table.LockTable.request_beside.Goals.{Then-is_enough}
 
@@ -31,6 +32,9 @@ invariant_of-self c =
       known = subst (AreHeld c.note_wait.new.self.entries) (sym items)
           (known_without c.self.inside.cache.entries c.note_wait.new.self.entries rs (placed_last (asking t g c.args.mode rs) rs) t forgotten c.self.invariant.known
           (λ u h k there other. left_asking t u g h c.args.mode k rs other there));
+      quiet = subst (AreQuiet c.note_wait.new.self.entries) (sym items)
+          (quiet_without c.self.inside.cache.entries c.note_wait.new.self.entries rs (placed_last (asking t g c.args.mode rs) rs) t forgotten c.self.invariant.quiet
+          (λ u other quiet. quiet_placed t u g c.args.mode rs other quiet));
     }
 
 pub grant-requires-clause-free : goal.grant-requires-clause-free
@@ -56,6 +60,9 @@ invariant_of-self-in-Free c =
       known = subst (AreHeld c.note_grant.new.self.entries) (sym items)
           (known_noted c.self.inside.cache.entries c.note_grant.new.self.entries rs (after_grant t g c.args.mode rs) t g m noted c.self.invariant.known
           (granted_there t g c.args.mode rs one) (left_granted t g c.args.mode rs one));
+      quiet = subst (AreQuiet c.note_grant.new.self.entries) (sym items)
+          (quiet_noted c.self.inside.cache.entries c.note_grant.new.self.entries rs (after_grant t g c.args.mode rs) t g m noted c.self.invariant.quiet
+          (quiet_granted t t g c.args.mode rs one quiet) (λ u quiet. quiet_granted t u g c.args.mode rs one quiet));
     }
 
 -- the transaction is known to hold as much

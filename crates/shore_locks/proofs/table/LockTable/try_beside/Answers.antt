@@ -1,11 +1,12 @@
 use Rattle.std.proofs.Common.{◌≡◌, ap, subst, sym, true, ◌∙◌}
 use Rattle.shore_model.specs.declared.requests.Request.{Request}
-use Rattle.shore_locks.specs.Cache.{AreHeld, IsNoted}
+use Rattle.shore_locks.specs.Cache.{AreHeld, AreQuiet, IsNoted}
 use Rattle.shore_locks.specs.Grants.{after_grant, granted, is_enough, passed, put, wanted_mode}
 use Rattle.shore_nodes.specs.Tables.{Table, is_waiting, mode_held}
 use Rattle.shore_nodes.proofs.Entering.{known_as}
-use Rattle.shore_locks.proofs.Cached.{enough_so, granted_there, known_noted, left_granted}
+use Rattle.shore_locks.proofs.Cached.{enough_so, granted_there, known_noted, quiet_noted, left_granted}
 use Rattle.shore_locks.proofs.Tables.{cond_true, free_of, kept_as, kept_granted}
+use Rattle.shore_locks.proofs.Quiets.{quiet_granted}
 use Rattle.shore_locks.proofs.table.LockTable.try_beside.Goals as goal
 use Rattle.shore_locks.proofs.table.LockTable.try_beside.Goals.{Then-is_enough}
 
@@ -32,6 +33,9 @@ invariant_of-self c =
       known = subst (AreHeld c.note_grant.new.self.entries) (sym items)
           (known_noted c.self.inside.cache.entries c.note_grant.new.self.entries rs (after_grant t g c.args.mode rs) t g m noted c.self.invariant.known
           (granted_there t g c.args.mode rs one) (left_granted t g c.args.mode rs one));
+      quiet = subst (AreQuiet c.note_grant.new.self.entries) (sym items)
+          (quiet_noted c.self.inside.cache.entries c.note_grant.new.self.entries rs (after_grant t g c.args.mode rs) t g m noted c.self.invariant.quiet
+          (quiet_granted t t g c.args.mode rs one quiet) (λ u quiet. quiet_granted t u g c.args.mode rs one quiet));
     }
 
 -- the transaction is known to hold as much
