@@ -1,6 +1,6 @@
 -- What a transaction that intends to write records of a store meets on the volume and on the store: nothing.
-use Rattle.std.proofs.Common.{◌≡◌, ◌∷◌, [], ◌+◌, ℕ, List, length, inl, inr, true, false, Option, None, Some, refl, sym, subst, ◌∙◌, arith, reverse}
-use Rattle.std.specs.Prelude.{◌&&◌, cond, not, Result}
+use Rattle.std.proofs.Common.{◌≡◌, ◌∷◌, [], ◌+◌, ℕ, List, length, inl, inr, true, false, Option, None, Some, Ok, refl, sym, subst, ◌∙◌, arith, reverse}
+use Rattle.std.specs.Prelude.{◌⊎◌, ◌&&◌, ◌||◌, Bool, IsTrue, cond, not, Result}
 use Rattle.shore_types.specs.declared.faults.Fault.{Fault}
 use Rattle.shore_types.specs.declared.ids.PageId.{PageId}
 use Rattle.shore_types.specs.declared.ids.Rid.{Rid}
@@ -17,9 +17,11 @@ use Rattle.shore_locks.specs.Grants.{in_the_way, is_enough}
 use Rattle.shore_locks.specs.Tables.{Table, mode_held}
 use Rattle.shore_locks.proofs.Keys.{same_granule-Decides}
 use Rattle.shore_path.specs.declared.answers.OnConflict.TheVariants.{Refuse}
-use Rattle.shore_path.specs.Intending.{IntendsToWrite, is_intention}
+use Rattle.shore_path.specs.Intending.{CoversRecords, IntendsToWrite, is_intention}
 use Rattle.shore_path.specs.Judging.{CanLockNow}
 use Rattle.shore_path.specs.declared.answers.Acquired.{Acquired}
+use Rattle.shore_path.specs.declared.answers.Acquired.TheVariants.{Done}
+use Rattle.shore_path.specs.Acquires.{IsReached}
 use Rattle.shore_path.specs.Needs.{EndsAt, Passes}
 use Rattle.shore_path.specs.Walks.{HasOutcome, Outcome, acquired, after_at, answer_at, is_covered}
 use Rattle.shore_path.proofs.JudgedWays.{differ_path}
@@ -86,6 +88,38 @@ pub passes_store : (t : ℕ) (id : Rid) (old : Table) → IntendsToWrite old.req
 passes_store t id old has =
     let held = intends (mode_held t (Store id.page.store) old.requests) has.1 in
     record { needed = held.covers_no_record; done = rw held.enough refl; left = rw held.enough refl }
+
+-- ---- a transaction that holds what covers the records
+
+-- which of the two covers them
+covered_by : (a b c : Bool) → IsTrue (a || (b && c)) → IsTrue a ⊎ (IsTrue b × IsTrue c)
+covered_by true b c covers = inl refl
+covered_by false true true covers = inr (refl, refl)
+covered_by false true false covers = absurd cc
+covered_by false false c covers = absurd cc
+
+abbrev Covering : List Request → ℕ → ℕ → Type 0
+Covering rs t store = IsTrue (is_covered EX (mode_held t Volume rs)) ⊎ (IsTrue (is_intention EX (mode_held t Volume rs)) × IsTrue (is_covered EX (mode_held t (Store store) rs)))
+
+covering : (rs : List Request) (t store : ℕ) → CoversRecords rs t store → Covering rs t store
+covering rs t store covers = covered_by (is_covered EX (mode_held t Volume rs)) (is_intention EX (mode_held t Volume rs)) (is_covered EX (mode_held t (Store store) rs)) covers
+
+covered_at : (t : ℕ) (id : Rid) (old : Table) → Covering old.requests t id.page.store → acquired Refuse old t (Record id) EX ≡ record { answer = Ok Done; requests = old.requests }
+covered_at t id old (inl volume) = rw volume refl
+covered_at t id old (inr both) =
+    let held = intends (mode_held t Volume old.requests) both.0 in
+    passes_walk Refuse t (Record id) EX Volume old old (record { needed = held.covers_no_record; done = rw held.enough refl; left = rw held.enough refl }) (Store id.page.store ∷ Page id.page ∷ Record id ∷ [])
+    ∙ rw both.1 refl
+
+reached_at : (rs : List Request) (t : ℕ) (id : Rid) → Covering rs t id.page.store → IsReached rs t (Record id) EX
+reached_at rs t id (inl volume) = inr (2, Volume, omega arith, refl, volume)
+reached_at rs t id (inr both) = inr (1, Store id.page.store, omega arith, refl, both.1)
+
+pub covered_records : (table : Table) (t : ℕ) (id : Rid) → CoversRecords table.requests t id.page.store → acquired Refuse table t (Record id) EX ≡ record { answer = Ok Done; requests = table.requests }
+covered_records table t id covers = covered_at t id table (covering table.requests t id.page.store covers)
+
+pub covered_is_reached : (rs : List Request) (t : ℕ) (id : Rid) → CoversRecords rs t id.page.store → IsReached rs t (Record id) EX
+covered_is_reached rs t id covers = reached_at rs t id (covering rs t id.page.store covers)
 
 module _ (t : ℕ) (id : Rid) (old : Table) (has : IntendsToWrite old.requests t id.page.store) where
   abbrev target : Granule

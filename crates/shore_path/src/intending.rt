@@ -1,24 +1,58 @@
-//! Locks of a transaction that intends to write records of a store: it asks for no more of the volume and of the store.
+//! Locks of a transaction that is to write records of a store: what it has of the volume and of the store is asked for once.
 ghost use Rattle.std.specs.Prelude.{◌≡◌, ◌≢◌, ◌↔◌, IfErr, IsTrue, Ok, false};
 ghost use Rattle.shore_locks.specs.Tables.{is_waiting};
 ghost use Rattle.shore_path.specs.Acquires.{IsReached, MayRefuse};
-ghost use Rattle.shore_path.specs.Intending.{IntendsToWrite};
+ghost use Rattle.shore_path.specs.Intending as intending;
+ghost use Rattle.shore_path.specs.Intending.{CoversRecords, IntendsToWrite};
 ghost use Rattle.shore_path.specs.Judging.{CanLockNow};
 ghost use Rattle.shore_path.specs.Walks as walks;
 ghost use Rattle.shore_path.specs.declared.answers.OnConflict.TheVariants.{Refuse};
 
 use crate::answers::{Acquired, OnConflict};
+use crate::judging::is_covered;
 use crate::walk::{ask, has_page, is_intention, pass};
 use shore_locks::LockTable;
 use shore_locks::laws::tables_are_orderly;
 use shore_types::{Fault, Granule, Mode, PageId, Rid, StoreId, TxnId};
 
-/// Whether a transaction holds the volume and a store with the intention to write, or in a stronger mode, and neither covers the records.
-pub fn intends_to_write(table: &LockTable, txn: TxnId, store: StoreId) -> bool
-    ensures { IsTrue result ↔ IntendsToWrite table.now.requests txn store }
+/// What a transaction has of the volume and of a store, when it is to write a record there.
+#[derive(Clone, Copy)]
+pub enum WayToWrite {
+    /// One of the two covers the records: nothing more is asked for.
+    Covered,
+    /// Both are held with the intention to write, and neither covers the records: the page and the record are asked for.
+    Intended,
+    /// All of the path is asked for.
+    Unknown,
+}
+
+/// How a transaction comes to write a record of a store, by the locks that it holds above pages.
+pub fn way_to_write(table: &LockTable, txn: TxnId, store: StoreId) -> WayToWrite
+    ensures covered { (result ≡ WayToWrite.Covered) ↔ CoversRecords table.now.requests txn store }
+    ensures intended { (result ≡ WayToWrite.Intended) ↔ IntendsToWrite table.now.requests txn store }
 {
-    is_intention(Mode::EX, table.held(txn, Granule::Volume))
-        && is_intention(Mode::EX, table.held(txn, Granule::Store(store)))
+    let volume = table.held(txn, Granule::Volume);
+    if is_covered(Mode::EX, volume) {
+        return WayToWrite::Covered;
+    }
+    if !is_intention(Mode::EX, volume) {
+        return WayToWrite::Unknown;
+    }
+    way_below(table.held(txn, Granule::Store(store)))
+}
+
+// How a store lets records be written, by what is held of it, if the volume is held with the intention.
+fn way_below(store: Option<Mode>) -> WayToWrite
+    ensures covered { (result ≡ WayToWrite.Covered) ↔ IsTrue (walks.is_covered Mode.EX store) }
+    ensures intended { (result ≡ WayToWrite.Intended) ↔ IsTrue (intending.is_intention Mode.EX store) }
+{
+    if is_covered(Mode::EX, store) {
+        return WayToWrite::Covered;
+    }
+    if is_intention(Mode::EX, store) {
+        return WayToWrite::Intended;
+    }
+    WayToWrite::Unknown
 }
 
 /// As `may_lock`, for a page in IX of a store whose records the transaction intends to write. Only of the page a request is looked for.

@@ -164,7 +164,7 @@ fn asked_of(target: &Granule, mode: Mode, granule: &Granule) -> Mode
 }
 
 // Whether what is held of an ancestor, if anything, covers a mode below it.
-fn is_covered(mode: Mode, held: Option<Mode>) -> bool
+pub(crate) fn is_covered(mode: Mode, held: Option<Mode>) -> bool
     ensures { result ≡ walks.is_covered mode held }
 {
     match held {

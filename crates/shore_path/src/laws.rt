@@ -14,7 +14,8 @@ ghost use Rattle.shore_locks.specs.Orderly.{IsOrderly};
 ghost use Rattle.shore_locks.specs.Tables.{Table};
 ghost use Rattle.shore_path.specs.declared.answers.Acquired.TheVariants.{Done};
 ghost use Rattle.shore_path.specs.declared.answers.OnConflict.TheVariants.{Refuse, Wait};
-ghost use Rattle.shore_path.specs.Acquires.{IsCoveredAbove, NoOtherWeaker, NoneWeaker};
+ghost use Rattle.shore_path.specs.Acquires.{IsCoveredAbove, IsReached, NoOtherWeaker, NoneWeaker};
+ghost use Rattle.shore_path.specs.Intending.{CoversRecords};
 ghost use Rattle.shore_path.specs.Judging.{CanLockNow};
 ghost use Rattle.shore_path.specs.Rooted.{AreRooted};
 ghost use Rattle.shore_path.specs.Walks.{acquired};
@@ -49,6 +50,14 @@ pub fn done_without_waiting()
 /// A record that could be locked in EX now lies on a page that could be locked in IX.
 pub fn records_need_their_page()
     ensures { (rs : List Request) (t : ℕ) (id : Rid) → CanLockNow rs t (Record id) EX → CanLockNow rs t (Page id.page) IX }
+{}
+
+/// Who holds what covers a store's records has each of them in EX without a request more.
+pub fn covered_records_are_had()
+    ensures had { (table : Table) (t : ℕ) (id : Rid) → CoversRecords table.requests t id.page.store →
+        acquired Refuse table t (Record id) EX ≡ record { answer = Ok Done; requests = table.requests } }
+    ensures reached { (rs : List Request) (t : ℕ) (id : Rid) → CoversRecords rs t id.page.store → IsReached rs t (Record id) EX }
+    ensures free { (rs : List Request) (t : ℕ) (id : Rid) → CoversRecords rs t id.page.store → CanLockNow rs t (Record id) EX }
 {}
 
 /// On a page that could be locked in IX now, a record could be locked in EX if nobody is in the way in its own queue, or a lock above

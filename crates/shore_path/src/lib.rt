@@ -10,7 +10,7 @@ pub mod restoring;
 pub mod walk;
 
 pub use answers::{Acquired, OnConflict};
-pub use intending::{acquire_in_store, intends_to_write, may_lock_in_store};
+pub use intending::{WayToWrite, acquire_in_store, may_lock_in_store, way_to_write};
 pub use judging::{may_lock, may_lock_in_page};
 pub use restoring::restore;
 pub use walk::acquire;

@@ -1,5 +1,5 @@
 //! Locks that are asked for, and calls that wait.
-ghost use Rattle.std.specs.Prelude.{◌≡◌, ◌≢◌, ◌==◌, ◌∷◌, ◌++◌, [], ℕ, IfErr, IfNone, IfSome, IsOk, IsSome, IsTrue, None, Ok, OnOk, false, filter, not};
+ghost use Rattle.std.specs.Prelude.{◌≡◌, ◌≢◌, ◌==◌, ◌∷◌, ◌++◌, [], ℕ, IfErr, IfNone, IfSome, IsOk, IsSome, None, Ok, OnOk, false, filter, not};
 ghost use Rattle.shore_types.specs.declared.locking.Granule.{Granule};
 ghost use Rattle.shore_types.specs.declared.locking.Mode.{Mode};
 ghost use Rattle.shore_model.specs.declared.calls.Call.{Call};
@@ -7,7 +7,8 @@ ghost use Rattle.laws_lives.specs.Sessions.{SessionTxn};
 ghost use Rattle.laws_lives.specs.Views.{IsAmong};
 ghost use Rattle.shore_locks.specs.Tables.{is_waiting};
 ghost use Rattle.shore_path.specs.Acquires.{IsReached, MayRefuse};
-ghost use Rattle.shore_path.specs.Intending.{IntendsToWrite};
+ghost use Rattle.shore_path.specs.Intending.{CoversRecords, IntendsToWrite};
+ghost use Rattle.shore_path.specs.declared.intending.WayToWrite.TheVariants as WayToWrite;
 ghost use Rattle.shore_path.specs.Walks.{acquired};
 ghost use Rattle.shore_path.specs.declared.answers.Acquired.TheVariants as Acquired;
 ghost use Rattle.shore_path.specs.declared.answers.OnConflict.TheVariants.{Refuse};
@@ -20,7 +21,8 @@ ghost use Rattle.shore_sessions.specs.declared.waits.WaitingCall.{WaitingCall};
 use crate::control::Control;
 use crate::waits::WaitingCall;
 use shore_model::{Call, Wait};
-use shore_path::{Acquired, OnConflict};
+use shore_path::laws::covered_records_are_had;
+use shore_path::{Acquired, OnConflict, WayToWrite};
 use shore_types::{Fault, Granule, Mode, Rid, SessionId, TxnId};
 use std::alloc::AllocError;
 
@@ -50,11 +52,17 @@ impl Control {
         shore_path::acquire(&mut self.locks, txn, granule, mode, on_conflict)
     }
 
-    /// As `acquire`, for a record in EX, if the transaction may not wait. If it is known to intend to write records of the store, only the page and the record
-    /// are asked for.
-    pub fn acquire_record(&mut self, txn: TxnId, id: &Rid, intends: bool) -> Result<Acquired, Fault>
+    /// As `acquire`, for a record in EX, if the transaction may not wait. Only what its way to write leaves is asked for: nothing if the store's records are
+    /// covered, and the page and the record if it intends to write them.
+    pub fn acquire_record(
+        &mut self,
+        txn: TxnId,
+        id: &Rid,
+        way: WayToWrite,
+    ) -> Result<Acquired, Fault>
         requires quiet { is_waiting txn (locks_in self.old).requests ≡ false }
-        requires intends { IsTrue intends → IntendsToWrite (locks_in self.old).requests txn id.now.page.store }
+        requires covered { way ≡ WayToWrite.Covered → CoversRecords (locks_in self.old).requests txn id.now.page.store }
+        requires intended { way ≡ WayToWrite.Intended → IntendsToWrite (locks_in self.old).requests txn id.now.page.store }
         ensures answer { result ≡ (acquired Refuse (locks_in self.old) txn (Granule.Record id.now) Mode.EX).answer }
         ensures locks { locks_in self.new ≡ record { limit = (locks_in self.old).limit; requests = (acquired Refuse (locks_in self.old) txn (Granule.Record id.now) Mode.EX).requests } }
         ensures txns { txns_in self.new ≡ txns_in self.old }
@@ -65,10 +73,15 @@ impl Control {
         ensures refused { IfErr result (MayRefuse Refuse (locks_in self.new) txn (Granule.Record id.now) Mode.EX) }
         ensures stands { (s : State) → HasControl self.old s → HasControl self.new (with_requests s (acquired Refuse s.locks txn (Granule.Record id.now) Mode.EX).requests) }
     {
-        if intends {
-            return shore_path::acquire_in_store(&mut self.locks, txn, id);
+        // For the proof: what covers a store's records leaves nothing to ask for. Nothing runs.
+        covered_records_are_had();
+        match way {
+            WayToWrite::Covered => Ok(Acquired::Done),
+            WayToWrite::Intended => shore_path::acquire_in_store(&mut self.locks, txn, id),
+            WayToWrite::Unknown => {
+                self.acquire(txn, Granule::Record(*id), Mode::EX, OnConflict::Refuse)
+            }
         }
-        self.acquire(txn, Granule::Record(*id), Mode::EX, OnConflict::Refuse)
     }
 
     /// Takes the memory for a call more that waits, if there is none. If that fails nothing has changed.
