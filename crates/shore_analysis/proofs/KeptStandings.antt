@@ -1,5 +1,5 @@
 -- How a record stands to those of its transaction before it, by what a pass knows of these.
-use Rattle.std.proofs.Common.{◌≡◌, ⊎_elim, ◌⊎◌, inl, inr, ◌<◌, ◌≤◌, ℕ, List, [], ◌∷◌, ◌++◌, Bool, true, false, cond, Option, None, Some, refl, sym, ap, subst, ◌∙◌, arith}
+use Rattle.std.proofs.Common.{◌≡◌, ⊎_elim, ◌⊎◌, inl, inr, ◌<◌, ◌≤◌, ℕ, zero, suc, List, [], ◌∷◌, ◌++◌, Bool, true, false, cond, Option, None, Some, refl, sym, ap, subst, ◌∙◌, arith}
 use Rattle.std.specs.Prelude.{◌==◌, ◌&&◌, IfSome, is_some, nat_le, nat_lt, not}
 use Rattle.std.specs.BTreeMap.{get}
 use Rattle.std.specs.BTreeSet.{contains}
@@ -173,6 +173,18 @@ module _ (g : Geometry) (cut : ℕ) (before : List LogRecord) (r : LogRecord) (o
 
 pub no_own : (cut : ℕ) (before : List LogRecord) (r : LogRecord) → r.txn ≡ 0 → false ≡ is_own_cut_off cut before r
 no_own cut before r none = sym (ap (λ (k : ℕ). nat_lt 0 k && nat_lt 0 (first_previous (kept_records_of cut r.txn (before ++ r ∷ [])))) none)
+
+-- nobody's front is cut off if the log has its own
+pub none_cut_off : (g : Geometry) (cut : ℕ) (before : List LogRecord) (r : LogRecord) → cut ≡ 0 → 0 < r.txn → IsMeantNow g cut before r → false ≡ is_own_cut_off cut before r
+none_cut_off g cut before r all one m = by (first_previous (kept_records_of cut r.txn (before ++ r ∷ []))) refl
+  where
+    never : (b : Bool) → false ≡ (b && false)
+    never true = refl
+    never false = refl
+
+    by : (k : ℕ) → first_previous (kept_records_of cut r.txn (before ++ r ∷ [])) ≡ k → false ≡ is_own_cut_off cut before r
+    by zero is = never (nat_lt 0 r.txn) ∙ sym (ap (λ (k : ℕ). nat_lt 0 r.txn && nat_lt 0 k) is)
+    by (suc k) is = absurd (omega (arith, all, is, (m.of_cut_off one (λ whole. omega (arith, is, whole))).cut_off.below))
 
 pub own_told : (g : Geometry) (cut : ℕ) (before : List LogRecord) (r : LogRecord) → 0 < r.txn → IsMeantNow g cut before r → (s : Standing) → StandsAs g cut before r s
     → passes.stands_cut_off s ≡ is_own_cut_off cut before r

@@ -163,6 +163,10 @@ impl KeptPass {
         if txn.0 == 0 {
             return false;
         }
+        // If the log has its front nobody's is cut off.
+        if cut == 0 {
+            return false;
+        }
         let standing = self.standing(cut, logged);
         standing.is_cut_off()
     }
