@@ -27,7 +27,7 @@ use Rattle.shore_pool.proofs.Unwritten.{unwritten_on}
 use Rattle.shore_heap.specs.declared.heap.Heap.{Heap}
 use Rattle.shore_heap.specs.Contents.{AreBounds, AreKept, ClaimsOfPages}
 use Rattle.shore_heap.specs.Heaps.{AsksForForce, KeepsSlots, LeavesPages, MayBeLeft, ReadsPages, RefusesPage, Shows, StayInPlace, WroteBack, faults_of, frame_at, geometry_of, history_of}
-use Rattle.shore_heap.specs.Places.{IsRefused}
+use Rattle.shore_heap.specs.Places.{IsRefusedAmong}
 use Rattle.shore_heap.proofs.Showing.{shows_by}
 
 -- ---- pages that may have been written
@@ -261,12 +261,12 @@ module _ {D : Type 0} {G : Ghosts D} (K : ClaimsOfPages) (durable : ℕ) where
         (at.0, there at.1)
 
     -- a page is refused
-    pub refused_then : (it : Fault) (id : PageId) (last : ℕ) → HasPage (geometry_of old) id → durable ≤ last → (front : List ℕ) (disk : ℕ → List ℕ) (holds : PoolHolds old.pool front disk)
-        → RefusesPage mid (one.wrote front disk holds).0 id (record { last = last; durable = durable }) it → IsRefused (geometry_of old) disk id.store last it ⊎ AsksForForce old durable it
-    refused_then it id last has up_to front disk holds (inl device) = inl (inl device)
-    refused_then it id last has up_to front disk holds (inr (inl memory)) = inl (inr (inl memory))
-    refused_then it id last has up_to front disk holds (inr (inr (inl damaged))) =
+    pub refused_then : (it : Fault) (id : PageId) (last : ℕ) (IsFetched : PageId → Type 0) → IsFetched id → HasPage (geometry_of old) id → durable ≤ last → (front : List ℕ) (disk : ℕ → List ℕ) (holds : PoolHolds old.pool front disk)
+        → RefusesPage mid (one.wrote front disk holds).0 id (record { last = last; durable = durable }) it → IsRefusedAmong (geometry_of old) disk IsFetched last it ⊎ AsksForForce old durable it
+    refused_then it id last IsFetched fetched has up_to front disk holds (inl device) = inl (inl device)
+    refused_then it id last IsFetched fetched has up_to front disk holds (inr (inl memory)) = inl (inr (inl memory))
+    refused_then it id last IsFetched fetched has up_to front disk holds (inr (inr (inl damaged))) =
         let first = one.wrote front disk holds in
         let at = damaged_then it disk first.0 id last (none_there (geometry_of old) (frame_at old) durable disk first.0 id last has up_to first.2.may) damaged in
-        inl (inr (inr (id, has, refl, at.0, at.1)))
-    refused_then it id last has up_to front disk holds (inr (inr (inr force))) = inr (force.0, force.1, one.forced front disk holds force.0 force.2)
+        inl (inr (inr (id, has, fetched, at.0, at.1)))
+    refused_then it id last IsFetched fetched has up_to front disk holds (inr (inr (inr force))) = inr (force.0, force.1, one.forced front disk holds force.0 force.2)

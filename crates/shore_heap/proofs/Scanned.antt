@@ -1,6 +1,7 @@
 -- A list of the records of a store, as it grows, and that it is the model's scan.
-use Rattle.std.proofs.Common.{◌≡◌, ◌≢◌, ◌⊎◌, ◌+◌, ◌<◌, ◌≤◌, ◌==◌, ◌&&◌, ℕ, zero, suc, T, Bool, true, false, cond, List, [], ◌∷◌, ◌++◌, length, Option, Some, None, Result, Ok, Err, OnOk, IsSomeAnd, slice_get, refl, sym, ap, subst, ◌∙◌, inl, inr, arith}
-use Rattle.std.proofs.lemmas.Bool.{cases_eq, cases_lt, eq-eqb, ne_eqb}
+use Rattle.std.proofs.Common.{◌≡◌, ◌≢◌, ◌⊎◌, ◌+◌, ◌<◌, ◌≤◌, ◌==◌, ◌&&◌, if◌then◌else◌, nat_le, nat_lt, unwrap_or, ℕ, zero, suc, T, Bool, true, false, cond, List, [], ◌∷◌, ◌++◌, length, Option, Some, None, Result, Ok, Err, OnOk, IfSome, IsSomeAnd, filter, slice_get, get_or, refl, sym, ap, subst, ◌∙◌, inl, inr, arith}
+use Rattle.std.proofs.lemmas.List.{append_assoc, append-nil, length-map}
+use Rattle.std.proofs.lemmas.Bool.{cases_eq, cases_lt, eq-eqb, le-leb, le-ltb, lt-leb, lt-ltb, ne_eqb}
 use Rattle.std.specs.declared.cmp.Ordering.{Ordering}
 use Rattle.std.specs.declared.cmp.Ordering.TheVariants.{Equal, Greater, Less}
 use Rattle.std.specs.Cmp.{nat_cmp_is, tied_itself}
@@ -12,9 +13,12 @@ use Rattle.shore_types.specs.declared.ids.Rid.{Rid}
 use Rattle.shore_types.specs.declared.layout.Geometry.{Geometry}
 use Rattle.shore_types.specs.Ids.{exact_rids, rid_cmp, rids_total}
 use Rattle.shore_types.specs.Images.{Image}
-use Rattle.shore_model.specs.Records.{scan_of}
+use Rattle.shore_types.specs.Layout.{HasPage}
+use Rattle.shore_model.specs.Records.{Records, part_of, scan_of}
+use Rattle.shore_types.specs.Runs.{records_from}
 use Rattle.shore_page.specs.Slots.{Slot, image_at_slot}
-use Rattle.shore_heap.specs.Scans.{AreBefore, HasBefore, IsBefore, IsScan, ScansAsTheModel}
+use Rattle.shore_page.specs.Text.{images_of}
+use Rattle.shore_heap.specs.Scans.{AreBefore, HasBefore, IsBefore, IsPart, IsScan, PartsAsTheModel, ScansAsTheModel, Tells, part_end, slots_from}
 
 abbrev Entry : Type 0
 Entry = Rid × List ℕ
@@ -151,6 +155,25 @@ module _ (S : PageId → List Slot) (store page : ℕ) where
     none = λ id not_before. old.none id (λ before. not_before (wider store page slot id before));
   }
 
+  -- the records of all slots from one on
+  pub records_more : (slot : ℕ) (images : List Image) (list : List Entry) → ((k : ℕ) → image_there (slot + k) ≡ get_or images k None) → HasBefore S store page slot list
+      → HasBefore S store page (slot + length images) (list ++ records_from (the_page store page) slot images)
+  records_more slot [] list are old =
+      let here : slot ≡ slot + 0 = omega arith in
+      subst (λ (n : ℕ). HasBefore S store page n (list ++ [])) here (subst (HasBefore S store page slot) (sym (append-nil list)) old)
+  records_more slot (None ∷ rest) list are old =
+      let here : slot ≡ slot + 0 = omega arith in
+      let count : slot + 1 + length rest ≡ slot + suc (length rest) = omega arith in
+      subst (λ (n : ℕ). HasBefore S store page n (list ++ records_from (the_page store page) (slot + 1) rest)) count
+      (records_more (slot + 1) rest list (λ k. let next : slot + 1 + k ≡ slot + suc k = omega arith in ap image_there next ∙ are (suc k)) (none_more slot list (ap image_there here ∙ are 0) old))
+  records_more slot (Some bytes ∷ rest) list are old =
+      let here : slot ≡ slot + 0 = omega arith in
+      let count : slot + 1 + length rest ≡ slot + suc (length rest) = omega arith in
+      subst (λ (n : ℕ). HasBefore S store page n (list ++ (the_id store page slot, bytes) ∷ records_from (the_page store page) (slot + 1) rest)) count
+      (subst (HasBefore S store page (slot + 1 + length rest)) (append_assoc list ((the_id store page slot, bytes) ∷ []) (records_from (the_page store page) (slot + 1) rest))
+      (records_more (slot + 1) rest (list ++ (the_id store page slot, bytes) ∷ []) (λ k. let next : slot + 1 + k ≡ slot + suc k = omega arith in ap image_there next ∙ are (suc k))
+      (one_more slot list bytes (ap image_there here ∙ are 0) old)))
+
   next_of : (slot : ℕ) (id : Rid) → IsBefore store page slot id → IsBefore store (page + 1) 0 id
   next_of slot id before = (
     before.0,
@@ -190,6 +213,20 @@ module _ (S : PageId → List Slot) (store page : ℕ) where
         ];
     none = λ id not_before. old.none id (λ before. not_before (next_of slot id before));
   }
+
+-- what is in a slot, read from the images
+pub image_got : (slots : List Slot) (k : ℕ) → image_at_slot slots k ≡ get_or (images_of slots) k None
+image_got [] k = refl
+image_got (s ∷ slots) zero = refl
+image_got (s ∷ slots) (suc k) = image_got slots k
+
+-- all records of a page
+pub page_records : (S : PageId → List Slot) (store page : ℕ) (slots : List Slot) (list : List Entry) → S (the_page store page) ≡ slots → HasBefore S store page 0 list
+    → HasBefore S store (page + 1) 0 (list ++ records_from (the_page store page) 0 (images_of slots))
+page_records S store page slots list are old =
+    let long : length (S (the_page store page)) ≡ length (images_of slots) = ap (λ (l : List Slot). length l) are ∙ sym (length-map slots (λ s. s.image)) in
+    page_more S store page (0 + length (images_of slots)) _ (omega (arith, long))
+    (records_more S store page 0 (images_of slots) list (λ k. let same : 0 + k ≡ k = omega arith in ap (λ (l : List Slot). image_at_slot l (0 + k)) are ∙ ap (λ (n : ℕ). image_at_slot slots n) same ∙ image_got slots k) old)
 
 pub nothing_yet : (S : PageId → List Slot) (store : ℕ) → HasBefore S store 0 0 []
 nothing_yet S store = record {
@@ -248,3 +285,118 @@ scans_as_the_model g S store list R scan tells = same_entries rid_cmp rids_total
 pub pushed : {T E : Type 0} (P : List Entry → Type 0) (r : Result T E) (now list : List Entry) → OnOk r (now ≡ list) → P list → OnOk r (P now)
 pushed P (Ok x) now list is p = subst P (sym is) p
 pushed P (Err e) now list is p = tt
+
+-- ---- parts of the store
+
+-- slots of pages before the first one are taken for empty, the others are what they are
+masked_below : (from : ℕ) (S : PageId → List Slot) (id : PageId) → id.page < from → slots_from from S id ≡ []
+masked_below from S id below = ap (λ (b : Bool). if b then [] else S id) (lt-ltb id.page from below)
+
+pub masked_there : (from : ℕ) (S : PageId → List Slot) (id : PageId) → from ≤ id.page → slots_from from S id ≡ S id
+masked_there from S id there = ap (λ (b : Bool). if b then [] else S id) (le-ltb id.page from there)
+
+-- nothing of a part, before its first page
+pub nothing_before : (S : PageId → List Slot) (store from : ℕ) → HasBefore (slots_from from S) store from 0 []
+nothing_before S store from = record {
+  rises = tt;
+  before = tt;
+  has = λ id before. elim before.1 [
+    | inl less ↦ sym (ap (λ (l : List Slot). image_at_slot l id.slot) (masked_below from S id.page less))
+    | inr same ↦ absurd (omega (arith, same.1))
+  ];
+  none = λ id not_before. refl;
+}
+
+-- an id comes before a page of the store, or it does not
+before_or_not : (store page : ℕ) (q : Rid) → IsBefore store page 0 q ⊎ (IsBefore store page 0 q → ⊥)
+before_or_not store page q = elim (cases_eq q.page.store store) [
+  | inl same ↦ elim (cases_lt q.page.page page) [
+    | inl less ↦ inl (same, inl less)
+    | inr more ↦ inr (λ h. elim h.1 [ inl less ↦ omega (arith, less, more) | inr here ↦ omega (arith, here.1) ])
+  ]
+  | inr other ↦ inr (λ h. other h.0)
+]
+
+-- a part has no other list
+pub one_part : (S : PageId → List Slot) (store from to : ℕ) (one other : List Entry) → IsPart S store from to one → IsPart S store from to other → one ≡ other
+one_part S store from to one other a b = same_entries rid_cmp rids_total exact_rids one other a.rises b.rises (λ q. elim (before_or_not store to q) [
+  | inl before ↦ a.has q before ∙ sym (b.has q before)
+  | inr apart ↦ a.none q apart ∙ sym (b.none q apart)
+])
+
+-- a page that is there comes before the end of its store
+pub page_below : (stores : List ℕ) (id : PageId) (pages : ℕ) → slice_get stores id.store ≡ Some pages → IsSomeAnd (slice_get stores id.store) (λ n. id.page < n) → id.page < pages
+page_below stores id pages are there = subst (λ (o : Option ℕ). IsSomeAnd o (λ n. id.page < n)) are there
+
+-- where a part ends is in the store
+pub end_inside : (g : Geometry) (store : ℕ) (next : Option PageId) → IfSome next (λ id. (id.store ≡ store) × HasPage g id) → part_end g store next ≤ unwrap_or (slice_get g.stores store) 0
+end_inside g store None there = omega arith
+end_inside g store (Some id) there = subst (λ (n : ℕ). id.page ≤ unwrap_or (slice_get g.stores n) 0) there.0 (by (slice_get g.stores id.store) there.1)
+  where
+    by : (o : Option ℕ) → IsSomeAnd o (λ n. id.page < n) → id.page ≤ unwrap_or o 0
+    by None has = absurd has
+    by (Some n) has = omega (arith, has)
+
+module _ (g : Geometry) (S : PageId → List Slot) (store from to : ℕ) (R : Records) (inside : to ≤ unwrap_or (slice_get g.stores store) 0) (tells : Tells g S R) where
+  abbrev there : Rid → Bool
+  there id = (id.page.store == store) && nat_le from id.page.page && nat_lt id.page.page to
+
+  page_there : (q : Rid) → q.page.store ≡ store → q.page.page < to → HasPage g q.page
+  page_there q same less = subst (λ (n : ℕ). IsSomeAnd (slice_get g.stores n) (λ n. q.page.page < n)) (sym same) (by (slice_get g.stores store) inside)
+    where
+      by : (o : Option ℕ) → to ≤ unwrap_or o 0 → IsSomeAnd o (λ n. q.page.page < n)
+      by None few = absurd (omega (arith, few, less))
+      by (Some n) few = omega (arith, few, less)
+
+  not_there : (q : Rid) → (IsBefore store to 0 q → ⊥) → there q ≡ false
+  not_there q apart = elim (cases_eq q.page.store store) [
+    | inr other ↦ ap (λ (b : Bool). b && nat_le from q.page.page && nat_lt q.page.page to) (ne_eqb q.page.store store other)
+    | inl same ↦ elim (cases_lt q.page.page to) [
+      | inl less ↦ absurd (apart (same, inl less))
+      | inr more ↦ ap (λ (b : Bool). (q.page.store == store) && nat_le from q.page.page && b) (le-ltb q.page.page to more) ∙ never ((q.page.store == store) && nat_le from q.page.page)
+    ]
+  ]
+    where
+      never : (b : Bool) → (b && false) ≡ false
+      never true = refl
+      never false = refl
+
+  model_has : (q : Rid) → IsBefore store to 0 q → cond (there q) (get R q) None ≡ image_at_slot (slots_from from S q.page) q.slot
+  model_has q before = elim (cases_lt q.page.page from) [
+    | inl below ↦ ap (λ (b : Bool). cond ((q.page.store == store) && b && nat_lt q.page.page to) (get R q) None) (lt-leb from q.page.page below) ∙ never (q.page.store == store)
+        ∙ sym (ap (λ (l : List Slot). image_at_slot l q.slot) (masked_below from S q.page below))
+    | inr behind ↦ ap (λ (b : Bool). cond (b && nat_le from q.page.page && nat_lt q.page.page to) (get R q) None) (eq-eqb q.page.store store before.0)
+        ∙ ap (λ (b : Bool). cond (b && nat_lt q.page.page to) (get R q) None) (le-leb from q.page.page behind)
+        ∙ ap (λ (b : Bool). cond b (get R q) None) (lt-ltb q.page.page to less)
+        ∙ tells.inside q (page_there q before.0 less) ∙ sym (ap (λ (l : List Slot). image_at_slot l q.slot) (masked_there from S q.page behind))
+  ]
+    where
+      less : q.page.page < to
+      less = elim before.1 [ inl earlier ↦ earlier | inr here ↦ absurd (omega (arith, here.1)) ]
+
+      never : (b : Bool) → cond (b && false && nat_lt q.page.page to) (get R q) None ≡ None
+      never true = refl
+      never false = refl
+
+  all_before : (es : List Entry) → AreBefore store to 0 (filter (λ e. there e.0) es)
+  all_before [] = tt
+  all_before (e ∷ es) = one (there e.0) refl (all_before es)
+    where
+      one : (b : Bool) → there e.0 ≡ b → AreBefore store to 0 (filter (λ x. there x.0) es) → AreBefore store to 0 (cond b (e ∷ filter (λ x. there x.0) es) (filter (λ x. there x.0) es))
+      one false is rest = rest
+      one true is rest = (elim (before_or_not store to e.0) [ inl before ↦ before | inr apart ↦ absurd (let clash : true ≡ false = sym is ∙ not_there e.0 apart in cc) ], rest)
+
+  -- the model's part is one
+  pub model_part : IsPart S store from to (part_of store from to R)
+  model_part = record {
+    rises = is_sorted-where_key rid_cmp there (entries R) (entries_sorted R);
+    before = all_before (entries R);
+    has = λ q before. found q ∙ model_has q before;
+    none = λ q apart. found q ∙ ap (λ (b : Bool). cond b (get R q) None) (not_there q apart);
+  }
+    where
+      found : (q : Rid) → find rid_cmp q (part_of store from to R) ≡ cond (there q) (get R q) None
+      found q = find-where_key rid_cmp there q (λ x same. ap there (sym (exact_rids q x same))) (entries R) ∙ ap (λ (o : Image). cond (there q) o None) (sym (get-entries R q))
+
+pub parts_as_the_model : PartsAsTheModel
+parts_as_the_model g S store from to list R inside part tells = one_part S store from to list (part_of store from to R) part (model_part g S store from to R inside tells)

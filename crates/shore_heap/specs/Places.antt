@@ -46,7 +46,11 @@ module _ (g : Geometry) (S : PageId → List Slot) (store bytes : ℕ) (MayTake 
   abbrev pub HasNoPlace : Type 0
   HasNoPlace = (id : Rid) → Takes id → ⊥
 
--- what a call is refused with that fetches pages of a store: the device failed, an allocation did, or a page has no text with a number up to the last
+-- what a call is refused with that fetches such pages: the device failed, an allocation did, or one of them has no text with a number up to the last
+abbrev pub IsRefusedAmong : Geometry → (ℕ → List ℕ) → (PageId → Type 0) → ℕ → Fault → Type 0
+IsRefusedAmong g disk IsFetched last it = (it ≡ fault.Device) ⊎ (it ≡ fault.Memory)
+    ⊎ ((id : PageId) × HasPage g id × IsFetched id × (it ≡ fault.Damaged device.Volume (page_offset (page_number g id))) × HasNoPage (disk (page_number g id)) id last)
+
+-- .. the pages of a store
 abbrev pub IsRefused : Geometry → (ℕ → List ℕ) → ℕ → ℕ → Fault → Type 0
-IsRefused g disk store last it = (it ≡ fault.Device) ⊎ (it ≡ fault.Memory)
-    ⊎ ((id : PageId) × HasPage g id × (id.store ≡ store) × (it ≡ fault.Damaged device.Volume (page_offset (page_number g id))) × HasNoPage (disk (page_number g id)) id last)
+IsRefused g disk store last it = IsRefusedAmong g disk (λ id. id.store ≡ store) last it

@@ -5,7 +5,7 @@ ghost use Rattle.shore_types.specs.Layout.{HasPage};
 ghost use Rattle.shore_types.specs.declared.ids.PageId.{PageId};
 ghost use Rattle.shore_heap.specs.Contents.{ClaimsOfPages};
 ghost use Rattle.shore_heap.specs.Heaps.{Shows, frame_of, geometry_of};
-ghost use Rattle.shore_heap.specs.Scans.{ScansAsTheModel};
+ghost use Rattle.shore_heap.specs.Scans.{PartsAsTheModel, ScansAsTheModel};
 
 use crate::heap::Heap;
 use shore_disk::Disk;
@@ -13,6 +13,11 @@ use shore_disk::Disk;
 /// The records of a store in its pages, each once and with rising ids, are the model's scan of it.
 pub fn scans_are_the_models()
     ensures { ScansAsTheModel }
+{}
+
+/// The records on some pages of a store, each once and with rising ids, are the model's part of it.
+pub fn parts_are_the_models()
+    ensures { PartsAsTheModel }
 {}
 
 /// What a heap shows is said by the pages of the volume alone.

@@ -10,11 +10,15 @@ mod heap;
 mod laws;
 mod maps;
 mod maxima;
+mod parts;
 mod places;
 mod scans;
 mod slots;
 
 pub use choices::{AnyPlace, Places};
 pub use heap::Heap;
-pub use laws::{claims_count_out_of_frames, pages_of_the_volume_decide, scans_are_the_models};
+pub use laws::{
+    claims_count_out_of_frames, pages_of_the_volume_decide, parts_are_the_models,
+    scans_are_the_models,
+};
 pub use shore_page::{ChainPlace, Claims, NoClaims};

@@ -82,8 +82,8 @@ impl<D: Disk> Heap<D> {
         Ok(())
     }
 
-    // The records of a page go on a list.
-    fn scan_page<C: Claims>(
+    // The records of a page go on a list. What the list has of other pages may be all that they have, or less.
+    pub(crate) fn scan_page<C: Claims>(
         &mut self,
         alloc: Global,
         id: PageId,
@@ -93,7 +93,8 @@ impl<D: Disk> Heap<D> {
     ) -> Result<(), Fault>
         requires { HasPage (geometry_of self.old) id }
         ensures scanned { (front : List ℕ) (disk : ℕ → List ℕ) (S : PageId → List Slot) → Shows (claims_in C.Claims claims.now) self.old front disk S
-            → AreKept (geometry_of self.old) (claims_in C.Claims claims.now) S → HasBefore S id.store id.page 0 list.old → OnOk result (HasBefore S id.store (id.page + 1) 0 list.new) }
+            → AreKept (geometry_of self.old) (claims_in C.Claims claims.now) S → (P : PageId → List Slot) → P id ≡ S id
+            → HasBefore P id.store id.page 0 list.old → OnOk result (HasBefore P id.store (id.page + 1) 0 list.new) }
         ensures reads { ReadsPages (claims_in C.Claims claims.now) self.old self.new ends.now.durable result }
         ensures refused { (front : List ℕ) (disk : ℕ → List ℕ) → PoolHolds (pool_of self.old) front disk
             → IfErr result (RefusesPage self.old disk id ends.now) }
@@ -107,8 +108,8 @@ impl<D: Disk> Heap<D> {
     fn copy_page(&self, id: &PageId, list: &mut Pairs) -> Result<(), AllocError>
         requires there { HasPage (geometry_of self.now) id.now }
         requires held { IsTrue (is_some (frame_of self.now id.now)) }
-        ensures { (K : ClaimsOfPages) (front : List ℕ) (disk : ℕ → List ℕ) (S : PageId → List Slot) → Shows K self.now front disk S
-            → HasBefore S id.now.store id.now.page 0 list.old → OnOk result (HasBefore S id.now.store (id.now.page + 1) 0 list.new) }
+        ensures { (K : ClaimsOfPages) (front : List ℕ) (disk : ℕ → List ℕ) (S : PageId → List Slot) → Shows K self.now front disk S → (P : PageId → List Slot) → P id.now ≡ S id.now
+            → HasBefore P id.now.store id.now.page 0 list.old → OnOk result (HasBefore P id.now.store (id.now.page + 1) 0 list.new) }
     {
         match self.pool.page(*id) {
             Some(page) => copy_records(page, id, list),
@@ -122,6 +123,10 @@ fn copy_records(page: &Page, id: &PageId, list: &mut Pairs) -> Result<(), AllocE
     ensures { (S : PageId → List Slot) → S id.now ≡ page.now.slots
         → HasBefore S id.now.store id.now.page 0 list.old → OnOk result (HasBefore S id.now.store (id.now.page + 1) 0 list.new) }
 {
+    // Mostly the records lie one behind another.
+    if let Some(bytes) = page.run() {
+        return list.push_run(id, page, bytes);
+    }
     for slot in 0..page.slot_count() {
         copy_slot(page, id, slot, list)?;
     }

@@ -1,5 +1,5 @@
 -- The records of a volume, and what a transaction has written over them. This project's own.
-use Rattle.std.specs.Prelude.{◌≡◌, ◌==◌, ◌≤◌, ℕ, List, [], ◌∷◌, Option, None, Some, length, filter, unwrap_or}
+use Rattle.std.specs.Prelude.{◌≡◌, ◌==◌, ◌&&◌, ◌≤◌, ℕ, List, [], ◌∷◌, Option, None, Some, length, filter, nat_le, nat_lt, unwrap_or}
 use Rattle.std.specs.FinMap.{FinMap, get, insert, remove, entries}
 use Rattle.shore_types.specs.Ids.{rid_cmp}
 use Rattle.shore_types.specs.Layout.{HasSlot}
@@ -46,6 +46,10 @@ overlays R (W ∷ Ws) = overlays (overlay R W) Ws
 -- the records of a store, in place order
 abbrev pub scan_of : ℕ → Records → List (Rid × List ℕ)
 scan_of s R = filter (λ e. e.0.page.store == s) (entries R)
+
+-- the records on the pages of a store from one on and before another, in place order
+abbrev pub part_of : ℕ → ℕ → ℕ → Records → List (Rid × List ℕ)
+part_of s from to R = filter (λ e. (e.0.page.store == s) && nat_le from e.0.page.page && nat_lt e.0.page.page to) (entries R)
 
 -- the overlay answers from the write set first
 abbrev pub OverlayAnswers : Type 0

@@ -1,4 +1,4 @@
-use Rattle.std.proofs.Common.{◌⊎◌, ◌<◌, ℕ, List, IsSomeAnd, inl, inr, sym, subst, arith}
+use Rattle.std.proofs.Common.{◌≡◌, ◌⊎◌, ◌<◌, ℕ, List, IsSomeAnd, inl, inr, refl, sym, subst, arith}
 use Rattle.std.proofs.lemmas.Bool.{cases_lt}
 use Rattle.shore_dwrite.proofs.Moves.{if_err}
 use Rattle.shore_types.specs.declared.ids.PageId.{PageId}
@@ -66,7 +66,7 @@ returns-in_err-tried-clause-refused g c front disk holds up_to =
     let id = the_page c.args.store c.in-Some.page in
     let one = goes.wrote front disk holds in
     let has : HasPage (geometry_of old) id = subst (λ (it : Geometry). HasPage it id) goes.geometry c.in-Some.ensures.there in
-    let why = refused_then K c.args.ends.now.durable tt old mid mid goes _ id c.args.ends.now.last has up_to front disk holds (c.in_err-tried.ensures.refused front one.0 one.1) in
+    let why = refused_then K c.args.ends.now.durable tt old mid mid goes _ id c.args.ends.now.last (λ page. page.store ≡ c.args.store) refl has up_to front disk holds (c.in_err-tried.ensures.refused front one.0 one.1) in
     if_err c.from_residual.result c.from_residual.ensures.1 (λ fault is. subst (λ f. IsRefused (geometry_of old) disk c.args.store c.args.ends.now.last f ⊎ AsksForForce old c.args.ends.now.durable f) (sym is) why)
 
 pub returns-in-Some-tried-clause-found : goal.returns-in-Some-tried-clause-found

@@ -27,6 +27,6 @@ pub returns-clause-reads : goal.returns-clause-reads
 returns-clause-reads g c = answers (claims_in g.C.Claims c.args.claims.now) c.args.ends.now.durable _ _ c.args.self.now c.fetch.new.self c.in_ok-fetch.ensures.reads
 
 pub returns-clause-scanned : goal.returns-clause-scanned
-returns-clause-scanned g c front disk S shows are before =
+returns-clause-scanned g c front disk S shows are P like before =
     let shown = c.in_ok-fetch.ensures.reads.kept front disk S shows are in
-    c.in_ok-copy_page.ensures (claims_in g.C.Claims c.args.claims.now) front shown.0 S shown.1 before
+    c.in_ok-copy_page.ensures (claims_in g.C.Claims c.args.claims.now) front shown.0 S shown.1 P like before

@@ -1,4 +1,4 @@
-use Rattle.std.proofs.Common.{◌≡◌, ◌⊎◌, ℕ, sym, subst, arith}
+use Rattle.std.proofs.Common.{◌≡◌, ◌⊎◌, ℕ, refl, sym, subst, arith}
 use Rattle.shore_dwrite.proofs.Moves.{if_err}
 use Rattle.shore_types.specs.declared.ids.PageId.{PageId}
 use Rattle.shore_types.specs.declared.layout.Geometry.{Geometry}
@@ -35,7 +35,7 @@ loop-page-preserved g c =
       answers K c.args.ends.now.durable _ tt old new (reads_then K c.args.ends.now.durable tt old mid new inv.0 _ e.reads),
       λ front disk S shows are.
           let shown = shown_mid K c.args.ends.now.durable tt old mid mid inv.0 front disk S shows are in
-          e.scanned front shown.0 S shown.1 shown.2 (inv.1 front disk S shows are),
+          e.scanned front shown.0 S shown.1 shown.2 S refl (inv.1 front disk S shows are),
     )
 
 pub returns-in_err-scan_page-clause-reads : goal.returns-in_err-scan_page-clause-reads
@@ -55,7 +55,7 @@ returns-in_err-scan_page-clause-refused g c front disk holds up_to =
     let id = the_page c.args.store c.loop-page.page in
     let one = goes.wrote front disk holds in
     let has : HasPage (geometry_of old) id = inside_so (geometry_of old).stores id c.pages_in-page-end.result c.pages_in-page-end.ensures c.loop-page-test.true in
-    let why = refused_then K c.args.ends.now.durable tt old mid mid goes _ id c.args.ends.now.last has up_to front disk holds (c.in_err-scan_page.ensures.refused front one.0 one.1) in
+    let why = refused_then K c.args.ends.now.durable tt old mid mid goes _ id c.args.ends.now.last (λ page. page.store ≡ c.args.store) refl has up_to front disk holds (c.in_err-scan_page.ensures.refused front one.0 one.1) in
     if_err c.from_residual.result c.from_residual.ensures.1 (λ fault is. subst (λ f. IsRefused (geometry_of old) disk c.args.store c.args.ends.now.last f ⊎ AsksForForce old c.args.ends.now.durable f) (sym is) why)
 
 pub returns-clause-reads : goal.returns-clause-reads
