@@ -124,6 +124,10 @@ pub some_is : {A : Type 0} (P : A → Type 0) (o : Option A) → IsSomeAnd o P �
 some_is P (Some x) holds = refl
 some_is P None holds = absurd holds
 
+pub second_and : {A : Type 0} (P Q : A → Type 0) (o : Option A) → IsSomeAnd o (λ x. P x × Q x) → IsSomeAnd o Q
+second_and P Q (Some x) holds = holds.1
+second_and P Q None holds = absurd holds
+
 -- a page that was in a frame is
 pub held_still : {V : Type 0} {H : disk.Ghosts V} (P : Frame → Type 0) (new old : Heap V H) (id : PageId) → heaps.device_of new ≡ heaps.device_of old
     → ((k : ℕ) → is_some (heaps.frame_at new k) ≡ is_some (heaps.frame_at old k)) → IsSomeAnd (frame_of old id) P → IsTrue (is_some (frame_of new id))

@@ -1,7 +1,7 @@
 -- That a fault which says that a device is damaged names a page that could not be read.
 use Rattle.std.proofs.Common.{◌≡◌, ◌⊎◌, inl, inr, ℕ, List, Result, Ok, Err, IfErr, IsErrAnd, sym, subst, ◌∙◌}
 use Rattle.shore_dwrite.specs.Volumes.{HasNoPage, page_number, page_offset}
-use Rattle.shore_heap.specs.Places.{IsRefused}
+use Rattle.shore_heap.specs.Places.{IsRefusedAmong}
 use Rattle.shore_types.specs.Layout.{HasPage}
 use Rattle.shore_types.specs.declared.faults.Device.{Device}
 use Rattle.shore_types.specs.declared.faults.Device.TheVariants.{Volume}
@@ -29,14 +29,14 @@ module _ (g : Geometry) (disk : ℕ → List ℕ) (last : ℕ) (IsRead : PageId 
       apart : fault.Damaged d offset ≡ fault.NeedForce force.0 → ⊥
       apart e = cc
 
-  pub store_earned : (X : ℕ → Type 0) (store n : ℕ) (f : Fault) → n ≡ last → ((id : PageId) → id.store ≡ store → IsRead id)
-      → IsRefused g disk store n f ⊎ ((number : ℕ) × (f ≡ fault.NeedForce number) × X number) → IsEarned g disk last IsRead f
-  store_earned X store n f same read (inl (inl device)) d offset is = absurd cc
-  store_earned X store n f same read (inl (inr (inl memory))) d offset is = absurd cc
-  store_earned X store n f same read (inl (inr (inr (id, there, of_store, damaged, no_page)))) d offset is =
+  pub store_earned : (IsFetched : PageId → Type 0) (X : ℕ → Type 0) (n : ℕ) (f : Fault) → n ≡ last → ((id : PageId) → HasPage g id → IsFetched id → IsRead id)
+      → IsRefusedAmong g disk IsFetched n f ⊎ ((number : ℕ) × (f ≡ fault.NeedForce number) × X number) → IsEarned g disk last IsRead f
+  store_earned IsFetched X n f same read (inl (inl device)) d offset is = absurd cc
+  store_earned IsFetched X n f same read (inl (inr (inl memory))) d offset is = absurd cc
+  store_earned IsFetched X n f same read (inl (inr (inr (id, there, fetched, damaged, no_page)))) d offset is =
       let at : fault.Damaged d offset ≡ fault.Damaged Volume (page_offset (page_number g id)) = sym is ∙ damaged in
-      (cc, (id, read id of_store, there, cc, subst (HasNoPage (disk (page_number g id)) id) same no_page))
-  store_earned X store n f same read (inr force) d offset is = absurd (apart (sym is ∙ force.1))
+      (cc, (id, read id there fetched, there, cc, subst (HasNoPage (disk (page_number g id)) id) same no_page))
+  store_earned IsFetched X n f same read (inr force) d offset is = absurd (apart (sym is ∙ force.1))
     where
       apart : fault.Damaged d offset ≡ fault.NeedForce force.0 → ⊥
       apart e = cc

@@ -10,7 +10,7 @@ use Rattle.shore_disk.specs.declared.device.Disk as disk
 use Rattle.shore_dwrite.specs.Volumes.{HasNoPage, page_number, page_offset}
 use Rattle.shore_heap.specs.declared.heap.Heap.{Heap}
 use Rattle.shore_heap.specs.Heaps.{AsksForForce, WroteBack, frame_at, geometry_of}
-use Rattle.shore_heap.specs.Places.{IsRefused}
+use Rattle.shore_heap.specs.Places.{IsRefusedAmong}
 use Rattle.shore_pool.specs.Pools as pools
 use Rattle.shore_pool.specs.Pools.{PoolHolds, NeedsForce}
 use Rattle.shore_pool.specs.declared.pool.Pool.{Pool}
@@ -49,11 +49,11 @@ module _ {V : Type 0} {H : disk.Ghosts V} (heap : Heap V H) (s : State) (store :
   page_fault seen last id f told (inr (inr (inr force))) = inr (subst (IsPageFault s) (sym force.1) (force_logged seen force.0 told force.2))
 
   -- .. and that of a store's pages
-  pub store_fault : (seen last of : ℕ) (f : Fault) → seen ≡ s.durable → IsRefused (geometry_of heap) disk of last f ⊎ AsksForForce heap seen f → (f ≡ fault.Memory) ⊎ IsPageFault s f
-  store_fault seen last of f told (inl (inl device)) = inr (inl device)
-  store_fault seen last of f told (inl (inr (inl memory))) = inl memory
-  store_fault seen last of f told (inl (inr (inr damaged))) = inr (inr (inl (_, damaged.3)))
-  store_fault seen last of f told (inr force) = inr (subst (IsPageFault s) (sym force.1) (force_logged seen force.0 told force.2))
+  pub store_fault : (seen last : ℕ) (IsFetched : PageId → Type 0) (f : Fault) → seen ≡ s.durable → IsRefusedAmong (geometry_of heap) disk IsFetched last f ⊎ AsksForForce heap seen f → (f ≡ fault.Memory) ⊎ IsPageFault s f
+  store_fault seen last IsFetched f told (inl (inl device)) = inr (inl device)
+  store_fault seen last IsFetched f told (inl (inr (inl memory))) = inl memory
+  store_fault seen last IsFetched f told (inl (inr (inr damaged))) = inr (inr (inl (_, damaged.3)))
+  store_fault seen last IsFetched f told (inr force) = inr (subst (IsPageFault s) (sym force.1) (force_logged seen force.0 told force.2))
 
 module _ {V : Type 0} {H : disk.Ghosts V} (heap : Heap V H) (seen : ℕ) where
   asked : (n number : ℕ) → fault.NeedForce n ≡ fault.NeedForce number → NeedsForce heap.pool seen n → NeedsForce heap.pool seen number
@@ -87,12 +87,12 @@ module _ {V : Type 0} {H : disk.Ghosts V} (heap : Heap V H) (seen : ℕ) where
   fetch_force g disk last id f (inr (inr (inl damaged))) = page_force (Unit {0}) f (inr (inr (inl (_, damaged.0, tt))))
   fetch_force g disk last id f (inr (inr (inr force))) = page_force (Unit {0}) f (inr (inr (inr force)))
 
-  pub store_force : (g : Geometry) (disk : ℕ → List ℕ) (last of : ℕ) (f : Fault) → IsRefused g disk of last f ⊎ AsksForForce heap seen f
+  pub store_force : (g : Geometry) (disk : ℕ → List ℕ) (last : ℕ) (IsFetched : PageId → Type 0) (f : Fault) → IsRefusedAmong g disk IsFetched last f ⊎ AsksForForce heap seen f
       → (number : ℕ) → f ≡ fault.NeedForce number → NeedsForce heap.pool seen number
-  store_force g disk last of f (inl (inl device)) = page_force (Unit {0}) f (inl device)
-  store_force g disk last of f (inl (inr (inl memory))) = page_force (Unit {0}) f (inr (inl memory))
-  store_force g disk last of f (inl (inr (inr damaged))) = page_force (Unit {0}) f (inr (inr (inl (_, damaged.3, tt))))
-  store_force g disk last of f (inr force) = page_force (Unit {0}) f (inr (inr (inr force)))
+  store_force g disk last IsFetched f (inl (inl device)) = page_force (Unit {0}) f (inl device)
+  store_force g disk last IsFetched f (inl (inr (inl memory))) = page_force (Unit {0}) f (inr (inl memory))
+  store_force g disk last IsFetched f (inl (inr (inr damaged))) = page_force (Unit {0}) f (inr (inr (inl (_, damaged.3, tt))))
+  store_force g disk last IsFetched f (inr force) = page_force (Unit {0}) f (inr (inr (inr force)))
 
 -- a fault that is handed on asks for the same
 pub forced_as : {A : Type 0} (P : ℕ → Type 0) (r : Result A Fault) (f : Fault) → IsErrAnd r (λ e. e ≡ f) → ((number : ℕ) → f ≡ fault.NeedForce number → P number)

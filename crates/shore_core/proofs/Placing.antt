@@ -1,10 +1,12 @@
 -- What a search of a store comes to: where a new record goes, what a scan finds, and which faults of the pages refuse the call.
 use Rattle.laws_checkpoints.specs.CheckpointedStores.{CheckpointedStore}
-use Rattle.std.proofs.Common.{◌≡◌, ◌⊎◌, ◌+◌, ◌≤◌, inl, inr, ℕ, List, Result, Ok, Err, IsErrAnd, Some, length, refl, sym, ap, subst, ◌∙◌, arith}
+use Rattle.std.proofs.Common.{◌≡◌, ◌⊎◌, ◌+◌, ◌<◌, ◌≤◌, inl, inr, ℕ, List, Option, Result, Ok, Err, IfSome, IsErrAnd, Some, length, refl, sym, ap, subst, ◌∙◌, arith}
 use Rattle.std.specs.FinMap.{get}
 use Rattle.shore_types.specs.declared.faults.Fault.{Fault}
 use Rattle.shore_types.specs.declared.faults.Fault.TheVariants as fault
+use Rattle.shore_types.specs.declared.ids.PageId.{PageId}
 use Rattle.shore_types.specs.declared.ids.Rid.{Rid}
+use Rattle.shore_types.specs.Layout.{HasPage}
 use Rattle.shore_types.specs.declared.layout.Geometry.{Geometry}
 use Rattle.shore_types.specs.declared.locking.Granule.TheVariants.{Record}
 use Rattle.shore_types.specs.declared.locking.Mode.TheVariants.{EX}
@@ -17,11 +19,11 @@ use Rattle.laws_locks.proofs.Places.{acquired_ends}
 use Rattle.shore_disk.specs.declared.device.Disk as disk
 use Rattle.shore_log.specs.declared.tail.Tail as tail
 use Rattle.shore_model.specs.declared.log_records.LogRecord.{LogRecord}
-use Rattle.shore_model.specs.Records.{AreRecords, scan_of}
+use Rattle.shore_model.specs.Records.{AreRecords, part_of, scan_of}
 use Rattle.shore_page.specs.Slots.{image_at_slot}
 use Rattle.shore_heap.specs.Places.{HasNoPlace, IsPlace, Takes}
-use Rattle.shore_heap.specs.Scans.{IsScan}
-use Rattle.shore_heap.proofs.Scanned.{scans_as_the_model}
+use Rattle.shore_heap.specs.Scans.{IsPart, IsScan, Tells, part_end}
+use Rattle.shore_heap.proofs.Scanned.{end_inside, model_part, parts_as_the_model, scans_as_the_model}
 use Rattle.laws_room.proofs.Pages.{length-slots}
 use Rattle.laws_room.specs.Claims.{Claimed}
 use Rattle.shore_model.specs.declared.calls.Call.TheVariants as call
@@ -76,12 +78,24 @@ module _ (g : Geometry) (s : State) (claimed : Claimed s.sessions.records s.sess
     pub none_serves : HasNoPlace g (page_slots s) store (length bytes) (can_lock s.locks.requests t) → (id : Rid) → ServesTxn g s t store bytes id → ⊥
     none_serves none id serves = none id (takes_of id serves)
 
-  -- what a scan of the pages finds is the scan of the records
-  pub scan_is : AreRecords g s.sessions.records → (list : List (Rid × List ℕ)) → IsScan (page_slots s) g store list → list ≡ scan_of store s.sessions.records
-  scan_is inside list is = scans_as_the_model g (page_slots s) store list s.sessions.records is (record {
+  tells : AreRecords g s.sessions.records → Tells g (page_slots s) s.sessions.records
+  tells inside = record {
     inside = λ id there. sym (shown id);
     outside = λ id nowhere. no_such (get s.sessions.records id) (λ bytes found. nowhere (inside id bytes found).0.0);
-  })
+  }
+
+  -- what a scan of the pages finds is the scan of the records
+  pub scan_is : AreRecords g s.sessions.records → (list : List (Rid × List ℕ)) → IsScan (page_slots s) g store list → list ≡ scan_of store s.sessions.records
+  scan_is inside list is = scans_as_the_model g (page_slots s) store list s.sessions.records is (tells inside)
+
+  -- .. and so for a part of it, up to the page that comes next
+  module _ (inside : AreRecords g s.sessions.records) (from : ℕ) (next : Option PageId) (there : IfSome next (λ id. (id.store ≡ store) × HasPage g id)) where
+    pub part_is : (list : List (Rid × List ℕ)) → IsPart (page_slots s) store from (part_end g store next) list → list ≡ part_of store from (part_end g store next) s.sessions.records
+    part_is list is = parts_as_the_model g (page_slots s) store from (part_end g store next) list s.sessions.records (end_inside g store next there) is (tells inside)
+
+    -- the model's part is one that the pages have
+    pub part_shows : (to : ℕ) → to ≤ part_end g store next → IsPart (page_slots s) store from to (part_of store from to s.sessions.records)
+    part_shows to before = model_part g (page_slots s) store from to s.sessions.records (omega (arith, before, end_inside g store next there)) (tells inside)
 
 -- what refuses an insert that finds no place
 pub place_fault : (g : Geometry) (s : State) → Claimed s.sessions.records s.sessions.active s.counts → (a : SessionTxn) (store : ℕ) (bytes : List ℕ) (f : Fault) {len : ℕ} → len ≡ length bytes

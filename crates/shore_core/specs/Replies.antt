@@ -1,6 +1,6 @@
 -- What a call comes to behind the refusals that stand before every call.
 use Rattle.laws_checkpoints.specs.CheckpointedStores.{CheckpointedStore}
-use Rattle.std.specs.Prelude.{◌≡◌, ◌⊎◌, ℕ, List, Result, Ok, Err, IfErr, IfOk, true, false}
+use Rattle.std.specs.Prelude.{◌≡◌, ◌⊎◌, ◌<◌, ℕ, List, Result, Ok, Err, IfErr, IfOk, true, false, length}
 use Rattle.shore_disk.specs.Cause.{HasCause}
 use Rattle.shore_disk.specs.declared.device.Disk as disk
 use Rattle.shore_log.specs.declared.tail.Tail as tail
@@ -8,6 +8,7 @@ use Rattle.shore_dwrite.specs.Volumes.{HasNoPage, page_number, page_offset}
 use Rattle.shore_pool.specs.Pools.{PoolHolds}
 use Rattle.shore_heap.specs.Heaps as heaps
 use Rattle.shore_heap.specs.Heaps.{LeavesPages, pool_of}
+use Rattle.shore_heap.specs.Scans.{IsFrom}
 use Rattle.shore_disk.specs.Device.{LeavesOnly, size}
 use Rattle.shore_pool.specs.Pools as pools
 use Rattle.shore_types.specs.Layout.{HasPage}
@@ -22,6 +23,7 @@ use Rattle.shore_model.specs.declared.calls.Call.{Call}
 use Rattle.shore_model.specs.declared.calls.Call.TheVariants as call
 use Rattle.shore_model.specs.declared.calls.Outcome.TheVariants as outcome
 use Rattle.shore_model.specs.declared.log_records.LogRecord.{LogRecord}
+use Rattle.shore_model.specs.Records.{part_of}
 use Rattle.shore_model.specs.declared.step.Step.{Step}
 use Rattle.shore_model.specs.declared.step.Step.TheVariants.{Done, Waits, Refused, Nothing}
 use Rattle.laws_lives.specs.Sessions.{SessionTxn}
@@ -77,6 +79,10 @@ Reads (call.Prepare global) page = ⊥
 Reads (call.Resolve global outcome.Commit) page = ⊥
 Reads (call.Resolve global outcome.Abort) page = Unit {0}
 Reads call.InDoubt page = ⊥
+
+-- .. and those that a part of a store's records has to: its first, and one behind that while the pages before it have fewer records than were asked for
+abbrev pub ReadsPart : State → PageId → ℕ → PageId → Type 0
+ReadsPart s first most page = IsFrom first page × (first.page < page.page → length (part_of first.store first.page page.page s.sessions.records) < most)
 
 -- ---- replies
 

@@ -1,12 +1,14 @@
 //! Calls that change records, which have their locks.
-ghost use Rattle.std.specs.Prelude.{◌≡◌, ◌⊎◌, ◌≤◌, IfErr, IsSomeAnd, IsTrue, Ok, is_some, false, length};
+ghost use Rattle.std.specs.Prelude.{◌≡◌, ◌⊎◌, ◌≤◌, IfErr, IsSomeAnd, IsTrue, Ok, is_some, false, length, option_map};
 ghost use Rattle.shore_types.specs.Layout.{HasSlot};
 ghost use Rattle.shore_types.specs.declared.faults.Fault.TheVariants as Fault;
 ghost use Rattle.shore_types.specs.declared.layout.TheConstants.{MAX_RECORD_BYTES};
 ghost use Rattle.shore_model.specs.declared.calls.Call.TheVariants as Call;
 ghost use Rattle.shore_page.specs.Room.{Fits};
 ghost use Rattle.shore_page.specs.Slots.{image_at_slot};
-ghost use Rattle.shore_types.specs.Images.{image_len};
+ghost use Rattle.shore_model.specs.declared.log_records.Payload.TheVariants.{Change};
+ghost use Rattle.shore_types.specs.Images.{Image, image_len};
+ghost use Rattle.shore_types.specs.declared.ids.Rid.{Rid};
 ghost use Rattle.shore_heap.specs.Heaps.{frame_of};
 ghost use Rattle.shore_txn.specs.Transactions.{IsSeatIn, room_in};
 
@@ -16,8 +18,8 @@ use shore_log::Tail;
 use shore_logrec::{LogRecord, Payload, change_cost, compensation_cost};
 use shore_model::{Answer, Step};
 use shore_txn::{Seat, UndoEntry};
-use shore_types::images::{bytes_of, copy_of, len_of};
-use shore_types::{Bytes, Fault, Lsn, Rid, Sequence};
+use shore_types::images::{bytes_of, len_of};
+use shore_types::{Bytes, Fault, Lsn, Rid, Sequence, TxnId};
 use std::alloc::Global;
 
 impl<T: Tail, V: Disk> Core<T, V> {
@@ -89,27 +91,66 @@ impl<T: Tail, V: Disk> Core<T, V> {
         if !self.admits(logged + undo) {
             return Err(Fault::LogFull);
         }
-        // It gets the number of its record once that is logged.
-        let mut entry = UndoEntry {
-            id,
-            lsn: Lsn(0),
-            before: copy_of(alloc, &before)?,
-            claim: self.heap.claim(id),
-        };
-        let image = copy_of(alloc, &after)?;
+        let claim = self.heap.claim(id);
         self.control.reserve_entry(alloc, seat)?;
-        let payload = Payload::Change { id, before, after };
-        let lsn = match self.tail.push(&LogRecord {
-            txn,
-            previous,
-            payload,
-        }) {
+        let record = change_record(txn, previous, &id, before, after);
+        let lsn = match self.tail.push(&record) {
             Ok(lsn) => lsn,
             Err(fault) => return Err(fault),
         };
-        entry.lsn = lsn;
-        self.heap.change(id, lsn, bytes_of(&image));
+        // The log has a copy of its own, so the record's images go on: one to the page, the other to the undo entry.
+        self.heap.change(id, lsn, after_of(&record));
+        let entry = UndoEntry {
+            id,
+            lsn,
+            before: before_of(record),
+            claim,
+        };
         self.control.note_change(seat, entry, logged, undo);
         Ok(())
+    }
+}
+
+// The record of a change.
+fn change_record(
+    txn: TxnId,
+    previous: Lsn,
+    id: &Rid,
+    before: Option<Bytes>,
+    after: Option<Bytes>,
+) -> LogRecord
+    ensures { result ≡ record { txn = txn; previous = previous; payload = Change id.now before after } }
+{
+    let payload = Payload::Change {
+        id: *id,
+        before,
+        after,
+    };
+    LogRecord {
+        txn,
+        previous,
+        payload,
+    }
+}
+
+// The image behind a change, lent by its record.
+fn after_of(change: &LogRecord) -> Option<&[u8]>
+    ensures { (id : Rid) (before after : Image) → change.now.payload ≡ Change id before after → option_map (λ bytes. bytes.now) result ≡ after }
+{
+    match &change.payload {
+        Payload::Change { after, .. } => bytes_of(after),
+        // It is asked of the record of a change alone, and that has a change.
+        _ => None,
+    }
+}
+
+// The image before a change, which its record gives up.
+fn before_of(change: LogRecord) -> Option<Bytes>
+    ensures { (id : Rid) (before after : Image) → change.payload ≡ Change id before after → result ≡ before }
+{
+    match change.payload {
+        Payload::Change { before, .. } => before,
+        // As above: the record of a change has a change.
+        _ => None,
     }
 }

@@ -1,5 +1,5 @@
 //! New records: where they go, and what the insert of one comes to.
-ghost use Rattle.std.specs.Prelude.{◌≡◌, ◌⊎◌, ◌≤◌, IfErr, IfOk, IsSomeAnd, IsTrue, MatchResult, Ok, false, length};
+ghost use Rattle.std.specs.Prelude.{◌≡◌, ◌⊎◌, ◌≤◌, IfErr, IfOk, IsSomeAnd, MatchResult, Ok, false, length};
 ghost use Rattle.shore_types.specs.Layout.{HasSlot, HasStore};
 ghost use Rattle.shore_types.specs.declared.faults.Fault.TheVariants as Fault;
 ghost use Rattle.shore_model.specs.declared.calls.Call.TheVariants as Call;
@@ -11,7 +11,8 @@ ghost use Rattle.laws_calls.specs.CallSteps.{with_requests};
 ghost use Rattle.laws_calls.specs.States.{State, page_slots};
 ghost use Rattle.shore_sessions.specs.Standing.{HasControl};
 ghost use Rattle.shore_locks.specs.Tables.{is_waiting};
-ghost use Rattle.shore_path.specs.Intending.{IntendsToWrite};
+ghost use Rattle.shore_path.specs.Intending.{CoversRecords, IntendsToWrite};
+ghost use Rattle.shore_path.specs.declared.intending.WayToWrite.TheVariants as WayToWrite;
 ghost use Rattle.shore_path.specs.Walks.{acquired};
 ghost use Rattle.shore_path.specs.declared.answers.OnConflict.TheVariants.{Refuse};
 ghost use Rattle.shore_core.specs.Replies.{acquire_as, can_lock};
@@ -25,7 +26,7 @@ use crate::lockable::Lockable;
 use shore_disk::Disk;
 use shore_log::Tail;
 use shore_model::{Answer, Step};
-use shore_path::intends_to_write;
+use shore_path::{WayToWrite, way_to_write};
 use shore_txn::Seat;
 use shore_types::{Bytes, Fault, LogEnds, Lsn, PageId, Rid, Sequence, StoreId, TxnId};
 use std::alloc::Global;
@@ -53,13 +54,13 @@ impl<T: Tail, V: Disk> Core<T, V> {
         ensures serves { ServesCall (λ page. page.store ≡ store) self.old result self.old self.new }
         ensures ring { (room_in (txns_of self.new)).stream_bytes ≡ (room_in (txns_of self.old)).stream_bytes }
     {
-        // Mostly the volume and the store are held with the intention to write, and are not looked at again.
-        let intends = intends_to_write(self.control.locks(), txn, store);
-        let place = self.find_place(alloc, txn, store, bytes.as_slice().len(), intends)?;
+        // Mostly the volume and the store are held with the intention to write, or in a mode that covers the records, and are not looked at again.
+        let way = way_to_write(self.control.locks(), txn, store);
+        let place = self.find_place(alloc, txn, store, bytes.as_slice().len(), way)?;
         let Rid { page, slot } = place;
         let PageId { store, page } = page;
         let id = PageId { store, page };
-        self.lock_place(txn, Rid { page: id, slot }, intends)?;
+        self.lock_place(txn, Rid { page: id, slot }, way)?;
         let id = PageId { store, page };
         self.change(alloc, seat, Rid { page: id, slot }, None, Some(bytes))?;
         let page = PageId { store, page };
@@ -67,9 +68,10 @@ impl<T: Tail, V: Disk> Core<T, V> {
     }
 
     // A place that can be locked now is locked, unless the table is full.
-    fn lock_place(&mut self, txn: TxnId, place: Rid, intends: bool) -> Result<(), Fault>
+    fn lock_place(&mut self, txn: TxnId, place: Rid, way: WayToWrite) -> Result<(), Fault>
         requires quiet { is_waiting txn (locks_of self.old).requests ≡ false }
-        requires intends { IsTrue intends → IntendsToWrite (locks_of self.old).requests txn place.page.store }
+        requires covered { way ≡ WayToWrite.Covered → CoversRecords (locks_of self.old).requests txn place.page.store }
+        requires intended { way ≡ WayToWrite.Intended → IntendsToWrite (locks_of self.old).requests txn place.page.store }
         requires lockable { can_lock (locks_of self.old).requests txn place }
         ensures answer { (acquired Refuse (locks_of self.old) txn (Granule.Record place) Mode.EX).answer ≡ acquire_as result }
         ensures refused { IfErr result (λ f. f ≡ Fault.LockTableFull) }
@@ -77,7 +79,7 @@ impl<T: Tail, V: Disk> Core<T, V> {
         ensures only { OnlyLocks self.old self.new }
         ensures ring { (room_in (txns_of self.new)).stream_bytes ≡ (room_in (txns_of self.old)).stream_bytes }
     {
-        self.control.acquire_record(txn, &place, intends)?;
+        self.control.acquire_record(txn, &place, way)?;
         Ok(())
     }
 
@@ -88,10 +90,11 @@ impl<T: Tail, V: Disk> Core<T, V> {
         txn: TxnId,
         store: StoreId,
         len: usize,
-        intends: bool,
+        way: WayToWrite,
     ) -> Result<Rid, Fault>
         requires there { HasStore (geometry_of self.old) store }
-        requires intends { IsTrue intends → IntendsToWrite (locks_of self.old).requests txn store }
+        requires covered { way ≡ WayToWrite.Covered → CoversRecords (locks_of self.old).requests txn store }
+        requires intended { way ≡ WayToWrite.Intended → IntendsToWrite (locks_of self.old).requests txn store }
         ensures there { IfOk result (HasSlot (geometry_of self.old)) }
         ensures of_store { IfOk result (λ id. id.page.store ≡ store) }
         ensures framed { IfOk result (λ id. IsSomeAnd (frame_of (heap_of self.new) id.page) (λ f. IsCandidate f.page.slots id.slot len)) }
@@ -108,7 +111,7 @@ impl<T: Tail, V: Disk> Core<T, V> {
             locks: self.control.locks(),
             txn,
             store,
-            intends,
+            way,
         };
         let ends = LogEnds {
             last,

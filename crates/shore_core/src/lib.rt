@@ -20,6 +20,7 @@ mod lockable;
 mod locking;
 mod making;
 mod nodes;
+mod parts;
 mod preparing;
 mod reading;
 mod resolving;

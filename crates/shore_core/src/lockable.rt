@@ -1,15 +1,16 @@
 //! Places that a transaction could lock.
-ghost use Rattle.std.specs.Prelude.{IsTrue};
+ghost use Rattle.std.specs.Prelude.{◌≡◌, ◌↔◌, IsTrue};
 ghost use Rattle.shore_types.specs.declared.locking.Granule.TheVariants.{Page};
 ghost use Rattle.shore_types.specs.declared.locking.Mode.TheVariants.{IX};
-ghost use Rattle.shore_path.specs.Intending.{IntendsToWrite};
+ghost use Rattle.shore_path.specs.Intending.{CoversRecords, IntendsToWrite};
+ghost use Rattle.shore_path.specs.declared.intending.WayToWrite.TheVariants as WayToWrite;
 ghost use Rattle.shore_path.specs.Judging.{CanLockNow};
 ghost use Rattle.shore_core.specs.Replies.{can_lock};
 
 use shore_heap::Places;
 use shore_locks::LockTable;
-use shore_path::laws::records_need_their_page;
-use shore_path::{may_lock, may_lock_in_page, may_lock_in_store};
+use shore_path::laws::{covered_records_are_had, records_need_their_page};
+use shore_path::{WayToWrite, may_lock, may_lock_in_page, may_lock_in_store};
 use shore_types::{Granule, Mode, PageId, Rid, StoreId, TxnId};
 
 /// The places that a transaction could lock now.
@@ -21,9 +22,10 @@ pub(crate) struct Lockable<'a> {
     pub(crate) txn: TxnId,
     /// The store that is searched.
     pub(crate) store: StoreId,
-    /// Whether the transaction is known to intend to write its records (`intended`).
-    pub(crate) intends: bool,
-    ghost intended: { IsTrue intends → IntendsToWrite locks.now.requests txn store },
+    /// What the transaction has of it (`covered`, `intended`).
+    pub(crate) way: WayToWrite,
+    ghost covered: { way ≡ WayToWrite.Covered → CoversRecords locks.now.requests txn store },
+    ghost intended: { way ≡ WayToWrite.Intended → IntendsToWrite locks.now.requests txn store },
 }
 
 impl<'a> Places for Lockable<'a> {
@@ -32,15 +34,33 @@ impl<'a> Places for Lockable<'a> {
     ghost MayUse = { λ l page. CanLockNow l.locks.now.requests l.txn (Page page) IX };
 
     fn may_use(&self, page: &PageId) -> bool {
-        // This does nothing: it brings the fact that who can lock a record now could lock its page in IX now.
+        // These do nothing: they bring the facts that who can lock a record now could lock its page in IX now, and that who holds what covers records can.
         records_need_their_page();
-        if self.intends && page.store == self.store {
-            return may_lock_in_store(self.locks, self.txn, page);
+        covered_records_are_had();
+        if page.store == self.store {
+            match self.way {
+                WayToWrite::Covered => return true,
+                WayToWrite::Intended => return may_lock_in_store(self.locks, self.txn, page),
+                WayToWrite::Unknown => {}
+            }
         }
         may_lock(self.locks, self.txn, Granule::Page(*page), Mode::IX)
     }
 
     fn may_take(&self, id: &Rid) -> bool {
+        covered_records_are_had();
+        if self.is_covered() && id.page.store == self.store {
+            return true;
+        }
         may_lock_in_page(self.locks, self.txn, id)
+    }
+}
+
+impl<'a> Lockable<'a> {
+    // Whether the store's records are covered.
+    fn is_covered(&self) -> bool
+        ensures { IsTrue result ↔ (self.now.way ≡ WayToWrite.Covered) }
+    {
+        matches!(self.way, WayToWrite::Covered)
     }
 }

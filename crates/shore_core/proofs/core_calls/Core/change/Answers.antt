@@ -1,4 +1,4 @@
-use Rattle.std.proofs.Common.{◌≡◌, inl, inr, ◌+◌, ◌++◌, ◌∷◌, [], length, length-append, refl, sym, ap, subst, ◌∙◌, arith}
+use Rattle.std.proofs.Common.{◌≡◌, IsSomeAnd, inl, inr, ◌+◌, ◌++◌, ◌∷◌, [], length, length-append, refl, sym, ap, subst, ◌∙◌, arith}
 use Rattle.std.specs.FinMap.{get}
 use Rattle.shore_dwrite.specs.Volumes.{page_number}
 use Rattle.shore_types.specs.Images.{Image, image_len}
@@ -7,6 +7,7 @@ use Rattle.shore_types.specs.declared.locking.Mode.TheVariants.{EX}
 use Rattle.shore_model.specs.declared.log_records.LogRecord.{LogRecord}
 use Rattle.shore_model.specs.declared.log_records.Payload.TheVariants.{Change}
 use Rattle.shore_model.specs.Logs.{previous_of}
+use Rattle.shore_logrec.specs.Text as text
 use Rattle.shore_logrec.specs.Text.{cost_of}
 use Rattle.shore_locks.specs.Tables.{Table}
 use Rattle.shore_path.specs.Acquires.{IsReached}
@@ -28,7 +29,7 @@ use Rattle.shore_sessions.specs.Controls.{txns_in}
 use Rattle.shore_sessions.specs.Standing.{IsLogged, changed}
 use Rattle.shore_core.specs.Cores.{control_of, durable_of, first_of, geometry_of, has_failed, txns_of, waiting_of}
 use Rattle.shore_core.specs.Parts.{HasParts}
-use Rattle.shore_core.proofs.Changed.{changes_none, claim_told, costs_are, earlier_changed, earlier_same, grown, grows, held_still, image_short, pages_changed, same_geometry, some_is}
+use Rattle.shore_core.proofs.Changed.{changes_none, claim_told, costs_are, earlier_changed, earlier_same, grown, grows, held_still, image_short, pages_changed, same_geometry, second_and, some_is}
 use Rattle.shore_core.proofs.Coming.{comes_appended, comes_same, over_as, pages_told}
 use Rattle.shore_core.proofs.Safe.{alone_in}
 use Rattle.shore_core.proofs.Tables.{each_among, has_no_room, has_room, next_is, parts_logged, parts_moved, some_and}
@@ -70,7 +71,7 @@ pub returns-in_err-reserve_entry-clause-changed : goal.returns-in_err-reserve_en
 returns-in_err-reserve_entry-clause-changed g c running front disk before s store is safe over a of locked =
     let old = c.args.self.now in
     let new = c.reserve_entry.new.self in
-    changes_none _ front before s store a c.args.id c.args.after c.from_residual-in_err-reserve_entry.result c.from_residual-in_err-reserve_entry.ensures.1
+    changes_none _ front before s store a c.args.id c.args.after c.from_residual.result c.from_residual.ensures.1
     (comes_same _ front disk before s store (record {
       beside = record {
         first = is.beside.first;
@@ -82,7 +83,7 @@ returns-in_err-reserve_entry-clause-changed g c running front disk before s stor
 pub push-requires-clause-text : goal.push-requires-clause-text
 push-requires-clause-text g c =
     let old = c.args.self.now in
-    record {
+    subst (λ (r : LogRecord). text.Fits r) (sym c.change_record-record.ensures) record {
       owner = c.id-txn.ensures.some;
       txn_fits = omega (arith, c.id-txn.ensures.below);
       previous_fits = omega (arith, c.last-previous.ensures, old.earlier c.txn-own.result.now c.txn-own.ensures.among, old.numbers);
@@ -95,7 +96,7 @@ push-requires-clause-text g c =
     }
 
 pub push-requires-clause-previous : goal.push-requires-clause-previous
-push-requires-clause-previous g c = omega (arith, c.last-previous.ensures, c.args.self.now.earlier c.txn-own.result.now c.txn-own.ensures.among)
+push-requires-clause-previous g c = omega (arith, ap (λ (r : LogRecord). r.previous) c.change_record-record.ensures, c.last-previous.ensures, c.args.self.now.earlier c.txn-own.result.now c.txn-own.ensures.among)
 
 pub invariant_of-self-in-Err-1 : goal.invariant_of-self-in-Err-1
 invariant_of-self-in-Err-1 g c =
@@ -123,10 +124,24 @@ returns-in-Err-clause-changed g c running front disk before s store is safe over
       }) (over_as old _ disk s s store refl refl refl refl over),
     )
 
+pub change-requires-clause-fits : goal.change-requires-clause-fits
+change-requires-clause-fits g c =
+    let id = c.args.id in
+    let image = c.args.after in
+    let payload : c.change_record-record.result.payload ≡ Change id c.args.before image = ap (λ (r : LogRecord). r.payload) c.change_record-record.ensures in
+    subst (λ (i : Image). IsSomeAnd (frame_of c.args.self.now.heap id.page) (λ f. Fits f.page.slots id.slot (image_len i))) (sym (c.after_of.ensures id c.args.before image payload))
+    (second_and (λ f. image_at_slot f.page.slots id.slot ≡ c.args.before) (λ f. Fits f.page.slots id.slot (image_len image)) (frame_of c.args.self.now.heap id.page) c.requires.found)
+
+pub note_change-requires-clause-short : goal.note_change-requires-clause-short
+note_change-requires-clause-short g c =
+    let payload : c.change_record-record.result.payload ≡ Change c.args.id c.args.before c.args.after = ap (λ (r : LogRecord). r.payload) c.change_record-record.ensures in
+    omega (arith, ap image_len (c.before_of.ensures c.args.id c.args.before c.args.after payload), c.requires.before)
+
 pub note_change-requires-clause-cost : goal.note_change-requires-clause-cost
 note_change-requires-clause-cost g c =
+    let payload : c.change_record-record.result.payload ≡ Change c.args.id c.args.before c.args.after = ap (λ (r : LogRecord). r.payload) c.change_record-record.ensures in
     c.compensation_cost-undo.ensures.cost c.args.id c.args.before 0 (sym c.len_of-3.ensures) ∙ sym (compensation_bytes c.args.id c.args.before 0)
-    ∙ ap compensation_cost (sym c.in_ok-copy_of.ensures)
+    ∙ ap compensation_cost (sym (c.before_of.ensures c.args.id c.args.before c.args.after payload))
 
 pub invariant_of-self-2 : goal.invariant_of-self-2
 invariant_of-self-2 g c =
@@ -156,7 +171,9 @@ returns-clause-changed g c running front disk before s store is safe over a of l
     let slots = framed_is (λ l. (image_at_slot l id.slot ≡ c.args.before) × Fits l id.slot (image_len image)) (frame_of old.heap id.page) (disk (page_number (geometry_of old) id.page)) id.page (kept_in (txns_of old) id.page) (page_slots s id.page)
     (shows.pages id.page c.requires.there.0) c.requires.found in
     let found : get s.sessions.records id ≡ c.args.before = sym (image_shown s.sessions.records s.sessions.active s.counts safe.roomy.pages id) ∙ slots.0 in
-    let before_is = c.in_ok-copy_of.ensures ∙ sym found in
+    let payload : c.change_record-record.result.payload ≡ Change id c.args.before image = ap (λ (r : LogRecord). r.payload) c.change_record-record.ensures in
+    let given : c.before_of.result ≡ c.args.before = c.before_of.ensures id c.args.before image payload in
+    let before_is = given ∙ sym found in
     let logged = c.change_cost-logged.ensures.cost id c.args.before image (sym c.len_of.ensures) (sym c.len_of-2.ensures) in
     let cost = costs_are s.sessions.records id c.args.before image c.change_cost-logged.result c.compensation_cost-undo.result logged (c.compensation_cost-undo.ensures.cost id c.args.before 0 (sym c.len_of-3.ensures)) found in
     let own = c.txn-own.result.now in
@@ -176,9 +193,9 @@ returns-clause-changed g c running front disk before s store is safe over a of l
     let alone = alone_in (geometry_of old) s safe a.txn id (subst (λ (t : Table). IsReached t.requests a.txn (Record id) EX) (sym stands.locks) locked) in
     let later = changed s a id image (grown s.counts id) in
     let has = c.note_change.ensures.stands s a image (grown s.counts id) (c.reserve_entry.ensures.stands s stands) (of.0.0, at_seat) number before_is
-    (logged ∙ ap (λ (b : Image). cost_of (Change id b image)) (sym c.in_ok-copy_of.ensures)) safe.roomy.pages alone (c.claim.ensures (kept_in (txns_of old)) front disk (page_slots s) shows) in
+    (logged ∙ ap (λ (b : Image). cost_of (Change id b image)) (sym given)) safe.roomy.pages alone (c.claim-claim.ensures (kept_in (txns_of old)) front disk (page_slots s) shows) in
     let parts = parts_logged old.control new (waiting_of old) (durable_of old) (has_failed old) before s later r is.beside.parts has refl refl refl in
-    let image_is = c.bytes_of.ensures ∙ c.in_ok-image.ensures in
+    let image_is = c.after_of.ensures id c.args.before image payload in
     let made = subst (λ (i : Image). Shows (kept_in (txns_of old)) c.change.new.self front disk (with_slots (page_slots s) id.page (λ l. with_image l id.slot i))) image_is (c.change.ensures.shows (kept_in (txns_of old)) front disk (page_slots s) shows) in
     let held = held_still _ c.change.new.self old.heap id.page c.change.ensures.device c.change.ensures.held c.requires.found in
     let told = claim_told c.change.new.self (txns_of old) (txns_in new) id.page front disk (page_slots later) held (λ p other. c.note_change.ensures.elsewhere p other ∙ c.reserve_entry.ensures.claims p)
@@ -194,7 +211,7 @@ returns-clause-changed g c running front disk before s store is safe over a of l
       comes_appended _ front disk before s later store r over.kept refl refl (record {
         beside = record {
           first = c.push.ensures.first ∙ is.beside.first;
-          parts = subst (λ l. HasParts new l (durable_of old) (has_failed old) before later) (sym (c.in-Ok.ensures.added ∙ ap (λ x. waiting_of old ++ x ∷ []) r_is)) parts;
+          parts = subst (λ l. HasParts new l (durable_of old) (has_failed old) before later) (sym (c.in-Ok.ensures.added ∙ ap (λ x. waiting_of old ++ x ∷ []) (c.change_record-record.ensures ∙ r_is))) parts;
         };
         pages = λ w. told;
       }) (λ w. noted_image old.heap c.change.new.self disk store r id image (over.pages works) over.kept.recoverable over.kept.redone refl c.requires.there.0

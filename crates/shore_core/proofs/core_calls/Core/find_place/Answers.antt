@@ -48,7 +48,7 @@ returns-in_err-place-clause-found g c running front disk before s plain is safe 
     let works = is.beside.parts.failed_is ∙ running in
     match_as (IsPlace (geometry_of old) (page_slots s) c.args.store c.args.len (can_lock (locks_of old).requests c.args.txn))
     (λ (f : Fault). ((f ≡ fault.StoreFull) × HasNoPlace (geometry_of old) (page_slots s) c.args.store c.args.len (can_lock (locks_of old).requests c.args.txn)) ⊎ (f ≡ fault.Memory) ⊎ IsPageFault s f) c.from_residual.result _ c.from_residual.ensures.1
-    (inr (store_fault (heap_of old) s plain disk over.kept (over.pages works) (durable_of old) _ c.args.store _ (sym is.beside.parts.durable_is)
+    (inr (store_fault (heap_of old) s plain disk over.kept (over.pages works) (durable_of old) _ (λ page. page.store ≡ c.args.store) _ (sym is.beside.parts.durable_is)
     (c.in_err-place.ensures.refused front disk (is.pages works).holds (omega (arith, old.forced, c.last.view_is, c.next.ensures)))))
 
 pub returns-in-Some-clause-of_store : goal.returns-in-Some-clause-of_store
@@ -121,11 +121,11 @@ returns-in_err-place-clause-serves g c = record {
   damaged = λ front disk holds.
       let old = c.args.self.now in
       earned_as (geometry_of old) disk (last_of old) (λ page. page.store ≡ c.args.store) c.from_residual.result _ c.from_residual.ensures.1
-      (store_earned (geometry_of old) disk (last_of old) (λ page. page.store ≡ c.args.store) (NeedsForce (heap_of old).pool (durable_of old)) c.args.store _ _ (ap (λ n. n - 1) (c.last.view_is ∙ c.next.ensures)) (λ id of_store. of_store)
+      (store_earned (geometry_of old) disk (last_of old) (λ page. page.store ≡ c.args.store) (λ page. page.store ≡ c.args.store) (NeedsForce (heap_of old).pool (durable_of old)) _ _ (ap (λ n. n - 1) (c.last.view_is ∙ c.next.ensures)) (λ id there of_store. of_store)
       (c.in_err-place.ensures.refused front disk holds (omega (arith, old.forced, c.last.view_is, c.next.ensures))));
   forced = λ front disk holds.
       let old = c.args.self.now in
       forced_as (NeedsForce (heap_of old).pool (durable_of old)) c.from_residual.result _ c.from_residual.ensures.1
-      (store_force (heap_of old) (durable_of old) (geometry_of old) disk _ c.args.store _ (c.in_err-place.ensures.refused front disk holds (omega (arith, old.forced, c.last.view_is, c.next.ensures))));
+      (store_force (heap_of old) (durable_of old) (geometry_of old) disk _ (λ page. page.store ≡ c.args.store) _ (c.in_err-place.ensures.refused front disk holds (omega (arith, old.forced, c.last.view_is, c.next.ensures))));
   cause = cause_handed _ _ _ _ c.from_residual.ensures.1 c.in_err-place.ensures.reads.cause;
 }

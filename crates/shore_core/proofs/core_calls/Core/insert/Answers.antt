@@ -8,7 +8,7 @@ use Rattle.shore_locks.specs.Tables.{Table, is_waiting}
 use Rattle.shore_path.specs.Acquires.{IsReached}
 use Rattle.shore_path.specs.declared.answers.Acquired.TheVariants as acquire
 use Rattle.shore_path.specs.declared.answers.OnConflict.TheVariants.{Refuse}
-use Rattle.shore_path.specs.Intending.{IntendsToWrite}
+use Rattle.shore_path.specs.Intending.{CoversRecords, IntendsToWrite}
 use Rattle.shore_path.specs.Walks.{acquired}
 use Rattle.shore_page.specs.Room.{Fits}
 use Rattle.shore_page.specs.Slots.{image_at_slot}
@@ -43,11 +43,17 @@ lock_place-requires-clause-quiet g c = subst (λ l. is_waiting c.args.txn (locks
 pub lock_place-requires-clause-lockable : goal.lock_place-requires-clause-lockable
 lock_place-requires-clause-lockable g c = subst (λ l. can_lock (locks_in l).requests c.args.txn c.in_ok-place.place) (sym c.in_ok-place.ensures.reads.control) c.in_ok-place.ensures.lockable
 
-pub lock_place-requires-clause-intends : goal.lock_place-requires-clause-intends
-lock_place-requires-clause-intends g c sure =
+pub lock_place-requires-clause-covered : goal.lock_place-requires-clause-covered
+lock_place-requires-clause-covered g c sure =
+    subst (λ l. CoversRecords (locks_in l).requests c.args.txn c.in_ok-place.place.page.store) (sym c.in_ok-place.ensures.reads.control)
+    (subst (CoversRecords (locks_of c.args.self.now).requests c.args.txn) (sym c.in_ok-place.ensures.of_store)
+    (subst (λ (l : Table). CoversRecords l.requests c.args.txn c.args.store) c.locks.ensures (c.way_to_write-way.ensures.covered.0 sure)))
+
+pub lock_place-requires-clause-intended : goal.lock_place-requires-clause-intended
+lock_place-requires-clause-intended g c sure =
     subst (λ l. IntendsToWrite (locks_in l).requests c.args.txn c.in_ok-place.place.page.store) (sym c.in_ok-place.ensures.reads.control)
     (subst (IntendsToWrite (locks_of c.args.self.now).requests c.args.txn) (sym c.in_ok-place.ensures.of_store)
-    (subst (λ (l : Table). IntendsToWrite l.requests c.args.txn c.args.store) c.locks.ensures (c.intends_to_write-intends.ensures.0 sure)))
+    (subst (λ (l : Table). IntendsToWrite l.requests c.args.txn c.args.store) c.locks.ensures (c.way_to_write-way.ensures.intended.0 sure)))
 
 pub returns-in_err-lock_place-clause-served : goal.returns-in_err-lock_place-clause-served
 returns-in_err-lock_place-clause-served g c running front disk before s plain is safe over a of number =

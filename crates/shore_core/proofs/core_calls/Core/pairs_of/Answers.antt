@@ -29,7 +29,7 @@ returns-clause-refused g c running front disk before s plain is safe over =
     let old = c.args.self.now in
     let works = is.beside.parts.failed_is ∙ running in
     map_err _ (λ f. (f ≡ fault.Memory) ⊎ IsPageFault s f) c.scan.result
-    (λ f. store_fault (heap_of old) s plain disk over.kept (over.pages works) (durable_of old) _ c.args.store f (sym is.beside.parts.durable_is))
+    (λ f. store_fault (heap_of old) s plain disk over.kept (over.pages works) (durable_of old) _ (λ page. page.store ≡ c.args.store) f (sym is.beside.parts.durable_is))
     (c.scan.ensures.refused front disk (is.pages works).holds (omega (arith, old.forced, c.last.view_is, c.next.ensures)))
 
 pub returns-clause-stays : goal.returns-clause-stays
@@ -59,11 +59,11 @@ returns-clause-serves g c = record {
   damaged = λ front disk holds.
       let old = c.args.self.now in
       map_err _ _ c.scan.result
-      (λ f. store_earned (geometry_of old) disk (last_of old) (λ page. page.store ≡ c.args.store) (NeedsForce (heap_of old).pool (durable_of old)) c.args.store _ f (ap (λ n. n - 1) (c.last.view_is ∙ c.next.ensures)) (λ id of_store. of_store))
+      (λ f. store_earned (geometry_of old) disk (last_of old) (λ page. page.store ≡ c.args.store) (λ page. page.store ≡ c.args.store) (NeedsForce (heap_of old).pool (durable_of old)) _ f (ap (λ n. n - 1) (c.last.view_is ∙ c.next.ensures)) (λ id there of_store. of_store))
       (c.scan.ensures.refused front disk holds (omega (arith, old.forced, c.last.view_is, c.next.ensures)));
   forced = λ front disk holds.
       let old = c.args.self.now in
-      map_err _ _ c.scan.result (λ f. store_force (heap_of old) (durable_of old) (geometry_of old) disk _ c.args.store f)
+      map_err _ _ c.scan.result (λ f. store_force (heap_of old) (durable_of old) (geometry_of old) disk _ (λ page. page.store ≡ c.args.store) f)
       (c.scan.ensures.refused front disk holds (omega (arith, old.forced, c.last.view_is, c.next.ensures)));
   cause = c.scan.ensures.reads.cause;
 }
