@@ -1,9 +1,10 @@
 -- What a dump leaves: all as it was, or a world that has failed.
-use Rattle.std.proofs.Common.{◌≡◌, ◌≢◌, inl, inr, true, false, ℕ, List, Bool, Result, Ok, Err, IfErr, IfOk, IsErrAnd, IsTrue, MatchResult, refl, sym, ◌∙◌, ap, subst}
+use Rattle.std.proofs.Common.{◌≡◌, ◌≢◌, inl, inr, true, false, ℕ, List, Bool, Option, Result, Ok, Err, IfErr, IfOk, IsErrAnd, IsTrue, MatchResult, refl, sym, ◌∙◌, ap, subst}
 use Rattle.shore_types.specs.declared.faults.Fault.{Fault}
 use Rattle.shore_types.specs.declared.faults.Fault.TheVariants as fault
+use Rattle.shore_types.specs.declared.ids.PageId.{PageId}
 use Rattle.shore_types.specs.declared.ids.Rid.{Rid}
-use Rattle.shore_model.specs.Records.{scan_of}
+use Rattle.shore_model.specs.Records.{part_of, scan_of}
 use Rattle.shore_disk.specs.declared.device.Disk.{Ghosts}
 use Rattle.shore_log.specs.declared.device.LogDev.{LogDev}
 use Rattle.laws_calls.specs.StateChanges.{after_refusal, with_failure}
@@ -14,7 +15,7 @@ use Rattle.shore_core.specs.Cores.{IsSafe, heap_of}
 use Rattle.shore_core.specs.Replies.{Fails, InEach, MayLeave, SameVolume}
 use Rattle.shore_core.proofs.Taking.{stays_after}
 use Rattle.shore_world.specs.declared.world.World.{World}
-use Rattle.shore_world.specs.Worlds.{WorldComesTo, HasFailedToRead, IsAt, IsDumpOf, IsInState, IsLike, IsOverStore, SurvivesCrashes, before_in, durable_in, failed_in, geometry_in, list_in, report_in}
+use Rattle.shore_world.specs.Worlds.{WorldComesTo, HasFailedToRead, IsAt, IsDumpOf, IsInState, IsLike, IsOverStore, IsPartOf, SurvivesCrashes, before_in, durable_in, failed_in, geometry_in, list_in, report_in}
 use Rattle.shore_world.proofs.GrowLemmas.{HasSameLog, kept_same}
 use Rattle.shore_world.proofs.VolumeLemmas.{comes_written, volume_alone, volume_written}
 use Rattle.shore_world.proofs.WorldLemmas.{kept_as_before}
@@ -27,6 +28,14 @@ pub is_dump : {L V : Type 0} {G : Ghosts L} {H : Ghosts V} (w : World L V G H) (
     → IfOk r (λ pairs. IsDumpOf w store pairs)
 is_dump w store (Ok pairs) h = h
 is_dump w store (Err f) h = tt
+
+-- .. and so for a part, up to an end that it tells
+pub is_part : {L V : Type 0} {G : Ghosts L} {H : Ghosts V} (w : World L V G H) (store from : ℕ) (part : List (Rid × List ℕ)) (end : Option PageId → ℕ) (r : Result (Option PageId) Fault)
+    → ((front : List ℕ) (disk : ℕ → List ℕ) (s : State) (kept : CheckpointedStore) → IsInState w front disk s → IsSafe (geometry_in w) s → IsOverStore w disk s kept
+    → IfOk r (λ next. part ≡ part_of store from (end next) s.sessions.records))
+    → IfOk r (λ next. IsPartOf w store from (end next) part)
+is_part w store from part end (Ok next) h = h
+is_part w store from part end (Err f) h = tt
 
 pub same_truth : (a b : Bool) → (IsTrue a → IsTrue b) → (IsTrue b → IsTrue a) → a ≡ b
 same_truth true b to from = sym (to refl)

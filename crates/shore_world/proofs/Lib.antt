@@ -43,3 +43,5 @@ pub mod EndedLemmas
 pub mod KeptLogs
 pub mod MadeSteps
 pub mod MovingAnchors
+pub mod PartsJoined
+pub mod PartsInTurn

@@ -12,3 +12,4 @@ pub mod Managers
 pub mod Lives
 pub mod Promises
 pub mod Ready
+pub mod Parts

@@ -17,7 +17,7 @@ use Rattle.shore_model.specs.declared.calls.Answer.{Answer}
 use Rattle.shore_model.specs.declared.calls.Answer.TheVariants.{Aborted, Anchored, AreInDoubt, Began, Begun, Committed, Cut, Deleted, Ended, Flushed, Forced, Got, Inserted, IsDurable, Locked, Moved, Prepared, Resolved, Saved, Scanned, Staged, Updated, WentBack}
 use Rattle.shore_model.specs.declared.log_records.LogRecord.{LogRecord}
 use Rattle.shore_model.specs.declared.log_records.Payload.TheVariants as payload
-use Rattle.shore_model.specs.Records.{scan_of}
+use Rattle.shore_model.specs.Records.{part_of, scan_of}
 use Rattle.shore_model.specs.declared.requests.Request.{Request}
 use Rattle.shore_model.specs.declared.step.Step.{Step}
 use Rattle.shore_model.specs.declared.step.Step.TheVariants.{Done, Nothing, Refused, Waits}
@@ -138,6 +138,11 @@ module _ {L V : Type 0} {G : Ghosts L} {H : Ghosts V} where
   abbrev pub IsDumpOf : World L V G H → ℕ → List (Rid × List ℕ) → Type 0
   IsDumpOf w store pairs = (front : List ℕ) (disk : ℕ → List ℕ) (s : State) (kept : CheckpointedStore) → IsInState w front disk s → IsSafe (geometry_in w) s
       → IsOverStore w disk s kept → pairs ≡ scan_of store s.sessions.records
+
+  -- the records on the pages of a store from one on and before another are these, in whatever state the world is
+  abbrev pub IsPartOf : World L V G H → ℕ → ℕ → ℕ → List (Rid × List ℕ) → Type 0
+  IsPartOf w store from to part = (front : List ℕ) (disk : ℕ → List ℕ) (s : State) (kept : CheckpointedStore) → IsInState w front disk s → IsSafe (geometry_in w) s
+      → IsOverStore w disk s kept → part ≡ part_of store from to s.sessions.records
 
   -- the log is of this length, without its front
   abbrev pub stream_bytes_in : World L V G H → ℕ

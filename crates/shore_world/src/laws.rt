@@ -1,6 +1,7 @@
 //! What the contracts of the calls come to over whole lives of a pair of devices. Each law is stated as the contract of an empty function.
-ghost use Rattle.std.specs.Prelude.{◌≡◌, ◌-◌, ◌++◌, ℕ, List, [], All, Err, take};
+ghost use Rattle.std.specs.Prelude.{◌≡◌, ◌≤◌, ◌-◌, ◌++◌, ℕ, List, [], All, Err, None, flat_map, take};
 ghost use Rattle.shore_types.specs.declared.faults.Fault.{Fault};
+ghost use Rattle.shore_types.specs.declared.ids.Rid.{Rid};
 ghost use Rattle.shore_types.specs.declared.layout.Geometry.{Geometry};
 ghost use Rattle.shore_types.specs.declared.layout.TheConstants.{LOG_FRONT_BYTES};
 ghost use Rattle.shore_disk.specs.Device.{DeviceHistory, Stands, may_leave, seen, size};
@@ -12,7 +13,11 @@ ghost use Rattle.shore_model.specs.declared.step.Step.{Step};
 ghost use Rattle.shore_model.specs.Histories.{shown};
 ghost use Rattle.shore_model.specs.Locks.{Harmony, WellRooted};
 ghost use Rattle.shore_model.specs.Logs.{records_told};
+ghost use Rattle.shore_model.specs.Records.{Records, part_of, scan_of};
 ghost use Rattle.shore_model.specs.Requests.{held_by_all};
+ghost use Rattle.shore_heap.specs.Scans.{part_end};
+ghost use Rattle.laws_calls.specs.States.{State};
+ghost use Rattle.laws_checkpoints.specs.CheckpointedStores.{CheckpointedStore};
 ghost use Rattle.laws_lives.specs.Doubts.{IsOpeningOf};
 ghost use Rattle.laws_lives.specs.Pages.{LoggedPages};
 ghost use Rattle.laws_lives.specs.Soundness.{history_from};
@@ -21,6 +26,7 @@ ghost use Rattle.laws_runs.specs.CheckpointedStates.{IsAtCheckpoints};
 ghost use Rattle.laws_runs.specs.CheckpointedStays.{CheckpointedRun, IsCheckpointedUp};
 ghost use Rattle.shore_format.specs.Pairs.{AreFormatted};
 ghost use Rattle.laws_images.specs.StandsBehind.{StandsForBehind, anchored_by};
+ghost use Rattle.shore_core.specs.Cores.{IsSafe};
 ghost use Rattle.shore_world.specs.declared.event.Event.{Event};
 ghost use Rattle.shore_world.specs.declared.world.World.{World};
 ghost use Rattle.shore_world.specs.Crashes.{AreEnded, AreLeft};
@@ -29,8 +35,9 @@ ghost use Rattle.shore_world.specs.EventMoves.{PlainMove, moves_among};
 ghost use Rattle.shore_world.specs.Lives.{DumpsShow, HaveLived};
 ghost use Rattle.shore_world.specs.Managers.{AreFound, AreStays, IsManager, IsRunOf, Manager, NoForceIsFull, Stay};
 ghost use Rattle.shore_world.specs.Opens.{AreEndedInOpen, HasOpened, LeftByOpen, OpensAlong};
+ghost use Rattle.shore_world.specs.Parts.{ArePartsFrom};
 ghost use Rattle.shore_world.specs.Promises.{HasInDoubt, IsManagerOf};
-ghost use Rattle.shore_world.specs.Worlds.{IsAt, Runs, geometry_in, history_in, requests_in, stream_bytes_in, volume_history_in};
+ghost use Rattle.shore_world.specs.Worlds.{IsAt, IsDumpOf, IsPartOf, Runs, geometry_in, history_in, requests_in, stream_bytes_in, volume_history_in};
 
 use shore_disk::Disk;
 
@@ -96,4 +103,18 @@ pub fn runs_stay_in_bounds<L: Disk, V: Disk>()
         StandsForBehind g (size manager.log) (size manager.volume) anchor rs pages (seen manager.log) (seen manager.volume) → IsOpeningOf rs o → IsManager manager →
         ((run : CheckpointedRun) × IsRunOf manager run × IsCheckpointedUp g (size manager.log - LOG_FRONT_BYTES) o (anchored_by anchor) rs pages run)
         × NoForceIsFull manager.events manager.steps }
+{}
+
+/// The parts of a store make its dump. Two of one world that lie behind one another are one part (`join`), and that from the first page to the end of the store
+/// is a dump of it (`whole`): so what is said of dumps, `DumpsShow` too, holds of parts that were put together. A call may leave another world, with other pages
+/// in its frames: parts that were answered behind one another, each of the world that the call before it has left, are the scan of the store (`in_turn`). And if other
+/// calls came between two parts, which left the scan of the store as it was, as they do while a transaction holds it in SH, the parts are still one (`held`).
+pub fn parts_make_the_dump<L: Disk, V: Disk>()
+    ensures join { (w : World L V L.Disk V.Disk) (store a b c : ℕ) (p q : List (Rid × List ℕ)) → a ≤ b → b ≤ c → IsPartOf w store a b p → IsPartOf w store b c q →
+        IsPartOf w store a c (p ++ q) }
+    ensures whole { (w : World L V L.Disk V.Disk) (store : ℕ) (part : List (Rid × List ℕ)) → IsPartOf w store 0 (part_end (geometry_in w) store None) part → IsDumpOf w store part }
+    ensures in_turn { (w : World L V L.Disk V.Disk) (log_front front : List ℕ) (disk : ℕ → List ℕ) (s : State) (kept : CheckpointedStore) (store : ℕ)
+        (parts : List (List (Rid × List ℕ))) → IsAt w log_front front disk s kept → IsSafe (geometry_in w) s → ArePartsFrom w store 0 parts →
+        flat_map (λ (part : List (Rid × List ℕ)). part) parts ≡ scan_of store s.sessions.records }
+    ensures held { (store a b c : ℕ) (R S : Records) → a ≤ b → b ≤ c → scan_of store R ≡ scan_of store S → part_of store a b R ++ part_of store b c S ≡ part_of store a c S }
 {}

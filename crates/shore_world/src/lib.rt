@@ -5,6 +5,7 @@
 
 mod checkpointing;
 mod counts;
+mod dump_parts;
 mod event;
 pub mod laws;
 mod opening;
