@@ -16,6 +16,7 @@ mod decided;
 mod devices;
 mod doings;
 mod doubts;
+mod dumped_parts;
 mod failures;
 mod interleaved;
 mod judged_locks;

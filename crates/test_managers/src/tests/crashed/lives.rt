@@ -32,11 +32,15 @@ pub(super) struct Pair {
 
 /// A log device of the least length and a volume of a store of two pages and eight of one, formatted: more pages than a manager has frames.
 pub(super) fn formatted(alloc: Global) -> Result<Pair, Trouble> {
-    let stores = Vec::from_slice(alloc, &[2u32, 1, 1, 1, 1, 1, 1, 1, 1])?;
+    formatted_of(alloc, &[2, 1, 1, 1, 1, 1, 1, 1, 1])
+}
+
+/// Such a pair with stores of so many pages, ten in all.
+pub(super) fn formatted_of(alloc: Global, stores: &[u32]) -> Result<Pair, Trouble> {
     let geometry = Geometry {
         pair: 1,
         max_locks: 1024,
-        stores: Sequence::from_vec(stores),
+        stores: Sequence::from_vec(Vec::from_slice(alloc, stores)?),
     };
     let mut devices = empty(alloc)?;
     if format(alloc, &mut devices.log, &mut devices.volume, &geometry).is_err() {
