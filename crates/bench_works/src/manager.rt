@@ -9,7 +9,7 @@ use bench_parts::layout::{STORE, geometry, volume_bytes};
 use bench_parts::records::{hundred_bytes, record_of};
 use shore_model::{Answer, Call};
 use shore_types::layout::MAX_POOL_FRAMES;
-use shore_types::{Fault, Geometry, Granule, Mode, Pairs, SessionId};
+use shore_types::{Fault, Geometry, Granule, Mode, PageId, Pairs, SessionId};
 use shore_world::{Event, Step, World, format};
 use std::alloc::Global;
 
@@ -151,6 +151,24 @@ impl Manager {
             Step::Refused(fault) => Err(fault),
             _ => Err(Fault::Failed),
         }
+    }
+
+    /// How many records the store shows in parts of so many, by one list.
+    pub fn scan_in_parts(&mut self, most: usize) -> Result<u64, Fault> {
+        let mut list = Pairs::new(self.alloc);
+        let mut count = 0u64;
+        let mut next = Some(PageId {
+            store: STORE,
+            page: 0,
+        });
+        for _ in 0..u64::MAX {
+            let Some(first) = next else {
+                break;
+            };
+            next = self.world.dump_part(self.alloc, first, most, &mut list)?;
+            count = count.saturating_add(list.len() as u64);
+        }
+        Ok(count)
     }
 
     /// Begins a transaction that has the whole store, so that it asks for no lock of a record.

@@ -10,11 +10,12 @@ const UPDATED_RECORDS: u64 = 1_000;
 pub const RING_LOG_BYTES: u64 = 4 << 20;
 
 /// All works over files, by their names, with how many calls are made if nothing is said.
-pub const WORKS: [(&str, (Work, u64)); 14] = [
+pub const WORKS: [(&str, (Work, u64)); 15] = [
     ("durable", (Work::Durable, 1_000)),
     ("lazy", (Work::Lazy, 100_000)),
     ("insert", (Work::Insert, 100_000)),
     ("scan", (Work::Scan, 100_000)),
+    ("scan_parts", (Work::ScanParts, 100_000)),
     ("crash", (Work::Crash, 1_000)),
     ("recover", (Work::Recover, 1_000)),
     ("verify", (Work::Verify, 1_000)),
@@ -38,6 +39,8 @@ pub enum Work {
     Insert,
     /// A scan of all records.
     Scan,
+    /// The same in parts, by one list.
+    ScanParts,
     /// Updates as `Durable` makes, and one more that is not committed. The files are left as they are then: no call closes a manager.
     Crash,
     /// Updates in one transaction that is not committed, all of them written back. The files are left as they are then.

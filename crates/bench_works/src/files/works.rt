@@ -5,10 +5,11 @@ use super::store::{change_record, new_manager, open_manager};
 use crate::manager::{Manager, SESSION};
 use bench_parts::figures::{Figure, tell};
 use bench_parts::files::{file_of, of_device, write_and_sync};
+use bench_parts::layout::STORE;
 use bench_parts::records::numbered;
 use shore_disk::FileDisk;
 use shore_model::Call;
-use shore_types::{Fault, Pairs};
+use shore_types::{Fault, Granule, Mode, Pairs};
 
 pub(super) const MILLION: u64 = 1_000_000;
 
@@ -39,7 +40,7 @@ fn on_new(plan: &Plan) -> Result<(), Fault> {
 
 fn work_on(plan: &Plan, manager: &mut Manager) -> Result<(u64, u64), Fault> {
     let records = match plan.work {
-        Work::Insert | Work::Scan => plan.count,
+        Work::Insert | Work::Scan | Work::ScanParts => plan.count,
         _ => plan.updated_records(),
     };
     let times = timed_fill(plan, manager, records)?;
@@ -47,6 +48,7 @@ fn work_on(plan: &Plan, manager: &mut Manager) -> Result<(u64, u64), Fault> {
         Work::Insert => {}
         Work::Lazy => return Ok((timed_lazy(plan, manager)?, 0)),
         Work::Scan => scanned(plan, manager)?,
+        Work::ScanParts => scanned_in_parts(plan, manager)?,
         _ => updates(plan, manager)?,
     }
     Ok(times)
@@ -125,6 +127,24 @@ fn scanned(plan: &Plan, manager: &mut Manager) -> Result<(), Fault> {
         Figure::ratio("scan", nanos, count, 1, "microseconds_per_record"),
         Figure::whole("scan_shown", count, "records"),
     ];
+    tell(&plan.host, plan.size, &figures)
+}
+
+// Parts of a scan have so many records, and a page's more at most.
+const PART_RECORDS: usize = 1_000;
+
+// A scan in parts, under the lock that a scan takes.
+fn scanned_in_parts(plan: &Plan, manager: &mut Manager) -> Result<(), Fault> {
+    manager.ask(SESSION, Call::Begin)?;
+    manager.ask(SESSION, Call::Lock(Granule::Store(STORE), Mode::SH))?;
+    let start = plan.host.nanos();
+    let count = manager.scan_in_parts(PART_RECORDS)?;
+    let nanos = plan.host.nanos_since(start);
+    if count != plan.count {
+        return Err(Fault::NoRecord);
+    }
+    let time = "microseconds_per_record";
+    let figures = [Figure::ratio("scan_parts", nanos, count, 1, time)];
     tell(&plan.host, plan.size, &figures)
 }
 
