@@ -1,5 +1,5 @@
 //! Texts from their records.
-ghost use Rattle.std.specs.Prelude.{◌≡◌, ◌++◌, All, length, OnOk, OnErr};
+ghost use Rattle.std.specs.Prelude.{◌≡◌, ◌≤◌, ◌++◌, All, length, OnOk, OnErr, vec_capacity};
 ghost use Rattle.byteorder.specs.Endian.{little_bytes};
 ghost use Rattle.shore_logrec.specs.Text.{Fits, GranuleFits, ImageFits, ChangeFits, CheckpointFits, CompensationFits, PrepareFits, PayloadFits, kind_of, state_number};
 ghost use Rattle.shore_logrec.specs.Text.{anchor_text, checkpoint_text, dirty_text, granule_text, prepare_text, rid_text, image_text, change_text, compensation_text, payload_text, head_text, text, txn_text};
@@ -242,6 +242,7 @@ pub fn encode(logged: &LogRecord, out: &mut Vec<u8>) -> Result<(), AllocError>
     requires { Fits logged.now }
     ensures ok { OnOk result (out.new.items ≡ out.old.items ++ text logged.now) }
     ensures err { OnErr result (out.new.items ≡ out.old.items) }
+    ensures capacity { vec_capacity out.old ≤ vec_capacity out.new }
 {
     out.reserve(encoded_len(logged))?;
     put_head(out, logged);
