@@ -19,3 +19,8 @@ any_history (any.File d) = file_history d
 abbrev pub any_failures : AnyDisk → ℕ
 any_failures (any.Memory d) = memory.failures_of d
 any_failures (any.File d) = file.failures_of d
+
+-- a sync of its file has failed
+abbrev pub any_failed_sync : AnyDisk → Bool
+any_failed_sync (any.Memory d) = false
+any_failed_sync (any.File d) = file.has_failed_sync d

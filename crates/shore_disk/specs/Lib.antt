@@ -7,3 +7,5 @@ pub mod Fuse
 pub mod Once
 pub mod Cause
 pub mod Counting
+pub mod Fronts
+pub mod Places

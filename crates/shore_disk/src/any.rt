@@ -14,7 +14,17 @@ impl AnyDisk {
     ghost use Rattle.std.specs.Prelude.{IsTrue};
     ghost use Rattle.shore_disk.specs.Device.{may_leave, size};
     ghost use Rattle.shore_disk.specs.Memory.{picked_after};
-    ghost use Rattle.shore_disk.specs.AnyDisk.{is_in_memory, any_history, any_failures};
+    ghost use Rattle.shore_disk.specs.AnyDisk.{is_in_memory, any_failed_sync, any_history, any_failures};
+
+    /// Whether it is over a file of which a sync has failed, as `FileDisk` tells it.
+    pub fn has_failed_sync(&self) -> bool
+        ensures { result ≡ any_failed_sync self.now }
+    {
+        match self {
+            AnyDisk::Memory(_) => false,
+            AnyDisk::File(disk) => disk.has_failed_sync(),
+        }
+    }
 
     /// A loss of power. Of a file nothing is lost.
     pub fn crash(&mut self, pick: Pick)

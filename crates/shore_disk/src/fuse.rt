@@ -31,6 +31,13 @@ impl<D: Disk> FuseDisk<D> {
         }
     }
 
+    /// The device that the calls are passed on to.
+    pub fn inner(&self) -> &D
+        ensures { result.now ≡ fuse_inner self.now }
+    {
+        &self.inner
+    }
+
     /// How many more writes and syncs pass.
     pub fn calls_left(&self) -> u64
         ensures { result ≡ fuse_calls self.now }
