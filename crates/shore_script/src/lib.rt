@@ -11,10 +11,12 @@ pub mod render;
 mod settings;
 mod stop;
 mod words;
+mod wrongs;
 
 pub use command::{Command, read_line};
 pub use counting::Counting;
 pub use fuses::{Fuse, Fuses};
 pub use lines::Lines;
-pub use settings::{Devices, FilePair, Settings, read_settings};
+pub use settings::{Devices, FilePair, Settings, WrongLines, read_settings};
 pub use stop::{Status, Stop};
+pub use wrongs::write_wrong;

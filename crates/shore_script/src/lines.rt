@@ -17,15 +17,21 @@ const BORDER: &[u8] = b"---";
 pub struct Lines<R> {
     // The input, from the byte after that line on. Its limit is set before each line.
     input: Take<BufReader<R>>,
-    // The line that was read last, without its end.
+    // The line that was read last, with its end, up to the most bytes of a line and one.
     line: Vec<u8>,
+    // How many lines the settings have, with the one behind them.
+    before: u64,
 }
 
 impl<R: Read + Drop> Lines<R> {
     pub fn new(alloc: Global, input: R) -> io::Result<Lines<R>> {
         let line = Vec::with_capacity(alloc, MAX_LINE_BYTES + 1)?;
         let input = BufReader::new(alloc, input)?.take(0);
-        Ok(Lines { input, line })
+        Ok(Lines {
+            input,
+            line,
+            before: 0,
+        })
     }
 
     /// All lines before the first line `---`, which is read too. `None`: the input has no such line.
@@ -33,6 +39,7 @@ impl<R: Read + Drop> Lines<R> {
         let mut text = Vec::new(alloc);
         for _ in 0..u64::MAX {
             let before = text.len();
+            self.before = self.before.saturating_add(1);
             self.input.set_limit(u64::MAX);
             if self.input.read_until(b'\n', &mut text)? == 0 {
                 return Ok(None);
@@ -58,6 +65,24 @@ impl<R: Read + Drop> Lines<R> {
             return Ok(None);
         }
         Ok(Some(without_end(&self.line)))
+    }
+
+    /// Passes over what is left of the line that was read last, if it was too long.
+    pub fn pass_rest(&mut self) -> io::Result<()> {
+        for _ in 0..u64::MAX {
+            if self.line.len() <= MAX_LINE_BYTES || self.line.last() == Some(&b'\n') {
+                return Ok(());
+            }
+            self.line.clear();
+            self.input.set_limit(MAX_LINE_BYTES as u64 + 1);
+            self.input.read_until(b'\n', &mut self.line)?;
+        }
+        Ok(())
+    }
+
+    /// How many lines of the input stand before the script's first: those of the settings, and the one behind them.
+    pub fn lines_before(&self) -> u64 {
+        self.before
     }
 
     /// The next line is in memory, to its end: it is read without a wait.

@@ -5,7 +5,7 @@ ghost use Rattle.toml.specs.Data.{boolean, string};
 ghost use Rattle.toml.specs.View.{table_view, view};
 ghost use Rattle.shore_types.specs.Layout.{IsInLimits};
 ghost use Rattle.shore_types.specs.declared.config.Setting.TheVariants as setting;
-ghost use Rattle.shore_script.specs.Keys.{AreDevices, AreSettingsOf, AreStores, AreWritten, IsFlagOr, IsNumberOr, IsPath, NamesFiles, NamesMemory, whole, written};
+ghost use Rattle.shore_script.specs.Keys.{AreDevices, AreSettingsOf, AreStores, AreWritten, AreWrongLines, IsFlag, IsNumberOr, IsPath, IsUnusedPath, NamesFiles, NamesMemory, whole, written};
 ghost use Rattle.shore_script.specs.Limits.{AreInLimits, IsFrameCount};
 
 use shore_types::layout::{MAX_LOG_BYTES, MAX_POOL_FRAMES, MIN_LOG_BYTES, MIN_POOL_FRAMES};
@@ -34,15 +34,24 @@ pub enum Devices {
 /// Two files.
 #[derive(Drop)]
 pub struct FilePair {
-    /// They are made anew and formatted at the start; otherwise they are opened as they are.
-    pub is_made_anew: bool,
+    /// They are made anew and formatted at the start, or opened as they are. Without a word on it they are made anew as long as neither holds a byte.
+    pub is_made_anew: Option<bool>,
     /// The path of the log.
     pub log: Text,
     /// The path of the volume.
     pub volume: Text,
 }
 
-/// How the manager is made.
+/// What becomes of a run at a wrong line.
+#[derive(Clone, Copy, PartialEq)]
+pub enum WrongLines {
+    /// It ends.
+    End,
+    /// The line is refused, and the run goes on.
+    Refuse,
+}
+
+/// How the manager is made, and its script is read.
 #[derive(Drop)]
 pub struct Settings {
     /// Memory, or two files.
@@ -53,6 +62,10 @@ pub struct Settings {
     pub log_bytes: u64,
     /// The frames of the page pool.
     pub pool: u32,
+    /// Whether a wrong line ends the run.
+    pub wrong_lines: WrongLines,
+    /// A path that is written though the devices are in memory, so that no file is used.
+    pub unused_path: Option<Setting>,
 }
 
 fn refused(setting: Setting) -> Fault {
@@ -86,11 +99,15 @@ fn settings_of(alloc: Global, table: &Table) -> Result<Settings, Fault>
     }
     let geometry = geometry_of(alloc, table, pair)?;
     let pool = pool_of(table)?;
+    let wrong_lines = wrong_lines_of(table)?;
+    let unused_path = unused_path_of(table, &devices);
     Ok(Settings {
         devices,
         geometry,
         log_bytes,
         pool,
+        wrong_lines,
+        unused_path,
     })
 }
 
@@ -123,7 +140,35 @@ fn pool_of(table: &Table) -> Result<u32, Fault>
     Ok(frames)
 }
 
-const KNOWN: [Setting; 9] = [
+fn wrong_lines_of(table: &Table) -> Result<WrongLines, Fault>
+    ensures { IfOk result (AreWrongLines (written (table_view table.now) setting.WrongLines)) }
+{
+    match value_of(table, Setting::WrongLines) {
+        None => Ok(WrongLines::End),
+        Some(value) => match text_in(value) {
+            Some("end") => Ok(WrongLines::End),
+            Some("refuse") => Ok(WrongLines::Refuse),
+            _ => Err(refused(Setting::WrongLines)),
+        },
+    }
+}
+
+fn unused_path_of(table: &Table, devices: &Devices) -> Option<Setting>
+    ensures { IsUnusedPath (table_view table.now) devices.now result }
+{
+    if let Devices::Files(_) = devices {
+        return None;
+    }
+    if value_of(table, Setting::LogPath).is_some() {
+        return Some(Setting::LogPath);
+    }
+    if value_of(table, Setting::VolumePath).is_some() {
+        return Some(Setting::VolumePath);
+    }
+    None
+}
+
+const KNOWN: [Setting; 10] = [
     Setting::Devices,
     Setting::Format,
     Setting::LogPath,
@@ -133,6 +178,7 @@ const KNOWN: [Setting; 9] = [
     Setting::Stores,
     Setting::MaxLocks,
     Setting::Pool,
+    Setting::WrongLines,
 ];
 
 // The table keeps its keys in the order of their bytes.
@@ -157,7 +203,7 @@ fn devices_of(alloc: Global, table: &Table) -> Result<Devices, Fault>
     ensures { IfOk result (AreDevices (table_view table.now)) }
 {
     let in_files = are_files(table)?;
-    let is_made_anew = flag_or(table, Setting::Format, true)?;
+    let is_made_anew = flag(table, Setting::Format)?;
     if in_files {
         let log = path_of(alloc, table, Setting::LogPath)?;
         let volume = path_of(alloc, table, Setting::VolumePath)?;
@@ -185,12 +231,15 @@ fn are_files(table: &Table) -> Result<bool, Fault>
     }
 }
 
-fn flag_or(table: &Table, setting: Setting, default: bool) -> Result<bool, Fault>
-    ensures { IfOk result (IsFlagOr default (written (table_view table.now) setting)) }
+fn flag(table: &Table, setting: Setting) -> Result<Option<bool>, Fault>
+    ensures { IfOk result (IsFlag (written (table_view table.now) setting)) }
 {
     match value_of(table, setting) {
-        None => Ok(default),
-        Some(value) => flag_in(value).ok_or(refused(setting)),
+        None => Ok(None),
+        Some(value) => match flag_in(value) {
+            Some(flag) => Ok(Some(flag)),
+            None => Err(refused(setting)),
+        },
     }
 }
 
