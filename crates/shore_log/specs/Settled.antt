@@ -18,6 +18,8 @@ use Rattle.shore_frames.specs.Streams.{index_of}
 use Rattle.shore_log.specs.declared.device.LogDev.{LogDev}
 use Rattle.shore_log.specs.Indexes.{IsInGroup, frame_with}
 use Rattle.shore_log.specs.Listed.{all_in}
+use Rattle.shore_log.specs.PlainTails.{KnowsEntries, KnowsTexts}
+use Rattle.shore_log.specs.declared.tail.PlainTail.{PlainTail}
 
 -- every record that is kept, in the order of their numbers
 abbrev pub records_of_log : {D : Type 0} {G : Ghosts D} → LogDev D G → List LogRecord
@@ -144,9 +146,13 @@ pub record FreesBelow {D : Type 0} {G : Ghosts D} (log : LogDev D G) (number kep
 abbrev pub HasRecordRoom : {D : Type 0} {G : Ghosts D} → LogDev D G → ℕ → Type 0
 HasRecordRoom log count = IsSomeAnd log.read (λ v. vec_len v + count ≤ vec_capacity v)
 
--- the texts of these records more need no memory, and none that was taken waits
-abbrev pub HasTextRoom : {D : Type 0} {G : Ghosts D} → LogDev D G → List LogRecord → Type 0
-HasTextRoom log more = (IsSome log.read → log.count ≤ log.forced) × (vec_len log.bytes + length (texts more) ≤ vec_capacity log.bytes)
+-- each record that waits came from a log buffer, so its text is there
+abbrev pub IsSpelled : {D : Type 0} {G : Ghosts D} → LogDev D G → Type 0
+IsSpelled log = IsSome log.read → log.count ≤ log.forced
+
+-- a log buffer knows what there is room for, so what it has is taken in with no memory more
+abbrev pub KnowsRoom : {D : Type 0} {G : Ghosts D} → LogDev D G → PlainTail → Type 0
+KnowsRoom log t = KnowsEntries (vec_len log.frames + length (waiting log)) (vec_capacity log.frames) t × KnowsTexts (vec_len log.bytes) (vec_capacity log.bytes) t
 
 -- Nothing has changed but for memory that was taken for the index.
 pub record IsAsBefore {D : Type 0} {G : Ghosts D} (old new : LogDev D G) : Type 0 where

@@ -1,5 +1,5 @@
 //! The log device: a ring of frames with an index of them, the frame under way, and the records that wait for a force.
-ghost use Rattle.std.specs.Prelude.{ℕ, ◌≡◌, ◌⊎◌, ◌↔◌, ◌+◌, ◌-◌, ◌*◌, ◌^◌, ◌<◌, ◌≤◌, [], ◌∷◌, ◌++◌, All, List, IsTrue, IsSome, IfSome, IfOk, IfErr, IsOk, OnOk, OnErr, length, take, drop, None, Some, Ok, Err, vec_capacity, vec_len};
+ghost use Rattle.std.specs.Prelude.{ℕ, ◌≡◌, ◌≢◌, ◌⊎◌, ◌↔◌, ◌+◌, ◌-◌, ◌*◌, ◌^◌, ◌<◌, ◌≤◌, [], ◌∷◌, ◌++◌, All, List, IsTrue, IsSome, IfSome, IfOk, IfErr, IsOk, OnOk, OnErr, length, take, drop, None, Some, Ok, Err, vec_capacity, vec_len};
 ghost use Rattle.std.specs.Option.{ForSome};
 ghost use Rattle.shore_types.specs.declared.layout.TheConstants.{FRAME_SHARE, LAST_OPENED, LOG_FRONT_BYTES, LONGEST_FRAME, MAX_FRAME_BYTES, MAX_LOG_BYTES};
 ghost use Rattle.shore_disk.specs.Device.{size, LeavesOnly};
@@ -10,11 +10,13 @@ ghost use Rattle.shore_frames.specs.LoggedRecords.{are_numbered};
 ghost use Rattle.shore_frames.specs.Frames.{behind_gate, GivesBehindFrom, GivesWithOrWithoutFrom, IsLongest};
 ghost use Rattle.shore_log.specs.Indexes.{are_listed, first_in, place_in};
 ghost use Rattle.shore_log.specs.Listed.{all_in};
+ghost use Rattle.shore_log.specs.declared.tail.PlainTail.{PlainTail};
 
 mod moving;
 mod opening;
+mod telling;
 
-use crate::group::{frame_bytes, longest_group};
+use crate::group::{frame_bytes, longest_group, texts_for};
 use crate::texts::{decode_all, encode_all, let_go, longest_texts};
 use crate::{PlainTail, Tail};
 use http_server::Log as GhostLog;
@@ -25,7 +27,6 @@ use shore_logrec::LogRecord;
 use shore_types::layout::MAX_FRAME_BYTES;
 use shore_types::{Fault, Lsn};
 use std::alloc::{AllocError, Global};
-use std::mem;
 
 /// The number of the last durable record. Only the log makes one, so none is told before its force.
 #[derive(Clone, Copy)]
@@ -108,11 +109,13 @@ pub struct LogDev<D: Disk> {
     ghost staged_long: { ForSome staged (λ s. s.len ≡ length (texts (take s.count (drop forced (drop gone (all_in found.items later.items)))))) },
     ghost staged_short: { ForSome staged (λ s. s.len ≤ MAX_FRAME_BYTES) },
     ghost staged_some: { ForSome staged (λ s. 1 ≤ s.count) },
+    // The longest frame has its room, and so has an entry of the index for each record that came from a log buffer and waits: a force takes no memory.
+    ghost room: { (LONGEST_FRAME ≤ vec_capacity frame) × (read ≡ None → vec_len frames + length (drop forced (drop gone (all_in found.items later.items))) ≤ vec_capacity frames) },
     ghost staged_listed: { ForSome staged (λ s. vec_len frames < vec_capacity frames) },
 }
 
 impl<D: Disk> LogDev<D> {
-    ghost use Rattle.shore_log.specs.Settled.{HasList, HasNoFrameRoom, HasRecordRoom, HasTextRoom, IsAsBefore, IsSettledFrom, IsStagedFrom, KeepsFrames, cut_of_log, records_of_log, stable, waiting};
+    ghost use Rattle.shore_log.specs.Settled.{HasList, HasNoFrameRoom, HasRecordRoom, IsAsBefore, IsSettledFrom, IsSpelled, IsStagedFrom, KeepsFrames, KnowsRoom, cut_of_log, records_of_log, stable, waiting};
     ghost use Rattle.shore_log.specs.PlainTails.{first_of, waiting_in};
 
     /// Takes all records that wait in the log buffer. `Memory` if an allocation failed, or while a record waits that `take` took: each stays where it was.
@@ -122,7 +125,8 @@ impl<D: Disk> LogDev<D> {
         ensures emptied { OnOk result (waiting_in tail.new ≡ []) }
         ensures next { first_of tail.new + length (waiting_in tail.new) ≡ first_of tail.old + length (waiting_in tail.old) }
         ensures refused { OnErr result ((records_of_log self.new ≡ records_of_log self.old) × (waiting_in tail.new ≡ waiting_in tail.old)) }
-        ensures idle { HasTextRoom self.old (waiting_in tail.old) → IsOk result }
+        ensures idle { KnowsRoom self.old tail.old → IsSpelled self.old → IsOk result }
+        ensures knows { OnOk result (KnowsRoom self.new tail.new) }
         ensures only_memory { IfErr result (λ fault. fault ≡ Fault.Memory) }
         ensures list { OnErr result (HasList self.old → HasList self.new) }
         ensures frames { KeepsFrames self.old self.new }
@@ -131,6 +135,7 @@ impl<D: Disk> LogDev<D> {
         if !self.is_spelled() {
             return Err(Fault::Memory);
         }
+        tail.bring_index(&mut self.frames, self.count - self.forced)?;
         let later = self.later.and(tail.listed(), &());
         let count = tail.hand_over(&mut self.bytes)?;
         self.count += count;
@@ -142,7 +147,7 @@ impl<D: Disk> LogDev<D> {
     // Whether the texts of all records that wait are there.
     fn is_spelled(&self) -> bool
         ensures spelled { IsTrue result → drop self.now.at self.now.bytes.items ≡ texts (waiting self.now) }
-        ensures idle { (IsSome self.now.read → self.now.count ≤ self.now.forced) → IsTrue result }
+        ensures tells { IsTrue result ↔ IsSpelled self.now }
     {
         match &self.read {
             Some(_) => self.forced == self.count,
@@ -222,11 +227,15 @@ impl<D: Disk> LogDev<D> {
         ensures others { IfErr result (λ fault. (fault ≡ Fault.Device) ⊎ (fault ≡ Fault.Memory) ⊎ (fault ≡ Fault.LogFull)) }
         ensures full { result ≡ Err Fault.LogFull → HasNoFrameRoom self.old }
         ensures none_staged { OnErr result (self.new.staged ≡ None) }
+        // What a log buffer knows of its room holds still.
+        ensures knows { (t : PlainTail) → KnowsRoom self.old t → KnowsRoom self.new t }
+        // It is never refused memory for records that came from a log buffer.
+        ensures idle { IsSpelled self.old → result ≢ Err Fault.Memory }
         ensures size { size (D.history self.new.device) ≡ size (D.history self.old.device) }
         ensures honest { D.is_honest self.new.device ≡ D.is_honest self.old.device }
         ensures cause { HasCause result (D.faults self.old.device) (D.faults self.new.device) }
     {
-        if self.staged.is_some() {
+        if let Some(_) = self.staged {
             return Ok(None);
         }
         let (count, len) = self.next_group();
@@ -237,11 +246,17 @@ impl<D: Disk> LogDev<D> {
         if kept + (1 + HEAD_BYTES + len) as u64 >= self.stream_bytes {
             return Err(Fault::LogFull);
         }
-        let room = mem::replace(&mut self.frame, Vec::new(alloc));
-        let frame = self.next_frame(alloc, room, count, len)?;
+        let first = self.tail.first + self.forced as u64;
+        let encoded = self.encoded(alloc, count, len)?;
+        let texts = texts_for(self.read.is_some(), &encoded, &self.bytes, self.at, len);
+        frame_bytes(&mut self.frame, first, texts)?;
         self.frames.reserve(1)?;
-        write_ring_synced(&mut self.device, self.stream_bytes, self.head + 1, &frame)?;
-        self.frame = frame;
+        write_ring_synced(
+            &mut self.device,
+            self.stream_bytes,
+            self.head + 1,
+            &self.frame,
+        )?;
         self.staged = Some(Staged { count, len });
         Ok(Some(Lsn(self.cut_off() + (self.forced + count) as u64)))
     }
@@ -265,6 +280,8 @@ impl<D: Disk> LogDev<D> {
         ensures same { records_of_log self.new ≡ records_of_log self.old }
         ensures tail { (self.new.tail ≡ self.old.tail) × (self.new.anchors ≡ self.old.anchors) }
         ensures list { HasList self.old → HasList self.new }
+        // What a log buffer knows of its room holds still.
+        ensures knows { (t : PlainTail) → KnowsRoom self.old t → KnowsRoom self.new t }
         ensures only_device { IfErr result (λ fault. fault ≡ Fault.Device) }
         ensures unforced { OnErr result (stable self.new ≡ stable self.old) }
         ensures size { size (D.history self.new.device) ≡ size (D.history self.old.device) }
@@ -325,6 +342,9 @@ impl<D: Disk> LogDev<D> {
         ensures leaves { IfErr result (λ fault. (fault ≡ Fault.Device) ⊎ IsAsBefore self.old self.new) }
         ensures others { IfErr result (λ fault. (fault ≡ Fault.Device) ⊎ (fault ≡ Fault.Memory) ⊎ (fault ≡ Fault.LogFull)) }
         ensures full { result ≡ Err Fault.LogFull → HasNoFrameRoom self.old }
+        // What a log buffer knows of its room holds still.
+        ensures knows { (t : PlainTail) → KnowsRoom self.old t → KnowsRoom self.new t }
+        ensures idle { IsSpelled self.old → result ≢ Err Fault.Memory }
         ensures size { size (D.history self.new.device) ≡ size (D.history self.old.device) }
         ensures honest { D.is_honest self.new.device ≡ D.is_honest self.old.device }
         ensures cause { HasCause result (D.faults self.old.device) (D.faults self.new.device) }
@@ -350,29 +370,19 @@ impl<D: Disk> LogDev<D> {
         }
     }
 
-    // What the frame of the first so many of them has behind its gate, and a closed gate behind it, in the memory that this vector has.
-    fn next_frame(
-        &self,
-        alloc: Global,
-        room: Vec<u8>,
-        count: usize,
-        len: usize,
-    ) -> Result<Vec<u8>, AllocError>
+    // The texts of the first so many of them, if they are in memory as records: no text, and no allocation, once records came from a log buffer.
+    fn encoded(&self, alloc: Global, count: usize, len: usize) -> Result<Vec<u8>, AllocError>
         requires within { count ≤ length (waiting self.now) }
-        requires len { len ≡ length (texts (take count (waiting self.now))) }
-        requires fits { len ≤ MAX_FRAME_BYTES }
-        ensures { IfOk result (λ v. v.items ≡ behind_gate (self.now.tail.first + self.now.forced) (texts (take count (waiting self.now))) ++ 0 ∷ []) }
+        ensures texts { IsSome self.now.read → IfOk result (λ v. v.items ≡ texts (take count (waiting self.now))) }
+        ensures idle { self.now.read ≡ None → IsOk result }
     {
-        let first = self.tail.first + self.forced as u64;
-        match &self.read {
-            Some(read) => {
-                let waiting = &read[self.gone + self.forced..];
-                let mut texts = Vec::with_capacity(alloc, len)?;
-                encode_all(&waiting[..count], &mut texts)?;
-                frame_bytes(room, first, &texts)
-            }
-            None => frame_bytes(room, first, &self.bytes[self.at..self.at + len]),
+        let mut texts = Vec::new(alloc);
+        if let Some(read) = &self.read {
+            let waiting = &read[self.gone + self.forced..];
+            texts.reserve(len)?;
+            encode_all(&waiting[..count], &mut texts)?;
         }
+        Ok(texts)
     }
 
     /// How many records of the log stand before those that are kept.
@@ -448,7 +458,7 @@ impl<D: Disk> LogDev<D> {
 
 impl<D: Disk> LogDev<FuseDisk<D>> {
     ghost use Rattle.shore_disk.specs.Fuse.{fuse_inner, fuse_calls, fuse_refused};
-    ghost use Rattle.shore_log.specs.Settled.{HasList, KeepsFrames, records_of_log};
+    ghost use Rattle.shore_log.specs.Settled.{HasList, KeepsFrames, KnowsRoom, records_of_log};
 
     /// Lets so many more writes and syncs of the device pass; then every call of it fails.
     pub fn set_fuse(&mut self, calls: u64)
@@ -459,6 +469,7 @@ impl<D: Disk> LogDev<FuseDisk<D>> {
         ensures frame { (self.new.head ≡ self.old.head) × (self.new.staged ≡ self.old.staged) }
         ensures tail { (self.new.tail ≡ self.old.tail) × (self.new.anchors ≡ self.old.anchors) }
         ensures list { HasList self.old → HasList self.new }
+        ensures knows { (t : PlainTail) → KnowsRoom self.old t → KnowsRoom self.new t }
         ensures frames { KeepsFrames self.old self.new }
     {
         self.device.set_calls(calls);

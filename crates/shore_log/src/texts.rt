@@ -4,6 +4,7 @@ ghost use Rattle.shore_model.specs.declared.log_records.LogRecord.{LogRecord};
 ghost use Rattle.shore_logrec.specs.Text.{Fits, text, texts};
 ghost use Rattle.shore_frames.specs.Frames.{IsLongest};
 
+use shore_frames::FrameAt;
 use shore_logrec::{LogRecord, decode, encode, u32_at};
 use shore_types::layout::MAX_FRAME_BYTES;
 use std::alloc::{AllocError, Global};
@@ -25,17 +26,55 @@ pub fn encode_all(records: &[LogRecord], out: &mut Vec<u8>) -> Result<(), AllocE
     Ok(())
 }
 
-/// Moves bytes to the end of others; where there are no others the two change places.
+/// Moves bytes to the end of others; where there are no others the two change places. It takes no memory if one of both has the room.
 pub fn move_behind(out: &mut Vec<u8>, more: &mut Vec<u8>) -> Result<(), AllocError>
     ensures ok { OnOk result ((out.new.items ≡ out.old.items ++ more.old.items) × (more.new.items ≡ [])) }
     ensures idle { vec_len out.old + vec_len more.old ≤ vec_capacity out.old → IsOk result }
+    ensures brought { vec_len out.old + vec_len more.old ≤ vec_capacity more.old → IsOk result }
+    ensures empty { vec_len out.old ≡ 0 → IsOk result }
     ensures err { OnErr result ((out.new.items ≡ out.old.items) × (more.new.items ≡ more.old.items)) }
+    ensures left { OnErr result (vec_capacity more.old ≤ vec_capacity more.new) }
 {
     if out.is_empty() {
         mem::swap(out, more);
         return Ok(());
     }
+    let out_len = out.len();
+    let more_len = more.len();
+    if out_len + more_len > out.capacity() && out_len + more_len <= more.capacity() {
+        more.append(out)?;
+        more.rotate_left(more_len);
+        mem::swap(out, more);
+        return Ok(());
+    }
     out.append(more)
+}
+
+/// Sees that an index has room for so many entries more: by the room that was brought, which has no entry, if it has none.
+pub fn take_entries(
+    frames: &mut Vec<FrameAt>,
+    brought: &mut Vec<FrameAt>,
+    more: usize,
+) -> Result<(), AllocError>
+    requires empty { vec_len brought.old ≡ 0 }
+    ensures items { frames.new.items ≡ frames.old.items }
+    ensures empty { vec_len brought.new ≡ 0 }
+    ensures room { OnOk result (vec_len frames.new + more ≤ vec_capacity frames.new) }
+    ensures kept { vec_capacity frames.old ≤ vec_capacity frames.new }
+    ensures idle { vec_len frames.old + more ≤ vec_capacity frames.old → IsOk result }
+    ensures brought { vec_len frames.old + more ≤ vec_capacity brought.old → IsOk result }
+    ensures err { OnErr result (vec_capacity brought.new ≡ vec_capacity brought.old) }
+{
+    let len = frames.len();
+    if more <= frames.capacity() - len {
+        return Ok(());
+    }
+    if more <= brought.capacity() - brought.len() && len <= brought.capacity() - more {
+        brought.append(frames)?;
+        mem::swap(frames, brought);
+        return Ok(());
+    }
+    frames.reserve(more)
 }
 
 /// The records of some texts.
@@ -84,6 +123,7 @@ pub fn let_go(bytes: &mut Vec<u8>, gone: usize) -> usize
     ensures left { drop result bytes.new.items ≡ drop gone bytes.old.items }
     ensures few { result + result ≤ length bytes.new.items }
     ensures none_more { length bytes.new.items ≤ length bytes.old.items }
+    ensures room { vec_capacity bytes.new ≡ vec_capacity bytes.old }
 {
     let left = bytes.len() - gone;
     if left == 0 {

@@ -1,13 +1,14 @@
 //! Opens of a log, and what is read of its device again.
-ghost use Rattle.std.specs.Prelude.{ℕ, ◌≡◌, ◌⊎◌, ◌↔◌, ◌<◌, ◌≤◌, List, IsTrue, IfOk, IfErr, take, None, Err, false};
+ghost use Rattle.std.specs.Prelude.{ℕ, ◌≡◌, ◌⊎◌, ◌↔◌, ◌<◌, ◌≤◌, List, IsTrue, IfOk, IfErr, IfSome, take, None, Err, false, vec_capacity};
 ghost use Rattle.shore_types.specs.declared.faults.Device.TheVariants as Device;
-ghost use Rattle.shore_types.specs.declared.layout.TheConstants.{LENGTH_AT, LOG_FRONT_BYTES, MAX_LOG_BYTES};
+ghost use Rattle.shore_types.specs.declared.layout.TheConstants.{LENGTH_AT, LOG_FRONT_BYTES, LONGEST_FRAME, MAX_LOG_BYTES};
 ghost use Rattle.shore_disk.specs.Device.{size, seen, Stands};
 ghost use Rattle.shore_disk.specs.Cause.{HasCause};
 ghost use Rattle.shore_model.specs.declared.log_records.LogRecord.{LogRecord};
 ghost use Rattle.shore_gate.specs.Anchor.{Counts, MayCount, may_count, offset_of};
 ghost use Rattle.shore_frames.specs.Frames.{GivesFrom};
 ghost use Rattle.shore_frames.specs.Offsets.{IsBadAt, RefusesReading};
+ghost use Rattle.shore_log.specs.declared.tail.PlainTail.{PlainTail};
 
 use super::LogDev;
 use http_server::Log as GhostLog;
@@ -55,8 +56,15 @@ fn tail_of(anchors: &Anchors) -> FrameAt
     }
 }
 
+// The memory of the longest frame.
+fn room_of_a_frame(alloc: Global) -> Option<Vec<u8>>
+    ensures { IfSome result (λ v. LONGEST_FRAME ≤ vec_capacity v) }
+{
+    Vec::with_capacity(alloc, LONGEST_FRAME as usize).ok()
+}
+
 impl<D: Disk> LogDev<D> {
-    ghost use Rattle.shore_log.specs.Settled.{HasList, IsAnchored, IsSettledFrom, KeepsFrames, records_of_log, stable, device_of, fault_of};
+    ghost use Rattle.shore_log.specs.Settled.{HasList, IsAnchored, IsSettledFrom, KeepsFrames, KnowsRoom, records_of_log, stable, device_of, fault_of};
 
     /// Opens the log of a device that is formatted, whose anchor is this one: reads its frames, from the anchor's tail on. `Damaged` at the first offset where
     /// neither a closed gate nor a whole frame stands, at the label's length if no log has that length, and at the anchor if no anchor is within the limits of this
@@ -101,6 +109,9 @@ impl<D: Disk> LogDev<D> {
         if !may_count(&anchors) {
             return Err((Fault::damaged(Device::Log, anchors.slot.offset()), device));
         }
+        let Some(frame) = room_of_a_frame(alloc) else {
+            return Err((Fault::Memory, device));
+        };
         let stream_bytes = device_bytes - LOG_FRONT_BYTES;
         let tail = tail_of(&anchors);
         match read_stream(alloc, &mut device, stream_bytes, tail.first, tail.place) {
@@ -131,7 +142,7 @@ impl<D: Disk> LogDev<D> {
                     at: 0,
                     head: end,
                     staged: None,
-                    frame: Vec::new(alloc),
+                    frame,
                 })
             }
             Err(fault) => Err((fault, device)),
@@ -150,6 +161,7 @@ impl<D: Disk> LogDev<D> {
             → IsBadAt self.old.tail.first self.old.tail.place (seen (D.history self.old.device)) offset }
         ensures refused { IfErr result RefusesReading }
         ensures frames { KeepsFrames self.old self.new }
+        ensures knows { (t : PlainTail) → KnowsRoom self.old t → KnowsRoom self.new t }
         ensures log { records_of_log self.new ≡ records_of_log self.old }
         ensures same { IsTrue (D.is_honest self.old.device) → D.history self.new.device ≡ D.history self.old.device }
         ensures honest { D.is_honest self.new.device ≡ D.is_honest self.old.device }

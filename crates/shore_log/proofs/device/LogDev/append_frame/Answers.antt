@@ -47,3 +47,6 @@ returns-in-Some-clause-settled g c tail place front s none =
     on_ok_two c.open_staged.result _ (c.open_staged.new.self.staged ≡ None) (IsSettledFrom tail place c.open_staged.new.self front × (c.open_staged.new.self.staged ≡ None))
     (λ after none_now. (after.0, none_now))
     (c.open_staged.ensures.settled tail place front (take (c.in-Some.field-0 - ((old.tail.first - 1) + old.forced)) (waiting old)) staged) c.open_staged.ensures.none_staged
+
+pub returns-in-Some-clause-knows : goal.returns-in-Some-clause-knows
+returns-in-Some-clause-knows g c = λ t k. c.open_staged.ensures.knows t (c.stage.ensures.knows t k)

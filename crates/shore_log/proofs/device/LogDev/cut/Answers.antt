@@ -430,6 +430,30 @@ invariant_of-self-clause-staged_waits g c =
     let inner = old.staged_waits s is in
     omega (arith, inner, kept_long, here, from, h.to)
 
+pub invariant_of-self-clause-room : goal.invariant_of-self-clause-room
+invariant_of-self-clause-room g c =
+    let old = c.args.self.now in
+    let before = c.args.before in
+    let f = c.index-tail.result.now in
+    let within : before < length old.frames.items = there_is old.frames.items before _ c.requires.there in
+    let at = some_at old.frames.items before f within c.index-tail.ensures in
+    let same : f ≡ record { first = c.args.anchors.anchor.tail; place = c.args.anchors.anchor.tail_place } = unwrap (sym at ∙ c.requires.there) in
+    let next = old.tail.first + old.forced in
+    let begins = old.begins.0 in
+    let placed = old.begins.1 in
+    let h = listed_at old.head next old.frames.items before f at (listed_of old.head next old.frames.items old.listed) in
+    let from : old.tail.first ≤ f.first = omega (arith, h.from, begins) in
+    let gone = f.first - old.tail.first in
+    let all = all_in old.found.items old.later.items in
+    let kept : drop (old.gone + gone) all ≡ drop gone (records_of_log old) = sym (drop-drop gone old.gone all) in
+    let inside = old.forced_inside in
+    let kept_long = ap length kept in
+    let here = length-drop gone (records_of_log old) in
+    let there = length-drop old.gone all in
+    let waits_old = length-drop old.forced (records_of_log old) in
+    let waits_new = length-drop (old.forced - gone) (drop (old.gone + gone) all) in
+    (old.room.0, λ none. omega (arith, old.room.1 none, waits_old, waits_new, inside, kept_long, here, from, h.to, c.rotate_left.ensures.len, c.rotate_left.ensures.capacity, c.truncate.ensures.len, c.truncate.ensures.capacity))
+
 pub invariant_of-self-clause-staged_long : goal.invariant_of-self-clause-staged_long
 invariant_of-self-clause-staged_long g c =
     λ s is.
@@ -451,3 +475,32 @@ invariant_of-self-clause-staged_long g c =
     let waits : drop (old.forced - gone) (drop (old.gone + gone) all) ≡ waiting old =
     ap (drop (old.forced - gone)) kept ∙ drop-drop (old.forced - gone) gone (records_of_log old) ∙ ap (λ n. drop n (records_of_log old)) (omega (arith, from, h.to)) in
     old.staged_long s is ∙ ap (λ (l : List LogRecord). length (texts (take s.count l))) (sym waits)
+
+pub returns-clause-knows : goal.returns-clause-knows
+returns-clause-knows g c = λ t k.
+    let old = c.args.self.now in
+    let before = c.args.before in
+    let f = c.index-tail.result.now in
+    let within : before < length old.frames.items = there_is old.frames.items before _ c.requires.there in
+    let at = some_at old.frames.items before f within c.index-tail.ensures in
+    let same : f ≡ record { first = c.args.anchors.anchor.tail; place = c.args.anchors.anchor.tail_place } = unwrap (sym at ∙ c.requires.there) in
+    let next = old.tail.first + old.forced in
+    let begins = old.begins.0 in
+    let placed = old.begins.1 in
+    let h = listed_at old.head next old.frames.items before f at (listed_of old.head next old.frames.items old.listed) in
+    let from : old.tail.first ≤ f.first = omega (arith, h.from, begins) in
+    let gone = f.first - old.tail.first in
+    let all = all_in old.found.items old.later.items in
+    let kept : drop (old.gone + gone) all ≡ drop gone (records_of_log old) = sym (drop-drop gone old.gone all) in
+    let inside = old.forced_inside in
+    let kept_long = ap length kept in
+    let here = length-drop gone (records_of_log old) in
+    let there = length-drop old.gone all in
+    let waits_old = length-drop old.forced (records_of_log old) in
+    let waits_new = length-drop (old.forced - gone) (drop (old.gone + gone) all) in (
+      (
+        omega (arith, k.0.0, waits_old, waits_new, inside, kept_long, here, from, h.to, c.rotate_left.ensures.len, c.truncate.ensures.len),
+        λ no. omega (arith, k.0.1 no, c.rotate_left.ensures.capacity, c.truncate.ensures.capacity),
+      ),
+      k.1,
+    )

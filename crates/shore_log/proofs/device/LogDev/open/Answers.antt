@@ -85,6 +85,7 @@ invariant_of-result g c =
       staged_long = λ s is. absurd cc;
       staged_short = λ s is. absurd cc;
       staged_some = λ s is. absurd cc;
+      room = (c.in-Some.ensures, λ none. absurd cc);
       staged_listed = λ s is. absurd cc;
     }
 

@@ -57,6 +57,7 @@ invariant_of-self g c =
           ∙ ap (λ (l : List LogRecord). length (texts (take s.count (drop old.forced l)))) (sym more_are);
       staged_short = old.staged_short;
       staged_some = old.staged_some;
+      room = (old.room.0, λ none. absurd cc);
       staged_listed = old.staged_listed;
     }
 

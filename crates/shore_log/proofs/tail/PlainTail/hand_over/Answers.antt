@@ -1,4 +1,5 @@
 use Rattle.std.proofs.Common.{◌≡◌, ◌+◌, List, [], IsTrue, length, refl, sym, subst, ap, ◌∙◌, arith}
+use Rattle.std.proofs.lemmas.Bool.{true≢false}
 use Rattle.shore_model.specs.declared.log_records.LogRecord.{LogRecord}
 use Rattle.shore_logrec.specs.Text.{texts}
 use Rattle.shore_frames.specs.LoggedRecords.{are_numbered}
@@ -14,4 +15,26 @@ invariant_of-self-2 c =
       counted = sym (ap length none);
       few = let few = old.few in omega (arith, few);
       spelled = c.in_ok-move_behind.ensures.ok.1 ∙ ap texts (sym none);
+      no_entry = old.no_entry;
+      index_room = let room = old.index_room in omega (arith, room);
+      index_brought = old.index_brought;
+      texts_room = omega (arith, c.len.ensures, c.capacity.ensures, c.move_behind.new.out.ok.1, c.move_behind.new.more.ok.0, ap length c.in_ok-move_behind.ensures.ok.1);
+      texts_short = omega (arith, c.len.ensures, c.move_behind.new.out.ok.1, c.move_behind.new.out.small);
+      texts_brought = λ is. absurd (true≢false (sym is));
+    }
+
+pub invariant_of-self : goal.invariant_of-self
+invariant_of-self c =
+    let old = c.args.self.now in
+    record {
+      numbered = old.numbered;
+      counted = old.counted;
+      few = old.few;
+      spelled = c.in_err-move_behind.ensures.err.1 ∙ old.spelled;
+      no_entry = old.no_entry;
+      index_room = old.index_room;
+      index_brought = old.index_brought;
+      texts_room = omega (arith, old.texts_room, c.move_behind.new.more.ok.0, old.bytes.ok.0, ap length c.in_err-move_behind.ensures.err.1);
+      texts_short = old.texts_short;
+      texts_brought = λ is. omega (arith, old.texts_brought is, c.in_err-move_behind.ensures.left);
     }

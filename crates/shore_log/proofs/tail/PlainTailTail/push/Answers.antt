@@ -9,16 +9,27 @@ use Rattle.shore_log.proofs.tail.PlainTailTail.push.Goals as goal
 
 pub invariant_of-self-2 : goal.invariant_of-self-2
 invariant_of-self-2 c =
-    let old = c.args.self.now in
+    let start = c.args.self.now in
+    let old = c.take_room.new.self in
+    let same = c.take_room.ensures.same in
     let r = c.args.logged.now in
     let all = listed old.waiting.items in
+    let all_is : all ≡ listed start.waiting.items = ap (λ w. listed w.items) same.2 in
+    let long = ap length all_is in
     let more : listed c.and-self.result.items ≡ all ++ r ∷ [] = ap listed c.and-self.ensures ∙ listed-push old.waiting.items r _ in
     record {
-      numbered = subst (λ (l : List LogRecord). IsTrue (are_numbered old.first l)) (sym more) (numbered-push old.first all r old.numbered c.requires.text c.requires.previous);
+      numbered = subst (λ (l : List LogRecord). IsTrue (are_numbered old.first l)) (sym more) (numbered-push old.first all r old.numbered c.requires.text (omega (arith, c.requires.previous, same.0, long)));
       counted = omega (arith, old.counted, ap length more, length-append all (r ∷ []));
-      few = omega (arith, c.requires.numbers, old.counted);
+      few = omega (arith, c.requires.numbers, old.counted, same.0, long);
       spelled = c.in_ok-encode.ensures.ok ∙ ap (λ (l : List ℕ). l ++ text r) old.spelled ∙ sym (texts-push all r) ∙ ap texts (sym more);
+      no_entry = old.no_entry;
+      index_room = omega (arith, c.in_ok-take_room.ensures.entries);
+      index_brought = old.index_brought;
+      texts_room = omega (arith, c.in_ok-take_room.ensures.texts, ap length c.in_ok-encode.ensures.ok, length-append old.bytes.items (text r), c.encode.new.out.ok.0, old.bytes.ok.0, c.encoded_len.ensures.len);
+      texts_short = old.texts_short;
+      texts_brought = λ is. omega (arith, old.texts_brought is, c.in_ok-encode.ensures.capacity);
     }
 
 pub returns-clause-added : goal.returns-clause-added
-returns-clause-added c = ap listed c.and-self.ensures ∙ listed-push c.args.self.now.waiting.items c.args.logged.now _
+returns-clause-added c =
+    ap listed c.and-self.ensures ∙ listed-push c.take_room.new.self.waiting.items c.args.logged.now _ ∙ ap (λ w. listed w.items ++ c.args.logged.now ∷ []) c.take_room.ensures.same.2
