@@ -12,6 +12,7 @@ pub mod Earning
 pub mod Forcing
 pub mod Works
 pub mod Coming
+pub mod LearningRoom
 pub mod Keeping
 pub mod Pairs
 pub mod Flushed

@@ -133,6 +133,15 @@ module _ {T V : Type 0} {G : tail.Ghosts T} {H : disk.Ghosts V} where
     pub left : (image : List ℕ) → may_leave (history_of new) image
         → (pages : LoggedPages) × CrashMayLeave behind.after.store pages × LeavesStore behind.after.store.log (geometry_of new) front pages image
 
+  -- Nothing has changed but what the log buffer knows of the log device's room.
+  pub record KeepsAllButRoom (old new : Core T V G H) : Type 0 where
+    pub first : first_of new ≡ first_of old
+    pub waiting : waiting_of new ≡ waiting_of old
+    pub heap : heap_of new ≡ heap_of old
+    pub control : control_of new ≡ control_of old
+    pub durable : durable_of new ≡ durable_of old
+    pub running : has_failed new ≡ has_failed old
+
 -- What is kept of the state beside, by the laws over plain data: it is what a manager has come to, its calls that wait are such as may ask for locks, pages
 -- and log have room, also for whatever a crash leaves of the log, and the records lie in the geometry.
 pub record IsSafe (g : Geometry) (s : State) : Type 0 where

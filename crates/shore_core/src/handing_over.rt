@@ -3,7 +3,7 @@ ghost use Rattle.laws_checkpoints.specs.CheckpointedStores.{CheckpointedStore};
 ghost use Rattle.shore_model.specs.declared.log_records.LogRecord.{LogRecord};
 ghost use Rattle.std.specs.Prelude.{◌≡◌, ◌+◌, ◌++◌, [], ℕ, List, IfErr, IfOk, OnErr, OnOk, length};
 ghost use Rattle.shore_types.specs.declared.faults.Fault.TheVariants as Fault;
-ghost use Rattle.shore_log.specs.Settled.{IsSettledFrom, cut_of_log, records_of_log, stable};
+ghost use Rattle.shore_log.specs.Settled.{IsSettledFrom, IsSpelled, KnowsRoom, cut_of_log, records_of_log, stable};
 ghost use Rattle.shore_heap.specs.Heaps as heaps;
 ghost use Rattle.laws_calls.specs.States.{State};
 ghost use Rattle.shore_txn.specs.Transactions.{room_in};
@@ -17,7 +17,7 @@ use shore_types::{Fault, Lsn};
 use std::alloc::{AllocError, Global};
 
 impl<V: Disk> Core<PlainTail, V> {
-    ghost use Rattle.shore_core.specs.Cores.{IsIn, IsOver, durable_of, first_of, geometry_of, has_failed, heap_of, txns_of, waiting_of};
+    ghost use Rattle.shore_core.specs.Cores.{IsIn, IsOver, KeepsAllButRoom, durable_of, first_of, geometry_of, has_failed, heap_of, tail_of, txns_of, waiting_of};
 
     /// Copies of the records that wait in the log buffer.
     pub fn waiting(&self, alloc: Global) -> Result<Vec<LogRecord>, AllocError>
@@ -55,6 +55,22 @@ impl<V: Disk> Core<PlainTail, V> {
         ensures settled { (tail place : ℕ) (front : List ℕ) → IsSettledFrom tail place log.old front → IsSettledFrom tail place log.new front }
     {
         log.take_in(&mut self.tail)
+    }
+
+    /// The log buffer learns what the log device has room for, if nothing waits there.
+    pub fn learn_room<D: Disk>(&mut self, log: &LogDev<D>)
+        ensures same { KeepsAllButRoom self.old self.new }
+        ensures knows { waiting_of self.old ≡ [] → IsSpelled log.now → KnowsRoom log.now (tail_of self.new) }
+    {
+        log.tell_room(&mut self.tail);
+    }
+
+    /// The log buffer learns how little the log device holds after a force.
+    pub fn learn_left<D: Disk>(&mut self, log: &LogDev<D>)
+        ensures same { KeepsAllButRoom self.old self.new }
+        ensures knows { KnowsRoom log.now (tail_of self.old) → KnowsRoom log.now (tail_of self.new) }
+    {
+        log.tell_left(&mut self.tail);
     }
 
     /// The volume's device, as it is. What was changed in memory is forgotten.

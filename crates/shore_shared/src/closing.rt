@@ -51,7 +51,8 @@ impl<N: Numbers, B: Named, R: Wait + Copy, L: Disk, V: Disk> Shared<
         let calls = gathered(&words, &mut held, core.none(), sessions);
         let (core, stage) = core.into_core(calls);
         let log = held.into_log();
-        let tail = PlainTail::new(alloc, Lsn(core.last().0 + 1));
+        let mut tail = PlainTail::new(alloc, Lsn(core.last().0 + 1));
+        log.tell_room(&mut tail);
         let (core, _) = core.with_tail(tail);
         Ok(World::from_parts(core, log, stage, report))
     }

@@ -112,7 +112,8 @@ impl<N: Numbers, B: Named, T: Tail, L: Disk, V: Disk> Shared<N, B, T, L, V> {
         unreachable!()
     }
 
-    // One batch is written back, with what the core has seen. The answer is whether more may be due, and whether all that is logged was durable. What is not is asked for.
+    // One batch is written back, with what the core has seen. The answer is whether more may be due, and whether all that is logged was durable and the batch was written. What is
+    // not durable is asked for.
     fn flush_turn(&self, rt: &impl Wait, alloc: Global) -> (bool, bool) {
         let mut core = self.lock_core(rt);
         let seen = core.look(&self.words);
@@ -125,7 +126,10 @@ impl<N: Numbers, B: Named, T: Tail, L: Disk, V: Disk> Shared<N, B, T, L, V> {
         if seen < last {
             self.ask_force();
         }
-        (is_full(&step), seen >= last)
+        (
+            is_full(&step),
+            seen >= last && !matches!(step, Step::Refused(_)),
+        )
     }
 }
 
@@ -192,6 +196,10 @@ impl<N: Numbers, B: Named, R: Wait + Copy, L: Disk, V: Disk> Shared<
             if let Some(number) = number_begun(&step) {
                 latest = Lsn(number);
             }
+            if lacks_memory(&step) {
+                // A begin is tried again.
+                self.full.store(1, Ordering::SeqCst);
+            }
             if !matches!(step, Step::Done(_)) || !self.is_under_way(rt) {
                 break;
             }
@@ -229,6 +237,10 @@ impl<N: Numbers, B: Named, R: Wait + Copy, L: Disk, V: Disk> Shared<
         }
         step
     }
+}
+
+fn lacks_memory(step: &Step) -> bool {
+    matches!(step, Step::Refused(Fault::Memory))
 }
 
 // The number of the checkpoint that begins by this step, if one does.

@@ -51,7 +51,10 @@ use Rattle.shore_analysis.specs.Padded.{padded}
 use Rattle.shore_restart.specs.GivenBack.{HasDoubtsBack}
 use Rattle.shore_restart.specs.Opened.{OpensIn}
 use Rattle.shore_restart.specs.Standing.{IsAtRest, log_seen}
-use Rattle.shore_core.specs.Cores.{IsIn, control_of, heap_of, locks_of}
+use Rattle.shore_core.specs.Cores.{IsIn, KeepsAllButRoom, control_of, heap_of, locks_of}
+use Rattle.shore_core.specs.declared.core_calls.Core.{Core}
+use Rattle.shore_core.proofs.LearningRoom.{in_learned, over_learned}
+use Rattle.shore_log.specs.declared.tail.Tail as tail
 use Rattle.shore_world.specs.Opens.{IsOpenedAt, log_kept}
 use Rattle.shore_world.specs.Refusals.{cut_behind}
 use Rattle.shore_world.specs.declared.world.World.{World}
@@ -102,6 +105,20 @@ pub seen_left : {L : Type 0} {G : Ghosts L} (anchor : Anchor) (log_front : List 
 seen_left anchor log_front log s rest =
     let cut : cut_of_log log ≡ cut_behind anchor = ap (λ n. n - 1) rest.settled.holds.first in
     ap (λ n. padded n (records_of_log log)) cut ∙ ap (padded (cut_behind anchor)) (sym rest.records ∙ ap (λ n. drop n s.log) cut)
+
+-- ---- a core that opens so does still, once its log buffer has learned something
+
+pub opens_learned : {T V : Type 0} {G : tail.Ghosts T} {H : Ghosts V} (old new : Core T V G H) → KeepsAllButRoom old new → (cut checkpoint : ℕ) (front : List ℕ) (disk : ℕ → List ℕ)
+    (found : List LogRecord) (stream_bytes : ℕ) (ready : CheckpointedStore) → OpensIn cut checkpoint old front disk found stream_bytes ready → OpensIn cut checkpoint new front disk found stream_bytes ready
+opens_learned old new same cut checkpoint front disk found stream_bytes ready o = record {
+  first = o.first;
+  opened = o.opened;
+  counts = o.counts;
+  stream = o.stream;
+  next = o.next;
+  is_in = in_learned old new same front disk ready.store.log o.first o.is_in;
+  over = over_learned old new same disk o.first ready o.over;
+}
 
 -- ---- the open over what a restart has left
 

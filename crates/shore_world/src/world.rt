@@ -141,12 +141,15 @@ impl<L: Disk, V: Disk> World<L, V> {
             Err((fault, volume)) => return Err((fault, log.into_device(), volume)),
         };
         match restart(alloc, &mut log, heap, checkpoint) {
-            Ok((core, report)) => Ok(World {
-                core,
-                log,
-                stage: Stage::Resting,
-                report,
-            }),
+            Ok((mut core, report)) => {
+                core.learn_room(&log);
+                Ok(World {
+                    core,
+                    log,
+                    stage: Stage::Resting,
+                    report,
+                })
+            }
             Err((error, heap)) => {
                 let fault = fault_of(error, &log);
                 let volume = heap.into_device().into_device();
@@ -340,6 +343,7 @@ impl<L: Disk, V: Disk> World<L, V> {
         };
         let number = durable.number();
         self.core.told(number);
+        self.core.learn_left(&self.log);
         Step::Done(Answer::Forced(number))
     }
 

@@ -52,7 +52,7 @@ returns-clause-ended g c =
     (ap heap_of f.0 ∙ t.heap) (ap ring_of f.0 ∙ ap (λ x. (room_in (txns_in x)).stream_bytes) t.control)
     (λ front disk before after s same is. subst (λ x. IsIn front disk after x s) (sym f.0)
     (t.state front disk before after s (same ∙ ap (λ x. after ++ waiting_of x) f.0 ∙ ap (λ (x : PlainTail). after ++ waiting_in x) t.tail) is))
-    (λ disk s store is. subst (λ x. IsOver disk x s store) (sym f.0) (t.over disk s store is)) (ap waiting_of f.0 ∙ ap waiting_in t.tail ∙ c.new-tail.ensures.waiting) gone records
+    (λ disk s store is. subst (λ x. IsOver disk x s store) (sym f.0) (t.over disk s store is)) (ap waiting_of f.0 ∙ ap waiting_in t.tail ∙ c.tell_room.ensures.same.1 ∙ c.new-tail.ensures.waiting) gone records
     (ap cut_of_log f.1 ∙ l.log.1 ∙ ap (λ (x : LogState). x.cut) same ∙ e.records.2) held.failed (λ fails. subst IsTrue (sym failed) (e.failed (subst IsTrue (ap (λ (x : LogState). x.failed) same) fails)))
     (subst (λ x. IsKept x (size (history_in w)) w.log held.failed) (sym geometry)
     (subst (λ x. IsKept g.B.Named.geometry x w.log held.failed) (sym bytes) (subst (λ x. IsKept g.B.Named.geometry g.B.Named.log_bytes x held.failed) (sym f.1) k))) _

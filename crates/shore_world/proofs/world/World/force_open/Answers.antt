@@ -8,6 +8,7 @@ use Rattle.shore_log.specs.Settled.{cut_of_log, records_of_log, stable}
 use Rattle.shore_log.specs.declared.device.LogDev.{LogDev}
 use Rattle.laws_calls.specs.StateChanges.{with_durable, with_failure}
 use Rattle.shore_core.specs.Cores.{waiting_of}
+use Rattle.shore_core.proofs.LearningRoom.{in_learned, over_learned}
 use Rattle.shore_world.specs.declared.event.Event.TheVariants.{ForceOpen}
 use Rattle.shore_world.specs.Worlds.{before_in}
 use Rattle.shore_world.proofs.LogParts.{in_same, log_long}
@@ -71,8 +72,11 @@ returns-clause-moves g c =
     let same = c.open_staged.ensures.same in
     let anchors = c.open_staged.ensures.tail.1 in
     let cut = ap (λ (t : FrameAt). t.first - 1) c.open_staged.ensures.tail.0 in
-    force_moves old _ ForceOpen _ (λ is. is) open_is_no_flush (ap heaps.geometry_of c.told.ensures.heap) (ap heaps.history_of c.told.ensures.heap) (record { stage = refl; anchors = anchors })
-    (opening_gate old _ running (some_stands old.log.staged (c.in-Ok.ensures.opened.0 (rw c.in-Some.is refl))) (same_list _ _ old.core c.told.new.self same c.told.ensures.tail) anchors
+    let learned = c.learn_left.ensures.same in
+    let heap = learned.heap ∙ c.told.ensures.heap in
+    force_moves old _ ForceOpen _ (λ is. is) open_is_no_flush (ap heaps.geometry_of heap) (ap heaps.history_of heap) (record { stage = refl; anchors = anchors })
+    (opening_gate old _ running (some_stands old.log.staged (c.in-Ok.ensures.opened.0 (rw c.in-Some.is refl)))
+    (ap (λ (l : List LogRecord). records_of_log c.open_staged.new.self ++ l) learned.waiting ∙ same_list _ _ old.core c.told.new.self same c.told.ensures.tail) anchors
     c.open_staged.ensures.any_moment (λ tail place front group s. inr ((c.in-Ok.ensures.settled tail place front group s).0, c.in-Ok.ensures.none_staged)))
     (λ front disk s store is over safe.
     let told = c.told.ensures.told front disk (before_in old s) s store is safe over in
@@ -86,8 +90,9 @@ returns-clause-moves g c =
     record {
       later = with_durable n s;
       moves = (parts.failed_is ∙ running, later, within, refl);
-      is_in = in_same old.log c.open_staged.new.self c.told.new.self cut same front disk (with_durable n s) told.0;
-      told = inr (n, stored_later, stored_within, told.1);
+      is_in = in_same old.log c.open_staged.new.self c.learn_left.new.self cut same front disk (with_durable n s)
+          (in_learned c.told.new.self c.learn_left.new.self learned front disk (before_in old s) (with_durable n s) told.0);
+      told = inr (n, stored_later, stored_within, over_learned c.told.new.self c.learn_left.new.self learned disk (with_durable n s) _ told.1);
     })
 
 pub returns-in_default-clause-quiet : goal.returns-in_default-clause-quiet

@@ -18,6 +18,9 @@ use Rattle.shore_frames.specs.declared.reading.FrameAt.{FrameAt}
 use Rattle.shore_log.specs.Settled.{IsSettledFrom, cut_of_log, device_of, fault_of, records_of_log}
 use Rattle.shore_model.specs.declared.log_records.LogRecord.{LogRecord}
 use Rattle.shore_core.specs.Cores.{control_of, heap_of, waiting_of}
+use Rattle.shore_sessions.specs.Controls.{txns_in}
+use Rattle.shore_sessions.specs.declared.control.Control.{Control}
+use Rattle.shore_txn.specs.Transactions.{room_in}
 use Rattle.laws_images.specs.Moments.{Moment}
 use Rattle.laws_images.specs.MomentsBehind.{PathBehind}
 use Rattle.laws_images.specs.StandsBehind.{anchored_by, kept_behind}
@@ -37,7 +40,7 @@ use Rattle.shore_world.proofs.OpenedInOrder.{in_order_at, with_none}
 use Rattle.shore_world.proofs.LogsLeft.{quiet_of, settled_left}
 use Rattle.shore_world.proofs.OpenLemmas.{no_device, outside_or_not, pair_still_after, still_after, told_of}
 use Rattle.shore_world.proofs.OpenPaths.{counting, found, goes_on, have_fronts, log_read, replay_at, restart_outside, seen_is, shown, shown_at, stopped, texts, texts_at, volume_read, volume_replayed}
-use Rattle.shore_world.proofs.OpenedLemmas.{opened_at, seen_left}
+use Rattle.shore_world.proofs.OpenedLemmas.{opened_at, opens_learned, seen_left}
 use Rattle.shore_world.proofs.RestartNames.{names_of}
 use Rattle.shore_world.proofs.WorldLemmas.{anchored_same}
 use Rattle.shore_world.proofs.ShownPages.{found_over, shown_by, texts_shown, texts_told, told_images}
@@ -51,13 +54,18 @@ invariant_of-result g c =
     let e = c.in-Ok-restart.ensures in
     let log = c.restart.new.log in
     let long = length_padded (cut_of_log log) (records_of_log log) in
-    record { numbers = omega (arith, e.numbers.0, long); durable_agrees = e.numbers.1; ring = omega (arith, e.ring, log.as_long) }
+    let same = c.learn_room.ensures.same in
+    record {
+      numbers = omega (arith, e.numbers.0, long, same.first);
+      durable_agrees = same.durable ∙ e.numbers.1;
+      ring = omega (arith, e.ring, log.as_long, ap (λ (t : Control). (room_in (txns_in t)).stream_bytes) same.control);
+    }
 
 pub returns-in-Ok-restart-clause-fronts : goal.returns-in-Ok-restart-clause-fronts
 returns-in-Ok-restart-clause-fronts g c of_log of_volume =
     let log = g.L.Disk.history c.args.log in
     let volume = g.V.Disk.history c.args.volume in
-    let geometry = c.in-Ok-restart.ensures.volume.geometry ∙ c.in-Ok-open_volume.ensures.geometry ∙ c.in-Ok.ensures.limits.1 in
+    let geometry = ap heaps.geometry_of c.learn_room.ensures.same.heap ∙ c.in-Ok-restart.ensures.volume.geometry ∙ c.in-Ok-open_volume.ensures.geometry ∙ c.in-Ok.ensures.limits.1 in
     let anchors = c.restart.ensures.log.anchors ∙ c.in-Ok-open.ensures.anchors in
     subst (λ (x : Geometry). HaveFronts x c.restart.new.log.anchors log volume) (sym geometry)
     (subst (λ (a : Anchors). HaveFronts c.in-Ok.fronts.geometry a log volume) (sym anchors) (c.in-Ok.ensures.found of_log of_volume).0)
@@ -65,7 +73,7 @@ returns-in-Ok-restart-clause-fronts g c of_log of_volume =
 pub returns-in-Ok-restart-clause-geometry : goal.returns-in-Ok-restart-clause-geometry
 returns-in-Ok-restart-clause-geometry g c of_log of_volume geometry counting fronts =
     let only = c.in-Ok.ensures.only of_log of_volume geometry counting fronts in (
-      c.in-Ok-restart.ensures.volume.geometry ∙ c.in-Ok-open_volume.ensures.geometry ∙ c.in-Ok.ensures.limits.1 ∙ only.0,
+      ap heaps.geometry_of c.learn_room.ensures.same.heap ∙ c.in-Ok-restart.ensures.volume.geometry ∙ c.in-Ok-open_volume.ensures.geometry ∙ c.in-Ok.ensures.limits.1 ∙ only.0,
       c.restart.ensures.log.anchors ∙ c.in-Ok-open.ensures.anchors ∙ only.1,
     )
 
@@ -221,9 +229,13 @@ returns-in-Ok-restart-clause-along g c of_log of_volume geometry anchor rs pages
     (replay_at geometry (size log) (size volume) anchor rs pages log_image volume_image stood c.in-Ok.fronts.of_pages at volume_behind (heaps.history_of heap)
     (c.in-Ok-open_volume.ensures.any_moment later volume_image (texts geometry (size log) (size volume) anchor rs pages log_image volume_image stood) held (shown_at geometry (size log) (size volume) anchor rs pages log_image volume_image stood c.in-Ok.fronts.of_pages at))) in
     let went = c.in-Ok-restart.ensures.restarts (take 4096 log_image) (take 4096 volume_image) anchor (texts geometry (size log) (size volume) anchor rs pages log_image volume_image stood) (found_behind (anchored_by anchor) rs pages).store named is in
-    let end : Moment = record { log = g.L.Disk.history c.restart.new.log.device; volume = heaps.history_of (heap_of c.in-Ok-restart.core); store = went.ready.store } in
+    let same = c.learn_room.ensures.same in
+    let end : Moment = record { log = g.L.Disk.history c.restart.new.log.device; volume = heaps.history_of (heap_of c.learn_room.new.self); store = went.ready.store } in
+    let path = subst (λ (h : DeviceHistory). PathBehind (heaps.geometry_of heap) (take 4096 log_image) (take 4096 volume_image) anchor
+    (record { log = g.L.Disk.history dev.device; volume = heaps.history_of heap; store = (found_behind (anchored_by anchor) rs pages).store }) went.moments
+    (record { log = g.L.Disk.history c.restart.new.log.device; volume = h; store = went.ready.store })) (sym (ap heaps.history_of same.heap)) went.path in
     let on = subst (λ (x : Geometry). PathBehind x (take 4096 log_image) (take 4096 volume_image) anchor
-    (record { log = g.L.Disk.history dev.device; volume = heaps.history_of heap; store = (found_behind (anchored_by anchor) rs pages).store }) went.moments end) heap_at went.path in
+    (record { log = g.L.Disk.history dev.device; volume = heaps.history_of heap; store = (found_behind (anchored_by anchor) rs pages).store }) went.moments end) heap_at path in
     let way = goes_on geometry anchor log volume rs pages stood log_behind volume_behind (log_barred, volume_barred) (g.L.Disk.history dev.device) (heaps.history_of heap) of_dev of_heap went.moments end on in
     let opens = went.opens stood.opened.opened.lawful in
     let seen_before = seen_is geometry (size log) (size volume) anchor rs pages log_image volume_image stood c.in-Ok.fronts.anchors only.1 dev heap settled waits gives heap_at c.in-Ok-open_volume.ensures.none shows in
@@ -231,10 +243,12 @@ returns-in-Ok-restart-clause-along g c of_log of_volume geometry anchor rs pages
     record {
       way = way;
       opened = opened_at geometry (size log - 4096) anchor rs pages stood.opened went.works went.ready went.behind _ (take 4096 log_image) (take 4096 volume_image) opens.3
-          (ap (λ (a : Anchors). a.anchor) anchors) opens.4 opens.5 (c.in-Ok-restart.ensures.volume.geometry ∙ heap_at) opens.0 opens.1
+          (ap (λ (a : Anchors). a.anchor) anchors) opens.4 (opens_learned c.in-Ok-restart.core c.learn_room.new.self same _ _ _ _ _ _ _ opens.5)
+          (ap heaps.geometry_of same.heap ∙ c.in-Ok-restart.ensures.volume.geometry ∙ heap_at) opens.0 opens.1
           (anchored_same dev c.restart.new.log c.restart.ensures.log.anchors (take 4096 log_image) (c.in-Ok-open.ensures.anchored log_later log_image log_held (c.in-Ok.ensures.counts of_log))) refl
+          (subst (λ (t : Control). HasDoubtsBack geometry.max_locks (log_kept anchor rs) t) (sym same.control)
           (subst (λ (l : List LogRecord). HasDoubtsBack geometry.max_locks l (control_of c.in-Ok-restart.core)) seen_before
-          (subst (λ (x : Geometry). HasDoubtsBack x.max_locks (log_seen dev) (control_of c.in-Ok-restart.core)) heap_at c.in-Ok-restart.ensures.doubts));
+          (subst (λ (x : Geometry). HasDoubtsBack x.max_locks (log_seen dev) (control_of c.in-Ok-restart.core)) heap_at c.in-Ok-restart.ensures.doubts)));
       undone = subst (IsUndoneSoFar (log_kept anchor rs)) (seen_left anchor (take 4096 log_image) c.restart.new.log went.ready.store opens.3)
           (subst (λ (l : List LogRecord). IsUndoneSoFar l (log_seen c.restart.new.log)) seen_before c.in-Ok-restart.ensures.undone);
     }
@@ -353,7 +367,7 @@ returns-in-Ok-restart-clause-report g c of_log kept gives =
     (subst (λ (l : List LogRecord). IsReportOf (cut_of_log c.in-Ok-open.log) c.in-Ok.fronts.anchors.anchor.checkpoint l c.in-Ok-restart.report) list c.in-Ok-restart.ensures.report))
 
 pub returns-in-Ok-restart-clause-frames : goal.returns-in-Ok-restart-clause-frames
-returns-in-Ok-restart-clause-frames g c = c.in-Ok-restart.ensures.volume.frames ∙ c.in-Ok-open_volume.ensures.limit
+returns-in-Ok-restart-clause-frames g c = ap heaps.limit_of c.learn_room.ensures.same.heap ∙ c.in-Ok-restart.ensures.volume.frames ∙ c.in-Ok-open_volume.ensures.limit
 
 pub returns-in-Ok-restart-clause-in_order : goal.returns-in-Ok-restart-clause-in_order
 returns-in-Ok-restart-clause-in_order g c of_log of_volume =
@@ -368,17 +382,18 @@ returns-in-Ok-restart-clause-in_order g c of_log of_volume =
     let kept = records_of_log dev in
     let is_held = c.in-Ok-open_volume.ensures.held later volume_image shown.0 held shown.1 (length (log_seen dev)) in
     let e = c.in-Ok-restart.ensures in
+    let same_core = c.learn_room.ensures.same in
     let anchors : c.restart.new.log.anchors ≡ c.in-Ok.fronts.anchors = c.restart.ensures.log.anchors ∙ c.in-Ok-open.ensures.anchors in
-    in_order_at (heaps.geometry_of heap) (heaps.geometry_of (heap_of c.in-Ok-restart.core)) (sym e.volume.geometry) c.in-Ok.fronts.anchors.anchor c.restart.new.log.anchors.anchor (ap (λ (a : Anchors). a.anchor) (sym anchors))
+    in_order_at (heaps.geometry_of heap) (heaps.geometry_of (heap_of c.learn_room.new.self)) (sym (ap heaps.geometry_of same_core.heap ∙ e.volume.geometry)) c.in-Ok.fronts.anchors.anchor c.restart.new.log.anchors.anchor (ap (λ (a : Anchors). a.anchor) (sym anchors))
     (cut_of_log dev) (ap (λ n. n - 1) (sym dev.anchored.0 ∙ ap (λ (a : Anchors). a.anchor.tail) c.in-Ok-open.ensures.anchors)) (cut_of_log c.restart.new.log) (ap (λ (t : FrameAt). t.first - 1) c.restart.ensures.log.tail)
-    (g.L.Disk.history c.args.log) (g.V.Disk.history c.args.volume) kept (records_of_log c.restart.new.log) (waiting_of c.in-Ok-restart.core) e.waiting
+    (g.L.Disk.history c.args.log) (g.V.Disk.history c.args.volume) kept (records_of_log c.restart.new.log) (waiting_of c.learn_room.new.self) (same_core.waiting ∙ e.waiting)
     (subst (GivesFrom c.in-Ok.fronts.anchors.anchor.tail c.in-Ok.fronts.anchors.anchor.tail_place kept) same (c.in-Ok-open.ensures.found log_later)) e.anchored e.taken shown.0
     (subst (λ (x : Geometry). Shows x volume_image shown.0) (sym c.in-Ok-open_volume.ensures.geometry) shown.1) (e.any_fit (take 4096 volume_image) shown.0 shown.0 is_held)
 
 pub returns-in-Ok-restart-clause-room : goal.returns-in-Ok-restart-clause-room
 returns-in-Ok-restart-clause-room g c =
     let new = c.restart.new.log in
-    subst (λ (rs : List LogRecord). LeavesRoom (cut_of_log new) rs (stream_bytes_of new)) (with_none (records_of_log new) (waiting_of c.in-Ok-restart.core) c.in-Ok-restart.ensures.waiting) c.in-Ok-restart.ensures.room
+    subst (λ (rs : List LogRecord). LeavesRoom (cut_of_log new) rs (stream_bytes_of new)) (with_none (records_of_log new) (waiting_of c.learn_room.new.self) (c.learn_room.ensures.same.waiting ∙ c.in-Ok-restart.ensures.waiting)) c.in-Ok-restart.ensures.room
 
 pub returns-clause-refused : goal.returns-clause-refused
 returns-clause-refused g c of_log of_volume = elim (outside_or_not c.fault_of-fault.result) [
