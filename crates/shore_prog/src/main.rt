@@ -1,6 +1,8 @@
-//! The storage manager as a program: settings and a script come on standard input, the answers go to standard output.
+//! The storage manager as a program: settings and a script come on standard input, the answers go to standard output, and the causes of refusals to standard error.
 #![tactic(auto)]
 
+mod asking;
+mod causes;
 mod checkpoints;
 mod crew;
 mod devices;
@@ -9,14 +11,26 @@ mod manager;
 mod program;
 mod rounds;
 mod shown;
+mod streams;
 mod threads;
 mod tickets;
+mod wrong_lines;
 
 pub use program::run;
 pub use shore_world as world;
+use std::fs::File;
 use std::io;
 use std::process::ExitCode;
 
+/// What can be opened everywhere, and of which each read and write fails, as one of a closed stream does.
+const NOWHERE: &str = "/";
+
 fn main(rt: HostRuntime) -> ExitCode {
-    run(rt.alloc(), &rt, rt.reader(), io::writer(&rt))
+    // Standard streams that are closed leave their numbers free. No file of a pair may get one, and an answer be written over it: these take them before.
+    let _streams = (
+        File::open(&rt, NOWHERE),
+        File::open(&rt, NOWHERE),
+        File::open(&rt, NOWHERE),
+    );
+    run(rt.alloc(), &rt, rt.reader(), io::writer(&rt), rt.stderr())
 }

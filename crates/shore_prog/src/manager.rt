@@ -1,28 +1,22 @@
 //! The manager that a script works with: a world over two devices in memory or in files, each behind a fuse.
-ghost use Rattle.std.specs.Prelude.{◌≡◌, ◌≤◌, ◌↔◌, ℕ, IsTrue, IfOk, length, min, vec_len};
-ghost use Rattle.shore_types.specs.declared.faults.Fault.TheVariants.{NeedForce};
-ghost use Rattle.shore_types.specs.declared.layout.TheConstants.{MAX_POOL_FRAMES, MAX_STORES, MIN_POOL_FRAMES};
-ghost use Rattle.shore_world.specs.Worlds.{geometry_in};
-ghost use Rattle.shore_model.specs.Calls.{IsServed};
+ghost use Rattle.std.specs.Prelude.{◌≤◌, ◌↔◌, IsTrue};
+ghost use Rattle.shore_types.specs.declared.layout.TheConstants.{MAX_POOL_FRAMES, MIN_POOL_FRAMES};
 ghost use Rattle.shore_script.specs.Commands.{IsServedCommand};
 ghost use Rattle.shore_script.specs.Limits.{AreInLimits};
 ghost use Rattle.shore_prog.specs.Commands.{IsTaken};
 ghost use Rattle.shore_prog.specs.Due.{IsDue, IsDueIn};
-ghost use Rattle.shore_prog.specs.declared.manager.Progress.TheVariants.{Again};
 
+use crate::asking::{answer, refuse, tell};
+use crate::causes::{Cause, Refusal, cause_of, write_cause};
 use crate::checkpoints::{Begun, begin_line, checkpoint_line, end_line};
-use crate::devices::{ScriptDisk, first_pair, pair_after_crash};
-use crate::forcing::{flush_line, force, force_line};
-use crate::rounds::{WaitingLines, go_first, go_round};
-use crate::shown::{dump, locks, log};
+use crate::devices::{NotOpened, ScriptDisk, ScriptPair, first_pair, pair_after_crash};
+use crate::rounds::{WaitingLines, go_round};
+use crate::streams::Streams;
 use crate::threads::{Left, count_up, has_number};
-use crate::tickets::{commit, durable, lazy};
 use shore_disk::Pick;
-use shore_model::{Answer, Call, LogRecord, Wait};
 use shore_script::{Command, Counting, Devices, Fuse, Fuses, Settings, render};
-use shore_types::layout::MAX_STORES;
-use shore_types::{Device, Fault, Pairs, SessionId, StoreId, Ticket};
-use shore_world::{Event, Step, World, crashed};
+use shore_types::{Device, Fault, SessionId};
+use shore_world::{World, crashed};
 use std::alloc::Global;
 use std::fs::{File, Files};
 use std::io::{self, Write};
@@ -106,25 +100,26 @@ impl Opened {
 }
 
 impl Manager {
-    /// Opens the devices of the settings, which are formatted before unless they are files to be opened as they are.
+    /// Opens the devices of the settings, which are formatted before unless they are files to be opened as they are. What a person can do about a refusal is written to `errors`.
     pub fn start(
         alloc: Global,
         files: &impl Files<File = File>,
         settings: Settings,
+        errors: &mut impl Write,
     ) -> Result<Manager, Fault>
         requires { AreInLimits settings }
     {
-        let (log, volume) = first_pair(alloc, files, &settings)?;
-        let frames = settings.pool as usize;
-        let (access, refused) = open(alloc, log, volume, frames);
-        match refused {
-            None => Ok(Manager {
+        match first_access(alloc, files, &settings) {
+            Ok(access) => Ok(Manager {
                 devices: settings.devices,
-                frames,
+                frames: settings.pool as usize,
                 next_fuses: Fuses::NONE,
                 access,
             }),
-            Some(fault) => Err(fault),
+            Err(refusal) => {
+                let _told = write_cause(errors, &settings.devices, &refusal.cause);
+                Err(refusal.fault)
+            }
         }
     }
 
@@ -140,6 +135,11 @@ impl Manager {
         is_for(&self.devices, command) && self.is_due(command)
     }
 
+    /// Whether the line is one for these devices: files have no fuse, and a crash of them picks nothing.
+    pub fn has_devices_for(&self, command: &Command) -> bool {
+        is_for(&self.devices, command)
+    }
+
     // Whether a checkpoint may begin or end now. A manager that was refused answers that it failed.
     fn is_due(&self, command: &Command) -> bool
         ensures { IsTrue result ↔ IsDue self.now.access command.now }
@@ -151,20 +151,30 @@ impl Manager {
     }
 
     /// Does what a line asks for, and writes its answers, or forces the log for it. If its call has to wait for a lock, the line is kept.
-    pub fn execute<H: Files<File = File> + Threads + sync::Wait + Sync + Send + Copy, W: Write>(
+    pub fn execute<
+        H: Files<File = File> + Threads + sync::Wait + Sync + Send + Copy,
+        W: Write,
+        E: Write,
+    >(
         &mut self,
         alloc: Global,
         host: &H,
         command: Command,
         line: &[u8],
-        out: &mut W,
+        streams: &mut Streams<'_, W, E>,
     ) -> io::Result<Progress>
         requires served { IsServedCommand command }
         requires taken { IsTaken self.old.devices command }
     {
+        let out = &mut *streams.out;
         match command {
             Command::Nothing => {}
-            Command::Crash(pick) => self.crash(alloc, host, pick.unwrap_or(Pick::Old), out)?,
+            Command::Crash(pick) => {
+                let cause = self.crash(alloc, host, pick.unwrap_or(Pick::Old), out)?;
+                out.flush()?;
+                // Where nobody reads the cause, the fault alone is told.
+                let _told = write_cause(&mut *streams.errors, &self.devices, &cause);
+            }
             Command::Fuse(fuse) => self.set_fuse(fuse),
             Command::NextFuse(fuse) => self.next_fuses.set(fuse),
             Command::Threads(counting) => return self.threads_line(*host, alloc, counting, out),
@@ -259,14 +269,14 @@ impl Manager {
         }
     }
 
-    // Everything in memory is lost, and the fuses go away, but for those that were set for this open.
+    // Everything in memory is lost, and the fuses go away, but for those that were set for this open. The answer is why no manager is open then, beyond its fault.
     fn crash<F: Files<File = File>, W: Write>(
         &mut self,
         alloc: Global,
         files: &F,
         pick: Pick,
         out: &mut W,
-    ) -> io::Result<()> {
+    ) -> io::Result<Cause> {
         let left = match mem::replace(&mut self.access, Access::Lost) {
             Access::Open(opened) => Some(Box::into_inner(opened.world).lose_power(pick)),
             Access::Closed(log, volume) => Some((crashed(log, pick), crashed(volume, pick))),
@@ -279,11 +289,23 @@ impl Manager {
                 self.access = access;
                 refused
             }
-            Err(fault) => Some(fault),
+            Err(NotOpened { cause, kept }) => {
+                self.access = access_of(kept);
+                Some(Refusal {
+                    fault: Fault::Device,
+                    cause,
+                })
+            }
         };
         match refused {
-            None => out.write_all(b"opened\n"),
-            Some(fault) => render::open_fault(out, &fault),
+            None => {
+                out.write_all(b"opened\n")?;
+                Ok(Cause::Untold)
+            }
+            Some(refusal) => {
+                render::open_fault(out, &refusal.fault)?;
+                Ok(refusal.cause)
+            }
         }
     }
 
@@ -311,19 +333,56 @@ fn is_for(devices: &Devices, command: &Command) -> bool
     )
 }
 
-// Opens the pair. A refusal is told with its fault.
+// Opens the devices of the settings for the first time.
+fn first_access(
+    alloc: Global,
+    files: &impl Files<File = File>,
+    settings: &Settings,
+) -> Result<Access, Refusal>
+    requires { AreInLimits settings.now }
+{
+    let (log, volume) = first_pair(alloc, files, settings)?;
+    let (access, refused) = open(alloc, log, volume, settings.pool as usize);
+    match refused {
+        None => Ok(access),
+        Some(refusal) => Err(refusal),
+    }
+}
+
+// Devices that are not opened are kept as they are.
+fn access_of(kept: Option<ScriptPair>) -> Access {
+    match kept {
+        Some((log, volume)) => Access::Closed(log, volume),
+        None => Access::Lost,
+    }
+}
+
+// Opens the pair. A refusal is told with its cause.
 fn open(
     alloc: Global,
     log: ScriptDisk,
     volume: ScriptDisk,
     frames: usize,
-) -> (Access, Option<Fault>)
+) -> (Access, Option<Refusal>)
     requires some { MIN_POOL_FRAMES ≤ frames }
     requires few { frames ≤ MAX_POOL_FRAMES }
 {
     match World::open(alloc, log, volume, frames) {
-        Ok(world) => boxed(alloc, world, None),
-        Err((fault, log, volume)) => (Access::Closed(log, volume), Some(fault)),
+        Ok(world) => {
+            let (access, refused) = boxed(alloc, world, None);
+            (access, untold(refused))
+        }
+        Err((fault, mut log, mut volume)) => {
+            let cause = cause_of(&fault, &mut log, &mut volume);
+            (Access::Closed(log, volume), Some(Refusal { fault, cause }))
+        }
+    }
+}
+
+fn untold(refused: Option<Fault>) -> Option<Refusal> {
+    match refused {
+        None => None,
+        Some(fault) => Some(Refusal::untold(fault)),
     }
 }
 
@@ -350,121 +409,10 @@ fn total_of(counting: &Counting) -> u64 {
     counting.threads as u64 * counting.rounds as u64
 }
 
-// A line that is answered by a fault is done.
-fn tell<W: Write>(out: &mut W, session: Option<SessionId>, fault: &Fault) -> io::Result<Progress> {
-    render::fault(out, session, fault)?;
-    Ok(Progress::Done)
-}
-
 // Whose call a line is.
 fn asker_of(command: &Command) -> Option<SessionId> {
     match command {
         Command::Ask(session, _) | Command::Lazy(session) => Some(*session),
         _ => None,
     }
-}
-
-fn answer<W: Write>(
-    alloc: Global,
-    world: &mut ScriptWorld,
-    waiting: &mut WaitingLines,
-    command: Command,
-    line: &[u8],
-    out: &mut W,
-) -> io::Result<Progress>
-    requires { IsServedCommand command }
-{
-    match command {
-        Command::Ask(session, call) => return ask(alloc, world, waiting, session, call, line, out),
-        Command::Lazy(session) => lazy(alloc, world, session, out)?,
-        Command::Durable(ticket) => durable(alloc, world, ticket, out)?,
-        Command::Dump => return dump(alloc, world, out),
-        Command::Force => force_line(alloc, world, out)?,
-        Command::Flush => flush_line(alloc, world, out)?,
-        Command::Log | Command::Locks if world.has_failed() => render::fault(
-            out,
-            None,
-            &Fault::Failed,
-        )?,
-        Command::Log => log(alloc, world, out)?,
-        Command::Locks => locks(alloc, world, out)?,
-        // These are no lines of this function.
-        Command::BeginCheckpoint
-        | Command::EndCheckpoint
-        | Command::Checkpoint
-        | Command::Nothing
-        | Command::Crash(_)
-        | Command::Fuse(_)
-        | Command::NextFuse(_)
-        | Command::Threads(_) => {}
-    }
-    Ok(Progress::Done)
-}
-
-// The room for a line that waits is taken before the call is made.
-fn ask<W: Write>(
-    alloc: Global,
-    world: &mut ScriptWorld,
-    waiting: &mut WaitingLines,
-    session: SessionId,
-    call: Call,
-    line: &[u8],
-    out: &mut W,
-) -> io::Result<Progress>
-    requires { IsServed call }
-{
-    waiting.reserve()?;
-    let is_resolve = matches!(call, Call::Resolve(..));
-    match world.step(alloc, Event::Call(session, call)) {
-        Step::Waits(wait) => {
-            if let Wait::Lock(granule) = &wait {
-                render::waits(out, session, granule)?;
-            }
-            waiting.add(alloc, session, wait, line)?;
-            if is_resolve {
-                go_first(alloc, world, waiting, session, out)?;
-            }
-        }
-        Step::Refused(fault) => return refuse(alloc, world, Some(session), fault, out),
-        Step::Done(answer) => tell_answer(alloc, world, session, &answer, out)?,
-        Step::Nothing => {}
-    }
-    Ok(Progress::Done)
-}
-
-// A commit is forced before it is told.
-fn tell_answer<W: Write>(
-    alloc: Global,
-    world: &mut ScriptWorld,
-    session: SessionId,
-    answer: &Answer,
-    out: &mut W,
-) -> io::Result<()> {
-    match answer {
-        Answer::Committed(ticket) => commit(alloc, world, session, *ticket, out),
-        answer => render::answer(out, session, answer),
-    }
-}
-
-// A line that is refused, of a session's call or another, answers its fault. If it needs a force, which no line answers, the log is forced for
-// it; then every record is durable, and no page has to stay in its frame. A force that fails is the fault of the line.
-pub(crate) fn refuse<W: Write>(
-    alloc: Global,
-    world: &mut ScriptWorld,
-    session: Option<SessionId>,
-    fault: Fault,
-    out: &mut W,
-) -> io::Result<Progress>
-    // No other line is made again, so none is done twice.
-    ensures { IfOk result (λ progress. progress ≡ Again → (number : ℕ) × (fault ≡ NeedForce number)) }
-{
-    let fault = match fault {
-        Fault::NeedForce { .. } => match force(alloc, world) {
-            Ok(()) => return Ok(Progress::Again),
-            Err(fault) => fault,
-        },
-        fault => fault,
-    };
-    render::fault(out, session, &fault)?;
-    Ok(Progress::Done)
 }

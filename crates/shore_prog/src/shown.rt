@@ -3,7 +3,8 @@ ghost use Rattle.std.specs.Prelude.{◌≡◌, IfOk, length, min, vec_len};
 ghost use Rattle.shore_types.specs.declared.layout.TheConstants.{MAX_STORES};
 ghost use Rattle.shore_world.specs.Worlds.{geometry_in};
 
-use crate::manager::{Progress, ScriptWorld, refuse};
+use crate::asking::refuse;
+use crate::manager::{Progress, ScriptWorld};
 use shore_model::LogRecord;
 use shore_script::render;
 use shore_types::layout::MAX_STORES;

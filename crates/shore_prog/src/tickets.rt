@@ -2,6 +2,7 @@
 
 use crate::forcing::force_up_to;
 use crate::manager::ScriptWorld;
+use crate::rounds::{FORCES, may_be_tried_again};
 use shore_model::{Answer, Call};
 use shore_script::render;
 use shore_types::{SessionId, Ticket};
@@ -9,8 +10,9 @@ use shore_world::{Event, Step};
 use std::alloc::Global;
 use std::io::{self, Write};
 
-/// The session's commit has its ticket. The log is forced up to it, and the session is answered before any that waited for its locks. A force that fails is
-/// the fault of the line: whether the commit is kept the next open shows.
+/// The session's commit has its ticket. The log is forced up to it, and the session is answered before any that waited for its locks. If the device fails in the
+/// force, that is the answer: whether the commit is kept the next open shows. A force that was refused for another cause (`Memory`) is tried again; then the fault is
+/// the answer, though the transaction has committed and its locks are free: the next force makes it durable.
 pub fn commit<W: Write>(
     alloc: Global,
     world: &mut ScriptWorld,
@@ -18,7 +20,14 @@ pub fn commit<W: Write>(
     ticket: Ticket,
     out: &mut W,
 ) -> io::Result<()> {
-    match force_up_to(alloc, world, ticket) {
+    let mut forced = force_up_to(alloc, world, ticket);
+    for _ in 1..FORCES {
+        if !may_be_tried_again(&forced) {
+            break;
+        }
+        forced = force_up_to(alloc, world, ticket);
+    }
+    match forced {
         Ok(()) => render::committed(out, session),
         Err(fault) => render::fault(out, Some(session), &fault),
     }
