@@ -4,13 +4,13 @@
 mod transfers;
 
 use anyhow::{Error, Result};
-use shore_disk::FileDisk;
+use shore_disk::{FileDisk, FilePlaces};
 use shore_shared::serve;
 use shore_types::{Geometry, Sequence};
 use shore_world::{World, format, volume_bytes};
 use transfers::{CLIENTS, Task};
 
-// Makes both files anew: a log of half a megabyte, which some six checkpoints go into meanwhile, and a volume of one store with 16 pages.
+// Makes both files anew, as each run counts for itself; who keeps records looks first whether the files hold any (`FilePlaces::filled`). A log of half a megabyte, which some six checkpoints go into meanwhile, and a volume of one store with 16 pages.
 fn make(rt: &HostRuntime) -> Result<(FileDisk, FileDisk)> {
     let stores = Sequence::from_vec(Vec::from_slice(rt.alloc(), &[16u32])?);
     let geometry = Geometry {
@@ -18,8 +18,8 @@ fn make(rt: &HostRuntime) -> Result<(FileDisk, FileDisk)> {
         max_locks: 1_024,
         stores,
     };
-    let mut log = FileDisk::open_or_create(rt, "bank.log")?.cleared(1 << 19)?;
-    let mut volume = FileDisk::open_or_create(rt, "bank.volume")?.cleared(volume_bytes(&geometry))?;
+    let places = FilePlaces::look(rt, "bank.log", "bank.volume")?;
+    let (mut log, mut volume) = places.cleared(rt, 1 << 19, volume_bytes(&geometry))?;
     format(rt.alloc(), &mut log, &mut volume, &geometry)?;
     Ok((log, volume))
 }

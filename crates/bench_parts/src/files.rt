@@ -1,11 +1,10 @@
 //! Files of a folder, and plain writes to one.
 use crate::host::Host;
-use shore_disk::{Disk, FileDisk};
+use shore_disk::{Disk, FileDisk, FilePlace};
 use shore_types::Fault;
-use std::io;
 
 /// What a file or the output answers. Its error is the fault `Device`.
-pub fn of_device<T>(answer: io::Result<T>) -> Result<T, Fault> {
+pub fn of_device<T, E: Drop>(answer: Result<T, E>) -> Result<T, Fault> {
     match answer {
         Ok(value) => Ok(value),
         Err(_) => Err(Fault::Device),
@@ -13,11 +12,16 @@ pub fn of_device<T>(answer: io::Result<T>) -> Result<T, Fault> {
 }
 
 /// A file of a folder, as it is, or made anew with so many zeros.
-pub fn file_of(host: &Host, folder: &str, name: &str, zeros: Option<u64>) -> io::Result<FileDisk> {
+pub fn file_of(
+    host: &Host,
+    folder: &str,
+    name: &str,
+    zeros: Option<u64>,
+) -> Result<FileDisk, Fault> {
     let path = format!(in host.alloc(); "{folder}/bench.{name}")?;
     match zeros {
-        Some(len) => FileDisk::open_or_create(host.rt, &path)?.cleared(len),
-        None => FileDisk::open(host.rt, &path),
+        Some(len) => of_device(of_device(FilePlace::look(host.rt, &path))?.cleared(host.rt, len)),
+        None => of_device(FileDisk::open(host.rt, &path)),
     }
 }
 

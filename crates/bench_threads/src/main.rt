@@ -9,7 +9,7 @@ mod works;
 use anyhow::{Error, Result};
 use bench_parts::host::Host;
 use serving::{Took, run};
-use shore_disk::FileDisk;
+use shore_disk::{FilePlaces, open_files};
 use shore_types::{Geometry, Sequence};
 use shore_world::{World, format, volume_bytes};
 use std::env;
@@ -31,8 +31,8 @@ fn make(rt: &HostRuntime, log: &str, volume: &str) -> Result<()> {
         max_locks: 4_096,
         stores: Sequence::from_vec(stores),
     };
-    let mut log = FileDisk::open_or_create(rt, log)?.cleared(LOG_BYTES)?;
-    let mut volume = FileDisk::open_or_create(rt, volume)?.cleared(volume_bytes(&geometry))?;
+    let places = FilePlaces::look(rt, log, volume)?;
+    let (mut log, mut volume) = places.cleared(rt, LOG_BYTES, volume_bytes(&geometry))?;
     format(rt.alloc(), &mut log, &mut volume, &geometry)?;
     Ok(())
 }
@@ -57,10 +57,7 @@ fn measured<R: Threads + Wait + Sync + Send + Copy>(
         format!(in rt.alloc(); "{folder}/threads.volume")?,
     );
     make(rt, log.as_str(), volume.as_str())?;
-    let (log, volume) = (
-        FileDisk::open(rt, log.as_str())?,
-        FileDisk::open(rt, volume.as_str())?,
-    );
+    let (log, volume) = open_files(rt, log.as_str(), volume.as_str())?;
     match World::open(rt.alloc(), log, volume, FRAMES) {
         Ok(world) => Ok(run(threads, host, world, plan)?),
         Err((fault, _, _)) => Err(Error::from(fault)),

@@ -1,10 +1,10 @@
-//! The manager as a library: a pair of files is formatted and opened, a transaction inserts a record and commits, and a second open shows it.
+//! The manager as a library: a pair of files is formatted, unless a run before has left it, and opened, a transaction inserts a record and commits, and a second open shows it.
 #![tactic(auto)]
 
 ghost use Rattle.shore_model.specs.Calls.{IsServed};
 
 use anyhow::{Error, Result};
-use shore_disk::FileDisk;
+use shore_disk::{FileDisk, FilePlaces, open_files};
 use shore_model::{Answer, Call};
 use shore_types::{Fault, Geometry, Sequence, SessionId, StoreId};
 use shore_world::{Event, Step, World, format, volume_bytes};
@@ -17,7 +17,7 @@ const SESSION: SessionId = SessionId(1);
 
 type Manager = World<FileDisk, FileDisk>;
 
-// Makes both files anew: a log of a megabyte, and a volume of one store with 16 pages.
+// Makes both files as long as neither holds a byte: a log of a megabyte, and a volume of one store with 16 pages. What is there stays.
 fn make(rt: &HostRuntime) -> Result<()> {
     let stores = Vec::from_slice(rt.alloc(), &[16u32])?;
     let geometry = Geometry {
@@ -25,8 +25,11 @@ fn make(rt: &HostRuntime) -> Result<()> {
         max_locks: 1_024,
         stores: Sequence::from_vec(stores),
     };
-    let mut log = FileDisk::open_or_create(rt, LOG)?.cleared(1 << 20)?;
-    let mut volume = FileDisk::open_or_create(rt, VOLUME)?.cleared(volume_bytes(&geometry))?;
+    let places = FilePlaces::look(rt, LOG, VOLUME)?;
+    if places.filled().is_some() {
+        return Ok(());
+    }
+    let (mut log, mut volume) = places.cleared(rt, 1 << 20, volume_bytes(&geometry))?;
     format(rt.alloc(), &mut log, &mut volume, &geometry)?;
     Ok(())
 }
@@ -95,7 +98,7 @@ fn work(rt: &HostRuntime, manager: &mut Manager) -> Result<()> {
 
 // Opens the manager, with 64 frames for pages, works with it, and closes it. Its files are locked meanwhile.
 fn run(rt: &HostRuntime) -> Result<()> {
-    let (log, volume) = (FileDisk::open(rt, LOG)?, FileDisk::open(rt, VOLUME)?);
+    let (log, volume) = open_files(rt, LOG, VOLUME)?;
     let mut manager = match World::open(rt.alloc(), log, volume, 64) {
         Ok(manager) => manager,
         Err((fault, _, _)) => return Err(Error::from(fault)),

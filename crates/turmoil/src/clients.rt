@@ -1,10 +1,9 @@
 //! What each client does, without an end.
-use shore_disk::{Disk, FileDisk};
+use shore_disk::{Disk, FileCause, FileDisk, FilePlace};
 use shore_model::{Answer, Call};
 use shore_shared::{Client, Job};
 use shore_types::{Bytes, Fault, PageId, Rid, Sequence, StoreId};
 use std::alloc::Global;
-use std::io;
 use std::thread::yield_now;
 
 /// How many accounts there are, on one page.
@@ -44,7 +43,7 @@ impl<'r, 'f> Job for Turmoil<'r, 'f> {
     type Done = ();
 
     fn work<C: Client>(&self, alloc: Global, number: usize, client: &mut C) -> Result<(), Fault> {
-        let mut file = of_device(self.note_file(number))?;
+        let mut file = self.note_file(number)?;
         let mut notes = Notes {
             commits: commits_of(client, number)?,
             victims: 0,
@@ -60,13 +59,19 @@ impl<'r, 'f> Job for Turmoil<'r, 'f> {
 }
 
 impl<'r, 'f> Turmoil<'r, 'f> {
-    fn note_file(&self, number: usize) -> io::Result<FileDisk> {
+    // The file of a client's notes, which may be there from a life before.
+    fn note_file(&self, number: usize) -> Result<FileDisk, Fault> {
         let path = format!(in self.rt.alloc(); "{}/notes.{number}", self.folder)?;
-        FileDisk::open_or_create(self.rt, path.as_str())?.cleared(NOTE_BYTES as u64)
+        let place = of_device(FilePlace::look(self.rt, path.as_str()))?;
+        if place.is_empty() {
+            return of_device(place.cleared(self.rt, NOTE_BYTES as u64));
+        }
+        drop(place);
+        of_device(FileDisk::open(self.rt, path.as_str()))
     }
 }
 
-fn of_device<T>(answer: io::Result<T>) -> Result<T, Fault> {
+fn of_device<T>(answer: Result<T, FileCause>) -> Result<T, Fault> {
     match answer {
         Ok(value) => Ok(value),
         Err(_) => Err(Fault::Device),

@@ -8,7 +8,7 @@ mod filling;
 use anyhow::{Error, Result};
 use clients::{MOST_CLIENTS, Turmoil, number_of};
 use filling::Fill;
-use shore_disk::FileDisk;
+use shore_disk::{FileDisk, FilePlaces, open_files};
 use shore_shared::serve;
 use shore_types::{Geometry, Sequence, StoreId};
 use shore_world::{World, format, volume_bytes};
@@ -28,10 +28,7 @@ fn open(rt: &HostRuntime, folder: &str) -> Result<Manager> {
         format!(in rt.alloc(); "{folder}/log")?,
         format!(in rt.alloc(); "{folder}/volume")?,
     );
-    let (log, volume) = (
-        FileDisk::open(rt, log.as_str())?,
-        FileDisk::open(rt, volume.as_str())?,
-    );
+    let (log, volume) = open_files(rt, log.as_str(), volume.as_str())?;
     match World::open(rt.alloc(), log, volume, FRAMES) {
         Ok(manager) => Ok(manager),
         Err((fault, _, _)) => Err(Error::from(fault)),
@@ -50,10 +47,8 @@ fn format_files(rt: &HostRuntime, folder: &str) -> Result<()> {
         format!(in rt.alloc(); "{folder}/log")?,
         format!(in rt.alloc(); "{folder}/volume")?,
     );
-    let mut log = FileDisk::open_or_create(rt, log.as_str())?.cleared(LOG_BYTES)?;
-    let mut volume = FileDisk::open_or_create(rt, volume.as_str())?.cleared(volume_bytes(
-        &geometry,
-    ))?;
+    let places = FilePlaces::look(rt, log.as_str(), volume.as_str())?;
+    let (mut log, mut volume) = places.cleared(rt, LOG_BYTES, volume_bytes(&geometry))?;
     format(rt.alloc(), &mut log, &mut volume, &geometry)?;
     Ok(())
 }

@@ -2,7 +2,7 @@
 use super::plan::Plan;
 use crate::manager::{Manager, SESSION, formatted, opened};
 use bench_parts::counted::CountDisk;
-use bench_parts::files::{file_of, of_device};
+use bench_parts::files::file_of;
 use bench_parts::layout::{STORE, geometry, volume_bytes};
 use bench_parts::records::numbered;
 use shore_disk::AnyDisk;
@@ -11,7 +11,7 @@ use shore_types::layout::MAX_POOL_FRAMES;
 use shore_types::{Fault, Rid};
 
 fn device(plan: &Plan, name: &str, zeros: Option<u64>) -> Result<CountDisk, Fault> {
-    let file = of_device(file_of(&plan.host, plan.folder, name, zeros))?;
+    let file = file_of(&plan.host, plan.folder, name, zeros)?;
     Ok(CountDisk::new(AnyDisk::File(file)))
 }
 

@@ -4,7 +4,7 @@ use super::rings;
 use super::store::{change_record, new_manager, open_manager};
 use crate::manager::{Manager, SESSION};
 use bench_parts::figures::{Figure, tell};
-use bench_parts::files::{file_of, of_device, write_and_sync};
+use bench_parts::files::{file_of, write_and_sync};
 use bench_parts::layout::STORE;
 use bench_parts::records::numbered;
 use shore_disk::FileDisk;
@@ -188,7 +188,7 @@ fn commit_one(plan: &Plan, manager: &mut Manager, pairs: &Pairs, nth: u64) -> Re
 fn durable(plan: &Plan, manager: &mut Manager, pairs: &Pairs) -> Result<(), Fault> {
     let text = numbered(plan.host.alloc(), 0, plan.size)?;
     let room = plan.count.saturating_mul(plan.size as u64);
-    let mut raw = of_device(file_of(&plan.host, plan.folder, "raw", Some(room)))?;
+    let mut raw = file_of(&plan.host, plan.folder, "raw", Some(room))?;
     let (commits, syncs) = timed_commits(plan, manager, pairs, &mut raw, text.as_slice())?;
     let second = 1_000 * 1_000 * MILLION;
     let figures = [
