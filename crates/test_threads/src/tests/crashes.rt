@@ -152,7 +152,10 @@ fn has_stopped(log: &Fused, volume: &Fused) -> bool {
 
 // The number of the record behind an open.
 fn found(alloc: Global, log: MemDisk, volume: MemDisk) -> Result<u64, Fault> {
-    let pairs = manager(alloc, log, volume)?.dump(alloc, StoreId(0))?;
+    let mut world = manager(alloc, log, volume)?;
+    let shown = world.dump(alloc, StoreId(0));
+    let _devices = world.into_devices();
+    let pairs = shown?;
     match pairs.get(0) {
         Some((_, bytes)) => Ok(number_of(bytes)),
         None => Err(Fault::NoRecord),

@@ -78,7 +78,10 @@ fn decided<R: Threads + Wait + Sync + Send + Copy>(
 
 // The records behind an open: what was changed in memory alone is forgotten, and the log has it.
 fn records_in(alloc: Global, log: MemDisk, volume: MemDisk) -> Result<usize, Fault> {
-    let pairs = manager(alloc, log, volume)?.dump(alloc, StoreId(0))?;
+    let mut world = manager(alloc, log, volume)?;
+    let shown = world.dump(alloc, StoreId(0));
+    let _devices = world.into_devices();
+    let pairs = shown?;
     Ok(pairs.len())
 }
 
