@@ -11,9 +11,9 @@ makes a checkpoint, so that the log never fills and an open has little to read; 
 With --batches it serves many clients over the one pipe: each makes transactions in a session of its own, and ends them with `lazy`, which answers a ticket at once. One `force` is
 for all of a batch, and only behind it, as `forced N` reaches their tickets, the clients are answered. The next batch is on its way meanwhile. Killed in the midst, the store has all that
 was acknowledged, and of what was asked behind that the first transactions, each whole, in the order of their commits. Every so many batches begin with a checkpoint: they log several
-times what the log has room for. How many are acknowledged in a second is printed.
+times what the log has room for. How many are acknowledged in a second is printed; how far it is goes to standard error.
 
-How it talks with the program is in tools/pipes.py, which another server may take over. The program is the proved one, if no other is named by its path.
+How it talks with the program is in tools/lib/pipes.py, which another server may take over. The program is the proved one, if no other is named by its path.
 
 Status 0: all of it was there. 1: an acknowledged commit was lost, or a transaction was there in part.
 """
@@ -26,7 +26,7 @@ import threading
 import time
 
 sys.dont_write_bytecode = True
-sys.path.insert(0, f"{os.path.dirname(os.path.realpath(__file__))}/../tools")
+sys.path.insert(0, f"{os.path.dirname(os.path.realpath(__file__))}/../tools/lib")
 from pipes import Child, Ended
 from programs import named_program
 
@@ -41,6 +41,8 @@ BATCHES_A_CHECKPOINT = 6
 LONGEST_LIFE = 40
 # The kill comes so many seconds later at most: in the midst of a batch.
 LONGEST_WAIT = 0.02
+# How far a life is is told every so many seconds.
+SECONDS_A_LINE = 5
 
 
 class Store:
@@ -211,10 +213,14 @@ class Clients:
         return sum(kept), len(kept)
 
 
-def serve_until_killed(store, clients, chance):
+def tell(text):
+    print(text, file=sys.stderr, flush=True)
+
+
+def serve_until_killed(store, clients, chance, name):
     """Answers how many transactions were acknowledged, and in how many seconds."""
     count, started = 0, time.monotonic()
-    last = started
+    last = told = started
     life = chance.randint(LONGEST_LIFE // 2, LONGEST_LIFE)
     timer = threading.Timer(chance.uniform(0, LONGEST_WAIT), store.child.kill)
     answered = 0
@@ -225,6 +231,9 @@ def serve_until_killed(store, clients, chance):
             count += clients.receive(store.child)
             last = time.monotonic()
             answered += 1
+            if last >= told + SECONDS_A_LINE:
+                told = last
+                tell(f"{name}: {answered} of {life} batches, {count / (last - started):.0f} transactions a second")
             if answered == life:
                 timer.start()
     except Ended:
@@ -240,8 +249,10 @@ def serve_batches(program, folder):
     store = Store(program, folder, is_anew=True)
     clients = Clients(store)
     total, seconds, shown, under_way = 0, 0.0, 0, 0
-    for _ in range(LIVES):
-        count, took = serve_until_killed(store, clients, chance)
+    for number in range(LIVES):
+        name = f"life {number + 1} of {LIVES}"
+        count, took = serve_until_killed(store, clients, chance, name)
+        tell(f"{name}: {count} transactions were acknowledged, and it was killed")
         total, seconds = total + count, seconds + took
         store = Store(program, folder, is_anew=False)
         kept, asked = clients.check(store.records())
@@ -254,9 +265,12 @@ def serve_batches(program, folder):
 
 
 def main():
-    program, arguments = named_program(sys.argv[1:])
+    has_batches = "--batches" in sys.argv[1:]
+    program, others = named_program([it for it in sys.argv[1:] if it != "--batches"])
+    if others:
+        raise SystemExit(f"client: what is {' '.join(others)}? It takes the path of a program, and --batches; --help says more")
     with tempfile.TemporaryDirectory() as folder:
-        if arguments == ["--batches"]:
+        if has_batches:
             serve_batches(program, folder)
             return
         serve(program, folder)

@@ -25,10 +25,10 @@ import urllib.request
 
 sys.dont_write_bytecode = True
 HERE = os.path.dirname(os.path.realpath(__file__))
-sys.path[:0] = [HERE, f"{HERE}/../tools"]
+sys.path[:0] = [HERE, f"{HERE}/../tools/lib"]
 from client import Store
 from pipes import Ended
-from programs import named_program
+from programs import named_program, tell_help
 
 ACCOUNTS, MONEY = 4, 1000
 SECONDS_TO_START = 30
@@ -438,7 +438,7 @@ def participants_of(options, program):
         try:
             found.append(Postgres(f"postgres{number}", dsn))
         except ImportError:
-            print("postgres is left out: there is no psycopg2 here", flush=True)
+            raise SystemExit(f"two_phase: FAILED: --postgres needs psycopg2, which {sys.executable} has not: install python3-psycopg2 by apt-get and run this by /usr/bin/python3, or psycopg2-binary by pip") from None
     return found
 
 
@@ -467,6 +467,7 @@ def serve(options, program):
 
 
 def main():
+    tell_help(sys.argv[1:])
     parser = argparse.ArgumentParser(usage=__doc__.split("\n")[2].removeprefix("usage: "))
     parser.add_argument("folder")
     parser.add_argument("program", nargs="?")

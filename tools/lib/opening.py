@@ -1,5 +1,5 @@
 """What an open makes of the two files of a pair: it is refused, or shows records, and leaves files. An open's order of checks is that of "Refuses an open" of docs/DEFINITIONS.md.
-What its records mean is in tools/analysis.py. Nothing here comes from the code of the program.
+What its records mean is in tools/lib/analysis.py. Nothing here comes from the code of the program.
 """
 import collections
 import itertools

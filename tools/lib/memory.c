@@ -1,12 +1,12 @@
-/* Preloaded by tools/check-memory: counts what a program asks of malloc and realloc, and refuses the one whose number MEMORY_FAILS has. As the program ends, the count is written to the
-   file that MEMORY_COUNT names. */
+/* Preloaded by tools/check-memory: counts what a program asks of malloc and realloc, and refuses the one whose number MEMORY_FAILS has; as many in a row, from it on, as
+   MEMORY_ROW says, if that is set. As the program ends, the count is written to the file that MEMORY_COUNT names. */
 #define _GNU_SOURCE
 #include <dlfcn.h>
 #include <errno.h>
 #include <stdio.h>
 #include <stdlib.h>
 
-static unsigned long asked, failing;
+static unsigned long asked, failing, row;
 
 static void *(*system_malloc)(size_t);
 static void *(*system_realloc)(void *, size_t);
@@ -17,6 +17,8 @@ __attribute__((constructor)) static void begin(void) {
     const char *number = getenv("MEMORY_FAILS");
     asked = 0;
     failing = number ? strtoul(number, 0, 10) : 0;
+    number = getenv("MEMORY_ROW");
+    row = number ? strtoul(number, 0, 10) : 1;
 }
 
 static void tell(void) {
@@ -40,7 +42,8 @@ void _exit(int status) {
 }
 
 static int is_refused(void) {
-    if (__atomic_add_fetch(&asked, 1, __ATOMIC_RELAXED) != failing) return 0;
+    unsigned long now = __atomic_add_fetch(&asked, 1, __ATOMIC_RELAXED);
+    if (!failing || now < failing || now - failing >= row) return 0;
     errno = ENOMEM;
     return 1;
 }

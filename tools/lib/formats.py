@@ -1,5 +1,5 @@
 """The formats of the two files of a pair, as docs/DEFINITIONS.md has them under "Bytes": made for tools/check-formats, and read as an open reads them. What it makes of them is in
-tools/opening.py.
+tools/lib/opening.py.
 
 Nothing here comes from the code of the program, nor from what it wrote.
 """

@@ -1,4 +1,4 @@
-"""The lines that a script may have, as docs/SCRIPT.md lists them: to judge one before the program reads it, since a wrong one ends a run of the program."""
+"""The lines that a script may have, as docs/SCRIPT.md lists them: to judge one before the program reads it, and to say what is wrong with a wrong one."""
 import re
 
 NUMBER = r"0|[1-9][0-9]*"
@@ -39,7 +39,7 @@ WORDS = {
     "HALF": (lambda it: it in ("begin", "end"), "begin or end"),
 }
 
-# What a session calls, each behind its number; then the other lines.
+# What a session calls, each after its number; then the other lines.
 CALLS = [
     ("begin", "begins a transaction"),
     ("insert STORE BYTES", "puts a record into a store, and answers its id"),
@@ -48,7 +48,7 @@ CALLS = [
     ("update RECORD BYTES", "changes a record"),
     ("delete RECORD", "takes a record away"),
     ("scan STORE", "reads all records of a store"),
-    ("lock GRANULE MODE", "locks; waits if it has to"),
+    ("lock GRANULE MODE", "locks, and waits if it has to; a store in EX has no locks of its records, for a long load"),
     ("try GRANULE MODE", "locks, or is refused if it would have to wait"),
     ("savepoint", "answers the number of a savepoint"),
     ("back N", "puts back what was changed since savepoint N"),
@@ -117,4 +117,5 @@ def fault_of(line, has_files=False):
 def listed():
     """The lines, each with what it does."""
     forms = [*((f"1 {form}", what) for form, what in CALLS), *OTHERS]
-    return [f"  {form:24}{what}" for form, what in forms]
+    widest = max(len(form) for form, _ in forms)
+    return [f"  {form:{widest}}  {what}" for form, what in forms]

@@ -1,8 +1,16 @@
-"""The program as a child behind pipes: a line is written, and what it answers is read. For examples/client.py, tools/shell and the checks."""
+"""The program as a child behind pipes: a line is written, and what it answers is read; or a whole run of it. For examples/client.py, tools/shell and the checks."""
 import subprocess
+
+from cache import drop_cache, paths_of
 
 # No call answers as this line does, if nobody else uses its session: so its answer ends those of the lines before it.
 LAST_LINE, ITS_ANSWER = "999 commit", "999: "
+
+
+def played(program, script, folder=None):
+    """A whole run of the program on a script, once it has ended. Before it starts, the system's cache of its files is dropped."""
+    drop_cache(*paths_of(script, folder))
+    return subprocess.run([program], cwd=folder, input=script, capture_output=True, encoding="utf-8", errors="replace", check=False)
 
 
 class Ended(Exception):
@@ -10,9 +18,10 @@ class Ended(Exception):
 
 
 class Child:
-    """The program as it runs on settings, in a folder."""
+    """The program as it runs on settings, in a folder. Before it starts, the system's cache of its files is dropped."""
 
     def __init__(self, program, settings, folder=None, **how):
+        drop_cache(*paths_of(settings, folder))
         self.process = subprocess.Popen([program], cwd=folder, stdin=subprocess.PIPE, stdout=subprocess.PIPE, text=True, bufsize=1, **how)
         self.send(f"{settings}---")
 

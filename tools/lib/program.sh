@@ -49,16 +49,18 @@ is_up_to_date() {
     [ -z "$(find "$top/crates.txt" "$@" -newer "$built" -print | head -n 1)" ]
 }
 
-# The program that is proved and built is up to date if no source is newer, and the one that is only compiled if no code is: it is made from src/ alone.
+# The program that is proved and built is up to date if no source is newer, and one that is only compiled if no code is, since it is made from src/ alone, nor the tool that
+# makes it.
 proved=$top/crates/$name/out/$name
 unproved=$top/crates/$name/out/unproved/$name
+sanitized=$top/crates/$name/out/sanitized/$name
 
 is_proved() {
     is_up_to_date "$proved" "src specs proofs"
 }
 
 is_compiled() {
-    is_up_to_date "$unproved" src
+    is_up_to_date "$1" src && [ ! "$top/tools/try-program" -nt "$1" ]
 }
 
 need_rt() {

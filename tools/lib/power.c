@@ -1,7 +1,9 @@
-/* Preloaded by tools/check-power: notes what a loss of power may take back of the files that a program writes. For each file, and for each folder in which one is made, there is a
-   file of notes in the folder that POWER_NOTES names, called by the inode: one note after another, each a head and its bytes. POWER_SKIPS names one kind of call that then does nothing. */
+/* Preloaded by tools/check-power and tools/check-backup: notes what a loss of power may take back of the files that a program writes. For each file, and for each folder in which one is made, there is a
+   file of notes in the folder that POWER_NOTES names, called by the inode: one note after another, each a head and its bytes. POWER_SKIPS names one kind of call that then does nothing. POWER_FAILS names a file by its inode, and a number N: the
+   N-th sync of that file fails, once, with an input or output error. */
 #define _GNU_SOURCE
 #include <dlfcn.h>
+#include <errno.h>
 #include <fcntl.h>
 #include <libgen.h>
 #include <stdarg.h>
@@ -12,7 +14,7 @@
 #include <sys/uio.h>
 #include <unistd.h>
 
-enum kind { REPLACED = 'r', RESIZED = 'l', NAMED = 'n', BYTES_SYNCED = 'b', SYNCED = 's' };
+enum kind { REPLACED = 'r', RESIZED = 'l', NAMED = 'n', BYTES_SYNCED = 'b', SYNCED = 's', FAILED = 'f', DROPPED = 'd' };
 
 struct head {
     long kind, at, count;
@@ -62,18 +64,44 @@ int ftruncate(int file, off_t length) {
     return SYSTEM("ftruncate", int, int, off_t)(file, length);
 }
 
+/* Whether this sync of a file is the one that fails. */
+static int fails(const struct stat *of) {
+    static long count;
+    const char *failing = getenv("POWER_FAILS");
+    unsigned long inode;
+    long number;
+    if (!failing || sscanf(failing, "%lu %ld", &inode, &number) != 2 || inode != of->st_ino) return 0;
+    return __atomic_add_fetch(&count, 1, __ATOMIC_SEQ_CST) == number;
+}
+
 static int sync_by(const char *name, int file, enum kind kind) {
     struct stat of;
     if (fstat(file, &of) != 0) abort();
     if (skips(S_ISDIR(of.st_mode) ? "folder" : name)) return 0;
-    int status = SYSTEM(name, int, int)(file);
-    if (status == 0) note(&of, kind, 0, "", 0);
-    return status;
+    if (fails(&of)) {
+        note(&of, FAILED, 0, "", 0);
+        errno = EIO;
+        return -1;
+    }
+    /* What the machine's own disk has is asked by nobody: the note alone counts. */
+    note(&of, kind, 0, "", 0);
+    return 0;
 }
 
 int fdatasync(int file) { return sync_by("fdatasync", file, BYTES_SYNCED); }
 
 int fsync(int file) { return sync_by("fsync", file, SYNCED); }
+
+static int advise(int file, int advice) {
+    struct stat of;
+    if (fstat(file, &of) != 0) abort();
+    if (advice == POSIX_FADV_DONTNEED && S_ISREG(of.st_mode)) note(&of, DROPPED, 0, "", 0);
+    return 0;
+}
+
+int posix_fadvise(int file, off_t at, off_t count, int advice) { return advise(file, advice); }
+
+int posix_fadvise64(int file, off_t at, off_t count, int advice) { return advise(file, advice); }
 
 int open(const char *path, int flags, ...) {
     va_list rest;
