@@ -1,0 +1,7 @@
+pub mod Asks
+pub mod Moments
+pub mod Pairs
+pub mod Stays
+pub mod Told
+pub mod WorkedCommit
+pub mod Works

@@ -1,0 +1,2 @@
+pub mod Amid
+pub mod WorkedCommit
