@@ -1,0 +1,11 @@
+pub mod Apart
+pub mod Choices
+pub mod Doubts
+pub mod InPlace
+pub mod Moves
+pub mod OneByOne
+pub mod Ordered
+pub mod Stays
+pub mod Steps
+pub mod WorkedRun
+pub mod WrongTurns

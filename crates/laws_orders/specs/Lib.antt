@@ -1,0 +1,3 @@
+pub mod InTurns
+pub mod Lives
+pub mod WorkedTurns
