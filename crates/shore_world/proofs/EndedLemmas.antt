@@ -30,7 +30,7 @@ left_later t mid new le later c left = subst (λ (h : DeviceHistory). left_since
 no_earlier : (old new : DeviceHistory) → IsLater old new → moment old ≤ moment new
 no_earlier old new later = omega (arith, ap (λ (h : DeviceHistory). length h.calls) later.1, length-append later.0 old.calls)
 
-ended_left : (old new now : DeviceHistory) → IsEndedBetween old new now → (c : List ℕ) → may_leave now c → left_since new (moment old) c
+pub ended_left : (old new now : DeviceHistory) → IsEndedBetween old new now → (c : List ℕ) → may_leave now c → left_since new (moment old) c
 ended_left old new now (inl (since, on)) c left = left_later (moment old) now new (no_earlier old now since) on c left
 ended_left old new now (inr (before, at, bytes, torn, since, on, long, is)) c left =
     let earlier = no_earlier old before since in
@@ -40,7 +40,7 @@ ended_left old new now (inr (before, at, bytes, torn, since, on, long, is)) c le
 as_long : (old new : DeviceHistory) → IsLater old new → size new ≡ size old
 as_long old new later = ap size later.1
 
-ended_long : (old new now : DeviceHistory) → IsEndedBetween old new now → size now ≡ size old
+pub ended_long : (old new now : DeviceHistory) → IsEndedBetween old new now → size now ≡ size old
 ended_long old new now (inl (since, on)) = as_long old now since
 ended_long old new now (inr (before, at, bytes, torn, since, on, long, is)) = ap size is ∙ as_long old before since
 

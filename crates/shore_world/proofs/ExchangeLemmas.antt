@@ -42,7 +42,7 @@ use Rattle.shore_world.specs.declared.event.Event.TheVariants as event
 use Rattle.shore_world.specs.declared.world.World.{World}
 use Rattle.shore_world.proofs.CheckpointLemmas.{moves_state, waits_kept}
 use Rattle.shore_world.specs.EventMoves.{OfCheckpoint, OfManager, PlainMove, asked_by, failure_by, forced_by, moves_among, moves_by}
-use Rattle.shore_world.specs.Exchanges.{AreLast, OfTicket, Telling, last_waited, telling_in, tellings_in, tellings_of, told_by, told_of, told_of_ticket, told_of_waiting, waited_after, waited_behind, waits_behind}
+use Rattle.shore_world.specs.Exchanges.{AreLast, OfTicket, Telling, last_waited, telling_in, tellings_in, tellings_of, told_by, told_by_event, told_by_move, told_in, told_of, told_of_ticket, told_of_waiting, waited_after, waited_behind, waited_behind_event, waited_behind_move, waited_in, waits_behind}
 use Rattle.shore_world.specs.Worlds.{Between, Runs}
 
 abbrev pub Told : Type 0
@@ -50,39 +50,6 @@ Told = List Telling
 
 abbrev pub Waited : Type 0
 Waited = List (ℕ × Call)
-
--- ---- as moves of the manager over plain data
-
-abbrev told_by_event : Waited → ManagerEvent → Told
-told_by_event ws (Called session c step) = told_of session c step
-told_by_event ws (Resumed session step) = told_of_waiting session (last_waited session ws) step
-told_by_event ws (Forced n) = []
-told_by_event ws HasFailed = []
-told_by_event ws (TicketAsked ticket answer) = OfTicket ticket answer ∷ []
-
-abbrev waited_behind_event : Waited → ManagerEvent → Waited
-waited_behind_event ws (Called session c step) = waits_behind ws session c step
-waited_behind_event ws (Resumed session step) = ws
-waited_behind_event ws (Forced n) = ws
-waited_behind_event ws HasFailed = ws
-waited_behind_event ws (TicketAsked ticket answer) = ws
-
--- a step of a checkpoint tells nobody
-abbrev told_by_move : Waited → PlainMove → Told
-told_by_move ws (OfManager e) = told_by_event ws e
-told_by_move ws (OfCheckpoint step) = []
-
-abbrev waited_behind_move : Waited → PlainMove → Waited
-waited_behind_move ws (OfManager e) = waited_behind_event ws e
-waited_behind_move ws (OfCheckpoint step) = ws
-
-abbrev pub told_in : Waited → List PlainMove → Told
-told_in ws [] = []
-told_in ws (e ∷ moves) = told_by_move ws e ++ told_in (waited_behind_move ws e) moves
-
-abbrev pub waited_in : Waited → List PlainMove → Waited
-waited_in ws [] = ws
-waited_in ws (e ∷ moves) = waited_in (waited_behind_move ws e) moves
 
 -- what is told of a run's moves is what is told of its events
 failure_tells : (ws : Waited) (f : Fault) (later : List PlainMove) → told_in ws (failure_by f ++ later) ≡ told_in ws later

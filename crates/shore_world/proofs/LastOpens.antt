@@ -24,10 +24,14 @@ use Rattle.laws_runs.specs.CheckpointedStates.{IsAtCheckpoints}
 use Rattle.laws_runs.specs.StoredRuns.{IsOpenedOver}
 use Rattle.laws_runs.proofs.OpenedBehind.{found_store, may_be_found}
 use Rattle.laws_images.specs.StandsBehind.{StandsForBehind, anchored_by}
+use Rattle.laws_orders.proofs.Moves.{opens_in_order}
 use Rattle.shore_world.specs.declared.world.World.{World}
 use Rattle.shore_world.specs.Lives.{DumpsShow}
 use Rattle.shore_world.specs.Promises.{HasInDoubt, IsManagerOf}
-use Rattle.shore_world.specs.Worlds.{requests_in, stream_bytes_in}
+use Rattle.shore_world.specs.Labels.{IsVolumeFront}
+use Rattle.shore_world.proofs.LabelLemmas.{as_long, found_log_front, found_volume_front, log_front_stays}
+use Rattle.shore_locks.specs.Tables.{Table}
+use Rattle.shore_world.specs.Worlds.{geometry_in, history_in, requests_in, stream_bytes_in}
 use Rattle.shore_world.specs.Opens.{HasOpened}
 use Rattle.shore_world.proofs.PromiseLemmas.{in_harmony}
 use Rattle.shore_world.proofs.LeftDoubts.{restored_behind}
@@ -58,9 +62,14 @@ module _ {L V : Type 0} {G : Ghosts L} {H : Ghosts V} (g : Geometry) (o : Openin
     disk = opens.opened.disk;
     now = now;
     at = opens.opened.at;
+    log_labelled = log_front_stays g (geometry_in w) (size log) (size (history_in w)) (take LOG_FRONT_BYTES (seen log)) (take LOG_FRONT_BYTES (seen log)) up.geometry
+        (as_long (size log) (size (history_in w)) stood.front.long up.long) refl (found_log_front g anchor rs pages log volume stood);
+    volume_labelled = subst (λ (x : Geometry). IsVolumeFront x (take GATE_AT (seen volume))) (sym up.geometry) (found_volume_front g anchor rs pages log volume stood);
+    limit = ap (λ (t : Table). t.limit) opens.opened.at.is_in.beside.parts.stands.locks ∙ opens.opened.doubts.locks.limit_is ∙ ap (λ (x : Geometry). x.max_locks) (sym up.geometry);
     waited = λ w there. absurd (subst (IsAmong w) over.waiting there);
     there = λ session w there. absurd (subst (IsAmong w) over.waiting there);
     firsts = λ w there. absurd (subst (IsAmong w) over.waiting there);
+    in_order = opens_in_order rs o stood.opened.opened.lawful opening;
     under_way = subst (λ (x : Geometry). IsAtCheckpoints x (stream_bytes_in w) o rs [] now) (sym up.geometry) (subst (λ n. IsAtCheckpoints g n o rs [] now) (sym up.long) up.under_way);
   }
 

@@ -7,6 +7,7 @@ pub mod LogParts
 pub mod WorldLemmas
 pub mod VolumeLemmas
 pub mod UnmovedLemmas
+pub mod TurnLemmas
 pub mod UnchangedLemmas
 pub mod RunLemmas
 pub mod ForceLemmas
@@ -19,7 +20,10 @@ pub mod FuseLemmas
 pub mod LogOpenings
 pub mod StoredLemmas
 pub mod LeftDoubts
+pub mod StandingLemmas
+pub mod LegLemmas
 pub mod StayLemmas
+pub mod ManyStays
 pub mod LastOpens
 pub mod OpenLemmas
 pub mod StableLemmas
@@ -35,7 +39,11 @@ pub mod OpenedLemmas
 pub mod RestartNames
 pub mod OpenedInOrder
 pub mod ExchangeLemmas
+pub mod LabelLemmas
+pub mod LimitLemmas
+pub mod LockLemmas
 pub mod PromiseLemmas
+pub mod RollbackLemmas
 pub mod PreparedLemmas
 pub mod StoodLemmas
 pub mod WorkLemmas

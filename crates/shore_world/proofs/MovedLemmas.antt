@@ -58,7 +58,7 @@ module _ {L V : Type 0} {G : Ghosts L} {H : Ghosts V} where
 -- ---- the next anchor
 
 -- the frame with a record is no earlier than those before it
-with_above : (fs : List FrameAt) (head next number : ℕ) (at : FrameAt) → AreListed head next fs → at.first ≤ first_in next fs → at.first ≤ (frame_with number at fs).first
+pub with_above : (fs : List FrameAt) (head next number : ℕ) (at : FrameAt) → AreListed head next fs → at.first ≤ first_in next fs → at.first ≤ (frame_with number at fs).first
 with_above [] head next number at listed low = omega arith
 with_above (f ∷ fs) head next number at listed low =
     elim (nat_le f.first number) as (λ b. at.first ≤ (cond b (frame_with number f fs) at).first) [

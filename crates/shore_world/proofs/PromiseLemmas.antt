@@ -3,6 +3,7 @@ use Rattle.std.proofs.Common.{drop-drop, ◌≡◌, ◌≢◌, ◌+◌, ◌-◌,
 use Rattle.std.proofs.lemmas.Bool.{true≢false}
 use Rattle.std.specs.List.{AllByRecursion}
 use Rattle.shore_types.specs.declared.layout.Geometry.{Geometry}
+use Rattle.shore_disk.specs.Device.{size}
 use Rattle.shore_disk.specs.declared.device.Disk.{Ghosts}
 use Rattle.shore_model.specs.declared.calls.Call.{Call}
 use Rattle.shore_model.specs.declared.histories.Decision.TheVariants.{Commit, RollBack}
@@ -41,21 +42,26 @@ use Rattle.laws_runs.proofs.Checkpointing.{step_goes}
 use Rattle.laws_runs.specs.CheckpointSteps.{CheckpointMoves, CheckpointedMove, CheckpointedMoves, CheckpointedState, CheckpointedSteps, Checkpoints, Goes, entries_of_move}
 use Rattle.laws_runs.specs.CheckpointedStates.{IsAtCheckpoints}
 use Rattle.laws_runs.specs.StoredRuns.{Manage, Tend}
+use Rattle.laws_orders.proofs.Moves.{moves_in_order}
 use Rattle.shore_world.specs.declared.event.Event.{Event}
 use Rattle.shore_world.specs.declared.world.World.{World}
 use Rattle.shore_world.specs.EventMoves.{OfCheckpoint, OfManager, PlainMove, moves_among, moves_by}
 use Rattle.shore_world.proofs.CheckpointLemmas.{firsts_kept, moves_state, there_kept}
 use Rattle.shore_world.specs.Events.{IsOfCheckpoint, IsServedEvent}
-use Rattle.shore_world.specs.Exchanges.{AreLast, Telling, tellings_in, tellings_of, told_by, waited_after, waited_behind}
+use Rattle.shore_world.specs.Exchanges.{AreLast, Telling, tellings_in, tellings_of, told_by, told_in, waited_after, waited_behind, waited_in}
 use Rattle.shore_world.specs.Lives.{DumpsShow}
-use Rattle.shore_world.specs.Promises.{AreUnended, GoesOnAs, IsManagerOf, IsStateOf, gained}
+use Rattle.shore_world.specs.Promises.{AreUnended, GoesOnAs, IsManagerOf, IsStateOf, gained, standing_for}
+use Rattle.shore_world.proofs.StandingLemmas.{standing_overlaid}
 use Rattle.shore_gate.specs.declared.anchors.Anchors.{Anchors}
 use Rattle.shore_model.specs.declared.calls.Answer.TheVariants.{Moved}
 use Rattle.shore_model.specs.declared.step.Step.TheVariants.{Done}
 use Rattle.shore_world.specs.declared.event.Event.TheVariants as event
 use Rattle.shore_world.proofs.LogParts.{IsBesideOf, log_long, log_of}
-use Rattle.shore_world.specs.Worlds.{Between, CheckpointsState, EventStep, Runs, Steps, cut_in, geometry_in, last_in, requests_in, stream_bytes_in}
-use Rattle.shore_world.proofs.ExchangeLemmas.{Waited, event_tells, event_waits, have_told, runs_told, runs_wait, told_in, waited_in}
+use Rattle.shore_world.specs.Labels.{IsVolumeFront}
+use Rattle.shore_world.proofs.LabelLemmas.{as_long, log_front_stays}
+use Rattle.shore_world.proofs.LimitLemmas.{moves_limit}
+use Rattle.shore_world.specs.Worlds.{Between, CheckpointsState, EventStep, Runs, Steps, cut_in, geometry_in, history_in, last_in, requests_in, stream_bytes_in}
+use Rattle.shore_world.proofs.ExchangeLemmas.{Waited, event_tells, event_waits, have_told, runs_told, runs_wait}
 use Rattle.shore_world.proofs.StoredLemmas.{HasRun, IsUpAt, checkpoints_to, moves_to, run_run, seen_of, up_safe}
 
 -- ---- what moves over plain data keep
@@ -147,7 +153,7 @@ module _ {L V : Type 0} {G : Ghosts L} {H : Ghosts V} (w : World L V G H) (o : O
     -- opened on the same log
     pub same : manager.found ≡ k.found
 
-  ran_manager : (moves : List PlainMove) (new : World L V G H) (ran : HasRun (geometry_in w) (stream_bytes_in w) o k.found (take 512 k.log_front) k.front es k.now moves new)
+  pub ran_manager : (moves : List PlainMove) (new : World L V G H) (ran : HasRun (geometry_in w) (stream_bytes_in w) o k.found (take 512 k.log_front) k.front es k.now moves new)
       → (waited : Waited) → waited_in ws moves ≡ waited → IsManagerOf new o (es ++ ran.made) waited
   ran_manager moves new ran waited is =
       let told = have_told (geometry_in w) (stream_bytes_in w) o k.found es ws k.now k.under_way k.waited ran.plain ran.last ran.made ran.stored in
@@ -160,15 +166,20 @@ module _ {L V : Type 0} {G : Ghosts L} {H : Ghosts V} (w : World L V G H) (o : O
         disk = ran.up.disk;
         now = ran.last;
         at = ran.up.at;
+        log_labelled = log_front_stays (geometry_in w) (geometry_in new) (size (history_in w)) (size (history_in new)) k.log_front ran.up.log_front ran.up.geometry
+            (as_long (size (history_in w)) (size (history_in new)) k.log_labelled.long ran.up.long) ran.up.labelled k.log_labelled;
+        volume_labelled = subst (λ (g : Geometry). IsVolumeFront g k.front) (sym ran.up.geometry) k.volume_labelled;
+        limit = moves_limit (geometry_in w) k.now ran.last ran.plain ran.made ran.stored ∙ k.limit ∙ ap (λ (g : Geometry). g.max_locks) (sym ran.up.geometry);
         under_way = subst (λ (g : Geometry). IsAtCheckpoints g (stream_bytes_in new) o k.found (es ++ ran.made) ran.last) (sym ran.up.geometry)
             (subst (λ n. IsAtCheckpoints (geometry_in w) n o k.found (es ++ ran.made) ran.last) (sym ran.up.long) ran.up.under_way);
         waited = subst (λ (l : Waited). AreLast l ran.last.state) (ap (waited_in ws) ran.same ∙ is) told.waits;
         there = order.there;
         firsts = order.firsts;
+        in_order = moves_in_order (geometry_in w) (stream_bytes_in w) o k.found es k.now k.under_way ran.plain ran.last ran.made ran.stored k.in_order;
       }
 
   -- it tells what its moves do
-  ran_told : (moves : List PlainMove) (new : World L V G H) (ran : HasRun (geometry_in w) (stream_bytes_in w) o k.found (take 512 k.log_front) k.front es k.now moves new)
+  pub ran_told : (moves : List PlainMove) (new : World L V G H) (ran : HasRun (geometry_in w) (stream_bytes_in w) o k.found (take 512 k.log_front) k.front es k.now moves new)
       → tellings_in ran.made ≡ told_in ws moves
   ran_told moves new ran =
       (have_told (geometry_in w) (stream_bytes_in w) o k.found es ws k.now k.under_way k.waited ran.plain ran.last ran.made ran.stored).told ∙ ap (told_in ws) ran.same
@@ -272,6 +283,13 @@ module _ {L V : Type 0} {G : Ghosts L} {H : Ghosts V} (w : World L V G H) (o : O
       is k.front k.disk s k.now.store k.at.is_in
       (up_safe (geometry_in w) (stream_bytes_in w) o k.found (take 512 k.log_front) k.front es w k.now as_up) k.at.over
       ∙ ap (scan_of store) (is_overlaid (stand_logged k.under_way.under_way.state.sessions.sound k.under_way.under_way.state.sessions.log))
+
+  pub dumps_standing : DumpsShow w (overlays (serial_after o es) (map (standing_for o es k.now.state.log) k.now.state.sessions.active))
+  dumps_standing store pairs is =
+      let s = k.now.state in
+      is k.front k.disk s k.now.store k.at.is_in
+      (up_safe (geometry_in w) (stream_bytes_in w) o k.found (take 512 k.log_front) k.front es w k.now as_up) k.at.over
+      ∙ ap (scan_of store) (standing_overlaid k.under_way.under_way.state.sessions.sound k.under_way.under_way.state.sessions.log)
 
   abbrev pub sessions_now : Sessions
   sessions_now = k.now.state.sessions

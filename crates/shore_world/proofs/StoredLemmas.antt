@@ -43,7 +43,7 @@ use Rattle.shore_world.specs.declared.world.World.{World}
 use Rattle.shore_world.specs.Crashes.{AreLeft, AreLeftBetween}
 use Rattle.shore_world.specs.Events.{IsOfCheckpoint, IsServedEvent}
 use Rattle.shore_world.specs.EventMoves.{OfCheckpoint, OfManager, PlainMove, failure_by, moves_among, moves_by}
-use Rattle.shore_world.specs.Managers.{NoForceIsFull}
+use Rattle.shore_world.specs.Legs.{NoForceIsFull}
 use Rattle.shore_world.specs.Promises.{IsStateOf}
 use Rattle.shore_locks.specs.Tables.{Table}
 use Rattle.shore_world.specs.Worlds.{Between, Comes, ComesByCheckpoint, EventStep, ForceRefused, HasFailedToRead, IsAt, IsLeftOfLog, IsLike, IsNextIn, LeavesAtAnyMoment, MayCheckpoint, OpenRefused, Runs, Steps, SurvivesCrashes, WorldComesTo, anchor_in, cut_in, geometry_in, list_in, stream_bytes_in}
@@ -284,7 +284,7 @@ module _ {L V : Type 0} {G : Ghosts L} {H : Ghosts V} (g : Geometry) (ring_bytes
     dumps = λ store pairs is. is front up.disk m.state m.store up.at.is_in (up_safe es w m up) up.at.over;
   }
 
-  run_on : (es : List Entry) (m : CheckpointedState) (moves later : List PlainMove) (mid new : World L V G H) (one : HasRun es m moves mid)
+  pub run_on : (es : List Entry) (m : CheckpointedState) (moves later : List PlainMove) (mid new : World L V G H) (one : HasRun es m moves mid)
       → HasRun (es ++ one.made) one.last later new → HasRun es m (moves ++ later) new
   run_on es m moves later mid new one two = record {
     plain = one.plain ++ two.plain;

@@ -45,7 +45,9 @@ use Rattle.shore_world.specs.declared.world.World.{World}
 use Rattle.shore_world.specs.Events.{IsServedEvent}
 use Rattle.shore_world.specs.Exchanges.{waited_behind}
 use Rattle.shore_world.specs.Promises.{FlushesIfAny, HasFailedStep, IsManagerOf, IsRefusedStep, OpensIfAny, StagesIfAny}
-use Rattle.shore_world.specs.Worlds.{EventStep, ForceRefused, HasForceRoom, IsIdle, IsUnchanged, OpenRefused, Steps, before_in, durable_in, failed_in, geometry_in, last_in, stream_bytes_in}
+use Rattle.shore_world.specs.Labels.{IsVolumeFront}
+use Rattle.shore_world.proofs.LabelLemmas.{log_front_stays}
+use Rattle.shore_world.specs.Worlds.{EventStep, ForceRefused, HasForceRoom, IsIdle, IsUnchanged, OpenRefused, Steps, before_in, durable_in, failed_in, geometry_in, history_in, last_in, stream_bytes_in}
 use Rattle.shore_world.proofs.ExchangeLemmas.{nothing_waits}
 use Rattle.shore_world.proofs.PromiseLemmas.{as_up, seen, stepped}
 use Rattle.shore_world.proofs.LogParts.{log_long}
@@ -249,11 +251,16 @@ module _ {L V : Type 0} {G : Ghosts L} {H : Ghosts V} (w : World L V G H) (o : O
             disk = k.disk;
             now = k.now;
             at = same.at k.log_front k.front k.disk k.now.state k.now.store k.at;
+            log_labelled = log_front_stays (geometry_in w) (geometry_in new) (size (history_in w)) (size (history_in new)) k.log_front k.log_front geometry
+                (ap (λ (d : L). size (G.history d)) same.device) refl k.log_labelled;
+            volume_labelled = subst (λ (g : Geometry). IsVolumeFront g k.front) (sym geometry) k.volume_labelled;
+            limit = k.limit ∙ ap (λ (g : Geometry). g.max_locks) (sym geometry);
             under_way = subst (λ (g : Geometry). IsAtCheckpoints g (stream_bytes_in new) o k.found es k.now) (sym geometry)
                 (subst (λ n. IsAtCheckpoints (geometry_in w) n o k.found es k.now) (sym long) k.under_way);
             waited = k.waited;
             there = k.there;
             firsts = k.firsts;
+            in_order = k.in_order;
           },
           refl,
         ),

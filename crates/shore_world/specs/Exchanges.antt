@@ -10,9 +10,12 @@ use Rattle.shore_model.specs.declared.step.Step.{Step}
 use Rattle.shore_model.specs.declared.step.Step.TheVariants.{Done, Waits, Refused, Nothing}
 use Rattle.laws_lives.specs.SessionSteps.{exchange}
 use Rattle.laws_lives.specs.Views.{IsAmong}
+use Rattle.laws_calls.specs.Events.{ManagerEvent}
+use Rattle.laws_calls.specs.Events as calls
 use Rattle.laws_calls.specs.States.{State, Waiting}
 use Rattle.shore_world.specs.declared.event.Event.{Event}
 use Rattle.shore_world.specs.declared.event.Event.TheVariants as event
+use Rattle.shore_world.specs.EventMoves.{OfCheckpoint, OfManager, PlainMove}
 
 -- a session was told of its call; or somebody was told of a ticket whether its commit is durable
 pub data Telling : Type 0 where
@@ -121,6 +124,39 @@ tellings_of ws (e ∷ es) (step ∷ steps) = told_by ws e step ++ tellings_of (w
 tellings_of ws [] [] = []
 tellings_of ws [] (step ∷ steps) = []
 tellings_of ws (e ∷ es) [] = []
+
+-- ---- of moves of the manager over plain data
+
+abbrev pub told_by_event : List (ℕ × Call) → ManagerEvent → List Telling
+told_by_event ws (calls.Called session c step) = told_of session c step
+told_by_event ws (calls.Resumed session step) = told_of_waiting session (last_waited session ws) step
+told_by_event ws (calls.Forced n) = []
+told_by_event ws calls.HasFailed = []
+told_by_event ws (calls.TicketAsked ticket answer) = OfTicket ticket answer ∷ []
+
+abbrev pub waited_behind_event : List (ℕ × Call) → ManagerEvent → List (ℕ × Call)
+waited_behind_event ws (calls.Called session c step) = waits_behind ws session c step
+waited_behind_event ws (calls.Resumed session step) = ws
+waited_behind_event ws (calls.Forced n) = ws
+waited_behind_event ws calls.HasFailed = ws
+waited_behind_event ws (calls.TicketAsked ticket answer) = ws
+
+-- a step of a checkpoint tells nobody
+abbrev pub told_by_move : List (ℕ × Call) → PlainMove → List Telling
+told_by_move ws (OfManager e) = told_by_event ws e
+told_by_move ws (OfCheckpoint step) = []
+
+abbrev pub waited_behind_move : List (ℕ × Call) → PlainMove → List (ℕ × Call)
+waited_behind_move ws (OfManager e) = waited_behind_event ws e
+waited_behind_move ws (OfCheckpoint step) = ws
+
+abbrev pub told_in : List (ℕ × Call) → List PlainMove → List Telling
+told_in ws [] = []
+told_in ws (e ∷ moves) = told_by_move ws e ++ told_in (waited_behind_move ws e) moves
+
+abbrev pub waited_in : List (ℕ × Call) → List PlainMove → List (ℕ × Call)
+waited_in ws [] = ws
+waited_in ws (e ∷ moves) = waited_in (waited_behind_move ws e) moves
 
 -- ---- of a state
 

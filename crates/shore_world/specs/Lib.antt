@@ -8,6 +8,8 @@ pub mod Opens
 pub mod Refusals
 pub mod InOrder
 pub mod Worlds
+pub mod Labels
+pub mod Legs
 pub mod Managers
 pub mod Lives
 pub mod Promises

@@ -14,13 +14,14 @@ use Rattle.laws_lives.specs.Soundness.{opening_with}
 use Rattle.laws_checkpoints.specs.Checkpoints.{Anchored, not_anchored}
 use Rattle.laws_runs.specs.CheckpointedStays.{AreCheckpointedStays, CheckpointedStay, StaysShow, logs_found, spans_of_stays}
 use Rattle.laws_runs.specs.StoredRuns.{AreFixed}
+use Rattle.laws_orders.specs.Lives.{AreInOrder}
 use Rattle.shore_world.specs.declared.world.World.{World}
 use Rattle.shore_world.specs.Managers.{AreRunsOf, Stay, runs_among}
 use Rattle.shore_world.specs.Worlds.{IsDumpOf}
 
 -- Since a format these stays have come to this opening, and to this log, which says it, and these pages, behind this anchor. `ring_bytes`: the length of the log's stream.
 pub record HaveLived {L V : Type 0} {G : Ghosts L} {H : Ghosts V} (g : Geometry) (ring_bytes : ℕ) (stays : List (Stay L V G H)) (o : Opening) (anchored : Anchored) (rs : List LogRecord) (pages : LoggedPages) : Type 0 where
-  -- each manager's run, with the calls and answers of its events
+  -- each manager's run, with the calls and answers of its legs
   pub over : List CheckpointedStay
   pub of : AreRunsOf stays (runs_among over)
   -- one on what the one before it left, behind the anchor that it left
@@ -29,6 +30,8 @@ pub record HaveLived {L V : Type 0} {G : Ghosts L} {H : Ghosts V} (g : Geometry)
   -- the next open finds the records that these leave, run alone in the order of their commits, and in doubt those that are prepared by them and not decided
   -- further. So does the last open, and the log tells it.
   pub life : IsLife (opening_with empty) (spans_of_stays [] over) o
+  -- .. and each run has one serial order, that of turns: with any of those in doubt at their prepares
+  pub in_order : AreInOrder (opening_with empty) (spans_of_stays [] over)
   pub opening : IsOpeningOf rs o
   -- each open on the way showed the records of the life so far, and the log that it found, what was cut off with it, is a prefix of every later one
   pub shown : StaysShow (opening_with empty) [] over

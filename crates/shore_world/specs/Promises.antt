@@ -1,7 +1,8 @@
 -- What stands behind a world that is a manager: the one hidden state that the promises speak of.
-use Rattle.std.specs.Prelude.{◌≡◌, ◌≢◌, ◌⊎◌, ◌+◌, ◌-◌, ◌<◌, ◌≤◌, ◌∷◌, ◌++◌, ℕ, List, [], IsTrue, None, Some, drop, false, map}
+use Rattle.std.specs.Prelude.{◌≡◌, ◌≢◌, ◌⊎◌, ◌+◌, ◌-◌, ◌<◌, ◌≤◌, ◌∷◌, ◌++◌, ℕ, List, [], IsTrue, None, Option, Some, drop, false, map}
 use Rattle.std.specs.List.{AllByRecursion}
 use Rattle.shore_types.specs.declared.faults.Fault.TheVariants.{Deadlock, Device, Failed, Memory}
+use Rattle.shore_disk.specs.Device.{size}
 use Rattle.shore_disk.specs.declared.device.Disk.{Ghosts}
 use Rattle.shore_check.specs.declared.stage.Stage.{Stage}
 use Rattle.shore_check.specs.declared.stage.Stage.TheVariants as stage
@@ -14,6 +15,7 @@ use Rattle.shore_model.specs.declared.histories.Decision.TheVariants.{Commit, Ro
 use Rattle.shore_model.specs.declared.histories.Entry.{Entry}
 use Rattle.shore_model.specs.declared.histories.Opening.{Opening}
 use Rattle.shore_model.specs.declared.log_records.LogRecord.{LogRecord}
+use Rattle.shore_model.specs.declared.rollbacks.Rollback.{Rollback}
 use Rattle.shore_model.specs.declared.step.Step.{Step}
 use Rattle.shore_model.specs.declared.step.Step.TheVariants.{Done, Nothing, Refused}
 use Rattle.shore_path.specs.Restoring.{NobodyWaits}
@@ -21,13 +23,16 @@ use Rattle.shore_flush.specs.Flushes.{Flushes, NoneDue}
 use Rattle.shore_heap.specs.Heaps.{pool_of}
 use Rattle.shore_core.specs.Cores.{heap_of}
 use Rattle.laws_lives.specs.Doubts.{AreRestored, IsOpeningOf}
-use Rattle.laws_lives.specs.Sessions.{in_txn, txns_of}
-use Rattle.laws_lives.specs.Soundness.{decided_txn, found_in_doubt}
+use Rattle.laws_lives.specs.Sessions.{SessionTxn, in_txn, txns_of}
+use Rattle.laws_lives.specs.Soundness.{decided_txn, found_in_doubt, history_from, written_by}
 use Rattle.laws_lives.specs.Views.{IsAmong}
 use Rattle.shore_model.specs.Histories.{decision_asked_by, decisions, free, in_doubt, session_state}
+use Rattle.shore_model.specs.Logs.{logged_writes}
+use Rattle.shore_model.specs.Records.{WriteSet}
 use Rattle.shore_model.specs.Requests.{held_by_all}
 use Rattle.laws_runs.specs.CheckpointSteps.{CheckpointedState}
 use Rattle.laws_runs.specs.CheckpointedStates.{IsAtCheckpoints}
+use Rattle.laws_orders.specs.InTurns.{IsInOrder}
 use Rattle.shore_world.specs.declared.event.Event.{Event}
 use Rattle.shore_world.specs.declared.event.Event.TheVariants as event
 use Rattle.shore_world.specs.declared.world.World.{World}
@@ -39,8 +44,10 @@ use Rattle.laws_calls.specs.Midway.{IsItsCycle}
 use Rattle.laws_calls.specs.SessionWaits.{AllBeginWithTheirs, AllWaitThere, HasTheFirst}
 use Rattle.laws_calls.specs.States.{State}
 use Rattle.laws_calls.specs.StoodCycles.{IsWithin}
+use Rattle.shore_world.specs.Labels.{IsLogFront, IsVolumeFront}
+use Rattle.shore_world.specs.Legs.{IsUpIn}
 use Rattle.shore_world.specs.Lives.{DumpsShow}
-use Rattle.shore_world.specs.Worlds.{HasForced, HasMoved, HasStaged, IsAt, IsIdle, IsLogOf, Runs, Steps, anchor_in, cut_in, durable_in, failed_in, geometry_in, last_in, list_in, requests_in, stream_bytes_in}
+use Rattle.shore_world.specs.Worlds.{HasForced, HasMoved, HasStaged, IsAt, IsIdle, IsLogOf, Runs, Steps, anchor_in, cut_in, durable_in, failed_in, geometry_in, history_in, last_in, list_in, requests_in, stream_bytes_in}
 
 -- The world is a manager that opened so, with these records and those in doubt, and since then has come to these entries of its history, and to these calls
 -- with which sessions began to wait, the newest first. What else is here a reader of the promises need not know: an open makes such a world, and each run of one another.
@@ -52,10 +59,20 @@ pub record IsManagerOf {L V : Type 0} {G : Ghosts L} {H : Ghosts V} (w : World L
   pub disk : ℕ → List ℕ
   pub now : CheckpointedState
   pub at : IsAt w log_front front disk now.state now.store
+  -- the labels at the fronts of both devices, and their limit of the lock table
+  pub log_labelled : IsLogFront (geometry_in w) (size (history_in w)) log_front
+  pub volume_labelled : IsVolumeFront (geometry_in w) front
+  pub limit : now.state.locks.limit ≡ (geometry_in w).max_locks
   pub under_way : IsAtCheckpoints (geometry_in w) (stream_bytes_in w) o found es now
   pub waited : AreLast ws now.state
   pub there : AllWaitThere now.state
   pub firsts : AllBeginWithTheirs now.state
+  -- one serial order of its transactions, that of their turns
+  pub in_order : IsInOrder (history_from o es)
+
+-- so it is at the state and the store of that manager, behind the labels of its devices
+abbrev pub as_up : {L V : Type 0} {G : Ghosts L} {H : Ghosts V} {w : World L V G H} {o : Opening} {es : List Entry} {ws : List (ℕ × Call)} (k : IsManagerOf w o es ws) → IsUpIn w o k.found es
+as_up k = record { log_front = k.log_front; front = k.front; disk = k.disk; last = k.now; at = k.at; log_labelled = k.log_labelled; volume_labelled = k.volume_labelled; under_way = k.under_way }
 
 -- the records that the log has gained from one world to a later one, of which this keeps all
 abbrev pub gained : {L V : Type 0} {G : Ghosts L} {H : Ghosts V} → World L V G H → World L V G H → List LogRecord
@@ -76,6 +93,14 @@ AreUnended o es ts = (t : ℕ) → IsAmong t ts →
     ((session : ℕ) × (session_state session free es ≡ in_txn t) × AllByRecursion (λ d. decided_txn d ≢ t) (decisions es))
     ⊎ ((global : List ℕ) × IsAmong (t, global) (in_doubt o.in_doubt (decisions es)))
     ⊎ (IsAmong (RollBack t) (decisions es) × (IsAmong (Commit t) (decisions es) → ⊥))
+
+-- What stands in place for a transaction under way: what it has written; or, while a rollback of it is under way, what it has logged last.
+abbrev pub standing_while : Option Rollback → WriteSet → WriteSet → WriteSet
+standing_while None written logged = written
+standing_while (Some rollback) written logged = logged
+
+abbrev pub standing_for : Opening → List Entry → List LogRecord → SessionTxn → WriteSet
+standing_for o es log a = standing_while a.undo.rolling (written_by o es a.txn) (logged_writes log a.txn)
 
 -- The call, with what it has come to, asks for this decision of the transaction: a commit for its Commit, and it is answered; a prepare and a resolve for theirs.
 abbrev pub IsAskedFor : ℕ → Call → Step → Decision → Type 0

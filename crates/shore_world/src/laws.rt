@@ -29,11 +29,12 @@ ghost use Rattle.laws_images.specs.StandsBehind.{StandsForBehind, anchored_by};
 ghost use Rattle.shore_core.specs.Cores.{IsSafe};
 ghost use Rattle.shore_world.specs.declared.event.Event.{Event};
 ghost use Rattle.shore_world.specs.declared.world.World.{World};
-ghost use Rattle.shore_world.specs.Crashes.{AreEnded, AreLeft};
+ghost use Rattle.shore_world.specs.Crashes.{AreEnded, AreLeft, IsEndedBetween};
 ghost use Rattle.shore_world.specs.Events.{IsServedEvent};
 ghost use Rattle.shore_world.specs.EventMoves.{PlainMove, moves_among};
 ghost use Rattle.shore_world.specs.Lives.{DumpsShow, HaveLived};
-ghost use Rattle.shore_world.specs.Managers.{AreFound, AreStays, IsManager, IsRunOf, Manager, NoForceIsFull, Stay};
+ghost use Rattle.shore_world.specs.Managers.{AreFound, AreLeftInThreads, AreStays, IsManager, IsRunOf, Manager, Stay, Threads};
+ghost use Rattle.shore_world.specs.Legs.{NoForceIsFullIn};
 ghost use Rattle.shore_world.specs.Opens.{AreEndedInOpen, HasOpened, LeftByOpen, OpensAlong};
 ghost use Rattle.shore_world.specs.Parts.{ArePartsFrom};
 ghost use Rattle.shore_world.specs.Promises.{HasInDoubt, IsManagerOf};
@@ -53,7 +54,7 @@ pub fn runs_are_stored_runs<L: Disk, V: Disk>()
         × IsAtCheckpoints (geometry_in old) (stream_bytes_in old) o found (es ++ made) last × (take 512 last_front ≡ take 512 log_front) }
 {}
 
-/// Format, and then any number of stays: managers, and opens that came to none. Each ends at any moment, in opens too: both devices lose power at once, or the
+/// Format, and then any number of stays: managers, managers whose sessions run in threads as they end, and opens that came to none. Each ends at any moment, in opens too: both devices lose power at once, or the
 /// process ends, or the devices are handed back; and then they are opened again. Among the events of a manager are the steps of checkpoints, which cut the log off below the tail that
 /// its anchor names. Whatever pair of images may be left in the end, it stands, behind the anchor that counts there, for a log, and for
 /// pages with whatever of undecided transactions was written back (`left`): so its open answers unless a device or an allocation fails. What that log
@@ -67,20 +68,29 @@ pub fn runs_are_stored_runs<L: Disk, V: Disk>()
 pub fn committed_work_survives_every_crash<L: Disk, V: Disk>()
     ensures left { (g : Geometry) (log_bytes volume_bytes : ℕ) (stays : List (Stay L V L.Disk V.Disk)) (log volume : DeviceHistory) (log_image volume_image : List ℕ) →
         AreStays log_bytes volume_bytes (AreFormatted g log_bytes volume_bytes) stays log volume → may_leave log log_image → may_leave volume volume_image →
-        (anchor : Anchor) × (rs : List LogRecord) × (pages : LoggedPages) × (o : Opening) × StandsForBehind g log_bytes volume_bytes anchor rs pages log_image volume_image
-        × HaveLived g (log_bytes - LOG_FRONT_BYTES) stays o (anchored_by anchor) rs pages }
+        ∥ ((anchor : Anchor) × (rs : List LogRecord) × (pages : LoggedPages) × (o : Opening) × StandsForBehind g log_bytes volume_bytes anchor rs pages log_image volume_image
+        × HaveLived g (log_bytes - LOG_FRONT_BYTES) stays o (anchored_by anchor) rs pages) ∥₁ }
     ensures shown { (g : Geometry) (log_bytes volume_bytes : ℕ) (stays : List (Stay L V L.Disk V.Disk)) (log volume : DeviceHistory) (w : World L V L.Disk V.Disk) →
         AreStays log_bytes volume_bytes (AreFormatted g log_bytes volume_bytes) stays log volume →
         ((anchor : Anchor) (rs : List LogRecord) (pages : LoggedPages) → StandsForBehind g (size log) (size volume) anchor rs pages (seen log) (seen volume) → HasOpened w g anchor log volume rs pages) →
-        (anchor : Anchor) × (rs : List LogRecord) × (pages : LoggedPages) × (o : Opening) × HaveLived g (log_bytes - LOG_FRONT_BYTES) stays o (anchored_by anchor) rs pages
+        ∥ ((anchor : Anchor) × (rs : List LogRecord) × (pages : LoggedPages) × (o : Opening) × HaveLived g (log_bytes - LOG_FRONT_BYTES) stays o (anchored_by anchor) rs pages
         × ((k : IsManagerOf w o [] []) × HasInDoubt w o rs k.now.state)
-        × DumpsShow w (records_told rs) × (records_told rs ≡ shown (history_from o []) []) × Harmony (held_by_all (requests_in w)) × WellRooted (held_by_all (requests_in w)) }
+        × DumpsShow w (records_told rs) × (records_told rs ≡ shown (history_from o []) []) × Harmony (held_by_all (requests_in w)) × WellRooted (held_by_all (requests_in w))) ∥₁ }
+{}
+
+/// A world that was opened is a manager that has made no entry, whatever its pair has been through: it need only stand for a log and pages. So the laws of `promises` speak of what is opened behind
+/// threads, too. It begins with what that log tells, dumps show it, and those in doubt by it are in doubt.
+pub fn opened_worlds_are_managers<L: Disk, V: Disk>()
+    ensures { (g : Geometry) (anchor : Anchor) (rs : List LogRecord) (pages : LoggedPages) (o : Opening) (log volume : DeviceHistory) (w : World L V L.Disk V.Disk) → IsOpeningOf rs o →
+        StandsForBehind g (size log) (size volume) anchor rs pages (seen log) (seen volume) → HasOpened w g anchor log volume rs pages →
+        ((k : IsManagerOf w o [] []) × HasInDoubt w o rs k.now.state) × DumpsShow w (records_told rs) × (records_told rs ≡ shown (history_from o []) [])
+        × Harmony (held_by_all (requests_in w)) × WellRooted (held_by_all (requests_in w)) }
 {}
 
 /// Each way to come from one open to the next is among those of `AreStays`. Behind a loss of power the devices hold one pair of images that was left, all of
 /// it stable: of a manager (`crash`), or of an open that it cut off (`cut`). With no loss of power a manager may hand its devices back (`closed`), and so does an
 /// open that is refused (`refused`); or the process ends, in the midst of an event, of a dump (`ended`) or of an open (`ended_in_open`): then writes that no sync
-/// has covered are still there, and one may be there in part.
+/// has covered are still there, and one may be there in part. So it is of a manager whose sessions run in threads (`lost_in_threads`, `ended_in_threads`), each device at a moment of its own calls.
 pub fn pairs_are_found_again<L: Disk, V: Disk>()
     ensures crash { (w : World L V L.Disk V.Disk) (log volume : DeviceHistory) (log_image volume_image : List ℕ) → AreLeft w log_image volume_image → Stands log log_image →
         Stands volume volume_image → AreFound (size log) (size volume) (AreLeft w) log volume }
@@ -95,14 +105,18 @@ pub fn pairs_are_found_again<L: Disk, V: Disk>()
         AreFound (size (history_in w)) (size (volume_history_in w)) (AreLeft w) log volume }
     ensures ended_in_open { (log volume log_now volume_now : DeviceHistory) → AreEndedInOpen log volume log_now volume_now →
         AreFound (size log_now) (size volume_now) (LeftByOpen log volume) log_now volume_now }
+    ensures lost_in_threads { (t : Threads L V L.Disk V.Disk) (log volume : DeviceHistory) (log_image volume_image : List ℕ) → AreLeftInThreads t log_image volume_image → Stands log log_image →
+        Stands volume volume_image → AreFound (size log) (size volume) (AreLeftInThreads t) log volume }
+    ensures ended_in_threads { (t : Threads L V L.Disk V.Disk) (log volume : DeviceHistory) → IsEndedBetween t.log_now t.log_later log → IsEndedBetween t.volume_now t.volume_later volume →
+        AreFound (size t.log_now) (size t.volume_now) (AreLeftInThreads t) log volume }
 {}
 
 /// A manager on a pair that stands for a log and pages is a stay of the power over plain data, and no force of it is refused by `LogFull`.
 pub fn runs_stay_in_bounds<L: Disk, V: Disk>()
     ensures { (g : Geometry) (o : Opening) (anchor : Anchor) (rs : List LogRecord) (pages : LoggedPages) (manager : Manager L V L.Disk V.Disk) →
         StandsForBehind g (size manager.log) (size manager.volume) anchor rs pages (seen manager.log) (seen manager.volume) → IsOpeningOf rs o → IsManager manager →
-        ((run : CheckpointedRun) × IsRunOf manager run × IsCheckpointedUp g (size manager.log - LOG_FRONT_BYTES) o (anchored_by anchor) rs pages run)
-        × NoForceIsFull manager.events manager.steps }
+        ∥ ((run : CheckpointedRun) × IsRunOf manager run × IsCheckpointedUp g (size manager.log - LOG_FRONT_BYTES) o (anchored_by anchor) rs pages run)
+        × NoForceIsFullIn manager.legs ∥₁ }
 {}
 
 /// The parts of a store make its dump. Two of one world that lie behind one another are one part (`join`), and that from the first page to the end of the store

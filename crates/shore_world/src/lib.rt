@@ -9,6 +9,7 @@ mod dump_parts;
 mod event;
 pub mod laws;
 mod opening;
+pub mod orders;
 mod parts;
 pub mod promises;
 mod world;

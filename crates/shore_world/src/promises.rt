@@ -18,6 +18,7 @@ ghost use Rattle.shore_model.specs.Locks.{Harmony, WellRooted};
 ghost use Rattle.shore_model.specs.Logs.{is_over, logged_writes, records_told};
 ghost use Rattle.shore_model.specs.Records.{overlays};
 ghost use Rattle.shore_model.specs.Requests.{HasNoCycle, held_by_all};
+ghost use Rattle.shore_model.specs.declared.calls.Answer.{Answer};
 ghost use Rattle.shore_model.specs.declared.calls.Answer.TheVariants.{Aborted, AreInDoubt, Committed, IsDurable, Moved};
 ghost use Rattle.shore_model.specs.declared.calls.Call.TheVariants.{Abort, Commit, InDoubt, Prepare, Resolve};
 ghost use Rattle.shore_model.specs.declared.calls.Call.{Call};
@@ -27,11 +28,13 @@ ghost use Rattle.shore_model.specs.declared.histories.Entry.{Entry};
 ghost use Rattle.shore_model.specs.declared.histories.Opening.{Opening};
 ghost use Rattle.shore_model.specs.declared.log_records.Payload.TheVariants as logged;
 ghost use Rattle.shore_model.specs.declared.rollbacks.Rollback.{Rollback};
+ghost use Rattle.shore_model.specs.declared.rollbacks.Rollback.TheVariants.{Whole};
 ghost use Rattle.shore_model.specs.declared.step.Step.TheVariants.{Done, Nothing, Refused, Waits};
 ghost use Rattle.shore_model.specs.declared.step.Step.{Step};
 ghost use Rattle.shore_model.specs.declared.step.Wait.TheVariants.{Durable, Lock};
 ghost use Rattle.shore_model.specs.declared.step.Wait.{Wait};
 ghost use Rattle.shore_locks.specs.Grants.{released};
+ghost use Rattle.laws_lives.specs.GranuleLocks.{HasLocksFor};
 ghost use Rattle.laws_lives.specs.LogPrefixes.{decisions_in};
 ghost use Rattle.laws_lives.specs.Logged.{and_record};
 ghost use Rattle.laws_lives.specs.SessionSteps.{AreExclusive};
@@ -39,10 +42,13 @@ ghost use Rattle.laws_lives.specs.Sessions.{SessionTxn, in_txn, txns_of};
 ghost use Rattle.laws_lives.specs.Soundness.{decided_txn, history_from, serial_after};
 ghost use Rattle.laws_lives.specs.Undo.{IsLoser};
 ghost use Rattle.laws_lives.specs.Views.{IsAmong};
-ghost use Rattle.laws_calls.specs.CallSteps.{CallStep};
+ghost use Rattle.laws_calls.specs.CallSteps.{CallStep, NeedsTxn};
 ghost use Rattle.laws_calls.specs.Causes.{EarnsRefusal};
 ghost use Rattle.laws_calls.specs.LockChanges.{ChangesLocks};
 ghost use Rattle.laws_calls.specs.Midway.{AsksAgainIn, AsksIn, HasItsWait, Interlude, Intervene, IsItsCycle, IsMidway, but_doomed, cycles_among, victims_among};
+ghost use Rattle.laws_calls.specs.Resolves.{DecidesRollback};
+ghost use Rattle.laws_calls.specs.Rollbacks.{Interrupts, IsInterrupted, IsUnwound};
+ghost use Rattle.laws_calls.specs.StateChanges.{after_refusal};
 ghost use Rattle.laws_calls.specs.Shapes.{EndsAtOnce, IsLackOfRoom, IsNoRefusal, ResolvesTxn, WaitsForItsRecord, rollback_of};
 ghost use Rattle.laws_calls.specs.States.{DoesNotWait, IsOfSession, State, Waiting};
 ghost use Rattle.laws_calls.specs.Victims.{TellsVictim};
@@ -57,7 +63,7 @@ ghost use Rattle.laws_runs.specs.CheckpointSteps.{CheckpointMoves};
 ghost use Rattle.shore_check.specs.declared.stage.Named.{Named};
 ghost use Rattle.shore_check.specs.declared.stage.Stage.TheVariants as stage;
 ghost use Rattle.shore_core.specs.Cores.{heap_of};
-ghost use Rattle.shore_world.specs.Promises.{AreUnended, ChecksIfAny, FlushesIfAny, GoesOnAs, HasFailedStep, HasStood, IsAskedFor, IsManagerOf, IsRefusedStep, IsSameButForLog, IsStateOf, IsToldByItsFirst, OpensIfAny, StagesIfAny, gained};
+ghost use Rattle.shore_world.specs.Promises.{AreUnended, ChecksIfAny, FlushesIfAny, GoesOnAs, HasFailedStep, HasStood, IsAskedFor, IsManagerOf, IsRefusedStep, IsSameButForLog, IsStateOf, IsToldByItsFirst, OpensIfAny, StagesIfAny, gained, standing_for};
 ghost use Rattle.laws_calls.specs.SessionWaits.{HasTheFirst, IsDecisionWait};
 ghost use Rattle.shore_world.specs.Worlds.{IsFullIn, IsRoomyIn, IsUnchanged, Runs, Steps, cut_in, durable_in, failed_in, geometry_in, last_in, list_in, requests_in};
 
@@ -128,12 +134,14 @@ pub fn the_log_tells_what_is_shown<L: Disk, V: Disk>()
         records_told k.now.state.log ≡ shown (history_from o es) (decisions es) }
 {}
 
-/// Records in place: a dump shows the serial records, overlaid with what each transaction under way has logged last at each id. That is what it has written,
-/// unless a rollback of it is under way. Each of these is undecided, in doubt, or one whose rollback a resolve has decided. Whoever is in a transaction by the
+/// Records in place: a dump shows the serial records, overlaid with what each transaction under way has logged last at each id. They are overlaid as well with what each has written by the history,
+/// as long as no rollback of it is under way (`standing`): so a way back that was answered leaves in place what its savepoint had. Each of these is undecided, in doubt, or one whose rollback a resolve has decided. Whoever is in a transaction by the
 /// history is in one of these, and all in doubt are among them. By the log none of these is over, and each loser is among them.
 pub fn records_are_in_place<L: Disk, V: Disk>()
     ensures shown { (w : World L V L.Disk V.Disk) (o : Opening) (es : List Entry) (ws : List (ℕ × Call)) → (k : IsManagerOf w o es ws) →
         DumpsShow w (overlays (serial_after o es) (map (logged_writes k.now.state.log) (txns_of k.now.state.sessions.active))) }
+    ensures standing { (w : World L V L.Disk V.Disk) (o : Opening) (es : List Entry) (ws : List (ℕ × Call)) → (k : IsManagerOf w o es ws) →
+        DumpsShow w (overlays (serial_after o es) (map (standing_for o es k.now.state.log) k.now.state.sessions.active)) }
     ensures unended { (w : World L V L.Disk V.Disk) (o : Opening) (es : List Entry) (ws : List (ℕ × Call)) → (k : IsManagerOf w o es ws) →
         AreUnended o es (txns_of k.now.state.sessions.active) }
     ensures all { (w : World L V L.Disk V.Disk) (o : Opening) (es : List Entry) (ws : List (ℕ × Call)) (session t : ℕ) → (k : IsManagerOf w o es ws) →
@@ -159,10 +167,25 @@ pub fn resolves_are_never_refused_for_room<L: Disk, V: Disk>()
         IsManagerOf w o es ws → Steps w (event.Call session (Resolve global asked)) (Refused f) new → IsLackOfRoom f → ⊥ }
 {}
 
+/// A rollback that is refused was refused before it began, and left all as it was; or it was interrupted, and has put back the newest of its images, or none, and logged them (`IsUnwound`). So it is of
+/// a resolve to abort, which has logged its decision before.
+pub fn interrupted_rollbacks_keep_their_steps<L: Disk, V: Disk>()
+    ensures call { (w new : World L V L.Disk V.Disk) (o : Opening) (es : List Entry) (ws : List (ℕ × Call)) (session : ℕ) (c : Call) (r : Rollback) (f : Fault) →
+        (k : IsManagerOf w o es ws) → IsServed c → NeedsTxn c → rollback_of c ≡ Some r → Steps w (event.Call session c) (Refused f) new →
+        (on : GoesOnAs new o es ws (event.Call session c) (Refused f)) × ((on.manager.now.state ≡ k.now.state)
+        ⊎ ((a : SessionTxn) × IsOfSession k.now.state session a
+        × ((mid : State) × IsUnwound k.now.state a r mid × Interrupts mid f × (on.manager.now.state ≡ after_refusal f mid)))) }
+    ensures resolve { (w new : World L V L.Disk V.Disk) (o : Opening) (es : List Entry) (ws : List (ℕ × Call)) (session : ℕ) (global : List ℕ) (asked : Outcome) (f : Fault) →
+        (k : IsManagerOf w o es ws) → IsServed (Resolve global asked) → Steps w (event.Call session (Resolve global asked)) (Refused f) new →
+        (on : GoesOnAs new o es ws (event.Call session (Resolve global asked)) (Refused f)) × ((on.manager.now.state ≡ k.now.state)
+        ⊎ ((b : SessionTxn) × (decided : State) × DecidesRollback k.now.state global b decided × IsInterrupted decided b Whole f on.manager.now.state)) }
+{}
+
 /// Refusals are earned: `EarnsRefusal` says for each fault what its cause is, in the state in which the call asked last (`AsksIn`, `AsksAgainIn`), from which one
 /// step leads to what is left (`CallStep`): so it is the first cause in the order of a call. That is the state before the event, or one that victims have
 /// left in the midst of it. A `Deadlock` is told with a cycle of waits that stood within this very event, or was to be told before. `Memory` has its
-/// cause outside; of `Device`, `Damaged` and `NeedForce` the clauses `cause`, `damaged` and `unforced` of `World::step` say more.
+/// cause outside; of `Device`, `Damaged` and `NeedForce` the clauses `cause`, `damaged` and `unforced` of `World::step` say more. The limit of the lock table that `LockTableFull` comes at is the
+/// label's (`full`, of a call).
 pub fn refusals_are_earned<L: Disk, V: Disk>()
     ensures call { (w new : World L V L.Disk V.Disk) (o : Opening) (es : List Entry) (ws : List (ℕ × Call)) (session : ℕ) (c : Call) (f : Fault) →
         (k : IsManagerOf w o es ws) → IsServed c → Steps w (event.Call session c) (Refused f) new → ((cycle : List ℕ) → f ≢ fault.Deadlock cycle) → f ≢ fault.Memory →
@@ -184,6 +207,8 @@ pub fn refusals_are_earned<L: Disk, V: Disk>()
         × (((waited : Waiting) × IsAmong waited k.now.state.waiting × (waited.session ≡ session) × (waited.cycle ≡ Some cycle))
         ⊎ ((between : List Interlude) × (mid : State) × Intervene (geometry_in w) session k.now.state between mid × IsItsCycle mid session cycle × ((later : List Interlude)
         × (from : State) × Intervene (geometry_in w) session mid later from × TellsVictim from session (Refused (fault.Deadlock cycle)) on.manager.now.state))) }
+    ensures full { (w : World L V L.Disk V.Disk) (o : Opening) (es : List Entry) (ws : List (ℕ × Call)) (session : ℕ) (c : Call) (last : State) →
+        (k : IsManagerOf w o es ws) → AsksIn (geometry_in w) k.now.state session c last → last.locks.limit ≡ (geometry_in w).max_locks }
 {}
 
 /// A cycle that is told stood: of a run from a manager in which no call waits, as one is that was just opened, each resume that is refused with a cycle is told one
@@ -264,7 +289,7 @@ pub fn readers_are_not_kept_alone<L: Disk, V: Disk>()
 {}
 
 /// Locks only as asked: by a call the requests stay; or a commit or an abort is answered, or a resolve decided and carried out, and all of its transaction's go; or they
-/// change as the call asks, whatever victims were taken on the way (`ChangesLocks`). So it is by a resume, for the call that waited.
+/// change as the call asks, whatever victims were taken on the way (`ChangesLocks`). So it is by a resume, for the call that waited. No other event changes them (`others`).
 pub fn locks_change_only_as_asked<L: Disk, V: Disk>()
     ensures call { (w new : World L V L.Disk V.Disk) (o : Opening) (es : List Entry) (ws : List (ℕ × Call)) (session : ℕ) (c : Call) (step : Step) →
         (k : IsManagerOf w o es ws) → IsServed c → Steps w (event.Call session c) step new → (requests_in new ≡ requests_in w)
@@ -278,6 +303,18 @@ pub fn locks_change_only_as_asked<L: Disk, V: Disk>()
         ⊎ ((waited : Waiting) × IsAmong waited k.now.state.waiting × (waited.session ≡ session) × ((a : SessionTxn) × IsOfSession k.now.state session a
         × ((between : List Interlude) × ((mid : State) × Intervene (geometry_in w) session k.now.state between mid)
         × ChangesLocks (requests_in w) a.txn waited.call (cycles_among between) (requests_in new)))) }
+    ensures others { (w new : World L V L.Disk V.Disk) (o : Opening) (es : List Entry) (ws : List (ℕ × Call)) (e : Event) (step : Step) → IsManagerOf w o es ws → IsServedEvent e →
+        ((session : ℕ) (c : Call) → e ≢ event.Call session c) → ((session : ℕ) → e ≢ event.Resume session) → Steps w e step new → requests_in new ≡ requests_in w }
+{}
+
+/// An answered call has its locks: its transaction holds then what the answer needs, by a lock of its own or by one above that covers it (`HasLocksFor`). So it is of a resume, for the call that waited.
+pub fn answered_calls_have_locks<L: Disk, V: Disk>()
+    ensures call { (w new : World L V L.Disk V.Disk) (o : Opening) (es : List Entry) (ws : List (ℕ × Call)) (session : ℕ) (c : Call) (answer : Answer) (a : SessionTxn) →
+        (k : IsManagerOf w o es ws) → IsServed c → Steps w (event.Call session c) (Done answer) new → IsOfSession k.now.state session a →
+        HasLocksFor (held_by_all (requests_in new)) a.txn c answer }
+    ensures resume { (w new : World L V L.Disk V.Disk) (o : Opening) (es : List Entry) (ws : List (ℕ × Call)) (session : ℕ) (answer : Answer) →
+        (k : IsManagerOf w o es ws) → Steps w (event.Resume session) (Done answer) new → (waited : Waiting) × IsAmong waited k.now.state.waiting × (waited.session ≡ session)
+        × ((a : SessionTxn) → IsOfSession k.now.state session a → HasLocksFor (held_by_all (requests_in new)) a.txn waited.call answer) }
 {}
 
 /// Locks go with decisions: a resolve that is not refused leaves no request of the transaction that it resolves, nor does the answer of a commit or of an abort leave

@@ -3,7 +3,8 @@ use Rattle.shore_disk.proofs.Moments.{at_end}
 use Rattle.shore_disk.specs.Device.{DeviceHistory, may_leave}
 use Rattle.shore_world.specs.Crashes.{AreLeft}
 use Rattle.shore_world.specs.Opens.{LeftByOpen}
-use Rattle.shore_world.proofs.EndedLemmas.{ended_found, ended_in_open, lost_at_last}
+use Rattle.shore_world.proofs.EndedLemmas.{ended_found, ended_in_open, ended_left, ended_long, lost_at_last}
+use Rattle.shore_world.specs.Managers.{AreLeftInThreads}
 use Rattle.shore_world.proofs.laws.pairs_are_found_again.Goals as goal
 
 pub returns-clause-crash : goal.returns-clause-crash
@@ -40,3 +41,16 @@ returns-clause-ended c d w log volume ended = ended_found w log volume ended
 
 pub returns-clause-ended_in_open : goal.returns-clause-ended_in_open
 returns-clause-ended_in_open c d log volume log_now volume_now ended = record { lengths = (refl, refl); among = ended_in_open log volume log_now volume_now ended }
+
+pub returns-clause-lost_in_threads : goal.returns-clause-lost_in_threads
+returns-clause-lost_in_threads c d t log volume log_image volume_image there log_stands volume_stands = record {
+  lengths = (refl, refl);
+  among = λ i j may_log may_volume.
+      subst (λ (x : List ℕ). AreLeftInThreads t x j) (sym (log_stands.only i may_log)) (subst (AreLeftInThreads t log_image) (sym (volume_stands.only j may_volume)) there);
+}
+
+pub returns-clause-ended_in_threads : goal.returns-clause-ended_in_threads
+returns-clause-ended_in_threads c d t log volume log_ended volume_ended = record {
+  lengths = (ended_long t.log_now t.log_later log log_ended, ended_long t.volume_now t.volume_later volume volume_ended);
+  among = λ i j may_log may_volume. (ended_left t.log_now t.log_later log log_ended i may_log, ended_left t.volume_now t.volume_later volume volume_ended j may_volume);
+}

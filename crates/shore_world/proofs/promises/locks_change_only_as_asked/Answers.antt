@@ -14,6 +14,7 @@ use Rattle.laws_calls.proofs.SettledLocks.{settled_call_locks, settled_resume_lo
 use Rattle.shore_world.specs.declared.event.Event.TheVariants as event
 use Rattle.shore_world.specs.Exchanges.{waited_behind}
 use Rattle.shore_world.specs.Worlds.{geometry_in, requests_in}
+use Rattle.shore_world.proofs.LockLemmas.{other_events_keep}
 use Rattle.shore_world.proofs.PromiseLemmas.{after, seen, stepped}
 use Rattle.shore_world.proofs.promises.locks_change_only_as_asked.Goals as goal
 
@@ -47,3 +48,6 @@ returns-clause-resume d f w new o es ws session step k one =
     let P = ByResume (geometry_in w) k.now.state session step in
     subst (λ (rs : List Request). P rs (requests_in new)) (seen w o es ws k).requests (subst (P k.now.state.locks.requests) later.requests
     (settled_resume_locks (geometry_in w) o k.found es k.now.state (after w o es ws k) session (k.there session) step went.on.manager.now.state went.moves))
+
+pub returns-clause-others : goal.returns-clause-others
+returns-clause-others c d w new o es ws e step k served no_call no_resume one = other_events_keep w o es ws k new e step served no_call no_resume one

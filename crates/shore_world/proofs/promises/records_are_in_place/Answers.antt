@@ -1,4 +1,4 @@
-use Rattle.shore_world.proofs.PromiseLemmas.{doubts_under_way, dumps, each_there, each_unended, losers_under_way, under_way_not_over}
+use Rattle.shore_world.proofs.PromiseLemmas.{doubts_under_way, dumps, dumps_standing, each_there, each_unended, losers_under_way, under_way_not_over}
 use Rattle.shore_world.proofs.promises.records_are_in_place.Goals as goal
 
 pub returns-clause-shown : goal.returns-clause-shown
@@ -18,3 +18,6 @@ returns-clause-not_over c d w o es ws t k there = under_way_not_over w o es ws k
 
 pub returns-clause-losers : goal.returns-clause-losers
 returns-clause-losers c d w o es ws t k loser = losers_under_way w o es ws k t loser
+
+pub returns-clause-standing : goal.returns-clause-standing
+returns-clause-standing c d w o es ws k = dumps_standing w o es ws k
