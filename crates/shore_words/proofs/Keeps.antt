@@ -5,10 +5,11 @@ use mathlib.Core.Logic.{dite}
 use native.Mathlib.Decide.{ℕ_discrete}
 use Rattle.std.proofs.lemmas.Bool.Decides.{nat_tests}
 use lib.ListN.{get_elem?}
-use Rattle.atomic_table.specs.Table.{Me, Allows, Splits, Joins, keeps, step}
+use Rattle.atomic_table.specs.Table.{Me, State, Allows, Splits, Joins, keeps, step}
 use Rattle.atomic_table.proofs.Lists.{at_set, at_snoc, set_else, at_longer}
+use Rattle.shore_words.specs.declared.rule.Known.{Known}
 use Rattle.shore_words.specs.declared.rule.View.{View}
-use Rattle.shore_words.specs.Words.{keeper, looker, teller, Knows, HasAsked, IsTold, Tells, Looks, Asks, Stops, LooksForCheckpoint, LooksForTail, MovesCheckpoint, MovesTail}
+use Rattle.shore_words.specs.Words.{keeper, known, looker, no_anchor, teller, with_anchor, Knows, HasAsked, IsTold, Tells, Looks, Asks, Stops, Compares, MovesCheckpoint, MovesTail, AimsCheckpoint, AimsTail}
 
 abbrev All : (ℕ → View → Type 0) → List View → Type 0
 All F views = (seat : ℕ) (v : View) → get_elem? views seat ≡ some v → F seat v
@@ -44,14 +45,15 @@ is_one : (n : ℕ) → (n == 1) ≡ true → n ≡ 1
 is_one n p = grind (arith, nat_tests)
 
 -- who looks knows what it has seen
-looks_so : (number stop : ℕ) (anchor : ℕ × ℕ) (tells_at keeps_at seat seen : ℕ) → seen ≤ number → Knows number stop anchor tells_at keeps_at seat (looker seen)
+looks_so : (number stop : ℕ) (anchor : Known) (tells_at keeps_at seat seen : ℕ) → seen ≤ number → Knows number stop anchor tells_at keeps_at seat (looker seen)
 looks_so number stop anchor tells_at keeps_at seat seen most = record { seen = most; tells = λ p. off p; keeps = λ p. off p; asked = λ p. off p; stopped = λ p. off p }
 
-pub opens : (number stop checkpoint tail : ℕ) → stop ≡ 0 → IsTold record { words = number ∷ stop ∷ tail ∷ checkpoint ∷ []; homes = []; views = teller number (checkpoint, tail) ∷ [] }
+pub opens : (number stop checkpoint tail : ℕ) → stop ≡ 0 → IsTold record { words = number ∷ stop ∷ tail ∷ checkpoint ∷ []; homes = []; views = teller number (known checkpoint tail) ∷ [] }
 opens number stop checkpoint tail none = record {
   number = number;
   stop = stop;
-  anchor = (checkpoint, tail);
+  anchor = known checkpoint tail;
+  moved = (checkpoint, tail);
   tells_at = 0;
   keeps_at = 0;
   words = refl;
@@ -60,11 +62,11 @@ opens number stop checkpoint tail none = record {
   each = one;
 }
   where
-    first : Knows number stop (checkpoint, tail) 0 0 0 (teller number (checkpoint, tail))
+    first : Knows number stop (known checkpoint tail) 0 0 0 (teller number (known checkpoint tail))
     first = record { seen = omega arith; tells = λ _. (refl, refl, refl); keeps = λ _. (refl, refl); asked = λ p. off p; stopped = λ p. off p }
 
-    one : (seat : ℕ) (v : View) → get_elem? (teller number (checkpoint, tail) ∷ []) seat ≡ some v → Knows number stop (checkpoint, tail) 0 0 seat v
-    one zero v e = subst (Knows number stop (checkpoint, tail) 0 0 0) (some-injective _ _ e) first
+    one : (seat : ℕ) (v : View) → get_elem? (teller number (known checkpoint tail) ∷ []) seat ≡ some v → Knows number stop (known checkpoint tail) 0 0 seat v
+    one zero v e = subst (Knows number stop (known checkpoint tail) 0 0 0) (some-injective _ _ e) first
     one (suc seat) v e = absurd (some-ne-none v (sym e))
 
 -- a store by the seat that tells
@@ -91,6 +93,7 @@ tells slots seat me number x may higher s h homes at fits =
         number = number;
         stop = h.stop;
         anchor = h.anchor;
+        moved = h.moved;
         tells_at = h.tells_at;
         keeps_at = h.keeps_at;
         words = ap (λ (words : List ℕ). slice_set words 0 number) h.words;
@@ -116,6 +119,7 @@ looks slots seat me x s h homes at fits =
         number = h.number;
         stop = h.stop;
         anchor = h.anchor;
+        moved = h.moved;
         tells_at = h.tells_at;
         keeps_at = h.keeps_at;
         words = λ i. slice_set (h.words i) 0 (found i);
@@ -147,6 +151,7 @@ asks slots seat me set x one s h homes at fits =
         number = h.number;
         stop = set;
         anchor = h.anchor;
+        moved = h.moved;
         tells_at = h.tells_at;
         keeps_at = h.keeps_at;
         words = ap (λ (words : List ℕ). slice_set words 1 set) h.words;
@@ -172,6 +177,7 @@ stops slots seat me x s h homes at fits =
         number = h.number;
         stop = h.stop;
         anchor = h.anchor;
+        moved = h.moved;
         tells_at = h.tells_at;
         keeps_at = h.keeps_at;
         words = λ i. slice_set (h.words i) 1 (found i);
@@ -182,11 +188,11 @@ stops slots seat me x s h homes at fits =
       (refl, (λ p. found ∙ mine.asked p), (λ p. found ∙ mine.stopped p)),
     )
 
--- the tail is read
-pub looks_for_tail : (slots seat : ℕ) (me : Me ℕ View) (x : _) → Allows IsTold slots seat me 2 (λ n. n) (LooksForTail (step slots 2 0 0 x) me)
-looks_for_tail slots seat me x s h homes at fits =
+-- the two anchors are compared
+pub compares : (slots seat : ℕ) (me : Me ℕ View) (x : _) → Allows IsTold slots seat me 2 (λ n. n) (Compares (step slots 2 0 0 x) me)
+compares slots seat me x s h homes at fits =
     let mine = h.each seat me.0 at in
-    let found : slice_index s.words 2 ≡ h.anchor.1 = ap (λ (words : List ℕ). slice_index words 2) h.words in
+    let found : slice_index s.words 2 ≡ h.moved.1 = ap (λ (words : List ℕ). slice_index words 2) h.words in
     let F = Knows h.number h.stop h.anchor h.tells_at h.keeps_at in (
       me.0,
       keeps,
@@ -195,6 +201,7 @@ looks_for_tail slots seat me x s h homes at fits =
         number = h.number;
         stop = h.stop;
         anchor = h.anchor;
+        moved = h.moved;
         tells_at = h.tells_at;
         keeps_at = h.keeps_at;
         words = λ i. slice_set (h.words i) 2 (found i);
@@ -202,101 +209,64 @@ looks_for_tail slots seat me x s h homes at fits =
         by = λ p. asked_set s.views seat me.0 me.0 at (λ q. q) (h.by p);
         each = all_set F s.views seat me.0 mine (λ j u other e. h.each j u e);
       },
-      (refl, (λ p. found ∙ sym (ap (λ (a : ℕ × ℕ). a.1) (mine.tells p).2)), (λ p. found ∙ sym (ap (λ (a : ℕ × ℕ). a.1) (mine.keeps p).1))),
+      (refl, (λ p q. (mine.keeps q).1 ∙ sym (mine.tells p).2)),
     )
 
--- the checkpoint is read
-pub looks_for_checkpoint : (slots seat : ℕ) (me : Me ℕ View) (x : _) → Allows IsTold slots seat me 3 (λ n. n) (LooksForCheckpoint (step slots 3 0 0 x) me)
-looks_for_checkpoint slots seat me x s h homes at fits =
-    let mine = h.each seat me.0 at in
-    let found : slice_index s.words 3 ≡ h.anchor.0 = ap (λ (words : List ℕ). slice_index words 3) h.words in
-    let F = Knows h.number h.stop h.anchor h.tells_at h.keeps_at in (
-      me.0,
-      keeps,
-      tt,
-      record {
-        number = h.number;
-        stop = h.stop;
-        anchor = h.anchor;
-        tells_at = h.tells_at;
-        keeps_at = h.keeps_at;
-        words = λ i. slice_set (h.words i) 3 (found i);
-        bit = h.bit;
-        by = λ p. asked_set s.views seat me.0 me.0 at (λ q. q) (h.by p);
-        each = all_set F s.views seat me.0 mine (λ j u other e. h.each j u e);
-      },
-      (refl, (λ p. found ∙ sym (ap (λ (a : ℕ × ℕ). a.0) (mine.tells p).2)), (λ p. found ∙ sym (ap (λ (a : ℕ × ℕ). a.0) (mine.keeps p).1))),
-    )
+-- a seat that tells and keeps knows another anchor, and so do all
+moved_to : (s : State ℕ View) (h : IsTold s) (seat : ℕ) (v : View) → get_elem? s.views seat ≡ some v → v.tells ≡ true → v.keeps ≡ true → (to : Known) (moved : ℕ × ℕ) (words : List ℕ)
+    → words ≡ h.number ∷ h.stop ∷ moved.1 ∷ moved.0 ∷ [] → IsTold record { words = words; homes = s.homes; views = slice_set s.views seat (with_anchor v to) }
+moved_to s h seat v at tells keeps_it to moved words are =
+    let mine = h.each seat v at in
+    let own = mine.tells tells in
+    let keep = mine.keeps keeps_it in
+    let F = Knows h.number h.stop to h.tells_at h.keeps_at in
+    let now : F seat (with_anchor v to) = record { seen = mine.seen; tells = λ _. (own.0, own.1, refl); keeps = λ _. (keep.0, refl); asked = mine.asked; stopped = mine.stopped } in
+    let others : (j : ℕ) (u : View) → j ≢ seat → get_elem? s.views j ≡ some u → F j u = λ j u other e. let k = h.each j u e in record {
+      seen = k.seen;
+      tells = λ p. absurd (other ((k.tells p).0 ∙ sym own.0));
+      keeps = λ p. absurd (other ((k.keeps p).0 ∙ sym keep.0));
+      asked = k.asked;
+      stopped = k.stopped;
+    } in record {
+      number = h.number;
+      stop = h.stop;
+      anchor = to;
+      moved = moved;
+      tells_at = h.tells_at;
+      keeps_at = h.keeps_at;
+      words = are;
+      bit = h.bit;
+      by = λ p. asked_set s.views seat v (with_anchor v to) at (λ q. q) (h.by p);
+      each = all_set F s.views seat (with_anchor v to) now others;
+    }
 
--- the tail is moved by a seat that tells and keeps
+-- the tail is moved
 pub moves_tail : (slots seat : ℕ) (me : Me ℕ View) (tail : ℕ) (x : _) → me.0.tells ≡ true → me.0.keeps ≡ true
     → Allows IsTold slots seat me 2 (λ _. tail) (λ _. MovesTail (step slots 2 tail 0 x) me tail)
 moves_tail slots seat me tail x tells keeps_it s h homes at fits =
-    let mine = h.each seat me.0 at in
-    let own = mine.tells tells in
-    let keep = mine.keeps keeps_it in
-    let F = Knows h.number h.stop (h.anchor.0, tail) h.tells_at h.keeps_at in
-    let w : View = record me.0 { tells = true; anchor = (me.0.anchor.0, tail); keeps = true; kept = (me.0.anchor.0, tail) } in
-    let same : (me.0.anchor.0, tail) ≡ (h.anchor.0, tail) = ap (λ (a : ℕ × ℕ). (a.0, tail)) own.2 in
-    let now : F seat w = record { seen = mine.seen; tells = λ _. (own.0, own.1, same); keeps = λ _. (keep.0, same); asked = mine.asked; stopped = mine.stopped } in
-    let others : (j : ℕ) (u : View) → j ≢ seat → get_elem? s.views j ≡ some u → F j u = λ j u other e. let k = h.each j u e in record {
-      seen = k.seen;
-      tells = λ p. absurd (other ((k.tells p).0 ∙ sym own.0));
-      keeps = λ p. absurd (other ((k.keeps p).0 ∙ sym keep.0));
-      asked = k.asked;
-      stopped = k.stopped;
-    } in (
-      w,
-      keeps,
-      tt,
-      record {
-        number = h.number;
-        stop = h.stop;
-        anchor = (h.anchor.0, tail);
-        tells_at = h.tells_at;
-        keeps_at = h.keeps_at;
-        words = ap (λ (words : List ℕ). slice_set words 2 tail) h.words;
-        bit = h.bit;
-        by = λ p. asked_set s.views seat me.0 w at (λ q. q) (h.by p);
-        each = all_set F s.views seat w now others;
-      },
-      refl,
-    )
+    let to : Known = record me.0.anchor { tail = tail } in
+    (with_anchor me.0 to, keeps, tt, moved_to s h seat me.0 at tells keeps_it to (h.moved.0, tail) (slice_set s.words 2 tail) (ap (λ (words : List ℕ). slice_set words 2 tail) h.words), refl)
 
--- the checkpoint is moved by a seat that tells and keeps
+-- the checkpoint is moved
 pub moves_checkpoint : (slots seat : ℕ) (me : Me ℕ View) (checkpoint : ℕ) (x : _) → me.0.tells ≡ true → me.0.keeps ≡ true
     → Allows IsTold slots seat me 3 (λ _. checkpoint) (λ _. MovesCheckpoint (step slots 3 checkpoint 0 x) me checkpoint)
 moves_checkpoint slots seat me checkpoint x tells keeps_it s h homes at fits =
-    let mine = h.each seat me.0 at in
-    let own = mine.tells tells in
-    let keep = mine.keeps keeps_it in
-    let F = Knows h.number h.stop (checkpoint, h.anchor.1) h.tells_at h.keeps_at in
-    let w : View = record me.0 { tells = true; anchor = (checkpoint, me.0.anchor.1); keeps = true; kept = (checkpoint, me.0.anchor.1) } in
-    let same : (checkpoint, me.0.anchor.1) ≡ (checkpoint, h.anchor.1) = ap (λ (a : ℕ × ℕ). (checkpoint, a.1)) own.2 in
-    let now : F seat w = record { seen = mine.seen; tells = λ _. (own.0, own.1, same); keeps = λ _. (keep.0, same); asked = mine.asked; stopped = mine.stopped } in
-    let others : (j : ℕ) (u : View) → j ≢ seat → get_elem? s.views j ≡ some u → F j u = λ j u other e. let k = h.each j u e in record {
-      seen = k.seen;
-      tells = λ p. absurd (other ((k.tells p).0 ∙ sym own.0));
-      keeps = λ p. absurd (other ((k.keeps p).0 ∙ sym keep.0));
-      asked = k.asked;
-      stopped = k.stopped;
-    } in (
-      w,
-      keeps,
-      tt,
-      record {
-        number = h.number;
-        stop = h.stop;
-        anchor = (checkpoint, h.anchor.1);
-        tells_at = h.tells_at;
-        keeps_at = h.keeps_at;
-        words = ap (λ (words : List ℕ). slice_set words 3 checkpoint) h.words;
-        bit = h.bit;
-        by = λ p. asked_set s.views seat me.0 w at (λ q. q) (h.by p);
-        each = all_set F s.views seat w now others;
-      },
-      refl,
-    )
+    let to : Known = record me.0.anchor { checkpoint = checkpoint } in
+    (with_anchor me.0 to, keeps, tt, moved_to s h seat me.0 at tells keeps_it to (checkpoint, h.moved.1) (slice_set s.words 3 checkpoint) (ap (λ (words : List ℕ). slice_set words 3 checkpoint) h.words), refl)
+
+-- the tail of a move that has failed
+pub aims_tail : (slots seat : ℕ) (me : Me ℕ View) (tail : ℕ) (x : _) → me.0.tells ≡ true → me.0.keeps ≡ true
+    → Allows IsTold slots seat me 2 (λ _. tail) (λ _. AimsTail (step slots 2 tail 0 x) me tail)
+aims_tail slots seat me tail x tells keeps_it s h homes at fits =
+    let to : Known = record me.0.anchor { aim = (me.0.anchor.aim.0, tail) } in
+    (with_anchor me.0 to, keeps, tt, moved_to s h seat me.0 at tells keeps_it to (h.moved.0, tail) (slice_set s.words 2 tail) (ap (λ (words : List ℕ). slice_set words 2 tail) h.words), refl)
+
+-- .. and its checkpoint
+pub aims_checkpoint : (slots seat : ℕ) (me : Me ℕ View) (checkpoint : ℕ) (x : _) → me.0.tells ≡ true → me.0.keeps ≡ true
+    → Allows IsTold slots seat me 3 (λ _. checkpoint) (λ _. AimsCheckpoint (step slots 3 checkpoint 0 x) me checkpoint)
+aims_checkpoint slots seat me checkpoint x tells keeps_it s h homes at fits =
+    let to : Known = record me.0.anchor { aim = (checkpoint, me.0.anchor.aim.1) } in
+    (with_anchor me.0 to, keeps, tt, moved_to s h seat me.0 at tells keeps_it to (checkpoint, h.moved.1) (slice_set s.words 3 checkpoint) (ap (λ (words : List ℕ). slice_set words 3 checkpoint) h.words), refl)
 
 -- a new seat that looks
 pub splits : (seat : ℕ) (v : View) → Splits IsTold seat v v (looker v.seen)
@@ -307,6 +277,7 @@ splits seat v s h at =
       number = h.number;
       stop = h.stop;
       anchor = h.anchor;
+      moved = h.moved;
       tells_at = h.tells_at;
       keeps_at = h.keeps_at;
       words = h.words;
@@ -322,9 +293,9 @@ at_end (x ∷ xs) a b zero n e = absurd (n e)
 at_end (x ∷ xs) a b (suc j) n e = ap suc (at_end xs a b j n e)
 
 -- the right to keep goes to a new seat
-pub hands_on : (seat : ℕ) (v : View) → v.keeps ≡ true → Splits IsTold seat v (record v { keeps = false; kept = (0, 0) }) (keeper v.seen v.kept)
+pub hands_on : (seat : ℕ) (v : View) → v.keeps ≡ true → Splits IsTold seat v (record v { keeps = false; kept = no_anchor }) (keeper v.seen v.kept)
 hands_on seat v may s h at =
-    let left : View = record v { keeps = false; kept = (0, 0) } in
+    let left : View = record v { keeps = false; kept = no_anchor } in
     let right : View = keeper v.seen v.kept in
     let mine = h.each seat v at in
     let own = mine.keeps may in
@@ -340,6 +311,7 @@ hands_on seat v may s h at =
       number = h.number;
       stop = h.stop;
       anchor = h.anchor;
+      moved = h.moved;
       tells_at = h.tells_at;
       keeps_at = length vs;
       words = h.words;
@@ -369,6 +341,7 @@ claims seat v other w never s h at apart at' =
       number = h.number;
       stop = h.stop;
       anchor = h.anchor;
+      moved = h.moved;
       tells_at = h.tells_at;
       keeps_at = h.keeps_at;
       words = h.words;
@@ -393,6 +366,7 @@ takes_anchor seat v other w may never s h at apart at' =
       number = h.number;
       stop = h.stop;
       anchor = h.anchor;
+      moved = h.moved;
       tells_at = h.tells_at;
       keeps_at = seat;
       words = h.words;

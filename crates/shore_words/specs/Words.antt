@@ -1,31 +1,40 @@
 -- The durable word, the stop word, and the anchor's two words: what is seen was told, who asked for the stop or found it knows that it is asked for, and the two seats that
--- know the anchor know one.
+-- know the anchor know one, and of one move of it that has failed.
 use Rattle.std.specs.Prelude.{◌≡◌, ℕ, ◌≤◌, ◌<◌, ◌==◌, true, false, List, [], ◌∷◌}
 use mathlib.Core.Option.{some}
 use lib.ListN.{get_elem?}
 use Rattle.atomic_table.specs.Table.{State, Me, Step}
 use Rattle.atomic_table.specs.Seated.{TableId}
 use Rattle.atomic_table.specs.declared.shared.Seat.{Seat}
+use Rattle.shore_words.specs.declared.rule.Known.{Known}
 use Rattle.shore_words.specs.declared.rule.View.{View}
 
 -- the name of no words
 abbrev pub no_words : TableId
 no_words = record { words = 0; slots = 0; views_name = 0; atom = 0; block = 0; offset = 0; slot_names = [] }
 
+-- an anchor of this checkpoint and this tail, of which no move has failed
+abbrev pub known : ℕ → ℕ → Known
+known checkpoint tail = record { checkpoint = checkpoint; tail = tail; aim = (0, 0) }
+
+-- the anchor of who knows none
+abbrev pub no_anchor : Known
+no_anchor = known 0 0
+
 -- one that has seen so much and knows nothing else
 abbrev pub looker : ℕ → View
-looker seen = record { seen = seen; tells = false; told = 0; anchor = (0, 0); keeps = false; kept = (0, 0); asked = false; stopped = false }
+looker seen = record { seen = seen; tells = false; told = 0; anchor = no_anchor; keeps = false; kept = no_anchor; asked = false; stopped = false }
 
 -- one that tells, and keeps
-abbrev pub teller : ℕ → ℕ × ℕ → View
+abbrev pub teller : ℕ → Known → View
 teller number anchor = record (looker number) { tells = true; told = number; anchor = anchor; keeps = true; kept = anchor }
 
 -- one that keeps
-abbrev pub keeper : ℕ → ℕ × ℕ → View
+abbrev pub keeper : ℕ → Known → View
 keeper seen anchor = record (looker seen) { keeps = true; kept = anchor }
 
 -- What a seat knows of the words, of who tells, and of who keeps.
-pub record Knows (number stop : ℕ) (anchor : ℕ × ℕ) (tells_at keeps_at seat : ℕ) (v : View) : Type 0 where
+pub record Knows (number stop : ℕ) (anchor : Known) (tells_at keeps_at seat : ℕ) (v : View) : Type 0 where
   pub seen : v.seen ≤ number
   pub tells : v.tells ≡ true → (seat ≡ tells_at) × (v.told ≡ number) × (v.anchor ≡ anchor)
   pub keeps : v.keeps ≡ true → (seat ≡ keeps_at) × (v.kept ≡ anchor)
@@ -36,14 +45,16 @@ pub record Knows (number stop : ℕ) (anchor : ℕ × ℕ) (tells_at keeps_at se
 abbrev pub HasAsked : List View → Type 0
 HasAsked views = (seat : ℕ) × (v : View) × (get_elem? views seat ≡ some v) × (v.asked ≡ true)
 
--- The words are the number told, the stop word, which is 0 or 1, and 1 only if a seat asked for it, and the tail and the checkpoint of the anchor.
+-- The words are the number told, the stop word, which is 0 or 1, and 1 only if a seat asked for it, and the tail and the checkpoint to which the anchor was moved last, or was
+-- to be moved as that failed. What is known of the anchor is one for all seats.
 pub record IsTold (s : State ℕ View) : Type 0 where
   pub number : ℕ
   pub stop : ℕ
-  pub anchor : ℕ × ℕ
+  pub anchor : Known
+  pub moved : ℕ × ℕ
   pub tells_at : ℕ
   pub keeps_at : ℕ
-  pub words : s.words ≡ number ∷ stop ∷ anchor.1 ∷ anchor.0 ∷ []
+  pub words : s.words ≡ number ∷ stop ∷ moved.1 ∷ moved.0 ∷ []
   pub bit : stop ≤ 1
   pub by : stop ≡ 1 → HasAsked s.views
   pub each : (seat : ℕ) (v : View) → get_elem? s.views seat ≡ some v → Knows number stop anchor tells_at keeps_at seat v
@@ -62,18 +73,26 @@ Asks s me number new = new ≡ (record me.0 { asked = true }, me.1)
 abbrev pub Stops : Step ℕ → Me ℕ View → ℕ → Me ℕ View → Type 0
 Stops s me number new = (new ≡ (record me.0 { stopped = number == 1 }, me.1)) × (me.0.asked ≡ true → number ≡ 1) × (me.0.stopped ≡ true → number ≡ 1)
 
-abbrev pub LooksForTail : Step ℕ → Me ℕ View → ℕ → Me ℕ View → Type 0
-LooksForTail s me tail new = (new ≡ me) × (me.0.tells ≡ true → tail ≡ me.0.anchor.1) × (me.0.keeps ≡ true → tail ≡ me.0.kept.1)
+-- who tells and keeps finds one anchor
+abbrev pub Compares : Step ℕ → Me ℕ View → ℕ → Me ℕ View → Type 0
+Compares s me word new = (new ≡ me) × (me.0.tells ≡ true → me.0.keeps ≡ true → me.0.kept ≡ me.0.anchor)
 
-abbrev pub LooksForCheckpoint : Step ℕ → Me ℕ View → ℕ → Me ℕ View → Type 0
-LooksForCheckpoint s me checkpoint new = (new ≡ me) × (me.0.tells ≡ true → checkpoint ≡ me.0.anchor.0) × (me.0.keeps ≡ true → checkpoint ≡ me.0.kept.0)
+-- .. and moves it
+abbrev pub with_anchor : View → Known → View
+with_anchor v anchor = record v { tells = true; anchor = anchor; keeps = true; kept = anchor }
 
--- who tells and keeps moves one part of the anchor
 abbrev pub MovesTail : Step ℕ → Me ℕ View → ℕ → Me ℕ View → Type 0
-MovesTail s me tail new = new ≡ (record me.0 { tells = true; anchor = (me.0.anchor.0, s.first); keeps = true; kept = (me.0.anchor.0, s.first) }, me.1)
+MovesTail s me tail new = new ≡ (with_anchor me.0 (record me.0.anchor { tail = s.first }), me.1)
 
 abbrev pub MovesCheckpoint : Step ℕ → Me ℕ View → ℕ → Me ℕ View → Type 0
-MovesCheckpoint s me checkpoint new = new ≡ (record me.0 { tells = true; anchor = (s.first, me.0.anchor.1); keeps = true; kept = (s.first, me.0.anchor.1) }, me.1)
+MovesCheckpoint s me checkpoint new = new ≡ (with_anchor me.0 (record me.0.anchor { checkpoint = s.first }), me.1)
+
+-- .. or notes where it was to be moved
+abbrev pub AimsTail : Step ℕ → Me ℕ View → ℕ → Me ℕ View → Type 0
+AimsTail s me tail new = new ≡ (with_anchor me.0 (record me.0.anchor { aim = (me.0.anchor.aim.0, s.first) }), me.1)
+
+abbrev pub AimsCheckpoint : Step ℕ → Me ℕ View → ℕ → Me ℕ View → Type 0
+AimsCheckpoint s me checkpoint new = new ≡ (with_anchor me.0 (record me.0.anchor { aim = (s.first, me.0.anchor.aim.1) }), me.1)
 
 -- the seat is of these words
 abbrev pub IsOf : TableId → Seat ℕ View → Type 0

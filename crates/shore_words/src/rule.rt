@@ -9,16 +9,26 @@ pub struct View {
     pub tells: bool,
     /// The number that it told, if it is.
     pub told: u64,
-    /// The anchor that it knows, if it is: the number of its checkpoint, and its tail.
-    pub anchor: (u64, u64),
+    /// The anchor that it knows, if it is.
+    pub anchor: Known,
     /// Whether it is the one that keeps the anchor.
     pub keeps: bool,
     /// That anchor, if it is.
-    pub kept: (u64, u64),
+    pub kept: Known,
     /// Whether it asked the workers to stop.
     pub asked: bool,
     /// Whether its last look found that somebody did.
     pub stopped: bool,
+}
+
+/// What two seats know of the anchor. No value of it is made.
+pub struct Known {
+    /// The number of its checkpoint.
+    pub checkpoint: u64,
+    /// Its tail: from which record on the log is kept.
+    pub tail: u64,
+    /// Where a move of it that has failed was to lead: the number of the checkpoint, and that of the record that was to be kept. 0 and 0 if none has failed.
+    pub aim: (u64, u64),
 }
 
 /// A seat: what one thread knows of the words. It takes no memory.
@@ -28,11 +38,11 @@ pub type WordSeat = Seat<u8, View>;
 pub struct Told;
 
 impl TableRule<u8, View, (u64, u64, u64)> for Told {
-    ghost use Rattle.shore_words.specs.Words.{teller, IsTold};
+    ghost use Rattle.shore_words.specs.Words.{known, teller, IsTold};
 
     ghost holds = { λ _. IsTold };
 
-    ghost first = { λ start. teller start.0 (start.1, start.2) };
+    ghost first = { λ start. teller start.0 (known start.1 start.2) };
 }
 
 // A number is told.
@@ -71,22 +81,13 @@ impl Play<u8, View> for Stop {
     ghost then = { Stops };
 }
 
-// The tail of the anchor is looked at.
-pub(crate) struct Tail;
+// The anchor that the seat knows and the one that it keeps are compared.
+pub(crate) struct Compare;
 
-impl Play<u8, View> for Tail {
-    ghost use Rattle.shore_words.specs.Words.{LooksForTail};
+impl Play<u8, View> for Compare {
+    ghost use Rattle.shore_words.specs.Words.{Compares};
 
-    ghost then = { LooksForTail };
-}
-
-// Its checkpoint is looked at.
-pub(crate) struct Checkpoint;
-
-impl Play<u8, View> for Checkpoint {
-    ghost use Rattle.shore_words.specs.Words.{LooksForCheckpoint};
-
-    ghost then = { LooksForCheckpoint };
+    ghost then = { Compares };
 }
 
 // The tail moves.
@@ -107,6 +108,24 @@ impl Play<u8, View> for MoveCheckpoint {
     ghost then = { MovesCheckpoint };
 }
 
+// A move has failed that was to keep this record.
+pub(crate) struct AimTail;
+
+impl Play<u8, View> for AimTail {
+    ghost use Rattle.shore_words.specs.Words.{AimsTail};
+
+    ghost then = { AimsTail };
+}
+
+// .. and was to lead to this checkpoint.
+pub(crate) struct AimCheckpoint;
+
+impl Play<u8, View> for AimCheckpoint {
+    ghost use Rattle.shore_words.specs.Words.{AimsCheckpoint};
+
+    ghost then = { AimsCheckpoint };
+}
+
 // A new seat has seen what this one has, and looks.
 pub(crate) struct Reader;
 
@@ -123,9 +142,9 @@ pub(crate) struct Keeper;
 
 impl Split<View> for Keeper {
     ghost use Rattle.std.specs.Prelude.{false};
-    ghost use Rattle.shore_words.specs.Words.{keeper};
+    ghost use Rattle.shore_words.specs.Words.{keeper, no_anchor};
 
-    ghost left = { λ v. record v { keeps = false; kept = (0, 0) } };
+    ghost left = { λ v. record v { keeps = false; kept = no_anchor } };
 
     ghost right = { λ v. keeper v.seen v.kept };
 }

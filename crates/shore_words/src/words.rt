@@ -1,11 +1,11 @@
 //! The durable word, the stop word, and the two words of the anchor. Nobody waits for a step on them.
 ghost use Rattle.std.specs.Prelude.{◌≡◌, ◌≤◌, ◌<◌, true, false, [], IfOk};
 ghost use Rattle.atomic_table.specs.Seated.{TableId};
-ghost use Rattle.shore_words.specs.Words.{keeper, looker, teller, IsOf};
+ghost use Rattle.shore_words.specs.Words.{keeper, known, looker, no_anchor, teller, IsOf};
 
 use crate::rule::{
-    Ask, Checkpoint, Claim, Keeper, Look, MoveCheckpoint, MoveTail, Reader, Stop, Tail, Take, Tell,
-    Told, View, WordSeat,
+    AimCheckpoint, AimTail, Ask, Claim, Compare, Keeper, Look, MoveCheckpoint, MoveTail, Reader,
+    Stop, Take, Tell, Told, View, WordSeat,
 };
 use atomic_table::Table;
 use std::alloc::{AllocError, Global};
@@ -16,10 +16,10 @@ const DURABLE: usize = 0;
 // The stop word: 1 once the workers are to stop.
 const STOP: usize = 1;
 
-// The tail word: from which record on the log is kept, as the anchor names it.
+// The tail word: from which record on the log is kept, as the anchor names it; or the one that was to be kept, once a move of the anchor has failed.
 const TAIL: usize = 2;
 
-// The number of the anchor's checkpoint.
+// The number of the anchor's checkpoint, or of the one to which it was to be moved.
 const CHECKPOINT: usize = 3;
 
 /// The number up to which the log is durable, which one seat tells and every seat may look at; whether the workers are to stop; and the anchor of the log, which that
@@ -38,7 +38,7 @@ impl Words {
         checkpoint: u64,
         tail: u64,
     ) -> Result<(Words, WordSeat), AllocError>
-        ensures { IfOk result (λ made. IsOf made.0.table.shared.table_id made.1 × (made.1.me ≡ (teller durable (checkpoint, tail), []))) }
+        ensures { IfOk result (λ made. IsOf made.0.table.shared.table_id made.1 × (made.1.me ≡ (teller durable (known checkpoint tail), []))) }
     {
         let (table, seat) = Table::of_words(
             alloc,
@@ -100,7 +100,7 @@ impl Words {
     /// A seat that keeps the anchor in the place of this one.
     pub fn keeper(&self, seat: &mut WordSeat) -> WordSeat
         requires { IsOf self.now.table.shared.table_id seat.old × (seat.old.me.0.keeps ≡ true) }
-        ensures same { (seat.new.table_id ≡ seat.old.table_id) × (seat.new.me ≡ (record seat.old.me.0 { keeps = false; kept = (0, 0) }, seat.old.me.1)) }
+        ensures same { (seat.new.table_id ≡ seat.old.table_id) × (seat.new.me ≡ (record seat.old.me.0 { keeps = false; kept = no_anchor }, seat.old.me.1)) }
         ensures new { IsOf self.now.table.shared.table_id result × (result.me ≡ (keeper seat.old.me.0.seen seat.old.me.0.kept, [])) }
     {
         self.table.shared.split_seat::<Keeper>(seat)
@@ -131,15 +131,14 @@ impl Words {
         let right = self.keeper(seat);
         self.table.shared.join_seat::<Take>(teller, right);
         self.table.shared.load::<Look>(teller, DURABLE);
-        self.table.shared.load::<Tail>(teller, TAIL);
-        self.table.shared.load::<Checkpoint>(teller, CHECKPOINT);
+        self.table.shared.load::<Compare>(teller, TAIL);
     }
 
     /// Shows that the seat that keeps has the anchor that the one that tells knows, and that what it has seen was told; it has then seen all that was told.
     pub fn meet(&self, teller: &mut WordSeat, seat: &mut WordSeat)
         requires teller { IsOf self.now.table.shared.table_id teller.old × (teller.old.me.0.tells ≡ true) }
         requires seat { IsOf self.now.table.shared.table_id seat.old × (seat.old.me.0.keeps ≡ true) }
-        ensures teller { (teller.new.table_id ≡ teller.old.table_id) × (teller.new.me ≡ (record teller.old.me.0 { seen = teller.old.me.0.told; keeps = false; kept = (0, 0) }, teller.old.me.1)) }
+        ensures teller { (teller.new.table_id ≡ teller.old.table_id) × (teller.new.me ≡ (record teller.old.me.0 { seen = teller.old.me.0.told; keeps = false; kept = no_anchor }, teller.old.me.1)) }
         ensures seat { IsOf self.now.table.shared.table_id seat.new × (seat.new.me ≡ (keeper teller.old.me.0.told teller.old.me.0.anchor, [])) }
         ensures seen { (seat.old.me.0.seen ≤ teller.old.me.0.told) × (teller.old.me.0.seen ≤ teller.old.me.0.told) }
         ensures one { seat.old.me.0.kept ≡ teller.old.me.0.anchor }
@@ -158,8 +157,8 @@ impl Words {
     )
         requires teller { IsOf self.now.table.shared.table_id teller.old × (teller.old.me.0.tells ≡ true) }
         requires seat { IsOf self.now.table.shared.table_id seat.old × (seat.old.me.0.keeps ≡ true) }
-        ensures teller { (teller.new.table_id ≡ teller.old.table_id) × (teller.new.me ≡ (record teller.old.me.0 { seen = teller.old.me.0.told; anchor = (checkpoint, tail); keeps = false; kept = (0, 0) }, teller.old.me.1)) }
-        ensures seat { IsOf self.now.table.shared.table_id seat.new × (seat.new.me ≡ (keeper teller.old.me.0.told (checkpoint, tail), [])) }
+        ensures teller { (teller.new.table_id ≡ teller.old.table_id) × (teller.new.me ≡ (record teller.old.me.0 { seen = teller.old.me.0.told; anchor = record teller.old.me.0.anchor { checkpoint = checkpoint; tail = tail }; keeps = false; kept = no_anchor }, teller.old.me.1)) }
+        ensures seat { IsOf self.now.table.shared.table_id seat.new × (seat.new.me ≡ (keeper teller.old.me.0.told (record teller.old.me.0.anchor { checkpoint = checkpoint; tail = tail }), [])) }
         ensures seen { (seat.old.me.0.seen ≤ teller.old.me.0.told) × (teller.old.me.0.seen ≤ teller.old.me.0.told) }
         ensures one { seat.old.me.0.kept ≡ teller.old.me.0.anchor }
     {
@@ -168,6 +167,23 @@ impl Words {
         self.table
             .shared
             .store::<MoveCheckpoint>(teller, CHECKPOINT, checkpoint);
+        *seat = self.keeper(teller);
+    }
+
+    /// Notes where the anchor was to be moved as that failed, where the seat that tells and the one that keeps are: to this checkpoint, with this record kept.
+    pub fn fail_move(&self, teller: &mut WordSeat, seat: &mut WordSeat, checkpoint: u64, tail: u64)
+        requires teller { IsOf self.now.table.shared.table_id teller.old × (teller.old.me.0.tells ≡ true) }
+        requires seat { IsOf self.now.table.shared.table_id seat.old × (seat.old.me.0.keeps ≡ true) }
+        ensures teller { (teller.new.table_id ≡ teller.old.table_id) × (teller.new.me ≡ (record teller.old.me.0 { seen = teller.old.me.0.told; anchor = record teller.old.me.0.anchor { aim = (checkpoint, tail) }; keeps = false; kept = no_anchor }, teller.old.me.1)) }
+        ensures seat { IsOf self.now.table.shared.table_id seat.new × (seat.new.me ≡ (keeper teller.old.me.0.told (record teller.old.me.0.anchor { aim = (checkpoint, tail) }), [])) }
+        ensures seen { (seat.old.me.0.seen ≤ teller.old.me.0.told) × (teller.old.me.0.seen ≤ teller.old.me.0.told) }
+        ensures one { seat.old.me.0.kept ≡ teller.old.me.0.anchor }
+    {
+        self.take_anchor(teller, seat);
+        self.table.shared.store::<AimTail>(teller, TAIL, tail);
+        self.table
+            .shared
+            .store::<AimCheckpoint>(teller, CHECKPOINT, checkpoint);
         *seat = self.keeper(teller);
     }
 }

@@ -1,6 +1,6 @@
 use Rattle.std.proofs.Common.{ap, ◌∙◌, arith}
 use mathlib.Core.Option.{none}
-use Rattle.shore_words.proofs.Keeps.{looks, looks_for_checkpoint, looks_for_tail, takes_anchor}
+use Rattle.shore_words.proofs.Keeps.{compares, looks, takes_anchor}
 use Rattle.shore_words.proofs.words.Words.take_anchor.Goals as goal
 
 pub join_seat-requires : goal.join_seat-requires
@@ -10,7 +10,4 @@ pub load-requires : goal.load-requires
 load-requires c = (c.join_seat.ensures.0 ∙ c.requires.teller.0.0, omega (arith, c.requires.seat.0.1), looks _ _ _ none)
 
 pub load-requires-2 : goal.load-requires-2
-load-requires-2 c = (c.load.ensures.0 ∙ c.join_seat.ensures.0 ∙ c.requires.teller.0.0, omega (arith, c.requires.seat.0.1), looks_for_tail _ _ _ none)
-
-pub load-requires-3 : goal.load-requires-3
-load-requires-3 c = (c.load-2.ensures.0 ∙ c.load.ensures.0 ∙ c.join_seat.ensures.0 ∙ c.requires.teller.0.0, omega (arith, c.requires.seat.0.1), looks_for_checkpoint _ _ _ none)
+load-requires-2 c = (c.load.ensures.0 ∙ c.join_seat.ensures.0 ∙ c.requires.teller.0.0, omega (arith, c.requires.seat.0.1), compares _ _ _ none)
