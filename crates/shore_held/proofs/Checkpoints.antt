@@ -39,7 +39,7 @@ use Rattle.shore_core.specs.Replies.{InEach}
 use Rattle.shore_core.proofs.CheckpointSteps.{freed_is}
 use Rattle.shore_world.specs.EventMoves.{OfCheckpoint, PlainMove}
 use Rattle.shore_world.proofs.VolumeLemmas.{runs_or_failed}
-use Rattle.shore_held.specs.Comings.{HasComeBy}
+use Rattle.shore_held.specs.Comings.{Beginning, HasComeBy}
 use Rattle.shore_held.specs.Logs.{AreMet, LogState}
 use Rattle.shore_held.proofs.Comings.{by, checkpoint_refused, checkpointed, has_kept, may_go, moved, ring_of, safe, under_way, volume_still}
 
@@ -48,8 +48,8 @@ abbrev step_in : CheckpointStep → Step → Step
 step_in (made.Made step) other = step
 step_in (made.Move mark) other = other
 
-module _ {T V : Type 0} {G : tail.Ghosts T} {H : disk.Ghosts V} (cut : ℕ) (kept : List LogRecord) (old : Core T V G H) (stage : Stage) (anchored : Anchored) (trail : List PlainMove)
-    (h : HasComeBy cut kept old stage anchored trail) where
+module _ {T V : Type 0} {G : tail.Ghosts T} {H : disk.Ghosts V} {start : Beginning} (cut : ℕ) (kept : List LogRecord) (old : Core T V G H) (stage : Stage) (anchored : Anchored) (trail : List PlainMove)
+    (h : HasComeBy start cut kept old stage anchored trail) where
   running_in : has_failed old ≡ false → h.last.state.failed ≡ false
   running_in runs = h.is_in.beside.parts.failed_is ∙ runs
 
@@ -68,7 +68,7 @@ module _ {T V : Type 0} {G : tail.Ghosts T} {H : disk.Ghosts V} (cut : ℕ) (kep
         → (tail place : ℕ) (groups : List (List LogRecord)) → HoldsFrom tail place log groups
         → ((tail place : ℕ) (groups : List (List LogRecord)) → HoldsFrom tail place log groups → InEach (λ front disk before s store.
         HasKept log (with_store s store) → MayGoOn stage (with_store s store) → StepsCheckpoint result later new front disk before (with_store s store)) old)
-        → HasComeBy cut kept new later anchored (trail ++ OfCheckpoint step ∷ [])
+        → HasComeBy start cut kept new later anchored (trail ++ OfCheckpoint step ∷ [])
     step_made new later result step is heap ring fails isnt refused tail place groups holds each = elim (runs_or_failed (has_failed old)) [
       | inl runs ↦
           let went = each tail place groups holds h.front h.disk h.before h.last.state h.last.store h.is_in (safe cut kept old stage anchored trail h) h.over kept_now (may_go cut kept old stage anchored trail h) in
@@ -77,9 +77,9 @@ module _ {T V : Type 0} {G : tail.Ghosts T} {H : disk.Ghosts V} (cut : ℕ) (kep
       | inr failed ↦
           let same = refused failed in
           let refusal : step ≡ Refused fault.Failed = sym (ap (λ (r : CheckpointStep). step_in r step) is) ∙ ap (λ (r : CheckpointStep). step_in r step) same.0 in
-          subst (λ (s : Step). HasComeBy cut kept new later anchored (trail ++ OfCheckpoint s ∷ [])) (sym refusal)
-          (subst (λ (c : Core T V G H). HasComeBy cut kept c later anchored (trail ++ OfCheckpoint (Refused fault.Failed) ∷ [])) (sym same.1)
-          (subst (λ (t : Stage). HasComeBy cut kept old t anchored (trail ++ OfCheckpoint (Refused fault.Failed) ∷ [])) (sym same.2)
+          subst (λ (s : Step). HasComeBy start cut kept new later anchored (trail ++ OfCheckpoint s ∷ [])) (sym refusal)
+          (subst (λ (c : Core T V G H). HasComeBy start cut kept c later anchored (trail ++ OfCheckpoint (Refused fault.Failed) ∷ [])) (sym same.1)
+          (subst (λ (t : Stage). HasComeBy start cut kept old t anchored (trail ++ OfCheckpoint (Refused fault.Failed) ∷ [])) (sym same.2)
           (checkpoint_refused cut kept old stage anchored trail h (h.is_in.beside.parts.failed_is ∙ failed))))
     ]
 
@@ -148,7 +148,7 @@ module _ {T V : Type 0} {G : tail.Ghosts T} {H : disk.Ghosts V} (cut : ℕ) (kep
           → FreesBelow log mark.tail (anchor_of behind).tail freed → step ≡ Done Moved
           → InEach (λ front disk before s store. (a : Anchored) → s.failed ≡ false → IsNextAnchor store a → freed ≡ freed_to (with_store s store) a.tail → freed ≤ (room_in (txns_of old)).kept
           → MovesTo a step later new front disk before (with_store s store)) old
-          → HasComeBy cut kept new later (record { checkpoint = mark.checkpoint; tail = (anchor_of behind).tail }) (trail ++ OfCheckpoint step ∷ [])
+          → HasComeBy start cut kept new later (record { checkpoint = mark.checkpoint; tail = (anchor_of behind).tail }) (trail ++ OfCheckpoint step ∷ [])
       anchor_moved new later step behind freed runs heap ring frees is each =
           let a : Anchored = record { checkpoint = mark.checkpoint; tail = (anchor_of behind).tail } in
           let above : anchored.tail ≤ a.tail = omega (arith, ap (λ x. x.tail) met.anchored_is, met.first, cut_is, frees.from) in
@@ -156,24 +156,24 @@ module _ {T V : Type 0} {G : tail.Ghosts T} {H : disk.Ghosts V} (cut : ℕ) (kep
           let frees_so = freed_is log h.last.state h.last.store kept_now mark.tail a.tail freed frees in
           let room = freed_room a.tail (omega (arith, above, ap (λ x. x.tail) h.anchored_is)) in
           let went = each h.front h.disk h.before h.last.state h.last.store h.is_in (safe cut kept old stage anchored trail h) h.over a (running_in runs) next frees_so (omega (arith, frees_so, room)) in
-          subst (λ (s : Step). HasComeBy cut kept new later a (trail ++ OfCheckpoint s ∷ [])) (sym is)
+          subst (λ (s : Step). HasComeBy start cut kept new later a (trail ++ OfCheckpoint s ∷ [])) (sym is)
           (moved cut kept old stage anchored trail h new heap ring later a (running_in runs) (subst (λ (s : Step). MovesTo a s later new h.front h.disk h.before (with_store h.last.state h.last.store)) is went))
 
       -- the device has failed in it
       pub move_failed : (new : Core T V G H) (step : Step) → has_failed old ≡ false → heap_of new ≡ heap_of old → ring_of new ≡ ring_of old → step ≡ Refused fault.Device
           → InEach (λ front disk before s store. IsIn front disk before new (with_failure s) × IsOver disk new (with_failure s) store) old
-          → HasComeBy cut kept new stage anchored (trail ++ OfCheckpoint step ∷ [])
+          → HasComeBy start cut kept new stage anchored (trail ++ OfCheckpoint step ∷ [])
       move_failed new step runs heap ring is each =
           let a : Anchored = record { checkpoint = mark.checkpoint; tail = anchored.tail } in
           let next = is_next a refl (omega arith) (omega (arith, ap (λ x. x.tail) met.anchored_is, met.first, cut_is, low)) in
           let to = each h.front h.disk h.before h.last.state h.last.store h.is_in (safe cut kept old stage anchored trail h) h.over in
-          subst (λ (s : Step). HasComeBy cut kept new stage anchored (trail ++ OfCheckpoint s ∷ [])) (sym is)
+          subst (λ (s : Step). HasComeBy start cut kept new stage anchored (trail ++ OfCheckpoint s ∷ [])) (sym is)
           (by cut kept old stage anchored trail h new (ap heaps.geometry_of heap) ring (with_store (with_failure h.last.state) h.last.store) (Checkpoints (Refused fault.Device))
           (inr (running_in runs, inr (inr (refl, (a, next), refl)))) stage anchored h.disk to.0 to.1
           (volume_still cut kept old stage anchored trail h new heap ring) h.at h.anchored_is)
 
 -- of the same trail, and the same anchor
-pub come_as : {T V : Type 0} {G : tail.Ghosts T} {H : disk.Ghosts V} (cut : ℕ) (kept : List LogRecord) (core : Core T V G H) (stage : Stage) (anchored other : Anchored) (trail same : List PlainMove) → other ≡ anchored → same ≡ trail
-    → HasComeBy cut kept core stage anchored trail → HasComeBy cut kept core stage other same
-come_as cut kept core stage anchored other trail same anchored_is trail_is h =
-    subst (λ a. HasComeBy cut kept core stage a same) (sym anchored_is) (subst (HasComeBy cut kept core stage anchored) (sym trail_is) h)
+pub come_as : {T V : Type 0} {G : tail.Ghosts T} {H : disk.Ghosts V} {start : Beginning} (cut : ℕ) (kept : List LogRecord) (core : Core T V G H) (stage : Stage) (anchored other : Anchored) (trail same : List PlainMove) → other ≡ anchored → same ≡ trail
+    → HasComeBy start cut kept core stage anchored trail → HasComeBy start cut kept core stage other same
+come_as {start = start} cut kept core stage anchored other trail same anchored_is trail_is h =
+    subst (λ a. HasComeBy start cut kept core stage a same) (sym anchored_is) (subst (HasComeBy start cut kept core stage anchored) (sym trail_is) h)

@@ -48,70 +48,67 @@ use Rattle.shore_world.specs.EventMoves.{OfCheckpoint, OfManager, PlainMove, mov
 use Rattle.shore_world.proofs.MadeSteps.{anchor_kept}
 use Rattle.shore_world.proofs.StoredLemmas.{all_join, among_join}
 use Rattle.shore_world.proofs.VolumeLemmas.{left_after_force, never_both, runs_or_failed, shows_left}
-use Rattle.shore_held.specs.Comings.{HasComeBy}
+use Rattle.shore_held.specs.Comings.{Beginning, HasComeBy}
 
 -- the bytes of its ring
 abbrev pub ring_of : {T V : Type 0} {G : tail.Ghosts T} {H : disk.Ghosts V} → Core T V G H → ℕ
 ring_of core = (room_in (txns_of core)).stream_bytes
 
-module _ {T V : Type 0} {G : tail.Ghosts T} {H : disk.Ghosts V} (cut : ℕ) (kept : List LogRecord) (old : Core T V G H) (stage : Stage) (anchored : Anchored) (trail : List PlainMove)
-    (h : HasComeBy cut kept old stage anchored trail) where
+module _ {T V : Type 0} {G : tail.Ghosts T} {H : disk.Ghosts V} {start : Beginning} (cut : ℕ) (kept : List LogRecord) (old : Core T V G H) (stage : Stage) (anchored : Anchored) (trail : List PlainMove)
+    (h : HasComeBy start cut kept old stage anchored trail) where
   -- the manager that the core is, is under way with its checkpoint
-  pub under_way : IsAtCheckpoints h.geometry h.ring_bytes h.opening h.found (h.earlier ++ h.made) h.last
-  under_way = moves_go h.geometry h.ring_bytes h.opening h.found h.earlier h.first h.began h.plain h.last h.made h.moves
+  pub under_way : IsAtCheckpoints h.geometry h.ring_bytes start.opening start.found (start.earlier ++ h.made) h.last
+  under_way = moves_go h.geometry h.ring_bytes start.opening start.found start.earlier start.first h.began h.plain h.last h.made h.moves
 
   pub safe : IsSafe (geometry_of old) h.last.state
   safe =
       let k = under_way.under_way in
       subst (λ (g : Geometry). IsSafe g h.last.state) (sym h.is)
       (record {
-        opening = h.opening;
-        found = h.found;
-        entries = h.earlier ++ h.made;
+        opening = start.opening;
+        found = start.found;
+        entries = start.earlier ++ h.made;
         after = k.state;
         asks = λ w at there is. k.asks w there at is;
         roomy = k.roomy;
         stream_bytes = h.last.state.stream_bytes;
         leaves = k.leaves;
-        inside = under_way_inside h.geometry h.last.state.stream_bytes h.opening h.found (h.earlier ++ h.made) (stored_in h.last) k;
+        inside = under_way_inside h.geometry h.last.state.stream_bytes start.opening start.found (start.earlier ++ h.made) (stored_in h.last) k;
       })
 
   -- what the core has come to: another state, over another store, of whose pages a crash leaves what the store may lose power with
-  record CameTo (new : Core T V G H) (later : State) : Type 0 where
-    left : ℕ → List ℕ
-    works : List RecoveryEvent
-    after : CheckpointedStore
-    work : WorksOn h.last.store works after
-    is_in : IsIn h.front left h.before new later
-    over : IsOver left new later after
-    volume : (image : List ℕ) → may_leave (history_of new) image → ShowsLeft h.geometry h.front after.store image
+  pub record CameTo (new : Core T V G H) (later : State) : Type 0 where
+    pub left : ℕ → List ℕ
+    pub works : List RecoveryEvent
+    pub after : CheckpointedStore
+    pub work : WorksOn h.last.store works after
+    pub is_in : IsIn h.front left h.before new later
+    pub over : IsOver left new later after
+    pub volume : (image : List ℕ) → may_leave (history_of new) image → ShowsLeft h.geometry h.front after.store image
 
   -- ---- by one move
 
   module _ (new : Core T V G H) (same : geometry_of new ≡ geometry_of old) (ring : ring_of new ≡ ring_of old) (last : CheckpointedState) (plain : CheckpointedMove) (steps : CheckpointedSteps h.geometry h.last plain last) where
     pub by : (stage' : Stage) (anchored' : Anchored) (left : ℕ → List ℕ) → IsIn h.front left h.before new last.state → IsOver left new last.state last.store
         → ((image : List ℕ) → may_leave (history_of new) image → ShowsLeft h.geometry h.front last.store.store image)
-        → stages.IsAt stage' last.store.stage → last.store.anchored ≡ anchored' → HasComeBy cut kept new stage' anchored' (trail ++ moves_among (plain ∷ []))
+        → stages.IsAt stage' last.store.stage → last.store.anchored ≡ anchored' → HasComeBy start cut kept new stage' anchored' (trail ++ moves_among (plain ∷ []))
     by stage' anchored' left is_in over volume at anchored_is = record {
       geometry = h.geometry;
       is = same ∙ h.is;
       ring_bytes = h.ring_bytes;
       ring = ring ∙ h.ring;
-      opening = h.opening;
-      found = h.found;
-      earlier = h.earlier;
-      first = h.first;
       began = h.began;
       plain = h.plain ++ plain ∷ [];
       made = h.made ++ entries_of_move h.last plain last;
       last = last;
-      moves = all_join h.geometry h.first h.plain h.last h.made (plain ∷ []) last (entries_of_move h.last plain last) h.moves
+      moves = all_join h.geometry start.first h.plain h.last h.made (plain ∷ []) last (entries_of_move h.last plain last) h.moves
           (last, [], steps, (refl, refl), sym (append-nil (entries_of_move h.last plain last)));
       are = among_join h.plain (plain ∷ []) ∙ ap (λ (l : List PlainMove). l ++ moves_among (plain ∷ [])) h.are;
       before = h.before;
       cut_off = h.cut_off;
       kept_is = h.kept_is;
       front = h.front;
+      is_front = h.is_front;
       labelled = h.labelled;
       disk = left;
       is_in = is_in;
@@ -125,27 +122,27 @@ module _ {T V : Type 0} {G : tail.Ghosts T} {H : disk.Ghosts V} (cut : ℕ) (kep
     abbrev after : CheckpointedState
     after = record { state = later; store = came.after }
 
-    goes : (plain : CheckpointedMove) → CheckpointedSteps h.geometry h.last plain after → HasComeBy cut kept new stage anchored (trail ++ moves_among (plain ∷ []))
+    goes : (plain : CheckpointedMove) → CheckpointedSteps h.geometry h.last plain after → HasComeBy start cut kept new stage anchored (trail ++ moves_among (plain ∷ []))
     goes plain steps =
         let keep = works_leave h.last.store came.works came.after came.work in
         by new same ring after plain steps stage anchored came.left came.is_in came.over came.volume
         (subst (stages.IsAt stage) (sym keep.0) h.at) (keep.1 ∙ h.anchored_is)
 
     -- by an event of the manager
-    goes_on : (e : ManagerEvent) → EventMoves (geometry_of old) h.last.state e later → HasComeBy cut kept new stage anchored (trail ++ OfManager e ∷ [])
+    goes_on : (e : ManagerEvent) → EventMoves (geometry_of old) h.last.state e later → HasComeBy start cut kept new stage anchored (trail ++ OfManager e ∷ [])
     goes_on e moves =
         goes (Goes (Manage e came.works))
         ((subst (λ (g : Geometry). EventMoves g h.last.state e later) h.is moves, works_to h.last.store came.works came.after came.work, came.over.kept.stored), stores_to h.last.store came.works came.after came.work)
 
     -- by work between two events
-    is_tended : later ≡ h.last.state → HasComeBy cut kept new stage anchored trail
-    is_tended is = subst (HasComeBy cut kept new stage anchored) (append-nil trail)
+    is_tended : later ≡ h.last.state → HasComeBy start cut kept new stage anchored trail
+    is_tended is = subst (HasComeBy start cut kept new stage anchored) (append-nil trail)
         (goes (Goes (Tend came.works)) ((is, works_to h.last.store came.works came.after came.work, came.over.kept.stored), stores_to h.last.store came.works came.after came.work))
 
   -- ---- what a crash leaves of the volume
 
   -- at any moment of a step, pages that the store may lose power with
-  volume_amid : (new : Core T V G H) → MayLeave old new → (IsTrue (has_failed old) → heap_of new ≡ heap_of old)
+  pub volume_amid : (new : Core T V G H) → MayLeave old new → (IsTrue (has_failed old) → heap_of new ≡ heap_of old)
       → LeavesOnly (history_of old) (history_of new) (ShowsLeft h.geometry h.front h.last.store.store)
   volume_amid new leaves still = elim (runs_or_failed h.last.state.failed) [
     | inl runs ↦
@@ -160,7 +157,7 @@ module _ {T V : Type 0} {G : tail.Ghosts T} {H : disk.Ghosts V} (cut : ℕ) (kep
   ]
 
   module _ (new : Core T V G H) (same : geometry_of new ≡ geometry_of old) (later : State) (comes : CoreComesTo new h.front h.before h.last.store later) where
-    running : later.failed ≡ false → CameTo new later
+    pub running : later.failed ≡ false → CameTo new later
     running runs = record {
       left = comes.left;
       works = comes.works;
@@ -173,7 +170,7 @@ module _ {T V : Type 0} {G : tail.Ghosts T} {H : disk.Ghosts V} (cut : ℕ) (kep
     }
 
     -- a call that had worked before the volume failed
-    failing : later.failed ≡ true → FailsOver new h.front later h.last.store → CameTo new later
+    pub failing : later.failed ≡ true → FailsOver new h.front later h.last.store → CameTo new later
     failing failed over = record {
       left = comes.left;
       works = over.behind.works;
@@ -185,7 +182,7 @@ module _ {T V : Type 0} {G : tail.Ghosts T} {H : disk.Ghosts V} (cut : ℕ) (kep
     }
 
     -- a step that has worked on no record as the volume failed
-    torn : LeavesOnly (history_of old) (history_of new) (ShowsLeft h.geometry h.front h.last.store.store) → later.failed ≡ true → IsKept later h.last.store → CameTo new later
+    pub torn : LeavesOnly (history_of old) (history_of new) (ShowsLeft h.geometry h.front h.last.store.store) → later.failed ≡ true → IsKept later h.last.store → CameTo new later
     torn leaves failed keeps = record {
       left = comes.left;
       works = [];
@@ -199,7 +196,7 @@ module _ {T V : Type 0} {G : tail.Ghosts T} {H : disk.Ghosts V} (cut : ℕ) (kep
   -- ---- the steps
 
   abbrev Come : Core T V G H → List PlainMove → Type 0
-  Come new more = HasComeBy cut kept new stage anchored (trail ++ more)
+  Come new more = HasComeBy start cut kept new stage anchored (trail ++ more)
 
   pub called : (new : Core T V G H) (session : ℕ) (c : Call) (step : Step) → geometry_of new ≡ geometry_of old → ring_of new ≡ ring_of old → IsServed c
       → InEach (λ front disk before s store. Stepped session c step old new front before s store) old
@@ -271,7 +268,7 @@ module _ {T V : Type 0} {G : tail.Ghosts T} {H : disk.Ghosts V} (cut : ℕ) (kep
 
     -- by nothing: the core is the same but for the facts that it carries
     pub is_like : ((front : List ℕ) (disk : ℕ → List ℕ) (before : List LogRecord) (s : State) → IsIn front disk before old s → IsIn front disk before new s)
-        → ((disk : ℕ → List ℕ) (s : State) (store : CheckpointedStore) → IsOver disk old s store → IsOver disk new s store) → HasComeBy cut kept new stage anchored trail
+        → ((disk : ℕ → List ℕ) (s : State) (store : CheckpointedStore) → IsOver disk old s store → IsOver disk new s store) → HasComeBy start cut kept new stage anchored trail
     is_like state over = is_tended new same_geometry ring h.last.state (record {
       left = h.disk;
       works = [];
@@ -284,13 +281,13 @@ module _ {T V : Type 0} {G : tail.Ghosts T} {H : disk.Ghosts V} (cut : ℕ) (kep
 
   -- by a step of the flush
   module _ (new : Core T V G H) (same : geometry_of new ≡ geometry_of old) (ring : ring_of new ≡ ring_of old) (leaves : MayLeave old new) (still : IsTrue (has_failed old) → heap_of new ≡ heap_of old) where
-    flush_came : (step : Step) (s : FlushSteps step new h.front h.before h.last.state h.last.store) → CameTo new s.later
+    pub flush_came : (step : Step) (s : FlushSteps step new h.front h.before h.last.state h.last.store) → CameTo new s.later
     flush_came step s = elim (runs_or_failed s.later.failed) [
       | inl runs ↦ running new same s.later s.comes runs
       | inr fails ↦ torn new same s.later s.comes (volume_amid new leaves still) fails (kept_same h.last.state s.later h.last.store (flush_same h.last.state step s.later s.moves) h.over.kept)
     ]
 
-    pub flushed : (step : Step) → ¬ (step ≡ Refused fault.Device) → InEach (λ front disk before s store. FlushSteps step new front before s store) old → HasComeBy cut kept new stage anchored trail
+    pub flushed : (step : Step) → ¬ (step ≡ Refused fault.Device) → InEach (λ front disk before s store. FlushSteps step new front before s store) old → HasComeBy start cut kept new stage anchored trail
     flushed step other each =
         let s = each h.front h.disk h.before h.last.state h.last.store h.is_in safe h.over in
         is_tended new same ring s.later (flush_came step s) (stays step s.later other s.moves)
@@ -335,14 +332,14 @@ module _ {T V : Type 0} {G : tail.Ghosts T} {H : disk.Ghosts V} (cut : ℕ) (kep
       }
 
   -- a step that is refused since a device had failed before
-  pub checkpoint_refused : IsTrue h.last.state.failed → HasComeBy cut kept old stage anchored (trail ++ OfCheckpoint (Refused fault.Failed) ∷ [])
+  pub checkpoint_refused : IsTrue h.last.state.failed → HasComeBy start cut kept old stage anchored (trail ++ OfCheckpoint (Refused fault.Failed) ∷ [])
   checkpoint_refused fails =
       by old refl refl h.last (Checkpoints (Refused fault.Failed)) (inl (fails, refl, refl)) stage anchored h.disk h.is_in h.over h.volume h.at h.anchored_is
 
   module _ (new : Core T V G H) (heap : heap_of new ≡ heap_of old) (ring : ring_of new ≡ ring_of old) (stage' : Stage) where
     -- a step that moves no anchor, while no device has failed
     pub checkpointed : (step : Step) → (step ≡ Done Moved → ⊥) → (made : MakesStep step stage' new h.front h.disk h.before (with_store h.last.state h.last.store)) → made.later.state.failed ≡ false
-        → HasComeBy cut kept new stage' anchored (trail ++ OfCheckpoint step ∷ [])
+        → HasComeBy start cut kept new stage' anchored (trail ++ OfCheckpoint step ∷ [])
     checkpointed step isnt made runs =
         let later = made.later in
         by new (ap heaps.geometry_of heap) ring later (Checkpoints step) made.moves stage' anchored h.disk made.comes.is_in made.comes.over
@@ -352,7 +349,7 @@ module _ {T V : Type 0} {G : tail.Ghosts T} {H : disk.Ghosts V} (cut : ℕ) (kep
 
     -- the move of the anchor
     pub moved : (a : Anchored) → h.last.state.failed ≡ false → MovesTo a (Done Moved) stage' new h.front h.disk h.before (with_store h.last.state h.last.store)
-        → HasComeBy cut kept new stage' a (trail ++ OfCheckpoint (Done Moved) ∷ [])
+        → HasComeBy start cut kept new stage' a (trail ++ OfCheckpoint (Done Moved) ∷ [])
     moved a runs made =
         let later = moved_to (with_store h.last.state h.last.store) a in
         by new (ap heaps.geometry_of heap) ring later (Checkpoints (Done Moved)) made.moves stage' a h.disk made.comes.is_in made.comes.over
@@ -361,20 +358,16 @@ module _ {T V : Type 0} {G : tail.Ghosts T} {H : disk.Ghosts V} (cut : ℕ) (kep
         made.comes.at refl
 
 -- The same core over another log buffer is as far, if the records before it and there are the same.
-pub over_another : {T U V : Type 0} {G : tail.Ghosts T} {K : tail.Ghosts U} {H : disk.Ghosts V} (cut : ℕ) (kept : List LogRecord) (old : Core T V G H) (new : Core U V K H) (stage : Stage) (anchored : Anchored) (trail : List PlainMove)
+pub over_another : {T U V : Type 0} {G : tail.Ghosts T} {K : tail.Ghosts U} {H : disk.Ghosts V} {start : Beginning} (cut : ℕ) (kept : List LogRecord) (old : Core T V G H) (new : Core U V K H) (stage : Stage) (anchored : Anchored) (trail : List PlainMove)
     → heap_of new ≡ heap_of old → ring_of new ≡ ring_of old
     → ((front : List ℕ) (disk : ℕ → List ℕ) (before : List LogRecord) (s : State) → IsIn front disk before old s → IsIn front disk before new s)
     → ((disk : ℕ → List ℕ) (s : State) (store : CheckpointedStore) → IsOver disk old s store → IsOver disk new s store)
-    → HasComeBy cut kept old stage anchored trail → HasComeBy cut kept new stage anchored trail
+    → HasComeBy start cut kept old stage anchored trail → HasComeBy start cut kept new stage anchored trail
 over_another cut kept old new stage anchored trail heap ring state over h = record {
   geometry = h.geometry;
   is = ap heaps.geometry_of heap ∙ h.is;
   ring_bytes = h.ring_bytes;
   ring = ring ∙ h.ring;
-  opening = h.opening;
-  found = h.found;
-  earlier = h.earlier;
-  first = h.first;
   began = h.began;
   plain = h.plain;
   made = h.made;
@@ -385,6 +378,7 @@ over_another cut kept old new stage anchored trail heap ring state over h = reco
   cut_off = h.cut_off;
   kept_is = h.kept_is;
   front = h.front;
+  is_front = h.is_front;
   labelled = h.labelled;
   disk = h.disk;
   is_in = state h.front h.disk h.before h.last.state h.is_in;

@@ -1,6 +1,9 @@
+pub mod Aims
 pub mod Checkpoints
 pub mod Comings
 pub mod Following
 pub mod KeptLogs
+pub mod Moments
+pub mod Steps
 pub mod Trails
 pub mod Worlds

@@ -1,5 +1,5 @@
 pub mod Comings
-pub mod Labels
 pub mod Logs
+pub mod Moments
 pub mod Trails
 pub mod Worlds

@@ -1,16 +1,21 @@
 -- What is kept of the log device under its lock, and what contracts see of it.
-use Rattle.std.specs.Prelude.{◌≡◌, ◌⊎◌, ◌+◌, ◌≤◌, ◌++◌, Bool, List, None, ℕ, false, length, take}
+use Rattle.std.specs.Prelude.{◌≡◌, ◌⊎◌, ◌+◌, ◌≤◌, ◌<◌, ◌++◌, Bool, List, None, ℕ, false, length, take}
 use Rattle.shore_types.specs.declared.layout.Geometry.{Geometry}
-use Rattle.shore_disk.specs.Device.{may_leave}
+use Rattle.shore_types.specs.declared.layout.TheConstants.{LOG_FRONT_BYTES}
+use Rattle.shore_disk.specs.Device.{DeviceHistory, LeavesOnly, may_leave}
 use Rattle.shore_disk.specs.declared.device.Disk.{Ghosts}
 use Rattle.shore_frames.specs.Frames.{GivesBehindFrom}
+use Rattle.shore_gate.specs.Anchor.{Counts}
+use Rattle.shore_gate.specs.declared.anchors.Anchor.{Anchor}
 use Rattle.shore_gate.specs.declared.anchors.Anchors.{Anchors}
 use Rattle.shore_model.specs.declared.log_records.LogRecord.{LogRecord}
 use Rattle.laws_checkpoints.specs.Checkpoints.{Anchored}
 use Rattle.laws_images.specs.StandsBehind.{anchored_by}
 use Rattle.shore_log.specs.declared.device.LogDev.{LogDev}
-use Rattle.shore_log.specs.Settled.{IsAnchored, IsLeftByMove, IsSettledFrom, anchor_of, next_anchor, records_of_log, stable}
-use Rattle.shore_held.specs.Labels.{IsLogFront}
+use Rattle.shore_log.specs.Settled.{IsAnchored, IsLeftByMove, IsSettledFrom, anchor_of, cut_of_log, next_anchor, records_of_log, stable}
+use Rattle.shore_words.specs.declared.rule.Known.{Known}
+use Rattle.shore_world.specs.Labels.{IsLogFront}
+use Rattle.shore_held.specs.Comings.{HasAim}
 
 pub record LogState : Type 0 where
   -- the anchor that counts, and its slot
@@ -24,7 +29,41 @@ pub record LogState : Type 0 where
   pub got : List LogRecord
   -- the number that was told
   pub told : ℕ
+  -- where a move of the anchor that has failed was to lead
+  pub aim : ℕ × ℕ
   pub failed : Bool
+  -- the calls of its device
+  pub history : DeviceHistory
+
+-- the anchor that counts, as seats know it
+abbrev pub known_in : LogState → Known
+known_in s = record { checkpoint = s.anchors.anchor.checkpoint; tail = s.anchors.anchor.tail; aim = s.aim }
+
+-- An image of the log device behind this front: a prefix of the records that it has taken in, with all that are durable.
+abbrev pub GivesHeld : LogState → List ℕ → List ℕ → Type 0
+GivesHeld s front image =
+    (n : ℕ) × (length s.stable ≤ n) × (n + length s.waits ≤ length s.list) × GivesBehindFrom front s.anchors.anchor.tail s.anchors.anchor.tail_place (take n s.list) image
+
+-- From this anchor the next one of a move that leads there: to that checkpoint, with a tail that is no lower than now and no higher than the record that is to be kept.
+pub record IsNextOf (from : Anchors) (aim : ℕ × ℕ) (next : Anchor) : Type 0 where
+  pub checkpoint : next.checkpoint ≡ aim.0
+  pub rises : from.anchor.tail ≤ next.tail
+  pub below : next.tail ≤ aim.1
+
+-- .. or, once a move of the anchor has failed, an image that is left amid it: the anchor counts, or the next one
+abbrev pub IsLeftOfHeld : LogState → List ℕ → List ℕ → Type 0
+IsLeftOfHeld s front image =
+    GivesHeld s front image ⊎ (HasAim s.aim × ((next : Anchor) × IsNextOf s.anchors s.aim next × IsLeftByMove s.anchors next front s.stable image))
+
+-- Such is each image that a loss of power leaves at any moment of the calls that have led from there to these, behind a front in which its anchor counts.
+abbrev pub LeavesHeld : Geometry → ℕ → LogState → DeviceHistory → Type 0
+LeavesHeld g log_bytes s later =
+    (front : List ℕ) × IsLogFront g log_bytes front × (length front ≡ LOG_FRONT_BYTES) × Counts front s.anchors.slot s.anchors.anchor × LeavesOnly s.history later (IsLeftOfHeld s front)
+
+-- At any moment of the calls that have led from the one history to the other a loss of power leaves what a move of the anchor leaves that leads there.
+abbrev pub LeavesByMove : Geometry → ℕ → Anchors → List LogRecord → ℕ × ℕ → DeviceHistory → DeviceHistory → Type 0
+LeavesByMove g log_bytes from rs aim old later =
+    (front : List ℕ) × IsLogFront g log_bytes front × (length front ≡ LOG_FRONT_BYTES) × Counts front from.slot from.anchor × ((next : Anchor) × IsNextOf from aim next × LeavesOnly old later (IsLeftByMove from next front rs))
 
 -- What is kept is what was kept when so many records were cut off, and what came through the queue since, without the first ones, which are cut off now.
 pub record Follows (cut : ℕ) (before got : List LogRecord) (now : ℕ) (list : List LogRecord) : Type 0 where
@@ -33,13 +72,13 @@ pub record Follows (cut : ℕ) (before got : List LogRecord) (now : ℕ) (list :
   pub cut_off : now ≡ cut + length gone
 
 -- Whenever power is lost the frames behind the front give a prefix of the records with all that are durable, and the anchor counts; or a move of the anchor has failed,
--- and the one that it made may count. As long as the device has not failed no frame is under way, and it is ready for one and for a move.
-pub record IsKept {L : Type 0} {G : Ghosts L} (g : Geometry) (log_bytes : ℕ) (log : LogDev L G) (failed : Bool) : Type 0 where
+-- which was to lead there, and the one that it made may count. As long as the device has not failed no frame is under way, and it is ready for one and for a move.
+pub record IsKept {L : Type 0} {G : Ghosts L} (g : Geometry) (log_bytes : ℕ) (log : LogDev L G) (failed : Bool) (aim : ℕ × ℕ) : Type 0 where
   pub front : List ℕ
   pub labelled : IsLogFront g log_bytes front
   pub images : (image : List ℕ) → may_leave (G.history log.device) image
       → ((n : ℕ) × (length (stable log) ≤ n) × (n ≤ length (records_of_log log)) × GivesBehindFrom front (anchor_of log).tail (anchor_of log).tail_place (take n (records_of_log log)) image)
-      ⊎ ((checkpoint : ℕ) × (number : ℕ) × IsLeftByMove log.anchors (next_anchor log checkpoint number) front (stable log) image)
+      ⊎ ((cut_of_log log < aim.1) × IsLeftByMove log.anchors (next_anchor log aim.0 aim.1) front (stable log) image)
   pub anchored : IsAnchored log front
   pub ready : failed ≡ false → IsSettledFrom (anchor_of log).tail (anchor_of log).tail_place log front × (log.staged ≡ None)
 

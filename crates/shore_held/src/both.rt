@@ -1,10 +1,12 @@
 //! What the values under both locks say together.
 ghost use Rattle.std.specs.Prelude.{◌≡◌, ◌≤◌, ◌<◌, ◌+◌, [], ◌++◌, false, true, length, ℕ, List};
 ghost use Rattle.crossbeam_queue.specs.SegTies.{IsSegPassOf};
-ghost use Rattle.shore_core.specs.Cores.{durable_of, has_failed, waiting_of};
+ghost use Rattle.shore_core.specs.Cores.{durable_of, has_failed, heap_of, waiting_of};
 ghost use Rattle.shore_core.specs.Cores as cores;
 ghost use Rattle.shore_model.specs.declared.log_records.LogRecord.{LogRecord};
 ghost use Rattle.shore_queue.specs.Queues.{ends};
+ghost use Rattle.shore_held.specs.Comings.{HasAim, IsAimOf};
+ghost use Rattle.shore_held.specs.Logs.{known_in};
 
 use crate::core_held::CoreHeld;
 use crate::ends::Meeting;
@@ -54,9 +56,12 @@ pub fn meeting<N: Numbers, B: Named, R: Wait + Copy, L: Disk, V: Disk>(
     ensures same { (waiting_of core.new.core ≡ waiting_of core.old.core) × (durable_of core.new.core ≡ durable_of core.old.core) × (has_failed core.new.core ≡ has_failed core.old.core)
         × (core.new.stage ≡ core.old.stage) × (core.new.asked.items ≡ core.old.asked.items) × (core.new.stepped.items ≡ core.old.stepped.items) × (core.new.made ≡ core.old.made)
         × (core.new.rest ≡ core.old.rest) }
+    ensures heap { heap_of core.new.core ≡ heap_of core.old.core }
     ensures tape { core.new.tape ≡ core.old.tape }
     ensures core_seat { (core.new.seat.seen ≡ held.old.told) × (core.old.seat.seen ≤ core.new.seat.seen) × (core.new.seat.kept ≡ core.old.seat.kept) }
-    ensures one_anchor { (core.old.seat.kept ≡ (held.old.anchors.anchor.checkpoint, held.old.anchors.anchor.tail)) × (held.old.anchors.anchor.tail ≡ held.old.cut + 1) }
+    ensures one_anchor { (core.old.seat.kept ≡ known_in held.old) × (held.old.anchors.anchor.tail ≡ held.old.cut + 1) }
+    // A move of the anchor that has failed was the last step of the core's checkpoint.
+    ensures aims { HasAim held.old.aim → ∥ IsAimOf core.old.stage (durable_of core.old.core) held.old.aim ∥₁ }
     ensures same_log { held.new ≡ held.old }
     ensures begins { (gone rest : List LogRecord) × (B.before ++ waiting_of core.old.core ≡ gone ++ (held.old.list ++ rest)) × (held.old.cut ≡ B.cut + length gone) }
     ensures all { cores.last_of core.old.core ≡ B.cut + length B.before + length (waiting_of core.old.core) }

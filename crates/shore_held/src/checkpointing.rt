@@ -6,14 +6,14 @@ ghost use Rattle.shore_log.specs.Settled.{anchor_of, cut_of_log, stable};
 ghost use Rattle.shore_check.specs.declared.stage.Named as marks;
 ghost use Rattle.shore_check.specs.declared.stage.Mark.{Mark};
 ghost use Rattle.shore_check.specs.declared.stage.Stage.TheVariants as Stage;
-ghost use Rattle.shore_core.specs.Cores.{durable_of, has_failed, waiting_of};
+ghost use Rattle.shore_core.specs.Cores.{durable_of, has_failed, heap_of, waiting_of};
 ghost use Rattle.shore_core.specs.declared.checkpointing.CheckpointStep.TheVariants as CheckpointStep;
 ghost use Rattle.shore_model.specs.declared.calls.Answer.TheVariants as Answer;
 ghost use Rattle.shore_model.specs.declared.log_records.LogRecord.{LogRecord};
 ghost use Rattle.shore_model.specs.declared.step.Step.{Step};
 ghost use Rattle.shore_model.specs.declared.step.Step.TheVariants as Step;
-ghost use Rattle.shore_held.specs.Comings.{anchored_at};
-ghost use Rattle.shore_held.specs.Logs.{AreMet};
+ghost use Rattle.shore_held.specs.Comings.{Beginning, HasAim, IsAimOf, anchored_at};
+ghost use Rattle.shore_held.specs.Logs.{AreMet, LeavesByMove, known_in};
 ghost use Rattle.shore_held.specs.Trails.{GoesOn};
 ghost use Rattle.shore_held.specs.declared.asked.Asked.TheVariants as Asked;
 
@@ -49,18 +49,26 @@ pub fn checkpoint<N: Numbers, B: Named, R: Wait + Copy, L: Disk, V: Disk>(
     ensures failed { IsTrue held.old.failed → (result ≡ Step.Nothing) × (core.new.asked.items ≡ core.old.asked.items) × (core.new.stepped.items ≡ core.old.stepped.items) }
 
     // The anchor moves only at the last step, under both locks. What is cut off was durable.
-    ensures one_anchor { (core.new.seat.kept ≡ (held.new.anchors.anchor.checkpoint, held.new.anchors.anchor.tail)) × (held.new.anchors.anchor.tail ≡ held.new.cut + 1) }
+    ensures one_anchor { (core.new.seat.kept ≡ known_in held.new) × (held.new.anchors.anchor.tail ≡ held.new.cut + 1) }
     ensures unmoved { result ≢ Step.Done Answer.Moved → held.new.anchors ≡ held.old.anchors }
     ensures moved { result ≡ Step.Done Answer.Moved → (held.old.anchors.anchor.checkpoint < held.new.anchors.anchor.checkpoint) × (held.old.cut ≤ held.new.cut) }
     ensures fails { (result ≡ Step.Refused Fault.Device) → IsTrue held.new.failed }
     ensures stays { result ≢ Step.Refused Fault.Device → held.new.failed ≡ held.old.failed }
+    // A move that fails is known on both sides: it was to lead where the core's checkpoint has come, and the Anchor record of that is durable.
+    ensures aimed { result ≡ Step.Refused Fault.Device → (core.new.stage ≡ core.old.stage) × HasAim held.new.aim × IsAimOf core.new.stage (durable_of core.new.core) held.new.aim }
+    ensures unaimed { result ≢ Step.Refused Fault.Device → held.new.aim ≡ held.old.aim }
     ensures lost { (gone : List LogRecord) × (held.old.list ≡ gone ++ held.new.list) × (held.old.stable ≡ gone ++ held.new.stable) × (held.new.cut ≡ held.old.cut + length gone) }
     ensures came { (held.new.got ≡ held.old.got) × (held.new.waits ≡ held.old.waits) }
     ensures sessions { (core.new.made ≡ core.old.made) × (core.new.rest ≡ core.old.rest) }
     // Both know all that is durable.
     ensures told { held.new.told ≡ held.new.cut + length held.new.stable }
     ensures learned { held.old.failed ≡ false → durable_of core.new.core ≡ held.new.told }
+    // Its volume is left as it is.
+    ensures volume { heap_of core.new.core ≡ heap_of core.old.core }
     ensures tape { core.new.tape ≡ core.old.tape }
+    // Its steps but the last make no call of the log device. At any moment of the last a loss of power leaves the anchor that counted or the next one, and what each reads.
+    ensures any_moment { (start : Beginning) → B.honest start → (held.new.history ≡ held.old.history) ⊎ ((named : marks.Named) × (core.old.stage ≡ Stage.Named named)
+        × (named.number ≤ durable_of core.new.core) × ∥ LeavesByMove B.geometry B.log_bytes held.old.anchors held.old.stable (named.mark.checkpoint, named.mark.tail) held.old.history held.new.history ∥₁) }
 {
     let mut reader = core.seat(words);
     let told = held.tell(words);
@@ -82,15 +90,17 @@ fn make_step<N: Numbers, B: Named, R: Wait + Copy, L: Disk, V: Disk>(
     held: &LogHeld<N, B, L>,
 ) -> CheckpointStep
     requires met { AreMet B.cut B.before (waiting_of core.old.core) (durable_of core.old.core) (anchored_at core.old.seat.kept) held.now }
-    requires running { held.now.failed ≡ false }
+    requires running { (held.now.failed ≡ false) × (core.old.seat.kept.aim ≡ (0, 0)) }
     ensures noted { (step : Step) → result ≡ CheckpointStep.Made step
         → (core.new.asked.items ≡ core.old.asked.items ++ (Asked.Checkpoint, 0) ∷ []) × (core.new.stepped.items ≡ core.old.stepped.items ++ (step, 0) ∷ []) }
     ensures others { (step : Step) → result ≡ CheckpointStep.Made step → (step ≢ Step.Done Answer.Moved) × (step ≢ Step.Refused Fault.Device) }
     ensures left { (mark : Mark) → result ≡ CheckpointStep.Move mark → (has_failed core.old.core ≡ false) × (core.new.core ≡ core.old.core)
         × (core.new.asked.items ≡ core.old.asked.items) × (core.new.stepped.items ≡ core.old.stepped.items)
         × ((named : marks.Named) × (core.new.stage ≡ Stage.Named named) × (named.mark ≡ mark) × (named.number ≤ durable_of core.old.core)) }
+    ensures stays { (mark : Mark) → result ≡ CheckpointStep.Move mark → core.new.stage ≡ core.old.stage }
     ensures durable { durable_of core.new.core ≡ durable_of core.old.core }
     ensures same { (core.new.made ≡ core.old.made) × (core.new.rest ≡ core.old.rest) × (core.new.seat ≡ core.old.seat) }
+    ensures volume { heap_of core.new.core ≡ heap_of core.old.core }
     ensures tape { core.new.tape ≡ core.old.tape }
 {
     match core.core.checkpoint_step(alloc, &mut core.stage, &held.log) {
@@ -112,18 +122,23 @@ fn move_anchor<N: Numbers, B: Named, R: Wait + Copy, L: Disk, V: Disk>(
     requires words { (words.now.table.shared.table_id ≡ B.table) × (3 < B.table.words) }
     requires met { AreMet B.cut B.before (waiting_of core.old.core) (durable_of core.old.core) (anchored_at core.old.seat.kept) held.old }
     requires next { (named : marks.Named) × (core.old.stage ≡ Stage.Named named) × (named.mark ≡ mark) × (named.number ≤ durable_of core.old.core) }
-    requires running { (has_failed core.old.core ≡ false) × (held.old.failed ≡ false) }
+    requires running { (has_failed core.old.core ≡ false) × (held.old.failed ≡ false) × (core.old.seat.kept.aim ≡ (0, 0)) }
     ensures noted { (core.new.asked.items ≡ core.old.asked.items ++ (Asked.Checkpoint, 0) ∷ []) × (core.new.stepped.items ≡ core.old.stepped.items ++ (result, 0) ∷ []) }
-    ensures one_anchor { (core.new.seat.kept ≡ (held.new.anchors.anchor.checkpoint, held.new.anchors.anchor.tail)) × (held.new.anchors.anchor.tail ≡ held.new.cut + 1) }
+    ensures one_anchor { (core.new.seat.kept ≡ known_in held.new) × (held.new.anchors.anchor.tail ≡ held.new.cut + 1) }
     ensures unmoved { result ≢ Step.Done Answer.Moved → held.new.anchors ≡ held.old.anchors }
     ensures moved { result ≡ Step.Done Answer.Moved → (held.old.anchors.anchor.checkpoint < held.new.anchors.anchor.checkpoint) × (held.old.cut ≤ held.new.cut) }
     ensures fails { (result ≡ Step.Refused Fault.Device) → IsTrue held.new.failed }
     ensures stays { result ≢ Step.Refused Fault.Device → held.new.failed ≡ held.old.failed }
+    // A move that fails is known on both sides: it was to lead where the core's checkpoint has come, and the Anchor record of that is durable.
+    ensures aimed { result ≡ Step.Refused Fault.Device → (core.new.stage ≡ core.old.stage) × HasAim held.new.aim × IsAimOf core.new.stage (durable_of core.new.core) held.new.aim }
+    ensures unaimed { result ≢ Step.Refused Fault.Device → held.new.aim ≡ held.old.aim }
     ensures lost { (gone : List LogRecord) × (held.old.list ≡ gone ++ held.new.list) × (held.old.stable ≡ gone ++ held.new.stable) × (held.new.cut ≡ held.old.cut + length gone) }
     ensures came { (held.new.got ≡ held.old.got) × (held.new.waits ≡ held.old.waits) }
     ensures sessions { (core.new.made ≡ core.old.made) × (core.new.rest ≡ core.old.rest) }
     ensures durable { (durable_of core.new.core ≡ durable_of core.old.core) × (held.new.told ≡ held.old.told) }
+    ensures volume { heap_of core.new.core ≡ heap_of core.old.core }
     ensures tape { core.new.tape ≡ core.old.tape }
+    ensures any_moment { (start : Beginning) → B.honest start → ∥ LeavesByMove B.geometry B.log_bytes held.old.anchors held.old.stable (mark.checkpoint, mark.tail) held.old.history held.new.history ∥₁ }
 {
     // Over honest devices it may: a checkpoint is of records that are kept, and its Anchor record is durable.
     if !may_move(&held.log, mark.checkpoint, mark.tail) {
@@ -142,6 +157,8 @@ fn move_anchor<N: Numbers, B: Named, R: Wait + Copy, L: Disk, V: Disk>(
         }
         Err(fault) => {
             held.failed = true;
+            held.seat
+                .fail_move(words, &mut core.seat, mark.checkpoint, mark.tail);
             core.core.fail();
             let step = Step::Refused(fault);
             note(&mut core.asked, &mut core.stepped, &step);

@@ -6,13 +6,13 @@ ghost use Rattle.shore_txn.specs.Transactions.{room_in};
 ghost use Rattle.shore_check.specs.declared.stage.Stage.TheVariants as Stage;
 ghost use Rattle.shore_model.specs.Calls.{IsServed};
 ghost use Rattle.shore_model.specs.declared.step.Step.TheVariants as Step;
-ghost use Rattle.shore_core.specs.Cores.{durable_of, geometry_of, has_failed, last_of, txns_of, volume_of, waiting_of, waits_of};
+ghost use Rattle.shore_core.specs.Cores.{durable_of, geometry_of, has_failed, heap_of, last_of, txns_of, volume_of, waiting_of, waits_of};
 ghost use Rattle.shore_core.specs.Waking.{IsLetThrough, NoneLetThrough};
 ghost use Rattle.shore_sessions.specs.declared.waits.WaitingCall.{WaitingCall};
 ghost use Rattle.shore_core.specs.Flushing.{FlushAnswers, FlushSteps};
 ghost use Rattle.shore_core.specs.Replies.{InEach, Reads, ReadsWaiting, Resumed, Serves, Stepped, fault_at, forced_at};
 ghost use Rattle.shore_words.specs.Words.{looker};
-ghost use Rattle.shore_held.specs.Comings.{HasComeBy, anchored_at};
+ghost use Rattle.shore_held.specs.Comings.{Beginning, HasAim, HasComeBy, IsAimOf, anchored_at};
 ghost use Rattle.shore_held.specs.Trails.{calls_in, moves_of};
 ghost use Rattle.shore_held.specs.declared.asked.Asked.TheVariants as Asked;
 ghost use Rattle.shore_held.specs.declared.core_held.TheConstants.{ALL_PARTS};
@@ -51,14 +51,15 @@ pub struct CoreHeld<B: Named, T: Tail, V: Disk> {
     pub(crate) rest: Share<B>,
     // How many sessions were made: each has a number of its own, and one part.
     pub(crate) made: u32,
-    // What the core has seen of how far the log is durable, and the anchor that counts.
+    // What the core has seen of how far the log is durable, the anchor that counts, and where a move of it that has failed was to lead.
     pub(crate) seat: Seat<B>,
-    ghost come_by: { B.honest → ∥ HasComeBy B.cut B.before core stage (anchored_at seat.kept) (moves_of asked.items stepped.items) ∥₁ },
+    ghost come_by: { (start : Beginning) → B.honest start → ∥ HasComeBy start B.cut B.before core stage (anchored_at seat.kept) (moves_of asked.items stepped.items) ∥₁ },
     ghost layout: { geometry_of core ≡ B.geometry },
     ghost ring: { (room_in (txns_of core)).stream_bytes + LOG_FRONT_BYTES ≡ B.log_bytes },
     ghost as_many: { length stepped.items ≡ length asked.items },
     ghost keeps: { seat.keeps ≡ true },
     ghost durable_seen: { durable_of core ≤ seat.seen },
+    ghost aims: { HasAim seat.kept.aim → ∥ IsAimOf stage (durable_of core) seat.kept.aim ∥₁ },
     ghost counted: { calls.total ≡ calls_in asked.items },
     ghost parts: { rest.parts + made ≡ B.all },
     ghost none_kept: { rest.amount ≡ 0 },
@@ -74,9 +75,9 @@ impl<B: Named, T: Tail, V: Disk> CoreHeld<B, T, V> {
         seat: Seat<B>,
     ) -> CoreHeld<B, T, V>
         requires calls { (calls.total ≡ 0) × (rest.parts ≡ B.all) × (rest.amount ≡ 0) }
-        requires seat { (seat.keeps ≡ true) × (durable_of core ≤ seat.seen) }
+        requires seat { (seat.keeps ≡ true) × (durable_of core ≤ seat.seen) × (seat.kept.aim ≡ (0, 0)) }
         requires layout { (geometry_of core ≡ B.geometry) × ((room_in (txns_of core)).stream_bytes + LOG_FRONT_BYTES ≡ B.log_bytes) }
-        requires opened { B.honest → ∥ HasComeBy B.cut B.before core stage (anchored_at seat.kept) [] ∥₁ }
+        requires opened { (start : Beginning) → B.honest start → ∥ HasComeBy start B.cut B.before core stage (anchored_at seat.kept) [] ∥₁ }
         ensures { (result.core ≡ core) × (result.stage ≡ stage) × (result.asked.items ≡ []) × (result.stepped.items ≡ []) × (result.tape ≡ None) × (result.seat ≡ seat)
             × (result.made ≡ 0) }
     {
@@ -106,6 +107,7 @@ impl<B: Named, T: Tail, V: Disk> CoreHeld<B, T, V> {
         ensures step { InEach (λ front disk before s store. Stepped session call result self.old.core self.new.core front before s store) self.old.core }
         // At any moment no page of the volume has a number above what the core knows to be durable, which its seat has seen.
         ensures serves { Serves (Reads call) (forced_at call self.old.core self.new.core) (fault_at result) self.old.core self.new.core }
+        ensures still { IsTrue (has_failed self.old.core) → heap_of self.new.core ≡ heap_of self.old.core }
         ensures share { (share.new.parts ≡ 1) × (share.new.amount ≡ share.old.amount + 1) }
         ensures asked { self.new.asked.items ≡ self.old.asked.items ++ (Asked.Call call, session) ∷ [] }
         ensures stepped { self.new.stepped.items ≡ self.old.stepped.items ++ (result, session) ∷ [] }
@@ -129,6 +131,7 @@ impl<B: Named, T: Tail, V: Disk> CoreHeld<B, T, V> {
         requires share { share.old.parts ≡ 1 }
         ensures step { InEach (λ front disk before s store. Resumed session result self.old.core self.new.core front before s store) self.old.core }
         ensures serves { Serves (ReadsWaiting self.old.core session) self.old.core (fault_at result) self.old.core self.new.core }
+        ensures still { IsTrue (has_failed self.old.core) → heap_of self.new.core ≡ heap_of self.old.core }
         ensures share { (share.new.parts ≡ 1) × (share.new.amount ≡ share.old.amount + 1) }
         ensures asked { self.new.asked.items ≡ self.old.asked.items ++ (Asked.Resume, session) ∷ [] }
         ensures stepped { self.new.stepped.items ≡ self.old.stepped.items ++ (result, session) ∷ [] }
@@ -149,6 +152,7 @@ impl<B: Named, T: Tail, V: Disk> CoreHeld<B, T, V> {
         ensures seen { (self.new.seat ≡ record self.old.seat { seen = result }) × (self.old.seat.seen ≤ result) }
         ensures learned { result ≤ last_of self.old.core → durable_of self.new.core ≡ result }
         ensures records { (waiting_of self.new.core ≡ waiting_of self.old.core) × (has_failed self.new.core ≡ has_failed self.old.core) }
+        ensures heap { heap_of self.new.core ≡ heap_of self.old.core }
         ensures trail { ((self.new.asked.items ≡ self.old.asked.items) × (self.new.stepped.items ≡ self.old.stepped.items))
             ⊎ ((n : ℕ) × (self.new.asked.items ≡ self.old.asked.items ++ (Asked.Told n, 0) ∷ []) × (self.new.stepped.items ≡ self.old.stepped.items ++ (Step.Nothing, 0) ∷ [])) }
         ensures same { (self.new.stage ≡ self.old.stage) × (self.new.made ≡ self.old.made) × (self.new.rest ≡ self.old.rest) }
@@ -164,6 +168,7 @@ impl<B: Named, T: Tail, V: Disk> CoreHeld<B, T, V> {
         requires { number ≤ self.old.seat.seen }
         ensures learned { durable_of self.old.core ≤ number → number ≤ last_of self.old.core → durable_of self.new.core ≡ number }
         ensures records { (waiting_of self.new.core ≡ waiting_of self.old.core) × (has_failed self.new.core ≡ has_failed self.old.core) }
+        ensures heap { heap_of self.new.core ≡ heap_of self.old.core }
         ensures same { (self.new.stage ≡ self.old.stage) × (self.new.made ≡ self.old.made) × (self.new.rest ≡ self.old.rest) × (self.new.seat ≡ self.old.seat) }
         ensures trail { ((self.new.asked.items ≡ self.old.asked.items) × (self.new.stepped.items ≡ self.old.stepped.items))
             ⊎ ((n : ℕ) × (self.new.asked.items ≡ self.old.asked.items ++ (Asked.Told n, 0) ∷ []) × (self.new.stepped.items ≡ self.old.stepped.items ++ (Step.Nothing, 0) ∷ [])) }
@@ -184,6 +189,7 @@ impl<B: Named, T: Tail, V: Disk> CoreHeld<B, T, V> {
         ensures answers { FlushAnswers self.old.core result self.new.core }
         ensures failed { IsTrue (has_failed self.old.core) → result ≡ Step.Refused Fault.Failed }
         ensures serves { Serves (λ page. ⊥) self.old.core (fault_at result) self.old.core self.new.core }
+        ensures still { IsTrue (has_failed self.old.core) → heap_of self.new.core ≡ heap_of self.old.core }
         // It is in the trail if the volume fails.
         ensures fails { result ≡ Step.Refused Fault.Device
             → (self.new.asked.items ≡ self.old.asked.items ++ (Asked.Failed, 0) ∷ []) × (self.new.stepped.items ≡ self.old.stepped.items ++ (Step.Nothing, 0) ∷ []) }
@@ -203,6 +209,7 @@ impl<B: Named, T: Tail, V: Disk> CoreHeld<B, T, V> {
     pub fn fail(&mut self)
         ensures noted { IsTrue (has_failed self.new.core) }
         ensures records { (waiting_of self.new.core ≡ waiting_of self.old.core) × (durable_of self.new.core ≡ durable_of self.old.core) }
+        ensures heap { heap_of self.new.core ≡ heap_of self.old.core }
         ensures trail { (self.new.asked.items ≡ self.old.asked.items ++ (Asked.Failed, 0) ∷ []) × (self.new.stepped.items ≡ self.old.stepped.items ++ (Step.Nothing, 0) ∷ []) }
         ensures same { (self.new.stage ≡ self.old.stage) × (self.new.made ≡ self.old.made) × (self.new.rest ≡ self.old.rest) × (self.new.seat ≡ self.old.seat) }
         ensures tape { self.new.tape ≡ self.old.tape }

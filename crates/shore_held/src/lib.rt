@@ -6,6 +6,7 @@ mod both;
 mod checkpointing;
 mod core_held;
 mod ends;
+mod laws;
 mod log_held;
 mod names;
 mod seat;
@@ -16,6 +17,10 @@ pub use both::meeting;
 pub use checkpointing::checkpoint;
 pub use core_held::{ALL_PARTS, CoreHeld};
 pub use ends::Meeting;
+pub use laws::{
+    calls_are_steps_under_way, pairs_stand_amid_a_move, pairs_stand_at_each_moment,
+    values_meet_at_each_moment,
+};
 pub use log_held::LogHeld;
 pub use names::Named;
 pub use seat::Seat;

@@ -1,5 +1,5 @@
 //! What lies under the log device's lock.
-ghost use Rattle.std.specs.Prelude.{◌≡◌, ◌↔◌, ◌≤◌, ◌<◌, ◌+◌, [], ◌++◌, length, ℕ, List, IfErr, IsTrue, OnErr, OnOk, Ok, Err, false, true};
+ghost use Rattle.std.specs.Prelude.{◌≡◌, ◌↔◌, ◌≤◌, ◌<◌, ◌+◌, [], ◌++◌, length, take, ℕ, List, IfErr, IsTrue, OnErr, OnOk, Ok, Err, false, true};
 ghost use Rattle.std.specs.Arc.{arc_value};
 ghost use Rattle.crossbeam_queue.specs.SegTies.{IsSegPassOf};
 ghost use Rattle.shore_types.specs.declared.faults.Fault.TheVariants as Fault;
@@ -9,7 +9,9 @@ ghost use Rattle.shore_log.specs.PlainTails.{first_of, waiting_in};
 ghost use Rattle.shore_log.specs.Settled.{cut_of_log, records_of_log, stable};
 ghost use Rattle.shore_model.specs.declared.log_records.LogRecord.{LogRecord};
 ghost use Rattle.shore_queue.specs.Queues.{ends};
-ghost use Rattle.shore_held.specs.Logs.{Follows, IsKept, LogState};
+ghost use Rattle.shore_words.specs.Words.{known};
+ghost use Rattle.shore_held.specs.Comings.{Beginning};
+ghost use Rattle.shore_held.specs.Logs.{Follows, IsKept, LeavesHeld, LogState};
 
 use crate::names::Named;
 use crate::seat::Seat;
@@ -42,14 +44,15 @@ pub struct LogHeld<N: Numbers, B: Named, L: Disk> {
 impl<N: Numbers, B: Named, L: Disk> Model for LogHeld<N, B, L> {
     ghost Value = { LogState };
 
-    ghost view = { λ h. record { anchors = h.log.anchors; cut = cut_of_log h.log; list = records_of_log h.log ++ waiting_in h.next; waits = waiting_in h.next; stable = stable h.log; got = h.pass.me.view.client.got; told = h.seat.told; failed = h.failed } };
+    ghost view = { λ h. record { anchors = h.log.anchors; cut = cut_of_log h.log; list = records_of_log h.log ++ waiting_in h.next; waits = waiting_in h.next; stable = stable h.log; got = h.pass.me.view.client.got; told = h.seat.told; aim = h.seat.anchor.aim; failed = h.failed; history = L.Disk.history h.log.device } };
 
     ghost invariant = { λ h. ((arc_value h.channel).queue ≡ B.queue) × IsSegPassOf B.queue h.pass × (h.pass.me.view.client ≡ ends false true [] h.pass.me.view.client.got)
         × Follows B.cut B.before h.pass.me.view.client.got (cut_of_log h.log) (records_of_log h.log ++ waiting_in h.next)
         × (first_of h.next ≡ cut_of_log h.log + 1 + length (records_of_log h.log)) × (N.first_number ≡ B.cut + 1 + length B.before)
-        × (h.seat.tells ≡ true) × (h.seat.anchor ≡ (h.log.anchors.anchor.checkpoint, h.log.anchors.anchor.tail)) × (h.seat.told ≤ cut_of_log h.log + length (stable h.log))
+        × (h.seat.tells ≡ true) × (h.seat.anchor ≡ record { checkpoint = h.log.anchors.anchor.checkpoint; tail = h.log.anchors.anchor.tail; aim = h.seat.anchor.aim }) × (h.seat.told ≤ cut_of_log h.log + length (stable h.log))
         × (devices.size (L.Disk.history h.log.device) ≡ B.log_bytes)
-        × (B.honest → ∥ IsKept B.geometry B.log_bytes h.log h.failed ∥₁) };
+        × ((start : Beginning) → B.honest start → ∥ IsKept B.geometry B.log_bytes h.log h.failed h.seat.anchor.aim ∥₁)
+        × (h.failed ≡ false → h.seat.anchor.aim ≡ (0, 0)) };
 }
 
 impl<N: Numbers, B: Named, L: Disk> LogHeld<N, B, L> {
@@ -63,11 +66,11 @@ impl<N: Numbers, B: Named, L: Disk> LogHeld<N, B, L> {
         requires queue { ((arc_value channel).queue ≡ B.queue) × IsSegPassOf B.queue pass × (pass.me.view.client ≡ ends false true [] []) }
         requires before { (records_of_log log ≡ B.before) × (cut_of_log log ≡ B.cut) × (N.first_number ≡ B.cut + 1 + length B.before) }
         requires few { N.first_number ≤ LAST_OPENED }
-        requires seat { (seat.tells ≡ true) × (seat.anchor ≡ (log.anchors.anchor.checkpoint, log.anchors.anchor.tail)) × (seat.told ≤ cut_of_log log + length (stable log)) }
+        requires seat { (seat.tells ≡ true) × (seat.anchor ≡ known log.anchors.anchor.checkpoint log.anchors.anchor.tail) × (seat.told ≤ cut_of_log log + length (stable log)) }
         requires long { devices.size (L.Disk.history log.device) ≡ B.log_bytes }
-        requires kept { B.honest → ∥ IsKept B.geometry B.log_bytes log false ∥₁ }
+        requires kept { (start : Beginning) → B.honest start → ∥ IsKept B.geometry B.log_bytes log false (0, 0) ∥₁ }
         ensures { (result.anchors ≡ log.anchors) × (result.list ≡ records_of_log log) × (result.waits ≡ []) × (result.cut ≡ cut_of_log log) × (result.stable ≡ stable log) × (result.got ≡ []) × (result.told ≡ seat.told)
-            × (result.failed ≡ false) }
+            × (result.aim ≡ (0, 0)) × (result.failed ≡ false) × (result.history ≡ L.Disk.history log.device) }
     {
         let next = PlainTail::new(alloc, Lsn(log.last().0 + 1));
         LogHeld {
@@ -83,7 +86,8 @@ impl<N: Numbers, B: Named, L: Disk> LogHeld<N, B, L> {
 
     /// Takes in what came through the queue and waits for memory, and then one push more. False if there was none more. `Memory` if an allocation failed: nothing is lost.
     pub fn take_one<R: Wait>(&mut self, rt: &R) -> Result<bool, Fault>
-        ensures same { (self.new.anchors ≡ self.old.anchors) × (self.new.cut ≡ self.old.cut) × (self.new.stable ≡ self.old.stable) × (self.new.told ≡ self.old.told) × (self.new.failed ≡ self.old.failed) }
+        ensures same { (self.new.anchors ≡ self.old.anchors) × (self.new.cut ≡ self.old.cut) × (self.new.stable ≡ self.old.stable) × (self.new.told ≡ self.old.told) × (self.new.failed ≡ self.old.failed)
+            × (self.new.aim ≡ self.old.aim) × (self.new.history ≡ self.old.history) }
         ensures more { (more : List LogRecord) × (self.new.list ≡ self.old.list ++ more) × (self.new.got ≡ self.old.got ++ more) }
         ensures none { result ≡ Ok false → (self.new.list ≡ self.old.list) × (self.new.got ≡ self.old.got) }
         ensures taken { OnOk result (self.new.waits ≡ []) }
@@ -103,10 +107,12 @@ impl<N: Numbers, B: Named, L: Disk> LogHeld<N, B, L> {
     /// Forces the longest list of its records that one frame holds. False if all that it took in is durable. After `Device` it is not called any more.
     pub fn force(&mut self, alloc: Global) -> Result<bool, Fault>
         ensures same { (self.new.anchors ≡ self.old.anchors) × (self.new.cut ≡ self.old.cut) × (self.new.list ≡ self.old.list) × (self.new.waits ≡ self.old.waits) × (self.new.got ≡ self.old.got)
-            × (self.new.told ≡ self.old.told) }
+            × (self.new.told ≡ self.old.told) × (self.new.aim ≡ self.old.aim) }
         ensures failed { IsTrue self.old.failed → result ≡ Err Fault.Device }
         ensures unforced { OnErr result (self.new.stable ≡ self.old.stable) }
         ensures none { result ≡ Ok false → (self.new.stable ≡ self.old.stable) × (self.new.list ≡ self.new.stable ++ self.new.waits) }
+        // A loss of power at any moment of it leaves a prefix of the records, with all that were durable before; or what a move of the anchor has left that failed before.
+        ensures any_moment { (start : Beginning) → B.honest start → ∥ LeavesHeld B.geometry B.log_bytes self.old self.new.history ∥₁ }
         ensures forced { result ≡ Ok true → length self.old.stable < length self.new.stable }
         ensures broken { OnOk result (self.new.failed ≡ self.old.failed) }
         ensures breaks { IfErr result (λ fault. IsTrue self.new.failed ↔ (fault ≡ Fault.Device)) }
@@ -130,7 +136,7 @@ impl<N: Numbers, B: Named, L: Disk> LogHeld<N, B, L> {
         requires { (words.now.table.shared.table_id ≡ B.table) × (3 < B.table.words) }
         ensures told { (result ≡ self.new.told) × (self.new.told ≡ self.new.cut + length self.new.stable) }
         ensures same { (self.new.anchors ≡ self.old.anchors) × (self.new.cut ≡ self.old.cut) × (self.new.list ≡ self.old.list) × (self.new.waits ≡ self.old.waits) × (self.new.stable ≡ self.old.stable) × (self.new.got ≡ self.old.got)
-            × (self.new.failed ≡ self.old.failed) }
+            × (self.new.aim ≡ self.old.aim) × (self.new.failed ≡ self.old.failed) × (self.new.history ≡ self.old.history) }
     {
         let durable = self.log.durable().number();
         self.seat.tell(words, durable.0);
@@ -153,17 +159,26 @@ impl<N: Numbers, B: Named, L: Disk> LogHeld<N, B, L> {
         self.log.last()
     }
 
+    /// Whether the device has failed. A loss of power leaves a prefix of its records now, with all that are durable; or what a move of the anchor that has failed has left (`left`).
     pub fn has_failed(&self) -> bool
-        ensures { result ≡ self.now.failed }
+        ensures noted { result ≡ self.now.failed }
+        ensures unaimed { self.now.failed ≡ false → self.now.aim ≡ (0, 0) }
+        ensures few { length self.now.stable + length self.now.waits ≤ length self.now.list }
+        ensures first { self.now.anchors.anchor.tail ≡ self.now.cut + 1 }
+        ensures told { self.now.told ≤ self.now.cut + length self.now.stable }
+        ensures follows { Follows B.cut B.before self.now.got self.now.cut self.now.list }
+        ensures stable { self.now.stable ≡ take (length self.now.stable) self.now.list }
+        ensures left { (start : Beginning) → B.honest start → ∥ LeavesHeld B.geometry B.log_bytes self.now self.now.history ∥₁ }
     {
         self.failed
     }
 
     /// The log device.
     pub fn into_log(self) -> LogDev<L>
-        ensures log { (result.anchors ≡ self.anchors) × (cut_of_log result ≡ self.cut) × (stable result ≡ self.stable) × (self.list ≡ records_of_log result ++ self.waits) }
+        ensures log { (result.anchors ≡ self.anchors) × (cut_of_log result ≡ self.cut) × (stable result ≡ self.stable) × (self.list ≡ records_of_log result ++ self.waits)
+            × (L.Disk.history result.device ≡ self.history) }
         ensures long { devices.size (L.Disk.history result.device) ≡ B.log_bytes }
-        ensures kept { B.honest → ∥ IsKept B.geometry B.log_bytes result self.failed ∥₁ }
+        ensures kept { (start : Beginning) → B.honest start → ∥ IsKept B.geometry B.log_bytes result self.failed self.aim ∥₁ }
     {
         self.log
     }

@@ -9,6 +9,7 @@ pub trait Named: Ledger + Queued {
     ghost use Rattle.atomic_table.specs.Seated.{TableId};
     ghost use Rattle.shore_types.specs.declared.layout.Geometry.{Geometry};
     ghost use Rattle.shore_model.specs.declared.log_records.LogRecord.{LogRecord};
+    ghost use Rattle.shore_held.specs.Comings.{Beginning};
 
     ghost table: { TableId };
 
@@ -24,8 +25,8 @@ pub trait Named: Ledger + Queued {
 
     ghost log_bytes: { ℕ };
 
-    /// Whether both devices were honest, and what was opened stood for a log and pages.
-    ghost honest: { Type 0 };
+    /// Of a state of a manager that the core may begin with: whether it does, both devices are honest, and what was opened stood for a log and pages.
+    ghost honest: { Beginning → Type 0 };
 }
 
 impl Named for Brand {
@@ -44,5 +45,5 @@ impl Named for Brand {
 
     ghost log_bytes = { 0 };
 
-    ghost honest = { ⊥ };
+    ghost honest = { λ start. ⊥ };
 }

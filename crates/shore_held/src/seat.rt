@@ -1,6 +1,6 @@
 //! A seat of the words, in a type that says of which.
 ghost use Rattle.std.specs.Prelude.{◌≡◌, ◌≤◌, ◌<◌, true, false};
-ghost use Rattle.shore_words.specs.Words.{keeper, looker};
+ghost use Rattle.shore_words.specs.Words.{keeper, looker, no_anchor};
 ghost use Rattle.shore_words.specs.declared.rule.View.{View};
 
 use crate::names::Named;
@@ -85,7 +85,7 @@ impl<B: Named> Seat<B> {
     pub fn keeper(&mut self, words: &Words) -> Seat<B>
         requires words { (words.now.table.shared.table_id ≡ B.table) × (3 < B.table.words) }
         requires keeps { self.old.keeps ≡ true }
-        ensures same { self.new ≡ record self.old { keeps = false; kept = (0, 0) } }
+        ensures same { self.new ≡ record self.old { keeps = false; kept = no_anchor } }
         ensures new { result ≡ keeper self.old.seen self.old.kept }
     {
         Seat::of(words.keeper(&mut self.inner))
@@ -107,7 +107,7 @@ impl<B: Named> Seat<B> {
         requires words { (words.now.table.shared.table_id ≡ B.table) × (3 < B.table.words) }
         requires tells { self.old.tells ≡ true }
         requires keeps { seat.old.keeps ≡ true }
-        ensures teller { self.new ≡ record self.old { seen = self.old.told; keeps = false; kept = (0, 0) } }
+        ensures teller { self.new ≡ record self.old { seen = self.old.told; keeps = false; kept = no_anchor } }
         ensures seat { seat.new ≡ keeper self.old.told self.old.anchor }
         ensures seen { seat.old.seen ≤ self.old.told }
         ensures one { seat.old.kept ≡ self.old.anchor }
@@ -120,10 +120,24 @@ impl<B: Named> Seat<B> {
         requires words { (words.now.table.shared.table_id ≡ B.table) × (3 < B.table.words) }
         requires tells { self.old.tells ≡ true }
         requires keeps { seat.old.keeps ≡ true }
-        ensures teller { self.new ≡ record self.old { seen = self.old.told; anchor = (checkpoint, tail); keeps = false; kept = (0, 0) } }
-        ensures seat { seat.new ≡ keeper self.old.told (checkpoint, tail) }
+        ensures teller { self.new ≡ record self.old { seen = self.old.told; anchor = record self.old.anchor { checkpoint = checkpoint; tail = tail }; keeps = false; kept = no_anchor } }
+        ensures seat { seat.new ≡ keeper self.old.told (record self.old.anchor { checkpoint = checkpoint; tail = tail }) }
         ensures seen { seat.old.seen ≤ self.old.told }
+        ensures one { seat.old.kept ≡ self.old.anchor }
     {
         words.move_anchor(&mut self.inner, &mut seat.inner, checkpoint.0, tail);
+    }
+
+    /// Notes that a move of the anchor has failed: it was to lead to this checkpoint, with this record kept.
+    pub fn fail_move(&mut self, words: &Words, seat: &mut Seat<B>, checkpoint: Lsn, number: Lsn)
+        requires words { (words.now.table.shared.table_id ≡ B.table) × (3 < B.table.words) }
+        requires tells { self.old.tells ≡ true }
+        requires keeps { seat.old.keeps ≡ true }
+        ensures teller { self.new ≡ record self.old { seen = self.old.told; anchor = record self.old.anchor { aim = (checkpoint, number) }; keeps = false; kept = no_anchor } }
+        ensures seat { seat.new ≡ keeper self.old.told (record self.old.anchor { aim = (checkpoint, number) }) }
+        ensures seen { seat.old.seen ≤ self.old.told }
+        ensures one { seat.old.kept ≡ self.old.anchor }
+    {
+        words.fail_move(&mut self.inner, &mut seat.inner, checkpoint.0, number.0);
     }
 }

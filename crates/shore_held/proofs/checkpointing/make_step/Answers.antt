@@ -8,6 +8,7 @@ use Rattle.shore_world.specs.EventMoves.{OfCheckpoint}
 use Rattle.shore_held.specs.Comings.{HasComeBy, anchored_at}
 use Rattle.shore_held.specs.Trails.{calls_in, moves_of}
 use Rattle.shore_held.specs.declared.asked.Asked.TheVariants as Asked
+use Rattle.shore_held.proofs.Aims.{never_aims}
 use Rattle.shore_held.proofs.Checkpoints.{step_made}
 use Rattle.shore_held.proofs.Trails.{calls_snoc, long_snoc, moves_snoc}
 use Rattle.shore_held.proofs.checkpointing.make_step.Goals as goal
@@ -24,12 +25,12 @@ invariant_of-core g c =
     let is : c.checkpoint_step.result ≡ made.Made step = search rules in
     let e1 = c.note.ensures.asked in
     let e2 = c.note.ensures.stepped in
-    let runs : c.held.inside.failed ≡ false = ap (λ s. s.failed) c.held.view_is ∙ c.requires.running in
+    let runs : c.held.inside.failed ≡ false = ap (λ s. s.failed) c.held.view_is ∙ c.requires.running.0 in
     let trail : moves_of c.note.new.asked.items c.note.new.stepped.items ≡ moves_of j.asked.items j.stepped.items ++ OfCheckpoint step ∷ [] =
     (λ t. moves_of (e1 t) (e2 t)) ∙ moves_snoc j.asked.items j.stepped.items (Asked.Checkpoint, 0) (step, 0) j.as_many in
     record {
-      come_by = λ honest. ∥∥₁_elim (i.10 honest) ∥∥₁_prop (λ k. ∥∥₁_map (j.come_by honest) (λ h.
-          subst (HasComeBy g.B.Named.cut g.B.Named.before new later (anchored_at j.seat.kept)) (sym trail)
+      come_by = λ start honest. ∥∥₁_elim (i.10 start honest) ∥∥₁_prop (λ k. ∥∥₁_map (j.come_by start honest) (λ h.
+          subst (HasComeBy start g.B.Named.cut g.B.Named.before new later (anchored_at j.seat.kept)) (sym trail)
           (step_made g.B.Named.cut g.B.Named.before j.core j.stage (anchored_at j.seat.kept) (moves_of j.asked.items j.stepped.items) h log c.args.held.now (waiting_in c.held.inside.next)
           (sym (ap (λ s. s.anchors) c.held.view_is)) (sym (ap (λ s. s.cut) c.held.view_is)) (sym (ap (λ s. s.list) c.held.view_is)) (sym (ap (λ s. s.stable) c.held.view_is)) c.requires.met
           new later c.checkpoint_step.result step is did.heap did.ring did.running (λ p. did.no_move (is ∙ ap made.Made p)) did.failed
@@ -39,6 +40,7 @@ invariant_of-core g c =
       as_many = ap length e2 ∙ long_snoc j.asked.items j.stepped.items (Asked.Checkpoint, 0) (step, 0) j.as_many ∙ sym (ap length e1);
       keeps = j.keeps;
       durable_seen = omega (arith, did.durable, j.durable_seen);
+      aims = never_aims j.seat.kept.aim c.requires.running.1;
       counted = omega (arith, j.counted, calls_snoc j.asked.items (Asked.Checkpoint, 0), ap calls_in e1);
       parts = j.parts;
       none_kept = j.none_kept;

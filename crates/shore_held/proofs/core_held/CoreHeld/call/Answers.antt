@@ -1,12 +1,14 @@
-use Rattle.std.proofs.Common.{rules, ◌≡◌, ◌≤◌, ◌+◌, [], ◌∷◌, ◌++◌, length, arith, sym, ap, subst, ◌∙◌}
+use Rattle.std.proofs.Common.{rules, ◌≡◌, ◌≤◌, ◌+◌, [], ◌∷◌, ◌++◌, length, arith, refl, sym, ap, subst, ◌∙◌}
 use Rattle.std.proofs.Math.Logic.{∥∥₁_map}
 use Rattle.shore_model.specs.declared.calls.Call.{Call}
 use Rattle.laws_calls.specs.Events.{Called}
 use Rattle.shore_core.specs.Replies.{InEach, Stepped}
 use Rattle.shore_world.specs.EventMoves.{OfManager}
+use Rattle.shore_core.specs.Cores.{durable_of}
 use Rattle.shore_held.specs.Comings.{HasComeBy, anchored_at}
 use Rattle.shore_held.specs.Trails.{calls_in, moves_of}
 use Rattle.shore_held.specs.declared.asked.Asked.TheVariants as Asked
+use Rattle.shore_held.proofs.Aims.{aims_kept}
 use Rattle.shore_held.proofs.Comings.{called}
 use Rattle.shore_held.proofs.Trails.{calls_snoc, long_snoc, moves_snoc}
 use Rattle.shore_held.proofs.core_held.CoreHeld.call.Goals as goal
@@ -24,7 +26,7 @@ invariant_of-self g c =
     let trail : moves_of c.and-self.result.items c.and-self-2.result.items ≡ moves_of i.asked.items i.stepped.items ++ OfManager (Called session c.args.call step) ∷ [] =
     (λ j. moves_of (e1 j) (e2 j)) ∙ moves_snoc i.asked.items i.stepped.items (Asked.Call c.args.call, session) (step, session) i.as_many in
     record {
-      come_by = λ honest. ∥∥₁_map (i.come_by honest) (λ h. subst (HasComeBy g.B.Named.cut g.B.Named.before new i.stage (anchored_at i.seat.kept)) (sym trail)
+      come_by = λ start honest. ∥∥₁_map (i.come_by start honest) (λ h. subst (HasComeBy start g.B.Named.cut g.B.Named.before new i.stage (anchored_at i.seat.kept)) (sym trail)
           (called g.B.Named.cut g.B.Named.before i.core i.stage (anchored_at i.seat.kept) (moves_of i.asked.items i.stepped.items) h new session c.args.call step is.serves.volume.geometry is.ring c.requires.served
           (subst (λ (call : Call). InEach (λ front disk before s store. Stepped session call step i.core new front before s store) i.core) same is.step) is.serves.any_moment is.still));
       layout = is.serves.volume.geometry ∙ i.layout;
@@ -32,6 +34,7 @@ invariant_of-self g c =
       as_many = ap length e2 ∙ long_snoc i.asked.items i.stepped.items (Asked.Call c.args.call, session) (step, session) i.as_many ∙ sym (ap length e1);
       keeps = i.keeps;
       durable_seen = subst (λ n. n ≤ i.seat.seen) (sym is.serves.durable) i.durable_seen;
+      aims = aims_kept i.stage (durable_of i.core) (durable_of new) i.seat.kept i.seat.kept refl (omega (arith, is.serves.durable)) i.aims;
       counted = c.add.ensures.total ∙ ap (λ n. n + 1) i.counted ∙ sym (calls_snoc i.asked.items (Asked.Call c.args.call, session)) ∙ sym (ap calls_in e1);
       parts = i.parts;
       none_kept = i.none_kept;

@@ -28,10 +28,11 @@ invariant_of-self g c =
       omega (arith, i.4, is.next, ap length same.0, ap length same.1, cut),
       i.5,
       i.6,
-      i.7 ∙ ap (λ (a : Anchors). (a.anchor.checkpoint, a.anchor.tail)) (sym is.frames.anchors),
+      i.7 ∙ ap (λ (a : Anchors). record { checkpoint = a.anchor.checkpoint; tail = a.anchor.tail; aim = c.self.inside.seat.anchor.aim }) (sym is.frames.anchors),
       omega (arith, i.8, cut, ap length is.frames.forced),
       ap (λ d. size (g.L.Disk.history d)) is.device ∙ i.9,
-      λ honest. ∥∥₁_map (i.10 honest) (λ k. kept_longer old new c.self.inside.failed k is.device is.frames [] (same.0 ∙ sym (append-nil (records_of_log old)))),
+      λ start honest. ∥∥₁_map (i.10 start honest) (λ k. kept_longer old new c.self.inside.failed k is.device is.frames [] (same.0 ∙ sym (append-nil (records_of_log old)))),
+      i.11,
     )
 
 -- Nothing is received.
@@ -56,10 +57,11 @@ invariant_of-self-in-None g c =
       omega (arith, i.4, is.next, ap length none, ap length taken, length-append (records_of_log old) (waiting_in waits), cut),
       i.5,
       i.6,
-      i.7 ∙ ap (λ (a : Anchors). (a.anchor.checkpoint, a.anchor.tail)) (sym is.frames.anchors),
+      i.7 ∙ ap (λ (a : Anchors). record { checkpoint = a.anchor.checkpoint; tail = a.anchor.tail; aim = c.self.inside.seat.anchor.aim }) (sym is.frames.anchors),
       omega (arith, i.8, cut, ap length is.frames.forced),
       ap (λ d. size (g.L.Disk.history d)) is.device ∙ i.9,
-      λ honest. ∥∥₁_map (i.10 honest) (λ k. kept_longer old new c.self.inside.failed k is.device is.frames (waiting_in waits) taken),
+      λ start honest. ∥∥₁_map (i.10 start honest) (λ k. kept_longer old new c.self.inside.failed k is.device is.frames (waiting_in waits) taken),
+      i.11,
     )
 
 -- What is received has the next number.
@@ -102,12 +104,13 @@ invariant_of-self-in_err-take_in-in-Some g c =
       omega (arith, is.next, ap length same.1, ap length same.0, ap length taken, c.in-Some.ensures.got.1, i.5, next, before, cut),
       i.5,
       i.6,
-      i.7 ∙ ap (λ (a : Anchors). (a.anchor.checkpoint, a.anchor.tail)) (sym was.frames.anchors ∙ sym is.frames.anchors),
+      i.7 ∙ ap (λ (a : Anchors). record { checkpoint = a.anchor.checkpoint; tail = a.anchor.tail; aim = c.self.inside.seat.anchor.aim }) (sym was.frames.anchors ∙ sym is.frames.anchors),
       omega (arith, i.8, before, cut, ap length was.frames.forced, ap length is.frames.forced),
       ap (λ d. size (g.L.Disk.history d)) (is.device ∙ was.device) ∙ i.9,
-      λ honest. ∥∥₁_map (i.10 honest) (λ k.
+      λ start honest. ∥∥₁_map (i.10 start honest) (λ k.
           kept_longer mid new c.self.inside.failed (kept_longer old mid c.self.inside.failed k was.device was.frames (waiting_in waits) taken) is.device is.frames []
           (same.0 ∙ sym (append-nil (records_of_log mid)))),
+      i.11,
     )
 
 pub returns-in_err-take_in-in-Some-clause-more : goal.returns-in_err-take_in-in-Some-clause-more
@@ -153,11 +156,12 @@ invariant_of-self-in-Some g c =
       omega (arith, is.next, ap length none, ap length all, length-append (records_of_log old ++ waiting_in waits) (waiting_in came), c.in-Some.ensures.got.1, i.5, next, before, cut),
       i.5,
       i.6,
-      i.7 ∙ ap (λ (a : Anchors). (a.anchor.checkpoint, a.anchor.tail)) (sym was.frames.anchors ∙ sym is.frames.anchors),
+      i.7 ∙ ap (λ (a : Anchors). record { checkpoint = a.anchor.checkpoint; tail = a.anchor.tail; aim = c.self.inside.seat.anchor.aim }) (sym was.frames.anchors ∙ sym is.frames.anchors),
       omega (arith, i.8, before, cut, ap length was.frames.forced, ap length is.frames.forced),
       ap (λ d. size (g.L.Disk.history d)) (is.device ∙ was.device) ∙ i.9,
-      λ honest. ∥∥₁_map (i.10 honest) (λ k.
+      λ start honest. ∥∥₁_map (i.10 start honest) (λ k.
           kept_longer mid new c.self.inside.failed (kept_longer old mid c.self.inside.failed k was.device was.frames (waiting_in waits) taken) is.device is.frames (waiting_in came) more),
+      i.11,
     )
 
 pub returns-in_ok-take_in-in-Some-clause-more : goal.returns-in_ok-take_in-in-Some-clause-more
