@@ -20,14 +20,14 @@ use Rattle.shore_core.specs.declared.core_calls.Core.{Core}
 use Rattle.shore_core.specs.Cores.{locks_of}
 use Rattle.shore_world.specs.EventMoves.{PlainMove}
 use Rattle.shore_held.proofs.Comings.{under_way}
-use Rattle.shore_held.specs.Comings.{HasComeBy}
+use Rattle.shore_held.specs.Comings.{Beginning, HasComeBy}
 
-module _ {T V : Type 0} {G : tail.Ghosts T} {H : disk.Ghosts V} (cut : ℕ) (kept : List LogRecord) (core : Core T V G H) (stage : Stage) (anchored : Anchored) (trail : List PlainMove)
-    (h : HasComeBy cut kept core stage anchored trail) where
-  after : IsStateAfter h.opening h.found (h.earlier ++ h.made) h.last.state
+module _ {T V : Type 0} {G : tail.Ghosts T} {H : disk.Ghosts V} {start : Beginning} (cut : ℕ) (kept : List LogRecord) (core : Core T V G H) (stage : Stage) (anchored : Anchored) (trail : List PlainMove)
+    (h : HasComeBy start cut kept core stage anchored trail) where
+  after : IsStateAfter start.opening start.found (start.earlier ++ h.made) h.last.state
   after = (under_way cut kept core stage anchored trail h).under_way.state
 
-  pub sound : IsHistory (history_from h.opening (h.earlier ++ h.made)) × Sound (history_from h.opening (h.earlier ++ h.made))
+  pub sound : IsHistory (history_from start.opening (start.earlier ++ h.made)) × Sound (history_from start.opening (start.earlier ++ h.made))
   sound = (after.sessions.agree.history, after.sessions.sound.sound)
 
   -- the requests of the state are the core's
@@ -40,10 +40,10 @@ module _ {T V : Type 0} {G : tail.Ghosts T} {H : disk.Ghosts V} (cut : ℕ) (kep
   pub locks : Harmony (held_by_all (locks_of core).requests) × WellRooted (held_by_all (locks_of core).requests) × HasNoCycle (locks_of core).requests
   locks = (
     subst Harmony held after.sessions.sound.stand.harmony,
-    subst WellRooted held (stay_rooted h.opening h.found (h.earlier ++ h.made) h.last.state after),
+    subst WellRooted held (stay_rooted start.opening start.found (start.earlier ++ h.made) h.last.state after),
     subst HasNoCycle same (under_way cut kept core stage anchored trail h).under_way.no_cycle,
   )
 
   pub records : h.last.state.sessions.records
-      ≡ overlays (serial_after h.opening (h.earlier ++ h.made)) (map (logged_writes h.last.state.log) (txns_of h.last.state.sessions.active))
+      ≡ overlays (serial_after start.opening (start.earlier ++ h.made)) (map (logged_writes h.last.state.log) (txns_of h.last.state.sessions.active))
   records = is_overlaid (stand_logged after.sessions.sound after.sessions.log)

@@ -1,3 +1,5 @@
+mod HandedBack
 mod HeldManagers
+mod HeldMoments
 mod Lives
-mod OpenedUp
+mod LegsOfThreads

@@ -1,2 +1,3 @@
+pub mod HandedBack
 pub mod Lives
 pub mod Remains

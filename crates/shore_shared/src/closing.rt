@@ -1,13 +1,21 @@
-//! The end of a manager for threads: its parts are a world again.
-ghost use Rattle.std.specs.Prelude.{◌≡◌, ◌⊎◌, ◌≤◌, ◌<◌, ◌+◌, ◌++◌, ℕ, [], All, List, IfErr, IfOk, IsTrue, OnOk, length, map, sum, vec_len};
+//! The end of a manager for threads: its parts are a world again, or its devices are handed back.
+ghost use Rattle.std.specs.Prelude.{◌≡◌, ◌⊎◌, ◌≤◌, ◌<◌, ◌+◌, ◌++◌, ℕ, [], All, List, IfErr, IfOk, IsTrue, OnOk, false, length, map, sum, vec_len};
 ghost use Rattle.shore_core.specs.Cores.{durable_of, has_failed, last_of, waiting_of};
 ghost use Rattle.shore_types.specs.declared.faults.Fault.TheVariants as Fault;
 ghost use Rattle.shore_model.specs.declared.log_records.LogRecord.{LogRecord};
-ghost use Rattle.shore_world.specs.Worlds.{durable_in};
+ghost use Rattle.shore_model.specs.declared.step.Step.{Step};
+ghost use Rattle.shore_disk.specs.Device.{size};
+ghost use Rattle.shore_world.specs.Worlds.{durable_in, geometry_in, history_in};
+ghost use Rattle.shore_held.specs.Comings.{Beginning};
+ghost use Rattle.shore_held.specs.Logs.{known_in};
+ghost use Rattle.shore_held.specs.Trails.{calls_in};
+ghost use Rattle.shore_held.specs.declared.asked.Asked.{Asked};
+ghost use Rattle.shore_shared.specs.HandedBack.{AreHandedBack};
 ghost use Rattle.shore_shared.specs.Lives.{HasEnded};
 
 use crate::session::Session;
 use crate::shared::Shared;
+use crate::turns::take_all;
 use shore_disk::Disk;
 use shore_held::{CoreHeld, LogHeld, Named, meeting};
 use shore_log::PlainTail;
@@ -35,8 +43,10 @@ impl<N: Numbers, B: Named, R: Wait + Copy, L: Disk, V: Disk> Shared<
         sessions: Vec<Session<B>>,
     ) -> Result<World<L, V>, (Fault, Self, Vec<Session<B>>)>
         requires { B.all ≡ B.parts }
-        // The sessions' shares are as many calls as the trail has that led here.
-        ensures ended { B.honest → IfOk result (λ w. ∥ HasEnded B.cut B.before (sum (map (λ s. s.share.amount) sessions.items)) w ∥₁) }
+        // One trail has led here from wherever the core began, of as many calls as the sessions' shares say.
+        ensures ended { IfOk result (λ w. (asked : List (Asked × ℕ)) × (stepped : List (Step × ℕ)) × (length stepped ≡ length asked) × (calls_in asked ≡ sum (map (λ s. s.share.amount) sessions.items))
+            × ((start : Beginning) → B.honest start → ∥ HasEnded start B.cut B.before asked stepped w ∥₁)) }
+        ensures layout { IfOk result (λ w. (geometry_in w ≡ B.geometry) × (size (history_in w) ≡ B.log_bytes)) }
         // What a session knew to be durable is: the commits that it was told of among it.
         ensures seen { IfOk result (λ w. All (λ s. s.seat.seen ≤ durable_in w) sessions.items) }
         ensures report { IfOk result (λ w. w.report ≡ self.report) }
@@ -57,10 +67,23 @@ impl<N: Numbers, B: Named, R: Wait + Copy, L: Disk, V: Disk> Shared<
         Ok(World::from_parts(core, log, stage, report))
     }
 
-    /// Both devices, as they are: what was changed in memory alone is forgotten, and sessions may be missing. They may be opened again.
-    pub fn into_devices(self, alloc: Global) -> (L, V) {
-        let (_, _, _, core, held) = self.taken_apart();
-        (held.into_log().into_device(), core.into_volume(alloc))
+    /// Both devices, as they are: what was changed in memory alone is forgotten. They may be opened again. Other sessions than these may be missing.
+    pub fn into_devices(self, alloc: Global, sessions: Vec<Session<B>>) -> (L, V)
+        // One trail has led here, and whatever pair of images a loss of power leaves now stands for a prefix of its log with all that these sessions have seen to be durable.
+        ensures stand { (asked : List (Asked × ℕ)) × (stepped : List (Step × ℕ)) × (stable : ℕ) × ((start : Beginning) → B.honest start →
+            ∥ AreHandedBack start asked stepped B.geometry B.log_bytes stable (map (λ s. s.seat.seen) sessions.items) (L.Disk.history result.0) (V.Disk.history result.1) ∥₁) }
+        ensures long { size (L.Disk.history result.0) ≡ B.log_bytes }
+    {
+        let (words, _, _, mut core, mut held) = self.taken_apart();
+        let forced = held.tell(&words);
+        let mut reader = core.seat(&words);
+        meeting(&words, &mut core, &mut held, &mut reader);
+        core.learn(forced);
+        drop(gathered(&words, &mut held, core.none(), sessions));
+        // Its contract says what a loss of power leaves of the log device, failed or not.
+        held.has_failed();
+        let log = held.into_log().into_device();
+        (log, core.into_volume(alloc))
     }
 }
 
@@ -87,20 +110,18 @@ fn gathered<N: Numbers, B: Named, L: Disk>(
     calls
 }
 
-// All that is queued is taken in.
-fn take_rest<N: Numbers, B: Named, L: Disk>(
-    rt: &impl Wait,
+// All that is queued is taken in: no push has less than one record, so it looks no more often than so many records were sent, and once more.
+fn take_rest<N: Numbers, B: Named, R: Wait + Copy, L: Disk, V: Disk>(
+    rt: &R,
+    core: &CoreHeld<B, QueueTail<N, B, R>, V>,
     held: &mut LogHeld<N, B, L>,
 ) -> Result<(), Fault>
     ensures taken { OnOk result (held.new.waits ≡ []) }
     ensures refused { IfErr result (λ fault. fault ≡ Fault.Memory) }
 {
-    for _ in rt.forever() {
-        if !held.take_one(rt)? {
-            return Ok(());
-        }
-    }
-    unreachable!()
+    let sent = core.last().0.saturating_sub(held.last().0);
+    take_all(rt, held, sent)?;
+    Ok(())
 }
 
 // All that is queued is taken in, and the core learns what is durable, and of a failure of the log device. The locks are not needed: nobody shares the two any more.
@@ -117,14 +138,14 @@ fn end<N: Numbers, B: Named, R: Wait + Copy, L: Disk, V: Disk>(
     ensures taken { IfOk result (λ _. held.new.waits ≡ []) }
     ensures last { IfOk result (λ _. last_of core.new.core ≡ held.new.cut + length held.new.list) }
     ensures durable { IfOk result (λ _. (durable_of core.new.core ≡ held.new.cut + length held.new.stable) × (held.new.told ≡ durable_of core.new.core)) }
-    ensures anchor { IfOk result (λ _. core.new.seat.kept ≡ (held.new.anchors.anchor.checkpoint, held.new.anchors.anchor.tail)) }
+    ensures anchor { IfOk result (λ _. core.new.seat.kept ≡ known_in held.new) }
     ensures failed { IfOk result (λ _. IsTrue held.new.failed → IsTrue (has_failed core.new.core)) }
     ensures refused { IfErr result (λ fault. (fault ≡ Fault.NotQuiet) ⊎ (fault ≡ Fault.Memory)) }
 {
     if core.sessions() as usize != sessions {
         return Err(Fault::NotQuiet);
     }
-    take_rest(rt, held)?;
+    take_rest(rt, core, held)?;
     if held.has_failed() {
         core.fail();
     }

@@ -8,18 +8,27 @@ mod gate;
 mod gathering;
 mod laws;
 mod opening;
+mod promises;
 mod serving;
 mod session;
 mod shared;
 mod taping;
+mod turns;
 mod waiting;
 mod workers;
 
 pub use calls::session_step;
 pub use clients::{Client, Job, in_threads};
 pub use gate::{Gate, Open, Place, Role};
-pub use laws::opened_worlds_are_up;
+pub use laws::{
+    anchors_count_while_nothing_fails, devices_handed_back_are_stays, managers_are_up,
+    moments_are_stays, moves_of_the_anchor_are_stays, what_is_held_is_a_manager,
+    what_is_held_leads_to_a_moment, worlds_behind_threads_are_up, worlds_behind_threads_stand,
+};
 pub use opening::{Opened, Queued};
+pub use promises::{
+    promises_go_on_behind_threads, threads_are_legs, two_uses_of_threads_are_a_life,
+};
 pub use serving::{Left, serve};
 pub use session::Session;
 pub use shared::Shared;

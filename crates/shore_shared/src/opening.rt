@@ -14,9 +14,10 @@ ghost use Rattle.shore_queue.specs.Queues.{ends};
 ghost use Rattle.shore_model.specs.declared.histories.Entry.{Entry};
 ghost use Rattle.shore_model.specs.declared.histories.Opening.{Opening};
 ghost use Rattle.shore_model.specs.declared.log_records.LogRecord.{LogRecord};
-ghost use Rattle.shore_held.specs.Comings.{HasComeBy};
+ghost use Rattle.shore_held.specs.Comings.{Beginning, HasComeBy};
 ghost use Rattle.shore_held.specs.Logs.{IsKept};
-ghost use Rattle.shore_held.specs.Worlds.{IsUpIn};
+ghost use Rattle.shore_world.specs.Legs.{IsUpIn};
+ghost use Rattle.shore_held.specs.Worlds.{begins_with};
 ghost use Rattle.shore_held.specs.declared.core_held.TheConstants.{ALL_PARTS};
 ghost use Rattle.shore_shared.specs.Lives.{AreKept, anchored_in};
 ghost use Rattle.shore_words.specs.Words as known;
@@ -57,15 +58,16 @@ pub struct Opened<L: Disk, V: Disk> {
 }
 
 impl<L: Disk, V: Disk> Opened<L, V> {
-    ghost use Rattle.shore_world.specs.Worlds.{IsUnchanged, cut_in, failed_in, list_in};
+    ghost use Rattle.shore_world.specs.Worlds.{IsUnchanged, cut_in, failed_in, geometry_in, history_in, list_in};
 
     /// The parts of a world. `Failed` after a failure of a device or a damaged page, `NotQuiet` while a frame is under way, `Memory` if an allocation failed: the world comes
     /// back, and nothing else has changed but that records may have been handed over to its log device.
     pub fn of(alloc: Global, mut world: World<L, V>) -> Result<Opened<L, V>, (Fault, World<L, V>)>
         ensures parts { IfOk result (λ o. (cut_of_log o.log ≡ cut_in world) × (records_of_log o.log ≡ list_in world) × (o.stage ≡ world.stage) × (o.report ≡ world.report)) }
         ensures running { IfOk result (λ o. (failed_in world ≡ false) × (world.log.staged ≡ None)) }
+        ensures layout { IfOk result (λ o. (geometry_of o.core ≡ geometry_in world) × (size (L.Disk.history o.log.device) ≡ size (history_in world))) }
         // A world at the state and the store of a manager has what is kept under both locks.
-        ensures kept { IfOk result (λ o. (opening : Opening) (found : List LogRecord) (entries : List Entry) → IsUpIn world opening found entries → AreKept o.core o.log o.stage) }
+        ensures kept { IfOk result (λ o. (opening : Opening) (found : List LogRecord) (entries : List Entry) → (up : IsUpIn world opening found entries) → AreKept (begins_with up) o.core o.log o.stage) }
         ensures refused { IfErr result (λ e. (IsTrue (failed_in world) × (e.0 ≡ Fault.Failed)) ⊎ ((failed_in world ≡ false) × IsSome world.log.staged × (e.0 ≡ Fault.NotQuiet))
             ⊎ ((failed_in world ≡ false) × (world.log.staged ≡ None) × (e.0 ≡ Fault.Memory))) }
         ensures unchanged { IfErr result (λ e. IsUnchanged world e.1) }
@@ -172,8 +174,8 @@ impl<N: Numbers, L: Disk, V: Disk> Queued<N, L, V> {
         requires queue { (arc_value self.channel).queue ≡ B.queue }
         requires before { (B.before ≡ records_of_log self.opened.log) × (B.cut ≡ cut_of_log self.opened.log) }
         requires layout { (geometry_of self.opened.core ≡ B.geometry) × (size (L.Disk.history self.opened.log.device) ≡ B.log_bytes) }
-        requires core { B.honest → ∥ HasComeBy B.cut B.before self.opened.core self.opened.stage (anchored_by (anchor_of self.opened.log)) [] ∥₁ }
-        requires log { B.honest → ∥ IsKept B.geometry B.log_bytes self.opened.log false ∥₁ }
+        requires core { (start : Beginning) → B.honest start → ∥ HasComeBy start B.cut B.before self.opened.core self.opened.stage (anchored_by (anchor_of self.opened.log)) [] ∥₁ }
+        requires log { (start : Beginning) → B.honest start → ∥ IsKept B.geometry B.log_bytes self.opened.log false (0, 0) ∥₁ }
         ensures { result.report ≡ self.opened.report }
     {
         let Queued {

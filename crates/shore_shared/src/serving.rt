@@ -1,5 +1,5 @@
 //! The life of a manager for threads, from a world to a world: its names are picked, its workers turn, and the jobs of its clients go on meanwhile.
-ghost use Rattle.std.specs.Prelude.{◌≡◌, ◌⊎◌, ℕ, List, [], OnOk, false};
+ghost use Rattle.std.specs.Prelude.{◌≡◌, ◌⊎◌, ℕ, List, [], OnOk, false, true};
 ghost use Rattle.std.specs.Arc.{arc_value};
 ghost use Rattle.std.specs.Thread.{IsSend};
 ghost use Rattle.shore_core.specs.Cores.{first_of, geometry_of, volume_of};
@@ -9,14 +9,18 @@ ghost use Rattle.shore_log.specs.Settled.{anchor_of, cut_of_log, records_of_log}
 ghost use Rattle.shore_model.specs.declared.histories.Entry.{Entry};
 ghost use Rattle.shore_model.specs.declared.histories.Opening.{Opening};
 ghost use Rattle.shore_model.specs.declared.log_records.LogRecord.{LogRecord};
-ghost use Rattle.shore_held.specs.Comings.{HasComeBy};
+ghost use Rattle.shore_model.specs.declared.step.Step.{Step};
+ghost use Rattle.shore_held.specs.Comings.{Beginning, HasComeBy};
 ghost use Rattle.shore_held.specs.Logs.{IsKept};
-ghost use Rattle.shore_held.specs.Worlds.{IsUpIn};
+ghost use Rattle.shore_world.specs.Legs.{IsUpIn};
+ghost use Rattle.shore_held.specs.Worlds.{begins_with};
+ghost use Rattle.shore_held.specs.declared.asked.Asked.{Asked};
+ghost use Rattle.shore_shared.specs.HandedBack.{AreHandedBack};
 ghost use Rattle.shore_shared.specs.Lives.{AreKept, HasEnded};
-ghost use Rattle.shore_shared.specs.Remains.{IfWorld, IsWorld};
+ghost use Rattle.shore_shared.specs.Remains.{IfDevices, IfWorld, IsWorld};
 ghost use Rattle.shore_shared.specs.declared.serving.Left.TheVariants as left;
 ghost use Rattle.shore_world.specs.declared.world.World.{World};
-ghost use Rattle.shore_world.specs.Worlds.{IsUnchanged, cut_in, list_in};
+ghost use Rattle.shore_world.specs.Worlds.{IsUnchanged, cut_in, geometry_in, history_in, list_in};
 
 use crate::clients::{Job, in_threads};
 use crate::gate::Open;
@@ -58,7 +62,7 @@ impl<L: Disk, V: Disk> Left<L, V> {
 
 /// Serves so many sessions with a world, which comes back: one job after another, each by all sessions at the same time, and what they came to, in the order of the jobs and
 /// of the sessions. `Failed` and `NotQuiet` as `Opened::of` has them; `NotQuiet` too if there are not so many sessions; and as `in_threads` refuses a job, behind which no
-/// other is begun.
+/// other is begun. Where the devices come back alone it is what refused the world: `Memory`, or `NotQuiet`.
 pub fn serve<J: Job + Sync, R: Threads + Wait + Sync + Send + Copy, L: Disk + Send, V: Disk + Send>(
     rt: R,
     alloc: Global,
@@ -66,9 +70,13 @@ pub fn serve<J: Job + Sync, R: Threads + Wait + Sync + Send + Copy, L: Disk + Se
     sessions: u32,
     jobs: &[J],
 ) -> (Left<L, V>, Result<Vec<Vec<J::Done>>, Fault>)
-    // A world at the state and the store of a manager comes back as it was, or its threads have led it on.
-    ensures world { (opening : Opening) (found : List LogRecord) (entries : List Entry) → IsUpIn world opening found entries
-        → IfWorld result.0 (λ w. IsUnchanged world w ⊎ ∥ ((calls : ℕ) × HasEnded (cut_in world) (list_in world) calls w) ∥₁) }
+    // A world comes back as it was, or by one trail its threads have led it on from whatever state and store of a manager it was at.
+    ensures world { IfWorld result.0 (λ w. IsUnchanged world w ⊎ ((geometry_in w ≡ geometry_in world) × (size (history_in w) ≡ size (history_in world)) × (asked : List (Asked × ℕ)) × (stepped : List (Step × ℕ))
+        × ((opening : Opening) (found : List LogRecord) (entries : List Entry) → (up : IsUpIn world opening found entries) → ∥ HasEnded (begins_with up) (cut_in world) (list_in world) asked stepped w ∥₁))) }
+    // Devices that come back alone may be opened.
+    ensures devices { IfDevices result.0 (λ log volume. (asked : List (Asked × ℕ)) × (stepped : List (Step × ℕ)) × (stable : ℕ)
+        × ((opening : Opening) (found : List LogRecord) (entries : List Entry) → (up : IsUpIn world opening found entries)
+        → ∥ AreHandedBack (begins_with up) asked stepped (geometry_in world) (size (history_in world)) stable [] (L.Disk.history log) (V.Disk.history volume) ∥₁)) }
     ensures back { OnOk result.1 (IsWorld result.0) }
 {
     match Opened::of(alloc, world) {
@@ -92,7 +100,11 @@ fn with_numbers<
     jobs: &[J],
 ) -> (Left<L, V>, Result<Vec<Vec<J::Done>>, Fault>)
     requires { first_of opened.core ≡ N.first_number }
-    ensures world { AreKept opened.core opened.log opened.stage → IfWorld result.0 (λ w. ∥ ((calls : ℕ) × HasEnded (cut_of_log opened.log) (records_of_log opened.log) calls w) ∥₁) }
+    ensures world { IfWorld result.0 (λ w. (geometry_in w ≡ geometry_of opened.core) × (size (history_in w) ≡ size (L.Disk.history opened.log.device)) × (asked : List (Asked × ℕ)) × (stepped : List (Step × ℕ))
+        × ((start : Beginning) → AreKept start opened.core opened.log opened.stage → ∥ HasEnded start (cut_of_log opened.log) (records_of_log opened.log) asked stepped w ∥₁)) }
+    ensures devices { IfDevices result.0 (λ log volume. (asked : List (Asked × ℕ)) × (stepped : List (Step × ℕ)) × (stable : ℕ)
+        × ((start : Beginning) → AreKept start opened.core opened.log opened.stage
+        → ∥ AreHandedBack start asked stepped (geometry_of opened.core) (size (L.Disk.history opened.log.device)) stable [] (L.Disk.history log) (V.Disk.history volume) ∥₁)) }
     ensures back { OnOk result.1 (IsWorld result.0) }
 {
     match Queued::<N, L, V>::of(alloc, opened) {
@@ -122,9 +134,11 @@ fn with_names<
     requires queue { (arc_value queued.channel).queue ≡ B.queue }
     requires before { (B.before ≡ records_of_log queued.opened.log) × (B.cut ≡ cut_of_log queued.opened.log) }
     requires layout { (geometry_of queued.opened.core ≡ B.geometry) × (size (L.Disk.history queued.opened.log.device) ≡ B.log_bytes) }
-    requires core { B.honest → ∥ HasComeBy B.cut B.before queued.opened.core queued.opened.stage (anchored_by (anchor_of queued.opened.log)) [] ∥₁ }
-    requires log { B.honest → ∥ IsKept B.geometry B.log_bytes queued.opened.log false ∥₁ }
-    ensures world { B.honest → IfWorld result.0 (λ w. ∥ ((calls : ℕ) × HasEnded B.cut B.before calls w) ∥₁) }
+    requires core { (start : Beginning) → B.honest start → ∥ HasComeBy start B.cut B.before queued.opened.core queued.opened.stage (anchored_by (anchor_of queued.opened.log)) [] ∥₁ }
+    requires log { (start : Beginning) → B.honest start → ∥ IsKept B.geometry B.log_bytes queued.opened.log false (0, 0) ∥₁ }
+    ensures world { IfWorld result.0 (λ w. (geometry_in w ≡ B.geometry) × (size (history_in w) ≡ B.log_bytes) × (asked : List (Asked × ℕ)) × (stepped : List (Step × ℕ)) × ((start : Beginning) → B.honest start → ∥ HasEnded start B.cut B.before asked stepped w ∥₁)) }
+    ensures devices { IfDevices result.0 (λ log volume. (asked : List (Asked × ℕ)) × (stepped : List (Step × ℕ)) × (stable : ℕ)
+        × ((start : Beginning) → B.honest start → ∥ AreHandedBack start asked stepped B.geometry B.log_bytes stable [] (L.Disk.history log) (V.Disk.history volume) ∥₁)) }
     ensures back { OnOk result.1 (IsWorld result.0) }
 {
     let shared = queued.shared::<B, R>(rt, alloc);
@@ -132,8 +146,8 @@ fn with_names<
     let done = with_sessions(rt, alloc, &shared, &mut sessions, count, jobs);
     match shared.into_world(&rt, alloc, sessions) {
         Ok(world) => (Left::World(world), done),
-        Err((fault, shared, _)) => {
-            let (log, volume) = shared.into_devices(alloc);
+        Err((fault, shared, sessions)) => {
+            let (log, volume) = shared.into_devices(alloc, sessions);
             (Left::Devices(log, volume), Err(fault))
         }
     }

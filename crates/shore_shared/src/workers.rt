@@ -3,9 +3,10 @@ ghost use Rattle.std.specs.Prelude.{◌≡◌, ◌≤◌, true, IfOk, OnErr};
 
 use crate::gate::{Gate, Place, Role};
 use crate::shared::{CHECKPOINTER, FLUSHER, NEWS, Shared, WRITER};
+use crate::turns::{checkpoint_held, flush_held, is_device, is_due};
 use shore_core::{Answer, Step};
 use shore_disk::Disk;
-use shore_held::{LogHeld, Named, Seat, checkpoint};
+use shore_held::{Named, Seat};
 use shore_log::Tail;
 use shore_queue::{Numbers, QueueTail};
 use shore_types::layout::MAX_BATCH_PAGES;
@@ -14,12 +15,6 @@ use std::alloc::Global;
 use std::sync::Wait;
 use std::sync::atomic::Ordering;
 use std::time::Duration;
-
-// The most pushes that a turn of the log writer takes in before it forces.
-const MOST_TAKEN: u32 = 65_536;
-
-// A checkpoint begins once so many records were appended since the last one began.
-const RECORDS_BETWEEN: u64 = 1_000;
 
 // A turn of the checkpointer flushes no more batches than this, and makes no more steps.
 const MOST_BATCHES: u32 = 64;
@@ -60,11 +55,7 @@ impl<N: Numbers, B: Named, T: Tail, L: Disk, V: Disk> Shared<N, B, T, L, V> {
         self.gather();
         let mut held = self.log.lock(rt);
         let asking = self.take_asking();
-        self.take_all(rt, &mut held);
-        gate.pass(Place::Sync(Role::LogWriter));
-        let forced = held.force(alloc)?;
-        self.count_going_on(asking);
-        held.tell(&self.words);
+        let (forced, _) = self.write_held(rt, alloc, gate, asking, &mut held)?;
         drop(held);
         if forced {
             self.sleepers.wake(NEWS);
@@ -72,23 +63,11 @@ impl<N: Numbers, B: Named, T: Tail, L: Disk, V: Disk> Shared<N, B, T, L, V> {
         Ok(forced)
     }
 
-    // What is queued goes to the log device, as far as there is memory.
-    fn take_all(&self, rt: &impl Wait, held: &mut LogHeld<N, B, L>)
-        ensures { (held.new.told ≡ held.old.told) × (held.new.cut ≡ held.old.cut) × (held.new.stable ≡ held.old.stable) × (held.new.failed ≡ held.old.failed) }
-    {
-        for _ in 0..MOST_TAKEN {
-            if !matches!(held.take_one(rt), Ok(true)) {
-                break;
-            }
-        }
-    }
-
     // The core learns that the log device has failed, and so does who waits for it.
     fn note_refused(&self, rt: &impl Wait, fault: &Fault) {
-        if matches!(fault, Fault::Device) {
+        if is_device(fault) {
             let mut core = self.lock_core(rt);
-            core.fail();
-            self.wake_let_through(&core);
+            self.fail_held(&mut core);
             drop(core);
             self.tell_failed();
         }
@@ -117,19 +96,16 @@ impl<N: Numbers, B: Named, T: Tail, L: Disk, V: Disk> Shared<N, B, T, L, V> {
     fn flush_turn(&self, rt: &impl Wait, alloc: Global) -> (bool, bool) {
         let mut core = self.lock_core(rt);
         let seen = core.look(&self.words);
-        let last = core.last();
-        let step = core.flush(alloc);
-        if matches!(step, Step::Refused(_)) {
+        let (step, durable) = flush_held(alloc, seen, &mut core);
+        let refused = matches!(step, Step::Refused(_));
+        if refused {
             self.wake_let_through(&core);
         }
         drop(core);
-        if seen < last {
+        if !durable {
             self.ask_force();
         }
-        (
-            is_full(&step),
-            seen >= last && !matches!(step, Step::Refused(_)),
-        )
+        (is_full(&step), durable && !refused)
     }
 }
 
@@ -179,8 +155,10 @@ impl<N: Numbers, B: Named, R: Wait + Copy, L: Disk, V: Disk> Shared<
     // The steps of a checkpoint that may be made now, if one is under way or is to begin. The answer is the number of the latest begin.
     fn checkpoint_turn(&self, rt: &R, alloc: Global, gate: &impl Gate, begun: Lsn) -> Lsn {
         if !self.is_under_way(rt) {
-            let is_due = self.lock_core(rt).last().0 >= begun.0.saturating_add(RECORDS_BETWEEN);
-            if !is_due && !self.is_full() {
+            let core = self.lock_core(rt);
+            let due = is_due(&core, begun);
+            drop(core);
+            if !due && !self.is_full() {
                 return begun;
             }
             // A page that is changed all the time is written back once its last change is durable; in a full log nothing else frees what it stands on.
@@ -225,13 +203,11 @@ impl<N: Numbers, B: Named, R: Wait + Copy, L: Disk, V: Disk> Shared<
     fn checkpoint_step(&self, rt: &R, alloc: Global) -> Step {
         let mut core = self.lock_core(rt);
         let mut held = self.log.lock(rt);
-        let step = checkpoint(alloc, &self.words, &mut core, &mut held);
-        let fails = held.has_failed();
+        let (step, fails) = checkpoint_held(alloc, &self.words, &mut core, &mut held);
         drop(held);
         if fails {
             // The log writer may have met the failure a moment ago: nobody is told of it before the core refuses calls.
-            core.fail();
-            self.wake_let_through(&core);
+            self.fail_held(&mut core);
             drop(core);
             self.tell_failed();
         }

@@ -6,6 +6,7 @@ ghost use Rattle.shore_core.specs.Cores.{first_of, geometry_of};
 ghost use Rattle.shore_disk.specs.Device.{size};
 ghost use Rattle.shore_disk.specs.MemDisk.{history_of};
 ghost use Rattle.shore_log.specs.Settled.{cut_of_log, records_of_log};
+ghost use Rattle.shore_held.specs.Comings.{Beginning};
 
 use shore_core::Step;
 use shore_disk::{Disk, MemDisk};
@@ -136,7 +137,7 @@ fn with_names<
     requires queue { (arc_value queued.channel).queue ≡ B.queue }
     requires before { (B.before ≡ records_of_log queued.opened.log) × (B.cut ≡ cut_of_log queued.opened.log) }
     requires layout { (geometry_of queued.opened.core ≡ B.geometry) × (size (history_of queued.opened.log.device) ≡ B.log_bytes) }
-    requires nothing_owed { B.honest → ⊥ }
+    requires nothing_owed { (start : Beginning) → B.honest start → ⊥ }
 {
     let life = queued.shared::<B, R>(rt, alloc);
     life.start_tape(&rt, alloc);

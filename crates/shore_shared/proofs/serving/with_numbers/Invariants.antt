@@ -20,5 +20,5 @@ ghosts-with_names-B-Named g a =
       before = records_of_log o.log;
       geometry = geometry_of o.core;
       log_bytes = size (g.L.Disk.history o.log.device);
-      honest = AreKept o.core o.log o.stage;
+      honest = λ start. AreKept start o.core o.log o.stage;
     }

@@ -1,5 +1,6 @@
-use Rattle.std.proofs.Common.{◌≡◌, ◌≤◌, ◌+◌, ◌++◌, [], All, List, IsTrue, length, append-nil, sym, ap, subst, ◌∙◌}
-use Rattle.std.proofs.Math.Logic.{∥∥₁_map₂}
+use Rattle.std.proofs.Common.{◌≡◌, ◌≤◌, ◌+◌, ◌++◌, ℕ, [], All, List, IsTrue, length, append-nil, sym, ap, subst, ◌∙◌}
+use Rattle.std.proofs.Math.Logic.{∥∥₁_elim, ∥∥₁_map₂, ∥∥₁_prop}
+use Rattle.shore_check.specs.declared.stage.Stage.{Stage}
 use Rattle.shore_disk.specs.Device.{size}
 use Rattle.shore_gate.specs.declared.anchors.Anchors.{Anchors}
 use Rattle.shore_heap.specs.Heaps as heaps
@@ -13,7 +14,9 @@ use Rattle.shore_txn.specs.Transactions.{room_in}
 use Rattle.shore_core.specs.Cores.{IsIn, IsOver, durable_of, geometry_of, has_failed, heap_of, waiting_of}
 use Rattle.shore_world.specs.Worlds.{anchor_in, durable_in, geometry_in, history_in}
 use Rattle.shore_held.proofs.Comings.{ring_of}
-use Rattle.shore_held.specs.Comings.{HasComeBy, anchored_at}
+use Rattle.shore_words.specs.declared.rule.Known.{Known}
+use Rattle.shore_held.proofs.Aims.{aimed}
+use Rattle.shore_held.specs.Comings.{HasAim, HasComeBy, IsAimOf, anchored_at}
 use Rattle.shore_held.specs.Logs.{IsKept, LogState}
 use Rattle.shore_held.specs.Trails.{moves_of}
 use Rattle.shore_shared.proofs.Lives.{ended}
@@ -38,6 +41,10 @@ returns-clause-ended g c =
     let stage = f.2 ∙ c.into_core-core.ensures.core.1 in
     let anchor : anchored_at i.seat.kept ≡ anchored_by (anchor_in w) =
     ap (λ v. anchored_at v.kept) c.none.ensures.same.3 ∙ ap anchored_at e.anchor ∙ sym (ap (λ (x : Anchors). anchored_by x.anchor) (l.log.0 ∙ ap (λ (x : LogState). x.anchors) same)) ∙ sym (ap (λ x. anchored_by x.anchors.anchor) f.1) in
+    let aim : i.seat.kept.aim ≡ held.aim = ap (λ (k : Known). k.aim) (ap (λ v. v.kept) c.none.ensures.same.3 ∙ e.anchor) ∙ ap (λ (x : LogState). x.aim) (sym same) in
+    let durable : durable_in w ≡ durable_of i.core = ap durable_of f.0 ∙ t.durable ∙ ap durable_of q in
+    let aims : HasAim held.aim → ∥ IsAimOf w.stage (durable_in w) held.aim ∥₁ =
+    subst (λ (x : Stage × ℕ × (ℕ × ℕ)). HasAim x.2 → ∥ IsAimOf x.0 x.1 x.2 ∥₁) (λ j. (sym stage j, sym durable j, aim j)) i.aims in
     let geometry : geometry_in w ≡ g.B.Named.geometry = ap geometry_of f.0 ∙ ap heaps.geometry_of t.heap ∙ ap geometry_of q ∙ i.layout in
     let bytes : size (history_in w) ≡ g.B.Named.log_bytes = ap (λ x. size (g.L.Disk.history x.device)) f.1 ∙ l.long in
     let gone = e.records.0 in
@@ -45,18 +52,23 @@ returns-clause-ended g c =
     ap (λ x. kept ++ waiting_of x) (q ∙ c.none.ensures.core.0) ∙ e.records.1
     ∙ ap (λ (x : List LogRecord). gone ++ x) (ap (λ (x : LogState). x.list) (sym same) ∙ l.log.3 ∙ ap (λ (x : List LogRecord). records_of_log log ++ x) (ap (λ (x : LogState). x.waits) same ∙ e.taken) ∙ append-nil (records_of_log log) ∙ sym (ap records_of_log f.1)) in
     let failed = ap has_failed f.0 ∙ t.running ∙ ap has_failed (q ∙ c.none.ensures.core.0) in
-    λ honest. ∥∥₁_map₂ (i.come_by honest) (l.kept honest) (λ h k.
-    ended cut kept core w i.asked.items i.stepped.items
-    (subst (λ x. HasComeBy cut kept x w.stage (anchored_by (anchor_in w)) trail) (sym q)
-    (subst (λ x. HasComeBy cut kept i.core x (anchored_by (anchor_in w)) trail) (sym stage) (subst (λ x. HasComeBy cut kept i.core i.stage x trail) anchor h)))
-    (ap heap_of f.0 ∙ t.heap) (ap ring_of f.0 ∙ ap (λ x. (room_in (txns_in x)).stream_bytes) t.control)
-    (λ front disk before after s same is. subst (λ x. IsIn front disk after x s) (sym f.0)
-    (t.state front disk before after s (same ∙ ap (λ x. after ++ waiting_of x) f.0 ∙ ap (λ (x : PlainTail). after ++ waiting_in x) t.tail) is))
-    (λ disk s store is. subst (λ x. IsOver disk x s store) (sym f.0) (t.over disk s store is)) (ap waiting_of f.0 ∙ ap waiting_in t.tail ∙ c.tell_room.ensures.same.1 ∙ c.new-tail.ensures.waiting) gone records
-    (ap cut_of_log f.1 ∙ l.log.1 ∙ ap (λ (x : LogState). x.cut) same ∙ e.records.2) held.failed (λ fails. subst IsTrue (sym failed) (e.failed (subst IsTrue (ap (λ (x : LogState). x.failed) same) fails)))
-    (subst (λ x. IsKept x (size (history_in w)) w.log held.failed) (sym geometry)
-    (subst (λ x. IsKept g.B.Named.geometry x w.log held.failed) (sym bytes) (subst (λ x. IsKept g.B.Named.geometry g.B.Named.log_bytes x held.failed) (sym f.1) k))) _
-    (sym c.gathered-calls.ensures.amount ∙ c.into_core-core.ensures.counted))
+    let counted = sym (sym c.gathered-calls.ensures.amount ∙ c.into_core-core.ensures.counted) in (
+      i.asked.items,
+      i.stepped.items,
+      i.as_many,
+      counted,
+      λ start honest. ∥∥₁_elim (aimed held.aim aims) ∥∥₁_prop (λ there. ∥∥₁_map₂ (i.come_by start honest) (l.kept start honest) (λ h k.
+          ended cut kept core w i.asked.items i.stepped.items
+          (subst (λ x. HasComeBy start cut kept x w.stage (anchored_by (anchor_in w)) trail) (sym q)
+          (subst (λ x. HasComeBy start cut kept i.core x (anchored_by (anchor_in w)) trail) (sym stage) (subst (λ x. HasComeBy start cut kept i.core i.stage x trail) anchor h)))
+          (ap heap_of f.0 ∙ t.heap) (ap ring_of f.0 ∙ ap (λ x. (room_in (txns_in x)).stream_bytes) t.control)
+          (λ front disk before after s same is. subst (λ x. IsIn front disk after x s) (sym f.0)
+          (t.state front disk before after s (same ∙ ap (λ x. after ++ waiting_of x) f.0 ∙ ap (λ (x : PlainTail). after ++ waiting_in x) t.tail) is))
+          (λ disk s store is. subst (λ x. IsOver disk x s store) (sym f.0) (t.over disk s store is)) (ap waiting_of f.0 ∙ ap waiting_in t.tail ∙ c.tell_room.ensures.same.1 ∙ c.new-tail.ensures.waiting) gone records
+          (ap cut_of_log f.1 ∙ l.log.1 ∙ ap (λ (x : LogState). x.cut) same ∙ e.records.2) held.failed (λ fails. subst IsTrue (sym failed) (e.failed (subst IsTrue (ap (λ (x : LogState). x.failed) same) fails))) held.aim there
+          (subst (λ x. IsKept x (size (history_in w)) w.log held.failed held.aim) (sym geometry)
+          (subst (λ x. IsKept g.B.Named.geometry x w.log held.failed held.aim) (sym bytes) (subst (λ x. IsKept g.B.Named.geometry g.B.Named.log_bytes x held.failed held.aim) (sym f.1) k))))),
+    )
 
 pub returns-clause-seen : goal.returns-clause-seen
 returns-clause-seen g c =
@@ -64,3 +76,11 @@ returns-clause-seen g c =
     let core = c.into_core-core.ensures.core.0 ∙ c.none.ensures.core.0 in
     let durable : durable_in w ≡ durable_of c.end.new.core.core = ap durable_of c.from_parts.ensures.0 ∙ c.with_tail-core.ensures.durable ∙ ap durable_of core in
     subst (λ n. All (λ s. s.seat.seen ≤ n) c.args.sessions.items) (c.in_default.ensures.durable.1 ∙ sym durable) c.gathered-calls.ensures.seen
+
+pub returns-clause-layout : goal.returns-clause-layout
+returns-clause-layout g c =
+    let i = c.none.new.self in
+    let f = c.from_parts.ensures in (
+      ap geometry_of f.0 ∙ ap heaps.geometry_of c.with_tail-core.ensures.heap ∙ ap geometry_of c.into_core-core.ensures.core.0 ∙ i.layout,
+      ap (λ x. size (g.L.Disk.history x.device)) f.1 ∙ c.into_log-log.ensures.long,
+    )

@@ -15,6 +15,6 @@ new-core-requires-clause-opened g c =
     let o = c.args.self.opened in
     let t = c.with_tail-core.ensures in
     let kept : c.keeper-seat.result.kept ≡ anchored_in o.log = ap (λ v. v.kept) c.keeper-seat.ensures.new ∙ ap (λ v. v.kept) c.of-teller.ensures ∙ ap (λ m. m.0.kept) o.told in
-    λ honest. ∥∥₁_map (c.requires.core honest) (λ h. subst (λ a. HasComeBy g.B.Named.cut g.B.Named.before c.with_tail-core.result.0 o.stage (anchored_at a) []) (sym kept)
+    λ start honest. ∥∥₁_map (c.requires.core start honest) (λ h. subst (λ a. HasComeBy start g.B.Named.cut g.B.Named.before c.with_tail-core.result.0 o.stage (anchored_at a) []) (sym kept)
     (over_another g.B.Named.cut g.B.Named.before o.core c.with_tail-core.result.0 o.stage (anchored_by (anchor_of o.log)) [] t.heap (ap (λ k. (room_in (txns_in k)).stream_bytes) t.control)
     (λ front disk before s is. t.state front disk before before s (ap (λ l. before ++ l) (o.emptied ∙ sym c.new-tail.ensures)) is) t.over h))

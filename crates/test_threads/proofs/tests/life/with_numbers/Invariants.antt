@@ -21,5 +21,5 @@ ghosts-with_names-B-Named g a =
       before = records_of_log o.log;
       geometry = geometry_of o.core;
       log_bytes = size (history_of o.log.device);
-      honest = ⊥;
+      honest = λ start. ⊥;
     }

@@ -1,0 +1,128 @@
+//! What turns of the workers do with the values under the locks, which are lent to them: of a function that takes a lock no clause can say it.
+ghost use Rattle.std.specs.Prelude.{◌≡◌, ◌↔◌, ◌≤◌, ◌<◌, ◌+◌, [], ◌∷◌, ◌++◌, IfErr, IfOk, IsTrue, OnErr, OnOk, false, length};
+ghost use Rattle.shore_core.specs.Cores.{has_failed, last_of};
+ghost use Rattle.shore_core.specs.Flushing.{FlushAnswers, FlushSteps};
+ghost use Rattle.shore_core.specs.Replies.{InEach};
+ghost use Rattle.shore_held.specs.Trails.{GoesOn};
+ghost use Rattle.shore_held.specs.declared.asked.Asked.TheVariants as Asked;
+ghost use Rattle.shore_types.specs.declared.faults.Fault.TheVariants as Fault;
+
+use crate::gate::{Gate, Place, Role};
+use crate::shared::Shared;
+use shore_core::Step;
+use shore_disk::Disk;
+use shore_held::{CoreHeld, LogHeld, Named, checkpoint};
+use shore_log::Tail;
+use shore_queue::{Numbers, QueueTail};
+use shore_types::{Fault, Lsn};
+use shore_words::Words;
+use std::alloc::Global;
+use std::sync::Wait;
+
+// The most pushes behind the first that a turn of the log writer takes in before it forces.
+const MOST_TAKEN: u64 = 65_535;
+
+// A checkpoint begins once so many records were appended since the last one began.
+const RECORDS_BETWEEN: u64 = 1_000;
+
+// What is queued goes to the log device: one push, and up to so many more. False where none was left. `Memory` if an allocation failed: nothing is lost.
+pub(crate) fn take_all<N: Numbers, B: Named, L: Disk>(
+    rt: &impl Wait,
+    held: &mut LogHeld<N, B, L>,
+    most: u64,
+) -> Result<bool, Fault>
+    ensures same { (held.new.anchors ≡ held.old.anchors) × (held.new.cut ≡ held.old.cut) × (held.new.stable ≡ held.old.stable) × (held.new.told ≡ held.old.told) × (held.new.failed ≡ held.old.failed)
+        × (held.new.history ≡ held.old.history) }
+    // Nothing that came through the queue waits for memory then.
+    ensures taken { OnOk result (held.new.waits ≡ []) }
+    ensures refused { IfErr result (λ fault. fault ≡ Fault.Memory) }
+{
+    let mut more = held.take_one(rt)?;
+    for _ in 0..most {
+        if !more {
+            break;
+        }
+        more = held.take_one(rt)?;
+    }
+    Ok(more)
+}
+
+impl<N: Numbers, B: Named, T: Tail, L: Disk, V: Disk> Shared<N, B, T, L, V> {
+    // A turn of the log writer: what is queued is taken in, what one frame holds is forced, and how far the log is durable is told. The answer is whether there is news, and whether
+    // there was memory for all that came through the queue.
+    pub(crate) fn write_held(
+        &self,
+        rt: &impl Wait,
+        alloc: Global,
+        gate: &impl Gate,
+        asking: u64,
+        held: &mut LogHeld<N, B, L>,
+    ) -> Result<(bool, bool), Fault>
+        ensures told { OnOk result (held.new.told ≡ held.new.cut + length held.new.stable) }
+        ensures news { IfOk result (λ r. IsTrue r.0 ↔ (length held.old.stable < length held.new.stable)) }
+        ensures none { IfOk result (λ r. r.0 ≡ false → held.new.list ≡ held.new.stable ++ held.new.waits) }
+        ensures taken { IfOk result (λ r. IsTrue r.1 → held.new.waits ≡ []) }
+        ensures unforced { OnErr result ((held.new.stable ≡ held.old.stable) × (held.new.told ≡ held.old.told)) }
+        ensures breaks { IfErr result (λ fault. IsTrue held.new.failed ↔ (fault ≡ Fault.Device)) }
+    {
+        let taken = matches!(take_all(rt, held, MOST_TAKEN), Ok(_));
+        gate.pass(Place::Sync(Role::LogWriter));
+        let forced = held.force(alloc)?;
+        self.count_going_on(asking);
+        held.tell(&self.words);
+        Ok((forced, taken))
+    }
+
+    // The log device has failed: the core refuses calls from now on, and who waits for a lock goes on to be told.
+    pub(crate) fn fail_held(&self, core: &mut CoreHeld<B, T, V>)
+        ensures { IsTrue (has_failed core.new.core) }
+    {
+        core.fail();
+        self.wake_let_through(core);
+    }
+}
+
+// One batch is written back, with what the core has seen: a flush of the core. The answer is what it came to, and whether all that is logged was durable.
+pub(crate) fn flush_held<B: Named, T: Tail, V: Disk>(
+    alloc: Global,
+    seen: Lsn,
+    core: &mut CoreHeld<B, T, V>,
+) -> (Step, bool)
+    ensures flushes { FlushAnswers core.old.core result.0 core.new.core }
+    ensures step { InEach (λ front disk before s store. FlushSteps result.0 core.new.core front before s store) core.old.core }
+    ensures durable { IsTrue result.1 ↔ (last_of core.old.core ≤ seen) }
+{
+    let durable = core.last() <= seen;
+    let step = core.flush(alloc);
+    (step, durable)
+}
+
+// Whether a checkpoint is due: so many records were appended since the last one began.
+pub(crate) fn is_due<B: Named, T: Tail, V: Disk>(core: &CoreHeld<B, T, V>, begun: Lsn) -> bool
+    ensures { IsTrue result ↔ (begun + 1000 ≤ last_of core.now.core) }
+{
+    core.last().0.saturating_sub(begun.0) >= RECORDS_BETWEEN
+}
+
+// The next step of a checkpoint, the begin of one if none is under way; with whether the log device has failed by now.
+pub(crate) fn checkpoint_held<N: Numbers, B: Named, R: Wait + Copy, L: Disk, V: Disk>(
+    alloc: Global,
+    words: &Words,
+    core: &mut CoreHeld<B, QueueTail<N, B, R>, V>,
+    held: &mut LogHeld<N, B, L>,
+) -> (Step, bool)
+    requires { (words.now.table.shared.table_id ≡ B.table) × (3 < B.table.words) }
+    ensures noted { held.old.failed ≡ false → GoesOn (core.old.asked.items, core.old.stepped.items) (core.new.asked.items, core.new.stepped.items) ((Asked.Checkpoint, 0) ∷ []) ((result.0, 0) ∷ []) }
+    ensures failed { result.1 ≡ held.new.failed }
+{
+    let step = checkpoint(alloc, words, core, held);
+    let failed = held.has_failed();
+    (step, failed)
+}
+
+// Whether it says that the device has failed.
+pub(crate) fn is_device(fault: &Fault) -> bool
+    ensures { IsTrue result ↔ (fault.now ≡ Fault.Device) }
+{
+    matches!(fault, Fault::Device)
+}
