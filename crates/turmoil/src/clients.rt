@@ -100,10 +100,13 @@ fn text_of(notes: &Notes) -> [u8; NOTE_BYTES] {
     text
 }
 
-// How many commits the client's counter tells.
+// How many commits the client's counters tell.
 fn commits_of(client: &mut impl Client, number: usize) -> Result<u64, Fault> {
     client.call(Call::Begin)?;
-    let commits = number_in(&client.call(Call::Get(counter(number)))?);
+    let mut commits = 0u64;
+    for from in 0..ACCOUNTS {
+        commits = commits.wrapping_add(number_in(&client.call(Call::Get(counter(number, from)))?));
+    }
     client.call(Call::Abort)?;
     Ok(commits)
 }
@@ -132,7 +135,7 @@ fn take_turn(
     }
 }
 
-// One account gives another a unit, and the client's counter tells how many commits it made.
+// One account gives another a unit, and the client's counter for that account tells how often it made it do so.
 fn transaction(
     alloc: Global,
     client: &mut impl Client,
@@ -155,10 +158,9 @@ fn transaction(
         notes.aborts = notes.aborts.saturating_add(1);
         return Ok(());
     }
-    let commits = notes.commits.wrapping_add(1);
-    client.call(Call::Update(counter(number), bytes_of(alloc, commits)?))?;
+    add(alloc, client, counter(number, from), 1)?;
     client.commit_durable()?;
-    notes.commits = commits;
+    notes.commits = notes.commits.wrapping_add(1);
     Ok(())
 }
 
@@ -176,12 +178,12 @@ fn account(slot: u16) -> Rid {
     Rid { page, slot }
 }
 
-fn counter(number: usize) -> Rid {
+fn counter(number: usize, from: u16) -> Rid {
     let page = PageId {
         store: StoreId(1 + (number % MOST_CLIENTS) as u32),
         page: 0,
     };
-    Rid { page, slot: 0 }
+    Rid { page, slot: from }
 }
 
 /// The bytes of a number, the least first.

@@ -5,7 +5,7 @@ use shore_shared::{Client, Job};
 use shore_types::{Fault, StoreId};
 use std::alloc::Global;
 
-/// The accounts, and a counter for each client that there may be, on pages of their own.
+/// The accounts, and for each client that there may be a counter for each account, on a page of its own.
 #[derive(Drop)]
 pub struct Fill;
 
@@ -18,7 +18,9 @@ impl Job for Fill {
             client.call(Call::Insert(StoreId(0), bytes_of(alloc, FIRST)?))?;
         }
         for nth in 0..MOST_CLIENTS {
-            client.call(Call::Insert(StoreId(1 + nth as u32), bytes_of(alloc, 0)?))?;
+            for _ in 0..ACCOUNTS {
+                client.call(Call::Insert(StoreId(1 + nth as u32), bytes_of(alloc, 0)?))?;
+            }
         }
         client.commit_durable()?;
         Ok(())

@@ -81,7 +81,7 @@ fn run<R: Threads + Wait + Sync + Send + Copy>(
     Ok(())
 }
 
-// What all accounts have together, and the counter of each client.
+// What each account has, and each counter of each client.
 fn look(rt: &HostRuntime, folder: &str) -> Result<()> {
     let mut manager = open(rt, folder)?;
     let shown = show(rt, &mut manager);
@@ -90,20 +90,18 @@ fn look(rt: &HostRuntime, folder: &str) -> Result<()> {
 }
 
 fn show(rt: &HostRuntime, manager: &mut Manager) -> Result<()> {
-    let mut sum = 0u64;
     for store in 0..1 + MOST_CLIENTS {
         let pairs = manager.dump(rt.alloc(), StoreId(store as u32))?;
         for nth in 0..pairs.len() {
             if let Some((_, bytes)) = pairs.get(nth) {
                 if store == 0 {
-                    sum = sum.wrapping_add(number_of(bytes));
+                    println!(rt; "account {nth} {}", number_of(bytes))?;
                 } else {
-                    println!(rt; "counter {} {}", store - 1, number_of(bytes))?;
+                    println!(rt; "counter {} {nth} {}", store - 1, number_of(bytes))?;
                 }
             }
         }
     }
-    println!(rt; "sum {sum}")?;
     Ok(())
 }
 
