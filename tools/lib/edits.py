@@ -6,6 +6,10 @@ from rests import Reach, folder_of, places_of, sum_of
 from texts import ANTT, FREE, FUNCTION, Item, text_of
 
 
+# In wrong/ of a crate: the names of its edits that documents name, one in each line. They stand there and not in must-fail/ where rt would prove a dear crate once more for them.
+NAMED = "NAMED"
+
+
 class BadEdit(Exception):
     """An edit that cannot be applied, with the reason."""
 
@@ -14,6 +18,7 @@ class Edit:
     def __init__(self, texts, crate, file):
         self.crate, self.name, self.folder = crate, os.path.basename(file).removesuffix(".edit"), os.path.basename(os.path.dirname(file))
         self.label, self.text = "/".join([crate, *([self.folder] if self.folder != "wrong" else []), self.name]), text_of(file)
+        self.is_named = self.folder == "must-fail" or self.name in named_in(os.path.dirname(file))
         self.pairs = read_pairs(self.text)
         self.is_definition = any(path.startswith("specs/") for path, _, _ in self.pairs)
         self.functions = sorted({it for path, old, _ in self.pairs for it in functions_at(texts.crates[crate], path, old)})
@@ -31,6 +36,10 @@ class Edit:
                 raise BadEdit(f"an 'old:' text is in {path} {text.count(old)} times, and not once")
             with open(f"{folder}/{path}", "w", encoding="utf-8") as it:
                 it.write(text.replace(old, new))
+
+
+def named_in(folder):
+    return text_of(f"{folder}/{NAMED}").split() if os.path.isfile(f"{folder}/{NAMED}") else []
 
 
 def read_pairs(text):
@@ -78,7 +87,7 @@ def function_at(crate, path, text, old):
 def read_edits(texts, crate, folder):
     """The edits of a folder of a crate, and those that cannot be read, each with the reason."""
     good, bad, place = [], [], f"{folder_of(crate)}/{folder}"
-    for name in sorted(os.listdir(place)) if os.path.isdir(place) else []:
+    for name in sorted({*os.listdir(place)} - {NAMED}) if os.path.isdir(place) else []:
         try:
             if not name.endswith(".edit"):
                 raise BadEdit("its name does not end in .edit")

@@ -129,6 +129,16 @@ def log_file(geometry, *groups, label_of=None, anchors=(anchor(),), first=1, pla
     return laid_at(content, place, frames + SHUT)
 
 
+def turned_log_file(geometry, *groups, anchors=(anchor(),)):
+    """The same of frames that may be longer than the stream together: each is laid over what stood there."""
+    log, first, place = log_file(geometry, anchors=anchors), 1, 0
+    for group in groups:
+        text = frame(first, group)
+        log = laid_at(log, place, text + SHUT)
+        first, place = first + len(group), place + len(text)
+    return log
+
+
 def page(place, last=0, entries=(), pieces=()):
     """A page: the number of its last change, for each slot where its record is and how long, and what stands at some offsets."""
     content = bytearray(PAGE)

@@ -26,12 +26,13 @@ def noting(library, notes):
 
 
 def notes_of(path):
-    """Each note of a file: what it is of, and its bytes."""
+    """Each note of a file: what it is of, and its bytes. A kill may have cut off the last one: what it was to be of was not done."""
     found = []
     with open(path, "rb") as file:
-        while head := file.read(HEAD.size):
+        while len(head := file.read(HEAD.size)) == HEAD.size:
             kind, at, count = HEAD.unpack(head)
-            found.append((kind, at, file.read(count)))
+            if len(content := file.read(count)) == count:
+                found.append((kind, at, content))
     return found
 
 

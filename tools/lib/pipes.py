@@ -7,10 +7,10 @@ from cache import drop_cache, paths_of
 LAST_LINE, ITS_ANSWER = "999 commit", "999: "
 
 
-def played(program, script, folder=None):
+def played(program, script, folder=None, **how):
     """A whole run of the program on a script, once it has ended. Before it starts, the system's cache of its files is dropped."""
     drop_cache(*paths_of(script, folder))
-    return subprocess.run([program], cwd=folder, input=script, capture_output=True, encoding="utf-8", errors="replace", check=False)
+    return subprocess.run([program], cwd=folder, input=script, capture_output=True, encoding="utf-8", errors="replace", check=False, **how)
 
 
 class Ended(Exception):

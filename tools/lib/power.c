@@ -1,11 +1,14 @@
 /* Preloaded by tools/check-power and tools/check-backup: notes what a loss of power may take back of the files that a program writes. For each file, and for each folder in which one is made, there is a
    file of notes in the folder that POWER_NOTES names, called by the inode: one note after another, each a head and its bytes. POWER_SKIPS names one kind of call that then does nothing. POWER_FAILS names a file by its inode, and a number N: the
-   N-th sync of that file fails, once, with an input or output error. */
+   N-th sync of that file fails, once, with an input or output error. POWER_ENDS names two files by their inodes, and numbers BOTH, ALL, SLOW, FRONT and LATER: the process is
+   killed at the first of these calls: the BOTH-th at which both files have writes that no sync has covered; the ALL-th; and the LATER-th from the first write on that begins below the byte FRONT of
+   the first file. Calls are the writes and the syncs of the two, a write once it is done, a sync before it is; and a sync of one of them takes SLOW microseconds more. */
 #define _GNU_SOURCE
 #include <dlfcn.h>
 #include <errno.h>
 #include <fcntl.h>
 #include <libgen.h>
+#include <signal.h>
 #include <stdarg.h>
 #include <stdio.h>
 #include <stdlib.h>
@@ -52,9 +55,64 @@ static int is_file(int file) {
     return fstat(file, &of) == 0 && S_ISREG(of.st_mode);
 }
 
+struct ending {
+    unsigned long inodes[2];
+    long both, all, slow, front, later;
+};
+
+/* Whether a file of a pair has writes that no sync has covered, whether there was a write at the front of the first one, and how many calls there were: all, those with both files so, and those since
+   that write. */
+static int waits[2], is_later;
+static long calls, calls_with_both, calls_later;
+
+/* Which of the two files this is; 2 if it is another, or none are named. */
+static int place_in_pair(int file, struct ending *end) {
+    struct stat of;
+    const char *text = getenv("POWER_ENDS");
+    if (!text || sscanf(text, "%lu %lu %ld %ld %ld %ld %ld", &end->inodes[0], &end->inodes[1], &end->both, &end->all, &end->slow, &end->front, &end->later) != 7) return 2;
+    if (fstat(file, &of) != 0) abort();
+    return of.st_ino == end->inodes[0] ? 0 : of.st_ino == end->inodes[1] ? 1 : 2;
+}
+
+/* One more call, if it counts. Whether it is the one of this number. */
+static int is_due(long *count, int counts, long number) { return counts && __atomic_add_fetch(count, 1, __ATOMIC_SEQ_CST) >= number; }
+
+static int holds(const int *mark) { return __atomic_load_n(mark, __ATOMIC_SEQ_CST); }
+
+static void count_call(const struct ending *end) {
+    int is_last = is_due(&calls, 1, end->all);
+    is_last |= is_due(&calls_with_both, holds(&waits[0]) && holds(&waits[1]), end->both);
+    is_last |= is_due(&calls_later, holds(&is_later), end->later);
+    if (is_last) kill(getpid(), SIGKILL);
+}
+
+static void count_write(int file, long at) {
+    struct ending end;
+    int place = place_in_pair(file, &end);
+    if (place == 2) return;
+    __atomic_store_n(&waits[place], 1, __ATOMIC_SEQ_CST);
+    if (place == 0 && at < end.front) __atomic_store_n(&is_later, 1, __ATOMIC_SEQ_CST);
+    count_call(&end);
+}
+
+static void count_sync(int file) {
+    struct ending end;
+    if (place_in_pair(file, &end) == 2) return;
+    usleep(end.slow);
+    count_call(&end);
+}
+
+static void count_synced(int file) {
+    struct ending end;
+    int place = place_in_pair(file, &end);
+    if (place != 2) __atomic_store_n(&waits[place], 0, __ATOMIC_SEQ_CST);
+}
+
 ssize_t pwrite(int file, const void *bytes, size_t count, off_t at) {
     if (is_file(file)) note_what_is_there(file, REPLACED, at, count);
-    return SYSTEM("pwrite", ssize_t, int, const void *, size_t, off_t)(file, bytes, count, at);
+    ssize_t written = SYSTEM("pwrite", ssize_t, int, const void *, size_t, off_t)(file, bytes, count, at);
+    count_write(file, at);
+    return written;
 }
 
 int ftruncate(int file, off_t length) {
@@ -77,6 +135,7 @@ static int fails(const struct stat *of) {
 static int sync_by(const char *name, int file, enum kind kind) {
     struct stat of;
     if (fstat(file, &of) != 0) abort();
+    count_sync(file);
     if (skips(S_ISDIR(of.st_mode) ? "folder" : name)) return 0;
     if (fails(&of)) {
         note(&of, FAILED, 0, "", 0);
@@ -85,6 +144,7 @@ static int sync_by(const char *name, int file, enum kind kind) {
     }
     /* What the machine's own disk has is asked by nobody: the note alone counts. */
     note(&of, kind, 0, "", 0);
+    count_synced(file);
     return 0;
 }
 

@@ -27,9 +27,9 @@ below() {
     ' "$top/crates.txt"
 }
 
-# Sets 'crates' to those that the program is made from.
+# Sets 'crates' to those that the program is made from. A program has the file main.rt, or another one that 'root' names.
 find_crates() {
-    [ -f "$top/crates/$name/src/main.rt" ] || fail "crates/$name is no program of this repository"
+    [ -f "$top/crates/$name/src/${root:-main.rt}" ] || fail "crates/$name is no program of this repository"
     crates=$(below "$name")
     [ -n "$crates" ] || fail "crates.txt does not list $name"
 }
@@ -54,6 +54,7 @@ is_up_to_date() {
 proved=$top/crates/$name/out/$name
 unproved=$top/crates/$name/out/unproved/$name
 sanitized=$top/crates/$name/out/sanitized/$name
+quick=$top/crates/$name/out/quick/$name
 
 is_proved() {
     is_up_to_date "$proved" "src specs proofs"

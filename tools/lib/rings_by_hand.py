@@ -1,7 +1,7 @@
 """Logs of checkpoints, worked by hand, and what is read of each: both anchors, a log that begins behind its first record, and a stream that goes on over its end. They are tried by
 tools/check-formats."""
 from formats import ACTIVE, ANCHOR, CHANGE, CHECKPOINT_BEGIN, CHECKPOINT_END, COMMIT, COMPENSATION, END, FIRST_ANCHOR, OPEN, PREPARED, ROLLING_BACK, SHUT, STREAM_AT, Anchor, Dirty
-from formats import Geometry, Named, Table, Txn, anchor, anchor_record, change, checkpoint_begin, checkpoint_end, compensation, frame, log_file, page, prepare, record
+from formats import Geometry, Named, Table, Txn, anchor, anchor_record, change, checkpoint_begin, checkpoint_end, compensation, frame, log_file, page, prepare, record, turned_log_file
 from logs_by_hand import of_length
 
 # Records of checkpoints as bytes worked by hand, and the tables or the names that they have.
@@ -64,14 +64,8 @@ def laid(groups, *anchors, first=1, place=0, older=b""):
 
 
 def turned():
-    """The log of those rounds, as it is before its anchor moves for the fourth time: each frame is laid, byte by byte, over what stood there."""
-    stream, first, place = bytearray(STREAM), 1, 0
-    for group in rounds():
-        content = frame(first, group) + SHUT
-        for at, byte in enumerate(content, place):
-            stream[at % STREAM] = byte
-        first, place = first + len(group), place + len(content) - 1
-    return laid([], anchor(3, 56, 56, 75_158), anchor(4, 84, 84, 112_265))[:STREAM_AT] + bytes(stream)
+    """The log of those rounds, as it is before its anchor moves for the fourth time."""
+    return turned_log_file(SMALL, *rounds(), anchors=(anchor(3, 56, 56, 75_158), anchor(4, 84, 84, 112_265)))
 
 
 def with_byte(log, at, byte):

@@ -1,7 +1,8 @@
 //! Threads that count a record up together, each with a session of its own: the world is a manager for threads meanwhile.
-ghost use Rattle.std.specs.Prelude.{◌≡◌, ◌≢◌, ◌↔◌, ℕ, List, Err, IfOk, IfSome, IsTrue, Some, false, length, slice_get};
+ghost use Rattle.std.specs.Prelude.{◌≡◌, ◌≢◌, ◌⊎◌, ◌↔◌, ◌≤◌, ℕ, List, Err, IfErr, IfOk, IfSome, IsTrue, OnOk, Some, false, length, slice_get};
+ghost use Rattle.shore_types.specs.Layout.{HasPage, HasSlot, HasStore};
+ghost use Rattle.shore_types.specs.declared.layout.TheConstants.{MAX_SLOTS};
 ghost use Rattle.shore_types.specs.declared.faults.Fault.TheVariants as Fault;
-ghost use Rattle.shore_types.specs.Layout.{HasPage, HasStore};
 ghost use Rattle.shore_world.specs.Counts.{transactions_in};
 ghost use Rattle.shore_world.specs.Worlds.{failed_in};
 ghost use Rattle.shore_prog.specs.Counting.{HasBytesAt};
@@ -11,7 +12,8 @@ use crate::devices::ScriptDisk;
 use crate::manager::ScriptWorld;
 use shore_script::Counting;
 use shore_shared::{Left as LeftOf, serve};
-use shore_types::{Fault, Geometry, PageId, Pairs, Rid};
+use shore_types::layout::MAX_SLOTS;
+use shore_types::{Fault, Geometry, Pairs, Rid};
 use std::alloc::Global;
 use std::sync::Wait;
 use std::thread::Threads;
@@ -23,7 +25,7 @@ pub type Left = LeftOf<ScriptDisk, ScriptDisk>;
 const NUMBER_BYTES: usize = 8;
 
 /// Whether the record may be counted up: it has the bytes of a number. `Failed`; `NotQuiet` while a transaction is in the table, or a resolve waits; and as a get of the
-/// record is refused: `NoStore`, `NoPage` and `NoRecord`, and as its store has to be read: `Device`, `Damaged`, `Memory` and `NeedForce`.
+/// record is refused: `NoStore`, `NoPage` and `NoRecord`, and as its page, and no other, has to be read: `Device`, `Damaged`, `Memory` and `NeedForce`.
 pub fn has_number(alloc: Global, world: &mut ScriptWorld, id: &Rid) -> Result<bool, Fault>
     ensures quiet { IfOk result (λ _. (failed_in world.old ≡ false) × (transactions_in world.old ≡ 0)) }
     ensures busy { failed_in world.old ≡ false → transactions_in world.old ≢ 0 → result ≡ Err Fault.NotQuiet }
@@ -35,10 +37,10 @@ pub fn has_number(alloc: Global, world: &mut ScriptWorld, id: &Rid) -> Result<bo
     if world.transactions() > 0 {
         return Err(Fault::NotQuiet);
     }
-    if lacks_page(world.geometry(), &id.page) {
-        return Err(Fault::NoPage);
-    }
-    let pairs = world.dump(alloc, id.page.store)?;
+    check_record(world.geometry(), id)?;
+    let mut pairs = Pairs::new(alloc);
+    // A part of no records at least is the first page's, whatever it has.
+    world.dump_part(alloc, id.page, 0, &mut pairs)?;
     match length_in(&pairs, id) {
         Some(bytes) => Ok(is_number(bytes)),
         None => Err(Fault::NoRecord),
@@ -66,11 +68,22 @@ fn length_in(pairs: &Pairs, id: &Rid) -> Option<usize>
     None
 }
 
-// Whether the store is there, and the page is not.
-fn lacks_page(geometry: &Geometry, page: &PageId) -> bool
-    ensures { IsTrue result ↔ (HasStore geometry.now page.now.store × (HasPage geometry.now page.now → ⊥)) }
+// That the volume may have the record; else it is refused as a get of it is, with no page read.
+fn check_record(geometry: &Geometry, id: &Rid) -> Result<(), Fault>
+    ensures there { OnOk result (HasSlot geometry.now id.now) }
+    ensures lacks { IfErr result (λ f. ((f ≡ Fault.NoStore) × ¬ HasStore geometry.now id.now.page.store) ⊎ ((f ≡ Fault.NoPage) × HasStore geometry.now id.now.page.store × ¬ HasPage geometry.now id.now.page)
+        ⊎ ((f ≡ Fault.NoRecord) × HasPage geometry.now id.now.page × (MAX_SLOTS ≤ id.now.slot))) }
 {
-    geometry.has_store(page.store) && !geometry.has_page(*page)
+    if !geometry.has_store(id.page.store) {
+        return Err(Fault::NoStore);
+    }
+    if !geometry.has_page(id.page) {
+        return Err(Fault::NoPage);
+    }
+    if id.slot >= MAX_SLOTS {
+        return Err(Fault::NoRecord);
+    }
+    Ok(())
 }
 
 /// The threads, each with all its transactions. Refused by the fault of the lowest thread that was refused, by `Memory` if one could not be started.
