@@ -94,6 +94,7 @@ def read_edits(texts, crate, folder):
             good.append(Edit(texts, crate, f"{place}/{name}"))
         except BadEdit as why:
             bad.append((f"{crate}/{name.removesuffix('.edit')}", str(why)))
+    bad += [(f"{crate}/{it}", f"{folder}/{NAMED} has its name, and there is no such edit") for it in named_in(place) if not os.path.isfile(f"{place}/{it}.edit")]
     return good, bad
 
 
