@@ -31,13 +31,14 @@ mod prepared_together;
 mod prepares;
 mod rollbacks;
 mod short_histories;
+mod stops_everywhere;
 mod together;
 mod trouble;
 
+use devices::LOSSES;
 use doings::{DELETE, Doing, EACH, INSERT, Turn};
 use failures::check_failures;
-use lists::{Counts, Plan, check_lists};
-use shore_disk::Pick;
+use lists::{Counts, Part, Plan, check_lists};
 use std::test::Fail;
 
 const A_TRANSACTION: [Turn; 1] = [(1, Doing::Begin)];
@@ -152,6 +153,7 @@ fn on_an_empty_log(rt: HostRuntime) -> Result<(), Fail> {
             before: &[],
             each: &EACH,
             longest: LONGEST,
+            part: Part::Whole,
             cut_behind: 2,
             wanted: Counts {
                 lists: 1464,
@@ -172,6 +174,7 @@ fn in_a_transaction(rt: HostRuntime) -> Result<(), Fail> {
             before: &A_TRANSACTION,
             each: &EACH,
             longest: LONGEST,
+            part: Part::Whole,
             cut_behind: 2,
             wanted: Counts {
                 lists: 1464,
@@ -192,6 +195,7 @@ fn with_a_commit_under_way(rt: HostRuntime) -> Result<(), Fail> {
             before: &A_COMMIT_UNDER_WAY,
             each: &EACH,
             longest: LONGEST,
+            part: Part::Whole,
             cut_behind: 2,
             wanted: Counts {
                 lists: 1464,
@@ -212,6 +216,7 @@ fn with_a_change_written_back(rt: HostRuntime) -> Result<(), Fail> {
             before: &A_CHANGE_WRITTEN_BACK,
             each: &EACH,
             longest: LONGEST,
+            part: Part::Whole,
             cut_behind: 2,
             wanted: Counts {
                 lists: 1464,
@@ -222,24 +227,51 @@ fn with_a_change_written_back(rt: HostRuntime) -> Result<(), Fail> {
     )
 }
 
-#[test]
-fn with_changes_in_all_frames(rt: HostRuntime) -> Result<(), Fail> {
+/// A part of the lists behind changes in all frames. There are so many cases since each list stands on eight changed pages, so three tests run them.
+fn check_changes_in_all_frames(rt: &HostRuntime, part: Part, wanted: Counts) -> Result<(), Fail> {
     check_plan(
-        &rt,
+        rt,
         &Plan {
             name: "with changes in all frames",
             is_on_a_record: false,
             before: &CHANGES_IN_ALL_FRAMES,
             each: &EACH,
             longest: LONGEST,
+            part,
             cut_behind: 1,
-            wanted: Counts {
-                lists: 1464,
-                cases: 57930,
-                cuts: 6125,
-            },
+            wanted,
         },
     )
+}
+
+#[test]
+fn with_changes_in_all_frames_first(rt: HostRuntime) -> Result<(), Fail> {
+    let wanted = Counts {
+        lists: 490,
+        cases: 19244,
+        cuts: 1303,
+    };
+    check_changes_in_all_frames(&rt, Part::Third(0), wanted)
+}
+
+#[test]
+fn with_changes_in_all_frames_second(rt: HostRuntime) -> Result<(), Fail> {
+    let wanted = Counts {
+        lists: 488,
+        cases: 19454,
+        cuts: 3579,
+    };
+    check_changes_in_all_frames(&rt, Part::Third(1), wanted)
+}
+
+#[test]
+fn with_changes_in_all_frames_third(rt: HostRuntime) -> Result<(), Fail> {
+    let wanted = Counts {
+        lists: 486,
+        cases: 19232,
+        cuts: 1243,
+    };
+    check_changes_in_all_frames(&rt, Part::Third(2), wanted)
 }
 
 #[test]
@@ -252,6 +284,7 @@ fn with_a_victim_to_tell(rt: HostRuntime) -> Result<(), Fail> {
             before: &A_VICTIM_TO_TELL,
             each: &EACH_OF_A_VICTIM,
             longest: 1,
+            part: Part::Whole,
             cut_behind: 1,
             wanted: Counts {
                 lists: 12,
@@ -272,6 +305,7 @@ fn with_an_abort_begun(rt: HostRuntime) -> Result<(), Fail> {
             before: &AN_ABORT_BEGUN,
             each: &EACH,
             longest: 2,
+            part: Part::Whole,
             cut_behind: 1,
             wanted: Counts {
                 lists: 133,
@@ -308,12 +342,12 @@ const COMMITS_AND_AN_ABORT: [Turn; 19] = [
 #[test]
 fn each_call_fails_alone(rt: HostRuntime) -> Result<(), Fail> {
     let mut met = 0u64;
-    for pick in [Pick::Old, Pick::New, Pick::Noise] {
-        let more = check_failures(rt.alloc(), &COMMITS_AND_AN_ABORT, pick)?;
+    for loss in LOSSES {
+        let more = check_failures(rt.alloc(), &COMMITS_AND_AN_ABORT, loss)?;
         met = met.saturating_add(more);
     }
     println!(rt; "each call fails alone: {met} failures met")?;
-    if met != 96 {
+    if met != 160 {
         return Err(Fail::new(format_args!("another number of failures is wanted")));
     }
     Ok(())

@@ -1,8 +1,8 @@
 //! Runs with checkpoints of which one call of a device fails alone, be it of a checkpoint, of what goes before it, or of the open: over a log whose front is cut off twice, and over a
 //! ring that turns over, so that a frame crosses its end.
+use super::devices::LOSSES;
 use super::doings::{Doing, INSERT, Turn};
 use super::failures::check_failures;
-use shore_disk::Pick;
 use std::alloc::{AllocError, Global};
 use std::test::Fail;
 
@@ -76,11 +76,11 @@ fn ring_turned(alloc: Global) -> Result<Vec<Turn>, AllocError> {
     Ok(turns)
 }
 
-/// Each call fails once, with each pick; so many failures are met.
+/// Each call fails once, with each way to lose power; so many failures are met.
 fn check_each(rt: &HostRuntime, name: &str, turns: &[Turn], wanted: u64) -> Result<(), Fail> {
     let mut met = 0u64;
-    for pick in [Pick::Old, Pick::New, Pick::Noise] {
-        let more = check_failures(rt.alloc(), turns, pick)?;
+    for loss in LOSSES {
+        let more = check_failures(rt.alloc(), turns, loss)?;
         met = met.saturating_add(more);
     }
     println!(rt; "{name}: {met} failures met")?;
@@ -92,11 +92,11 @@ fn check_each(rt: &HostRuntime, name: &str, turns: &[Turn], wanted: u64) -> Resu
 
 #[test]
 fn each_call_of_checkpoints_fails_alone(rt: HostRuntime) -> Result<(), Fail> {
-    check_each(&rt, "each call of checkpoints", &TWO_CHECKPOINTS, 156)
+    check_each(&rt, "each call of checkpoints", &TWO_CHECKPOINTS, 260)
 }
 
 #[test]
 fn each_call_over_a_ring_fails_alone(rt: HostRuntime) -> Result<(), Fail> {
     let turns = ring_turned(rt.alloc())?;
-    check_each(&rt, "each call over a ring", &turns, 618)
+    check_each(&rt, "each call over a ring", &turns, 1030)
 }

@@ -3,7 +3,7 @@
 //! call of the move, and behind the shorter lists each call of the opens after it.
 use super::check_plan;
 use super::doings::{DELETE, Doing, INSERT, Turn};
-use super::lists::{Counts, Plan};
+use super::lists::{Counts, Part, Plan};
 use std::test::Fail;
 
 /// One of each that these lists are made of.
@@ -90,6 +90,7 @@ fn with_a_checkpoint_begun(rt: HostRuntime) -> Result<(), Fail> {
             before: &A_CHECKPOINT_BEGUN,
             each: &EACH_OF_CHECKPOINTS,
             longest: 3,
+            part: Part::Whole,
             cut_behind: 1,
             wanted: Counts {
                 lists: 1464,
@@ -110,6 +111,7 @@ fn with_an_end_under_way(rt: HostRuntime) -> Result<(), Fail> {
             before: &AN_END_UNDER_WAY,
             each: &EACH_OF_CHECKPOINTS,
             longest: 3,
+            part: Part::Whole,
             cut_behind: 1,
             wanted: Counts {
                 lists: 1464,
@@ -130,6 +132,7 @@ fn with_an_anchor_to_move(rt: HostRuntime) -> Result<(), Fail> {
             before: &AN_ANCHOR_TO_MOVE,
             each: &EACH_OF_CHECKPOINTS,
             longest: 3,
+            part: Part::Whole,
             cut_behind: 1,
             wanted: Counts {
                 lists: 1464,
@@ -150,6 +153,7 @@ fn with_a_second_anchor_to_move(rt: HostRuntime) -> Result<(), Fail> {
             before: &A_SECOND_ANCHOR_TO_MOVE,
             each: &EACH_OF_CHECKPOINTS,
             longest: 2,
+            part: Part::Whole,
             cut_behind: 1,
             wanted: Counts {
                 lists: 133,

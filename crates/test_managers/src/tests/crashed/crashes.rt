@@ -1,12 +1,11 @@
 //! What a crash leaves of a manager, judged by the slow functions alone.
-use super::devices::{Devices, Manager, NO_FUSES, cut_off};
+use super::devices::{Devices, Loss, Manager, NO_FUSES, cut_off};
 use super::doings::{ONE_COMMIT, STORES};
 use super::doubts::{check_given_back, opening_of};
 use super::lives::{Ground, Life, Pair, Past, live};
 use super::log_copies::{copy_of_log, cut_off_of, log_of};
 use super::short_histories::decision_of;
 use super::trouble::{Trouble, require, require_all};
-use shore_disk::Pick;
 use shore_model::{Decision, LogRecord, Payload, RidMap};
 use shore_types::{Bytes, Fault, Pairs, StoreId};
 use slow_histories::decisions::is_kept;
@@ -203,14 +202,10 @@ pub(super) fn check_commit(
     alloc: Global,
     ground: &Ground,
     devices: Devices,
-    pick: Pick,
+    loss: Loss,
 ) -> Result<Pair, Trouble> {
-    let Life {
-        past,
-        mut devices,
-        ..
-    } = live(alloc, ground, devices, &[], &ONE_COMMIT, NO_FUSES)?;
-    devices.lose_power(pick, pick);
+    let Life { past, devices, .. } = live(alloc, ground, devices, &[], &ONE_COMMIT, NO_FUSES)?;
+    let devices = devices.lose(alloc, loss)?;
     let left = check_crash(alloc, ground, &past, devices)?;
     require(past.acknowledged == 1, "no commit is answered")?;
     Ok(left)

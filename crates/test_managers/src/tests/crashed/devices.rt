@@ -26,6 +26,26 @@ pub(super) const NO_FUSES: Calls = Calls {
     volume: u64::MAX,
 };
 
+/// What a loss of power makes of the writes since the last sync.
+#[derive(Clone, Copy, Debug)]
+pub(super) enum Loss {
+    /// The same of all of them.
+    Each(Pick),
+    /// In turn, so many bytes are as they were written, and so many as they were before.
+    Mixed(usize),
+}
+
+/// The ways in which both devices lose power.
+pub(super) const LOSSES: [Loss; 5] = [
+    Loss::Each(Pick::Old),
+    Loss::Each(Pick::New),
+    Loss::Each(Pick::Noise),
+    Loss::Mixed(1),
+    Loss::Mixed(SECTOR),
+];
+
+const SECTOR: usize = 512;
+
 /// The log device and the volume.
 #[derive(Drop)]
 pub(super) struct Devices {
@@ -38,6 +58,25 @@ impl Devices {
     pub(super) fn lose_power(&mut self, of_log: Pick, of_volume: Pick) {
         self.log.crash(of_log);
         self.volume.crash(of_volume);
+    }
+
+    /// What both are after they have lost power at once, in the same way.
+    pub(super) fn lose(self, alloc: Global, loss: Loss) -> Result<Devices, AllocError> {
+        let Devices {
+            mut log,
+            mut volume,
+        } = self;
+        match loss {
+            Loss::Each(pick) => {
+                log.crash(pick);
+                volume.crash(pick);
+                Ok(Devices { log, volume })
+            }
+            Loss::Mixed(run) => Ok(Devices {
+                log: mixed(alloc, log, run)?,
+                volume: mixed(alloc, volume, run)?,
+            }),
+        }
     }
 
     /// Devices with the bytes that reads of these give, all of them stable.
@@ -78,17 +117,17 @@ impl Devices {
         self,
         alloc: Global,
         fuses: Calls,
-        pick: Pick,
+        loss: Loss,
     ) -> Result<(Devices, bool), Trouble> {
         let log = FuseDisk::new(OnceDisk::new(self.log, NO_FUSES.log), fuses.log);
         let volume = FuseDisk::new(OnceDisk::new(self.volume, NO_FUSES.volume), fuses.volume);
         match World::open(alloc, log, volume, MIN_POOL_FRAMES) {
             Ok(world) => {
                 let (log, volume) = world.into_devices();
-                Ok((left_of(log, volume, pick), false))
+                Ok((inside(log, volume).lose(alloc, loss)?, false))
             }
             Err((fault, log, volume)) => {
-                let left = left_of(log, volume, pick);
+                let left = inside(log, volume).lose(alloc, loss)?;
                 if matches!(fault, Fault::Device) {
                     Ok((left, true))
                 } else {
@@ -106,11 +145,26 @@ pub(super) enum Opened {
     Refused(Devices),
 }
 
-// What a loss of power leaves of devices that were behind fuses.
-fn left_of(log: FailingDisk, volume: FailingDisk, pick: Pick) -> Devices {
-    let mut left = inside(log, volume);
-    left.lose_power(pick, pick);
-    left
+// Every other run of so many bytes loses what was not synced.
+fn mixed(alloc: Global, disk: MemDisk, run: usize) -> Result<MemDisk, AllocError> {
+    let mut disk = disk;
+    let mut bytes = disk.bytes().to_vec(alloc)?;
+    disk.crash(Pick::Old);
+    let mut left = run;
+    let mut is_lost = false;
+    for (at, before) in disk.bytes().iter().enumerate() {
+        if left == 0 {
+            left = run;
+            is_lost = !is_lost;
+        }
+        left = left.saturating_sub(1);
+        if is_lost {
+            if let Some(byte) = bytes.get_mut(at) {
+                *byte = *before;
+            }
+        }
+    }
+    MemDisk::new(alloc, bytes)
 }
 
 // The devices inside.

@@ -3,7 +3,7 @@ use super::devices::{Calls, Devices, Manager, cut_off};
 use super::doings::Turn;
 use super::log_copies::copy_of_log;
 use super::short_histories::ShortHistory;
-use super::trouble::Trouble;
+use super::trouble::{Trouble, require};
 use shore_disk::MemDisk;
 use shore_model::{LogRecord, Opening, RidMap};
 use shore_types::{Bytes, Geometry, Lsn, Sequence, SessionId};
@@ -146,7 +146,7 @@ pub(super) fn logged(world: &Manager) -> u64 {
     world.last().0
 }
 
-/// Makes the events, and notes what each comes to.
+/// Makes the events, and notes what each comes to. Behind the one that is told of a failure the manager has failed, and before it has not.
 pub(super) fn make_each(
     alloc: Global,
     ground: &Ground,
@@ -164,6 +164,8 @@ pub(super) fn make_each(
         history.note_appended(alloc, waiting.get(waited..).unwrap_or(&[]))?;
         history.note_tickets(doing, world, &step)?;
         history.note(alloc, &ground.opening, session, doing, step)?;
+        let is_told = world.has_failed() == history.has_failed();
+        require(is_told, "a failure that is not told")?;
     }
     Ok(())
 }

@@ -2,7 +2,7 @@
 use super::chances::Chance;
 use super::crashes::{are_in_place, check_crash};
 use super::cuts::check_whole;
-use super::devices::{Devices, Manager};
+use super::devices::{Devices, Loss, Manager};
 use super::lives::{Ground, Life, Pair, Past};
 use super::rollbacks::{NO_ROLLBACKS, Rollbacks};
 use super::trouble::{Trouble, require};
@@ -117,7 +117,8 @@ fn restart_by_chance(
 ) -> Result<Devices, Trouble> {
     let mut devices = left.copy(alloc)?;
     for _ in 0..chance.below(4) {
-        let (left, is_cut_off) = devices.open_cut_off(alloc, chance.fuse(), chance.pick())?;
+        let (fuses, loss) = (chance.fuse(), Loss::Each(chance.pick()));
+        let (left, is_cut_off) = devices.open_cut_off(alloc, fuses, loss)?;
         devices = left;
         tally.opens_cut_off = tally.opens_cut_off.saturating_add(u64::from(is_cut_off));
     }

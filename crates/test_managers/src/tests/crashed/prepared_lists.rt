@@ -2,7 +2,7 @@
 //! prepared and written back, with a resolve to abort under way, and with one of which a part is done and durable.
 use super::check_plan;
 use super::doings::{DELETE, Doing, INSERT, Turn};
-use super::lists::{Counts, Plan};
+use super::lists::{Counts, Part, Plan};
 use shore_model::Outcome;
 use std::test::Fail;
 
@@ -93,6 +93,7 @@ fn in_a_transaction_that_may_prepare(rt: HostRuntime) -> Result<(), Fail> {
             before: &A_CHANGE,
             each: &EACH_OF_PREPARED,
             longest: 3,
+            part: Part::Whole,
             cut_behind: 2,
             wanted: Counts {
                 lists: 1464,
@@ -113,6 +114,7 @@ fn with_a_prepare_under_way(rt: HostRuntime) -> Result<(), Fail> {
             before: &A_PREPARE_UNDER_WAY,
             each: &EACH_OF_PREPARED,
             longest: 3,
+            part: Part::Whole,
             cut_behind: 2,
             wanted: Counts {
                 lists: 1464,
@@ -133,6 +135,7 @@ fn with_one_that_is_prepared(rt: HostRuntime) -> Result<(), Fail> {
             before: &ONE_PREPARED,
             each: &EACH_OF_PREPARED,
             longest: 3,
+            part: Part::Whole,
             cut_behind: 2,
             wanted: Counts {
                 lists: 1464,
@@ -153,6 +156,7 @@ fn with_a_resolve_under_way(rt: HostRuntime) -> Result<(), Fail> {
             before: &A_RESOLVE_UNDER_WAY,
             each: &EACH_OF_PREPARED,
             longest: 3,
+            part: Part::Whole,
             cut_behind: 2,
             wanted: Counts {
                 lists: 1464,
@@ -173,6 +177,7 @@ fn with_a_rollback_begun(rt: HostRuntime) -> Result<(), Fail> {
             before: &A_ROLLBACK_BEGUN,
             each: &EACH_OF_PREPARED,
             longest: 2,
+            part: Part::Whole,
             cut_behind: 1,
             wanted: Counts {
                 lists: 133,

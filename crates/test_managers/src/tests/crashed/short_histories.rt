@@ -24,6 +24,8 @@ pub(super) struct ShortHistory {
     log: Vec<LogRecord>,
     // The call of each session that waits, by the session's number.
     waiting: [Option<Doing>; SESSIONS],
+    // Whether a call was told that a device has failed.
+    has_failed: bool,
 }
 
 impl ShortHistory {
@@ -33,6 +35,7 @@ impl ShortHistory {
             entries: Vec::new(alloc),
             log: copy_of_log(alloc, found)?,
             waiting: [None; SESSIONS],
+            has_failed: false,
         })
     }
 
@@ -56,6 +59,11 @@ impl ShortHistory {
     pub(super) fn check(&self, alloc: Global, opening: &Opening) -> Result<(), Trouble> {
         require(is_history(alloc, opening, &self.entries)?, "no history")?;
         require(is_sound(alloc, opening, &self.entries)?, "not sound")
+    }
+
+    /// Whether a call was told that a device has failed.
+    pub(super) fn has_failed(&self) -> bool {
+        self.has_failed
     }
 
     /// The call of a session that waits.
@@ -175,12 +183,34 @@ impl ShortHistory {
         doing: Doing,
         step: Step,
     ) -> Result<(), Trouble> {
+        self.note_failure(session, doing, &step)?;
         match step {
             Step::Done(answer) => self.note_reply(alloc, opening, session, doing, Ok(answer)),
             Step::Refused(fault) => self.note_reply(alloc, opening, session, doing, Err(fault)),
             Step::Waits(_) => self.note_wait(session, doing),
             Step::Nothing => require(self.may_be_idle(session, doing), "a call came to nothing"),
         }
+    }
+
+    // The failure of a device is told once. Behind it every call is refused, but an ask, and a resume of nothing.
+    fn note_failure(
+        &mut self,
+        session: SessionId,
+        doing: Doing,
+        step: &Step,
+    ) -> Result<(), Trouble> {
+        let is_free = match doing {
+            Doing::Ask(_) => true,
+            Doing::Resume => self.waiting(session).is_none(),
+            _ => false,
+        };
+        let is_refused = matches!(step, Step::Refused(Fault::Failed));
+        let may_be = is_free || is_refused || !self.has_failed;
+        require(may_be, "a call goes on behind a failure")?;
+        if matches!(step, Step::Refused(Fault::Device)) {
+            self.has_failed = true;
+        }
+        Ok(())
     }
 
     // The reply to a call, or to the one that waited.
