@@ -154,10 +154,13 @@ class Copy:
         return best
 
     def strengthen(self, found):
-        """Tries edits of a round, which were refused by names or types, again without the answers that do not fit, and gives what then comes out."""
-        waiting, without, done, as_stated = dict(found), {it: set() for it in found}, {}, True
+        """
+        Tries edits of a round, which were refused by names or types, again without the answers that do not fit, and gives what then comes out. A wrong definition of which the one function
+        that was refused is then proved is tried by all: another one may refuse it.
+        """
+        waiting, without, done, by_all, as_stated = dict(found), {it: set() for it in found}, {}, set(), True
         while waiting:
-            keys = {edit: self.refused_of(edit, verdict) for edit, verdict in waiting.items()}
+            keys = {edit: edit.functions if edit in by_all else self.refused_of(edit, verdict) for edit, verdict in waiting.items()}
             lines = self.check([*waiting], [it for edit in waiting for it in keys[edit]], as_stated, set().union(*[without[it] for it in waiting]))
             if not was_read(lines):
                 if len(waiting) == 1 and not as_stated:
@@ -167,6 +170,9 @@ class Copy:
                 continue
             for edit, before in [*waiting.items()]:
                 verdict = self.verdict(edit, keys[edit], lines)
+                if verdict.word == PROVED and edit.is_definition and edit not in by_all:
+                    by_all.add(edit)
+                    continue
                 verdict = verdict if verdict.word in (REFUSED, PROVED) else before
                 verdict.function = verdict.function or before.function
                 gone = self.misfits(keys[edit], lines, without[edit]) if verdict.mark else set()
