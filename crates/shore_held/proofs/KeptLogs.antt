@@ -1,13 +1,12 @@
 -- What a loss of power leaves of the log device stays a prefix of its records with all that are durable.
-use Rattle.std.proofs.Common.{◌≡◌, ◌⊎◌, ◌≤◌, ◌<◌, ◌+◌, ◌-◌, inl, inr, ℕ, zero, suc, Bool, true, false, true≢false, List, [], ◌∷◌, ◌++◌, length, take, drop, refl, sym, ◌∙◌, ap, subst, arith, length-append, append_assoc, None}
+use Rattle.std.proofs.Common.{◌≡◌, ◌⊎◌, ◌≤◌, ◌<◌, ◌+◌, ◌-◌, inl, inr, ℕ, zero, suc, Bool, true, false, true≢false, List, [], ◌∷◌, ◌++◌, length, take, drop, refl, sym, ◌∙◌, ap, subst, arith, length-append, append_assoc}
 use Rattle.std.proofs.lemmas.List.{length-take-le, take-append-le, take-append-drop, take-take, take_at}
 use Rattle.shore_types.specs.declared.faults.Device.TheVariants.{Log}
 use Rattle.shore_types.specs.declared.layout.Geometry.{Geometry}
 use Rattle.shore_disk.specs.Device.{DeviceHistory, LeavesOnly, may_leave, overwritten}
 use Rattle.shore_disk.specs.declared.device.Disk.{Ghosts}
 use Rattle.shore_disk.proofs.Moments.{at_end, started, widened}
-use Rattle.shore_frames.specs.Frames.{GivesBehindFrom, GivesWithOrWithoutFrom, IsLongest}
-use Rattle.shore_frames.proofs.LoggedLemmas.{has_longest}
+use Rattle.shore_frames.specs.Frames.{GivesBehindFrom, GivesWithOrWithoutFrom}
 use Rattle.shore_fronts.specs.Fronts.{log_label}
 use Rattle.shore_gate.specs.Anchor.{Counts, offset_of, other_of}
 use Rattle.shore_gate.specs.Label.{HoldsLabel}
@@ -18,11 +17,12 @@ use Rattle.shore_gate.specs.declared.anchors.Slot.TheVariants.{A, B}
 use Rattle.shore_model.specs.declared.log_records.LogRecord.{LogRecord}
 use Rattle.shore_log.specs.declared.device.LogDev.{LogDev}
 use Rattle.shore_log.specs.Indexes.{frame_with}
-use Rattle.shore_log.specs.Settled.{IsAnchored, IsLeftByMove, IsSettledFrom, KeepsFrames, LosesFront, anchor_of, cut_of_log, next_anchor, records_of_log, stable, waiting}
+use Rattle.shore_log.specs.Settled.{IsAnchored, IsLeftByMove, IsSettledFrom, IsStagedFrom, KeepsFrames, LosesFront, anchor_of, cut_of_log, next_anchor, records_of_log, stable, waiting}
 use Rattle.shore_log.proofs.CutLemmas.{listed_of, with_below}
-use Rattle.shore_log.proofs.ForceLemmas.{settled_gives}
 use Rattle.shore_world.proofs.MovedLemmas.{with_above}
+use Rattle.shore_world.proofs.WorldLemmas.{ready_frames, ready_gives}
 use Rattle.shore_world.specs.Labels.{IsLogFront}
+use Rattle.shore_world.specs.Ready.{IsReadyLog}
 use Rattle.shore_held.specs.Comings.{HasAim}
 use Rattle.shore_held.specs.Logs.{IsKept, IsNextOf}
 
@@ -91,14 +91,20 @@ module _ {L : Type 0} {G : Ghosts L} where
             (sym (ap (take (length (stable log ++ group))) parts ∙ take_at (stable log ++ group) (drop count (waiting log)) (length (stable log ++ group)) refl)) with_it,
       )
 
-  pub force_leaves : (log : LogDev L G) (later : DeviceHistory) (front : List ℕ)
-      → ((count : ℕ) → IsLongest (waiting log) count
-      → LeavesOnly (G.history log.device) later (GivesWithOrWithoutFrom front (anchor_of log).tail (anchor_of log).tail_place (stable log) (take count (waiting log))))
+  -- the first so many that wait are staged, or go into effect
+  pub group_leaves : (log : LogDev L G) (later : DeviceHistory) (front : List ℕ) (count : ℕ)
+      → LeavesOnly (G.history log.device) later (GivesWithOrWithoutFrom front (anchor_of log).tail (anchor_of log).tail_place (stable log) (take count (waiting log)))
       → LeavesOnly (G.history log.device) later (GivesForced log front)
-  force_leaves log later front moments =
-      let group = has_longest (waiting log) in
-      widened (G.history log.device) later (GivesWithOrWithoutFrom front (anchor_of log).tail (anchor_of log).tail_place (stable log) (take group.0 (waiting log))) (GivesForced log front)
-      (moments group.0 group.1) (λ image gives. reached log front image group.0 gives)
+  group_leaves log later front count moments =
+      widened (G.history log.device) later (GivesWithOrWithoutFrom front (anchor_of log).tail (anchor_of log).tail_place (stable log) (take count (waiting log))) (GivesForced log front) moments
+      (λ image gives. reached log front image count gives)
+
+  -- nothing goes into effect
+  pub stable_leaves : (log : LogDev L G) (later : DeviceHistory) (front : List ℕ)
+      → LeavesOnly (G.history log.device) later (GivesBehindFrom front (anchor_of log).tail (anchor_of log).tail_place (stable log)) → LeavesOnly (G.history log.device) later (GivesForced log front)
+  stable_leaves log later front moments =
+      widened (G.history log.device) later (GivesBehindFrom front (anchor_of log).tail (anchor_of log).tail_place (stable log)) (GivesForced log front) moments
+      (λ image gives. reached log front image 0 (inl gives))
 
   -- as contracts see it
   pub as_held : (log : LogDev L G) (waits : List LogRecord) (front image : List ℕ) → GivesForced log front image
@@ -177,6 +183,14 @@ module _ {L : Type 0} {G : Ghosts L} where
             inr (omega (arith, low), (next_anchor log aim.0 aim.1, record { checkpoint = refl; rises = bounds.0; below = bounds.1 }, torn.1))
       ])
 
+  -- It is ready behind a move as it was before.
+  pub ready_moved : (old new : LogDev L G) (after front : List ℕ) → IsReadyLog old front
+      → (IsSettledFrom (anchor_of old).tail (anchor_of old).tail_place old front → IsSettledFrom (anchor_of new).tail (anchor_of new).tail_place new after)
+      → ((group : List LogRecord) → IsStagedFrom (anchor_of old).tail (anchor_of old).tail_place old front group → IsStagedFrom (anchor_of new).tail (anchor_of new).tail_place new after group)
+      → new.staged ≡ old.staged → IsReadyLog new after
+  ready_moved old new after front (inl s) settled staged same = inl (settled s.0, same ∙ s.1)
+  ready_moved old new after front (inr s) settled staged same = inr (s.0, staged s.0 s.1)
+
   module _ {g : Geometry} {log_bytes : ℕ} {aim : ℕ × ℕ} (old new : LogDev L G) where
     pub kept_longer : (failed : Bool) → IsKept g log_bytes old failed aim → new.device ≡ old.device → KeepsFrames old new → (more : List LogRecord) → records_of_log new ≡ records_of_log old ++ more → IsKept g log_bytes new failed aim
     kept_longer failed k device keeps more are = record {
@@ -197,37 +211,32 @@ module _ {L : Type 0} {G : Ghosts L} where
         )
       ];
       anchored = anchored_same old new keeps.anchors k.front k.anchored;
-      ready = λ running.
-          let r = k.ready running in (
-            subst (λ (a : Anchors). IsSettledFrom a.anchor.tail a.anchor.tail_place new k.front) (sym keeps.anchors) (keeps.settled (anchor_of old).tail (anchor_of old).tail_place k.front r.0),
-            keeps.under_way ∙ r.1,
-          );
+      ready = λ running. ready_frames old new keeps k.front (k.ready running);
     }
 
     -- the anchor is the same
     module _ (front : List ℕ) (labelled : IsLogFront g log_bytes front) (anchors : new.anchors ≡ old.anchors) (anchored : IsAnchored old front) where
-      pub kept_settled : (failed : Bool) → IsSettledFrom (anchor_of new).tail (anchor_of new).tail_place new front → new.staged ≡ None → IsKept g log_bytes new failed aim
-      kept_settled failed s none = record {
+      pub kept_ready : (failed : Bool) → IsReadyLog new front → IsKept g log_bytes new failed aim
+      kept_ready failed ready = record {
         front = front;
         labelled = labelled;
         images = λ image left. inl (
           length (stable new),
           omega arith,
           take_short new.forced (records_of_log new),
-          subst (λ (rs : List LogRecord). Gives new front rs image) (sym (take_own new.forced (records_of_log new))) (settled_gives new front s image left),
+          subst (λ (rs : List LogRecord). Gives new front rs image) (sym (take_own new.forced (records_of_log new))) (ready_gives new front ready image left),
         );
         anchored = anchored_same old new anchors front anchored;
-        ready = λ running. (s, none);
+        ready = λ running. ready;
       }
 
-      -- A force that failed has left the stable records, with the frame under way or without it.
+      -- What failed has left the stable records, with the frame under way or without it.
       pub kept_torn : (failed : Bool) → (failed ≡ false → ⊥) → stable new ≡ stable old → records_of_log new ≡ records_of_log old
-          → ((count : ℕ) → IsLongest (waiting old) count
-          → LeavesOnly (G.history old.device) (G.history new.device) (GivesWithOrWithoutFrom front (anchor_of old).tail (anchor_of old).tail_place (stable old) (take count (waiting old)))) → IsKept g log_bytes new failed aim
+          → LeavesOnly (G.history old.device) (G.history new.device) (GivesForced old front) → IsKept g log_bytes new failed aim
       kept_torn failed never forced same moments = record {
         front = front;
         labelled = labelled;
-        images = λ image left. inl (as_now image (at_end (G.history old.device) (G.history new.device) (GivesForced old front) (force_leaves old (G.history new.device) front moments) image left));
+        images = λ image left. inl (as_now image (at_end (G.history old.device) (G.history new.device) (GivesForced old front) moments image left));
         anchored = anchored_same old new anchors front anchored;
         ready = λ running. absurd (never running);
       }
@@ -241,18 +250,18 @@ module _ {L : Type 0} {G : Ghosts L} where
           )
 
     -- The anchor has moved.
-    pub kept_moved : (failed : Bool) (front : List ℕ) → IsLogFront g log_bytes front → IsAnchored new front → IsSettledFrom (anchor_of new).tail (anchor_of new).tail_place new front → new.staged ≡ None → IsKept g log_bytes new failed aim
-    kept_moved failed front labelled anchored s none = record {
+    pub kept_moved : (failed : Bool) (front : List ℕ) → IsLogFront g log_bytes front → IsAnchored new front → IsReadyLog new front → IsKept g log_bytes new failed aim
+    kept_moved failed front labelled anchored ready = record {
       front = front;
       labelled = labelled;
       images = λ image left. inl (
         length (stable new),
         omega arith,
         take_short new.forced (records_of_log new),
-        subst (λ (rs : List LogRecord). Gives new front rs image) (sym (take_own new.forced (records_of_log new))) (settled_gives new front s image left),
+        subst (λ (rs : List LogRecord). Gives new front rs image) (sym (take_own new.forced (records_of_log new))) (ready_gives new front ready image left),
       );
       anchored = anchored;
-      ready = λ running. (s, none);
+      ready = λ running. ready;
     }
 
     -- A move of the anchor that failed has left the old one or the one that it made.

@@ -14,11 +14,10 @@ use Rattle.laws_runs.specs.CheckpointedStates.{IsAtCheckpoints}
 use Rattle.shore_world.specs.declared.world.World.{World}
 use Rattle.shore_world.specs.Worlds.{IsAt, SurvivesCrashes, before_in, cut_in, failed_in, geometry_in, stream_bytes_in}
 use Rattle.shore_world.proofs.LogParts.{gone_long}
-use Rattle.shore_world.proofs.WorldLemmas.{ready_settled}
 use Rattle.shore_held.specs.Comings.{HasComeBy}
 use Rattle.shore_world.specs.Labels.{IsLogFront, IsVolumeFront}
 use Rattle.shore_held.specs.Logs.{IsKept}
-use Rattle.shore_held.proofs.KeptLogs.{kept_settled}
+use Rattle.shore_held.proofs.KeptLogs.{kept_ready}
 
 module _ {L V : Type 0} {G : Ghosts L} {H : Ghosts V} (w : World L V G H) (g : Geometry) (ring_bytes : ℕ) (opening : Opening) (found : List LogRecord) (es : List Entry) (m : CheckpointedState)
     (log_front front : List ℕ) (disk : ℕ → List ℕ) (at : IsAt w log_front front disk m.state m.store) (under_way : IsAtCheckpoints g ring_bytes opening found es m) (is : geometry_in w ≡ g) (long : stream_bytes_in w ≡ ring_bytes)
@@ -53,8 +52,8 @@ module _ {L V : Type 0} {G : Ghosts L} {H : Ghosts V} (w : World L V G H) (g : G
     anchored_is = at.anchored;
   }
 
--- Its log device is kept, once no frame is under way; no move of its anchor has failed.
+-- Its log device is kept, with a frame under way or without one; no move of its anchor has failed.
 module _ {L V : Type 0} {G : Ghosts L} {H : Ghosts V} (w : World L V G H) (g : Geometry) (log_bytes : ℕ) (log_front : List ℕ) (labelled : IsLogFront g log_bytes log_front) (k : SurvivesCrashes w log_front)
-    (running : failed_in w ≡ false) (still : w.log.staged ≡ None) where
+    (running : failed_in w ≡ false) where
   pub keeps_log : IsKept g log_bytes w.log false (0, 0)
-  keeps_log = kept_settled w.log w.log log_front labelled refl k.anchored false (ready_settled w log_front still (k.ready running)) still
+  keeps_log = kept_ready w.log w.log log_front labelled refl k.anchored false (k.ready running)

@@ -1,5 +1,5 @@
 -- What is kept of the log device under its lock, and what contracts see of it.
-use Rattle.std.specs.Prelude.{◌≡◌, ◌⊎◌, ◌+◌, ◌≤◌, ◌<◌, ◌++◌, Bool, List, None, ℕ, false, length, take}
+use Rattle.std.specs.Prelude.{◌≡◌, ◌⊎◌, ◌+◌, ◌≤◌, ◌<◌, ◌++◌, Bool, List, None, Option, Some, ℕ, false, length, take}
 use Rattle.shore_types.specs.declared.layout.Geometry.{Geometry}
 use Rattle.shore_types.specs.declared.layout.TheConstants.{LOG_FRONT_BYTES}
 use Rattle.shore_disk.specs.Device.{DeviceHistory, LeavesOnly, may_leave}
@@ -12,9 +12,11 @@ use Rattle.shore_model.specs.declared.log_records.LogRecord.{LogRecord}
 use Rattle.laws_checkpoints.specs.Checkpoints.{Anchored}
 use Rattle.laws_images.specs.StandsBehind.{anchored_by}
 use Rattle.shore_log.specs.declared.device.LogDev.{LogDev}
-use Rattle.shore_log.specs.Settled.{IsAnchored, IsLeftByMove, IsSettledFrom, anchor_of, cut_of_log, next_anchor, records_of_log, stable}
+use Rattle.shore_log.specs.declared.device.Staged.{Staged}
+use Rattle.shore_log.specs.Settled.{IsAnchored, IsLeftByMove, anchor_of, cut_of_log, next_anchor, records_of_log, stable}
 use Rattle.shore_words.specs.declared.rule.Known.{Known}
 use Rattle.shore_world.specs.Labels.{IsLogFront}
+use Rattle.shore_world.specs.Ready.{IsReadyLog}
 use Rattle.shore_held.specs.Comings.{HasAim}
 
 pub record LogState : Type 0 where
@@ -25,8 +27,11 @@ pub record LogState : Type 0 where
   pub list : List LogRecord
   pub waits : List LogRecord
   pub stable : List LogRecord
-  -- what came through the queue
+  -- how many of those behind the durable ones stand in a frame whose gate is shut; none if no frame is staged
+  pub staged : ℕ
+  -- what came through the queue, and what it knows to be sent: all that was when both ends last met
   pub got : List LogRecord
+  pub met : List LogRecord
   -- the number that was told
   pub told : ℕ
   -- where a move of the anchor that has failed was to lead
@@ -34,6 +39,11 @@ pub record LogState : Type 0 where
   pub failed : Bool
   -- the calls of its device
   pub history : DeviceHistory
+
+-- how many records a staged frame has
+abbrev pub count_of : Option Staged → ℕ
+count_of None = 0
+count_of (Some frame) = frame.count
 
 -- the anchor that counts, as seats know it
 abbrev pub known_in : LogState → Known
@@ -60,6 +70,12 @@ abbrev pub LeavesHeld : Geometry → ℕ → LogState → DeviceHistory → Type
 LeavesHeld g log_bytes s later =
     (front : List ℕ) × IsLogFront g log_bytes front × (length front ≡ LOG_FRONT_BYTES) × Counts front s.anchors.slot s.anchors.anchor × LeavesOnly s.history later (IsLeftOfHeld s front)
 
+-- Stable is what a loss of power leaves in any case. A frame that is staged behind it does not count: an image gives the durable records, and none of that frame.
+abbrev pub LeavesStable : Geometry → ℕ → LogState → DeviceHistory → Type 0
+LeavesStable g log_bytes s later =
+    (front : List ℕ) × IsLogFront g log_bytes front × (length front ≡ LOG_FRONT_BYTES) × Counts front s.anchors.slot s.anchors.anchor
+    × LeavesOnly s.history later (GivesBehindFrom front s.anchors.anchor.tail s.anchors.anchor.tail_place s.stable)
+
 -- At any moment of the calls that have led from the one history to the other a loss of power leaves what a move of the anchor leaves that leads there.
 abbrev pub LeavesByMove : Geometry → ℕ → Anchors → List LogRecord → ℕ × ℕ → DeviceHistory → DeviceHistory → Type 0
 LeavesByMove g log_bytes from rs aim old later =
@@ -72,7 +88,7 @@ pub record Follows (cut : ℕ) (before got : List LogRecord) (now : ℕ) (list :
   pub cut_off : now ≡ cut + length gone
 
 -- Whenever power is lost the frames behind the front give a prefix of the records with all that are durable, and the anchor counts; or a move of the anchor has failed,
--- which was to lead there, and the one that it made may count. As long as the device has not failed no frame is under way, and it is ready for one and for a move.
+-- which was to lead there, and the one that it made may count. As long as the device has not failed it is ready for a force and for a move, with a frame staged or without one.
 pub record IsKept {L : Type 0} {G : Ghosts L} (g : Geometry) (log_bytes : ℕ) (log : LogDev L G) (failed : Bool) (aim : ℕ × ℕ) : Type 0 where
   pub front : List ℕ
   pub labelled : IsLogFront g log_bytes front
@@ -80,7 +96,7 @@ pub record IsKept {L : Type 0} {G : Ghosts L} (g : Geometry) (log_bytes : ℕ) (
       → ((n : ℕ) × (length (stable log) ≤ n) × (n ≤ length (records_of_log log)) × GivesBehindFrom front (anchor_of log).tail (anchor_of log).tail_place (take n (records_of_log log)) image)
       ⊎ ((cut_of_log log < aim.1) × IsLeftByMove log.anchors (next_anchor log aim.0 aim.1) front (stable log) image)
   pub anchored : IsAnchored log front
-  pub ready : failed ≡ false → IsSettledFrom (anchor_of log).tail (anchor_of log).tail_place log front × (log.staged ≡ None)
+  pub ready : failed ≡ false → IsReadyLog log front
 
 -- What both locks say together, where so much of this was sent of what was kept, so much is known to be durable, and this is the anchor: the log device has the first of
 -- it, but for what is cut off, and the rest is on its way.

@@ -1,8 +1,9 @@
 -- The trail of a core under its lock: what was asked of it, and what that came to.
-use Rattle.std.specs.Prelude.{◌≡◌, ◌⊎◌, ◌+◌, ℕ, List, [], ◌∷◌, ◌++◌}
+use Rattle.std.specs.Prelude.{◌≡◌, ◌⊎◌, ◌+◌, ◌||◌, ℕ, Bool, true, false, List, [], ◌∷◌, ◌++◌, None, Some}
 use Rattle.shore_model.specs.declared.step.Step.{Step}
 use Rattle.shore_model.specs.declared.step.Step.TheVariants as made
 use Rattle.laws_calls.specs.Events.{Called, Forced, HasFailed, Resumed}
+use Rattle.shore_words.specs.declared.rule.Noted.{Noted}
 use Rattle.shore_world.specs.EventMoves.{OfCheckpoint, OfManager, PlainMove}
 use Rattle.shore_held.specs.declared.asked.Asked.{Asked}
 use Rattle.shore_held.specs.declared.asked.Asked.TheVariants as asked
@@ -20,6 +21,19 @@ moves_of [] steps = []
 moves_of (a ∷ others) [] = []
 moves_of (a ∷ others) (step ∷ steps) = move_of a.0 a.1 step.0 ∷ moves_of others steps
 
+-- what a session hears of it
+abbrev pub noted_of : Asked → ℕ → Step → List Noted
+noted_of (asked.Call c) session step = record { session = session; heard = record { asked = Some c; step = step } } ∷ []
+noted_of asked.Resume session step = record { session = session; heard = record { asked = None; step = step } } ∷ []
+noted_of (asked.Told n) session step = []
+noted_of asked.Checkpoint session step = []
+noted_of asked.Failed session step = []
+
+abbrev pub noted_in : List (Asked × ℕ) → List (Step × ℕ) → List Noted
+noted_in [] steps = []
+noted_in (a ∷ others) [] = []
+noted_in (a ∷ others) (step ∷ steps) = noted_of a.0 a.1 step.0 ++ noted_in others steps
+
 -- how many of them are calls and resumes of sessions
 abbrev pub counted : Asked → ℕ
 counted (asked.Call c) = 1
@@ -31,6 +45,18 @@ counted asked.Failed = 0
 abbrev pub calls_in : List (Asked × ℕ) → ℕ
 calls_in [] = 0
 calls_in (a ∷ others) = counted a.0 + calls_in others
+
+-- whether it was told that a device has failed
+abbrev pub is_failure : Asked → Bool
+is_failure (asked.Call c) = false
+is_failure asked.Resume = false
+is_failure (asked.Told n) = false
+is_failure asked.Checkpoint = false
+is_failure asked.Failed = true
+
+abbrev pub has_failure : List (Asked × ℕ) → Bool
+has_failure [] = false
+has_failure (a ∷ others) = is_failure a.0 || has_failure others
 
 -- A trail, what was asked and what that came to, has gone on by what was learned of the log, if that was more, and then by these.
 abbrev pub GoesOn : List (Asked × ℕ) × List (Step × ℕ) → List (Asked × ℕ) × List (Step × ℕ) → List (Asked × ℕ) → List (Step × ℕ) → Type 0

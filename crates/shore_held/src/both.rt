@@ -22,7 +22,7 @@ use shore_words::Words;
 use std::marker::{Model, PhantomData};
 use std::sync::Wait;
 
-// The other end of the queue, while it is compared with the core's. It is seen as what it has received.
+// The other end of the queue, while it is compared with the core's. It is seen as what it knows to be sent, and what it has received.
 #[derive(Drop)]
 struct OtherEnd<B: Named> {
     pass: QueuePass,
@@ -30,29 +30,29 @@ struct OtherEnd<B: Named> {
 }
 
 impl<B: Named> Model for OtherEnd<B> {
-    ghost Value = { List LogRecord };
+    ghost Value = { List LogRecord × List LogRecord };
 
-    ghost view = { λ e. e.pass.me.view.client.got };
+    ghost view = { λ e. (e.pass.me.view.client.sent, e.pass.me.view.client.got) };
 
-    ghost invariant = { λ e. IsSegPassOf B.queue e.pass × (e.pass.me.view.client ≡ ends false true [] e.pass.me.view.client.got) };
+    ghost invariant = { λ e. IsSegPassOf B.queue e.pass × (e.pass.me.view.client ≡ ends false true e.pass.me.view.client.sent e.pass.me.view.client.got) };
 }
 
 impl<N: Numbers, B: Named, R: Wait + Copy> Probe<QueueTail<N, B, R>> for OtherEnd<B> {
-    ghost tells = { λ old tail new. (new ≡ old) × ((rest : List LogRecord) × (tail ≡ old ++ rest)) };
+    ghost tells = { λ old tail new. (new ≡ (tail, old.1)) × ((rest : List LogRecord) × (tail ≡ old.1 ++ rest)) };
 
     fn touch(&mut self, tail: &mut QueueTail<N, B, R>) {
         tail.compare(&mut self.pass);
     }
 }
 
-/// With both locks: the log device's records are a prefix of the core's, and what was seen is durable.
+/// With both locks: the log device's records are a prefix of the core's, and what was seen is durable. From now on the log device knows what was sent.
 pub fn meeting<N: Numbers, B: Named, R: Wait + Copy, L: Disk, V: Disk>(
     words: &Words,
     core: &mut CoreHeld<B, QueueTail<N, B, R>, V>,
     held: &mut LogHeld<N, B, L>,
     seat: &mut Seat<B>,
 ) -> Meeting
-    requires { (words.now.table.shared.table_id ≡ B.table) × (3 < B.table.words) }
+    requires { (words.now.table.shared.table_id ≡ B.table) × (4 < B.table.words) }
     ensures same { (waiting_of core.new.core ≡ waiting_of core.old.core) × (durable_of core.new.core ≡ durable_of core.old.core) × (has_failed core.new.core ≡ has_failed core.old.core)
         × (core.new.stage ≡ core.old.stage) × (core.new.asked.items ≡ core.old.asked.items) × (core.new.stepped.items ≡ core.old.stepped.items) × (core.new.made ≡ core.old.made)
         × (core.new.rest ≡ core.old.rest) }
@@ -62,7 +62,7 @@ pub fn meeting<N: Numbers, B: Named, R: Wait + Copy, L: Disk, V: Disk>(
     ensures one_anchor { (core.old.seat.kept ≡ known_in held.old) × (held.old.anchors.anchor.tail ≡ held.old.cut + 1) }
     // A move of the anchor that has failed was the last step of the core's checkpoint.
     ensures aims { HasAim held.old.aim → ∥ IsAimOf core.old.stage (durable_of core.old.core) held.old.aim ∥₁ }
-    ensures same_log { held.new ≡ held.old }
+    ensures same_log { held.new ≡ record held.old { met = waiting_of core.old.core } }
     ensures begins { (gone rest : List LogRecord) × (B.before ++ waiting_of core.old.core ≡ gone ++ (held.old.list ++ rest)) × (held.old.cut ≡ B.cut + length gone) }
     ensures all { cores.last_of core.old.core ≡ B.cut + length B.before + length (waiting_of core.old.core) }
     ensures numbers { (result.core_end ≡ cores.last_of core.old.core) × (result.device_end ≡ held.old.cut + length held.old.stable) × (seat.new ≡ record seat.old { seen = result.seen }) × (seat.old.seen ≤ result.seen) }

@@ -42,7 +42,7 @@ pub fn checkpoint<N: Numbers, B: Named, R: Wait + Copy, L: Disk, V: Disk>(
     core: &mut CoreHeld<B, QueueTail<N, B, R>, V>,
     held: &mut LogHeld<N, B, L>,
 ) -> Step
-    requires { (words.now.table.shared.table_id ≡ B.table) × (3 < B.table.words) }
+    requires { (words.now.table.shared.table_id ≡ B.table) × (4 < B.table.words) }
 
     // The step is in the trail, behind what was learned of the log.
     ensures noted { held.old.failed ≡ false → GoesOn (core.old.asked.items, core.old.stepped.items) (core.new.asked.items, core.new.stepped.items) ((Asked.Checkpoint, 0) ∷ []) ((result, 0) ∷ []) }
@@ -58,7 +58,7 @@ pub fn checkpoint<N: Numbers, B: Named, R: Wait + Copy, L: Disk, V: Disk>(
     ensures aimed { result ≡ Step.Refused Fault.Device → (core.new.stage ≡ core.old.stage) × HasAim held.new.aim × IsAimOf core.new.stage (durable_of core.new.core) held.new.aim }
     ensures unaimed { result ≢ Step.Refused Fault.Device → held.new.aim ≡ held.old.aim }
     ensures lost { (gone : List LogRecord) × (held.old.list ≡ gone ++ held.new.list) × (held.old.stable ≡ gone ++ held.new.stable) × (held.new.cut ≡ held.old.cut + length gone) }
-    ensures came { (held.new.got ≡ held.old.got) × (held.new.waits ≡ held.old.waits) }
+    ensures came { (held.new.got ≡ held.old.got) × (held.new.waits ≡ held.old.waits) × (held.new.met ≡ waiting_of core.old.core) }
     ensures sessions { (core.new.made ≡ core.old.made) × (core.new.rest ≡ core.old.rest) }
     // Both know all that is durable.
     ensures told { held.new.told ≡ held.new.cut + length held.new.stable }
@@ -119,7 +119,7 @@ fn move_anchor<N: Numbers, B: Named, R: Wait + Copy, L: Disk, V: Disk>(
     held: &mut LogHeld<N, B, L>,
     mark: Mark,
 ) -> Step
-    requires words { (words.now.table.shared.table_id ≡ B.table) × (3 < B.table.words) }
+    requires words { (words.now.table.shared.table_id ≡ B.table) × (4 < B.table.words) }
     requires met { AreMet B.cut B.before (waiting_of core.old.core) (durable_of core.old.core) (anchored_at core.old.seat.kept) held.old }
     requires next { (named : marks.Named) × (core.old.stage ≡ Stage.Named named) × (named.mark ≡ mark) × (named.number ≤ durable_of core.old.core) }
     requires running { (has_failed core.old.core ≡ false) × (held.old.failed ≡ false) × (core.old.seat.kept.aim ≡ (0, 0)) }
@@ -133,7 +133,7 @@ fn move_anchor<N: Numbers, B: Named, R: Wait + Copy, L: Disk, V: Disk>(
     ensures aimed { result ≡ Step.Refused Fault.Device → (core.new.stage ≡ core.old.stage) × HasAim held.new.aim × IsAimOf core.new.stage (durable_of core.new.core) held.new.aim }
     ensures unaimed { result ≢ Step.Refused Fault.Device → held.new.aim ≡ held.old.aim }
     ensures lost { (gone : List LogRecord) × (held.old.list ≡ gone ++ held.new.list) × (held.old.stable ≡ gone ++ held.new.stable) × (held.new.cut ≡ held.old.cut + length gone) }
-    ensures came { (held.new.got ≡ held.old.got) × (held.new.waits ≡ held.old.waits) }
+    ensures came { (held.new.got ≡ held.old.got) × (held.new.waits ≡ held.old.waits) × (held.new.met ≡ held.old.met) }
     ensures sessions { (core.new.made ≡ core.old.made) × (core.new.rest ≡ core.old.rest) }
     ensures durable { (durable_of core.new.core ≡ durable_of core.old.core) × (held.new.told ≡ held.old.told) }
     ensures volume { heap_of core.new.core ≡ heap_of core.old.core }

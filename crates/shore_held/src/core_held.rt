@@ -1,5 +1,5 @@
 //! What lies under the core's lock.
-ghost use Rattle.std.specs.Prelude.{◌≡◌, ◌≢◌, ◌⊎◌, ◌↔◌, ◌≤◌, ◌<◌, ◌+◌, ◌-◌, [], ◌∷◌, ◌++◌, length, ℕ, List, IfNone, IfSome, IsTrue, None, Some, slice_get, true};
+ghost use Rattle.std.specs.Prelude.{◌≡◌, ◌≢◌, ◌⊎◌, ◌↔◌, ◌≤◌, ◌<◌, ◌+◌, ◌-◌, [], ◌∷◌, ◌++◌, length, ℕ, IfNone, IfSome, IsTrue, None, Some, false, slice_get, true};
 ghost use Rattle.shore_types.specs.declared.faults.Fault.TheVariants as Fault;
 ghost use Rattle.shore_types.specs.declared.layout.TheConstants.{LOG_FRONT_BYTES};
 ghost use Rattle.shore_txn.specs.Transactions.{room_in};
@@ -11,9 +11,9 @@ ghost use Rattle.shore_core.specs.Waking.{IsLetThrough, NoneLetThrough};
 ghost use Rattle.shore_sessions.specs.declared.waits.WaitingCall.{WaitingCall};
 ghost use Rattle.shore_core.specs.Flushing.{FlushAnswers, FlushSteps};
 ghost use Rattle.shore_core.specs.Replies.{InEach, Reads, ReadsWaiting, Resumed, Serves, Stepped, fault_at, forced_at};
-ghost use Rattle.shore_words.specs.Words.{looker};
+ghost use Rattle.shore_words.specs.Words.{listener, looker, AreBy, HasHeard, Listens, heard_of};
 ghost use Rattle.shore_held.specs.Comings.{Beginning, HasAim, HasComeBy, IsAimOf, anchored_at};
-ghost use Rattle.shore_held.specs.Trails.{calls_in, moves_of};
+ghost use Rattle.shore_held.specs.Trails.{calls_in, has_failure, moves_of, noted_in};
 ghost use Rattle.shore_held.specs.declared.asked.Asked.TheVariants as Asked;
 ghost use Rattle.shore_held.specs.declared.core_held.TheConstants.{ALL_PARTS};
 
@@ -29,6 +29,7 @@ use shore_model::Call;
 use shore_types::{Fault, Lsn, SessionId};
 use shore_words::Words;
 use std::alloc::Global;
+use std::snapshot::Snapshot;
 use std::sync::ledger::{Book, Share};
 
 /// How many parts the ledger has: one for each session that there may be, and one that stays.
@@ -53,6 +54,8 @@ pub struct CoreHeld<B: Named, T: Tail, V: Disk> {
     pub(crate) made: u32,
     // What the core has seen of how far the log is durable, the anchor that counts, and where a move of it that has failed was to lead.
     pub(crate) seat: Seat<B>,
+    // The seat that notes what each session hears, and tells who waits for the log that a device has failed.
+    pub(crate) book: Seat<B>,
     ghost come_by: { (start : Beginning) → B.honest start → ∥ HasComeBy start B.cut B.before core stage (anchored_at seat.kept) (moves_of asked.items stepped.items) ∥₁ },
     ghost layout: { geometry_of core ≡ B.geometry },
     ghost ring: { (room_in (txns_of core)).stream_bytes + LOG_FRONT_BYTES ≡ B.log_bytes },
@@ -63,6 +66,9 @@ pub struct CoreHeld<B: Named, T: Tail, V: Disk> {
     ghost counted: { calls.total ≡ calls_in asked.items },
     ghost parts: { rest.parts + made ≡ B.all },
     ghost none_kept: { rest.amount ≡ 0 },
+    ghost booked: { (book.notes ≡ true) × (book.noted ≡ noted_in asked.items stepped.items) × (book.made ≡ made) },
+    ghost failing: { book.failing ≡ true → IsTrue (has_failure asked.items) },
+    ghost fails: { IsTrue (has_failure asked.items) → IsTrue (has_failed core) },
 }
 
 impl<B: Named, T: Tail, V: Disk> CoreHeld<B, T, V> {
@@ -73,9 +79,11 @@ impl<B: Named, T: Tail, V: Disk> CoreHeld<B, T, V> {
         calls: Book<B>,
         rest: Share<B>,
         seat: Seat<B>,
+        book: Seat<B>,
     ) -> CoreHeld<B, T, V>
         requires calls { (calls.total ≡ 0) × (rest.parts ≡ B.all) × (rest.amount ≡ 0) }
         requires seat { (seat.keeps ≡ true) × (durable_of core ≤ seat.seen) × (seat.kept.aim ≡ (0, 0)) }
+        requires book { (book.notes ≡ true) × (book.noted ≡ []) × (book.made ≡ 0) × (book.failing ≡ false) }
         requires layout { (geometry_of core ≡ B.geometry) × ((room_in (txns_of core)).stream_bytes + LOG_FRONT_BYTES ≡ B.log_bytes) }
         requires opened { (start : Beginning) → B.honest start → ∥ HasComeBy start B.cut B.before core stage (anchored_at seat.kept) [] ∥₁ }
         ensures { (result.core ≡ core) × (result.stage ≡ stage) × (result.asked.items ≡ []) × (result.stepped.items ≡ []) × (result.tape ≡ None) × (result.seat ≡ seat)
@@ -91,6 +99,7 @@ impl<B: Named, T: Tail, V: Disk> CoreHeld<B, T, V> {
             rest,
             made: 0,
             seat,
+            book,
         }
     }
 
@@ -98,17 +107,23 @@ impl<B: Named, T: Tail, V: Disk> CoreHeld<B, T, V> {
     pub fn call(
         &mut self,
         alloc: Global,
+        words: &Words,
         session: SessionId,
         share: &mut Share<B>,
+        ear: &mut Seat<B>,
         call: Call,
     ) -> Step
+        requires words { (words.now.table.shared.table_id ≡ B.table) × (4 < B.table.words) }
         requires served { IsServed call }
         requires share { share.old.parts ≡ 1 }
+        requires ear { Listens ear.old × (ear.old.session ≡ session) }
         ensures step { InEach (λ front disk before s store. Stepped session call result self.old.core self.new.core front before s store) self.old.core }
         // At any moment no page of the volume has a number above what the core knows to be durable, which its seat has seen.
         ensures serves { Serves (Reads call) (forced_at call self.old.core self.new.core) (fault_at result) self.old.core self.new.core }
         ensures still { IsTrue (has_failed self.old.core) → heap_of self.new.core ≡ heap_of self.old.core }
         ensures share { (share.new.parts ≡ 1) × (share.new.amount ≡ share.old.amount + 1) }
+        // Its seat has heard it.
+        ensures heard { ear.new ≡ record ear.old { heard = ear.old.heard ++ record { asked = Some call; step = result } ∷ [] } }
         ensures asked { self.new.asked.items ≡ self.old.asked.items ++ (Asked.Call call, session) ∷ [] }
         ensures stepped { self.new.stepped.items ≡ self.old.stepped.items ++ (result, session) ∷ [] }
         ensures tape { self.old.tape ≡ None → self.new.tape ≡ None }
@@ -119,20 +134,33 @@ impl<B: Named, T: Tail, V: Disk> CoreHeld<B, T, V> {
         let Asked::Call(call) = asked else {
             unreachable!()
         };
+        let (said, call) = with_snapshot(call);
         let step = self.core.call(alloc, session, call);
         self.stepped = self.stepped.and(&step, &session);
         note_on(&mut self.tape, session, &step);
         self.calls.add(share, 1);
+        self.book.note(words, ear, &said, &step);
         step
     }
 
     /// A session goes on with its call that waits.
-    pub fn resume(&mut self, alloc: Global, session: SessionId, share: &mut Share<B>) -> Step
+    pub fn resume(
+        &mut self,
+        alloc: Global,
+        words: &Words,
+        session: SessionId,
+        share: &mut Share<B>,
+        ear: &mut Seat<B>,
+    ) -> Step
+        requires words { (words.now.table.shared.table_id ≡ B.table) × (4 < B.table.words) }
         requires share { share.old.parts ≡ 1 }
+        requires ear { Listens ear.old × (ear.old.session ≡ session) }
         ensures step { InEach (λ front disk before s store. Resumed session result self.old.core self.new.core front before s store) self.old.core }
         ensures serves { Serves (ReadsWaiting self.old.core session) self.old.core (fault_at result) self.old.core self.new.core }
         ensures still { IsTrue (has_failed self.old.core) → heap_of self.new.core ≡ heap_of self.old.core }
         ensures share { (share.new.parts ≡ 1) × (share.new.amount ≡ share.old.amount + 1) }
+        // Its seat has heard it.
+        ensures heard { ear.new ≡ record ear.old { heard = ear.old.heard ++ record { asked = None; step = result } ∷ [] } }
         ensures asked { self.new.asked.items ≡ self.old.asked.items ++ (Asked.Resume, session) ∷ [] }
         ensures stepped { self.new.stepped.items ≡ self.old.stepped.items ++ (result, session) ∷ [] }
         ensures tape { self.old.tape ≡ None → self.new.tape ≡ None }
@@ -143,12 +171,13 @@ impl<B: Named, T: Tail, V: Disk> CoreHeld<B, T, V> {
         self.stepped = self.stepped.and(&step, &session);
         note_on(&mut self.tape, session, &step);
         self.calls.add(share, 1);
+        self.book.note(words, ear, &Snapshot::of(&None), &step);
         step
     }
 
     /// The core learns what its seat sees: how far the log is durable.
     pub fn look(&mut self, words: &Words) -> Lsn
-        requires { (words.now.table.shared.table_id ≡ B.table) × (3 < B.table.words) }
+        requires { (words.now.table.shared.table_id ≡ B.table) × (4 < B.table.words) }
         ensures seen { (self.new.seat ≡ record self.old.seat { seen = result }) × (self.old.seat.seen ≤ result) }
         ensures learned { result ≤ last_of self.old.core → durable_of self.new.core ≡ result }
         ensures records { (waiting_of self.new.core ≡ waiting_of self.old.core) × (has_failed self.new.core ≡ has_failed self.old.core) }
@@ -205,9 +234,11 @@ impl<B: Named, T: Tail, V: Disk> CoreHeld<B, T, V> {
         step
     }
 
-    /// The log device has failed: every later call is refused.
-    pub fn fail(&mut self)
+    /// The log device has failed: every later call is refused, and then who waits for the log is told.
+    pub fn fail(&mut self, words: &Words)
+        requires { (words.now.table.shared.table_id ≡ B.table) × (4 < B.table.words) }
         ensures noted { IsTrue (has_failed self.new.core) }
+        ensures told { self.new.book.failing ≡ true }
         ensures records { (waiting_of self.new.core ≡ waiting_of self.old.core) × (durable_of self.new.core ≡ durable_of self.old.core) }
         ensures heap { heap_of self.new.core ≡ heap_of self.old.core }
         ensures trail { (self.new.asked.items ≡ self.old.asked.items ++ (Asked.Failed, 0) ∷ []) × (self.new.stepped.items ≡ self.old.stepped.items ++ (Step.Nothing, 0) ∷ []) }
@@ -217,13 +248,16 @@ impl<B: Named, T: Tail, V: Disk> CoreHeld<B, T, V> {
         self.core.fail();
         self.asked = self.asked.and(&Asked::Failed, &SessionId(0));
         self.stepped = self.stepped.and(&Step::Nothing, &SessionId(0));
+        self.book.tell_failure(words);
     }
 
-    /// A new session: its number, which no other has, its part of the ledger, and its seat. None once all parts but one are theirs.
-    pub fn session(&mut self, words: &Words) -> Option<(SessionId, Share<B>, Seat<B>)>
-        requires words { (words.now.table.shared.table_id ≡ B.table) × (3 < B.table.words) }
+    /// A new session: its number, which no other has, its part of the ledger, a seat to look with, and the one that hears what its calls come to. None once all parts but one
+    /// are theirs.
+    pub fn session(&mut self, words: &Words) -> Option<(SessionId, Share<B>, Seat<B>, Seat<B>)>
+        requires words { (words.now.table.shared.table_id ≡ B.table) × (4 < B.table.words) }
         requires all { B.all ≡ ALL_PARTS }
         ensures fresh { IfSome result (λ s. (s.0 ≡ self.old.made + 1) × (s.0 < ALL_PARTS) × (s.1.parts ≡ 1) × (s.1.amount ≡ 0) × (s.2 ≡ looker self.old.seat.seen)) }
+        ensures ear { IfSome result (λ s. (seen : ℕ) × (s.3 ≡ listener seen s.0 [])) }
         ensures made { IfSome result (λ s. self.new.made ≡ self.old.made + 1) }
         ensures none { IfNone result ((ALL_PARTS ≤ self.old.made + 1) × (self.new.made ≡ self.old.made)) }
         ensures same { (self.new.core ≡ self.old.core) × (self.new.stage ≡ self.old.stage) × (self.new.asked.items ≡ self.old.asked.items) × (self.new.stepped.items ≡ self.old.stepped.items)
@@ -235,8 +269,25 @@ impl<B: Named, T: Tail, V: Disk> CoreHeld<B, T, V> {
         }
         let share = self.rest.split_off(1, 0);
         let seat = self.seat.reader(words);
+        let ear = self.book.session(words);
         self.made += 1;
-        Some((SessionId(self.made), share, seat))
+        Some((SessionId(self.made), share, seat, ear))
+    }
+
+    /// Shows that what a seat knows of a session is in the trail: it begins what the trail has of that session, and is all of it if the seat is the session's. The trail has nobody but the
+    /// sessions made. If the seat has found that a device has failed, that is in the trail, and the core has failed.
+    pub fn show(&mut self, words: &Words, ear: &mut Seat<B>)
+        requires { (words.now.table.shared.table_id ≡ B.table) × (4 < B.table.words) }
+        ensures heard { HasHeard (noted_in self.old.asked.items self.old.stepped.items) ear.old.session ear.old.heard }
+        ensures whole { ear.old.listens ≡ true → heard_of ear.old.session (noted_in self.old.asked.items self.old.stepped.items) ≡ ear.old.heard }
+        ensures by { AreBy self.old.made (noted_in self.old.asked.items self.old.stepped.items) }
+        ensures failed { ear.old.failed ≡ true → IsTrue (has_failure self.old.asked.items) }
+        ensures spent { ear.new ≡ record ear.old { session = 0; listens = false; heard = [] } }
+        ensures same { (self.new.core ≡ self.old.core) × (self.new.stage ≡ self.old.stage) × (self.new.asked.items ≡ self.old.asked.items) × (self.new.stepped.items ≡ self.old.stepped.items)
+            × (self.new.made ≡ self.old.made) × (self.new.rest ≡ self.old.rest) × (self.new.seat ≡ self.old.seat) }
+        ensures tape { self.new.tape ≡ self.old.tape }
+    {
+        self.book.show(words, ear);
     }
 
     /// A share of nothing, for who gathers those of the sessions.
@@ -307,7 +358,7 @@ impl<B: Named, T: Tail, V: Disk> CoreHeld<B, T, V> {
 
     /// A seat for one who looks.
     pub fn seat(&mut self, words: &Words) -> Seat<B>
-        requires { (words.now.table.shared.table_id ≡ B.table) × (3 < B.table.words) }
+        requires { (words.now.table.shared.table_id ≡ B.table) × (4 < B.table.words) }
         ensures same { (self.new.core ≡ self.old.core) × (self.new.stage ≡ self.old.stage) × (self.new.asked.items ≡ self.old.asked.items) × (self.new.stepped.items ≡ self.old.stepped.items)
             × (self.new.made ≡ self.old.made) × (self.new.rest ≡ self.old.rest) × (self.new.seat ≡ self.old.seat) }
         ensures new { result ≡ looker self.old.seat.seen }
@@ -315,6 +366,16 @@ impl<B: Named, T: Tail, V: Disk> CoreHeld<B, T, V> {
     {
         self.seat.reader(words)
     }
+}
+
+// A call, with what contracts know of it once it is gone.
+fn with_snapshot(call: Call) -> (Snapshot<Option<Call>>, Call)
+    ensures { (result.0.value ≡ Some call) × (result.1 ≡ call) }
+{
+    let said = Some(call);
+    let shown = Snapshot::of(&said);
+    let Some(call) = said else { unreachable!() };
+    (shown, call)
 }
 
 fn least(a: u64, b: u64) -> u64

@@ -1,5 +1,5 @@
 //! What lies under the log device's lock.
-ghost use Rattle.std.specs.Prelude.{◌≡◌, ◌↔◌, ◌≤◌, ◌<◌, ◌+◌, [], ◌++◌, length, take, ℕ, List, IfErr, IsTrue, OnErr, OnOk, Ok, Err, false, true};
+ghost use Rattle.std.specs.Prelude.{◌≡◌, ◌⊎◌, ◌↔◌, ◌≤◌, ◌<◌, ◌+◌, [], ◌++◌, length, take, ℕ, List, IfErr, IsTrue, OnErr, OnOk, Ok, Err, false, true};
 ghost use Rattle.std.specs.Arc.{arc_value};
 ghost use Rattle.crossbeam_queue.specs.SegTies.{IsSegPassOf};
 ghost use Rattle.shore_types.specs.declared.faults.Fault.TheVariants as Fault;
@@ -9,9 +9,9 @@ ghost use Rattle.shore_log.specs.PlainTails.{first_of, waiting_in};
 ghost use Rattle.shore_log.specs.Settled.{cut_of_log, records_of_log, stable};
 ghost use Rattle.shore_model.specs.declared.log_records.LogRecord.{LogRecord};
 ghost use Rattle.shore_queue.specs.Queues.{ends};
-ghost use Rattle.shore_words.specs.Words.{known};
+ghost use Rattle.shore_words.specs.Words.{known, looker};
 ghost use Rattle.shore_held.specs.Comings.{Beginning};
-ghost use Rattle.shore_held.specs.Logs.{Follows, IsKept, LeavesHeld, LogState};
+ghost use Rattle.shore_held.specs.Logs.{Follows, IsKept, LeavesHeld, LeavesStable, LogState, count_of};
 
 use crate::names::Named;
 use crate::seat::Seat;
@@ -44,9 +44,9 @@ pub struct LogHeld<N: Numbers, B: Named, L: Disk> {
 impl<N: Numbers, B: Named, L: Disk> Model for LogHeld<N, B, L> {
     ghost Value = { LogState };
 
-    ghost view = { λ h. record { anchors = h.log.anchors; cut = cut_of_log h.log; list = records_of_log h.log ++ waiting_in h.next; waits = waiting_in h.next; stable = stable h.log; got = h.pass.me.view.client.got; told = h.seat.told; aim = h.seat.anchor.aim; failed = h.failed; history = L.Disk.history h.log.device } };
+    ghost view = { λ h. record { anchors = h.log.anchors; cut = cut_of_log h.log; list = records_of_log h.log ++ waiting_in h.next; waits = waiting_in h.next; stable = stable h.log; staged = count_of h.log.staged; got = h.pass.me.view.client.got; met = h.pass.me.view.client.sent; told = h.seat.told; aim = h.seat.anchor.aim; failed = h.failed; history = L.Disk.history h.log.device } };
 
-    ghost invariant = { λ h. ((arc_value h.channel).queue ≡ B.queue) × IsSegPassOf B.queue h.pass × (h.pass.me.view.client ≡ ends false true [] h.pass.me.view.client.got)
+    ghost invariant = { λ h. ((arc_value h.channel).queue ≡ B.queue) × IsSegPassOf B.queue h.pass × (h.pass.me.view.client ≡ ends false true h.pass.me.view.client.sent h.pass.me.view.client.got)
         × Follows B.cut B.before h.pass.me.view.client.got (cut_of_log h.log) (records_of_log h.log ++ waiting_in h.next)
         × (first_of h.next ≡ cut_of_log h.log + 1 + length (records_of_log h.log)) × (N.first_number ≡ B.cut + 1 + length B.before)
         × (h.seat.tells ≡ true) × (h.seat.anchor ≡ record { checkpoint = h.log.anchors.anchor.checkpoint; tail = h.log.anchors.anchor.tail; aim = h.seat.anchor.aim }) × (h.seat.told ≤ cut_of_log h.log + length (stable h.log))
@@ -69,7 +69,7 @@ impl<N: Numbers, B: Named, L: Disk> LogHeld<N, B, L> {
         requires seat { (seat.tells ≡ true) × (seat.anchor ≡ known log.anchors.anchor.checkpoint log.anchors.anchor.tail) × (seat.told ≤ cut_of_log log + length (stable log)) }
         requires long { devices.size (L.Disk.history log.device) ≡ B.log_bytes }
         requires kept { (start : Beginning) → B.honest start → ∥ IsKept B.geometry B.log_bytes log false (0, 0) ∥₁ }
-        ensures { (result.anchors ≡ log.anchors) × (result.list ≡ records_of_log log) × (result.waits ≡ []) × (result.cut ≡ cut_of_log log) × (result.stable ≡ stable log) × (result.got ≡ []) × (result.told ≡ seat.told)
+        ensures { (result.anchors ≡ log.anchors) × (result.list ≡ records_of_log log) × (result.waits ≡ []) × (result.cut ≡ cut_of_log log) × (result.stable ≡ stable log) × (result.staged ≡ count_of log.staged) × (result.got ≡ []) × (result.met ≡ []) × (result.told ≡ seat.told)
             × (result.aim ≡ (0, 0)) × (result.failed ≡ false) × (result.history ≡ L.Disk.history log.device) }
     {
         let next = PlainTail::new(alloc, Lsn(log.last().0 + 1));
@@ -84,12 +84,14 @@ impl<N: Numbers, B: Named, L: Disk> LogHeld<N, B, L> {
         }
     }
 
-    /// Takes in what came through the queue and waits for memory, and then one push more. False if there was none more. `Memory` if an allocation failed: nothing is lost.
+    /// Takes in what came through the queue and waits for memory, and then one push more. False if there was none more: then all came that this end knows to be sent. `Memory` if an allocation failed: nothing is lost.
     pub fn take_one<R: Wait>(&mut self, rt: &R) -> Result<bool, Fault>
-        ensures same { (self.new.anchors ≡ self.old.anchors) × (self.new.cut ≡ self.old.cut) × (self.new.stable ≡ self.old.stable) × (self.new.told ≡ self.old.told) × (self.new.failed ≡ self.old.failed)
-            × (self.new.aim ≡ self.old.aim) × (self.new.history ≡ self.old.history) }
+        ensures same { (self.new.anchors ≡ self.old.anchors) × (self.new.cut ≡ self.old.cut) × (self.new.stable ≡ self.old.stable) × (self.new.staged ≡ self.old.staged) × (self.new.told ≡ self.old.told) × (self.new.failed ≡ self.old.failed)
+            × (self.new.aim ≡ self.old.aim) × (self.new.history ≡ self.old.history) × (self.new.met ≡ self.old.met) }
         ensures more { (more : List LogRecord) × (self.new.list ≡ self.old.list ++ more) × (self.new.got ≡ self.old.got ++ more) }
         ensures none { result ≡ Ok false → (self.new.list ≡ self.old.list) × (self.new.got ≡ self.old.got) }
+        ensures some { result ≡ Ok true → length self.old.got < length self.new.got }
+        ensures emptied { result ≡ Ok false → (rest : List LogRecord) × (self.old.got ≡ self.old.met ++ rest) }
         ensures taken { OnOk result (self.new.waits ≡ []) }
         ensures only_memory { IfErr result (λ fault. fault ≡ Fault.Memory) }
     {
@@ -104,26 +106,30 @@ impl<N: Numbers, B: Named, L: Disk> LogHeld<N, B, L> {
         }
     }
 
-    /// Forces the longest list of its records that one frame holds. False if all that it took in is durable. After `Device` it is not called any more.
-    pub fn force(&mut self, alloc: Global) -> Result<bool, Fault>
+    /// Stages the longest list of its records that one frame holds, where no frame is staged: it is written behind the durable ones, and does not count yet. The answer is whether a frame is
+    /// staged then; if not, all that it took in is durable. `LogFull` and `Memory` change nothing; after `Device` it is not called any more.
+    pub fn stage(&mut self, alloc: Global) -> Result<bool, Fault>
         ensures same { (self.new.anchors ≡ self.old.anchors) × (self.new.cut ≡ self.old.cut) × (self.new.list ≡ self.old.list) × (self.new.waits ≡ self.old.waits) × (self.new.got ≡ self.old.got)
-            × (self.new.told ≡ self.old.told) × (self.new.aim ≡ self.old.aim) }
+            × (self.new.met ≡ self.old.met) × (self.new.told ≡ self.old.told) × (self.new.aim ≡ self.old.aim) }
+        ensures unforced { self.new.stable ≡ self.old.stable }
         ensures failed { IsTrue self.old.failed → result ≡ Err Fault.Device }
-        ensures unforced { OnErr result (self.new.stable ≡ self.old.stable) }
-        ensures none { result ≡ Ok false → (self.new.stable ≡ self.old.stable) × (self.new.list ≡ self.new.stable ++ self.new.waits) }
-        // A loss of power at any moment of it leaves a prefix of the records, with all that were durable before; or what a move of the anchor has left that failed before.
+        ensures none { result ≡ Ok false → (self.new.staged ≡ 0) × (self.new.list ≡ self.new.stable ++ self.new.waits) }
+        ensures staged { result ≡ Ok true → (0 < self.new.staged) × (length self.new.stable + self.new.staged + length self.new.waits ≤ length self.new.list) }
+        // A frame that was staged before is not staged anew, and whoever stages knows of no move of the anchor that has failed.
+        ensures under_way { 0 < self.old.staged → OnOk result (self.new ≡ self.old) }
+        ensures unaimed { OnOk result (self.old.aim ≡ (0, 0)) }
+        ensures refused { IfErr result (λ fault. (fault ≡ Fault.Device) ⊎ (self.new ≡ self.old)) }
+        // A loss of power at any moment of it leaves what was durable, and nothing of that frame.
+        ensures leaves { (self.old.failed ≡ false) → (start : Beginning) → B.honest start → ∥ LeavesStable B.geometry B.log_bytes self.old self.new.history ∥₁ }
         ensures any_moment { (start : Beginning) → B.honest start → ∥ LeavesHeld B.geometry B.log_bytes self.old self.new.history ∥₁ }
-        ensures forced { result ≡ Ok true → length self.old.stable < length self.new.stable }
         ensures broken { OnOk result (self.new.failed ≡ self.old.failed) }
         ensures breaks { IfErr result (λ fault. IsTrue self.new.failed ↔ (fault ≡ Fault.Device)) }
     {
-        // An honest device has no frame under way here. Of another nobody knows what it holds, so it counts as one that has failed.
-        if self.failed || self.log.is_staged() {
-            self.failed = true;
+        if self.failed {
             return Err(Fault::Device);
         }
-        match self.log.append_frame(alloc) {
-            Ok(durable) => Ok(durable.is_some()),
+        match self.log.stage(alloc) {
+            Ok(_) => Ok(self.log.is_staged()),
             Err(fault) => {
                 self.failed = is_device(&fault);
                 Err(fault)
@@ -131,12 +137,57 @@ impl<N: Numbers, B: Named, L: Disk> LogHeld<N, B, L> {
         }
     }
 
+    /// Opens the gate of the frame that is staged: it counts from then on. False if none is staged. After `Device`, its only error, it is not called any more.
+    pub fn open(&mut self) -> Result<bool, Fault>
+        ensures same { (self.new.anchors ≡ self.old.anchors) × (self.new.cut ≡ self.old.cut) × (self.new.list ≡ self.old.list) × (self.new.waits ≡ self.old.waits) × (self.new.got ≡ self.old.got)
+            × (self.new.met ≡ self.old.met) × (self.new.told ≡ self.old.told) × (self.new.aim ≡ self.old.aim) }
+        ensures failed { IsTrue self.old.failed → result ≡ Err Fault.Device }
+        ensures unforced { OnErr result (self.new.stable ≡ self.old.stable) }
+        ensures none { result ≡ Ok false → (self.new ≡ self.old) × (self.old.staged ≡ 0) }
+        ensures opened { result ≡ Ok true → (0 < self.old.staged) × (length self.new.stable ≡ length self.old.stable + self.old.staged) × (self.new.staged ≡ 0) }
+        // A loss of power at any moment of it leaves a prefix of the records, with all that were durable before; or what a move of the anchor has left that failed before.
+        ensures any_moment { (start : Beginning) → B.honest start → ∥ LeavesHeld B.geometry B.log_bytes self.old self.new.history ∥₁ }
+        ensures only_device { IfErr result (λ fault. fault ≡ Fault.Device) }
+        ensures breaks { IsTrue self.new.failed ↔ (result ≡ Err Fault.Device) }
+    {
+        if self.failed {
+            return Err(Fault::Device);
+        }
+        match self.log.open_staged() {
+            Ok(durable) => Ok(durable.is_some()),
+            Err(fault) => {
+                self.failed = true;
+                Err(fault)
+            }
+        }
+    }
+
+    /// Forces the longest list of its records that one frame holds, or the frame that is staged: stages it and opens its gate. False if all that it took in is durable. After `Device` it is not called any more.
+    pub fn force(&mut self, alloc: Global) -> Result<bool, Fault>
+        ensures same { (self.new.anchors ≡ self.old.anchors) × (self.new.cut ≡ self.old.cut) × (self.new.list ≡ self.old.list) × (self.new.waits ≡ self.old.waits) × (self.new.got ≡ self.old.got)
+            × (self.new.met ≡ self.old.met) × (self.new.told ≡ self.old.told) × (self.new.aim ≡ self.old.aim) }
+        ensures failed { IsTrue self.old.failed → result ≡ Err Fault.Device }
+        ensures unforced { OnErr result (self.new.stable ≡ self.old.stable) }
+        ensures none { result ≡ Ok false → (self.new.stable ≡ self.old.stable) × (self.new.list ≡ self.new.stable ++ self.new.waits) }
+        // A loss of power at any moment of it leaves a prefix of the records, with all that were durable before; or what a move of the anchor has left that failed before.
+        ensures any_moment { (start : Beginning) → B.honest start → ∥ LeavesHeld B.geometry B.log_bytes self.old self.new.history ∥₁ }
+        ensures forced { result ≡ Ok true → length self.old.stable < length self.new.stable }
+        ensures unstaged { OnOk result (self.new.staged ≡ 0) }
+        ensures broken { OnOk result (self.new.failed ≡ self.old.failed) }
+        ensures breaks { IfErr result (λ fault. IsTrue self.new.failed ↔ (fault ≡ Fault.Device)) }
+    {
+        if !self.stage(alloc)? {
+            return Ok(false);
+        }
+        self.open()
+    }
+
     /// Tells how far it is durable.
     pub fn tell(&mut self, words: &Words) -> Lsn
-        requires { (words.now.table.shared.table_id ≡ B.table) × (3 < B.table.words) }
+        requires { (words.now.table.shared.table_id ≡ B.table) × (4 < B.table.words) }
         ensures told { (result ≡ self.new.told) × (self.new.told ≡ self.new.cut + length self.new.stable) }
-        ensures same { (self.new.anchors ≡ self.old.anchors) × (self.new.cut ≡ self.old.cut) × (self.new.list ≡ self.old.list) × (self.new.waits ≡ self.old.waits) × (self.new.stable ≡ self.old.stable) × (self.new.got ≡ self.old.got)
-            × (self.new.aim ≡ self.old.aim) × (self.new.failed ≡ self.old.failed) × (self.new.history ≡ self.old.history) }
+        ensures same { (self.new.anchors ≡ self.old.anchors) × (self.new.cut ≡ self.old.cut) × (self.new.list ≡ self.old.list) × (self.new.waits ≡ self.old.waits) × (self.new.stable ≡ self.old.stable) × (self.new.staged ≡ self.old.staged) × (self.new.got ≡ self.old.got)
+            × (self.new.met ≡ self.old.met) × (self.new.aim ≡ self.old.aim) × (self.new.failed ≡ self.old.failed) × (self.new.history ≡ self.old.history) }
     {
         let durable = self.log.durable().number();
         self.seat.tell(words, durable.0);
@@ -145,11 +196,23 @@ impl<N: Numbers, B: Named, L: Disk> LogHeld<N, B, L> {
 
     /// Shows that what a seat has seen was told.
     pub fn compare(&mut self, words: &Words, seat: &mut Seat<B>)
-        requires { (words.now.table.shared.table_id ≡ B.table) × (3 < B.table.words) }
+        requires { (words.now.table.shared.table_id ≡ B.table) × (4 < B.table.words) }
         ensures same { (self.new ≡ self.old) × (seat.new ≡ seat.old) }
         ensures seen { seat.old.seen ≤ self.old.told }
+        ensures told { self.old.told ≤ self.old.cut + length self.old.stable }
     {
         self.seat.compare(words, seat);
+    }
+
+    /// A seat that has seen all that was told.
+    pub fn seat(&mut self, words: &Words) -> Seat<B>
+        requires { (words.now.table.shared.table_id ≡ B.table) × (4 < B.table.words) }
+        ensures same { self.new ≡ self.old }
+        ensures seen { result ≡ looker self.old.told }
+    {
+        let mut any = self.seat.reader(words);
+        self.seat.compare(words, &mut any);
+        self.seat.reader(words)
     }
 
     /// The number of the last record that it took in.
@@ -168,6 +231,8 @@ impl<N: Numbers, B: Named, L: Disk> LogHeld<N, B, L> {
         ensures told { self.now.told ≤ self.now.cut + length self.now.stable }
         ensures follows { Follows B.cut B.before self.now.got self.now.cut self.now.list }
         ensures stable { self.now.stable ≡ take (length self.now.stable) self.now.list }
+        // As long as it has not failed that is what is durable, and nothing of a frame that is staged.
+        ensures stays { self.now.failed ≡ false → (start : Beginning) → B.honest start → ∥ LeavesStable B.geometry B.log_bytes self.now self.now.history ∥₁ }
         ensures left { (start : Beginning) → B.honest start → ∥ LeavesHeld B.geometry B.log_bytes self.now self.now.history ∥₁ }
     {
         self.failed

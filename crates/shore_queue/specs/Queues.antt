@@ -1,5 +1,5 @@
--- What was sent is what was received, and then what the queue holds. One pass at most may send, and it has the list of what was sent; so for what was received.
-use Rattle.std.specs.Prelude.{◌≡◌, ◌+◌, ℕ, Bool, true, List, [], ◌∷◌, ◌++◌, length}
+-- What was sent is what was received, and then what the queue holds. One pass at most may send, and it has the list of what was sent; so for what was received. Any other pass may know the first of what was sent.
+use Rattle.std.specs.Prelude.{◌≡◌, ◌<◌, ◌+◌, ℕ, Bool, true, List, [], ◌∷◌, ◌++◌, length}
 use mathlib.Core.Option.{some}
 use lib.ListN.{get_elem?}
 use Rattle.shore_model.specs.declared.log_records.LogRecord.{LogRecord}
@@ -15,15 +15,17 @@ abbrev pub records_in : List PlainTail → List LogRecord
 records_in [] = []
 records_in (t ∷ ts) = waiting_in t ++ records_in ts
 
--- their numbers follow each other, the first of them this one
+-- none is empty, and their numbers follow each other, the first of them this one
 abbrev pub AreInTurn : ℕ → List PlainTail → Type 0
 AreInTurn n [] = Unit {0}
-AreInTurn n (t ∷ ts) = (first_of t ≡ n) × AreInTurn (n + length (waiting_in t)) ts
+AreInTurn n (t ∷ ts) = (first_of t ≡ n) × (0 < length (waiting_in t)) × AreInTurn (n + length (waiting_in t)) ts
 
 -- What a pass with this number knows of who sends and who receives, and of what they did.
 pub record Knows (sender receiver : ℕ) (sent got : List LogRecord) (pass : ℕ) (v : Ends) : Type 0 where
   pub sends : v.sends ≡ true → (pass ≡ sender) × (v.sent ≡ sent)
   pub receives : v.receives ≡ true → (pass ≡ receiver) × (v.got ≡ got)
+  -- what it knows to be sent, perhaps from long ago
+  pub knows : (rest : List LogRecord) × (sent ≡ v.sent ++ rest)
 
 pub record Relays (first : ℕ) (items : List PlainTail) (views : List Ends) : Type 0 where
   pub sender : ℕ

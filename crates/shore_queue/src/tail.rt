@@ -91,12 +91,12 @@ impl<N: Numbers, B: Queued, R: Wait + Copy> QueueTail<N, B, R> {
         }
     }
 
-    /// Shows that what was received at the other end is a prefix of what was sent. Both ends are as before.
+    /// Shows that what was received at the other end is a prefix of what was sent. This end is as before; the other knows what was sent by now.
     pub fn compare(&mut self, receiver: &mut QueuePass)
-        requires { IsSegPassOf B.queue receiver.old × (receiver.old.me.view.client ≡ ends false true [] receiver.old.me.view.client.got) }
+        requires { IsSegPassOf B.queue receiver.old × (receiver.old.me.view.client ≡ ends false true receiver.old.me.view.client.sent receiver.old.me.view.client.got) }
         ensures sent { self.new ≡ self.old }
         ensures same { IsSegPassOf B.queue receiver.new }
-        ensures receiver { receiver.new.me.view.client ≡ receiver.old.me.view.client }
+        ensures receiver { receiver.new.me.view.client ≡ ends false true self.old receiver.old.me.view.client.got }
         ensures begins { (rest : List LogRecord) × (self.old ≡ receiver.old.me.view.client.got ++ rest) }
     {
         compare(&self.rt, &self.channel.queue, &mut self.pass, receiver);

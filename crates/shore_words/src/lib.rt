@@ -7,6 +7,6 @@ mod wake_words;
 mod words;
 
 pub use laws::seats_agree_at_each_moment;
-pub use rule::{Known, View, WordSeat};
+pub use rule::{Heard, Known, Noted, Notes, View, WordSeat};
 pub use wake_words::WakeWords;
 pub use words::Words;

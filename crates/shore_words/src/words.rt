@@ -1,14 +1,18 @@
-//! The durable word, the stop word, and the two words of the anchor. Nobody waits for a step on them.
-ghost use Rattle.std.specs.Prelude.{◌≡◌, ◌≤◌, ◌<◌, true, false, [], IfOk};
+//! The durable word, the stop word, the two words of the anchor, and the word of a failure. Nobody waits for a step on them.
+ghost use Rattle.std.specs.Prelude.{◌≡◌, ◌≤◌, ◌<◌, ◌+◌, true, false, [], ◌∷◌, ◌++◌, IfOk};
 ghost use Rattle.atomic_table.specs.Seated.{TableId};
-ghost use Rattle.shore_words.specs.Words.{keeper, known, looker, no_anchor, teller, IsOf};
+ghost use Rattle.shore_words.specs.Words.{keeper, known, listener, looker, no_anchor, scribe, teller, AreBy, HasHeard, IsOf, Listens, heard_of};
 
 use crate::rule::{
-    AimCheckpoint, AimTail, Ask, Claim, Compare, Keeper, Look, MoveCheckpoint, MoveTail, Reader,
-    Stop, Take, Tell, Told, View, WordSeat,
+    AimCheckpoint, AimTail, Ask, Becomes, Claim, Compare, Keeper, Look, LookForFailure,
+    MoveCheckpoint, MoveTail, Notes, Noting, Own, Reader, Scribe, Session, Shows, Stop, Take, Tell,
+    TellFailure, Told, View, WordSeat,
 };
 use atomic_table::Table;
+use shore_model::{Call, Step};
 use std::alloc::{AllocError, Global};
+use std::marker::Brand;
+use std::snapshot::Snapshot;
 
 // The durable word.
 const DURABLE: usize = 0;
@@ -22,8 +26,11 @@ const TAIL: usize = 2;
 // The number of the anchor's checkpoint, or of the one to which it was to be moved.
 const CHECKPOINT: usize = 3;
 
+// The word of a failure: 1 once it was told that a device has failed.
+const FAILED: usize = 4;
+
 /// The number up to which the log is durable, which one seat tells and every seat may look at; whether the workers are to stop; and the anchor of the log, which that
-/// seat knows and one more, which keeps it. The anchor moves only where both are.
+/// seat knows and one more, which keeps it. The anchor moves only where both are. That a device has failed is told by the seat that notes what sessions hear.
 #[derive(Drop)]
 pub struct Words {
     // The words.
@@ -42,7 +49,7 @@ impl Words {
     {
         let (table, seat) = Table::of_words(
             alloc,
-            &[durable, 0, tail, checkpoint],
+            &[durable, 0, tail, checkpoint, 0],
             &(durable, checkpoint, tail),
         )?;
         Ok((Words { table }, seat))
@@ -86,6 +93,25 @@ impl Words {
         ensures stays { (seat.old.me.0.asked ≡ true → result ≡ true) × (seat.old.me.0.stopped ≡ true → result ≡ true) }
     {
         self.table.shared.load::<Stop>(seat, STOP) == 1
+    }
+
+    /// Tells that a device has failed.
+    pub fn tell_failure(&self, seat: &mut WordSeat)
+        requires { IsOf self.now.table.shared.table_id seat.old × (seat.old.me.0.notes ≡ true) }
+        ensures same { seat.new.table_id ≡ seat.old.table_id }
+        ensures failing { seat.new.me ≡ (record seat.old.me.0 { failing = true }, seat.old.me.1) }
+    {
+        self.table.shared.store::<TellFailure>(seat, FAILED, 1);
+    }
+
+    /// Whether that was told. Who found it once finds it again.
+    pub fn has_failed(&self, seat: &mut WordSeat) -> bool
+        requires { IsOf self.now.table.shared.table_id seat.old }
+        ensures same { seat.new.table_id ≡ seat.old.table_id }
+        ensures failed { seat.new.me ≡ (record seat.old.me.0 { failed = result }, seat.old.me.1) }
+        ensures stays { seat.old.me.0.failed ≡ true → result ≡ true }
+    {
+        self.table.shared.load::<LookForFailure>(seat, FAILED) == 1
     }
 
     /// A seat for one who looks.
@@ -185,5 +211,76 @@ impl Words {
             .shared
             .store::<AimCheckpoint>(teller, CHECKPOINT, checkpoint);
         *seat = self.keeper(teller);
+    }
+
+    /// A seat that notes in the place of this one.
+    pub fn scribe(&self, seat: &mut WordSeat) -> WordSeat
+        requires { IsOf self.now.table.shared.table_id seat.old × (seat.old.me.0.notes ≡ true) }
+        ensures same { (seat.new.table_id ≡ seat.old.table_id) × (seat.new.me ≡ (record seat.old.me.0 { notes = false; noted = []; made = 0; failing = false }, seat.old.me.1)) }
+        ensures new { IsOf self.now.table.shared.table_id result × (result.me ≡ (scribe seat.old.me.0.seen seat.old.me.0.noted seat.old.me.0.made seat.old.me.0.failing, [])) }
+    {
+        self.table.shared.split_seat::<Scribe>(seat)
+    }
+
+    /// The seat of a new session: it has heard nothing, and its number is the next.
+    pub fn session(&self, book: &mut WordSeat) -> WordSeat
+        requires { IsOf self.now.table.shared.table_id book.old × (book.old.me.0.notes ≡ true) }
+        ensures book { (book.new.table_id ≡ book.old.table_id) × (book.new.me ≡ (record book.old.me.0 { made = book.old.me.0.made + 1 }, book.old.me.1)) }
+        ensures new { IsOf self.now.table.shared.table_id result × (result.me ≡ (listener book.old.me.0.seen (book.old.me.0.made + 1) [], [])) }
+    {
+        self.table.shared.split_seat::<Session>(book)
+    }
+
+    /// Notes what a session asked and what that came to, and its seat has heard it.
+    pub fn note(
+        &self,
+        book: &mut WordSeat,
+        seat: &mut WordSeat,
+        asked: &Snapshot<Option<Call>>,
+        step: &Step,
+    )
+        requires book { IsOf self.now.table.shared.table_id book.old × (book.old.me.0.notes ≡ true) }
+        requires seat { IsOf self.now.table.shared.table_id seat.old × Listens seat.old.me.0 }
+        ensures book { IsOf self.now.table.shared.table_id book.new × (book.new.me.1 ≡ []) × (book.new.me.0.notes ≡ true) × (book.new.me.0.made ≡ book.old.me.0.made)
+            × (book.new.me.0.noted ≡ book.old.me.0.noted ++ record { session = seat.old.me.0.session; heard = record { asked = asked.now.value; step = step.now } } ∷ []) × (book.new.me.0.failing ≡ book.old.me.0.failing) }
+        ensures seat { (seat.new.table_id ≡ seat.old.table_id)
+            × (seat.new.me ≡ (record seat.old.me.0 { heard = seat.old.me.0.heard ++ record { asked = asked.now.value; step = step.now } ∷ [] }, seat.old.me.1)) }
+    {
+        self.note_picked::<Brand>(book, seat, asked, step);
+    }
+
+    // .. where the entry was picked.
+    fn note_picked<E: Notes>(
+        &self,
+        book: &mut WordSeat,
+        seat: &mut WordSeat,
+        _asked: &Snapshot<Option<Call>>,
+        _step: &Step,
+    )
+        requires book { IsOf self.now.table.shared.table_id book.old × (book.old.me.0.notes ≡ true) }
+        requires seat { IsOf self.now.table.shared.table_id seat.old × Listens seat.old.me.0 }
+        ensures book { IsOf self.now.table.shared.table_id book.new × (book.new.me.1 ≡ []) × (book.new.me.0.notes ≡ true) × (book.new.me.0.made ≡ book.old.me.0.made)
+            × (book.new.me.0.noted ≡ book.old.me.0.noted ++ record { session = seat.old.me.0.session; heard = E.entry } ∷ []) × (book.new.me.0.failing ≡ book.old.me.0.failing) }
+        ensures seat { (seat.new.table_id ≡ seat.old.table_id) × (seat.new.me ≡ (record seat.old.me.0 { heard = seat.old.me.0.heard ++ E.entry ∷ [] }, seat.old.me.1)) }
+    {
+        let right = self.scribe(book);
+        self.table.shared.join_seat::<Noting<E>>(seat, right);
+        *book = self.scribe(seat);
+    }
+
+    /// Shows that what a seat knows of a session was noted of it, that nobody else is noted than the sessions made, and that a failure which it found was told. Then the seat knows nothing of a session.
+    pub fn show(&self, book: &mut WordSeat, seat: &mut WordSeat)
+        requires book { IsOf self.now.table.shared.table_id book.old × (book.old.me.0.notes ≡ true) }
+        requires seat { IsOf self.now.table.shared.table_id seat.old }
+        ensures book { (book.new.table_id ≡ book.old.table_id) × (book.new.me ≡ (record book.old.me.0 { session = 0; listens = false; heard = []; failed = false }, book.old.me.1)) }
+        ensures seat { (seat.new.table_id ≡ seat.old.table_id) × (seat.new.me ≡ (record seat.old.me.0 { session = 0; listens = false; heard = [] }, seat.old.me.1)) }
+        ensures heard { HasHeard book.old.me.0.noted seat.old.me.0.session seat.old.me.0.heard × (seat.old.me.0.session ≤ book.old.me.0.made) }
+        ensures whole { seat.old.me.0.listens ≡ true → heard_of seat.old.me.0.session book.old.me.0.noted ≡ seat.old.me.0.heard }
+        ensures by { AreBy book.old.me.0.made book.old.me.0.noted }
+        ensures failed { seat.old.me.0.failed ≡ true → book.old.me.0.failing ≡ true }
+    {
+        let own = self.table.shared.split_seat::<Own>(seat);
+        self.table.shared.join_seat::<Becomes>(book, own);
+        self.table.shared.load::<Shows>(book, DURABLE);
     }
 }

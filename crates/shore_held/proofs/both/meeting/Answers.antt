@@ -35,6 +35,9 @@ invariant_of-core g c =
       counted = i.counted;
       parts = i.parts;
       none_kept = i.none_kept;
+      booked = i.booked;
+      failing = i.failing;
+      fails = λ p. c.probe.ensures.running ∙ i.fails p;
     }
 
 -- The two know one anchor, and of one move of it that has failed.

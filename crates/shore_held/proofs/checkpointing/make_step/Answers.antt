@@ -1,16 +1,17 @@
-use Rattle.std.proofs.Common.{rules, ◌≡◌, [], ◌∷◌, ◌++◌, length, arith, false, sym, ap, subst, ◌∙◌}
+use Rattle.std.proofs.Common.{rules, ◌≡◌, [], ◌∷◌, ◌++◌, length, arith, false, refl, sym, ap, subst, ◌∙◌}
 use Rattle.std.proofs.Math.Logic.{∥∥₁_map, ∥∥₁_elim, ∥∥₁_prop}
 use Rattle.shore_heap.specs.Heaps as heaps
 use Rattle.shore_log.specs.PlainTails.{waiting_in}
 use Rattle.shore_log.specs.Settled.{anchor_of}
 use Rattle.shore_core.specs.declared.checkpointing.CheckpointStep.TheVariants as made
+use Rattle.shore_world.proofs.MovingAnchors.{ready_settles}
 use Rattle.shore_world.specs.EventMoves.{OfCheckpoint}
 use Rattle.shore_held.specs.Comings.{HasComeBy, anchored_at}
 use Rattle.shore_held.specs.Trails.{calls_in, moves_of}
 use Rattle.shore_held.specs.declared.asked.Asked.TheVariants as Asked
 use Rattle.shore_held.proofs.Aims.{never_aims}
 use Rattle.shore_held.proofs.Checkpoints.{step_made}
-use Rattle.shore_held.proofs.Trails.{calls_snoc, long_snoc, moves_snoc}
+use Rattle.shore_held.proofs.Trails.{calls_snoc, failure_before, failure_stays, long_snoc, moves_snoc, noted_still}
 use Rattle.shore_held.proofs.checkpointing.make_step.Goals as goal
 
 pub invariant_of-core : goal.invariant_of-core
@@ -34,7 +35,7 @@ invariant_of-core g c =
           (step_made g.B.Named.cut g.B.Named.before j.core j.stage (anchored_at j.seat.kept) (moves_of j.asked.items j.stepped.items) h log c.args.held.now (waiting_in c.held.inside.next)
           (sym (ap (λ s. s.anchors) c.held.view_is)) (sym (ap (λ s. s.cut) c.held.view_is)) (sym (ap (λ s. s.list) c.held.view_is)) (sym (ap (λ s. s.stable) c.held.view_is)) c.requires.met
           new later c.checkpoint_step.result step is did.heap did.ring did.running (λ p. did.no_move (is ∙ ap made.Made p)) did.failed
-          (anchor_of log).tail (anchor_of log).tail_place (k.ready runs).0.groups (k.ready runs).0.holds did.step)));
+          (anchor_of log).tail (anchor_of log).tail_place (ready_settles log k.front (k.ready runs)).groups (ready_settles log k.front (k.ready runs)).holds did.step)));
       layout = ap heaps.geometry_of did.heap ∙ j.layout;
       ring = omega (arith, did.ring, j.ring);
       as_many = ap length e2 ∙ long_snoc j.asked.items j.stepped.items (Asked.Checkpoint, 0) (step, 0) j.as_many ∙ sym (ap length e1);
@@ -44,4 +45,7 @@ invariant_of-core g c =
       counted = omega (arith, j.counted, calls_snoc j.asked.items (Asked.Checkpoint, 0), ap calls_in e1);
       parts = j.parts;
       none_kept = j.none_kept;
+      booked = (j.booked.0, j.booked.1 ∙ sym (noted_still j.asked.items _ j.stepped.items _ (Asked.Checkpoint, 0) (step, 0) j.as_many e1 e2 refl), j.booked.2);
+      failing = λ p. failure_stays j.asked.items _ (Asked.Checkpoint, 0) e1 (j.failing p);
+      fails = λ p. did.running ∙ j.fails (failure_before j.asked.items _ (Asked.Checkpoint, 0) e1 refl p);
     }

@@ -8,6 +8,7 @@ use Rattle.shore_gate.specs.declared.anchors.Anchors.{Anchors}
 use Rattle.shore_log.specs.PlainTails.{waiting_in}
 use Rattle.shore_log.specs.Settled.{anchor_of, cut_of_log, next_anchor, records_of_log, stable}
 use Rattle.shore_model.specs.declared.step.Step.TheVariants as Step
+use Rattle.shore_world.proofs.MovingAnchors.{ready_settles}
 use Rattle.shore_world.specs.EventMoves.{OfCheckpoint}
 use Rattle.shore_held.specs.Comings.{anchored_at}
 use Rattle.laws_checkpoints.specs.Checkpoints.{Anchored}
@@ -19,8 +20,8 @@ use Rattle.shore_words.specs.declared.rule.Known.{Known}
 use Rattle.shore_held.proofs.Aims.{never_aims}
 use Rattle.shore_held.proofs.Checkpoints.{anchor_moved, come_as, may_be_moved, move_failed}
 use Rattle.shore_held.proofs.Following.{follows_cut, follows_same}
-use Rattle.shore_held.proofs.KeptLogs.{kept_moved, kept_unmoved, label_stays, lost_front, next_bounds}
-use Rattle.shore_held.proofs.Trails.{calls_snoc, long_snoc, moves_snoc}
+use Rattle.shore_held.proofs.KeptLogs.{kept_moved, kept_unmoved, label_stays, lost_front, next_bounds, ready_moved}
+use Rattle.shore_held.proofs.Trails.{calls_snoc, failure_before, failure_stays, long_snoc, moves_snoc, noted_still}
 use Rattle.shore_held.proofs.checkpointing.move_anchor.Goals as goal
 
 -- It never comes to this over honest devices.
@@ -45,6 +46,9 @@ invariant_of-core g c =
       counted = omega (arith, j.counted, calls_snoc j.asked.items (Asked.Checkpoint, 0), ap calls_in e1);
       parts = j.parts;
       none_kept = j.none_kept;
+      booked = (j.booked.0, j.booked.1 ∙ sym (noted_still j.asked.items _ j.stepped.items _ (Asked.Checkpoint, 0) (Step.Refused Fault.Failed, 0) j.as_many e1 e2 refl), j.booked.2);
+      failing = λ p. failure_stays j.asked.items _ (Asked.Checkpoint, 0) e1 (j.failing p);
+      fails = λ p. j.fails (failure_before j.asked.items _ (Asked.Checkpoint, 0) e1 refl p);
     }
 
 -- The anchor has moved. What the core keeps:
@@ -70,13 +74,13 @@ invariant_of-core-in-Ok g c =
     ap (λ v. anchored_at v.kept) c.move_anchor-in-Ok.ensures.seat ∙ (λ t. record { checkpoint = c.args.mark.checkpoint; tail = tail t }) in
     record {
       come_by = λ start honest. ∥∥₁_elim (i.10 start honest) ∥∥₁_prop (λ k. ∥∥₁_map (j.come_by start honest) (λ h.
-          let holds = (k.ready runs).0.holds in
+          let settled = ready_settles log k.front (k.ready runs) in
           come_as g.B.Named.cut g.B.Named.before c.moved-step.new.self c.moved-step.new.stage (record { checkpoint = c.args.mark.checkpoint; tail = (anchor_of c.move_anchor.new.self).tail }) (anchored_at c.move_anchor-in-Ok.new.seat.kept)
           (moves_of j.asked.items j.stepped.items ++ OfCheckpoint step ∷ []) (moves_of c.note-in-Ok.new.asked.items c.note-in-Ok.new.stepped.items) kept trail
           (anchor_moved g.B.Named.cut g.B.Named.before j.core j.stage (anchored_at j.seat.kept) (moves_of j.asked.items j.stepped.items) h log c.args.held.now (waiting_in c.held.inside.next)
           (sym (ap (λ s. s.anchors) c.held.view_is)) (sym (ap (λ s. s.cut) c.held.view_is)) (sym (ap (λ s. s.list) c.held.view_is)) (sym (ap (λ s. s.stable) c.held.view_is)) c.requires.met c.args.mark n.0 n.1 n.2 n.3 may.2
           c.moved-step.new.self c.moved-step.new.stage step c.move_anchor.new.self c.in-Ok.freed c.requires.running.0 did.heap did.ring
-          (c.in-Ok.ensures.freed (anchor_of log).tail (anchor_of log).tail_place (k.ready runs).0.groups holds) did.moved did.step)));
+          (c.in-Ok.ensures.freed (anchor_of log).tail (anchor_of log).tail_place settled.groups settled.holds) did.moved did.step)));
       layout = ap heaps.geometry_of did.heap ∙ j.layout;
       ring = omega (arith, did.ring, j.ring);
       as_many = ap length e2 ∙ long_snoc j.asked.items j.stepped.items (Asked.Checkpoint, 0) (step, 0) j.as_many ∙ sym (ap length e1);
@@ -86,6 +90,9 @@ invariant_of-core-in-Ok g c =
       counted = omega (arith, j.counted, calls_snoc j.asked.items (Asked.Checkpoint, 0), ap calls_in e1);
       parts = j.parts;
       none_kept = j.none_kept;
+      booked = (j.booked.0, j.booked.1 ∙ sym (noted_still j.asked.items _ j.stepped.items _ (Asked.Checkpoint, 0) (step, 0) j.as_many e1 e2 refl), j.booked.2);
+      failing = λ p. failure_stays j.asked.items _ (Asked.Checkpoint, 0) e1 (j.failing p);
+      fails = λ p. did.running ∙ j.fails (failure_before j.asked.items _ (Asked.Checkpoint, 0) e1 refl p);
     }
 
 -- .. and the log device's lock:
@@ -114,8 +121,8 @@ invariant_of-held g c =
           let ready = k.ready runs in
           kept_moved old new c.held.inside.failed (moved old.anchors (anchor_of new) k.front)
           (label_stays k.front _ (other_of old.anchors.slot) k.anchored.long k.labelled)
-          (c.in-Ok.ensures.anchored (anchor_of old).tail (anchor_of old).tail_place k.front ready.0 k.anchored)
-          (c.in-Ok.ensures.settled (anchor_of old).tail (anchor_of old).tail_place k.front ready.0) (c.in-Ok.ensures.lost.staged ∙ ready.1)),
+          (c.in-Ok.ensures.anchored (anchor_of old).tail (anchor_of old).tail_place k.front (ready_settles old k.front ready) k.anchored)
+          (ready_moved old new (moved old.anchors (anchor_of new) k.front) k.front ready (c.in-Ok.ensures.settled (anchor_of old).tail (anchor_of old).tail_place k.front) (c.in-Ok.ensures.staged (anchor_of old).tail (anchor_of old).tail_place k.front) c.in-Ok.ensures.lost.staged)),
       λ running. ap (λ (k : Known). k.aim) known ∙ i.11 running,
     )
 
@@ -158,6 +165,9 @@ invariant_of-core-in-Err g c =
       counted = omega (arith, j.counted, calls_snoc j.asked.items (Asked.Checkpoint, 0), ap calls_in e1);
       parts = j.parts;
       none_kept = j.none_kept;
+      booked = (j.booked.0, j.booked.1 ∙ sym (noted_still j.asked.items _ j.stepped.items _ (Asked.Checkpoint, 0) (step, 0) j.as_many e1 e2 refl), j.booked.2);
+      failing = λ p. failure_stays j.asked.items _ (Asked.Checkpoint, 0) e1 (j.failing p);
+      fails = λ _. did.noted;
     }
 
 -- .. and the log device's lock:
@@ -196,7 +206,7 @@ invariant_of-held-in-Err g c =
           let ready = k.ready runs in
           subst (IsKept g.B.Named.geometry g.B.Named.log_bytes new true) (sym aim)
           (kept_unmoved old new true true≢false k.front k.labelled k.anchored may.2 unmoved.0 unmoved.1 c.in-Err.ensures.index.0 forced
-          (c.move_anchor.ensures.any_moment (anchor_of old).tail (anchor_of old).tail_place k.front ready.0 k.anchored))),
+          (c.move_anchor.ensures.any_moment (anchor_of old).tail (anchor_of old).tail_place k.front (ready_settles old k.front ready) k.anchored))),
       λ running. absurd (true≢false running),
     )
 
@@ -310,7 +320,7 @@ returns-in-Ok-clause-any_moment g c start honest =
       (
         next_anchor old mark.checkpoint mark.tail,
         record { checkpoint = refl; rises = bounds.0; below = bounds.1 },
-        c.move_anchor.ensures.any_moment (anchor_of old).tail (anchor_of old).tail_place k.front (k.ready runs).0 k.anchored,
+        c.move_anchor.ensures.any_moment (anchor_of old).tail (anchor_of old).tail_place k.front (ready_settles old k.front (k.ready runs)) k.anchored,
       ),
     ))
 
@@ -332,6 +342,6 @@ returns-in-Err-clause-any_moment g c start honest =
       (
         next_anchor old mark.checkpoint mark.tail,
         record { checkpoint = refl; rises = bounds.0; below = bounds.1 },
-        c.move_anchor.ensures.any_moment (anchor_of old).tail (anchor_of old).tail_place k.front (k.ready runs).0 k.anchored,
+        c.move_anchor.ensures.any_moment (anchor_of old).tail (anchor_of old).tail_place k.front (ready_settles old k.front (k.ready runs)) k.anchored,
       ),
     ))

@@ -10,7 +10,7 @@ use Rattle.shore_held.specs.Trails.{calls_in, moves_of}
 use Rattle.shore_held.specs.declared.asked.Asked.TheVariants as Asked
 use Rattle.shore_held.proofs.Aims.{aims_kept}
 use Rattle.shore_held.proofs.Comings.{failed}
-use Rattle.shore_held.proofs.Trails.{calls_snoc, long_snoc, moves_snoc}
+use Rattle.shore_held.proofs.Trails.{calls_snoc, failure_told, long_snoc, moves_snoc, noted_still}
 use Rattle.shore_held.proofs.core_held.CoreHeld.fail.Goals as goal
 
 pub invariant_of-self : goal.invariant_of-self
@@ -33,4 +33,11 @@ invariant_of-self g c =
       counted = omega (arith, i.counted, calls_snoc i.asked.items (Asked.Failed, 0), ap calls_in e1);
       parts = i.parts;
       none_kept = i.none_kept;
+      booked = (
+        ap (λ v. v.notes) c.tell_failure.ensures ∙ i.booked.0,
+        ap (λ v. v.noted) c.tell_failure.ensures ∙ i.booked.1 ∙ sym (noted_still i.asked.items _ i.stepped.items _ (Asked.Failed, 0) (Step.Nothing, 0) i.as_many e1 e2 refl),
+        ap (λ v. v.made) c.tell_failure.ensures ∙ i.booked.2,
+      );
+      failing = λ _. failure_told i.asked.items _ (Asked.Failed, 0) e1 refl;
+      fails = λ _. c.fail.ensures.noted;
     }

@@ -1,11 +1,11 @@
-use Rattle.std.proofs.Common.{◌≡◌, ◌≤◌, [], ◌∷◌, ◌++◌, length, arith, refl, sym, ap, subst, ◌∙◌, true≢false}
+use Rattle.std.proofs.Common.{◌≡◌, ◌≤◌, [], ◌∷◌, ◌++◌, length, arith, refl, sym, ap, subst, ◌∙◌, inl, inr, IsErrAnd, true≢false}
 use Rattle.std.proofs.Math.Logic.{∥∥₁_map}
 use Rattle.shore_types.specs.declared.faults.Fault.TheVariants as Fault
 use Rattle.laws_calls.specs.Events.{HasFailed}
 use Rattle.shore_model.specs.declared.step.Step.{Step}
 use Rattle.shore_model.specs.declared.step.Step.TheVariants as step
 use Rattle.shore_core.specs.Flushing.{FlushSteps}
-use Rattle.shore_core.specs.Replies.{InEach}
+use Rattle.shore_core.specs.Replies.{InEach, fault_at}
 use Rattle.shore_world.specs.EventMoves.{OfManager}
 use Rattle.shore_core.specs.Cores.{durable_of}
 use Rattle.shore_held.specs.Comings.{HasComeBy, anchored_at}
@@ -13,7 +13,7 @@ use Rattle.shore_held.specs.Trails.{calls_in, moves_of}
 use Rattle.shore_held.specs.declared.asked.Asked.TheVariants as Asked
 use Rattle.shore_held.proofs.Aims.{aims_kept}
 use Rattle.shore_held.proofs.Comings.{flush_failed, flushed}
-use Rattle.shore_held.proofs.Trails.{calls_snoc, long_snoc, moves_snoc}
+use Rattle.shore_held.proofs.Trails.{calls_snoc, failure_told, long_snoc, moves_snoc, noted_still}
 use Rattle.shore_held.proofs.core_held.CoreHeld.flush.Goals as goal
 
 pub invariant_of-self : goal.invariant_of-self
@@ -39,6 +39,9 @@ invariant_of-self g c =
       counted = omega (arith, i.counted, calls_snoc i.asked.items (Asked.Failed, 0), ap calls_in e1);
       parts = i.parts;
       none_kept = i.none_kept;
+      booked = (i.booked.0, i.booked.1 ∙ sym (noted_still i.asked.items _ i.stepped.items _ (Asked.Failed, 0) (step.Nothing, 0) i.as_many e1 e2 refl), i.booked.2);
+      failing = λ _. failure_told i.asked.items _ (Asked.Failed, 0) e1 refl;
+      fails = λ _. did.fails.1 (inr (subst (λ s. IsErrAnd (fault_at s) (λ f. f ≡ Fault.Device)) (sym is) refl));
     }
 
 pub invariant_of-self-else-is_failure : goal.invariant_of-self-else-is_failure
@@ -60,4 +63,7 @@ invariant_of-self-else-is_failure g c =
       counted = i.counted;
       parts = i.parts;
       none_kept = i.none_kept;
+      booked = i.booked;
+      failing = i.failing;
+      fails = λ p. did.fails.1 (inl (i.fails p));
     }

@@ -10,7 +10,7 @@ use Rattle.shore_held.specs.Trails.{calls_in, moves_of}
 use Rattle.shore_held.specs.declared.asked.Asked.TheVariants as Asked
 use Rattle.shore_held.proofs.Aims.{aims_kept}
 use Rattle.shore_held.proofs.Comings.{told}
-use Rattle.shore_held.proofs.Trails.{calls_snoc, long_snoc, moves_snoc}
+use Rattle.shore_held.proofs.Trails.{calls_snoc, failure_before, failure_stays, long_snoc, moves_snoc, noted_still}
 use Rattle.shore_held.proofs.core_held.CoreHeld.learn.Goals as goal
 
 pub invariant_of-self : goal.invariant_of-self
@@ -36,4 +36,7 @@ invariant_of-self g c =
       counted = omega (arith, i.counted, calls_snoc i.asked.items (Asked.Told n, 0), ap calls_in e1);
       parts = i.parts;
       none_kept = i.none_kept;
+      booked = (i.booked.0, i.booked.1 ∙ sym (noted_still i.asked.items _ i.stepped.items _ (Asked.Told n, 0) (Step.Nothing, 0) i.as_many e1 e2 refl), i.booked.2);
+      failing = λ p. failure_stays i.asked.items _ (Asked.Told n, 0) e1 (i.failing p);
+      fails = λ p. c.told.ensures.running ∙ i.fails (failure_before i.asked.items _ (Asked.Told n, 0) e1 refl p);
     }

@@ -1,14 +1,14 @@
-use Rattle.std.proofs.Common.{◌≡◌, ◌≤◌, ◌+◌, [], ◌∷◌, ◌++◌, length, arith, refl, sym, ap, subst, ◌∙◌}
+use Rattle.std.proofs.Common.{◌≡◌, ◌≤◌, ◌+◌, [], ◌∷◌, ◌++◌, length, arith, refl, sym, ap, subst, ◌∙◌, None}
 use Rattle.std.proofs.Math.Logic.{∥∥₁_map}
 use Rattle.laws_calls.specs.Events.{Resumed}
 use Rattle.shore_world.specs.EventMoves.{OfManager}
 use Rattle.shore_core.specs.Cores.{durable_of}
 use Rattle.shore_held.specs.Comings.{HasComeBy, anchored_at}
-use Rattle.shore_held.specs.Trails.{calls_in, moves_of}
+use Rattle.shore_held.specs.Trails.{calls_in, moves_of, noted_in}
 use Rattle.shore_held.specs.declared.asked.Asked.TheVariants as Asked
 use Rattle.shore_held.proofs.Aims.{aims_kept}
 use Rattle.shore_held.proofs.Comings.{resumed}
-use Rattle.shore_held.proofs.Trails.{calls_snoc, long_snoc, moves_snoc}
+use Rattle.shore_held.proofs.Trails.{calls_snoc, failure_before, failure_stays, long_snoc, moves_snoc, noted_snoc}
 use Rattle.shore_held.proofs.core_held.CoreHeld.resume.Goals as goal
 
 pub invariant_of-self : goal.invariant_of-self
@@ -22,6 +22,8 @@ invariant_of-self g c =
     let e2 = c.and-self-2.ensures in
     let trail : moves_of c.and-self.result.items c.and-self-2.result.items ≡ moves_of i.asked.items i.stepped.items ++ OfManager (Resumed session step) ∷ [] =
     (λ j. moves_of (e1 j) (e2 j)) ∙ moves_snoc i.asked.items i.stepped.items (Asked.Resume, session) (step, session) i.as_many in
+    let noted : (record { session = c.args.ear.now.session; heard = record { asked = c.of.result.value; step = step } } ∷ []) ≡ (record { session = session; heard = record { asked = None; step = step } } ∷ []) =
+    λ j. record { session = c.requires.ear.1 j; heard = record { asked = (c.of.ensures) j; step = step } } ∷ [] in
     record {
       come_by = λ start honest. ∥∥₁_map (i.come_by start honest) (λ h. subst (HasComeBy start g.B.Named.cut g.B.Named.before new i.stage (anchored_at i.seat.kept)) (sym trail)
           (resumed g.B.Named.cut g.B.Named.before i.core i.stage (anchored_at i.seat.kept) (moves_of i.asked.items i.stepped.items) h new session step is.serves.volume.geometry is.ring is.step is.serves.any_moment is.still));
@@ -34,4 +36,11 @@ invariant_of-self g c =
       counted = c.add.ensures.total ∙ ap (λ n. n + 1) i.counted ∙ sym (calls_snoc i.asked.items (Asked.Resume, session)) ∙ sym (ap calls_in e1);
       parts = i.parts;
       none_kept = i.none_kept;
+      booked = (
+        c.note.ensures.notes.0,
+        c.note.ensures.notes.2 ∙ (λ j. i.booked.1 j ++ noted j) ∙ sym (noted_snoc i.asked.items i.stepped.items (Asked.Resume, session) (step, session) i.as_many) ∙ (λ j. noted_in (sym e1 j) (sym e2 j)),
+        c.note.ensures.notes.1 ∙ i.booked.2,
+      );
+      failing = λ p. failure_stays i.asked.items _ (Asked.Resume, session) e1 (i.failing (sym c.note.ensures.notes.3 ∙ p));
+      fails = λ p. is.stays_failed (i.fails (failure_before i.asked.items _ (Asked.Resume, session) e1 refl p));
     }

@@ -4,7 +4,8 @@ use Rattle.std.proofs.lemmas.List.{length-take-le, take-append-le}
 use Rattle.shore_log.specs.PlainTails.{waiting_in}
 use Rattle.shore_log.specs.Settled.{records_of_log}
 use Rattle.shore_held.proofs.KeptLogs.{kept_left}
-use Rattle.shore_held.specs.Logs.{Follows, LeavesHeld, LogState}
+use Rattle.shore_held.proofs.Staging.{still_leaves}
+use Rattle.shore_held.specs.Logs.{Follows, LeavesHeld, LeavesStable, LogState}
 use Rattle.shore_held.proofs.log_held.LogHeld.has_failed.Goals as goal
 
 pub returns-clause-few : goal.returns-clause-few
@@ -46,3 +47,12 @@ returns-clause-left g c start honest =
 
 pub returns-clause-unaimed : goal.returns-clause-unaimed
 returns-clause-unaimed g c runs = ap (λ s. s.aim) (sym c.self.view_is) ∙ c.self.invariant.11 (ap (λ s. s.failed) c.self.view_is ∙ runs)
+
+-- .. and as long as it has not failed just what is durable
+pub returns-clause-stays : goal.returns-clause-stays
+returns-clause-stays g c running start honest =
+    let log = c.self.inside.log in
+    let runs = ap (λ s. s.failed) c.self.view_is ∙ running in
+    ∥∥₁_map (c.self.invariant.10 start honest) (λ k.
+    subst (λ (s : LogState). LeavesStable g.B.Named.geometry g.B.Named.log_bytes s s.history) c.self.view_is
+    (k.front, k.labelled, k.anchored.long, k.anchored.counts, still_leaves log k.front (k.ready runs)))

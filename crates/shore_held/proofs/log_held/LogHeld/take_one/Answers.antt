@@ -64,6 +64,12 @@ invariant_of-self-in-None g c =
       i.11,
     )
 
+-- .. so all is received that it knows to be sent.
+pub returns-in-None-clause-emptied : goal.returns-in-None-clause-emptied
+returns-in-None-clause-emptied g c is =
+    let none = c.receive.ensures.none c.in-None.is in
+    (none.0, ap (λ s. s.got) (sym c.self.view_is) ∙ none.1 ∙ ap (λ s. s.met ++ none.0) c.self.view_is)
+
 -- What is received has the next number.
 pub take_in-requires-in-Some : goal.take_in-requires-in-Some
 take_in-requires-in-Some g c =
@@ -178,3 +184,10 @@ returns-in_ok-take_in-in-Some-clause-more g c =
     (λ j. all j ++ none j) ∙ append-nil ((records_of_log old ++ waiting_in waits) ++ waiting_in came) in
     let got : c.receive.new.pass.me.view.client.got ≡ c.self.inside.pass.me.view.client.got ++ waiting_in came = ap (λ v. v.got) c.in-Some.ensures.got.0 in
     (waiting_in came, list ∙ ap (λ s. s.list ++ waiting_in came) c.self.view_is, got ∙ ap (λ s. s.got ++ waiting_in came) c.self.view_is)
+
+pub returns-in_ok-take_in-in-Some-clause-some : goal.returns-in_ok-take_in-in-Some-clause-some
+returns-in_ok-take_in-in-Some-clause-some g c is =
+    let came = waiting_in c.in-Some.records in
+    let before = c.self.inside.pass.me.view.client.got in
+    let got : c.receive.new.pass.me.view.client.got ≡ before ++ came = ap (λ v. v.got) c.in-Some.ensures.got.0 in
+    omega (arith, ap length got, length-append before came, c.in-Some.ensures.got.2, ap (λ s. length s.got) c.self.view_is)
