@@ -43,6 +43,7 @@ pub mod LabelLemmas
 pub mod LimitLemmas
 pub mod LockLemmas
 pub mod PromiseLemmas
+pub mod RollbackEnds
 pub mod RollbackLemmas
 pub mod PreparedLemmas
 pub mod StoodLemmas

@@ -41,7 +41,7 @@ none_some : (r : Rollback) → ◌≡◌ {A = Option Rollback} None (Some r) →
 none_some r e = cc
 
 module _ (g : Geometry) (s new : State) (session : ℕ) (step : Step) where
-  rollback_at_once : (c : Call) (r : Rollback) → rollback_of c ≡ Some r → SettledCall g s session c step new → CallStep g s session c step new
+  pub rollback_at_once : (c : Call) (r : Rollback) → rollback_of c ≡ Some r → SettledCall g s session c step new → CallStep g s session c step new
   rollback_at_once c r is h = ⊎_elim
       (λ once. once.1)
       (λ came. let m = came.midway in absurd (none_some r (sym (asks_no_rollback g c (waits_may g s m.waits session c m.at m.calls)) ∙ is)))

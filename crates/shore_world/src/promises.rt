@@ -19,8 +19,8 @@ ghost use Rattle.shore_model.specs.Logs.{is_over, logged_writes, records_told};
 ghost use Rattle.shore_model.specs.Records.{overlays};
 ghost use Rattle.shore_model.specs.Requests.{HasNoCycle, held_by_all};
 ghost use Rattle.shore_model.specs.declared.calls.Answer.{Answer};
-ghost use Rattle.shore_model.specs.declared.calls.Answer.TheVariants.{Aborted, AreInDoubt, Committed, IsDurable, Moved};
-ghost use Rattle.shore_model.specs.declared.calls.Call.TheVariants.{Abort, Commit, InDoubt, Prepare, Resolve};
+ghost use Rattle.shore_model.specs.declared.calls.Answer.TheVariants.{Aborted, AreInDoubt, Committed, IsDurable, Moved, WentBack};
+ghost use Rattle.shore_model.specs.declared.calls.Call.TheVariants.{Abort, BackTo, Commit, InDoubt, Prepare, Resolve};
 ghost use Rattle.shore_model.specs.declared.calls.Call.{Call};
 ghost use Rattle.shore_model.specs.declared.calls.Outcome.{Outcome};
 ghost use Rattle.shore_model.specs.declared.histories.Decision.{Decision};
@@ -42,13 +42,13 @@ ghost use Rattle.laws_lives.specs.Sessions.{SessionTxn, in_txn, txns_of};
 ghost use Rattle.laws_lives.specs.Soundness.{decided_txn, history_from, serial_after};
 ghost use Rattle.laws_lives.specs.Undo.{IsLoser};
 ghost use Rattle.laws_lives.specs.Views.{IsAmong};
-ghost use Rattle.laws_calls.specs.CallSteps.{CallStep, NeedsTxn};
+ghost use Rattle.laws_calls.specs.CallSteps.{CallStep, NeedsTxn, aborted};
 ghost use Rattle.laws_calls.specs.Causes.{EarnsRefusal};
 ghost use Rattle.laws_calls.specs.LockChanges.{ChangesLocks};
 ghost use Rattle.laws_calls.specs.Midway.{AsksAgainIn, AsksIn, HasItsWait, Interlude, Intervene, IsItsCycle, IsMidway, but_doomed, cycles_among, victims_among};
-ghost use Rattle.laws_calls.specs.Resolves.{DecidesRollback};
+ghost use Rattle.laws_calls.specs.Resolves.{DecidesRollback, IsRollingBack, rollback_done};
 ghost use Rattle.laws_calls.specs.Rollbacks.{Interrupts, IsInterrupted, IsUnwound};
-ghost use Rattle.laws_calls.specs.StateChanges.{after_refusal};
+ghost use Rattle.laws_calls.specs.StateChanges.{after_refusal, answered};
 ghost use Rattle.laws_calls.specs.Shapes.{EndsAtOnce, IsLackOfRoom, IsNoRefusal, ResolvesTxn, WaitsForItsRecord, rollback_of};
 ghost use Rattle.laws_calls.specs.States.{DoesNotWait, IsOfSession, State, Waiting};
 ghost use Rattle.laws_calls.specs.Victims.{TellsVictim};
@@ -179,6 +179,33 @@ pub fn interrupted_rollbacks_keep_their_steps<L: Disk, V: Disk>()
         (k : IsManagerOf w o es ws) → IsServed (Resolve global asked) → Steps w (event.Call session (Resolve global asked)) (Refused f) new →
         (on : GoesOnAs new o es ws (event.Call session (Resolve global asked)) (Refused f)) × ((on.manager.now.state ≡ k.now.state)
         ⊎ ((b : SessionTxn) × (decided : State) × DecidesRollback k.now.state global b decided × IsInterrupted decided b Whole f on.manager.now.state)) }
+{}
+
+/// A rollback that was interrupted ends as one that was not. As long as the manager runs on, an abort that is refused leaves its transaction in a state from which an abort comes to what it would have come to before (`abort`),
+/// and an abort that is answered comes to that (`aborts`); so whatever was put back by then, and however often it was refused, the same is left. So it is of a way back (`back`, `goes_back`), and of a resolve from its decision on, which it has
+/// logged once (`resolve`).
+pub fn interrupted_rollbacks_end_alike<L: Disk, V: Disk>()
+    ensures abort { (w new : World L V L.Disk V.Disk) (o : Opening) (es : List Entry) (ws : List (ℕ × Call)) (session : ℕ) (f : Fault) (a : SessionTxn) →
+        (k : IsManagerOf w o es ws) → IsOfSession k.now.state session a → Steps w (event.Call session Abort) (Refused f) new →
+        f ≢ fault.Device → ((device : Device) (offset : ℕ) → f ≢ fault.Damaged device offset) → (on : GoesOnAs new o es ws (event.Call session Abort) (Refused f))
+        × ((b : SessionTxn) × IsOfSession on.manager.now.state session b × (aborted on.manager.now.state b ≡ aborted k.now.state a)) }
+    ensures aborts { (w new : World L V L.Disk V.Disk) (o : Opening) (es : List Entry) (ws : List (ℕ × Call)) (session : ℕ) (answer : Answer) (a : SessionTxn) →
+        (k : IsManagerOf w o es ws) → IsOfSession k.now.state session a → Steps w (event.Call session Abort) (Done answer) new →
+        (on : GoesOnAs new o es ws (event.Call session Abort) (Done answer)) × (on.manager.now.state ≡ aborted k.now.state a) }
+    ensures back { (w new : World L V L.Disk V.Disk) (o : Opening) (es : List Entry) (ws : List (ℕ × Call)) (session n : ℕ) (f : Fault) (a : SessionTxn) →
+        (k : IsManagerOf w o es ws) → IsOfSession k.now.state session a → n < length a.undo.marks → Steps w (event.Call session (BackTo n)) (Refused f) new →
+        f ≢ fault.Device → ((device : Device) (offset : ℕ) → f ≢ fault.Damaged device offset) → (on : GoesOnAs new o es ws (event.Call session (BackTo n)) (Refused f))
+        × ((b : SessionTxn) × IsOfSession on.manager.now.state session b × (n < length b.undo.marks)
+        × (answered on.manager.now.state b (BackTo n) WentBack on.manager.now.state.counts ≡ answered k.now.state a (BackTo n) WentBack k.now.state.counts)) }
+    ensures goes_back { (w new : World L V L.Disk V.Disk) (o : Opening) (es : List Entry) (ws : List (ℕ × Call)) (session n : ℕ) (answer : Answer) (a : SessionTxn) →
+        (k : IsManagerOf w o es ws) → IsOfSession k.now.state session a → Steps w (event.Call session (BackTo n)) (Done answer) new →
+        (on : GoesOnAs new o es ws (event.Call session (BackTo n)) (Done answer)) × (n < length a.undo.marks) × (answer ≡ WentBack)
+        × (on.manager.now.state ≡ answered k.now.state a (BackTo n) WentBack k.now.state.counts) }
+    ensures resolve { (w new : World L V L.Disk V.Disk) (o : Opening) (es : List Entry) (ws : List (ℕ × Call)) (session : ℕ) (global : List ℕ) (asked : Outcome) (f : Fault) →
+        (k : IsManagerOf w o es ws) → IsServed (Resolve global asked) → Steps w (event.Call session (Resolve global asked)) (Refused f) new →
+        f ≢ fault.Device → ((device : Device) (offset : ℕ) → f ≢ fault.Damaged device offset) → (on : GoesOnAs new o es ws (event.Call session (Resolve global asked)) (Refused f))
+        × ((on.manager.now.state ≡ k.now.state) ⊎ ((b : SessionTxn) × (decided : State) × DecidesRollback k.now.state global b decided
+        × ((later : SessionTxn) × IsRollingBack on.manager.now.state later global × (rollback_done on.manager.now.state later ≡ rollback_done decided b)))) }
 {}
 
 /// Refusals are earned: `EarnsRefusal` says for each fault what its cause is, in the state in which the call asked last (`AsksIn`, `AsksAgainIn`), from which one
