@@ -1,6 +1,6 @@
 -- What a loss of power leaves of the devices that a manager for threads handed back.
-use Rattle.std.proofs.Common.{◌≡◌, ◌⊎◌, ◌≤◌, ◌+◌, ◌-◌, ◌++◌, ℕ, List, All, [], ◌∷◌, inl, inr, refl, sym, subst, arith, length, map, take}
-use Rattle.std.proofs.lemmas.List.Elements.{All-nil, All-weaker}
+use Rattle.std.proofs.Common.{◌≡◌, ◌⊎◌, ◌≤◌, ◌+◌, ◌-◌, ◌++◌, ℕ, List, All, [], ◌∷◌, inl, inr, refl, sym, subst, arith, length, map, max, take}
+use Rattle.std.proofs.lemmas.List.Elements.{All-cons, All-head, All-nil, All-tail, All-weaker}
 use Rattle.shore_types.specs.declared.layout.Geometry.{Geometry}
 use Rattle.shore_types.specs.declared.layout.TheConstants.{LOG_FRONT_BYTES}
 use Rattle.shore_disk.specs.Device.{Call, DeviceHistory, LeftAfter, LeftSince, left_since, may_leave, moment}
@@ -104,10 +104,11 @@ module _ {T V : Type 0} {K : tail.Ghosts T} {H : disk.Ghosts V} {start : Beginni
         );
   }
 
--- for none of the numbers all the more
-pub fewer : (start : Beginning) (asked : List (Asked × ℕ)) (stepped : List (Step × ℕ)) (g : Geometry) (log_bytes stable : ℕ) (numbers : List ℕ) (log volume : DeviceHistory)
-    → AreHandedBack start asked stepped g log_bytes stable numbers log volume → AreHandedBack start asked stepped g log_bytes stable [] log volume
-fewer start asked stepped g log_bytes stable numbers log volume back = record {
+-- for other numbers, where what is no less than those is no less than these
+pub by_others : (start : Beginning) (asked : List (Asked × ℕ)) (stepped : List (Step × ℕ)) (g : Geometry) (log_bytes stable : ℕ) (numbers others : List ℕ) (log volume : DeviceHistory)
+    → ((m : ℕ) → All (λ n. n ≤ m) numbers → All (λ n. n ≤ m) others)
+    → AreHandedBack start asked stepped g log_bytes stable numbers log volume → AreHandedBack start asked stepped g log_bytes stable others log volume
+by_others start asked stepped g log_bytes stable numbers others log volume lower back = record {
   plain = back.plain;
   made = back.made;
   last = back.last;
@@ -115,11 +116,33 @@ fewer start asked stepped g log_bytes stable numbers log volume back = record {
   are = back.are;
   stand = λ log_left volume_left log_may volume_may.
       let s = back.stand log_left volume_left log_may volume_may in
-      (s.0, s.1, s.2, s.3, All-nil (λ m. m ≤ s.1), s.5);
+      (s.0, s.1, s.2, s.3, lower s.1 s.4, s.5);
   left = λ log_left volume_left log_may volume_may.
       let l = back.left log_left volume_left log_may volume_may in (
         l.0,
-        record { step = l.1.step; told = l.1.told; sent = l.1.sent; seen_stable = All-nil (λ n. n ≤ stable); anchored = l.1.anchored },
+        record { step = l.1.step; told = l.1.told; sent = l.1.sent; seen_stable = lower stable l.1.seen_stable; anchored = l.1.anchored },
         l.2,
       );
 }
+
+module _ {A : Type 0} (f : A → ℕ) where
+  -- the greatest number of all
+  abbrev pub greatest : List A → ℕ
+  greatest [] = 0
+  greatest (x ∷ xs) = max (f x) (greatest xs)
+
+  pub is_greatest : (xs : List A) → All (λ x. f x ≤ greatest xs) xs
+  is_greatest [] = All-nil (λ x. f x ≤ 0)
+  is_greatest (x ∷ xs) =
+      All-cons (λ y. f y ≤ max (f x) (greatest xs)) x xs (omega arith)
+      (All-weaker (λ y. f y ≤ greatest xs) (λ y. f y ≤ max (f x) (greatest xs)) (λ y is. omega (arith, is)) xs (is_greatest xs))
+
+  greatest_below : (m : ℕ) (xs : List A) → All (λ n. n ≤ m) (map f xs) → greatest xs ≤ m
+  greatest_below m [] all = omega arith
+  greatest_below m (x ∷ xs) all = omega (arith, All-head (λ n. n ≤ m) (f x) (map f xs) all, greatest_below m xs (All-tail (λ n. n ≤ m) (f x) (map f xs) all))
+
+  -- it stands for all of them
+  pub by_greatest : (number : ℕ) (xs : List A) (m : ℕ) → All (λ n. n ≤ m) (number ∷ map f xs) → All (λ n. n ≤ m) (number ∷ greatest xs ∷ [])
+  by_greatest number xs m all =
+      All-cons (λ n. n ≤ m) number (greatest xs ∷ []) (All-head (λ n. n ≤ m) number (map f xs) all)
+      (All-cons (λ n. n ≤ m) (greatest xs) [] (greatest_below m xs (All-tail (λ n. n ≤ m) number (map f xs) all)) (All-nil (λ n. n ≤ m)))

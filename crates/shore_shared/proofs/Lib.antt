@@ -1,5 +1,15 @@
+mod ClientLives
+mod Commits
+mod Durable
 mod HandedBack
+mod Hearing
 mod HeldManagers
 mod HeldMoments
+mod LeftAlone
 mod Lives
 mod LegsOfThreads
+mod NotedSteps
+mod Quiet
+mod Standing
+mod Telling
+mod WaitsOn

@@ -59,9 +59,9 @@ use Rattle.shore_shared.specs.declared.serving.Left.TheVariants as left
 
 module _ {L V : Type 0} {G : disk.Ghosts L} {H : disk.Ghosts V} where
   -- the records of a world that is at the state of a manager were handed over, and nothing else was done
-  pub are_kept : (old w : World L V G H) → IsUnchanged old w → waiting_of w.core ≡ [] → failed_in w ≡ false → w.log.staged ≡ None
+  pub are_kept : (old w : World L V G H) → IsUnchanged old w → waiting_of w.core ≡ [] → failed_in w ≡ false
       → (opening : Opening) (found : List LogRecord) (entries : List Entry) → (up : IsUpIn old opening found entries) → AreKept (begins_with up) w.core w.log w.stage
-  are_kept old w same emptied running still opening found entries up =
+  are_kept old w same emptied running opening found entries up =
       let g : geometry_in w ≡ geometry_in old = ap pools.geometry_of same.pool in
       let long : stream_bytes_in w ≡ stream_bytes_in old = ap (λ (d : L). size (G.history d) - LOG_FRONT_BYTES) same.device in
       let bytes : size (history_in w) ≡ size (history_in old) = ap (λ (d : L). size (G.history d)) same.device in
@@ -71,7 +71,7 @@ module _ {L V : Type 0} {G : disk.Ghosts L} {H : disk.Ghosts V} where
         comes_by_nothing w (geometry_in w) (stream_bytes_in w) opening found entries up.last up.log_front up.front up.disk at way refl refl
             (subst (λ (x : Geometry). IsVolumeFront x up.front) (sym g) up.volume_labelled),
         keeps_log w (geometry_in w) (size (history_in w)) up.log_front
-            (subst (λ (x : Geometry × ℕ). IsLogFront x.0 x.1 up.log_front) (λ i. (sym g i, sym bytes i)) up.log_labelled) at.log running still,
+            (subst (λ (x : Geometry × ℕ). IsLogFront x.0 x.1 up.log_front) (λ i. (sym g i, sym bytes i)) up.log_labelled) at.log running,
       )
 
 -- ---- in the end
@@ -173,7 +173,7 @@ module _ {T L V : Type 0} {K : tail.Ghosts T} {G : disk.Ghosts L} {H : disk.Ghos
             inr (next_anchor w.log aim.0 aim.1, record { named = a.named; at = a.at; durable = a.logged; anchor = ap (λ (x : ℕ × ℕ). next_anchor w.log x.0 x.1) a.is }, torn.1)
       ];
       anchored = k.anchored;
-      ready = λ running. inl (k.ready (runs running));
+      ready = λ running. k.ready (runs running);
     }
 
     pub ended : HasEnded start cut kept asked stepped w
@@ -254,11 +254,11 @@ module _ {L V : Type 0} {G : disk.Ghosts L} {H : disk.Ghosts V} (w : World L V G
 -- what holds of a world that is left holds so of it
 pub if_world : {L V : Type 0} {G : disk.Ghosts L} {H : disk.Ghosts V} {P Q : World L V G H → Type 0} (x : Left L V G H) → ((w : World L V G H) → P w → Q w) → IfWorld x P → IfWorld x Q
 if_world (left.World w) f holds = f w holds
-if_world (left.Devices log volume) f holds = tt
+if_world (left.Devices log volume refusal) f holds = tt
 
 pub if_devices : {L V : Type 0} {G : disk.Ghosts L} {H : disk.Ghosts V} {P Q : L → V → Type 0} (x : Left L V G H) → ((log : L) (volume : V) → P log volume → Q log volume) → IfDevices x P → IfDevices x Q
 if_devices (left.World w) f holds = tt
-if_devices (left.Devices log volume) f holds = f log volume holds
+if_devices (left.Devices log volume refusal) f holds = f log volume holds
 
 -- A world that no threads had has ended by no call.
 module _ {L V : Type 0} {G : disk.Ghosts L} {H : disk.Ghosts V} {start : Beginning} (w : World L V G H) (kept : AreKept start w.core w.log w.stage) (emptied : waiting_of w.core ≡ []) where

@@ -1,3 +1,7 @@
+pub mod Clients
 pub mod HandedBack
+pub mod Heard
 pub mod Lives
 pub mod Remains
+pub mod Told
+pub mod WorkedLife

@@ -1,11 +1,15 @@
 //! The calls of a session, which wait.
-ghost use Rattle.std.specs.Prelude.{◌≡◌, ◌↔◌, ◌⊎◌, ◌≤◌, ◌<◌, ◌+◌, [], ◌∷◌, ◌++◌, IfOk, IsTrue, MatchOption, Some, None};
+ghost use Rattle.std.specs.Prelude.{◌≡◌, false, true, ◌↔◌, ◌⊎◌, ◌≤◌, ◌<◌, ◌+◌, ◌≢◌, ℕ, [], ◌∷◌, ◌++◌, List, IfErr, IfNone, IfOk, IfSome, IsTrue, MatchOption, Some, None};
+ghost use Rattle.shore_types.specs.declared.faults.Fault as faults;
 ghost use Rattle.shore_types.specs.declared.faults.Fault.TheVariants as Fault;
 ghost use Rattle.shore_model.specs.declared.step.Step.TheVariants as Step;
 ghost use Rattle.shore_model.specs.Calls.{IsServed};
+ghost use Rattle.shore_model.specs.declared.calls.Answer.TheVariants as Answer;
 ghost use Rattle.shore_model.specs.declared.calls.Call.{Call};
 ghost use Rattle.shore_core.specs.Replies.{InEach, Reads, ReadsWaiting, Resumed, Serves, Stepped, fault_at, forced_at};
 ghost use Rattle.shore_held.specs.declared.asked.Asked.TheVariants as Asked;
+ghost use Rattle.shore_words.specs.declared.rule.Heard.{Heard};
+ghost use Rattle.shore_shared.specs.Heard.{AwaitsLock, AwaitsLog, HasLooked, Hears, HearsCommit, IsAnswered, IsOfCommit, IsRefusal, IsRefusalOfCommit};
 
 use crate::session::Session;
 use crate::shared::{Shared, sleeper_of};
@@ -17,6 +21,7 @@ use shore_log::Tail;
 use shore_model::{Answer, Call};
 use shore_queue::Numbers;
 use shore_types::{Fault, Lsn, Ticket};
+use shore_words::Words;
 use std::alloc::Global;
 use std::sync::{MutexGuard, Wait};
 
@@ -26,11 +31,13 @@ const MOST_CROWDED: u32 = 8;
 /// The step that a session makes under the core's lock: a call, or it goes on with that which waits.
 pub fn session_step<B: Named, T: Tail, V: Disk>(
     alloc: Global,
+    words: &Words,
     core: &mut CoreHeld<B, T, V>,
     session: &mut Session<B>,
     call: Option<Call>,
 ) -> Step
-    requires { (c : Call) → call ≡ Some c → IsServed c }
+    requires served { (c : Call) → call ≡ Some c → IsServed c }
+    requires words { (words.now.table.shared.table_id ≡ B.table) × (4 < B.table.words) }
     ensures call { (c : Call) → call ≡ Some c → InEach (λ front disk before s store. Stepped session.old.number c result core.old.core core.new.core front before s store) core.old.core }
     ensures resume { call ≡ None → InEach (λ front disk before s store. Resumed session.old.number result core.old.core core.new.core front before s store) core.old.core }
     // At any moment no page of the volume has a number above what the core knows to be durable, which its seat has seen.
@@ -41,27 +48,49 @@ pub fn session_step<B: Named, T: Tail, V: Disk>(
     ensures stepped { core.new.stepped.items ≡ core.old.stepped.items ++ (result, session.old.number) ∷ [] }
     ensures share { session.new.share.amount ≡ session.old.share.amount + 1 }
     ensures session { (session.new.number ≡ session.old.number) × (session.new.seat ≡ session.old.seat) }
+    // The session has heard it.
+    ensures heard { session.new.ear ≡ record session.old.ear { heard = session.old.ear.heard ++ record { asked = call; step = result } ∷ [] } }
     ensures same { (core.new.stage ≡ core.old.stage) × (core.new.made ≡ core.old.made) × (core.new.seat ≡ core.old.seat) }
 {
     match call {
-        Some(call) => core.call(alloc, session.number, &mut session.share, call),
-        None => core.resume(alloc, session.number, &mut session.share),
+        Some(call) => core.call(
+            alloc,
+            words,
+            session.number,
+            &mut session.share,
+            &mut session.ear,
+            call,
+        ),
+        None => core.resume(
+            alloc,
+            words,
+            session.number,
+            &mut session.share,
+            &mut session.ear,
+        ),
     }
 }
 
 // What a call that is over was answered.
 fn answer_of(step: Step) -> Result<Answer, Fault>
-    ensures { IfOk result (λ answer. step ≡ Step.Done answer) }
+    requires log { ¬ AwaitsLog step }
+    requires lock { ¬ AwaitsLock step }
+    ensures done { IfOk result (λ answer. step ≡ Step.Done answer) }
+    ensures answered { IsAnswered step result }
 {
     match step {
         Step::Done(answer) => Ok(answer),
         Step::Refused(fault) => Err(fault),
-        Step::Waits(_) | Step::Nothing => Err(Fault::NotQuiet),
+        Step::Waits(_) => Err(Fault::NotQuiet),
+        Step::Nothing => Err(Fault::NotQuiet),
     }
 }
 
 // The number that has to be durable before the call goes on, or before it is made again.
-fn number_awaited(step: &Step) -> Option<u64> {
+fn number_awaited(step: &Step) -> Option<u64>
+    ensures some { IfSome result (λ number. AwaitsLog step.now) }
+    ensures none { IfNone result (¬ AwaitsLog step.now) }
+{
     match step {
         Step::Waits(Awaits::Durable(number)) => Some(number.0),
         Step::Refused(Fault::NeedForce { number }) => Some(number.0),
@@ -73,7 +102,9 @@ fn is_log_full(step: &Step) -> bool {
     matches!(step, Step::Refused(Fault::LogFull))
 }
 
-fn is_refused(step: &Step) -> bool {
+fn is_refused(step: &Step) -> bool
+    ensures { IsTrue result ↔ ((f : faults.Fault) × (step.now ≡ Step.Refused f)) }
+{
     matches!(step, Step::Refused(_))
 }
 
@@ -88,7 +119,10 @@ fn is_in_txn(was: bool, step: &Step) -> bool {
 }
 
 // The ticket of a commit.
-fn ticket_of(answer: &Answer) -> Option<Ticket> {
+fn ticket_of(answer: &Answer) -> Option<Ticket>
+    ensures some { IfSome result (λ ticket. answer.now ≡ Answer.Committed ticket) }
+    ensures none { IfNone result ((ticket : ℕ) → answer.now ≢ Answer.Committed ticket) }
+{
     match answer {
         Answer::Committed(ticket) => Some(Ticket::of(ticket.number())),
         _ => None,
@@ -105,11 +139,12 @@ impl<B: Named> Session<B> {
         call: Option<Call>,
     ) -> Step
         requires { (c : Call) → call ≡ Some c → IsServed c }
-        ensures { (self.new.number ≡ self.old.number) × (self.new.seat ≡ self.old.seat) × (self.new.share.amount ≡ self.old.share.amount + 1) }
+        ensures same { (self.new.number ≡ self.old.number) × (self.new.seat ≡ self.old.seat) × (self.new.share.amount ≡ self.old.share.amount + 1) }
+        ensures heard { self.new.ear ≡ record self.old.ear { heard = self.old.ear.heard ++ record { asked = call; step = result } ∷ [] } }
     {
         let mut core = self.take_core(rt, shared);
         core.look(&shared.words);
-        let step = session_step(alloc, &mut core, self, call);
+        let step = session_step(alloc, &shared.words, &mut core, self, call);
         if may_let_through(&step) {
             shared.wake_let_through(&core);
         }
@@ -128,7 +163,7 @@ impl<B: Named> Session<B> {
         rt: &R,
         shared: &'a Shared<N, B, T, L, V>,
     ) -> MutexGuard<'a, CoreHeld<B, T, V>>
-        ensures { (self.new.number ≡ self.old.number) × (self.new.share ≡ self.old.share) × (self.new.seat ≡ self.old.seat) }
+        ensures { (self.new.number ≡ self.old.number) × (self.new.share ≡ self.old.share) × (self.new.seat ≡ self.old.seat) × (self.new.ear ≡ self.old.ear) }
     {
         if let Some(core) = shared.core.try_lock() {
             self.crowded = 0;
@@ -148,7 +183,7 @@ impl<B: Named> Session<B> {
         shared: &Shared<N, B, T, L, V>,
         step: &Step,
     )
-        ensures { (self.new.number ≡ self.old.number) × (self.new.share ≡ self.old.share) × (self.new.seat ≡ self.old.seat) }
+        ensures { (self.new.number ≡ self.old.number) × (self.new.share ≡ self.old.share) × (self.new.seat ≡ self.old.seat) × (self.new.ear ≡ self.old.ear) }
     {
         self.in_txn = is_in_txn(self.in_txn, step);
         let is_busy = self.in_txn && !waits_for_lock(step);
@@ -161,7 +196,7 @@ impl<B: Named> Session<B> {
         self.is_counted = is_busy;
     }
 
-    // Waits until the number is durable, and is not awaited with a commit meanwhile. Behind it the log writer awaits its next one.
+    // Waits until the number is durable, and is not awaited with a commit meanwhile. Behind it the log writer awaits its next one. False if it finds that a device has failed.
     fn wait_for<N: Numbers, R: Wait, T: Tail, L: Disk, V: Disk>(
         &mut self,
         rt: &R,
@@ -169,8 +204,9 @@ impl<B: Named> Session<B> {
         number: Lsn,
     ) -> bool
         ensures seen { IsTrue result ↔ (number ≤ self.new.seat.seen) }
-        ensures seat { (self.new.seat ≡ record self.old.seat { seen = self.new.seat.seen }) × (self.old.seat.seen ≤ self.new.seat.seen) }
-        ensures same { (self.new.number ≡ self.old.number) × (self.new.share ≡ self.old.share) }
+        ensures failed { result ≡ false → self.new.seat.failed ≡ true }
+        ensures seat { HasLooked self.old.seat self.new.seat }
+        ensures same { (self.new.number ≡ self.old.number) × (self.new.share ≡ self.old.share) × (self.new.ear ≡ self.old.ear) }
     {
         if self.is_counted {
             shared.count_out();
@@ -193,7 +229,8 @@ impl<B: Named> Session<B> {
         requires { IsServed call.now }
         ensures same { (self.new.number ≡ self.old.number) × (self.new.seat ≡ self.old.seat) }
         // It is made, or an allocation failed before.
-        ensures made { (self.new.share.amount ≡ self.old.share.amount + 1) ⊎ ((result ≡ Step.Refused Fault.Memory) × (self.new.share.amount ≡ self.old.share.amount)) }
+        ensures made { ((self.new.share.amount ≡ self.old.share.amount + 1) × (self.new.ear ≡ record self.old.ear { heard = self.old.ear.heard ++ record { asked = Some call.now; step = result } ∷ [] }))
+            ⊎ ((result ≡ Step.Refused Fault.Memory) × (self.new.share.amount ≡ self.old.share.amount) × (self.new.ear ≡ self.old.ear)) }
     {
         match call.try_clone(alloc) {
             Ok(copy) => self.step(rt, alloc, shared, Some(copy)),
@@ -202,7 +239,7 @@ impl<B: Named> Session<B> {
     }
 
     /// A call of the session. It is answered once its locks are free, and a prepare or a resolve once its record is durable; a call that needs a force is made again
-    /// behind it. A commit is answered with its ticket, before it is durable. `Device` if a device fails while it waits for the log.
+    /// behind it. A commit is answered with its ticket, before it is durable. `Device` if it finds, while it waits for the log, that a device has failed.
     pub fn call<N: Numbers, R: Wait, T: Tail, L: Disk, V: Disk>(
         &mut self,
         rt: &R,
@@ -212,10 +249,14 @@ impl<B: Named> Session<B> {
     ) -> Result<Answer, Fault>
         requires { IsServed call }
         ensures same { self.new.number ≡ self.old.number }
-        ensures seat { (self.new.seat ≡ record self.old.seat { seen = self.new.seat.seen }) × (self.old.seat.seen ≤ self.new.seat.seen) }
+        ensures seat { HasLooked self.old.seat self.new.seat }
         // What is answered was asked of the core: each step counts.
         ensures counted { self.old.share.amount ≤ self.new.share.amount }
         ensures asked { IfOk result (λ _. self.old.share.amount < self.new.share.amount) }
+        // .. and the session has heard it: steps behind which it waits, and last of all what it is answered.
+        ensures heard { (more : List Heard) × (self.new.ear ≡ record self.old.ear { heard = self.old.ear.heard ++ more }) × Hears self.new.seat.failed call (Some call) more result }
+        // A refusal is that of the last of them.
+        ensures refused { IfErr result (λ fault. (more : List Heard) × (self.new.ear.heard ≡ self.old.ear.heard ++ more) × IsRefusal self.new.seat.failed more fault) }
     {
         let mut glanced = shared.sleepers.glance(sleeper_of(self.number));
         let mut step = self.first_step(rt, alloc, shared, &call);
@@ -239,7 +280,7 @@ impl<B: Named> Session<B> {
         unreachable!()
     }
 
-    /// Commits, and waits until that is durable. `Device` if a device fails meanwhile: then the commit may be durable or not.
+    /// Commits, and waits until that is durable. `Device` if it finds meanwhile that a device has failed: then the commit may be durable or not.
     pub fn commit_durable<N: Numbers, R: Wait, T: Tail, L: Disk, V: Disk>(
         &mut self,
         rt: &R,
@@ -248,10 +289,30 @@ impl<B: Named> Session<B> {
     ) -> Result<Ticket, Fault>
         ensures durable { IfOk result (λ ticket. ticket ≤ self.new.seat.seen) }
         ensures same { self.new.number ≡ self.old.number }
-        ensures seat { (self.new.seat ≡ record self.old.seat { seen = self.new.seat.seen }) × (self.old.seat.seen ≤ self.new.seat.seen) }
+        ensures seat { HasLooked self.old.seat self.new.seat }
         ensures asked { IfOk result (λ _. self.old.share.amount < self.new.share.amount) }
+        // The ticket is that of its own Commit.
+        ensures heard { (more : List Heard) × (self.new.ear ≡ record self.old.ear { heard = self.old.ear.heard ++ more }) × HearsCommit self.new.seat.failed more result }
+        // A refusal is that of the last that it heard, but where a device has failed before the ticket was told to be durable.
+        ensures refused { IfErr result (λ fault. (more : List Heard) × (self.new.ear.heard ≡ self.old.ear.heard ++ more) × IsRefusalOfCommit self.new.seat.failed more fault) }
     {
-        let answer = self.call(rt, alloc, shared, Call::Commit)?;
+        let reply = self.call(rt, alloc, shared, Call::Commit);
+        self.awaited(rt, shared, reply)
+    }
+
+    // Waits until a commit is durable that was answered so.
+    pub(crate) fn awaited<N: Numbers, R: Wait, T: Tail, L: Disk, V: Disk>(
+        &mut self,
+        rt: &R,
+        shared: &Shared<N, B, T, L, V>,
+        reply: Result<Answer, Fault>,
+    ) -> Result<Ticket, Fault>
+        ensures durable { IfOk result (λ ticket. ticket ≤ self.new.seat.seen) }
+        ensures seat { HasLooked self.old.seat self.new.seat }
+        ensures same { (self.new.number ≡ self.old.number) × (self.new.share ≡ self.old.share) × (self.new.ear ≡ self.old.ear) }
+        ensures of { IsOfCommit self.new.seat.failed reply result }
+    {
+        let answer = reply?;
         let Some(ticket) = ticket_of(&answer) else {
             return Err(Fault::NotQuiet);
         };

@@ -21,7 +21,7 @@ ghost use Rattle.shore_core.specs.Cores.{durable_of, geometry_of, history_of, lo
 ghost use Rattle.shore_world.specs.declared.world.World.{World};
 ghost use Rattle.shore_world.specs.EventMoves.{PlainMove, moves_among};
 ghost use Rattle.shore_world.specs.Managers.{LeadsToMoment, Threads};
-ghost use Rattle.shore_world.specs.Worlds.{anchor_in, anchors_in, failed_in, geometry_in, history_in};
+ghost use Rattle.shore_world.specs.Worlds.{IsUnchanged, anchor_in, anchors_in, failed_in, geometry_in, history_in};
 ghost use Rattle.shore_held.specs.Logs.{LeavesByMove, LeavesHeld, LogState};
 ghost use Rattle.shore_held.specs.Moments.{AreAtOnce, IsMakingStep};
 ghost use Rattle.shore_shared.specs.HandedBack.{AreHandedBack};
@@ -29,7 +29,7 @@ ghost use Rattle.shore_shared.specs.Lives.{HasEnded, StandAll};
 ghost use Rattle.shore_held.specs.Trails.{moves_of};
 ghost use Rattle.shore_world.specs.Promises.{IsManagerOf};
 ghost use Rattle.shore_held.specs.Comings.{Beginning, HasAim, HasComeBy, IsAimOf};
-ghost use Rattle.shore_world.specs.Legs.{IsUpIn};
+ghost use Rattle.shore_world.specs.Legs.{IsUpIn, ThreadsLead};
 ghost use Rattle.shore_held.specs.Worlds.{begins_with};
 ghost use Rattle.shore_held.specs.declared.asked.Asked.{Asked};
 ghost use Rattle.shore_model.specs.declared.step.Step.{Step};
@@ -113,4 +113,12 @@ pub fn worlds_behind_threads_stand<L: Disk, V: Disk>()
 pub fn anchors_count_while_nothing_fails<L: Disk, V: Disk>()
     ensures { (start : Beginning) (cut : ℕ) (kept : List LogRecord) (asked : List (Asked × ℕ)) (stepped : List (Step × ℕ)) (w : World L V L.Disk V.Disk) → HasEnded start cut kept asked stepped w → failed_in w ≡ false →
         (image : List ℕ) → may_leave (history_in w) image → Counts image (anchors_in w).slot (anchor_in w) }
+{}
+
+/// A world that `serve` gives back where it was refused before its threads (`IsUnchanged`) is the very manager that it was, at the same state, with its history and its waits (`manager`); it is up if it was (`up`); and it is a
+/// leg of threads of which nobody asked anything (`leg`). So its promises hold, and its life goes on.
+pub fn refused_serves_leave_the_manager<L: Disk, V: Disk>()
+    ensures manager { (old w : World L V L.Disk V.Disk) (o : Opening) (es : List Entry) (ws : List (ℕ × Call)) (k : IsManagerOf old o es ws) → IsUnchanged old w → (on : IsManagerOf w o es ws) × (on.now ≡ k.now) }
+    ensures up { (old w : World L V L.Disk V.Disk) (o : Opening) (found : List LogRecord) (es : List Entry) (up : IsUpIn old o found es) → IsUnchanged old w → (on : IsUpIn w o found es) × (on.last ≡ up.last) }
+    ensures leg { (old w : World L V L.Disk V.Disk) → IsUnchanged old w → ThreadsLead old [] w }
 {}

@@ -53,7 +53,7 @@ pub struct Opened<L: Disk, V: Disk> {
     ghost still: { log.staged ≡ None },
     ghost ring: { (room_in (txns_of core)).stream_bytes + LOG_FRONT_BYTES ≡ size (L.Disk.history log.device) },
     ghost told: { teller.me ≡ (known.teller (cut_of_log log + length (stable log)) (anchored_in log), []) },
-    ghost whose: { (teller.table_id ≡ words.table.shared.table_id) × (3 < words.table.shared.table_id.words) },
+    ghost whose: { (teller.table_id ≡ words.table.shared.table_id) × (4 < words.table.shared.table_id.words) },
     ghost parts: { blank.parts ≡ ALL_PARTS },
 }
 
@@ -118,7 +118,7 @@ fn words_of<L: Disk, V: Disk>(
     alloc: Global,
     world: &World<L, V>,
 ) -> Result<(Words, WakeWords, WordSeat), AllocError>
-    ensures { IfOk result (λ made. (made.2.table_id ≡ made.0.table.shared.table_id) × (3 < made.0.table.shared.table_id.words)
+    ensures { IfOk result (λ made. (made.2.table_id ≡ made.0.table.shared.table_id) × (4 < made.0.table.shared.table_id.words)
         × (made.2.me ≡ (known.teller (cut_of_log world.now.log + length (stable world.now.log)) (anchored_in world.now.log), []))) }
 {
     let (words, teller) = Words::new(
@@ -198,9 +198,10 @@ impl<N: Numbers, L: Disk, V: Disk> Queued<N, L, V> {
         let (calls, rest) = blank.open::<B>();
         let mut teller = Seat::<B>::of(teller);
         let seat = teller.keeper(&words);
+        let book = teller.scribe(&words);
         let tail = QueueTail::<N, B, R>::new(rt, alloc, ours, sender, core.next());
         let (core, _) = core.with_tail(tail);
-        let core = CoreHeld::new(core, stage, calls, rest, seat);
+        let core = CoreHeld::new(core, stage, calls, rest, seat, book);
         let log = LogHeld::new(alloc, log, channel, receiver, teller);
         Shared::of(words, sleepers, report, core, log)
     }

@@ -1,5 +1,6 @@
 //! A session.
-ghost use Rattle.std.specs.Prelude.{◌≡◌};
+ghost use Rattle.std.specs.Prelude.{◌≡◌, ◌<◌, ◌+◌, ◌↔◌, IsTrue};
+ghost use Rattle.shore_words.specs.Words.{Listens};
 
 use shore_held::{Named, Seat};
 use shore_types::SessionId;
@@ -12,6 +13,8 @@ pub struct Session<B: Named> {
     pub(crate) number: SessionId,
     pub(crate) share: Share<B>,
     pub(crate) seat: Seat<B>,
+    // What it has heard: what its calls came to. It takes no memory.
+    pub(crate) ear: Seat<B>,
     // Whether it is in a transaction, and whether it is counted among those that are busy.
     pub(crate) in_txn: bool,
     pub(crate) is_counted: bool,
@@ -19,17 +22,20 @@ pub struct Session<B: Named> {
     pub(crate) crowded: u32,
     pub(crate) spared: u32,
     ghost part: { share.parts ≡ 1 },
+    ghost listens: { Listens ear × (ear.session ≡ number) },
 }
 
 impl<B: Named> Session<B> {
-    pub(crate) fn new(number: SessionId, share: Share<B>, seat: Seat<B>) -> Session<B>
-        requires { share.parts ≡ 1 }
-        ensures { (result.number ≡ number) × (result.share ≡ share) × (result.seat ≡ seat) }
+    pub(crate) fn new(number: SessionId, share: Share<B>, seat: Seat<B>, ear: Seat<B>) -> Session<B>
+        requires part { share.parts ≡ 1 }
+        requires listens { Listens ear × (ear.session ≡ number) }
+        ensures { (result.number ≡ number) × (result.share ≡ share) × (result.seat ≡ seat) × (result.ear ≡ ear) }
     {
         Session {
             number,
             share,
             seat,
+            ear,
             in_txn: false,
             is_counted: false,
             crowded: 0,
@@ -37,11 +43,11 @@ impl<B: Named> Session<B> {
         }
     }
 
-    /// Its share of the ledger.
-    pub(crate) fn into_share(self) -> Share<B>
-        ensures { result ≡ self.share }
+    // Whether so many sessions were made before it.
+    pub(crate) fn is_next_of(&self, count: u32) -> bool
+        ensures { IsTrue result ↔ (self.now.number ≡ count + 1) }
     {
-        self.share
+        self.number.0 > count && self.number.0 - count == 1
     }
 
     /// What it knows of the words.

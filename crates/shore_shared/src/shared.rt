@@ -1,5 +1,5 @@
 //! The core and the log device under locks of their own, and what may be asked without waiting.
-ghost use Rattle.std.specs.Prelude.{◌≡◌, ◌↔◌, ◌≤◌, ◌<◌, ℕ, IfSome, IsTrue, true};
+ghost use Rattle.std.specs.Prelude.{◌≡◌, ◌↔◌, ◌≤◌, ◌<◌, ℕ, [], IfSome, IsTrue, true};
 ghost use Rattle.shore_held.specs.declared.core_held.TheConstants.{ALL_PARTS};
 ghost use Rattle.shore_words.specs.Words.{looker};
 
@@ -43,8 +43,6 @@ pub struct Shared<N: Numbers, B: Named, T: Tail, L: Disk, V: Disk> {
     pub(crate) sleepers: WakeWords,
     // What the restart did that opened the manager.
     pub(crate) report: Report,
-    // Not 0 once a device has failed, and who waits for the log is to be told so.
-    pub(crate) failed: AtomicU64,
     // Not 0 once a call was refused since the log is full, until a checkpoint begins.
     pub(crate) full: AtomicU64,
     // How many sessions are under way and wait for nobody: in a transaction, or told a moment ago that their last is durable. The log writer gathers their commits.
@@ -55,7 +53,7 @@ pub struct Shared<N: Numbers, B: Named, T: Tail, L: Disk, V: Disk> {
     pub(crate) core: Mutex<CoreHeld<B, T, V>>,
     pub(crate) log: Mutex<LogHeld<N, B, L>>,
     ghost words_are: { words.table.shared.table_id ≡ B.table },
-    ghost four_words: { 3 < B.table.words },
+    ghost all_words: { 4 < B.table.words },
     ghost all_is: { B.all ≡ ALL_PARTS },
 }
 
@@ -67,14 +65,13 @@ impl<N: Numbers, B: Named, T: Tail, L: Disk, V: Disk> Shared<N, B, T, L, V> {
         core: CoreHeld<B, T, V>,
         log: LogHeld<N, B, L>,
     ) -> Shared<N, B, T, L, V>
-        requires { (words.table.shared.table_id ≡ B.table) × (3 < B.table.words) × (B.all ≡ ALL_PARTS) }
+        requires { (words.table.shared.table_id ≡ B.table) × (4 < B.table.words) × (B.all ≡ ALL_PARTS) }
         ensures { result.report ≡ report }
     {
         Shared {
             words,
             sleepers,
             report,
-            failed: AtomicU64::new(0),
             full: AtomicU64::new(0),
             busy: AtomicU64::new(0),
             asking: AtomicU64::new(0),
@@ -94,7 +91,7 @@ impl<N: Numbers, B: Named, T: Tail, L: Disk, V: Disk> Shared<N, B, T, L, V> {
         CoreHeld<B, T, V>,
         LogHeld<N, B, L>,
     )
-        ensures words { (result.0.table.shared.table_id ≡ B.table) × (3 < B.table.words) × (B.all ≡ ALL_PARTS) }
+        ensures words { (result.0.table.shared.table_id ≡ B.table) × (4 < B.table.words) × (B.all ≡ ALL_PARTS) }
         ensures report { result.2 ≡ self.report }
     {
         let Shared {
@@ -113,9 +110,10 @@ impl<N: Numbers, B: Named, T: Tail, L: Disk, V: Disk> Shared<N, B, T, L, V> {
         ensures number { IfSome result (λ s. (0 < s.number) × (s.number < ALL_PARTS)) }
         ensures none_made { IfSome result (λ s. s.share.amount ≡ 0) }
         ensures seat { IfSome result (λ s. (seen : ℕ) × (s.seat ≡ looker seen)) }
+        ensures heard { IfSome result (λ s. s.ear.heard ≡ []) }
     {
-        let (number, share, seat) = self.core.lock(rt).session(&self.words)?;
-        Some(Session::new(number, share, seat))
+        let (number, share, seat, ear) = self.core.lock(rt).session(&self.words)?;
+        Some(Session::new(number, share, seat, ear))
     }
 
     /// A seat for a worker, or for one who looks.
@@ -150,9 +148,12 @@ impl<N: Numbers, B: Named, T: Tail, L: Disk, V: Disk> Shared<N, B, T, L, V> {
         self.sleepers.wake(CHECKPOINTER);
     }
 
-    // Whether a device has failed, as who waits for the log is told.
-    pub(crate) fn has_failed(&self) -> bool {
-        self.failed.load(Ordering::SeqCst) != 0
+    // Whether a device has failed, as who waits for the log is told. Who found it once finds it again.
+    pub(crate) fn has_failed(&self, seat: &mut Seat<B>) -> bool
+        ensures failed { seat.new ≡ record seat.old { failed = result } }
+        ensures stays { seat.old.failed ≡ true → result ≡ true }
+    {
+        seat.has_failed(&self.words)
     }
 
     // The log is full: a checkpoint is wanted.
@@ -172,9 +173,8 @@ impl<N: Numbers, B: Named, T: Tail, L: Disk, V: Disk> Shared<N, B, T, L, V> {
         self.sleepers.wake(WRITER);
     }
 
-    // Who waits for the log learns that a device has failed.
-    pub(crate) fn tell_failed(&self) {
-        self.failed.store(1, Ordering::SeqCst);
+    // Who waits for the log looks again: more is durable, or a device has failed.
+    pub(crate) fn wake_waiting(&self) {
         self.sleepers.wake(NEWS);
     }
 }

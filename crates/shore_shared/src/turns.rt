@@ -1,8 +1,9 @@
 //! What turns of the workers do with the values under the locks, which are lent to them: of a function that takes a lock no clause can say it.
-ghost use Rattle.std.specs.Prelude.{◌≡◌, ◌↔◌, ◌≤◌, ◌<◌, ◌+◌, [], ◌∷◌, ◌++◌, IfErr, IfOk, IsTrue, OnErr, OnOk, false, length};
+ghost use Rattle.std.specs.Prelude.{◌≡◌, ◌⊎◌, ◌↔◌, ◌≤◌, ◌<◌, ◌+◌, [], ◌∷◌, ◌++◌, IfErr, IfOk, IsTrue, List, OnErr, OnOk, false, length, true};
 ghost use Rattle.shore_core.specs.Cores.{has_failed, last_of};
 ghost use Rattle.shore_core.specs.Flushing.{FlushAnswers, FlushSteps};
 ghost use Rattle.shore_core.specs.Replies.{InEach};
+ghost use Rattle.shore_model.specs.declared.log_records.LogRecord.{LogRecord};
 ghost use Rattle.shore_held.specs.Trails.{GoesOn};
 ghost use Rattle.shore_held.specs.declared.asked.Asked.TheVariants as Asked;
 ghost use Rattle.shore_types.specs.declared.faults.Fault.TheVariants as Fault;
@@ -25,26 +26,26 @@ const MOST_TAKEN: u64 = 65_535;
 // A checkpoint begins once so many records were appended since the last one began.
 const RECORDS_BETWEEN: u64 = 1_000;
 
-// What is queued goes to the log device: one push, and up to so many more. False where none was left. `Memory` if an allocation failed: nothing is lost.
+// What is queued goes to the log device: one push, and up to so many more. It ends with these, or where none is left: then all came that the log device knows to be sent. `Memory` if an allocation failed: nothing is lost.
 pub(crate) fn take_all<N: Numbers, B: Named, L: Disk>(
     rt: &impl Wait,
     held: &mut LogHeld<N, B, L>,
     most: u64,
-) -> Result<bool, Fault>
+) -> Result<(), Fault>
     ensures same { (held.new.anchors ≡ held.old.anchors) × (held.new.cut ≡ held.old.cut) × (held.new.stable ≡ held.old.stable) × (held.new.told ≡ held.old.told) × (held.new.failed ≡ held.old.failed)
-        × (held.new.history ≡ held.old.history) }
+        × (held.new.history ≡ held.old.history) × (held.new.met ≡ held.old.met) }
+    ensures all { OnOk result (((rest : List LogRecord) × (held.new.got ≡ held.old.met ++ rest)) ⊎ (length held.old.got + most < length held.new.got)) }
     // Nothing that came through the queue waits for memory then.
     ensures taken { OnOk result (held.new.waits ≡ []) }
     ensures refused { IfErr result (λ fault. fault ≡ Fault.Memory) }
 {
-    let mut more = held.take_one(rt)?;
-    for _ in 0..most {
-        if !more {
-            break;
+    for count in 0..most {
+        if !held.take_one(rt)? {
+            return Ok(());
         }
-        more = held.take_one(rt)?;
     }
-    Ok(more)
+    held.take_one(rt)?;
+    Ok(())
 }
 
 impl<N: Numbers, B: Named, T: Tail, L: Disk, V: Disk> Shared<N, B, T, L, V> {
@@ -59,13 +60,16 @@ impl<N: Numbers, B: Named, T: Tail, L: Disk, V: Disk> Shared<N, B, T, L, V> {
         held: &mut LogHeld<N, B, L>,
     ) -> Result<(bool, bool), Fault>
         ensures told { OnOk result (held.new.told ≡ held.new.cut + length held.new.stable) }
+        ensures cut { held.new.cut ≡ held.old.cut }
         ensures news { IfOk result (λ r. IsTrue r.0 ↔ (length held.old.stable < length held.new.stable)) }
-        ensures none { IfOk result (λ r. r.0 ≡ false → held.new.list ≡ held.new.stable ++ held.new.waits) }
+        ensures none { IfOk result (λ r. r.0 ≡ false → (held.new.stable ≡ held.old.stable) × (held.new.list ≡ held.new.stable ++ held.new.waits)) }
         ensures taken { IfOk result (λ r. IsTrue r.1 → held.new.waits ≡ []) }
+        // All that the log device knows to be sent is taken in, or as much as one turn takes.
+        ensures all { IfOk result (λ r. IsTrue r.1 → ((rest : List LogRecord) × (held.new.got ≡ held.old.met ++ rest)) ⊎ (length held.old.got + 65535 < length held.new.got)) }
         ensures unforced { OnErr result ((held.new.stable ≡ held.old.stable) × (held.new.told ≡ held.old.told)) }
         ensures breaks { IfErr result (λ fault. IsTrue held.new.failed ↔ (fault ≡ Fault.Device)) }
     {
-        let taken = matches!(take_all(rt, held, MOST_TAKEN), Ok(_));
+        let taken = take_all(rt, held, MOST_TAKEN).is_ok();
         gate.pass(Place::Sync(Role::LogWriter));
         let forced = held.force(alloc)?;
         self.count_going_on(asking);
@@ -73,11 +77,12 @@ impl<N: Numbers, B: Named, T: Tail, L: Disk, V: Disk> Shared<N, B, T, L, V> {
         Ok((forced, taken))
     }
 
-    // The log device has failed: the core refuses calls from now on, and who waits for a lock goes on to be told.
+    // The log device has failed: the core refuses calls from now on, who waits for the log finds it, and who waits for a lock goes on to be told.
     pub(crate) fn fail_held(&self, core: &mut CoreHeld<B, T, V>)
-        ensures { IsTrue (has_failed core.new.core) }
+        ensures fails { IsTrue (has_failed core.new.core) }
+        ensures told { core.new.book.failing ≡ true }
     {
-        core.fail();
+        core.fail(&self.words);
         self.wake_let_through(core);
     }
 }
@@ -111,7 +116,7 @@ pub(crate) fn checkpoint_held<N: Numbers, B: Named, R: Wait + Copy, L: Disk, V: 
     core: &mut CoreHeld<B, QueueTail<N, B, R>, V>,
     held: &mut LogHeld<N, B, L>,
 ) -> (Step, bool)
-    requires { (words.now.table.shared.table_id ≡ B.table) × (3 < B.table.words) }
+    requires { (words.now.table.shared.table_id ≡ B.table) × (4 < B.table.words) }
     ensures noted { held.old.failed ≡ false → GoesOn (core.old.asked.items, core.old.stepped.items) (core.new.asked.items, core.new.stepped.items) ((Asked.Checkpoint, 0) ∷ []) ((result.0, 0) ∷ []) }
     ensures failed { result.1 ≡ held.new.failed }
 {

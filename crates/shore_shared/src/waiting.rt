@@ -1,5 +1,6 @@
 //! Waiting for the log and for locks, and waking who does.
-ghost use Rattle.std.specs.Prelude.{◌≡◌, ◌↔◌, ◌≤◌, IsTrue};
+ghost use Rattle.std.specs.Prelude.{◌≡◌, ◌↔◌, ◌≤◌, IsTrue, false, true};
+ghost use Rattle.shore_shared.specs.Heard.{AwaitsLock, HasLooked};
 
 use crate::shared::{NEWS, Shared, sleeper_of};
 use shore_core::{Step, Wait as Awaits};
@@ -29,7 +30,7 @@ const GIVES_MICROS: u64 = 200;
 const MOST_WAITING: u32 = 2_000;
 
 impl<N: Numbers, B: Named, T: Tail, L: Disk, V: Disk> Shared<N, B, T, L, V> {
-    /// Waits until the number is durable. False if a device has failed meanwhile. `spared` is how many waits to come spare their looks, as the waiter keeps it between its waits: 0 in
+    /// Waits until the number is durable. False if a device has failed, as the seat has found then. `spared` is how many waits to come spare their looks, as the waiter keeps it between its waits: 0 in
     /// the beginning.
     pub fn wait_for(
         &self,
@@ -39,7 +40,8 @@ impl<N: Numbers, B: Named, T: Tail, L: Disk, V: Disk> Shared<N, B, T, L, V> {
         number: Lsn,
     ) -> bool
         ensures seen { IsTrue result ↔ (number ≤ seat.new.seen) }
-        ensures seat { (seat.new ≡ record seat.old { seen = seat.new.seen }) × (seat.old.seen ≤ seat.new.seen) }
+        ensures failed { result ≡ false → seat.new.failed ≡ true }
+        ensures seat { HasLooked seat.old seat.new }
     {
         if self.looks_for(seat, number, 0) {
             return true;
@@ -60,7 +62,7 @@ impl<N: Numbers, B: Named, T: Tail, L: Disk, V: Disk> Shared<N, B, T, L, V> {
                 self.count_answered(turn);
                 return true;
             }
-            if self.has_failed() {
+            if self.has_failed(seat) {
                 return false;
             }
             self.sleepers.sleep(rt, NEWS, glanced);
@@ -127,6 +129,8 @@ pub(crate) fn may_let_through(step: &Step) -> bool {
 }
 
 // Whether the call waits for a lock.
-pub(crate) fn waits_for_lock(step: &Step) -> bool {
+pub(crate) fn waits_for_lock(step: &Step) -> bool
+    ensures { IsTrue result ↔ AwaitsLock step.now }
+{
     matches!(step, Step::Waits(Awaits::Lock(_)))
 }

@@ -1,8 +1,8 @@
 //! The workers: each turns until the stop is asked for.
-ghost use Rattle.std.specs.Prelude.{◌≡◌, ◌≤◌, true, IfOk, OnErr};
+ghost use Rattle.std.specs.Prelude.{◌≡◌, ◌≤◌, ◌<◌, Ok, true};
 
 use crate::gate::{Gate, Place, Role};
-use crate::shared::{CHECKPOINTER, FLUSHER, NEWS, Shared, WRITER};
+use crate::shared::{CHECKPOINTER, FLUSHER, Shared, WRITER};
 use crate::turns::{checkpoint_held, flush_held, is_device, is_due};
 use shore_core::{Answer, Step};
 use shore_disk::Disk;
@@ -32,13 +32,14 @@ impl<N: Numbers, B: Named, T: Tail, L: Disk, V: Disk> Shared<N, B, T, L, V> {
     pub fn log_writer(&self, rt: &impl Wait, alloc: Global, seat: &mut Seat<B>, gate: &impl Gate)
         ensures { seat.new ≡ record seat.old { stopped = true } }
     {
+        let mut known = seat.reader(&self.words);
         for _ in rt.forever() {
             let glanced = self.sleepers.glance(WRITER);
             gate.pass(Place::Turn(Role::LogWriter));
             if seat.stopping(&self.words) {
                 return;
             }
-            match self.write_turn(rt, alloc, gate) {
+            match self.write_turn(rt, alloc, gate, &mut known) {
                 Ok(true) => {}
                 Ok(false) => self.sleepers.sleep(rt, WRITER, glanced),
                 Err(fault) => {
@@ -50,15 +51,26 @@ impl<N: Numbers, B: Named, T: Tail, L: Disk, V: Disk> Shared<N, B, T, L, V> {
         unreachable!()
     }
 
-    // One turn of the log writer. False if no record waited.
-    fn write_turn(&self, rt: &impl Wait, alloc: Global, gate: &impl Gate) -> Result<bool, Fault> {
+    // One turn of the log writer. False if no record waited. The seat has seen what was told by then: if there is news, more than before.
+    fn write_turn(
+        &self,
+        rt: &impl Wait,
+        alloc: Global,
+        gate: &impl Gate,
+        known: &mut Seat<B>,
+    ) -> Result<bool, Fault>
+        ensures rises { known.old.seen ≤ known.new.seen }
+        ensures news { result ≡ Ok true → known.old.seen < known.new.seen }
+    {
         self.gather();
         let mut held = self.log.lock(rt);
+        held.compare(&self.words, known);
         let asking = self.take_asking();
         let (forced, _) = self.write_held(rt, alloc, gate, asking, &mut held)?;
+        *known = held.seat(&self.words);
         drop(held);
         if forced {
-            self.sleepers.wake(NEWS);
+            self.wake_waiting();
         }
         Ok(forced)
     }
@@ -69,7 +81,7 @@ impl<N: Numbers, B: Named, T: Tail, L: Disk, V: Disk> Shared<N, B, T, L, V> {
             let mut core = self.lock_core(rt);
             self.fail_held(&mut core);
             drop(core);
-            self.tell_failed();
+            self.wake_waiting();
         }
     }
 
@@ -209,7 +221,7 @@ impl<N: Numbers, B: Named, R: Wait + Copy, L: Disk, V: Disk> Shared<
             // The log writer may have met the failure a moment ago: nobody is told of it before the core refuses calls.
             self.fail_held(&mut core);
             drop(core);
-            self.tell_failed();
+            self.wake_waiting();
         }
         step
     }

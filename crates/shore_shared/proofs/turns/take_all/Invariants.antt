@@ -1,6 +1,6 @@
-use Rattle.std.proofs.Common.{◌≡◌, []}
+use Rattle.std.proofs.Common.{◌≡◌, ◌≤◌, ◌+◌, length}
 use Rattle.shore_shared.proofs.turns.take_all.Given as goal
 
-abbrev pub invariant-loop : goal.invariant-loop
-invariant-loop g l = (l.held.waits ≡ []) × (l.held.anchors ≡ l.fn.held.anchors) × (l.held.cut ≡ l.fn.held.cut) × (l.held.stable ≡ l.fn.held.stable) × (l.held.told ≡ l.fn.held.told)
-    × (l.held.failed ≡ l.fn.held.failed) × (l.held.history ≡ l.fn.held.history)
+abbrev pub invariant-loop-count : goal.invariant-loop-count
+invariant-loop-count g l = (length l.fn.held.got + l.count ≤ length l.held.got) × (l.held.met ≡ l.fn.held.met) × (l.held.anchors ≡ l.fn.held.anchors) × (l.held.cut ≡ l.fn.held.cut) × (l.held.stable ≡ l.fn.held.stable)
+    × (l.held.told ≡ l.fn.held.told) × (l.held.failed ≡ l.fn.held.failed) × (l.held.history ≡ l.fn.held.history)

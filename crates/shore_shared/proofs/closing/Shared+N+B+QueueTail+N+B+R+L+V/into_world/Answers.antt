@@ -18,7 +18,8 @@ use Rattle.shore_words.specs.declared.rule.Known.{Known}
 use Rattle.shore_held.proofs.Aims.{aimed}
 use Rattle.shore_held.specs.Comings.{HasAim, HasComeBy, IsAimOf, anchored_at}
 use Rattle.shore_held.specs.Logs.{IsKept, LogState}
-use Rattle.shore_held.specs.Trails.{moves_of}
+use Rattle.shore_held.specs.Trails.{calls_in, moves_of, noted_in}
+use Rattle.shore_words.specs.Words.{AreBy}
 use Rattle.shore_shared.proofs.Lives.{ended}
 use Rattle.shore_shared.proofs.closing.Shared+N+B+QueueTail+N+B+R+L+V.into_world.Goals as goal
 
@@ -30,18 +31,18 @@ returns-clause-ended g c =
     let f = c.from_parts.ensures in
     let t = c.with_tail-core.ensures in
     let e = c.in_default.ensures in
-    let i = c.none.new.self in
+    let i = c.none-none.new.self in
     let held = c.gathered-calls.new.held in
     let same = c.gathered-calls.ensures.same in
     let core = c.into_core-core.result.0 in
     let log = c.into_log-log.result in
     let l = c.into_log-log.ensures in
     let trail = moves_of i.asked.items i.stepped.items in
-    let q = c.into_core-core.ensures.core.0 in
-    let stage = f.2 ∙ c.into_core-core.ensures.core.1 in
+    let q = c.into_core-core.ensures.core.0 ∙ c.gathered-calls.ensures.core.0 in
+    let stage = f.2 ∙ c.into_core-core.ensures.core.1 ∙ c.gathered-calls.ensures.core.1 in
     let anchor : anchored_at i.seat.kept ≡ anchored_by (anchor_in w) =
-    ap (λ v. anchored_at v.kept) c.none.ensures.same.3 ∙ ap anchored_at e.anchor ∙ sym (ap (λ (x : Anchors). anchored_by x.anchor) (l.log.0 ∙ ap (λ (x : LogState). x.anchors) same)) ∙ sym (ap (λ x. anchored_by x.anchors.anchor) f.1) in
-    let aim : i.seat.kept.aim ≡ held.aim = ap (λ (k : Known). k.aim) (ap (λ v. v.kept) c.none.ensures.same.3 ∙ e.anchor) ∙ ap (λ (x : LogState). x.aim) (sym same) in
+    ap (λ v. anchored_at v.kept) c.none-none.ensures.same.3 ∙ ap anchored_at e.anchor ∙ sym (ap (λ (x : Anchors). anchored_by x.anchor) (l.log.0 ∙ ap (λ (x : LogState). x.anchors) same)) ∙ sym (ap (λ x. anchored_by x.anchors.anchor) f.1) in
+    let aim : i.seat.kept.aim ≡ held.aim = ap (λ (k : Known). k.aim) (ap (λ v. v.kept) c.none-none.ensures.same.3 ∙ e.anchor) ∙ ap (λ (x : LogState). x.aim) (sym same) in
     let durable : durable_in w ≡ durable_of i.core = ap durable_of f.0 ∙ t.durable ∙ ap durable_of q in
     let aims : HasAim held.aim → ∥ IsAimOf w.stage (durable_in w) held.aim ∥₁ =
     subst (λ (x : Stage × ℕ × (ℕ × ℕ)). HasAim x.2 → ∥ IsAimOf x.0 x.1 x.2 ∥₁) (λ j. (sym stage j, sym durable j, aim j)) i.aims in
@@ -49,14 +50,18 @@ returns-clause-ended g c =
     let bytes : size (history_in w) ≡ g.B.Named.log_bytes = ap (λ x. size (g.L.Disk.history x.device)) f.1 ∙ l.long in
     let gone = e.records.0 in
     let records : kept ++ waiting_of core ≡ gone ++ records_of_log w.log =
-    ap (λ x. kept ++ waiting_of x) (q ∙ c.none.ensures.core.0) ∙ e.records.1
+    ap (λ x. kept ++ waiting_of x) (q ∙ c.none-none.ensures.core.0) ∙ e.records.1
     ∙ ap (λ (x : List LogRecord). gone ++ x) (ap (λ (x : LogState). x.list) (sym same) ∙ l.log.3 ∙ ap (λ (x : List LogRecord). records_of_log log ++ x) (ap (λ (x : LogState). x.waits) same ∙ e.taken) ∙ append-nil (records_of_log log) ∙ sym (ap records_of_log f.1)) in
-    let failed = ap has_failed f.0 ∙ t.running ∙ ap has_failed (q ∙ c.none.ensures.core.0) in
-    let counted = sym (sym c.gathered-calls.ensures.amount ∙ c.into_core-core.ensures.counted) in (
+    let failed = ap has_failed f.0 ∙ t.running ∙ ap has_failed (q ∙ c.none-none.ensures.core.0) in
+    let counted = sym (sym c.gathered-calls.ensures.amount ∙ c.into_core-core.ensures.counted ∙ ap calls_in c.gathered-calls.ensures.trail.0) in (
       i.asked.items,
       i.stepped.items,
       i.as_many,
       counted,
+      c.gathered-calls.ensures.heard,
+      subst (λ n. AreBy n (noted_in i.asked.items i.stepped.items)) (c.none-none.ensures.same.1 ∙ e.whole ∙ c.len.ensures) c.gathered-calls.ensures.by,
+      λ told. ap has_failed f.0 ∙ t.running ∙ ap has_failed q ∙ i.fails told,
+      c.gathered-calls.ensures.failed,
       λ start honest. ∥∥₁_elim (aimed held.aim aims) ∥∥₁_prop (λ there. ∥∥₁_map₂ (i.come_by start honest) (l.kept start honest) (λ h k.
           ended cut kept core w i.asked.items i.stepped.items
           (subst (λ x. HasComeBy start cut kept x w.stage (anchored_by (anchor_in w)) trail) (sym q)
@@ -73,14 +78,14 @@ returns-clause-ended g c =
 pub returns-clause-seen : goal.returns-clause-seen
 returns-clause-seen g c =
     let w = c.from_parts.result in
-    let core = c.into_core-core.ensures.core.0 ∙ c.none.ensures.core.0 in
+    let core = c.into_core-core.ensures.core.0 ∙ c.gathered-calls.ensures.core.0 ∙ c.none-none.ensures.core.0 in
     let durable : durable_in w ≡ durable_of c.end.new.core.core = ap durable_of c.from_parts.ensures.0 ∙ c.with_tail-core.ensures.durable ∙ ap durable_of core in
     subst (λ n. All (λ s. s.seat.seen ≤ n) c.args.sessions.items) (c.in_default.ensures.durable.1 ∙ sym durable) c.gathered-calls.ensures.seen
 
 pub returns-clause-layout : goal.returns-clause-layout
 returns-clause-layout g c =
-    let i = c.none.new.self in
+    let i = c.none-none.new.self in
     let f = c.from_parts.ensures in (
-      ap geometry_of f.0 ∙ ap heaps.geometry_of c.with_tail-core.ensures.heap ∙ ap geometry_of c.into_core-core.ensures.core.0 ∙ i.layout,
+      ap geometry_of f.0 ∙ ap heaps.geometry_of c.with_tail-core.ensures.heap ∙ ap geometry_of (c.into_core-core.ensures.core.0 ∙ c.gathered-calls.ensures.core.0) ∙ i.layout,
       ap (λ x. size (g.L.Disk.history x.device)) f.1 ∙ c.into_log-log.ensures.long,
     )

@@ -14,7 +14,7 @@ returns-clause-kept g c opening found entries up =
     let p = c.into_parts-core.ensures in
     let r = c.into_parts-core.result in
     subst (λ x. AreKept (begins_with up) x r.1 r.2) (sym p.0) (subst (λ x. AreKept (begins_with up) w.core x r.2) (sym p.1) (subst (λ x. AreKept (begins_with up) w.core w.log x) (sym p.2)
-    (are_kept c.args.world w e.unchanged e.emptied e.running.0 e.running.1 opening found entries up)))
+    (are_kept c.args.world w e.unchanged e.emptied e.running.0 opening found entries up)))
 
 pub returns-clause-layout : goal.returns-clause-layout
 returns-clause-layout g c =
