@@ -27,6 +27,11 @@ pub struct Rounds<'a> {
 impl<'a> Job for Rounds<'a> {
     type Done = Span;
 
+    ghost use Rattle.std.specs.Prelude.{⊤};
+
+    // Nothing is claimed of it.
+    ghost says = { λ _ _ _ _ _. ⊤ };
+
     fn work<C: Client>(&self, alloc: Global, number: usize, client: &mut C) -> Result<Span, Fault> {
         let nth = if self.plan.work == Work::Record {
             0

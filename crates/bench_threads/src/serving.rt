@@ -26,9 +26,9 @@ pub fn run<R: Threads + Wait + Sync + Send + Copy>(
     let (left, filled) = serve(threads, host.alloc(), world, 1, &[Fill { plan }]);
     match (left, filled) {
         (Left::World(world), Ok(filled)) => go_on(threads, host, world, plan, filled),
-        (left, Ok(_)) => {
-            let _files = left.into_devices();
-            Err(Fault::Memory)
+        (Left::Devices(log, volume, fault), Ok(_)) => {
+            let _files = (log, volume);
+            Err(fault)
         }
         (left, Err(fault)) => {
             let _files = left.into_devices();

@@ -60,6 +60,11 @@ pub struct Fill {
 impl Job for Fill {
     type Done = Vec<Rid>;
 
+    ghost use Rattle.std.specs.Prelude.{⊤};
+
+    // Nothing is claimed of it.
+    ghost says = { λ _ _ _ _ _. ⊤ };
+
     fn work<C: Client>(
         &self,
         alloc: Global,

@@ -1,1 +1,3 @@
+pub mod Counted
 mod ForceLemmas
+pub mod Served

@@ -260,7 +260,7 @@ impl Manager {
         let (left, counted) = count_up(rt, alloc, world, counting);
         let (access, refused) = match left {
             Left::World(world) => boxed(alloc, world, checkpoint),
-            Left::Devices(log, volume) => (Access::Closed(log, volume), None),
+            Left::Devices(log, volume, fault) => (Access::Closed(log, volume), Some(fault)),
         };
         self.access = access;
         match refused {

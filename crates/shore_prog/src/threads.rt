@@ -5,7 +5,9 @@ ghost use Rattle.shore_types.specs.declared.layout.TheConstants.{MAX_SLOTS};
 ghost use Rattle.shore_types.specs.declared.faults.Fault.TheVariants as Fault;
 ghost use Rattle.shore_world.specs.Counts.{transactions_in};
 ghost use Rattle.shore_world.specs.Worlds.{failed_in};
+ghost use Rattle.shore_shared.specs.Remains.{IfDevices, IfWorld};
 ghost use Rattle.shore_prog.specs.Counting.{HasBytesAt};
+ghost use Rattle.shore_prog.specs.Served.{HasCounted, MayBeOpened};
 
 use crate::crew::CountUp;
 use crate::devices::ScriptDisk;
@@ -92,8 +94,14 @@ pub fn count_up<R: Threads + Wait + Sync + Send + Copy>(
     alloc: Global,
     world: ScriptWorld,
     counting: Counting,
-) -> (Left, Result<(), Fault>) {
+) -> (Left, Result<(), Fault>)
+    ensures world { IfWorld result.0 (HasCounted world counting result.1) }
+    ensures devices { IfDevices result.0 (MayBeOpened world counting result.1) }
+{
     let threads = counting.threads;
     let (left, served) = serve(rt, alloc, world, threads, &[CountUp { counting }]);
-    (left, served.map(|_| ()))
+    match served {
+        Ok(_) => (left, Ok(())),
+        Err(fault) => (left, Err(fault)),
+    }
 }

@@ -1,4 +1,13 @@
 //! What each client does, without an end.
+ghost use Rattle.std.specs.Prelude.{◌≡◌, ◌≢◌, ◌≤◌, ◌<◌, ◌^◌, ◌++◌, ◌∷◌, [], IfOk, List, MatchOption, MatchResult, Ok, length};
+ghost use Rattle.std.specs.Int.{to_le_bytes, w64};
+ghost use Rattle.shore_types.specs.declared.faults.Fault.TheVariants as Fault;
+ghost use Rattle.shore_model.specs.declared.calls.Answer.TheVariants as Answer;
+ghost use Rattle.shore_model.specs.declared.calls.Call.TheVariants as Call;
+ghost use Rattle.shore_model.specs.declared.calls.Exchange.{Exchange};
+ghost use Rattle.turmoil.specs.Commits.{ComesTo, CommitNothing, HasBegun, HasCommittedNothing, IsNoted};
+ghost use Rattle.turmoil.specs.Commits as commits;
+
 use shore_disk::{Disk, FileCause, FileDisk, FilePlace};
 use shore_model::{Answer, Call};
 use shore_shared::{Client, Job};
@@ -40,9 +49,14 @@ pub struct Turmoil<'r, 'f> {
 }
 
 impl<'r, 'f> Job for Turmoil<'r, 'f> {
-    type Done = ();
+    // How many commits its last notes tell.
+    type Done = u64;
 
-    fn work<C: Client>(&self, alloc: Global, number: usize, client: &mut C) -> Result<(), Fault> {
+    ghost use Rattle.turmoil.specs.Commits.{IsNoted};
+
+    ghost says = { λ _ number commits es seen. IsNoted seen.durable number commits es };
+
+    fn work<C: Client>(&self, alloc: Global, number: usize, client: &mut C) -> Result<u64, Fault> {
         let mut file = self.note_file(number)?;
         let mut notes = Notes {
             commits: commits_of(client, number)?,
@@ -52,9 +66,9 @@ impl<'r, 'f> Job for Turmoil<'r, 'f> {
         };
         for turn in number as u64..u64::MAX {
             take_turn(alloc, client, number, turn, &mut notes)?;
-            write_notes(&mut file, &notes)?;
+            write_notes(&mut file, &*client, number, &notes)?;
         }
-        Ok(())
+        Ok(notes.commits)
     }
 }
 
@@ -78,8 +92,15 @@ fn of_device<T>(answer: Result<T, FileCause>) -> Result<T, Fault> {
     }
 }
 
-// A file that somebody has cut has no room for them.
-fn write_notes(file: &mut FileDisk, notes: &Notes) -> Result<(), Fault> {
+// They tell of a client, after what it was told, and are of its number. A file that somebody has cut has no room for them.
+fn write_notes<C: Client>(
+    file: &mut FileDisk,
+    _client: &C,
+    _number: usize,
+    notes: &Notes,
+) -> Result<(), Fault>
+    requires { IsNoted (C.known _client.now).durable _number notes.now.commits (C.told _client.now) }
+{
     if file.len() < NOTE_BYTES as u64 {
         return Err(Fault::Device);
     }
@@ -87,38 +108,55 @@ fn write_notes(file: &mut FileDisk, notes: &Notes) -> Result<(), Fault> {
     Ok(())
 }
 
-fn text_of(notes: &Notes) -> [u8; NOTE_BYTES] {
-    let (commits, victims) = (notes.commits.to_le_bytes(), notes.victims.to_le_bytes());
-    let (aborts, backs) = (notes.aborts.to_le_bytes(), notes.backs.to_le_bytes());
-    let mut text = [0u8; NOTE_BYTES];
-    for at in 0..8 {
-        text[at] = commits[at];
-        text[8 + at] = victims[at];
-        text[16 + at] = aborts[at];
-        text[24 + at] = backs[at];
-    }
+#[tactic(auto, unfolding(crate::specs::Commits::text_of))]
+fn text_of(notes: &Notes) -> [u8; NOTE_BYTES]
+    ensures { result ≡ commits.text_of notes.now }
+{
+    let mut text = [0; NOTE_BYTES];
+    text[0..8].copy_from_slice(&notes.commits.to_le_bytes());
+    text[8..16].copy_from_slice(&notes.victims.to_le_bytes());
+    text[16..24].copy_from_slice(&notes.aborts.to_le_bytes());
+    text[24..32].copy_from_slice(&notes.backs.to_le_bytes());
     text
 }
 
-// How many commits the client's counters tell.
-fn commits_of(client: &mut impl Client, number: usize) -> Result<u64, Fault> {
+// How many commits the client's counters tell, modulo 2 to the 64th.
+fn commits_of<C: Client>(client: &mut C, number: usize) -> Result<u64, Fault>
+    requires { C.told client.old ≡ [] }
+    ensures { IfOk result (λ begun. HasBegun number begun (C.told client.new)) }
+{
     client.call(Call::Begin)?;
     let mut commits = 0u64;
     for from in 0..ACCOUNTS {
-        commits = commits.wrapping_add(number_in(&client.call(Call::Get(counter(number, from)))?));
+        commits = commits.wrapping_add(number_at(client, counter(number, from))?);
     }
     client.call(Call::Abort)?;
     Ok(commits)
 }
 
-// A transaction. One that is a victim, or finds the log full, is rolled back.
-fn take_turn(
+fn number_at<C: Client>(client: &mut C, id: Rid) -> Result<u64, Fault>
+    ensures { IfOk result (λ has. (has < 2 ^ 64) × (C.told client.new ≡ C.told client.old ++ record { call = Call.Get id; reply = Ok (Answer.Got (to_le_bytes w64 has)) } ∷ [])) }
+{
+    let Answer::Got(bytes) = client.call(Call::Get(id))? else {
+        return Err(Fault::NotQuiet);
+    };
+    let Some(has) = number_of(bytes.as_slice()) else {
+        return Err(Fault::NoRecord);
+    };
+    Ok(has)
+}
+
+// A transaction. One that is a victim, or finds the log full, is rolled back. A commit is counted if it was answered and is durable, and none else.
+fn take_turn<C: Client>(
     alloc: Global,
-    client: &mut impl Client,
+    client: &mut C,
     number: usize,
     turn: u64,
     notes: &mut Notes,
-) -> Result<(), Fault> {
+) -> Result<(), Fault>
+    ensures told { (es : List Exchange) × (C.told client.new ≡ C.told client.old ++ es) × IfOk result (λ _. ComesTo (C.known client.new).durable notes.old.commits notes.new.commits es) }
+    ensures known { (C.known client.old).durable ≤ (C.known client.new).durable }
+{
     match transaction(alloc, client, number, turn, notes) {
         Err(Fault::Deadlock { .. }) => {
             notes.victims = notes.victims.saturating_add(1);
@@ -135,38 +173,87 @@ fn take_turn(
     }
 }
 
-// One account gives another a unit, and the client's counter for that account tells how often it made it do so.
-fn transaction(
+// The client's counter for the account that gives tells how often it made it do so. In some turns all is rolled back.
+fn transaction<C: Client>(
     alloc: Global,
-    client: &mut impl Client,
+    client: &mut C,
     number: usize,
     turn: u64,
     notes: &mut Notes,
-) -> Result<(), Fault> {
+) -> Result<(), Fault>
+    ensures told { (es : List Exchange) × (C.told client.new ≡ C.told client.old ++ es)
+        × MatchResult result (λ _. ComesTo (C.known client.new).durable notes.old.commits notes.new.commits es)
+        (λ fault. (notes.new.commits ≡ notes.old.commits) × (fault ≢ Fault.Device → fault ≢ Fault.NotQuiet → CommitNothing es)) }
+    ensures known { (C.known client.old).durable ≤ (C.known client.new).durable }
+{
     let from = (turn % ACCOUNTS as u64) as u16;
-    client.call(Call::Begin)?;
-    add(alloc, client, account(from), u64::MAX)?;
-    if turn % BACK == 0 {
-        client.call(Call::Savepoint)?;
-        add(alloc, client, account(from), 500)?;
-        client.call(Call::BackTo(0))?;
-        notes.backs = notes.backs.saturating_add(1);
-    }
-    add(alloc, client, account(from ^ 1), 1)?;
+    transfer(alloc, client, from, turn, notes)?;
     if turn % ABORTED == 0 {
         client.call(Call::Abort)?;
         notes.aborts = notes.aborts.saturating_add(1);
         return Ok(());
     }
     add(alloc, client, counter(number, from), 1)?;
-    client.commit_durable()?;
-    notes.commits = notes.commits.wrapping_add(1);
+    match client.commit_durable() {
+        Ok(_) => {
+            notes.commits = notes.commits.wrapping_add(1);
+            Ok(())
+        }
+        Err(fault) => Err(fault),
+    }
+}
+
+// A transaction begins, in which this account gives another a unit.
+fn transfer<C: Client>(
+    alloc: Global,
+    client: &mut C,
+    from: u16,
+    turn: u64,
+    notes: &mut Notes,
+) -> Result<(), Fault>
+    ensures nothing { HasCommittedNothing (C.told client.old) (C.told client.new) }
+    ensures known { (C.known client.old).durable ≤ (C.known client.new).durable }
+    ensures same { notes.new.commits ≡ notes.old.commits }
+{
+    client.call(Call::Begin)?;
+    add(alloc, client, account(from), u64::MAX)?;
+    change_and_go_back(alloc, client, from, turn, notes)?;
+    add(alloc, client, account(from ^ 1), 1)
+}
+
+// In some turns the account is changed and that is gone back over.
+fn change_and_go_back<C: Client>(
+    alloc: Global,
+    client: &mut C,
+    from: u16,
+    turn: u64,
+    notes: &mut Notes,
+) -> Result<(), Fault>
+    ensures nothing { HasCommittedNothing (C.told client.old) (C.told client.new) }
+    ensures known { (C.known client.old).durable ≤ (C.known client.new).durable }
+    ensures same { notes.new.commits ≡ notes.old.commits }
+{
+    if turn % BACK != 0 {
+        return Ok(());
+    }
+    client.call(Call::Savepoint)?;
+    add(alloc, client, account(from), 500)?;
+    client.call(Call::BackTo(0))?;
+    notes.backs = notes.backs.saturating_add(1);
     Ok(())
 }
 
-fn add(alloc: Global, client: &mut impl Client, id: Rid, amount: u64) -> Result<(), Fault> {
-    let has = number_in(&client.call(Call::GetForUpdate(id))?).wrapping_add(amount);
-    client.call(Call::Update(id, bytes_of(alloc, has)?))?;
+fn add<C: Client>(alloc: Global, client: &mut C, id: Rid, amount: u64) -> Result<(), Fault>
+    ensures nothing { HasCommittedNothing (C.told client.old) (C.told client.new) }
+    ensures known { (C.known client.old).durable ≤ (C.known client.new).durable }
+{
+    let Answer::Got(bytes) = client.call(Call::GetForUpdate(id))? else {
+        return Err(Fault::NotQuiet);
+    };
+    let Some(has) = number_of(bytes.as_slice()) else {
+        return Err(Fault::NoRecord);
+    };
+    client.call(Call::Update(id, bytes_of(alloc, has.wrapping_add(amount))?))?;
     Ok(())
 }
 
@@ -178,7 +265,9 @@ fn account(slot: u16) -> Rid {
     Rid { page, slot }
 }
 
-fn counter(number: usize, from: u16) -> Rid {
+fn counter(number: usize, from: u16) -> Rid
+    ensures { result ≡ commits.counter number from }
+{
     let page = PageId {
         store: StoreId(1 + (number % MOST_CLIENTS) as u32),
         page: 0,
@@ -187,21 +276,18 @@ fn counter(number: usize, from: u16) -> Rid {
 }
 
 /// The bytes of a number, the least first.
-pub fn bytes_of(alloc: Global, number: u64) -> Result<Bytes, Fault> {
+pub fn bytes_of(alloc: Global, number: u64) -> Result<Bytes, Fault>
+    ensures { IfOk result (λ bytes. bytes ≡ to_le_bytes w64 number) }
+{
     Ok(Sequence::from_vec(Vec::from_slice(alloc, &number.to_le_bytes())?))
 }
 
-/// .. and back.
-pub fn number_of(bytes: &[u8]) -> u64 {
+/// .. and back. None if these are not eight bytes.
+pub fn number_of(bytes: &[u8]) -> Option<u64>
+    ensures { MatchOption result (length bytes.now ≢ 8) (λ number. (number < 2 ^ 64) × (bytes.now ≡ to_le_bytes w64 number)) }
+{
     match bytes {
-        [a, b, c, d, e, f, g, h] => u64::from_le_bytes([*a, *b, *c, *d, *e, *f, *g, *h]),
-        _ => 0,
-    }
-}
-
-fn number_in(answer: &Answer) -> u64 {
-    match answer {
-        Answer::Got(bytes) => number_of(bytes.as_slice()),
-        _ => 0,
+        [a, b, c, d, e, f, g, h] => Some(u64::from_le_bytes([*a, *b, *c, *d, *e, *f, *g, *h])),
+        _ => None,
     }
 }

@@ -10,7 +10,7 @@ use clients::{MOST_CLIENTS, Turmoil, number_of};
 use filling::Fill;
 use shore_disk::{FileDisk, FilePlaces, open_files};
 use shore_shared::serve;
-use shore_types::{Geometry, Sequence, StoreId};
+use shore_types::{Fault, Geometry, Sequence, StoreId};
 use shore_world::{World, format, volume_bytes};
 use std::env;
 use std::sync::Wait;
@@ -94,10 +94,13 @@ fn show(rt: &HostRuntime, manager: &mut Manager) -> Result<()> {
         let pairs = manager.dump(rt.alloc(), StoreId(store as u32))?;
         for nth in 0..pairs.len() {
             if let Some((_, bytes)) = pairs.get(nth) {
+                let Some(number) = number_of(bytes) else {
+                    return Err(Error::from(Fault::NoRecord));
+                };
                 if store == 0 {
-                    println!(rt; "account {nth} {}", number_of(bytes))?;
+                    println!(rt; "account {nth} {number}")?;
                 } else {
-                    println!(rt; "counter {} {nth} {}", store - 1, number_of(bytes))?;
+                    println!(rt; "counter {} {nth} {number}", store - 1)?;
                 }
             }
         }
