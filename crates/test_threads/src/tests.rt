@@ -1,6 +1,7 @@
 mod crashes;
 mod frees;
 mod gates;
+mod gathers;
 mod life;
 mod prepares;
 mod queues;

@@ -22,6 +22,11 @@ struct Fill;
 impl Job for Fill {
     type Done = u64;
 
+    ghost use Rattle.std.specs.Prelude.{⊤};
+
+    // Nothing is claimed of it.
+    ghost says = { λ _ _ _ _ _. ⊤ };
+
     fn work<C: Client>(&self, alloc: Global, _number: usize, client: &mut C) -> Result<u64, Fault> {
         insert(alloc, client)?;
         let mut made = 0u64;

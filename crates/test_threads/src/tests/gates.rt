@@ -70,6 +70,11 @@ struct Task<'r, 'h, A: Abort> {
 impl<'r, 'h, A: Abort> Job for Task<'r, 'h, A> {
     type Done = ();
 
+    ghost use Rattle.std.specs.Prelude.{⊤};
+
+    // Nothing is claimed of it.
+    ghost says = { λ _ _ _ _ _. ⊤ };
+
     fn work<C: Client>(&self, alloc: Global, number: usize, client: &mut C) -> Result<(), Fault> {
         let stage = self.holding;
         if self.makes {

@@ -13,7 +13,7 @@ use shore_disk::{Disk, MemDisk};
 use shore_model::{Answer, Call};
 use shore_queue::{Numbers, QueueTail};
 use shore_shared::{
-    Client, Gate, Job, Named, Opened, Queued, Seat, Session, Shared, Taped, in_threads,
+    Client, Gate, Job, Named, Opened, Queued, Seat, Serves, Session, Shared, Taped, in_threads,
 };
 use shore_types::{Bytes, Fault, Geometry, PageId, Rid, Sequence, StoreId};
 use shore_world::{World, format, volume_bytes};
@@ -211,19 +211,27 @@ fn with_sessions<
             None => return Err(Fault::NotQuiet),
         }
     }
-    with_workers(rt, alloc, life, life, &mut sessions, jobs, gate)
+    with_workers(rt, alloc, life, sessions, jobs, gate)
 }
 
-// The workers of a manager, as what sends them to threads sees them: it need not look into the manager.
+// A manager as what starts its workers sees it: nobody has to look into it to send it to threads.
 trait Works<B: Named, R> {
+    fn seat_of(&self, rt: &R) -> Seat<B>;
+
     fn write_log<W: Gate>(&self, rt: &R, alloc: Global, seat: &mut Seat<B>, gate: &W);
 
     fn write_back<W: Gate>(&self, rt: &R, alloc: Global, seat: &mut Seat<B>, gate: &W);
 
     fn make_checkpoints<W: Gate>(&self, rt: &R, alloc: Global, seat: &mut Seat<B>, gate: &W);
+
+    fn stop(&self, seat: &mut Seat<B>);
 }
 
 impl<N: Numbers, B: Named, R: Wait + Copy> Works<B, R> for Life<N, B, R> {
+    fn seat_of(&self, rt: &R) -> Seat<B> {
+        self.seat(rt)
+    }
+
     fn write_log<W: Gate>(&self, rt: &R, alloc: Global, seat: &mut Seat<B>, gate: &W) {
         self.log_writer(rt, alloc, seat, gate);
     }
@@ -235,36 +243,42 @@ impl<N: Numbers, B: Named, R: Wait + Copy> Works<B, R> for Life<N, B, R> {
     fn make_checkpoints<W: Gate>(&self, rt: &R, alloc: Global, seat: &mut Seat<B>, gate: &W) {
         self.checkpointer(rt, alloc, seat, gate);
     }
+
+    fn stop(&self, seat: &mut Seat<B>) {
+        self.ask_stop(seat);
+    }
 }
 
 fn with_workers<
     'a,
-    N: Numbers + Send + Sync,
     B: Named + Send + Sync,
     R: Threads + Wait + Sync + Send + Copy,
-    S: Works<B, R> + Sync,
+    S: Works<B, R> + Serves<B, R> + Sync,
     J: Job + Sync,
     W: Gate + Sync,
 >(
     rt: R,
     alloc: Global,
-    life: &Life<N, B, R>,
-    works: &'a S,
-    sessions: &mut Vec<Session<B>>,
+    life: &'a S,
+    sessions: Vec<Session<B>>,
     jobs: &[J],
     gate: &'a W,
 ) -> Result<Vec<Vec<J::Done>>, Fault> {
-    let mut last = life.seat(&rt);
+    let mut last = life.seat_of(&rt);
     thread::scope(
         thread::scope_env(),
         &rt,
         move |scope| -> Result<Vec<Vec<J::Done>>, Fault>
-            requires { IsSend N.row × IsSend B.row × IsSend J.Done.row }
+            requires { IsSend B.row × IsSend J.Done.row }
         {
-            let (mut one, mut two, mut three) = (life.seat(&rt), life.seat(&rt), life.seat(&rt));
-            let writer = scope.spawn(move || works.write_log(&rt, alloc, &mut one, gate));
-            let flusher = scope.spawn(move || works.write_back(&rt, alloc, &mut two, gate));
-            let checkpointer = scope.spawn(move || works.make_checkpoints(
+            let (mut one, mut two, mut three) = (
+                life.seat_of(&rt),
+                life.seat_of(&rt),
+                life.seat_of(&rt),
+            );
+            let writer = scope.spawn(move || life.write_log(&rt, alloc, &mut one, gate));
+            let flusher = scope.spawn(move || life.write_back(&rt, alloc, &mut two, gate));
+            let checkpointer = scope.spawn(move || life.make_checkpoints(
                 &rt, alloc, &mut three, gate,
             ));
             let done = if writer.is_ok() && flusher.is_ok() && checkpointer.is_ok() {
@@ -272,7 +286,7 @@ fn with_workers<
             } else {
                 Err(Fault::Memory)
             };
-            life.ask_stop(&mut last);
+            life.stop(&mut last);
             done
         },
     )
@@ -280,20 +294,22 @@ fn with_workers<
 
 // Each job of all clients, in threads, once the one before it has ended.
 fn one_by_one<
-    N: Numbers + Send + Sync,
     B: Named + Send + Sync,
     R: Threads + Wait + Sync + Send + Copy,
+    S: Serves<B, R> + Sync,
     J: Job + Sync,
 >(
     rt: R,
     alloc: Global,
-    life: &Life<N, B, R>,
-    sessions: &mut Vec<Session<B>>,
+    life: &S,
+    sessions: Vec<Session<B>>,
     jobs: &[J],
 ) -> Result<Vec<Vec<J::Done>>, Fault> {
-    let mut done = Vec::new(alloc);
+    let (mut sessions, mut done) = (sessions, Vec::new(alloc));
     for job in jobs {
-        done.push(in_threads(rt, alloc, life, sessions, job)?)?;
+        let (back, came_to) = in_threads(rt, alloc, life, sessions, job);
+        sessions = back;
+        done.push(came_to?)?;
     }
     Ok(done)
 }

@@ -23,6 +23,11 @@ struct Decide;
 impl Job for Decide {
     type Done = u64;
 
+    ghost use Rattle.std.specs.Prelude.{⊤};
+
+    // Nothing is claimed of it.
+    ghost says = { λ _ _ _ _ _. ⊤ };
+
     fn work<C: Client>(&self, alloc: Global, number: usize, client: &mut C) -> Result<u64, Fault> {
         let mut right = 0u64;
         for round in 0..ROUNDS {

@@ -24,6 +24,11 @@ enum Task {
 impl Job for Task {
     type Done = Vec<u64>;
 
+    ghost use Rattle.std.specs.Prelude.{⊤};
+
+    // Nothing is claimed of it.
+    ghost says = { λ _ _ _ _ _. ⊤ };
+
     fn work<C: Client>(
         &self,
         alloc: Global,

@@ -21,6 +21,11 @@ enum Task {
 impl Job for Task {
     type Done = u64;
 
+    ghost use Rattle.std.specs.Prelude.{⊤};
+
+    // Nothing is claimed of it.
+    ghost says = { λ _ _ _ _ _. ⊤ };
+
     fn work<C: Client>(&self, alloc: Global, number: usize, client: &mut C) -> Result<u64, Fault> {
         match self {
             Task::Insert if number == 0 => insert(alloc, client)?,

@@ -27,6 +27,17 @@ fn what_is_told_is_seen(rt: HostRuntime) -> Result<(), Fail> {
     Ok(())
 }
 
+#[test]
+fn a_failure_is_found_once_it_was_told(rt: HostRuntime) -> Result<(), Fail> {
+    let (words, mut teller) = Words::new(rt.alloc(), 3, 0, 1)?;
+    let mut reader = words.reader(&mut teller);
+    assert!(rt; !words.has_failed(&mut reader));
+    words.tell_failure(&mut teller);
+    assert!(rt; words.has_failed(&mut reader));
+    assert!(rt; !words.stopping(&mut reader));
+    Ok(())
+}
+
 // Sleeps until the number is seen.
 fn wait_for<R: Wait>(
     rt: &R,
