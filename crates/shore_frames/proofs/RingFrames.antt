@@ -9,7 +9,7 @@ use Rattle.shore_logrec.specs.Text.{texts}
 use Rattle.shore_frames.specs.Frames.{AreGroups, Frames, GivesBehindFrom, GivesFrom, GivesWithOrWithoutFrom, behind_gate, joined, number_behind, text}
 use Rattle.shore_frames.proofs.FrameLemmas.{AreGroups-front, closed_behind, groups_behind, joined-push, parts_of, text-append, text-push}
 use Rattle.shore_frames.specs.Places.{from_place, stream_of, turned_by}
-use Rattle.shore_frames.specs.Rings.{IsRing, IsRingWritten, TornRing}
+use Rattle.shore_frames.specs.Rings.{IsRing, IsRingWritten, TornBoth, TornRing}
 use Rattle.shore_frames.proofs.Turns.{from_further, length-from_place, seen_earlier, turned_parts}
 
 -- a ring has a byte at least
@@ -82,6 +82,24 @@ module _ (image : List ℕ) (tail place : ℕ) (some : 0 < length (stream_of ima
             )
           ]
 
+      -- where the next frame's bytes go
+      abbrev next_at : ℕ
+      next_at = len + 1 + length (behind_gate (number_behind tail gs) (texts g)) + 1
+
+      -- behind the gate that is closed behind it anything may be written: it stands there as before
+      pub behind_frame_written : (new bytes : List ℕ) → IsRingWritten (place + next_at) bytes image new → next_at + length bytes ≤ length (stream_of image)
+          → from_place place (stream_of new) ≡ text tail gs ++ gate ∷ (behind_gate (number_behind tail gs) (texts g) ++ 0 ∷ (bytes ++ drop (length bytes) rest))
+      behind_frame_written new bytes w within =
+          let body = behind_gate (number_behind tail gs) (texts g) in
+          let before = text tail gs ++ gate ∷ (body ++ 0 ∷ []) in
+          let whole : (more : List ℕ) → before ++ more ≡ text tail gs ++ gate ∷ (body ++ 0 ∷ more) =
+          λ more. append_assoc (text tail gs) (gate ∷ (body ++ 0 ∷ [])) more ∙ ap (λ (l : List ℕ). text tail gs ++ gate ∷ l) (append_assoc body (0 ∷ []) more) in
+          let size : length before ≡ next_at = omega (arith, length-append (text tail gs) (gate ∷ (body ++ 0 ∷ [])), length-append body (0 ∷ [])) in
+          row new bytes next_at w within
+          ∙ ap (λ (l : List ℕ). overwritten l next_at bytes) (stands ∙ sym (whole rest))
+          ∙ overwritten-append before rest next_at bytes size
+          ∙ whole (bytes ++ drop (length bytes) rest)
+
       -- .. and once it is open, the ring has one frame more
       pub ring_opened : (new : List ℕ) → IsRingWritten (place + len) (OPEN ∷ []) image new → IsRing (stream_of new) tail place (gs ++ g ∷ [])
       ring_opened new w = record {
@@ -114,6 +132,34 @@ module _ (front image : List ℕ) (is_front : take 4096 image ≡ front) (tail p
       let w : IsRingWritten (place + length (text tail gs)) (b.0 ∷ []) image new = subst (λ bytes. IsRingWritten (place + length (text tail gs)) bytes image new) b.1 torn.2 in
       ⊎_elim (λ without. inl (w.front ∙ is_front, without)) (λ with_it. inr (w.front ∙ is_front, with_it))
       (any_gate image tail place some gs g are gate rest stands fits new b.0 w)
+
+-- ---- the gate is opened, and the next frame is staged, by one sync
+
+module _ (image : List ℕ) (tail place : ℕ) (some : 0 < length (stream_of image)) (gs : List (List LogRecord)) (g : List LogRecord) (are : AreGroups tail (gs ++ g ∷ [])) (gate : ℕ) (rest : List ℕ)
+    (stands : from_place place (stream_of image) ≡ text tail gs ++ gate ∷ (behind_gate (number_behind tail gs) (texts g) ++ 0 ∷ rest)) (fits : length (text tail gs) + 1 ≤ length (stream_of image)) where
+  abbrev behind : ℕ
+  behind = length (text tail gs) + 1 + length (behind_gate (number_behind tail gs) (texts g)) + 1
+
+  -- cut off anywhere: the records with the frame or without it
+  pub both_torn : (front : List ℕ) → take 4096 image ≡ front → (n : ℕ) (new : List ℕ) → behind + n ≤ length (stream_of image)
+      → TornBoth (place + behind) n (place + length (text tail gs)) image new → GivesWithOrWithoutFrom front tail place (joined gs) g new
+  both_torn front is_front n new within torn =
+      let mid = torn.0 in
+      let one = torn.1 in
+      let bytes = one.0 in
+      let size : length bytes ≡ n = one.1 in
+      let as_long : length (stream_of mid) ≡ length (stream_of image) = omega (arith, length-drop 4096 image, length-drop 4096 mid, one.2.as_long) in
+      let seen = behind_frame_written image tail place some gs g are gate rest stands fits mid bytes one.2 (omega (arith, size)) in
+      open_torn front mid (one.2.front ∙ is_front) tail place (omega (arith, as_long)) gs g are gate (bytes ++ drop (length bytes) rest) seen (omega (arith, as_long)) new torn.2
+
+  -- and then the frame is open, and these bytes stand behind the closed gate that is behind it
+  pub both_seen : (bytes mid new : List ℕ) → behind + length bytes ≤ length (stream_of image) → IsRingWritten (place + behind) bytes image mid → IsRingWritten (place + length (text tail gs)) (OPEN ∷ []) mid new
+      → from_place place (stream_of new) ≡ text tail (gs ++ g ∷ []) ++ 0 ∷ (bytes ++ drop (length bytes) rest)
+  both_seen bytes mid new within one two =
+      let as_long : length (stream_of mid) ≡ length (stream_of image) = omega (arith, length-drop 4096 image, length-drop 4096 mid, one.as_long) in
+      let seen = behind_frame_written image tail place some gs g are gate rest stands fits mid bytes one within in
+      gate_written mid tail place (omega (arith, as_long)) gs new OPEN gate (behind_gate (number_behind tail gs) (texts g) ++ 0 ∷ (bytes ++ drop (length bytes) rest)) seen two (omega (arith, as_long))
+      ∙ sym (text-push tail gs g (0 ∷ (bytes ++ drop (length bytes) rest)))
 
 -- ---- a cut
 

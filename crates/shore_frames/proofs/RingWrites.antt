@@ -1,12 +1,12 @@
 -- Writes of a device at places of the ring.
-use Rattle.std.proofs.Common.{◌≡◌, inl, inr, ◌≤◌, ◌<◌, ◌+◌, ◌-◌, ◌%◌, ℕ, List, ◌++◌, refl, sym, ap, subst, ◌∙◌, length, take, drop, arith, append_assoc, length-append, length-drop, take-append-drop, mod-lt, mod-eq_of_lt, Result, Ok, Err, OnOk}
+use Rattle.std.proofs.Common.{◌≡◌, inl, inr, ◌≤◌, ◌<◌, ◌+◌, ◌-◌, ◌%◌, ℕ, List, [], ◌∷◌, ◌++◌, refl, sym, ap, subst, ◌∙◌, length, take, drop, arith, append_assoc, length-append, length-drop, take-append-drop, mod-lt, mod-eq_of_lt, Result, Ok, Err, OnOk}
 use Rattle.std.proofs.lemmas.List.{take_at, drop_at, length-take-le, drop-drop}
 use Rattle.std.proofs.Math.Nat.{add-mod_right, mod-add-mod}
-use Rattle.shore_disk.specs.Device.{DeviceHistory, LeavesOnly, Torn, Writes, may_leave, moment, overwritten, seen}
+use Rattle.shore_disk.specs.Device.{DeviceHistory, LeavesOnly, Syncs, Torn, Writes, may_leave, moment, noted, overwritten, seen, wrote}
 use Rattle.shore_disk.proofs.Moments.{widened, write_leaves}
 use Rattle.shore_disk.proofs.Images.{overwritten-append}
 use Rattle.shore_frames.specs.Places.{from_place, stream_of}
-use Rattle.shore_frames.specs.Rings.{IsRingWritten, TornRing}
+use Rattle.shore_frames.specs.Rings.{IsRingWritten, StandsBothWritten, TornBoth, TornRing}
 use Rattle.shore_frames.proofs.Turns.{cut_at, in_one, length-overwritten, length-from_place, seen_earlier}
 
 module _ (image : List ℕ) (S : ℕ) (long : length image ≡ 4096 + S) (some : 0 < S) where
@@ -139,3 +139,34 @@ pub first_leaves : (image : List ℕ) (S place n m : ℕ) → length image ≡ 4
 first_leaves image S place n m long some fits old new one =
     widened old new (TornRing place n image) (TornRing place (n + m) image) one
     (λ c torn. both_torn image S long some place n m c c fits torn (not_written c S (torn.2.as_long ∙ long) some (place + n) m (omega arith)))
+
+-- ---- a byte is written as well
+
+-- not yet
+pub first_of_both : (image : List ℕ) (S place n gate_place : ℕ) → length image ≡ 4096 + S → 0 < S → (old new : DeviceHistory) → LeavesOnly old new (TornRing place n image) → LeavesOnly old new (TornBoth place n gate_place image)
+first_of_both image S place n gate_place long some old new one =
+    widened old new (TornRing place n image) (TornBoth place n gate_place image) one
+    (λ c torn. (c, torn, not_written c S (torn.2.as_long ∙ long) some gate_place 1 (omega (arith, some))))
+
+pub gate_leaves : {E : Type 0} (r : Result Unit E) (mid new : DeviceHistory) (image : List ℕ) (S place n gate_place gate : ℕ) → length image ≡ 4096 + S → 0 < S
+    → ((d : List ℕ) → may_leave mid d → TornRing place n image d) → Writes (4096 + gate_place % S) (gate ∷ []) r mid new → LeavesOnly mid new (TornBoth place n gate_place image)
+gate_leaves r mid new image S place n gate_place gate long some one w =
+    let lt : gate_place % S < S = mod-lt gate_place some in
+    write_leaves (4096 + gate_place % S) (gate ∷ []) r mid new (TornBoth place n gate_place image) w
+    (λ c d left torn.
+    let first = one d left in
+    (d, first, write_torn d S (first.2.as_long ∙ long) some gate_place 1 c (omega (arith, lt)) torn))
+
+-- both are written, and synced
+pub both_stand : {E : Type 0} (r : Result Unit E) (old mid gated new : DeviceHistory) (S place gate_place gate : ℕ) (bytes : List ℕ) → length (seen old) ≡ 4096 + S → 0 < S
+    → IsRingWritten place bytes (seen old) (seen mid) → gated ≡ noted mid (wrote (4096 + gate_place % S) (gate ∷ [])) → Syncs r gated new → OnOk r (StandsBothWritten new place bytes gate_place gate (seen old))
+both_stand (Err e) old mid gated new S place gate_place gate bytes long some one w is = tt
+both_stand (Ok u) old mid gated new S place gate_place gate bytes long some one w is =
+    let lt : gate_place % S < S = mod-lt gate_place some in
+    let seen_new : seen new ≡ overwritten (seen mid) (4096 + gate_place % S) (gate ∷ []) = ap (λ (h : DeviceHistory). seen h) is ∙ ap (λ (h : DeviceHistory). seen h) w in (
+      seen mid,
+      seen new,
+      record { read = refl; only = λ c left. subst (λ (h : DeviceHistory). may_leave h c) is left ∙ sym (ap (λ (h : DeviceHistory). seen h) is) },
+      one,
+      subst (IsRingWritten gate_place (gate ∷ []) (seen mid)) (sym seen_new) (image_written (seen mid) S (one.as_long ∙ long) some (gate ∷ []) gate_place (omega (arith, lt))),
+    )

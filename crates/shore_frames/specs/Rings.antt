@@ -1,5 +1,5 @@
 -- A log in a stream that is a ring: where it is settled, and what a write at a place makes of the stream.
-use Rattle.std.specs.Prelude.{◌≡◌, ◌≢◌, ℕ, ◌+◌, ◌-◌, ◌%◌, List, ◌∷◌, ◌++◌, length, take, drop, if◌then◌else◌, nat_le}
+use Rattle.std.specs.Prelude.{◌≡◌, ◌≢◌, ℕ, ◌+◌, ◌-◌, ◌%◌, List, [], ◌∷◌, ◌++◌, length, take, drop, if◌then◌else◌, nat_le}
 use Rattle.shore_types.specs.declared.layout.TheConstants.{LOG_FRONT_BYTES}
 use Rattle.shore_disk.specs.Device.{DeviceHistory, Stands, overwritten}
 use Rattle.shore_gate.specs.declared.gates.TheConstants.{OPEN}
@@ -36,3 +36,12 @@ TornRing place n old new = (bytes : List ℕ) × (length bytes ≡ n) × IsRingW
 -- these bytes are on the device, written at a place, and a crash leaves nothing else
 abbrev pub StandsWritten : DeviceHistory → ℕ → List ℕ → List ℕ → Type 0
 StandsWritten new place bytes old = (image : List ℕ) × Stands new image × IsRingWritten place bytes old image
+
+-- .. and a byte at another place, of which any stands there
+abbrev pub TornBoth : ℕ → ℕ → ℕ → List ℕ → List ℕ → Type 0
+TornBoth place n gate_place old new = (mid : List ℕ) × TornRing place n old mid × TornRing gate_place 1 mid new
+
+-- these bytes and this byte are on the device, written at two places, and a crash leaves nothing else
+abbrev pub StandsBothWritten : DeviceHistory → ℕ → List ℕ → ℕ → ℕ → List ℕ → Type 0
+StandsBothWritten new place bytes gate_place gate old =
+    (mid : List ℕ) × (image : List ℕ) × Stands new image × IsRingWritten place bytes old mid × IsRingWritten gate_place (gate ∷ []) mid image

@@ -7,4 +7,4 @@ mod ring;
 mod view;
 
 pub use reading::{FrameAt, HEAD_BYTES, Stream, read_stream};
-pub use ring::{byte_of, read_ring, write_ring, write_ring_synced};
+pub use ring::{byte_of, read_ring, write_both_synced, write_ring, write_ring_synced};

@@ -3,7 +3,7 @@ ghost use Rattle.std.specs.Prelude.{◌≡◌, ◌+◌, ◌%◌, ◌≤◌, ◌<
 ghost use Rattle.shore_types.specs.declared.layout.TheConstants.{LOG_FRONT_BYTES, MAX_LOG_BYTES};
 ghost use Rattle.shore_disk.specs.Device.{size, seen, CountsFault, LeavesOnly, Stands, Writes, moment};
 ghost use Rattle.shore_frames.specs.Places.{byte_of, from_place, stream_of};
-ghost use Rattle.shore_frames.specs.Rings.{IsRingWritten, StandsWritten, TornRing};
+ghost use Rattle.shore_frames.specs.Rings.{IsRingWritten, StandsBothWritten, StandsWritten, TornBoth, TornRing};
 
 use shore_disk::{Disk, DiskFault};
 use shore_types::layout::LOG_FRONT_BYTES;
@@ -102,5 +102,33 @@ pub fn write_ring_synced<D: Disk>(
     ensures cause { CountsFault result (D.faults device.old) (D.faults device.new) }
 {
     write_ring(device, stream_bytes, place, bytes)?;
+    device.sync()
+}
+
+/// Writes bytes at a place and a byte at another one, and syncs once: both are stable then.
+pub fn write_both_synced<D: Disk>(
+    device: &mut D,
+    stream_bytes: u64,
+    place: u64,
+    bytes: &[u8],
+    gate_place: u64,
+    gate: u8,
+) -> Result<(), DiskFault>
+    requires size { size (D.history device.old) ≡ LOG_FRONT_BYTES + stream_bytes }
+    requires some { 0 < stream_bytes }
+    requires short { stream_bytes ≤ MAX_LOG_BYTES }
+    requires fits { length bytes.now ≤ stream_bytes }
+    ensures stable { IsTrue (D.is_honest device.old) → OnOk result (StandsBothWritten (D.history device.new) place bytes.now gate_place gate (seen (D.history device.old))) }
+
+    // A crash at any moment of the call leaves what stood before, with any bytes in that range and any at the other place.
+    ensures any_moment { IsTrue (D.is_honest device.old) → (image : List ℕ) → Stands (D.history device.old) image
+        → LeavesOnly (D.history device.old) (D.history device.new) (TornBoth place (length bytes.now) gate_place image) }
+
+    ensures honest { D.is_honest device.new ≡ D.is_honest device.old }
+    ensures size { size (D.history device.new) ≡ size (D.history device.old) }
+    ensures cause { CountsFault result (D.faults device.old) (D.faults device.new) }
+{
+    write_ring(device, stream_bytes, place, bytes)?;
+    device.write_at(byte_of(stream_bytes, gate_place), &[gate])?;
     device.sync()
 }

@@ -1,8 +1,9 @@
 -- What a crash leaves of the log device in each of the two steps of a force.
-use Rattle.std.proofs.Common.{◌≡◌, ◌≤◌, ◌<◌, ◌+◌, ◌-◌, IsTrue, ℕ, List, [], ◌∷◌, ◌++◌, Some, refl, sym, ap, subst, ◌∙◌, length, take, drop, arith, append_assoc, drop-drop, length-append, length-drop}
+use Rattle.std.proofs.Common.{◌≡◌, ◌≤◌, ◌<◌, ◌+◌, ◌-◌, IsTrue, ℕ, List, [], ◌∷◌, ◌++◌, None, Some, refl, sym, ap, subst, ◌∙◌, length, take, drop, arith, append_assoc, drop-drop, length-append, length-drop}
 use Rattle.std.specs.Prelude.{All}
 use Rattle.std.specs.Global.{Vec}
 use Rattle.std.proofs.lemmas.List.{drop-append-le, length-take, length-take-le, take-append-le}
+use Rattle.std.proofs.lemmas.List.Elements.{All-drop}
 use Rattle.shore_disk.specs.Device.{Stands, may_leave}
 use Rattle.shore_disk.specs.declared.device.Disk.{Ghosts}
 use Rattle.shore_gate.specs.declared.gates.TheConstants.{OPEN}
@@ -11,15 +12,15 @@ use Rattle.shore_logrec.specs.Text.{Fits, texts}
 use Rattle.shore_frames.specs.declared.reading.FrameAt.{FrameAt}
 use Rattle.shore_frames.specs.Frames.{AreNumbered, Frames, GivesBehindFrom, GivesFrom, GivesWithOrWithoutFrom, IsGroup, IsLongest, behind_gate, joined, number_behind, text}
 use Rattle.shore_frames.specs.Places.{from_place, stream_of}
-use Rattle.shore_frames.specs.Rings.{IsRingWritten, TornRing}
+use Rattle.shore_frames.specs.Rings.{IsRingWritten, TornBoth, TornRing}
 use Rattle.shore_frames.specs.Streams.{index_of}
 use Rattle.shore_frames.proofs.FrameLemmas.{AreGroups-front, AreGroups-push, joined-push, length-behind_gate, length-text-push, number_behind-joined, parts_of}
 use Rattle.shore_frames.proofs.IndexLemmas.{index-push}
 use Rattle.shore_frames.proofs.LoggedLemmas.{AreNumbered-drop, AreNumbered-fit, AreNumbered-test, IsGroup-longest, take-more_group}
-use Rattle.shore_frames.proofs.RingFrames.{behind_gate_written, open_torn, ring_gives, ring_opened, ring_some, stage_torn}
+use Rattle.shore_frames.proofs.RingFrames.{behind_gate_written, both_seen, both_torn, open_torn, ring_gives, ring_opened, ring_some, stage_torn}
 use Rattle.shore_log.specs.Settled.{HoldsFrom, IsSettledFrom, IsStagedFrom, KeepsFrames, stable, waiting, records_of_log}
 use Rattle.shore_log.specs.Listed.{all_in}
-use Rattle.shore_log.proofs.TextLemmas.{rest_is}
+use Rattle.shore_log.proofs.TextLemmas.{rest_is, spelled_behind}
 use Rattle.shore_log.specs.declared.device.LogDev.{LogDev}
 
 pub unwrap : {A : Type 0} {x y : A} → Some x ≡ Some y → x ≡ y
@@ -43,6 +44,21 @@ waiting_read log v is = ap (drop (log.gone + log.forced)) (log.held v is).0 ∙ 
 pub slice_waiting : {D : Type 0} {G : Ghosts D} (log : LogDev D G) (v : Vec LogRecord) (l : List LogRecord) → log.read ≡ Some v → l ≡ v.items
     → take (length l - (log.gone + log.forced)) (drop (log.gone + log.forced) l) ≡ waiting log
 slice_waiting log v l read is = rest_is (log.gone + log.forced) l ∙ ap (drop (log.gone + log.forced)) is ∙ waiting_read log v read
+
+-- .. and what waits behind the first so many of it
+pub behind_fit : {D : Type 0} {G : Ghosts D} (log : LogDev D G) (passed : ℕ) → All Fits (drop passed (waiting log))
+behind_fit log passed = All-drop Fits passed (waiting log) (waiting_fit log)
+
+pub slice_behind : {D : Type 0} {G : Ghosts D} (log : LogDev D G) (passed : ℕ) (v : Vec LogRecord) (l : List LogRecord) → log.read ≡ Some v → l ≡ v.items
+    → take (length l - (log.gone + log.forced + passed)) (drop (log.gone + log.forced + passed) l) ≡ drop passed (waiting log)
+slice_behind log passed v l read is =
+    rest_is (log.gone + log.forced + passed) l ∙ ap (drop (log.gone + log.forced + passed)) is
+    ∙ sym (drop-drop passed (log.gone + log.forced) v.items) ∙ ap (drop passed) (waiting_read log v read)
+
+pub spelled_from : {D : Type 0} {G : Ghosts D} (log : LogDev D G) (passed len : ℕ) → log.read ≡ None → len ≡ length (texts (take passed (waiting log)))
+    → drop (log.at + len) log.bytes.items ≡ texts (drop passed (waiting log))
+spelled_from log passed len none is =
+    spelled_behind log.at len log.forced passed log.bytes.items (records_of_log log) (log.spelled none) is ∙ ap texts (sym (drop-drop passed log.forced (records_of_log log)))
 
 -- so many wait
 pub waiting_count : {D : Type 0} {G : Ghosts D} (log : LogDev D G) → log.forced + length (waiting log) ≡ log.count
@@ -240,39 +256,122 @@ module _ {D : Type 0} {G : Ghosts D} (tail place : ℕ) (log : LogDev D G) (fron
   pub more_stable : take (log.forced + length group) (records_of_log log) ≡ stable log ++ group
   more_stable = take-more_group (records_of_log log) log.forced group log.forced_inside s.first
 
+  abbrev after : List (List LogRecord)
+  after = s.groups ++ group ∷ []
+
+  -- .. in one frame more
+  pub opened_holds : (new : LogDev D G) → IsTrue (G.is_honest new.device) → new.tail ≡ log.tail → new.head ≡ log.head + 13 + length (texts group) → new.forced ≡ log.forced + length group
+      → records_of_log new ≡ records_of_log log → new.frames.items ≡ log.frames.items ++ (record { first = log.tail.first + log.forced; place = log.head }) ∷ []
+      → HoldsFrom tail place new after × (stable new ≡ stable log ++ group)
+  opened_holds new honest at head forced records frames =
+      let h = s.holds in
+      let size = length-text-push tail s.groups group in
+      let number_is : log.tail.first + log.forced ≡ number_behind tail s.groups = ap (λ k. k + log.forced) h.first ∙ h.number in
+      let count : number_behind tail after ≡ tail + (log.forced + length group) =
+      omega (arith, number_behind-joined tail after, ap length (joined-push s.groups group), length-append (joined s.groups) group, number_behind-joined tail s.groups, h.number) in
+      let longer : stable new ≡ stable log ++ group = ap (λ (n : ℕ). take n (records_of_log new)) forced ∙ ap (take (log.forced + length group)) records ∙ more_stable in (
+        record {
+          honest = honest;
+          some = h.some;
+          first = ap (λ (f : FrameAt). f.first) at ∙ h.first;
+          place_is = ap (λ (f : FrameAt). f.place) at ∙ h.place_is;
+          forced = longer ∙ ap (λ (l : List LogRecord). l ++ group) h.forced ∙ sym (joined-push s.groups group);
+          number = ap (λ (k : ℕ). tail + k) forced ∙ sym count;
+          head = let e : log.head + 13 + length (texts group) ≡ place + length (text tail after) = omega (arith, size, h.head) in head ∙ e;
+          index =
+              frames ∙ ap (λ l. l ++ (record { first = log.tail.first + log.forced; place = log.head }) ∷ []) h.index
+              ∙ ap (λ (k : ℕ). index_of tail place s.groups ++ (record { first = k; place = log.head }) ∷ []) number_is
+              ∙ ap (λ (p : ℕ). index_of tail place s.groups ++ (record { first = number_behind tail s.groups; place = p }) ∷ []) h.head
+              ∙ sym (index-push tail place s.groups group);
+        },
+        longer,
+      )
+
   pub opened_from : (new : LogDev D G) (image : List ℕ) → IsTrue (G.is_honest new.device) → Stands (G.history new.device) image → IsRingWritten log.head (OPEN ∷ []) s.image image
       → new.tail ≡ log.tail → new.head ≡ log.head + 13 + length (texts group) → new.forced ≡ log.forced + length group → records_of_log new ≡ records_of_log log
       → new.frames.items ≡ log.frames.items ++ (record { first = log.tail.first + log.forced; place = log.head }) ∷ [] → IsSettledFrom tail place new front × (stable new ≡ stable log ++ group)
   opened_from new image honest stands written at head forced records frames =
-      let h = s.holds in
-      let gs = s.groups ++ group ∷ [] in
-      let w : IsRingWritten (place + length (text tail s.groups)) (OPEN ∷ []) s.image image = subst (λ p. IsRingWritten p (OPEN ∷ []) s.image image) h.head written in
-      let size = length-text-push tail s.groups group in
-      let number_is : log.tail.first + log.forced ≡ number_behind tail s.groups = ap (λ k. k + log.forced) h.first ∙ h.number in
-      let count : number_behind tail gs ≡ tail + (log.forced + length group) =
-      omega (arith, number_behind-joined tail gs, ap length (joined-push s.groups group), length-append (joined s.groups) group, number_behind-joined tail s.groups, h.number) in
-      let longer : stable new ≡ stable log ++ group = ap (λ (n : ℕ). take n (records_of_log new)) forced ∙ ap (take (log.forced + length group)) records ∙ more_stable in (
+      let w : IsRingWritten (place + length (text tail s.groups)) (OPEN ∷ []) s.image image = subst (λ p. IsRingWritten p (OPEN ∷ []) s.image image) s.holds.head written in
+      let held = opened_holds new honest at head forced records frames in (
         record {
           image = image;
           stands = stands;
           is_front = written.front ∙ s.is_front;
-          groups = gs;
-          holds = record {
-            honest = honest;
-            some = h.some;
-            first = ap (λ (f : FrameAt). f.first) at ∙ h.first;
-            place_is = ap (λ (f : FrameAt). f.place) at ∙ h.place_is;
-            forced =
-                longer ∙ ap (λ (l : List LogRecord). l ++ group) h.forced ∙ sym (joined-push s.groups group);
-            number = ap (λ (k : ℕ). tail + k) forced ∙ sym count;
-            head = let e : log.head + 13 + length (texts group) ≡ place + length (text tail gs) = omega (arith, size, h.head) in head ∙ e;
-            index =
-                frames ∙ ap (λ l. l ++ (record { first = log.tail.first + log.forced; place = log.head }) ∷ []) h.index
-                ∙ ap (λ (k : ℕ). index_of tail place s.groups ++ (record { first = k; place = log.head }) ∷ []) number_is
-                ∙ ap (λ (p : ℕ). index_of tail place s.groups ++ (record { first = number_behind tail s.groups; place = p }) ∷ []) h.head
-                ∙ sym (index-push tail place s.groups group);
-          };
+          groups = after;
+          holds = held.0;
           ring = ring_opened s.image tail place staged_some s.groups group s.are s.gate s.rest s.seen gate_fits image w;
         },
-        longer,
+        held.1,
       )
+
+  -- ---- .. and the next frame is staged by the same sync
+
+  next_behind : log.head + 13 + length (texts group) + 1 ≡ place + (length (text tail s.groups) + 1 + length (behind_gate (number_behind tail s.groups) (texts group)) + 1)
+  next_behind = omega (arith, s.holds.head, length-behind_gate (number_behind tail s.groups) (texts group))
+
+  -- any bytes may stand there, and any at the gate
+  pub both_give : (n : ℕ) → log.head + 13 + length (texts group) + 1 + n ≤ log.tail.place + log.stream_bytes → (c : List ℕ)
+      → TornBoth (log.head + 13 + length (texts group) + 1) n log.head s.image c → GivesWithOrWithoutFrom front tail place (stable log) group c
+  both_give n fits c torn =
+      subst (λ rs. GivesWithOrWithoutFrom front tail place rs group c) (sym s.holds.forced)
+      (both_torn s.image tail place staged_some s.groups group s.are s.gate s.rest s.seen gate_fits front s.is_front n c
+      (omega (arith, next_behind, fits, staged_long, s.holds.place_is))
+      (subst (λ p. TornBoth p n (place + length (text tail s.groups)) s.image c) next_behind (subst (λ p. TornBoth (log.head + 13 + length (texts group) + 1) n p s.image c) s.holds.head torn)))
+
+  pub next_staged : (new : LogDev D G) (count len : ℕ) (bytes mid image : List ℕ) → 1 ≤ count → IsLongest (drop (length group) (waiting log)) count
+      → len ≡ length (texts (take count (drop (length group) (waiting log))))
+      → log.head + 13 + length (texts group) + 13 + length (texts (take count (drop (length group) (waiting log)))) < log.tail.place + log.stream_bytes
+      → bytes ≡ behind_gate (log.tail.first + (log.forced + length group)) (texts (take count (drop (length group) (waiting log)))) ++ 0 ∷ []
+      → IsRingWritten (log.head + 13 + length (texts group) + 1) bytes s.image mid → IsRingWritten log.head (OPEN ∷ []) mid image
+      → HoldsFrom tail place new after → new.forced ≡ log.forced + length group → records_of_log new ≡ records_of_log log
+      → Stands (G.history new.device) image → new.staged ≡ Some record { count = count; len = len } → IsStagedFrom tail place new front (take count (waiting new))
+  next_staged new count len bytes mid image some longest len_is fits bytes_are one two holds forced records stands staged =
+      let recs = records_of_log log in
+      let rs = drop (length group) (waiting log) in
+      let next = take count rs in
+      let number = log.tail.first + (log.forced + length group) in
+      let within : log.forced + length group ≤ length recs =
+      omega (arith, ap length s.first, length-take (length group) (waiting log), length-drop log.forced recs, log.forced_inside) in
+      let behind_is : drop (log.forced + length group) recs ≡ rs = sym (drop-drop (length group) log.forced recs) in
+      let wait : waiting new ≡ rs = ap (λ (n : ℕ). drop n (records_of_log new)) forced ∙ ap (drop (log.forced + length group)) records ∙ behind_is in
+      let numbered : AreNumbered number rs =
+      subst (AreNumbered number) behind_is (AreNumbered-drop log.tail.first (log.forced + length group) recs within (AreNumbered-test log.tail.first recs log.numbered)) in
+      let is_group : IsGroup number next = IsGroup-longest number rs count some numbered longest in
+      let count_is : length next ≡ count = length-take-le count rs longest.within in
+      let number_is : number ≡ number_behind tail after = omega (arith, holds.number, forced, s.holds.first) in
+      let exact = behind_gate number (texts next) ++ 0 ∷ [] in
+      let size : length exact ≡ 13 + length (texts next) = omega (arith, length-append (behind_gate number (texts next)) (0 ∷ []), length-behind_gate number (texts next)) in
+      let first : IsRingWritten (place + (length (text tail s.groups) + 1 + length (behind_gate (number_behind tail s.groups) (texts group)) + 1)) exact s.image mid =
+      subst (λ p. IsRingWritten p exact s.image mid) next_behind (subst (λ b. IsRingWritten (log.head + 13 + length (texts group) + 1) b s.image mid) bytes_are one) in
+      let second : IsRingWritten (place + length (text tail s.groups)) (OPEN ∷ []) mid image = subst (λ p. IsRingWritten p (OPEN ∷ []) mid image) s.holds.head two in
+      let left = drop (length exact) s.rest in
+      let seen = both_seen s.image tail place staged_some s.groups group s.are s.gate s.rest s.seen gate_fits exact mid image (omega (arith, next_behind, size, fits, staged_long, s.holds.place_is)) first second in
+      let made : IsStagedFrom tail place new front next = record {
+        image = image;
+        stands = stands;
+        is_front = two.front ∙ one.front ∙ s.is_front;
+        groups = after;
+        holds = holds;
+        gate = 0;
+        rest = left;
+        shut = omega arith;
+        are = AreGroups-push tail after next s.are (subst (λ k. IsGroup k next) number_is is_group);
+        seen =
+            seen ∙ ap (λ (l : List ℕ). text tail after ++ 0 ∷ l) (append_assoc (behind_gate number (texts next)) (0 ∷ []) left)
+            ∙ ap (λ (k : ℕ). text tail after ++ 0 ∷ (behind_gate k (texts next) ++ 0 ∷ left)) number_is;
+        first = ap (take (length next)) wait ∙ ap (λ (k : ℕ). take k rs) count_is;
+        waits = cc (staged, count_is, len_is);
+      } in
+      subst (λ (l : List LogRecord). IsStagedFrom tail place new front (take count l)) (sym wait) made
+
+  pub both_from : (new : LogDev D G) (count len : ℕ) (bytes mid image : List ℕ) → IsTrue (G.is_honest new.device) → Stands (G.history new.device) image
+      → IsRingWritten (log.head + 13 + length (texts group) + 1) bytes s.image mid → IsRingWritten log.head (OPEN ∷ []) mid image
+      → new.tail ≡ log.tail → new.head ≡ log.head + 13 + length (texts group) → new.forced ≡ log.forced + length group → records_of_log new ≡ records_of_log log
+      → new.frames.items ≡ log.frames.items ++ (record { first = log.tail.first + log.forced; place = log.head }) ∷ [] → new.staged ≡ Some record { count = count; len = len }
+      → 1 ≤ count → IsLongest (drop (length group) (waiting log)) count → len ≡ length (texts (take count (drop (length group) (waiting log))))
+      → log.head + 13 + length (texts group) + 13 + length (texts (take count (drop (length group) (waiting log)))) < log.tail.place + log.stream_bytes
+      → bytes ≡ behind_gate (log.tail.first + (log.forced + length group)) (texts (take count (drop (length group) (waiting log)))) ++ 0 ∷ []
+      → (stable new ≡ stable log ++ group) × IsStagedFrom tail place new front (take count (waiting new))
+  both_from new count len bytes mid image honest stands one two at head forced records frames staged some longest len_is fits bytes_are =
+      let held = opened_holds new honest at head forced records frames in
+      (held.1, next_staged new count len bytes mid image some longest len_is fits bytes_are one two held.0 forced records stands staged)

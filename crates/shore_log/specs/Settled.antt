@@ -16,6 +16,7 @@ use Rattle.shore_frames.specs.Places.{from_place, stream_of}
 use Rattle.shore_frames.specs.Rings.{IsRing}
 use Rattle.shore_frames.specs.Streams.{index_of}
 use Rattle.shore_log.specs.declared.device.LogDev.{LogDev}
+use Rattle.shore_log.specs.declared.device.Staged.{Staged}
 use Rattle.shore_log.specs.Indexes.{IsInGroup, frame_with}
 use Rattle.shore_log.specs.Listed.{all_in}
 use Rattle.shore_log.specs.PlainTails.{KnowsEntries, KnowsTexts}
@@ -98,6 +99,13 @@ pub record HasNoFrameRoom {D : Type 0} {G : Ghosts D} (log : LogDev D G) : Type 
   pub some : 1 ≤ count
   pub longest : IsLongest (waiting log) count
   pub full : log.tail.place + log.stream_bytes ≤ log.head + (FRAME_SHARE + length (texts (take count (waiting log))))
+
+-- .. or, after a frame that is staged, for the frame of the longest list of the records after it
+pub record HasNoRoomAfter {D : Type 0} {G : Ghosts D} (log : LogDev D G) (staged : Staged) : Type 0 where
+  pub count : ℕ
+  pub some : 1 ≤ count
+  pub longest : IsLongest (drop staged.count (waiting log)) count
+  pub full : log.tail.place + log.stream_bytes ≤ log.head + (FRAME_SHARE + staged.len) + (FRAME_SHARE + length (texts (take count (drop staged.count (waiting log)))))
 
 -- What is kept of the frames of these groups begins at the one that has the record of this number.
 pub record IsCutTo {D : Type 0} {G : Ghosts D} (tail place : ℕ) (groups : List (List LogRecord)) (number : ℕ) (log : LogDev D G) : Type 0 where

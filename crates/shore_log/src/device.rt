@@ -14,6 +14,7 @@ ghost use Rattle.shore_log.specs.declared.tail.PlainTail.{PlainTail};
 
 mod moving;
 mod opening;
+mod opening_on;
 mod telling;
 
 use crate::group::{frame_bytes, longest_group, texts_for};
@@ -127,6 +128,7 @@ impl<D: Disk> LogDev<D> {
         ensures refused { OnErr result ((records_of_log self.new ≡ records_of_log self.old) × (waiting_in tail.new ≡ waiting_in tail.old)) }
         ensures idle { KnowsRoom self.old tail.old → IsSpelled self.old → IsOk result }
         ensures knows { OnOk result (KnowsRoom self.new tail.new) }
+        ensures spelled { OnOk result (IsSpelled self.new) × (IsSpelled self.old → IsSpelled self.new) }
         ensures only_memory { IfErr result (λ fault. fault ≡ Fault.Memory) }
         ensures list { OnErr result (HasList self.old → HasList self.new) }
         ensures frames { KeepsFrames self.old self.new }
@@ -231,6 +233,7 @@ impl<D: Disk> LogDev<D> {
         ensures knows { (t : PlainTail) → KnowsRoom self.old t → KnowsRoom self.new t }
         // It is never refused memory for records that came from a log buffer.
         ensures idle { IsSpelled self.old → result ≢ Err Fault.Memory }
+        ensures spelled { IsSpelled self.old → IsSpelled self.new }
         ensures size { size (D.history self.new.device) ≡ size (D.history self.old.device) }
         ensures honest { D.is_honest self.new.device ≡ D.is_honest self.old.device }
         ensures cause { HasCause result (D.faults self.old.device) (D.faults self.new.device) }
@@ -238,7 +241,7 @@ impl<D: Disk> LogDev<D> {
         if let Some(_) = self.staged {
             return Ok(None);
         }
-        let (count, len) = self.next_group();
+        let (count, len) = self.next_group(0, 0);
         if count == 0 {
             return Ok(None);
         }
@@ -247,7 +250,7 @@ impl<D: Disk> LogDev<D> {
             return Err(Fault::LogFull);
         }
         let first = self.tail.first + self.forced as u64;
-        let encoded = self.encoded(alloc, count, len)?;
+        let encoded = self.encoded(alloc, 0, count, len)?;
         let texts = texts_for(self.read.is_some(), &encoded, &self.bytes, self.at, len);
         frame_bytes(&mut self.frame, first, texts)?;
         self.frames.reserve(1)?;
@@ -271,6 +274,9 @@ impl<D: Disk> LogDev<D> {
         ensures waited { OnErr result (IsSome self.old.staged) }
         ensures none_staged { OnOk result (self.new.staged ≡ None) }
         ensures durable { IfOk result (λ n. IfSome n (λ durable. durable.lsn ≡ cut_of_log self.new + length (stable self.new))) }
+        // The next frame goes behind it.
+        ensures next { IfOk result (λ n. IfSome n (λ _. ForSome self.old.staged (λ s. (self.new.head ≡ self.old.head + (FRAME_SHARE + s.len)) × (waiting self.new ≡ drop s.count (waiting self.old))))) }
+        ensures spelled { IsSpelled self.old → IsSpelled self.new }
         ensures nothing { result ≡ Ok None → self.new ≡ self.old }
 
         // A crash at any moment of the call leaves the stable list from the tail on, with the frame that is staged or without it.
@@ -355,30 +361,41 @@ impl<D: Disk> LogDev<D> {
         }
     }
 
-    // How many of the records that wait the next frame holds, the first on, and how many bytes they have.
-    fn next_group(&self) -> (usize, usize)
-        ensures longest { IsLongest (waiting self.now) result.0 }
-        ensures len { result.1 ≡ length (texts (take result.0 (waiting self.now))) }
-        ensures fit { All Fits (waiting self.now) }
+    // How many of the records that wait after the first so many of them one frame holds, and how many bytes these have.
+    fn next_group(&self, passed: usize, passed_len: usize) -> (usize, usize)
+        requires within { passed ≤ length (waiting self.now) }
+        requires len { passed_len ≡ length (texts (take passed (waiting self.now))) }
+        ensures longest { IsLongest (drop passed (waiting self.now)) result.0 }
+        ensures len { result.1 ≡ length (texts (take result.0 (drop passed (waiting self.now)))) }
+        ensures fit { All Fits (drop passed (waiting self.now)) }
     {
         match &self.read {
-            Some(read) => longest_group(&read[self.gone + self.forced..]),
-            None if self.bytes.len() - self.at <= MAX_FRAME_BYTES => {
-                (self.count - self.forced, self.bytes.len() - self.at)
+            Some(read) => longest_group(&read[self.gone + self.forced + passed..]),
+            None if self.bytes.len() - (self.at + passed_len) <= MAX_FRAME_BYTES => {
+                (
+                    self.count - self.forced - passed,
+                    self.bytes.len() - (self.at + passed_len),
+                )
             }
-            None => longest_texts(&self.bytes[self.at..]),
+            None => longest_texts(&self.bytes[self.at + passed_len..]),
         }
     }
 
-    // The texts of the first so many of them, if they are in memory as records: no text, and no allocation, once records came from a log buffer.
-    fn encoded(&self, alloc: Global, count: usize, len: usize) -> Result<Vec<u8>, AllocError>
-        requires within { count ≤ length (waiting self.now) }
-        ensures texts { IsSome self.now.read → IfOk result (λ v. v.items ≡ texts (take count (waiting self.now))) }
+    // The texts of so many of them after the first `passed`, if they are in memory as records: no text, and no allocation, once records came from a log buffer.
+    fn encoded(
+        &self,
+        alloc: Global,
+        passed: usize,
+        count: usize,
+        len: usize,
+    ) -> Result<Vec<u8>, AllocError>
+        requires within { passed + count ≤ length (waiting self.now) }
+        ensures texts { IsSome self.now.read → IfOk result (λ v. v.items ≡ texts (take count (drop passed (waiting self.now)))) }
         ensures idle { self.now.read ≡ None → IsOk result }
     {
         let mut texts = Vec::new(alloc);
         if let Some(read) = &self.read {
-            let waiting = &read[self.gone + self.forced..];
+            let waiting = &read[self.gone + self.forced + passed..];
             texts.reserve(len)?;
             encode_all(&waiting[..count], &mut texts)?;
         }

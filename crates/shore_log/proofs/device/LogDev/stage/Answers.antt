@@ -1,4 +1,4 @@
-use Rattle.std.proofs.Common.{rules, Bool, Option, ℕ, None, Some, true, false, drop, ◌≡◌, ◌+◌, ◌-◌, ◌<◌, ◌≤◌, [], ◌∷◌, ◌++◌, List, IsTrue, inr, length, take, append-nil, refl, sym, subst, ap, ◌∙◌, arith, length-append, length-drop}
+use Rattle.std.proofs.Common.{Bool, Option, ℕ, None, Some, false, drop, ◌≡◌, ◌+◌, ◌-◌, ◌<◌, ◌≤◌, [], ◌∷◌, ◌++◌, List, IsTrue, inr, length, take, append-nil, refl, sym, subst, ap, ◌∙◌, arith, length-append, length-drop}
 use Rattle.std.specs.Prelude.{IsSome}
 use Rattle.std.specs.Option.{is_some}
 use Rattle.std.specs.Global.{Vec}
