@@ -20,6 +20,7 @@ use Rattle.shore_locks.proofs.Keys.{alike-Decides, alike-self, same_granule-Deci
 use Rattle.shore_locks.proofs.Passes.{AreRequests-waiters, In-waiters, filter_refused, first_granted}
 use Rattle.shore_locks.proofs.Fits.{Fit, Fit-granted, In-replaced, any_of, granted_first, granted_none, wants_nothing}
 use Rattle.shore_locks.proofs.Others.{put_in_place, put_last}
+use Rattle.shore_locks.proofs.Unawaited.{Before-later, wants_of}
 use Rattle.shore_cycles.proofs.Edges.{Edge, edge_of, group, queue-In, waits_apart, waits_of}
 
 -- ---- the requests of others
@@ -52,10 +53,6 @@ others-put t r rs by =
     (either (list_any (λ q. are_alike q r) rs))
 
 -- ---- one request in the place of one that waited
-
-wants_of : (wanted held : Option Mode) → IsSomeAnd wanted (λ asked. IsSomeAnd held (λ mode. grants mode asked ≡ false)) → is_some wanted ≡ true
-wants_of None held h = absurd h
-wants_of (Some m) held h = refl
 
 pub is_refused_of : (wanted held : Option Mode) → IsSomeAnd wanted (λ asked. IsSomeAnd held (λ mode. grants mode asked ≡ false)) → is_refused wanted held ≡ true
 is_refused_of None held h = absurd h
@@ -109,10 +106,6 @@ settled rs old new fit old_in old_wants by at still mild a b h =
     (either (b == old.txn))
 
 -- ---- the first waiter of a queue
-
-Before-later : (xs ys : List Request) (a b : Request) → (In a xs → ⊥) → Before (xs ++ ys) a b → Before ys a b
-Before-later [] ys a b none h = h
-Before-later (x ∷ xs) ys a b none h = ⊎_elim (λ here. absurd (none (inl here.0))) (λ later. Before-later xs ys a b (λ t. none (inr t)) later) h
 
 pub Before-In : (xs : List Request) (a b : Request) → Before xs a b → In a xs × In b xs
 Before-In [] a b h = absurd h

@@ -14,6 +14,7 @@ use Rattle.shore_locks.specs.Laws.{of_others}
 use Rattle.shore_locks.proofs.Members.{In, Contains-In, In-Contains, In-append, In-filter, In-left, In-right, either, filter-In, filter-no, filter-swap, filter-yes}
 use Rattle.shore_locks.proofs.Keys.{same_granule-Decides}
 use Rattle.shore_locks.proofs.Outcomes.{any_from}
+use Rattle.shore_locks.proofs.Unawaited.{Before-filtered, some_of}
 
 -- a test comes out one way
 pub clash : {b : Bool} → b ≡ true → b ≡ false → ⊥
@@ -54,15 +55,6 @@ queue-In g rs q there at =
 
 -- ---- order
 
-pub Before-filtered : (p : Request → Bool) (xs : List Request) (a b : Request) → Before (filter p xs) a b → Before xs a b
-Before-filtered p [] a b h = h
-Before-filtered p (x ∷ xs) a b h =
-    ⊎_elim
-    (λ yes. ⊎_elim (λ here. inl (here.0, In-Contains xs b (In-filter p xs b (Contains-In (filter p xs) b here.1)).0)) (λ later. inr (Before-filtered p xs a b later))
-    (subst (λ ys. Before ys a b) (filter-yes p x xs yes) h))
-    (λ no. inr (Before-filtered p xs a b (subst (λ ys. Before ys a b) (filter-no p x xs no) h)))
-    (either (p x))
-
 pub Before-filter : (p : Request → Bool) (xs : List Request) (a b : Request) → p a ≡ true → p b ≡ true → Before xs a b → Before (filter p xs) a b
 Before-filter p [] a b pa pb h = h
 Before-filter p (x ∷ xs) a b pa pb h =
@@ -94,9 +86,6 @@ pub record Edge (rs : List Request) (t u : ℕ) : Type 0 where
   pub upon : other.txn ≡ u
   pub beside : other.granule ≡ waiter.granule
   pub why : IsRefusedBy waiter other ⊎ IsBehind (queue_at waiter.granule rs) waiter other
-
-some_of : {A : Type 0} (P : A → Type 0) (xs : List A) → Any P xs → (x : A) × In x xs × P x
-some_of P xs h = (h.1, Contains-In xs h.1 (h.0, h.2, h.3), h.4)
 
 pub edge_of : (rs : List Request) (t u : ℕ) → WaitsFor rs t u → Edge rs t u
 edge_of rs t u h =

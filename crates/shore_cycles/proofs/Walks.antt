@@ -1,6 +1,6 @@
 -- Walks and cycles: their members, their parts, and what makes one list's cycles cycles of another.
 use Rattle.std.proofs.Common.{◌≡◌, ◌++◌, ◌⊎◌, inl, inr, ⊎_elim, ℕ, List, [], ◌∷◌, refl, sym, subst}
-use Rattle.std.specs.Prelude.{◌==◌}
+use Rattle.std.specs.Prelude.{◌==◌, Contains}
 use Rattle.std.proofs.lemmas.Bool.Decides.{Decides-eqb}
 use Rattle.std.proofs.lemmas.List.{append-nil}
 use Rattle.shore_model.specs.declared.requests.Request.{Request}
@@ -18,6 +18,23 @@ walker_waits rs t (v ∷ vs) end u walk h = ⊎_elim (λ same. (v, subst (λ x. 
 pub member_waits : (rs : List Request) (cycle : List ℕ) (u : ℕ) → IsCycle rs cycle → In u cycle → (next : ℕ) × WaitsFor rs u next
 member_waits rs [] u closed h = absurd h
 member_waits rs (t ∷ ts) u closed h = walker_waits rs t ts t u closed h
+
+-- .. and somebody waits for each but the first of a walk, and for its end
+walker_awaited : (rs : List Request) (t : ℕ) (ts : List ℕ) (end u : ℕ) → Walk rs t ts end → In u ts ⊎ (end ≡ u) → (from : ℕ) × WaitsFor rs from u
+walker_awaited rs t [] end u walk h = ⊎_elim (λ none. absurd none) (λ same. (t, subst (λ x. WaitsFor rs t x) same walk)) h
+walker_awaited rs t (v ∷ vs) end u walk h =
+    ⊎_elim
+    (λ among. ⊎_elim (λ same. (t, subst (λ x. WaitsFor rs t x) same walk.0)) (λ later. walker_awaited rs v vs end u walk.1 (inl later)) among)
+    (λ last. walker_awaited rs v vs end u walk.1 (inr last))
+    h
+
+member_awaited : (rs : List Request) (cycle : List ℕ) (u : ℕ) → IsCycle rs cycle → In u cycle → (from : ℕ) × WaitsFor rs from u
+member_awaited rs [] u closed h = absurd h
+member_awaited rs (t ∷ ts) u closed h = walker_awaited rs t ts t u closed (⊎_elim (λ first. inr first) (λ later. inl later) h)
+
+-- so a transaction for which nobody waits is on no cycle
+pub unawaited_on_none : (rs : List Request) (t : ℕ) → ((u : ℕ) → WaitsFor rs u t → ⊥) → (cycle : List ℕ) → IsCycle rs cycle → Contains cycle t → ⊥
+unawaited_on_none rs t none cycle closed there = let by = member_awaited rs cycle t closed (Contains-In cycle t there) in none by.0 by.1
 
 walk_as : (rs new : List Request) (cycle : List ℕ) → ((a b : ℕ) → In a cycle → In b cycle → WaitsFor rs a b → WaitsFor new a b)
     → (t : ℕ) (ts : List ℕ) (end : ℕ) → ((u : ℕ) → In u (t ∷ ts) → In u cycle) → In end cycle → Walk rs t ts end → Walk new t ts end

@@ -66,6 +66,10 @@ pub fn choose(alloc: Global, table: &LockTable, txn: TxnId) -> Result<Vec<Victim
 {
     // For the proof: the requests of any table are orderly. Nothing runs.
     tables_are_orderly(table);
+    // A cycle that passes it has somebody who waits for it.
+    if !table.may_be_awaited(txn) {
+        return Ok(Vec::new(alloc));
+    }
     let mut search = Search::new(alloc, txn)?;
     while let Some(cycle) = search.next_cycle(alloc, table)? {
         let victim = victim_of(cycle);

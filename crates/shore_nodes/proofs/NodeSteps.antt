@@ -12,9 +12,10 @@ use Rattle.shore_model.specs.Requests.{are_alike, AreRequests, requests_by}
 use Rattle.shore_rings.specs.declared.ring.Link.{Link}
 use Rattle.shore_rings.specs.Rings.{Way, after_at, before_at}
 use Rattle.shore_nodes.specs.Grants.{removed, replaced}
-use Rattle.shore_nodes.specs.Nodes.{IsLinked, LinksIn, LinksOut, alive, in_bucket, list_head, list_of, nodes_of, owner_head, owner_of, pairs_from, queue_head, request_at, request_or, requests_in, without, HasRoom}
+use Rattle.shore_nodes.specs.Nodes.{IsLinked, LinksIn, LinksOut, alive, in_bucket, list_head, list_of, nodes_of, owner_head, owner_of, pairs_from, queue_head, queue_of, request_at, request_or, requests_in, without, HasRoom}
 use Rattle.shore_nodes.specs.Orderly.{IsNewest}
-use Rattle.shore_nodes.proofs.AlikeNodes.{FoundNode, found_node, from_map, in_map, no_node, node_within, removed_is, replaced_is}
+use Rattle.shore_nodes.specs.Tallies.{crowd}
+use Rattle.shore_nodes.proofs.AlikeNodes.{FoundNode, filter_mapped, found_node, from_map, in_map, no_node, node_within, removed_is, replaced_is}
 use Rattle.shore_nodes.proofs.Entering.{found_in}
 use Rattle.shore_nodes.proofs.Fits.{any_of, found_any}
 use Rattle.shore_nodes.proofs.Spreads.{list_small, owner_small}
@@ -228,6 +229,21 @@ newest_there heads slots queues lists owners ks t head node key r are_linked at 
           ∙ filter-append (λ q. q.txn == t) (requests_in slots last.0) (request_at slots last.1 ∷ [])
           ∙ ap (λ q. requests_by t (requests_in slots last.0) ++ requests_by t (q ∷ [])) here
           ∙ ap (λ xs. requests_by t (requests_in slots last.0) ++ xs) (members.filter-yes (λ q. q.txn == t) r [] ((Decides-eqb r.txn t).1 by)),
+    )
+
+-- the node before a head is the last that stands there
+pub last_there : (heads : ℕ) (slots : Slab Request) (queues lists owners : List Link) (ks : List ℕ) (head node key : ℕ) (r : Request) → IsLinked heads slots queues lists owners ks → head < heads → node ≡ before_at queues head → (node ≡ head → ⊥) → key ≡ node - heads → get slots key ≡ Some r
+    → (xs : List Request) × (crowd heads head (requests_in slots ks) ≡ xs ++ r ∷ [])
+last_there heads slots queues lists owners ks head node key r are_linked small is other key_at stands =
+    let ring = are_linked.queues_hold head small in
+    let last = last_of_ring heads (after_at queues) (before_at queues) head (in_bucket (queue_of heads slots) head ks) ring.way (λ e. other (is ∙ e)) in
+    let same : key ≡ last.1 = let e = last.3 in omega arith in
+    let here : request_at slots last.1 ≡ r = ap (request_at slots) (sym same) ∙ ap request_or stands in (
+      requests_in slots last.0,
+      filter_mapped (λ q. queue_head heads q.granule == head) (request_at slots) (λ k. queue_of heads slots k == head) ks (λ k h. refl)
+          ∙ ap (requests_in slots) last.2
+          ∙ map-append (request_at slots) last.0 (last.1 ∷ [])
+          ∙ ap (λ q. requests_in slots last.0 ++ q ∷ []) here,
     )
 
 pub if_some_all : {A : Type 0} (P Q : A → Type 0) (o : Option A) → ((x : A) → P x → Q x) → IfSome o P → IfSome o Q

@@ -117,6 +117,18 @@ impl Nodes {
         self.queues.after(head) == head
     }
 
+    /// The last request that stands at a head, if any does. It takes no walk.
+    pub fn last(&self, head: usize) -> Option<&Request>
+        requires { head < self.now.heads }
+        ensures { IfSome result (λ r. (xs : List Request) × (crowd self.now.heads head self.now.requests ≡ xs ++ r.now ∷ [])) }
+    {
+        let node = self.queues.before(head);
+        if node == head {
+            return None;
+        }
+        self.slots.get(node.saturating_sub(self.heads))
+    }
+
     /// How many heads there are.
     pub fn heads(&self) -> usize
         ensures { result ≡ self.now.heads }

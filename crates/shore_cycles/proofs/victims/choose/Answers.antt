@@ -3,6 +3,7 @@ use Rattle.std.proofs.lemmas.Bool.Decides.{Decides-eqb}
 use Rattle.shore_cycles.specs.Cycles.{AreVictims, IsOnNoCycleWithout, IsSimpleCycleFrom}
 use Rattle.shore_cycles.specs.Searching.{IsUnderWay}
 use Rattle.shore_cycles.proofs.VictimLemmas.{IsChosen, chosen_more, fewer_unharmed, none_past, unharmed}
+use Rattle.shore_cycles.proofs.Walks.{unawaited_on_none}
 use Rattle.shore_cycles.proofs.victims.choose.Goals as goal
 
 pub loop-search-preserved : goal.loop-search-preserved
@@ -69,3 +70,7 @@ pub returns-then-eq-clause-all : goal.returns-then-eq-clause-all
 returns-then-eq-clause-all c =
     subst (λ vs. IsOnNoCycleWithout vs c.args.table.now.requests c.args.txn) (sym c.in_ok-victims.ensures.victims)
     (none_past c.args.table.now.requests c.args.txn c.next_cycle.new.self.victims.items c.victim_of-victim.result ((Decides-eqb c.victim_of-victim.result.txn c.args.txn).0 (sym c.if-eq.ensures)))
+
+pub returns-then-not-may_be_awaited-clause-all : goal.returns-then-not-may_be_awaited-clause-all
+returns-then-not-may_be_awaited-clause-all c = λ cycle closed there _.
+    unawaited_on_none c.args.table.now.requests c.args.txn (c.may_be_awaited.ensures c.if-not-may_be_awaited.true) cycle closed there
