@@ -21,6 +21,7 @@ pub mod EmptyOpens
 pub mod EndedResolves
 pub mod EndedWaits
 pub mod FewTxns
+pub mod GivingUp
 pub mod GoingOn
 pub mod Growing
 pub mod GrownLocks

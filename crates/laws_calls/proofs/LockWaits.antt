@@ -21,7 +21,7 @@ use Rattle.laws_calls.proofs.AfterRefusals.{goes_leaves}
 use Rattle.laws_calls.proofs.EndedWaits.{answers_wait}
 use Rattle.laws_calls.proofs.SessionInversions.{answered_from, durable_no_lock}
 use Rattle.laws_calls.specs.CallHistories.{IsOpened}
-use Rattle.laws_calls.specs.Events.{Called, Forced, HasFailed, ManagerEvent, Resumed, EventMoves, EventsMove, TicketAsked}
+use Rattle.laws_calls.specs.Events.{Called, Forced, GaveUp, HasFailed, ManagerEvent, Resumed, EventMoves, EventsMove, TicketAsked}
 use Rattle.laws_calls.specs.StateChanges.{decision_waiting, wait_refused}
 use Rattle.laws_calls.specs.CallSteps.{AbortStep, BeginStep, CommitStep, CallGoesOn, InnerStep, MayAsk, ResumesWait, CallStep, ResumeStep, behind_lock, lock_waiting, OutsideStep}
 use Rattle.laws_calls.specs.Settling.{SettledCall, SettledResume, Settles}
@@ -208,6 +208,7 @@ module _ (g : Geometry) (P : ℕ → Call → Wait → Type 0) (moves : (session
   abbrev pub MayWaitIn : ManagerEvent → Type 0
   MayWaitIn (Called session c step) = MayWait g P session c
   MayWaitIn (Resumed session step) = Unit {0}
+  MayWaitIn (GaveUp session step) = Unit {0}
   MayWaitIn (Forced n) = Unit {0}
   MayWaitIn HasFailed = Unit {0}
   MayWaitIn (TicketAsked ticket answer) = Unit {0}
@@ -215,6 +216,8 @@ module _ (g : Geometry) (P : ℕ → Call → Wait → Type 0) (moves : (session
   pub event_waits_on : (s new : State) (e : ManagerEvent) → MayWaitIn e → EventMoves g s e new → WaitsHave P s → WaitsHave P new
   event_waits_on s new (Called session c step) may h k = call_waits_have s new session c may step h.1 k
   event_waits_on s new (Resumed session step) may h k = resume_waits_have s new session step h k
+  event_waits_on s new (GaveUp session step) may (inl h) k = but_one s new session (ap (λ (x : State). x.waiting) h.is) k
+  event_waits_on s new (GaveUp session step) may (inr h) k = as_before s new (ap (λ (x : State). x.waiting) h.is) k
   event_waits_on s new (Forced n) may h k = as_before s new (ap (λ (s : State). s.waiting) h.2) k
   event_waits_on s new HasFailed may h k = as_before s new (ap (λ (s : State). s.waiting) h) k
   event_waits_on s new (TicketAsked ticket answer) may h k = as_before s new (ap (λ (s : State). s.waiting) h.1) k
@@ -234,6 +237,7 @@ module _ (g : Geometry) where
   may_in : (e : ManagerEvent) → MayWaitIn g asked_for same_call e
   may_in (Called session c step) = may session c
   may_in (Resumed session step) = tt
+  may_in (GaveUp session step) = tt
   may_in (Forced n) = tt
   may_in HasFailed = tt
   may_in (TicketAsked ticket answer) = tt

@@ -20,7 +20,8 @@ use Rattle.shore_model.specs.declared.step.Wait.TheVariants.{Durable, Lock}
 use Rattle.shore_model.specs.declared.step.Step.{Step}
 use Rattle.shore_model.specs.declared.step.Step.TheVariants.{Done, Nothing, Refused, Waits}
 use Rattle.laws_calls.specs.CallHistories.{IsPrefix}
-use Rattle.laws_calls.specs.Events.{Called, Forced, HasFailed, ManagerEvent, Resumed, EventMoves, TicketAsked}
+use Rattle.laws_calls.specs.Events.{Called, Forced, GaveUp, HasFailed, ManagerEvent, Resumed, EventMoves, TicketAsked}
+use Rattle.laws_calls.specs.GivingUp.{GiveUpStep}
 use Rattle.laws_calls.specs.StateChanges.{after_refusal, answered, wait_refused}
 use Rattle.laws_calls.specs.Rollbacks.{BackToStep, IsInterrupted, IsUnwound, SavepointStep}
 use Rattle.laws_calls.specs.CallSteps.{AbortStep, AnswersBehind, BeginStep, CommitStep, CallGoesOn, InnerStep, OpenStep, RefusesBehind, ResumesCall, ResumesWait, CallStep, ResumeStep, behind_place, OutsideStep}
@@ -267,11 +268,16 @@ settled_resume_further g s session step new (inr (inl still)) = resume_further g
 settled_resume_further g s session step new (inr (inr on)) =
     further_then s on.mid new (resume_further g s session on.first on.mid on.resumes) (settles_further g on.mid session on.first on.rounds step new on.settles)
 
+pub give_up_further : (s : State) (session : ℕ) (step : Step) (new : State) → GiveUpStep s session step new → GoesFurther s new
+give_up_further s session step new (inl h) = subst (GoesFurther s) (sym h.is) (record { durable = refl; on = ([], sym (append-nil _)) })
+give_up_further s session step new (inr h) = same_further s new h.is
+
 -- ---- any event
 
 pub session_event_goes_on : (g : Geometry) (s new : State) (e : ManagerEvent) → EventMoves g s e new → IsPrefix s.log new.log
 session_event_goes_on g s new (Called session c step) h = further_on s new (settled_call_further g s session c step new h.1)
 session_event_goes_on g s new (Resumed session step) h = further_on s new (settled_resume_further g s session step new h)
+session_event_goes_on g s new (GaveUp session step) h = further_on s new (give_up_further s session step new h)
 session_event_goes_on g s new (Forced n) h = ([], ap (λ (x : State). x.log) h.2 ∙ sym (append-nil s.log))
 session_event_goes_on g s new HasFailed h = ([], ap (λ (x : State). x.log) h ∙ sym (append-nil s.log))
 session_event_goes_on g s new (TicketAsked ticket answer) h = ([], ap (λ (x : State). x.log) h.1 ∙ sym (append-nil s.log))

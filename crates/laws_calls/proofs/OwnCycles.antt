@@ -24,12 +24,12 @@ use Rattle.laws_calls.proofs.SettledDeadlocks.{same_cycle}
 use Rattle.laws_calls.proofs.SettledStates.{session_event_stays}
 use Rattle.laws_calls.proofs.ToldCycles.{WasWaiting, is_as_it_was, is_to_tell, was_waiting}
 use Rattle.laws_calls.proofs.ToldLater.{WereToBeTold, call_told, goes_told, without_told}
-use Rattle.laws_calls.proofs.VictimSteps.{victim_seat}
+use Rattle.laws_calls.proofs.VictimSteps.{gives_up_as, victim_seat}
 use Rattle.laws_calls.proofs.WaitsThere.{call_were, goes_were}
 use Rattle.laws_calls.proofs.WereUnderWay.{AllWereUnderWay, told_seat, was_in, was_it, was_with}
 use Rattle.laws_calls.specs.CallHistories.{IsOpened, txn_of}
 use Rattle.laws_calls.specs.CallSteps.{CallStep, ResumeStep, ResumesWait, prepare_ended, with_requests}
-use Rattle.laws_calls.specs.Events.{Called, EventMoves, EventsMove, Forced, HasFailed, IsStateAfter, ManagerEvent, Resumed, entries_of, TicketAsked}
+use Rattle.laws_calls.specs.Events.{Called, EventMoves, EventsMove, Forced, GaveUp, HasFailed, IsStateAfter, ManagerEvent, Resumed, entries_of, TicketAsked}
 use Rattle.laws_calls.specs.Midway.{EndsFrom, Interlude, Intervene, Intervenes, Takes, WaitsAnew}
 use Rattle.laws_calls.specs.Resolves.{resolve_ended}
 use Rattle.laws_calls.specs.SessionWaits.{AllBeginWithTheirs, BeginsWithIts, HasTheFirst}
@@ -194,6 +194,8 @@ module _ (g : Geometry) (o : Opening) (found : List LogRecord) (es : List Entry)
   event_begins : (new : State) (e : ManagerEvent) → AllBeginWithTheirs s → EventMoves g s e new → AllBeginWithTheirs new
   event_begins new (Called session c step) was h = settled_call_begins session c step new was h.1
   event_begins new (Resumed session step) was h = settled_resume_begins session step new was h
+  event_begins new (GaveUp session step) was (inl h) = withdrawn_begins o found es s k was h.txn (Refused Memory) new (refl, gives_up_as o found es s k session step new h)
+  event_begins new (GaveUp session step) was (inr h) = subst AllBeginWithTheirs (sym h.is) was
   event_begins new (Forced n) was h = subst AllBeginWithTheirs (sym h.2) was
   event_begins new HasFailed was h = subst AllBeginWithTheirs (sym h) was
   event_begins new (TicketAsked ticket answer) was h = subst AllBeginWithTheirs (sym h.1) was

@@ -21,10 +21,10 @@ use Rattle.laws_calls.proofs.Links.{ComesBy, Goes, GoesBy, IsDurable, IsLike, Wr
 use Rattle.laws_calls.proofs.LongerLogs.{GoesFurther, call_further, further_then, resume_further, victims_further, settles_further}
 use Rattle.laws_calls.proofs.SettledStates.{HasComeTo, call_entries, is_broken, its_withdraws, resume_comes, resume_entries, ended_entries, settles_stays, waiting_call_comes, adds_nothing}
 use Rattle.laws_calls.proofs.SettledWaits.{call_has_asked, resume_has_waited}
-use Rattle.laws_calls.proofs.VictimSteps.{told_comes, victim_comes, victim_stays, withdrawn_comes}
+use Rattle.laws_calls.proofs.VictimSteps.{gives_up_comes, nothing_told, told_comes, victim_comes, victim_stays, withdrawn_comes}
 use Rattle.laws_calls.specs.CallHistories.{txn_of}
 use Rattle.laws_calls.specs.CallSteps.{CallStep, ResumeStep}
-use Rattle.laws_calls.specs.Events.{Called, Forced, HasFailed, IsStateAfter, ManagerEvent, Resumed, EventMoves, entries_of, entries_of_resume, TicketAsked}
+use Rattle.laws_calls.specs.Events.{Called, Forced, GaveUp, HasFailed, IsStateAfter, ManagerEvent, Resumed, EventMoves, entries_of, entries_of_resume, TicketAsked}
 use Rattle.laws_calls.specs.Settling.{SettledCall, SettledResume, Settles}
 use Rattle.laws_calls.specs.States.{State}
 use Rattle.laws_calls.specs.Victims.{TakesVictims}
@@ -278,6 +278,10 @@ module _ (g : Geometry) (o : Opening) (found : List LogRecord) (es : List Entry)
   pub session_event_comes : (new : State) (e : ManagerEvent) → EventMoves g s e new → ComesBy g s new (entries_of s e new)
   session_event_comes new (Called session c step) h = settled_call_comes session c step new h.1
   session_event_comes new (Resumed session step) h = settled_resume_comes session step new h
+  session_event_comes new (GaveUp session step) (inl h) = gives_up_comes o found es s k session step new h g
+  session_event_comes new (GaveUp session step) (inr h) =
+      let nothing : [] ≡ entries_of_resume s session step = sym (nothing_told s session) ∙ ap (entries_of_resume s session) (sym h.told) in
+      subst (ComesBy g s new) nothing (nothing_comes g s new (subst (IsLike s) (sym h.is) (like_itself s)))
   session_event_comes new (Forced n) h = nothing_comes g s new (subst (IsLike s) (sym h.2) (record { sessions = refl; log = refl; counts = refl; stream = refl }))
   session_event_comes new HasFailed h = nothing_comes g s new (subst (IsLike s) (sym h) (record { sessions = refl; log = refl; counts = refl; stream = refl }))
   session_event_comes new (TicketAsked ticket answer) h = subst (λ (x : State). ComesBy g s x (Asked ticket answer ∷ [])) (sym h.1) (record {

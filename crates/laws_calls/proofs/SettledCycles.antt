@@ -27,7 +27,8 @@ use Rattle.laws_calls.proofs.SettledWaits.{resume_has_waited}
 use Rattle.laws_calls.proofs.VictimSteps.{victim_stays}
 use Rattle.laws_calls.specs.CallHistories.{IsOpened, txn_of}
 use Rattle.laws_calls.specs.CallSteps.{CallStep, ResumeStep}
-use Rattle.laws_calls.specs.Events.{Called, Forced, HasFailed, IsStateAfter, ManagerEvent, Resumed, EventMoves, EventsMove, entries_of, TicketAsked}
+use Rattle.laws_calls.specs.Events.{Called, Forced, GaveUp, HasFailed, IsStateAfter, ManagerEvent, Resumed, EventMoves, EventsMove, entries_of, TicketAsked}
+use Rattle.laws_calls.specs.GivingUp.{GivesUp}
 use Rattle.laws_calls.specs.Settling.{SettledCall, SettledResume, Settles}
 use Rattle.laws_calls.specs.States.{IsOfSession, State, Waiting}
 use Rattle.laws_calls.specs.Victims.{TakesVictims, TellsVictim}
@@ -109,6 +110,12 @@ module _ (g : Geometry) (o : Opening) (found : List LogRecord) (session n : ℕ)
 
 -- ---- calls, resumes and events
 
+-- a request that goes closes no cycle
+pub given_up_free : (s new : State) (session : ℕ) (step : Step) → IsOrderly s.locks.requests → HasNoCycle s.locks.requests → GivesUp s session step new → HasNoCycle new.locks.requests
+given_up_free s new session step orderly none h = subst (λ (x : State). HasNoCycle x.locks.requests) (sym h.is)
+    (λ cycle closed. none cycle (cycle_as (cancelled h.txn.txn s.locks.requests) s.locks.requests cycle
+    (λ a b in_a in_b waits. cancelled_adds_none s.locks.requests h.txn.txn a b orderly waits) closed))
+
 module _ (g : Geometry) (o : Opening) (found : List LogRecord) (es : List Entry) (s : State) (k : IsStateAfter o found es s) (none : HasNoCycle s.locks.requests) where
   settled_in : (session : ℕ) (c : Call) (step : Step) (new : State) (first : Step) (mid : State) → CallStep g s session c first mid → (rounds : List (List Victim))
       → Settles g mid session first rounds step new → HasNoCycle new.locks.requests
@@ -139,6 +146,8 @@ module _ (g : Geometry) (o : Opening) (found : List LogRecord) (es : List Entry)
   event_free : (new : State) (e : ManagerEvent) → EventMoves g s e new → HasNoCycle new.locks.requests
   event_free new (Called session c step) h = settled_call_free session c step new h.1
   event_free new (Resumed session step) h = settled_resume_free session step new h
+  event_free new (GaveUp session step) (inl h) = given_up_free s new session step k.sessions.locks.orderly none h
+  event_free new (GaveUp session step) (inr h) = none_as_before s new (ap (λ (x : State). x.locks) h.is) none
   event_free new (Forced n) h = none_as_before s new (ap (λ (x : State). x.locks) h.2) none
   event_free new HasFailed h = none_as_before s new (ap (λ (x : State). x.locks) h) none
   event_free new (TicketAsked ticket answer) h = none_as_before s new (ap (λ (x : State). x.locks) h.1) none

@@ -24,10 +24,10 @@ use Rattle.laws_calls.proofs.LockedAnswers.{inner_under}
 use Rattle.laws_calls.proofs.SessionStates.{as_it_was, its_wait, session_call_stays, session_failure_stays, session_force_stays, session_resume_stays, session_ask_stays}
 use Rattle.laws_calls.proofs.Sessions.{its_txn}
 use Rattle.laws_calls.proofs.SettledWaits.{IsSpared, WaitsAt, call_has_asked, call_waits_at, resume_has_waited, resume_undecided, resume_waits, still_spared, victims_keep_txn, victims_wait}
-use Rattle.laws_calls.proofs.VictimSteps.{told_stays, victim_stays, withdrawn_stays}
+use Rattle.laws_calls.proofs.VictimSteps.{gives_up_stays, nothing_told, told_stays, victim_stays, withdrawn_stays}
 use Rattle.laws_calls.specs.CallHistories.{txn_of, answered_under}
 use Rattle.laws_calls.specs.CallSteps.{CallStep, ResumeStep, with_requests}
-use Rattle.laws_calls.specs.Events.{Called, Forced, HasFailed, IsStateAfter, ManagerEvent, Resumed, EventMoves, EventsMove, MovesMaking, entries_of, entries_of_resume, entries_of_waiting, TicketAsked}
+use Rattle.laws_calls.specs.Events.{Called, Forced, GaveUp, HasFailed, IsStateAfter, ManagerEvent, Resumed, EventMoves, EventsMove, MovesMaking, entries_of, entries_of_resume, entries_of_waiting, TicketAsked}
 use Rattle.laws_calls.specs.LockedStates.{entries_of_resumed, entries_of_call}
 use Rattle.laws_calls.specs.Settling.{SettledCall, SettledResume, Settles}
 use Rattle.laws_calls.specs.StateChanges.{wait_refused, with_durable, with_failure}
@@ -252,6 +252,10 @@ pub session_event_stays : (g : Geometry) (o : Opening) (found : List LogRecord) 
     → EventMoves g s e new → IsStateAfter o found (es ++ entries_of s e new) new
 session_event_stays g o found es s new (Called session c step) k h = settled_call_stays o found es s k g session c step new h.1
 session_event_stays g o found es s new (Resumed session step) k h = settled_resume_stays o found es s k g session step new h
+session_event_stays g o found es s new (GaveUp session step) k (inl h) = gives_up_stays o found es s k session step new h
+session_event_stays g o found es s new (GaveUp session step) k (inr h) =
+    let nothing : [] ≡ entries_of_resume s session step = sym (nothing_told s session) ∙ ap (entries_of_resume s session) (sym h.told) in
+    subst (λ made. IsStateAfter o found (es ++ made) new) nothing (subst (IsStateAfter o found (es ++ [])) (sym h.is) (as_it_was o found es s k))
 session_event_stays g o found es s new (Forced n) k h =
     subst (IsStateAfter o found (es ++ [])) (sym h.2) (as_it_was o found es (with_durable n s) (session_force_stays o found es s k n h.0 h.1))
 session_event_stays g o found es s new HasFailed k h = subst (IsStateAfter o found (es ++ [])) (sym h) (as_it_was o found es (with_failure s) (session_failure_stays o found es s k))

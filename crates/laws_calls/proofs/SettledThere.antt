@@ -1,6 +1,7 @@
 -- A call and a resume as a whole that wait for a lock do so at the granule that they tell, and those that wait for a record do so for their commit's.
 use Rattle.std.proofs.Common.{◌≡◌, ◌⊎◌, inl, inr, ⊎_elim, ◌++◌, ◌<◌, ℕ, List, [], ◌∷◌, true, Option, Some, None, refl, sym, ap, subst, ◌∙◌, length, arith, ◌≤◌, length-append}
 use Rattle.std.specs.Prelude.{is_some}
+use Rattle.shore_types.specs.declared.faults.Fault.TheVariants as fault
 use Rattle.shore_types.specs.declared.layout.Geometry.{Geometry}
 use Rattle.shore_types.specs.declared.locking.Granule.{Granule}
 use Rattle.shore_model.specs.declared.calls.Call.{Call}
@@ -9,7 +10,7 @@ use Rattle.shore_model.specs.declared.histories.Opening.{Opening}
 use Rattle.shore_model.specs.declared.log_records.LogRecord.{LogRecord}
 use Rattle.shore_model.specs.declared.requests.Request.{Request}
 use Rattle.shore_model.specs.declared.step.Step.{Step}
-use Rattle.shore_model.specs.declared.step.Step.TheVariants.{Waits}
+use Rattle.shore_model.specs.declared.step.Step.TheVariants.{Refused, Waits}
 use Rattle.shore_model.specs.declared.step.Wait.{Wait}
 use Rattle.shore_model.specs.declared.step.Wait.TheVariants.{Durable, Lock}
 use Rattle.shore_locks.specs.Tables.{is_waiting, waiting_request}
@@ -21,10 +22,11 @@ use Rattle.laws_calls.proofs.SessionResumes.{woken}
 use Rattle.laws_calls.proofs.SettledEnds.{settled_call_waits, settled_still_waits}
 use Rattle.laws_calls.proofs.SettledStates.{session_event_stays}
 use Rattle.laws_calls.proofs.SettledWaits.{HasWaited, resume_undecided}
+use Rattle.laws_calls.proofs.VictimSteps.{gives_up_as}
 use Rattle.laws_calls.proofs.WaitsThere.{call_there, fresh, fresh_active, resume_there, told_there, victim_there, withdrawn_there}
 use Rattle.laws_calls.specs.CallHistories.{IsOpened, txn_of}
 use Rattle.laws_calls.specs.CallSteps.{ResumeStep, ResumesWait, CallStep}
-use Rattle.laws_calls.specs.Events.{Called, EventMoves, EventsMove, Forced, HasFailed, IsStateAfter, ManagerEvent, Resumed, entries_of, TicketAsked}
+use Rattle.laws_calls.specs.Events.{Called, EventMoves, EventsMove, Forced, GaveUp, HasFailed, IsStateAfter, ManagerEvent, Resumed, entries_of, TicketAsked}
 use Rattle.laws_calls.specs.Midway.{EndsFrom, HasItsWait, Interlude, Intervenes, Takes, WaitsAnew}
 use Rattle.laws_calls.specs.SessionWaits.{AllWaitThere, IsDecisionWait, IsLockWait}
 use Rattle.laws_calls.specs.Settling.{SettledCall, SettledResume}
@@ -83,6 +85,8 @@ module _ (g : Geometry) (o : Opening) (found : List LogRecord) (es : List Entry)
   event_there : (new : State) (e : ManagerEvent) → AllWaitThere s → EventMoves g s e new → AllWaitThere new
   event_there new (Called session c step) was h = settled_call_there session c step new was h.1
   event_there new (Resumed session step) was h = settled_resume_there session step new was h
+  event_there new (GaveUp session step) was (inl h) = withdrawn_there o found es s k was h.txn (Refused fault.Memory) new (refl, gives_up_as o found es s k session step new h)
+  event_there new (GaveUp session step) was (inr h) = subst AllWaitThere (sym h.is) was
   event_there new (Forced n) was h = subst AllWaitThere (sym h.2) was
   event_there new HasFailed was h = subst AllWaitThere (sym h) was
   event_there new (TicketAsked ticket answer) was h = subst AllWaitThere (sym h.1) was

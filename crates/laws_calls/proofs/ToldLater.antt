@@ -26,7 +26,7 @@ use Rattle.laws_calls.proofs.VictimSteps.{victim_seat}
 use Rattle.laws_calls.proofs.WaitsThere.{call_nothing}
 use Rattle.laws_calls.specs.CallHistories.{IsOpened, txn_of}
 use Rattle.laws_calls.specs.CallSteps.{CallGoesOn, CallStep, ResumeStep, ResumesWait}
-use Rattle.laws_calls.specs.Events.{Called, EventMoves, EventsMove, Forced, HasFailed, IsStateAfter, ManagerEvent, Resumed, entries_of, TicketAsked}
+use Rattle.laws_calls.specs.Events.{Called, EventMoves, EventsMove, Forced, GaveUp, HasFailed, IsStateAfter, ManagerEvent, Resumed, entries_of, TicketAsked}
 use Rattle.laws_calls.specs.Midway.{EndsFrom, Interlude, Intervene, Intervenes, IsCutShort, IsItsCycle, Takes, WaitsAnew}
 use Rattle.laws_calls.specs.StateChanges.{wait_refused}
 use Rattle.laws_calls.specs.States.{State, Waiting, without_waiting}
@@ -157,6 +157,8 @@ module _ (g : Geometry) (o : Opening) (found : List LogRecord) (es : List Entry)
       (told_on_the_way g o found es session (txn_of s.sessions session) on.0.call s came.between came.from (record { stays = k; at = on.0.at; waits = on.0.waits }) came.intervene w
       (ends_told g came.from new session step came.ends w m cycle is) cycle is)))
       (settled_resume_to g s session step new h)
+  told_in new (GaveUp session step) (inl h) w m cycle is = inl (without_told s new session (ap (λ (y : State). y.waiting) h.is) w m cycle is)
+  told_in new (GaveUp session step) (inr h) w m cycle is = inl (subst (λ (y : State). IsAmong w y.waiting) h.is m)
   told_in new (Forced n) h w m cycle is = inl (subst (λ (y : State). IsAmong w y.waiting) h.2 m)
   told_in new HasFailed h w m cycle is = inl (subst (λ (y : State). IsAmong w y.waiting) h m)
   told_in new (TicketAsked ticket answer) h w m cycle is = inl (subst (λ (y : State). IsAmong w y.waiting) h.1 m)

@@ -34,15 +34,16 @@ use Rattle.laws_calls.proofs.Sessions.{one_txn, one_member, own_of, older_resolv
 use Rattle.laws_calls.proofs.TakenLocks.{sessions_of, state_of}
 use Rattle.laws_calls.proofs.TakenVictims.{back_moves, doom_goes, taken_back_state, victim_moves, victim_state, victim_waits, with_doom}
 use Rattle.shore_model.specs.declared.step.Step.{Step}
-use Rattle.shore_model.specs.declared.step.Step.TheVariants.{Refused}
+use Rattle.shore_model.specs.declared.step.Step.TheVariants.{Nothing, Refused}
 use Rattle.shore_model.specs.declared.step.Wait.TheVariants.{Lock, Durable}
 use Rattle.laws_calls.specs.CallHistories.{txn_of}
 use Rattle.laws_calls.specs.CallSteps.{with_requests, ended_among}
-use Rattle.laws_calls.specs.Events.{IsStateAfter, entries_of_resume, entries_of_waiting}
+use Rattle.laws_calls.specs.Events.{IsStateAfter, call_waiting, entries_of_resume, entries_of_waiting}
 use Rattle.laws_calls.specs.LockedStates.{IsSessionsState, entries_of_resumed}
 use Rattle.laws_calls.specs.SessionWaits.{IsDecisionWait, IsLockWait, WaitsOfSessions}
 use Rattle.laws_calls.specs.StateChanges.{wait_refused}
 use Rattle.laws_calls.specs.States.{AsksForNothing, IsOfSession, State, Waiting, without_waiting, HasSeat}
+use Rattle.laws_calls.specs.GivingUp.{GivesUp}
 use Rattle.laws_calls.specs.Victims.{TakesVictim, TellsVictim, Withdraws, victim_taken}
 use Rattle.shore_locks.specs.Tables.{is_waiting}
 use Rattle.shore_cycles.proofs.Walks.{member_waits}
@@ -215,23 +216,50 @@ module _ (o : Opening) (found : List LogRecord) (es : List Entry) (s : State) (k
         (record { waiting = refl; prepared = refl; seats = λ n t is. is; active = λ b mem. (b, mem, refl, refl, λ waits whole. whole); resolving = refl; txns = λ t m. m; older = λ t less m. m; next = omega arith; outside = λ v m t is. is; on = whole_prefix s.log; running = λ running. running })
         (woken_waits o found es s k.sessions k.waits a.session (λ running. no_record_awaited o found es s k.sessions k.waits a of.0))
 
-    abbrev short : Entry
-    short = refusal w there fault.Memory tt
+    -- it is refused by a fault that tells nothing
+    module _ (f : Fault) (nothing : TellsNothing f) where
+      abbrev told : Entry
+      told = refusal w there f nothing
 
-    short_stays : IsStateAfter o found (es ++ short ∷ []) withdrawn
-    short_stays =
-        refused_stays w there fault.Memory tt withdrawn (refusal_told o found es withdrawn withdrawn_state w.session w.call fault.Memory tt) withdrawn_waits refl refl refl refl
+      told_so : IsStateAfter o found (es ++ told ∷ []) withdrawn
+      told_so = refused_stays w there f nothing withdrawn (refusal_told o found es withdrawn withdrawn_state w.session w.call f nothing) withdrawn_waits refl refl refl refl
 
-    short_comes : (g : Geometry) → ComesBy g s withdrawn (short ∷ [])
-    short_comes g =
-        quietly_comes g w.session s idle withdrawn (short ∷ []) (record { sessions = refl; log = refl; counts = refl; stream = refl })
-        (quietly_behind g w.session idle back withdrawn (short ∷ []) (locks_go g idle back (back_moves o found es s k.sessions a.txn low))
-        (told_passes g o found es w.session withdrawn withdrawn w.call fault.Memory tt (inl refl)))
+      comes_so : (g : Geometry) → ComesBy g s withdrawn (told ∷ [])
+      comes_so g =
+          quietly_comes g w.session s idle withdrawn (told ∷ []) (record { sessions = refl; log = refl; counts = refl; stream = refl })
+          (quietly_behind g w.session idle back withdrawn (told ∷ []) (locks_go g idle back (back_moves o found es s k.sessions a.txn low))
+          (told_passes g o found es w.session withdrawn withdrawn w.call f nothing (inl refl)))
+
+      pub taken_back_stays : (step : Step) (new : State) → step ≡ Refused f → new ≡ withdrawn → IsStateAfter o found (es ++ entries_of_resume s session step) new
+      taken_back_stays step new is left =
+          subst (λ made. IsStateAfter o found (es ++ made) new) (refusal_entry w there f nothing session step its is) (subst (IsStateAfter o found (es ++ told ∷ [])) (sym left) told_so)
+
+      pub taken_back_comes : (g : Geometry) (step : Step) (new : State) → step ≡ Refused f → new ≡ withdrawn → ComesBy g s new (entries_of_resume s session step)
+      taken_back_comes g step new is left =
+          subst (ComesBy g s new) (refusal_entry w there f nothing session step its is) (subst (λ (x : State). ComesBy g s x (told ∷ [])) (sym left) (comes_so g))
 
     pub withdrawn_stays : (step : Step) (new : State) → Withdraws s a step new → IsStateAfter o found (es ++ entries_of_resume s session step) new
-    withdrawn_stays step new h =
-        subst (λ made. IsStateAfter o found (es ++ made) new) (refusal_entry w there fault.Memory tt session step its h.0) (subst (IsStateAfter o found (es ++ short ∷ [])) (sym h.1) short_stays)
+    withdrawn_stays step new h = taken_back_stays fault.Memory tt step new h.0 h.1
 
     pub withdrawn_comes : (g : Geometry) (step : Step) (new : State) → Withdraws s a step new → ComesBy g s new (entries_of_resume s session step)
-    withdrawn_comes g step new h =
-        subst (ComesBy g s new) (refusal_entry w there fault.Memory tt session step its h.0) (subst (λ (x : State). ComesBy g s x (short ∷ [])) (sym h.1) (short_comes g))
+    withdrawn_comes g step new h = taken_back_comes fault.Memory tt g step new h.0 h.1
+
+  -- ---- a wait that is taken back
+
+  module _ (session : ℕ) (step : Step) (new : State) (h : GivesUp s session step new) where
+    pub gives_up_as : new ≡ with_requests (wait_refused s h.txn.session) (cancelled h.txn.txn s.locks.requests)
+    gives_up_as = h.is ∙ ap (λ n. with_requests (wait_refused s n) (cancelled h.txn.txn s.locks.requests)) (sym h.its.1)
+
+    pub gives_up_stays : IsStateAfter o found (es ++ entries_of_resume s session step) new
+    gives_up_stays = taken_back_stays h.txn session h.its h.waited h.there h.of h.at h.waits (fault.WouldBlock h.holder) tt step new h.told gives_up_as
+
+    pub gives_up_comes : (g : Geometry) → ComesBy g s new (entries_of_resume s session step)
+    gives_up_comes g = taken_back_comes h.txn session h.its h.waited h.there h.of h.at h.waits (fault.WouldBlock h.holder) tt g step new h.told gives_up_as
+
+-- nothing is told of what is not given up
+pub nothing_told : (s : State) (session : ℕ) → entries_of_resume s session Nothing ≡ []
+nothing_told s session = of (call_waiting session s.waiting)
+  where
+    of : (w : Option Waiting) → entries_of_waiting s w Nothing ≡ []
+    of None = refl
+    of (Some w) = refl

@@ -14,16 +14,18 @@ use Rattle.laws_calls.specs.StateChanges.{with_durable, with_failure}
 use Rattle.laws_calls.specs.CallSteps.{txn_count}
 use Rattle.laws_calls.specs.LockedStates.{IsSessionsState, entries_of_resumed, entries_of_call}
 use Rattle.laws_calls.specs.SessionWaits.{WaitsOfSessions}
+use Rattle.laws_calls.specs.GivingUp.{GiveUpStep}
 use Rattle.laws_calls.specs.Settling.{SettledCall, SettledResume}
 use Rattle.laws_calls.specs.States.{State, Waiting}
 
 -- ---- events
 
--- what happens to a manager: a call and a resume of a session, each with what it came to; a force that is told; a device's failure; and whether a ticket is
--- durable is asked, with the answer
+-- what happens to a manager: a call and a resume of a session, and a wait of it that is to be taken back, each with what it came to; a force that is told; a device's
+-- failure; and whether a ticket is durable is asked, with the answer
 pub data ManagerEvent : Type 0 where
   Called : ℕ → Call → Step → ManagerEvent
   Resumed : ℕ → Step → ManagerEvent
+  GaveUp : ℕ → Step → ManagerEvent
   Forced : ℕ → ManagerEvent
   HasFailed : ManagerEvent
   TicketAsked : ℕ → Bool → ManagerEvent
@@ -31,6 +33,7 @@ pub data ManagerEvent : Type 0 where
 abbrev pub EventMoves : Geometry → State → ManagerEvent → State → Type 0
 EventMoves g s (Called session c step) new = IsServed c × SettledCall g s session c step new
 EventMoves g s (Resumed session step) new = SettledResume g s session step new
+EventMoves g s (GaveUp session step) new = GiveUpStep s session step new
 EventMoves g s (Forced n) new = (s.durable ≤ n) × (n ≤ length s.log) × (new ≡ with_durable n s)
 EventMoves g s HasFailed new = new ≡ with_failure s
 EventMoves g s (TicketAsked ticket answer) new = ((answer ≡ true) ↔ (ticket ≤ s.durable)) × (new ≡ s)
@@ -51,13 +54,14 @@ abbrev pub entries_of_waiting : State → Option Waiting → Step → List Entry
 entries_of_waiting s None step = []
 entries_of_waiting s (Some w) step = entries_of_resumed s w step
 
--- what a resume of a session adds: the reply to its call that waited, if it ended
+-- what a resume of a session adds, and a wait that is taken back: the reply to its call that waited, if it ended
 abbrev pub entries_of_resume : State → ℕ → Step → List Entry
 entries_of_resume s session step = entries_of_waiting s (call_waiting session s.waiting) step
 
 abbrev pub entries_of : State → ManagerEvent → State → List Entry
 entries_of s (Called session c step) new = entries_of_call s session c step new
 entries_of s (Resumed session step) new = entries_of_resume s session step
+entries_of s (GaveUp session step) new = entries_of_resume s session step
 entries_of s (Forced n) new = []
 entries_of s HasFailed new = []
 entries_of s (TicketAsked ticket answer) new = Asked ticket answer ∷ []

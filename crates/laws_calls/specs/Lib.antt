@@ -8,6 +8,7 @@ pub mod CallSteps
 pub mod LockedStates
 pub mod SessionWaits
 pub mod Victims
+pub mod GivingUp
 pub mod Settling
 pub mod LockRounds
 pub mod Events

@@ -1,7 +1,7 @@
 -- Cycles of waits that stood within the events of a run.
 use Rattle.std.specs.Prelude.{◌⊎◌, ℕ, List, [], ◌∷◌}
 use Rattle.shore_types.specs.declared.layout.Geometry.{Geometry}
-use Rattle.laws_calls.specs.Events.{Called, EventMoves, EventsMove, Forced, HasFailed, ManagerEvent, Resumed, TicketAsked}
+use Rattle.laws_calls.specs.Events.{Called, EventMoves, EventsMove, Forced, GaveUp, HasFailed, ManagerEvent, Resumed, TicketAsked}
 use Rattle.laws_calls.specs.Midway.{EndsFrom, Interlude, Intervene, IsItsCycle, IsMidway}
 use Rattle.laws_calls.specs.States.{State}
 
@@ -11,6 +11,7 @@ IsWithin g s (Called session c step) new x =
     (between : List Interlude) × IsMidway g s session c between x × ((later : List Interlude) × (from : State) × Intervene g session x later from × EndsFrom g from session step new)
 IsWithin g s (Resumed session step) new x =
     (between : List Interlude) × Intervene g session s between x × ((later : List Interlude) × (from : State) × Intervene g session x later from × EndsFrom g from session step new)
+IsWithin g s (GaveUp session step) new x = ⊥
 IsWithin g s (Forced n) new x = ⊥
 IsWithin g s HasFailed new x = ⊥
 IsWithin g s (TicketAsked ticket answer) new x = ⊥

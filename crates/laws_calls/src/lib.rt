@@ -3,6 +3,7 @@
 
 pub mod answers;
 pub mod cycles;
+pub mod giving_up;
 pub mod laws;
 pub mod locks;
 pub mod prepares;

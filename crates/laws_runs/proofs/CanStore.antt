@@ -3,8 +3,8 @@ use Rattle.std.proofs.Common.{◌≡◌, ◌++◌, ◌+◌, List, [], ◌∷◌,
 use Rattle.shore_types.specs.declared.layout.Geometry.{Geometry}
 use Rattle.shore_model.specs.declared.log_records.LogRecord.{LogRecord}
 use Rattle.laws_lives.specs.Recovery.{AppendRecord, ForceLog, RecoveryEvent, RecoveryState, after_append, after_force}
-use Rattle.laws_calls.proofs.LongerLogs.{GoesFurther, settled_call_further, settled_resume_further}
-use Rattle.laws_calls.specs.Events.{Called, Forced, HasFailed, ManagerEvent, Resumed, EventMoves, TicketAsked}
+use Rattle.laws_calls.proofs.LongerLogs.{GoesFurther, give_up_further, settled_call_further, settled_resume_further}
+use Rattle.laws_calls.specs.Events.{Called, Forced, GaveUp, HasFailed, ManagerEvent, Resumed, EventMoves, TicketAsked}
 use Rattle.laws_calls.specs.States.{State}
 use Rattle.laws_lives.specs.ManagerSteps.{WorksTo}
 use Rattle.laws_runs.specs.StoredRuns.{IsStored, StoredState}
@@ -56,6 +56,7 @@ module _ (m : StoredState) (stored : IsStored m.state m.store) (redone : m.store
   pub event_can_be_stored : (g : Geometry) (new : State) (e : ManagerEvent) → EventMoves g m.state e new → CanStore m new
   event_can_be_stored g new (Called session c step) h = appended new (settled_call_further g m.state session c step new h.1)
   event_can_be_stored g new (Resumed session step) h = appended new (settled_resume_further g m.state session step new h)
+  event_can_be_stored g new (GaveUp session step) h = appended new (give_up_further m.state session step new h)
   event_can_be_stored g new (Forced n) h =
       let durable = stored.durable in
       let least = h.0 in

@@ -24,7 +24,7 @@ use Rattle.laws_calls.proofs.Told.{entries_told}
 use Rattle.laws_calls.proofs.ToldEntries.{told_of_call}
 use Rattle.laws_calls.specs.CallHistories.{txn_of}
 use Rattle.laws_calls.specs.CallSteps.{CallStep}
-use Rattle.laws_calls.specs.Events.{Called, EventMoves, Forced, HasFailed, IsStateAfter, ManagerEvent, Resumed, call_waiting, entries_of, entries_of_waiting, TicketAsked}
+use Rattle.laws_calls.specs.Events.{Called, EventMoves, Forced, GaveUp, HasFailed, IsStateAfter, ManagerEvent, Resumed, call_waiting, entries_of, entries_of_waiting, TicketAsked}
 use Rattle.laws_calls.specs.LockedStates.{entries_of_call}
 use Rattle.laws_calls.specs.Resolves.{DecidesRollback, MayResolve, ResolvesTo}
 use Rattle.laws_calls.specs.Settling.{Settles}
@@ -120,6 +120,7 @@ module _ (g : Geometry) (o : Opening) (found : List LogRecord) (es : List Entry)
   pub event_decides_no_prepare : (new : State) (e : ManagerEvent) → IsNoPreparing e → EventMoves g s e new → AllByRecursion PreparesNothing (entries_of s e new)
   event_decides_no_prepare new (Called session c step) none h = settled_none session c step new h.1.first h.1.mid none h.1.calls h.1.rounds h.1.settles
   event_decides_no_prepare new (Resumed session step) none h = resumed_none s (call_waiting session s.waiting) step
+  event_decides_no_prepare new (GaveUp session step) none h = resumed_none s (call_waiting session s.waiting) step
   event_decides_no_prepare new (Forced n) none h = tt
   event_decides_no_prepare new HasFailed none h = tt
   event_decides_no_prepare new (TicketAsked ticket answer) none h = (tt, tt)

@@ -40,7 +40,7 @@ use Rattle.laws_calls.proofs.RollingLeaves.{back_table, interrupted_table, savep
 use Rattle.laws_calls.proofs.Rows.{page_has_store}
 use Rattle.laws_calls.specs.CallSteps.{AbortStep, AnswersBehind, CallGoesOn, CallStep, HasLocked, InnerStep, MayAsk, OutsideStep, RefusesBehind, ResumeStep, ResumesWait, ServesTxn, behind_lock, behind_place, on_conflict_of, CommitStep}
 use Rattle.laws_calls.specs.Resolves.{ResolvesTo}
-use Rattle.laws_calls.specs.Events.{Called, EventMoves, Forced, HasFailed, ManagerEvent, Resumed, TicketAsked}
+use Rattle.laws_calls.specs.Events.{Called, EventMoves, Forced, GaveUp, HasFailed, ManagerEvent, Resumed, TicketAsked}
 use Rattle.laws_calls.specs.Settling.{SettledResume, Settles}
 use Rattle.laws_calls.specs.Shapes.{LockWaitsMayAsk}
 use Rattle.laws_calls.specs.StateChanges.{wait_refused}
@@ -278,6 +278,8 @@ module _ (g : Geometry) where
       settles_bounds h.1.mid session h.1.first h.1.rounds step new (called g (asked_for g) (same_call g) s h.1.mid session c (may g session c) h.1.first h.1.calls asks) h.1.settles
       (call_bounds s session c h.1.first h.1.mid h.1.calls k)
   event_keeps_locks s new (Resumed session step) asks h k = resumed_bounds s session step new asks h k
+  event_keeps_locks s new (GaveUp session step) asks (inl h) k = withdrawn_bounds s new h.txn.txn (ap (λ (x : State). x.locks) h.is) k
+  event_keeps_locks s new (GaveUp session step) asks (inr h) k = same_bounds s new (ap (λ (x : State). x.locks) h.is) k
   event_keeps_locks s new (Forced n) asks h k = same_bounds s new (ap (λ (x : State). x.locks) h.2) k
   event_keeps_locks s new HasFailed asks h k = same_bounds s new (ap (λ (x : State). x.locks) h) k
   event_keeps_locks s new (TicketAsked ticket answer) asks h k = same_bounds s new (ap (λ (x : State). x.locks) h.1) k

@@ -35,14 +35,14 @@ use Rattle.laws_calls.proofs.PrepareSteps.{prepare_goes, with_prepare}
 use Rattle.laws_calls.proofs.SessionInversions.{waits_of}
 use Rattle.laws_calls.proofs.SettledComings.{session_event_comes}
 use Rattle.laws_calls.proofs.SettledWaits.{call_has_asked}
-use Rattle.laws_calls.proofs.LongerLogs.{settled_call_further, settled_resume_further}
+use Rattle.laws_calls.proofs.LongerLogs.{give_up_further, settled_call_further, settled_resume_further}
 use Rattle.laws_calls.proofs.Links.{Changes, ComesBy, Commits, Compensates, Decides, Ends, Goes, GoesBy, IsLike, Writes}
 use Rattle.laws_calls.proofs.SessionRooms.{goes_roomy, like_roomy, session_event_roomy}
 use Rattle.laws_calls.proofs.SettledStates.{session_event_stays}
 use Rattle.laws_calls.proofs.Sessions.{AreSessionsAfter}
 use Rattle.laws_calls.proofs.TakenLocks.{sessions_of}
 use Rattle.laws_calls.specs.CallHistories.{IsRoomyState}
-use Rattle.laws_calls.specs.Events.{Called, Forced, HasFailed, IsStateAfter, ManagerEvent, EventMoves, MovesMaking, Resumed, entries_of, TicketAsked}
+use Rattle.laws_calls.specs.Events.{Called, Forced, GaveUp, HasFailed, IsStateAfter, ManagerEvent, EventMoves, MovesMaking, Resumed, entries_of, TicketAsked}
 use Rattle.laws_calls.specs.CallSteps.{CallStep, InnerStep, ended_among, txn_count}
 use Rattle.laws_calls.specs.Prepares.{PrepareStep, granules_in_ex, prepared}
 use Rattle.laws_calls.specs.Settling.{Settles}
@@ -397,6 +397,7 @@ later_leaving g stream_bytes least s le h = record {
 durable_rises : (g : Geometry) (s new : State) (e : ManagerEvent) → EventMoves g s e new → s.durable ≤ new.durable
 durable_rises g s new (Called session c step) h = let same = (settled_call_further g s session c step new h.1).durable in omega (arith, same)
 durable_rises g s new (Resumed session step) h = let same = (settled_resume_further g s session step new h).durable in omega (arith, same)
+durable_rises g s new (GaveUp session step) h = let same = (give_up_further s session step new h).durable in omega (arith, same)
 durable_rises g s new (Forced n) h = let same = ap (λ (x : State). x.durable) h.2 in let more = h.0 in omega (arith, same, more)
 durable_rises g s new HasFailed h = let same = ap (λ (x : State). x.durable) h in omega (arith, same)
 durable_rises g s new (TicketAsked ticket answer) h = let same = ap (λ (x : State). x.durable) h.1 in omega (arith, same)

@@ -11,6 +11,7 @@ mod Quiets
 pub mod LawLemmas
 pub mod Outcomes
 pub mod Tables
+pub mod Unawaited
 mod Inventories
 pub use Rattle.shore_nodes.proofs.Counts
 pub use Rattle.shore_nodes.proofs.Entering
@@ -19,3 +20,4 @@ pub use Rattle.shore_nodes.proofs.Keys
 pub use Rattle.shore_nodes.proofs.Members
 pub use Rattle.shore_nodes.proofs.Others
 pub use Rattle.shore_nodes.proofs.Passes
+pub mod Blocked

@@ -108,36 +108,41 @@ ahead_before g r rs o None (Some v) None w eh ew em er at there ahead =
     (last_of_group NewWaiters g r rs o at (rw (em, er) refl) there (rw (eh, ew) refl))
 ahead_before g r rs o None (Some v) (Some m) w eh ew em er at there ahead = absurd (let f : false ≡ true = ahead in cc)
 
--- the one that is in the way is one for whom the transaction would wait
-pub waits_for_obstacle : (t : ℕ) (g : Granule) (mode : Mode) (rs : List Request) (o : Request) → obstacle (asking t g mode rs) rs ≡ Some o → WaitsFor (placed_last (asking t g mode rs) rs) t o.txn
-waits_for_obstacle t g mode rs o is =
-    let r = asking t g mode rs in
-    let f = found_in (is_stopped_by (asking t g mode rs)) (requests_at g rs) o is in
-    let other : (o.txn == t) ≡ false = ⊎_elim (λ x. x.0) (λ x. x.0) (refused_or_ahead (o.txn == t) (is_refused (asking t g mode rs).wanted o.held) (is_ahead (asking t g mode rs) o) f.1) in
-    let differ : (t ≡ o.txn) → ⊥ = λ e. let yes = (Decides-eqb o.txn t).1 (sym e) in cc in
-    let apart : are_alike o (asking t g mode rs) ≡ false = ⊎_elim (λ yes. absurd (differ (sym ((alike-Decides o (asking t g mode rs)).0 yes).0))) (λ no. no) (either (are_alike o (asking t g mode rs))) in
+-- who is in the way of a request is one for whom it would wait
+pub waits_for_one : (r : Request) (rs : List Request) (w : Mode) (o : Request) → r.wanted ≡ Some w → obstacle r rs ≡ Some o → WaitsFor (placed_last r rs) r.txn o.txn
+waits_for_one r rs w o wants is =
+    let g = r.granule in
+    let f = found_in (is_stopped_by r) (requests_at g rs) o is in
+    let cause = refused_or_ahead (o.txn == r.txn) (is_refused r.wanted o.held) (is_ahead r o) f.1 in
+    let other : (o.txn == r.txn) ≡ false = ⊎_elim (λ x. x.0) (λ x. x.0) cause in
+    let differ : (r.txn ≡ o.txn) → ⊥ = λ e. let yes = (Decides-eqb o.txn r.txn).1 (sym e) in cc in
+    let apart : are_alike o r ≡ false = ⊎_elim (λ yes. absurd (differ (sym ((alike-Decides o r).0 yes).0))) (λ no. no) (either (are_alike o r)) in
     let at_g = In-filter (λ q. same_granule q.granule g) rs o f.0 in
-    let left : In o (requests_at g (removed (asking t g mode rs) rs)) = filter-In (λ q. same_granule q.granule g) (removed (asking t g mode rs) rs) o (filter-In (λ q. not (are_alike q (asking t g mode rs))) rs o at_g.0 (ap not apart)) at_g.1 in
-    let stays : In o (requests_at g (placed_last (asking t g mode rs) rs)) =
-    filter-In (λ q. same_granule q.granule g) (placed_last (asking t g mode rs) rs) o (In-left (removed (asking t g mode rs) rs) (asking t g mode rs ∷ []) o (In-filter (λ q. same_granule q.granule g) (removed (asking t g mode rs) rs) o left).0) at_g.1 in
-    let mine : In (asking t g mode rs) (placed_last (asking t g mode rs) rs) = In-right (removed (asking t g mode rs) rs) (asking t g mode rs ∷ []) (asking t g mode rs) (inl refl) in (
+    let left : In o (requests_at g (removed r rs)) = filter-In (λ q. same_granule q.granule g) (removed r rs) o (filter-In (λ q. not (are_alike q r)) rs o at_g.0 (ap not apart)) at_g.1 in
+    let stays : In o (requests_at g (placed_last r rs)) =
+    filter-In (λ q. same_granule q.granule g) (placed_last r rs) o (In-left (removed r rs) (r ∷ []) o (In-filter (λ q. same_granule q.granule g) (removed r rs) o left).0) at_g.1 in
+    let mine : In r (placed_last r rs) = In-right (removed r rs) (r ∷ []) r (inl refl) in (
       differ,
-      any_from (λ waiter. (waiter.txn ≡ t) × WaitsIn (queue_at waiter.granule (placed_last (asking t g mode rs) rs)) waiter o.txn) (placed_last (asking t g mode rs) rs) (asking t g mode rs) mine (
+      any_from (λ waiter. (waiter.txn ≡ r.txn) × WaitsIn (queue_at waiter.granule (placed_last r rs)) waiter o.txn) (placed_last r rs) r mine (
         refl,
-        any_from (λ q. (q.txn ≡ o.txn) × (IsRefusedBy (asking t g mode rs) q ⊎ IsBehind (queue_at g (placed_last (asking t g mode rs) rs)) (asking t g mode rs) q)) (queue_at g (placed_last (asking t g mode rs) rs)) o
-            (in_queue g (placed_last (asking t g mode rs) rs) o stays) (
+        any_from (λ q. (q.txn ≡ o.txn) × (IsRefusedBy r q ⊎ IsBehind (queue_at g (placed_last r rs)) r q)) (queue_at g (placed_last r rs)) o
+            (in_queue g (placed_last r rs) o stays) (
               refl,
               ⊎_elim
-                  (λ x. inl (refused_means (asking t g mode rs).wanted o.held x.1))
+                  (λ x. inl (refused_means r.wanted o.held x.1))
                   (λ x. inr (
-                    refl,
-                    (both_true (is_some o.wanted) (is_some o.held || not (is_some (mode_held t g rs))) x.1).0,
-                    ahead_before g (asking t g mode rs) rs o o.held o.wanted (mode_held t g rs) (wanted_mode (mode_held t g rs) mode) refl refl refl refl refl left x.1,
+                    ap is_some wants,
+                    (both_true (is_some o.wanted) (is_some o.held || not (is_some r.held)) x.1).0,
+                    ahead_before g r rs o o.held o.wanted r.held w refl refl refl wants refl left x.1,
                   ))
-                  (refused_or_ahead (o.txn == t) (is_refused (asking t g mode rs).wanted o.held) (is_ahead (asking t g mode rs) o) f.1),
+                  cause,
             ),
       ),
     )
+
+-- .. and of a transaction that asks
+pub waits_for_obstacle : (t : ℕ) (g : Granule) (mode : Mode) (rs : List Request) (o : Request) → obstacle (asking t g mode rs) rs ≡ Some o → WaitsFor (placed_last (asking t g mode rs) rs) t o.txn
+waits_for_obstacle t g mode rs o is = waits_for_one (asking t g mode rs) rs (wanted_mode (mode_held t g rs) mode) o refl is
 
 pub kept_in_place : (r : Request) (xs : List Request) (h : Request) → In h xs → are_alike h r ≡ false → In h (replaced r xs)
 kept_in_place r [] h there apart = there

@@ -48,9 +48,13 @@ answer_to_try table t g mode =
     cond (is_enough mode (mode_held t g table.requests)) TryGranted
     (cond (is_full table t g) TryFull (blocked_by (obstacle (asking t g mode table.requests) table.requests)))
 
+-- whom a request would wait for if it were made now, if for anybody: the first of them
+abbrev pub in_its_way : Request → List Request → Option ℕ
+in_its_way r rs = option_map (λ other. other.txn) (obstacle r rs)
+
 -- who is in the way of a transaction that asks for a granule, if anybody is, however many nodes are left: nobody if it holds enough
 abbrev pub in_the_way : ℕ → Granule → Mode → List Request → Option ℕ
-in_the_way t g mode rs = cond (is_enough mode (mode_held t g rs)) None (option_map (λ r. r.txn) (obstacle (asking t g mode rs) rs))
+in_the_way t g mode rs = cond (is_enough mode (mode_held t g rs)) None (in_its_way (asking t g mode rs) rs)
 
 -- the requests after a try, which never waits
 abbrev pub after_try : Table → ℕ → Granule → Mode → List Request

@@ -4,5 +4,6 @@ pub mod Grants
 pub mod Laws
 pub mod Listing
 pub mod Popping
+pub mod Unawaited
 pub use Rattle.shore_nodes.specs.Orderly
 pub use Rattle.shore_nodes.specs.Tables

@@ -6,6 +6,7 @@ ghost use Rattle.shore_model.specs.declared.requests.Group.TheVariants.{Conversi
 ghost use Rattle.shore_model.specs.Requests.{AreRequests, are_alike, is_in_group, placed_last, requests_at, requests_by};
 ghost use Rattle.shore_locks.specs.Grants.{first_hold, obstacle, passed, removed, replaced};
 ghost use Rattle.shore_locks.specs.Popping.{Pops};
+ghost use Rattle.shore_locks.specs.Unawaited.{ComesLast, IsUnawaited};
 ghost use Rattle.shore_nodes.specs.Tables.{waiters_at};
 ghost use Rattle.shore_nodes.specs.Tallies.{Counts, crowd};
 
@@ -13,6 +14,7 @@ use crate::listings::append_walk;
 use crate::searches::request_for;
 use shore_model::Request;
 use shore_nodes::heads::queue_head;
+use shore_nodes::judgements::is_for;
 use shore_nodes::nodes::Nodes;
 use shore_nodes::tallies::{Tally, tally_of};
 use shore_types::{Granule, Mode, TxnId};
@@ -102,6 +104,31 @@ impl Counted {
     {
         let head = queue_head(granule, self.nodes.heads());
         self.tallies[head].has_conversions()
+    }
+
+    /// Whether somebody may wait for a transaction by this request of its: nobody does if not. No queue is walked.
+    pub fn may_be_awaited(&self, request: &Request) -> bool
+        ensures { IsFalse result → IsUnawaited self.now.requests request.now }
+    {
+        self.may_have_waiters(&request.granule) && !self.is_new_and_last(request)
+    }
+
+    // Whether it is seen at once that a request holds nothing, and comes last in its queue.
+    fn is_new_and_last(&self, request: &Request) -> bool
+        ensures { IsTrue result → (request.now.held ≡ None) × ComesLast self.now.requests request.now }
+    {
+        request.held.is_none() && self.ends_with(request)
+    }
+
+    // Whether it is seen at once that the last in a request's queue is its transaction's.
+    fn ends_with(&self, request: &Request) -> bool
+        ensures { IsTrue result → ComesLast self.now.requests request.now }
+    {
+        let head = queue_head(&request.granule, self.nodes.heads());
+        match self.nodes.last(head) {
+            Some(last) => is_for(last, request.txn, &request.granule),
+            None => false,
+        }
     }
 
     /// Whether it is seen at once that nobody is in the way of a request.

@@ -73,8 +73,18 @@ pub fn in_the_way(
         held,
         wanted: Some(wanted_mode(held, mode)),
     };
-    let other = first_in_the_way(nodes, &request)?;
-    Some(other.txn)
+    in_its_way(nodes, request)
+}
+
+/// Whom a request would wait for if it were made now.
+pub fn in_its_way(nodes: &Counted, request: Request) -> Option<TxnId>
+    ensures { result ≡ steps.in_its_way request nodes.now.requests }
+{
+    let first = first_in_the_way(nodes, &request);
+    match first {
+        Some(other) => Some(other.txn),
+        None => None,
+    }
 }
 
 // Mostly nobody is, which the counts of the queue show; else the queue is walked.

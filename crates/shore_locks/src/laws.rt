@@ -1,12 +1,12 @@
 //! Laws over the list of requests, each stated as the contract of an empty function.
-ghost use Rattle.std.specs.Prelude.{◌≡◌, ◌≢◌, ℕ, List, None, Some, false};
+ghost use Rattle.std.specs.Prelude.{◌≡◌, ◌≢◌, ℕ, IsSome, List, None, Some, false};
 ghost use Rattle.shore_types.specs.declared.locking.Granule.{Granule};
 ghost use Rattle.shore_types.specs.declared.locking.Mode.{Mode};
 ghost use Rattle.shore_model.specs.declared.requests.Request.{Request};
-ghost use Rattle.shore_model.specs.Requests.{AreRequests};
+ghost use Rattle.shore_model.specs.Requests.{AreRequests, WaitsFor, placed_last};
 ghost use Rattle.shore_nodes.specs.Orderly.{IsOrderly};
-ghost use Rattle.shore_locks.specs.Grants.{after_grant, asking, cancelled, granted, obstacle, passed, put, released};
-ghost use Rattle.shore_nodes.specs.Tables.{Table, is_waiting, mode_held};
+ghost use Rattle.shore_locks.specs.Grants.{after_grant, asking, cancelled, granted, in_its_way, obstacle, passed, put, released};
+ghost use Rattle.shore_nodes.specs.Tables.{Table, is_waiting, mode_held, waiting_request};
 ghost use Rattle.shore_locks.specs.Laws.{BlockedByOneInTheWay, FirstWaitersAreRefused, GrantedIsHeld, GrantsABeginning, OnlyGrants, RefusedChangesNothing, StaysQuiet, WaitsForSomebody, of_others, owners};
 
 use crate::table::LockTable;
@@ -53,6 +53,12 @@ pub fn cancelled_waits_no_more()
 /// The transaction that a try names is one for whom the asker would wait.
 pub fn blocked_names_a_blocker()
     ensures { (table : Table) (t : ℕ) (g : Granule) (mode : Mode) → BlockedByOneInTheWay table t g mode }
+{}
+
+/// Whoever waits in a table has somebody in the way; and whoever is in the way of a request is one for whom it would wait if it were made now.
+pub fn waiters_have_somebody_in_the_way()
+    ensures somebody { (rs : List Request) (t : ℕ) (r : Request) → IsOrderly rs → waiting_request t rs ≡ Some r → IsSome (in_its_way r rs) }
+    ensures awaited { (rs : List Request) (r : Request) (u : ℕ) → IsSome r.wanted → in_its_way r rs ≡ Some u → WaitsFor (placed_last r rs) r.txn u }
 {}
 
 /// A transaction that begins to wait waits for somebody.

@@ -1,17 +1,22 @@
 //! Searches among the nodes of a granule's queue, and of a transaction.
-ghost use Rattle.std.specs.Prelude.{◌≡◌, None, Some, cond, is_some, slice_get};
+ghost use Rattle.std.specs.Prelude.{◌≡◌, All, IsFalse, None, Some, cond, is_some, slice_get};
 ghost use Rattle.std.specs.Option.{option_map};
-ghost use Rattle.shore_model.specs.Requests.{requests_at};
+ghost use Rattle.shore_model.specs.Requests.{requests_at, requests_by};
 ghost use Rattle.shore_nodes.specs.Tables as tables;
 ghost use Rattle.shore_nodes.specs.Granting.{new_waiters};
 ghost use Rattle.shore_locks.specs.Grants as steps;
+ghost use Rattle.shore_locks.specs.Unawaited.{IsUnawaited};
 ghost use Rattle.shore_nodes.specs.Orderly.{WaitsLast};
 
+use crate::counted::Counted;
 use shore_model::Request;
 use shore_model::requests::Group;
 use shore_nodes::judgements::{is_at, is_for, is_in, is_stopped_by, refuses};
 use shore_nodes::nodes::Nodes;
 use shore_types::{Granule, Mode, TxnId};
+
+// So many nodes are looked at, to see whether somebody waits for a transaction.
+const LOOKS: usize = 16;
 
 /// The request of a transaction for a granule.
 pub fn request_for(nodes: &Nodes, txn: TxnId, granule: &Granule) -> Option<Request>
@@ -62,6 +67,29 @@ pub fn waiting_request(nodes: &Nodes, txn: TxnId) -> Option<Request>
         }
     }
     None
+}
+
+/// Whether somebody may wait for a transaction: nobody does if not. Of many requests only the first are looked at, and no queue is
+/// walked.
+pub fn may_be_awaited(counted: &Counted, txn: TxnId) -> bool
+    ensures { IsFalse result → All (IsUnawaited counted.now.requests) (requests_by txn counted.now.requests) }
+{
+    let mut looks = LOOKS;
+    let mut walk = counted.nodes().list(txn);
+    while let Some((_, request)) = walk.advance() {
+        if looks == 0 || may_be_awaited_by(counted, txn, request) {
+            return true;
+        }
+        looks = looks.saturating_sub(1);
+    }
+    false
+}
+
+// .. by one request, if it is its.
+fn may_be_awaited_by(counted: &Counted, txn: TxnId, request: &Request) -> bool
+    ensures { IsFalse result → request.now.txn ≡ txn → IsUnawaited counted.now.requests request.now }
+{
+    request.txn == txn && counted.may_be_awaited(request)
 }
 
 fn if_waiting(request: &Request) -> Option<Request>

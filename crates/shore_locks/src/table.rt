@@ -1,12 +1,12 @@
 //! The lock table.
-ghost use Rattle.std.specs.Prelude.{◌≡◌, ◌⊎◌, ◌↔◌, ◌≤◌, ◌+◌, [], filter, length, Contains, IfOk, IfSome, IsFalse, None, Some, false};
+ghost use Rattle.std.specs.Prelude.{◌≡◌, ◌⊎◌, ◌↔◌, ◌≤◌, ◌+◌, ℕ, [], filter, length, Contains, IfOk, IfSome, IsFalse, IsSome, None, Some, false};
 ghost use Rattle.std.specs.List.Sorted.{IsPermutation, IsSorted, IsStrictlySortedBy};
 ghost use Rattle.shore_types.specs.Locking.{granule_cmp};
 ghost use Rattle.shore_types.specs.declared.locking.Granule.{Granule};
 ghost use Rattle.shore_types.specs.declared.locking.Granule.TheVariants.{Page, Store, Volume};
 ghost use Rattle.shore_model.specs.declared.requests.Group.TheVariants.{Conversions};
-ghost use Rattle.shore_model.specs.Requests.{is_in_group, requests_at, requests_by};
-ghost use Rattle.shore_locks.specs.Grants.{after_request, after_try, answer_to, answer_to_try, cancelled, in_the_way, released};
+ghost use Rattle.shore_model.specs.Requests.{WaitsFor, is_in_group, requests_at, requests_by};
+ghost use Rattle.shore_locks.specs.Grants.{after_request, after_try, answer_to, answer_to_try, cancelled, in_its_way, in_the_way, released};
 ghost use Rattle.shore_nodes.specs.Tables.{holders_at, is_waiting, mode_held, request_for, waiters_at, waiting_request};
 ghost use Rattle.shore_locks.specs.Listing.{request_cmp};
 ghost use Rattle.shore_nodes.specs.Orderly.{IsOrderly};
@@ -152,6 +152,13 @@ impl LockTable {
         searches::waiting_request(self.nodes.nodes(), txn).is_some()
     }
 
+    /// Whether somebody may wait for a transaction: nobody does if not. It takes no search, and more requests than a few are not looked at.
+    pub fn may_be_awaited(&self, txn: TxnId) -> bool
+        ensures { IsFalse result → (u : ℕ) → WaitsFor self.now.requests u txn → ⊥ }
+    {
+        searches::may_be_awaited(&self.nodes, txn)
+    }
+
     /// The request with which a transaction waits.
     pub fn waiting_request(&self, txn: TxnId) -> Option<Request>
         ensures { result ≡ waiting_request txn self.now.requests }
@@ -273,6 +280,14 @@ impl LockTable {
         ensures { result ≡ in_the_way txn granule mode self.now.requests }
     {
         findings::in_the_way(&self.nodes, txn, &granule, held, mode)
+    }
+
+    /// Who is in the way of a request, if anybody is: the first for whom it would wait if it were made now. Of one that waits in this table somebody always is.
+    pub fn in_its_way(&self, request: Request) -> Option<TxnId>
+        ensures way { result ≡ in_its_way request self.now.requests }
+        ensures always { waiting_request request.txn self.now.requests ≡ Some request → IsSome result }
+    {
+        findings::in_its_way(&self.nodes, request)
     }
 
     /// All requests, by granule and then by transaction.

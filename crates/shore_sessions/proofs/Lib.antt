@@ -35,3 +35,4 @@ pub mod AnswerSteps
 pub mod DoubtsListed
 pub mod UnendedTxns
 pub mod CheckpointSteps
+pub mod Withdrawn

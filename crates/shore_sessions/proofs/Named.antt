@@ -20,7 +20,7 @@ use Rattle.shore_txn.specs.declared.seat.Seat.{Seat}
 use Rattle.shore_txn.specs.declared.transactions.Transactions.{Transactions}
 use Rattle.shore_txn.specs.declared.txn.Txn.{Txn}
 use Rattle.shore_txn.specs.declared.txn_state.TxnState.{TxnState}
-use Rattle.shore_txn.specs.declared.txn_state.TxnState.TheVariants.{Active, Prepared, Preparing, RollingBack}
+use Rattle.shore_txn.specs.declared.txn_state.TxnState.TheVariants.{Active, Doomed, Prepared, Preparing, RollingBack}
 use Rattle.shore_txn.proofs.ActiveSteps.{one_at_number}
 use Rattle.shore_txn.proofs.OneOfMany.{all_among, among_map, map_among}
 use Rattle.shore_txn.proofs.Seats.{seat_has}
@@ -62,6 +62,7 @@ true_right false c is = is
 doubt_as : (number : ℕ) (name : List ℕ) (state : TxnState) → is_in_doubt state ≡ true
     → (answered : Bool) × (in_doubt_as number name state ≡ Some record { txn = number; global = name; answered = answered }) × (state ≢ Preparing → answered ≡ true)
 doubt_as number name Active doubt = absurd (clash (sym doubt))
+doubt_as number name Doomed doubt = absurd (clash (sym doubt))
 doubt_as number name (RollingBack rollback) doubt = absurd (clash (sym doubt))
 doubt_as number name Preparing doubt = (false, refl, λ other. absurd (other refl))
 doubt_as number name Prepared doubt = (true, refl, λ other. refl)

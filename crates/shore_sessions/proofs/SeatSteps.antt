@@ -11,6 +11,7 @@ use Rattle.shore_txn.specs.Transactions.{undos_in}
 use Rattle.shore_txn.specs.Transactions as table
 use Rattle.shore_txn.specs.TxnStates.{is_in_doubt}
 use Rattle.shore_txn.specs.Txns.{IsAfterChange, IsAfterSavepoint, IsAfterUndo, IsBackAt, IsDoomed, IsOf, SameTxn, decided_of, global_of, number_of, state_of}
+use Rattle.shore_txn.proofs.Dooms.{free_doomed}
 use Rattle.shore_txn.specs.declared.transactions.Transactions.{Transactions}
 use Rattle.shore_txn.specs.declared.txn.Txn.{Txn}
 use Rattle.shore_txn.specs.declared.undo.UndoEntry.{UndoEntry}
@@ -46,7 +47,7 @@ pub back_seated : (index : ℕ) (t u : Txn) → is_in_doubt (state_of t) ≡ fal
 back_seated index t u free after = record { txn = after.txn; session = after.session; seated = after.name.seated; doubt = ap is_in_doubt after.state ∙ sym free; global = after.name.global; decided = after.name.decided }
 
 pub doomed_seated : (t u : Txn) → is_in_doubt (state_of t) ≡ false → IsDoomed t u → StaysSeated t u
-doomed_seated t u free after = record { txn = after.txn; session = after.session; seated = after.name.seated; doubt = ap is_in_doubt after.state ∙ sym free; global = after.name.global; decided = after.name.decided }
+doomed_seated t u free after = record { txn = after.txn; session = after.session; seated = after.name.seated; doubt = ap is_in_doubt after.state ∙ free_doomed (state_of t) ∙ sym free; global = after.name.global; decided = after.name.decided }
 
 seat_still : (t u : Txn) → StaysSeated t u → seat_as t ≡ seat_as u
 seat_still t u same =

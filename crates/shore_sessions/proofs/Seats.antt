@@ -13,7 +13,7 @@ use Rattle.shore_txn.specs.Txns.{IsOf, as_prepared, as_session_txn, global_of, i
 use Rattle.shore_txn.specs.declared.transactions.Transactions.{Transactions}
 use Rattle.shore_txn.specs.declared.txn.Txn.{Txn}
 use Rattle.shore_txn.specs.declared.txn_state.TxnState.{TxnState}
-use Rattle.shore_txn.specs.declared.txn_state.TxnState.TheVariants.{Active, Prepared, Preparing, RollingBack}
+use Rattle.shore_txn.specs.declared.txn_state.TxnState.TheVariants.{Active, Doomed, Prepared, Preparing, RollingBack}
 use Rattle.shore_txn.proofs.OneOfMany.{map_among}
 use Rattle.shore_sessions.specs.Calls.{name_of, names_of}
 use Rattle.shore_sessions.specs.Standing.{HasTxns}
@@ -29,6 +29,10 @@ pub record IsDoubt (number : ℕ) (name : List ℕ) (state : TxnState) (p : Prep
 
 pub doubt_is : (number : ℕ) (name : List ℕ) (state : TxnState) (p : PreparedTxn) → in_doubt_as number name state ≡ Some p → IsDoubt number name state p
 doubt_is number name Active p is = absurd (never is)
+  where
+    never : None ≡ Some p → ⊥
+    never e = cc
+doubt_is number name Doomed p is = absurd (never is)
   where
     never : None ≡ Some p → ⊥
     never e = cc

@@ -25,7 +25,7 @@ use Rattle.shore_txn.specs.UndoEntries.{first_number}
 use Rattle.shore_txn.specs.declared.transactions.Transactions.{Transactions}
 use Rattle.shore_txn.specs.declared.txn.Txn.{Txn}
 use Rattle.shore_txn.specs.declared.txn_state.TxnState.{TxnState}
-use Rattle.shore_txn.specs.declared.txn_state.TxnState.TheVariants.{Active, Prepared, Preparing, RollingBack}
+use Rattle.shore_txn.specs.declared.txn_state.TxnState.TheVariants.{Active, Doomed, Prepared, Preparing, RollingBack}
 use Rattle.shore_txn.specs.declared.undo.UndoEntry.{UndoEntry}
 use Rattle.shore_txn.proofs.ActiveSteps.{one_at_number}
 use Rattle.shore_txn.proofs.OneOfMany.{all_among, among_map, map_among}
@@ -77,12 +77,14 @@ few_listed txns listed moved =
 
 doubt_listed : (state : TxnState) → is_prepared (listed_state state) ≡ is_in_doubt state
 doubt_listed Active = refl
+doubt_listed Doomed = refl
 doubt_listed (RollingBack rollback) = refl
 doubt_listed Preparing = refl
 doubt_listed Prepared = refl
 
 doubt_as : (number : ℕ) (name : List ℕ) (state : TxnState) → is_in_doubt state ≡ true → (p : PreparedTxn) × (in_doubt_as number name state ≡ Some p) × (p.txn ≡ number)
 doubt_as number name Active is = absurd (clash (sym is))
+doubt_as number name Doomed is = absurd (clash (sym is))
 doubt_as number name (RollingBack rollback) is = absurd (clash (sym is))
 doubt_as number name Preparing is = (record { txn = number; global = name; answered = false }, refl, refl)
 doubt_as number name Prepared is = (record { txn = number; global = name; answered = true }, refl, refl)

@@ -1,18 +1,21 @@
 //! What a checkpoint takes of the transactions, and what it makes of the room of the log.
-ghost use Rattle.std.specs.Prelude.{◌≡◌, ◌+◌, ◌-◌, ◌<◌, ◌≤◌, ◌++◌, ◌∷◌, [], ℕ, All, IfOk, IsPermutation, IsTrue, length};
+ghost use Rattle.std.specs.Prelude.{◌≡◌, ◌+◌, ◌-◌, ◌<◌, ◌≤◌, ◌++◌, ◌∷◌, [], ℕ, All, IfNone, IfOk, IfSome, IsPermutation, IsTrue, length};
 ghost use Rattle.shore_types.specs.declared.ids.PageId.{PageId};
 ghost use Rattle.shore_model.specs.declared.log_records.LogRecord.{LogRecord};
 ghost use Rattle.shore_model.specs.Logs.{IsTable, rise_above};
 ghost use Rattle.shore_logrec.specs.Text.{cost_of};
 ghost use Rattle.laws_calls.specs.States.{State};
-ghost use Rattle.shore_txn.specs.LogEntries.{entries_logged};
+ghost use Rattle.laws_lives.specs.Views.{IsAmong};
+ghost use Rattle.shore_txn.specs.LogEntries.{IsOldest, entries_logged};
 ghost use Rattle.shore_txn.specs.Transactions as table;
 ghost use Rattle.shore_txn.specs.Transactions.{kept_in, next_in, room_in, undos_in};
+ghost use Rattle.shore_txn.specs.Txns.{first_of};
+ghost use Rattle.shore_txn.specs.declared.txn.Txn.{Txn};
 ghost use Rattle.shore_sessions.specs.Checkpoints.{TellsUnended};
 
 use crate::control::Control;
 use shore_model::LogTxn;
-use shore_txn::LogRoom;
+use shore_txn::{LogRoom, Txn};
 use std::alloc::{AllocError, Global};
 
 impl Control {
@@ -36,6 +39,14 @@ impl Control {
         ensures above { (s : State) → HasControl self.now s → All (λ r. r.txn < next_in (txns_in self.now)) s.log }
     {
         self.txns.log_table(alloc)
+    }
+
+    /// The transaction under way whose first record was logged first, of those that have logged one. None if no transaction has.
+    pub fn oldest(&self) -> Option<&Txn>
+        ensures some { IfSome result (λ t. IsOldest t.now (table.txns_in (txns_in self.now))) }
+        ensures none { IfNone result ((t : Txn) → IsAmong t (table.txns_in (txns_in self.now)) → first_of t ≡ 0) }
+    {
+        self.txns.oldest()
     }
 
     /// A record of a checkpoint was logged, which costs so much and for which room was admitted: nothing was reserved for it.

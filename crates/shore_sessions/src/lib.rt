@@ -6,6 +6,7 @@ mod checkpoints;
 mod control;
 mod deadlocks;
 mod ending;
+mod giving_up;
 pub mod laws;
 mod preparing;
 mod resolving;
