@@ -11,3 +11,4 @@ pub mod Unwritten
 pub mod Steps
 pub mod Choices
 pub mod Freeing
+pub mod OldestDirty

@@ -100,14 +100,18 @@ abbrev pub dirty_below : (ℕ → Option Frame) → ℕ → List DirtyPage
 dirty_below at zero = []
 dirty_below at (suc n) = dirty_below at n ++ option_to_list (dirty_entry (at n))
 
--- The least of a number and of the recovery numbers of the dirty pages: it is one of them.
-pub record IsLeastRecovery (at : ℕ → Option Frame) (number least : ℕ) : Type 0 where
-  pub most : least ≤ number
-  pub below : (k : ℕ) (f : Frame) (recovery : ℕ) → at k ≡ Some f → f.recovery ≡ Some recovery → least ≤ recovery
-  pub one : (least ≡ number) ⊎ ((k : ℕ) × IsSomeAnd (at k) (λ f. f.recovery ≡ Some least))
+-- none has a lower recovery number
+abbrev pub IsDirtyFirst : Frames → DirtyPage → Type 0
+IsDirtyFirst frames entry = (k : ℕ) (f : Frame) (recovery : ℕ) → frame_at frames k ≡ Some f → f.recovery ≡ Some recovery → entry.recovery ≤ recovery
 
--- .. so far, of the frames of the first so many keys
-pub record IsLeastSoFar (frames : Frames) (number count least : ℕ) : Type 0 where
-  pub most : least ≤ number
-  pub below : (key : ℕ) (f : Frame) (recovery : ℕ) → key < count → get frames.slots key ≡ Some f → f.recovery ≡ Some recovery → least ≤ recovery
-  pub one : (least ≡ number) ⊎ ((k : ℕ) × IsSomeAnd (frame_at frames k) (λ f. f.recovery ≡ Some least))
+-- .. of the first so many pages of the volume
+abbrev pub IsDirtyFirstBelow : Frames → ℕ → DirtyPage → Type 0
+IsDirtyFirstBelow frames count entry = (k : ℕ) (f : Frame) (recovery : ℕ) → k < count → frame_at frames k ≡ Some f → f.recovery ≡ Some recovery → entry.recovery ≤ recovery
+
+-- all pages in frames are clean
+abbrev pub NoneDirty : Frames → Type 0
+NoneDirty frames = (k : ℕ) (f : Frame) → frame_at frames k ≡ Some f → f.recovery ≡ None
+
+-- .. of the first so many pages of the volume
+abbrev pub NoneDirtyBelow : Frames → ℕ → Type 0
+NoneDirtyBelow frames count = (k : ℕ) (f : Frame) → k < count → frame_at frames k ≡ Some f → f.recovery ≡ None

@@ -60,9 +60,26 @@ fn older(oldest: Option<Due>, due: Due) -> Due
     }
 }
 
+fn earlier(oldest: Option<DirtyPage>, entry: DirtyPage) -> DirtyPage
+    ensures one { (result ≡ entry) ⊎ (oldest ≡ Some result) }
+    ensures first { result.recovery ≤ entry.recovery }
+    ensures still { IfSome oldest (λ other. result.recovery ≤ other.recovery) }
+{
+    match oldest {
+        Some(other) => {
+            if other.recovery.0 <= entry.recovery.0 {
+                other
+            } else {
+                entry
+            }
+        }
+        None => entry,
+    }
+}
+
 impl Frames {
     ghost use Rattle.slab.specs.Slab.{get};
-    ghost use Rattle.shore_pool.specs.FrameMaps.{IsLeastRecovery, dirty_below, dirty_entry, frame_at, count_of, limit_of, pages_of, key_of, AllDirty, HasRecovery, IsChangedFirst, IsDue, IsNotClean, IsNotDue, IsOfNumber, KeepsShape, NoneDue, NoneDueIn, SameFrames};
+    ghost use Rattle.shore_pool.specs.FrameMaps.{IsDirtyFirst, IsDirtyPage, NoneDirty, dirty_below, dirty_entry, frame_at, count_of, limit_of, pages_of, key_of, AllDirty, HasRecovery, IsChangedFirst, IsDue, IsNotClean, IsNotDue, IsOfNumber, KeepsShape, NoneDue, NoneDueIn, SameFrames};
 
     /// No frames, with the memory for as many as the limit, of a volume of so many pages.
     pub fn new(alloc: Global, pages: usize, limit: usize) -> Result<Frames, AllocError>
@@ -347,36 +364,19 @@ impl Frames {
         })
     }
 
-    /// The least of a number and of the recovery numbers of the dirty pages.
-    pub fn least_recovery(&self, number: Lsn) -> Lsn
-        ensures { IsLeastRecovery (frame_at self.now) number result }
+    /// The dirty page with the least recovery number: that of the record that changed it first since it was clean.
+    pub fn oldest_dirty(&self) -> Option<DirtyPage>
+        ensures some { IfSome result (IsDirtyPage self.now) }
+        ensures least { IfSome result (IsDirtyFirst self.now) }
+        ensures none { IfNone result (NoneDirty self.now) }
     {
-        let mut least = number;
-        for key in 0..self.slots.capacity() {
-            least = self.lesser(key, least);
-        }
-        least
-    }
-
-    // The lesser of a number and of the recovery number of the page in the frame of a key, if it is dirty.
-    fn lesser(&self, key: usize, least: Lsn) -> Lsn
-        ensures most { result ≤ least }
-        ensures below { (f : Frame) (recovery : ℕ) → get self.now.slots key ≡ Some f → f.recovery ≡ Some recovery → result ≤ recovery }
-        ensures one { (result ≡ least) ⊎ ((k : ℕ) × IsSomeAnd (frame_at self.now k) (λ f. f.recovery ≡ Some result)) }
-    {
-        let Some(frame) = self.slots.get(key) else {
-            return least;
-        };
-        match frame.recovery {
-            Some(recovery) => {
-                if recovery.0 < least.0 {
-                    recovery
-                } else {
-                    least
-                }
+        let mut oldest = None;
+        for place in 0..self.table.len() {
+            if let Some(entry) = self.dirty_in(place) {
+                oldest = Some(earlier(oldest, entry));
             }
-            None => least,
         }
+        oldest
     }
 
     /// The number of the last change of a page that has a frame; None if none has one.

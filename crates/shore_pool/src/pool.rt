@@ -277,11 +277,13 @@ impl<D: Disk> Pool<D> {
         self.frames.dirty_pages(alloc)
     }
 
-    /// The least of a number and of the recovery numbers of the dirty pages: the volume has each page with all changes before it.
-    pub fn least_recovery(&self, number: Lsn) -> Lsn
-        ensures { maps.IsLeastRecovery (frame_at self.now) number result }
+    /// The dirty page with the least recovery number, with that number: of no other dirty page does the log have to be kept from further back on. None if no page is dirty.
+    pub fn oldest_dirty(&self) -> Option<DirtyPage>
+        ensures some { IfSome result (maps.IsDirtyPage self.now.frames) }
+        ensures least { IfSome result (maps.IsDirtyFirst self.now.frames) }
+        ensures none { IfNone result (maps.NoneDirty self.now.frames) }
     {
-        self.frames.least_recovery(number)
+        self.frames.oldest_dirty()
     }
 
     /// The dirty page that comes next on the volume from a number on, of those with numbers up to the durable one.

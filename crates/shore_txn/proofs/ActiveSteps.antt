@@ -26,6 +26,7 @@ use Rattle.shore_txn.proofs.ClaimLemmas.{claims_append, claims_other, claims_pus
 use Rattle.shore_txn.proofs.OneOfMany.{all_among, all_less, all_with, among_map, among_middle, among_more, among_parts, map_among, map_join, map_parts, map_with, once_less, once_same, with_its, with_one, without_one}
 use Rattle.shore_txn.proofs.Reserves.{first_reserved, reserved_for_all, reserved_parts}
 use Rattle.shore_txn.proofs.UndoLemmas.{costs_push}
+use Rattle.shore_txn.proofs.Dooms.{free_doomed, rolling_doomed}
 
 -- what holds of the transactions of a table
 pub record AreKept (ts : List Txn) (reserved next : ℕ) : Type 0 where
@@ -335,7 +336,7 @@ module _ (t u : Txn) where
   pub session_doomed : IsDoomed t u → as_session_txn u ≡ with_its (as_session_txn t) (undo_rolled (as_session_txn t).undo (as_session_txn t).undo.images Whole)
   session_doomed after =
       session_as (undo_rolled (as_session_txn t).undo (as_session_txn t).undo.images Whole) after.txn after.session
-      (undo_as (images_of (entries_of t)) [] (Some Whole) (ap images_of after.entries) after.marks (ap rolling_of after.state))
+      (undo_as (images_of (entries_of t)) [] (Some Whole) (ap images_of after.entries) after.marks (ap rolling_of after.state ∙ rolling_doomed (state_of t)))
 
   pub session_prepared : (name : List ℕ) (lsn : ℕ) → state_of t ≡ state.Active → IsAfterPrepare name lsn t u → as_session_txn u ≡ as_session_txn t
   session_prepared name lsn active after =
@@ -430,7 +431,7 @@ pub back_keeps : (index : ℕ) (t u : Txn) → is_in_doubt (state_of t) ≡ fals
 back_keeps index t u free after = record { txn = after.txn; session = after.session; seated = after.name.seated; entries = after.entries; second = ap second_ending after.state ∙ sym (nothing_second t free) }
 
 pub doomed_keeps : (t u : Txn) → is_in_doubt (state_of t) ≡ false → IsDoomed t u → KeepsChanges t u
-doomed_keeps t u free after = record { txn = after.txn; session = after.session; seated = after.name.seated; entries = after.entries; second = ap second_ending after.state ∙ sym (nothing_second t free) }
+doomed_keeps t u free after = record { txn = after.txn; session = after.session; seated = after.name.seated; entries = after.entries; second = ap second_ending after.state ∙ ap (λ b. cond b ENDING_COST 0) (free_doomed (state_of t)) ∙ sym (nothing_second t free) }
 
 second_of : (t : Txn) → is_in_doubt (state_of t) ≡ true → second_ending (state_of t) ≡ ENDING_COST
 second_of t doubt = ap (λ b. cond b ENDING_COST 0) doubt

@@ -15,7 +15,7 @@ use Rattle.shore_txn.specs.TxnStates.{is_in_doubt}
 use Rattle.shore_txn.specs.Txns.{IsAfterAnswer, IsAfterPrepare, IsFoundPrepared, KeepsName, as_prepared, global_of, in_doubt_as, number_of, prepared_of, state_of}
 use Rattle.shore_txn.specs.declared.txn.Txn.{Txn}
 use Rattle.shore_txn.specs.declared.txn_state.TxnState.{TxnState}
-use Rattle.shore_txn.specs.declared.txn_state.TxnState.TheVariants.{Active, Prepared, Preparing, RollingBack}
+use Rattle.shore_txn.specs.declared.txn_state.TxnState.TheVariants.{Active, Doomed, Prepared, Preparing, RollingBack}
 use Rattle.shore_txn.specs.declared.undo.UndoEntry.{UndoEntry}
 use Rattle.shore_txn.proofs.ActiveOthers.{other_number}
 
@@ -38,6 +38,7 @@ answered_by number p = if p.txn == number then record { txn = p.txn; global = p.
 
 one_without : (number own : ℕ) (name : List ℕ) (state : TxnState) (rest : List PreparedTxn) → own ≢ number → without_prepared number rest ≡ rest → without_prepared number (cons_option (in_doubt_as own name state) rest) ≡ cons_option (in_doubt_as own name state) rest
 one_without number own name Active rest other same = same
+one_without number own name Doomed rest other same = same
 one_without number own name (RollingBack rollback) rest other same = same
 one_without number own name Preparing rest other same =
     ap (λ b. cond (not b) (doubt own name false ∷ without_prepared number rest) (without_prepared number rest)) (apart number own (λ e. other (sym e))) ∙ ap (λ ps. doubt own name false ∷ ps) same
@@ -51,6 +52,7 @@ none_without number (t ∷ ts) others =
 
 one_answered : (number own : ℕ) (name : List ℕ) (state : TxnState) (rest : List PreparedTxn) → own ≢ number → with_answered number rest ≡ rest → with_answered number (cons_option (in_doubt_as own name state) rest) ≡ cons_option (in_doubt_as own name state) rest
 one_answered number own name Active rest other same = same
+one_answered number own name Doomed rest other same = same
 one_answered number own name (RollingBack rollback) rest other same = same
 one_answered number own name Preparing rest other same =
     ap (λ b. (cond b (doubt own name true) (doubt own name false)) ∷ with_answered number rest) (apart own number other) ∙ ap (λ ps. doubt own name false ∷ ps) same
@@ -64,6 +66,7 @@ none_answered number (t ∷ ts) others =
 
 no_doubt : (number : ℕ) (name : List ℕ) (state : TxnState) → is_in_doubt state ≡ false → in_doubt_as number name state ≡ None
 no_doubt number name Active free = refl
+no_doubt number name Doomed free = refl
 no_doubt number name (RollingBack rollback) free = refl
 no_doubt number name Preparing free = cc
 no_doubt number name Prepared free = cc
@@ -71,6 +74,7 @@ no_doubt number name Prepared free = cc
 -- the one that is in doubt goes
 own_without : (own : ℕ) (name : List ℕ) (state : TxnState) (rest : List PreparedTxn) → without_prepared own rest ≡ rest → without_prepared own (cons_option (in_doubt_as own name state) rest) ≡ rest
 own_without own name Active rest same = same
+own_without own name Doomed rest same = same
 own_without own name (RollingBack rollback) rest same = same
 own_without own name Preparing rest same = ap (λ b. cond (not b) (doubt own name false ∷ without_prepared own rest) (without_prepared own rest)) ((Decides-eqb own own).1 refl) ∙ same
 own_without own name Prepared rest same = ap (λ b. cond (not b) (doubt own name true ∷ without_prepared own rest) (without_prepared own rest)) ((Decides-eqb own own).1 refl) ∙ same

@@ -1,4 +1,5 @@
 pub mod UndoLemmas
+pub mod Dooms
 pub mod ChainLemmas
 pub mod ClaimLemmas
 pub mod KeptLemmas

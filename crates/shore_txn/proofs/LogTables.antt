@@ -143,22 +143,24 @@ module _ (items : List ActiveTxn) (i : ℕ) (a : ActiveTxn) (inside : i < length
   one_further : map (λ (x : ActiveTxn). x.txn) (take (i + 1) items) ≡ so_far ++ a.txn ∷ []
   one_further = ap (map (λ (x : ActiveTxn). x.txn)) (take_more items i a inside ∙ ap (λ x. take i items ++ x ∷ []) is) ∙ map-append (λ (x : ActiveTxn). x.txn) (take i items) (a ∷ [])
 
-  pub least_further : (number least lesser : ℕ) → IsLeastFirst number so_far least → lesser ≤ least → (0 < first_of a.txn → lesser ≤ first_of a.txn)
-      → (lesser ≡ least) ⊎ ((0 < first_of a.txn) × (first_of a.txn ≡ lesser)) → IsLeastFirst number (map (λ (x : ActiveTxn). x.txn) (take (i + 1) items)) lesser
-  least_further number least lesser was most below one = subst (λ ts. IsLeastFirst number ts lesser) (sym one_further) (record {
-    most = let old = was.most in omega (arith, most, old);
-    below = λ t m some. elim (among_push t m) [ inl early ↦ let old = was.below t early some in omega (arith, most, old) | inr last ↦ by_last t last some ];
+  pub least_further : (least lesser : ℕ) → IsLeastFirst so_far least → (0 < least → (0 < lesser) × (lesser ≤ least)) → (0 < first_of a.txn → (0 < lesser) × (lesser ≤ first_of a.txn))
+      → (lesser ≡ least) ⊎ ((0 < first_of a.txn) × (first_of a.txn ≡ lesser)) → IsLeastFirst (map (λ (x : ActiveTxn). x.txn) (take (i + 1) items)) lesser
+  least_further least lesser was still below one = subst (λ ts. IsLeastFirst ts lesser) (sym one_further) (record {
+    below = λ t m some. elim (among_push t m) [
+      | inl early ↦ let old = was.below t early some in let now = still old.0 in (now.0, let far = now.1 in let far2 = old.1 in omega (arith, far, far2))
+      | inr last ↦ by_last t last some
+    ];
     one = elim one [
       | inl same ↦ elim was.one [
-        | inl number_is ↦ inl (same ∙ number_is)
-        | inr its ↦ inr (its.0, among_front its.0 its.1, its.2, its.3 ∙ sym same)
+        | inl none ↦ inl (same ∙ none)
+        | inr its ↦ inr (its.0, among_front its.0 its.1, (its.2.0, its.2.1 ∙ sym same))
       ]
-      | inr its ↦ inr (a.txn, among_right a.txn so_far (a.txn ∷ []) (inl refl), its.0, its.1)
+      | inr its ↦ inr (a.txn, among_right a.txn so_far (a.txn ∷ []) (inl refl), its)
     ];
   })
     where
-      by_last : (t : Txn) → a.txn ≡ t → 0 < first_of t → lesser ≤ first_of t
-      by_last t same = subst (λ (u : Txn). 0 < first_of u → lesser ≤ first_of u) same below
+      by_last : (t : Txn) → a.txn ≡ t → 0 < first_of t → (0 < lesser) × (lesser ≤ first_of t)
+      by_last t same = subst (λ (u : Txn). 0 < first_of u → (0 < lesser) × (lesser ≤ first_of u)) same below
 
       among_push : (t : Txn) → IsAmong t (so_far ++ a.txn ∷ []) → IsAmong t so_far ⊎ (a.txn ≡ t)
       among_push t m = elim (among_append t so_far (a.txn ∷ []) m) [ inl early ↦ inl early | inr last ↦ elim last [ inl same ↦ inr same | inr none ↦ absurd none ] ]
@@ -166,13 +168,12 @@ module _ (items : List ActiveTxn) (i : ℕ) (a : ActiveTxn) (inside : i < length
       among_front : (t : Txn) → IsAmong t so_far → IsAmong t (so_far ++ a.txn ∷ [])
       among_front t m = among_left t so_far (a.txn ∷ []) m
 
-pub least_in_all : (items : List ActiveTxn) (n number least : ℕ) → length items ≤ n → IsLeastFirst number (map (λ (x : ActiveTxn). x.txn) (take n items)) least → IsLeastFirst number (active.txns_of items) least
-least_in_all items n number least all is =
-    let whole : IsLeastFirst number txns least = subst (λ (xs : List ActiveTxn). IsLeastFirst number (map (λ (x : ActiveTxn). x.txn) xs) least) (take_whole n items all) is in
+pub least_in_all : (items : List ActiveTxn) (n least : ℕ) → length items ≤ n → IsLeastFirst (map (λ (x : ActiveTxn). x.txn) (take n items)) least → IsLeastFirst (active.txns_of items) least
+least_in_all items n least all is =
+    let whole : IsLeastFirst txns least = subst (λ (xs : List ActiveTxn). IsLeastFirst (map (λ (x : ActiveTxn). x.txn) xs) least) (take_whole n items all) is in
     record {
-      most = whole.most;
       below = λ t m some. whole.below t (subst (IsAmong t) (reverse-reverse txns) (turned t (reverse txns) m)) some;
-      one = elim whole.one [ inl same ↦ inl same | inr its ↦ inr (its.0, turned its.0 txns its.1, its.2, its.3) ];
+      one = elim whole.one [ inl none ↦ inl none | inr its ↦ inr (its.0, turned its.0 txns its.1, its.2) ];
     }
   where
     txns : List Txn

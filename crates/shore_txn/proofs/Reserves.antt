@@ -12,7 +12,7 @@ use Rattle.shore_txn.specs.Txns.{entries_of, global_of, in_doubt_as, number_of, 
 use Rattle.shore_txn.specs.UndoEntries.{images_of}
 use Rattle.shore_txn.specs.declared.txn.Txn.{Txn}
 use Rattle.shore_txn.specs.declared.txn_state.TxnState.{TxnState}
-use Rattle.shore_txn.specs.declared.txn_state.TxnState.TheVariants.{Active, Prepared, Preparing, RollingBack}
+use Rattle.shore_txn.specs.declared.txn_state.TxnState.TheVariants.{Active, Doomed, Prepared, Preparing, RollingBack}
 
 abbrev pub reserved_for_all : List Txn → ℕ
 reserved_for_all ts = owed_by_all (session_txns ts) + ENDING_COST * length (prepared_of ts)
@@ -20,6 +20,7 @@ reserved_for_all ts = owed_by_all (session_txns ts) + ENDING_COST * length (prep
 -- one in doubt costs a second ending, and any other nothing
 doubt_costs : (number : ℕ) (name : List ℕ) (state : TxnState) (rest : List PreparedTxn) → ENDING_COST * length (cons_option (in_doubt_as number name state) rest) ≡ second_ending state + ENDING_COST * length rest
 doubt_costs number name Active rest = omega arith
+doubt_costs number name Doomed rest = omega arith
 doubt_costs number name (RollingBack rollback) rest = omega arith
 doubt_costs number name Preparing rest = omega arith
 doubt_costs number name Prepared rest = omega arith

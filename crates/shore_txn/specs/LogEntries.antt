@@ -26,8 +26,17 @@ has_logged t = nat_lt 0 (first_of t)
 abbrev pub entries_logged : List Txn → List LogTxn
 entries_logged ts = map entry_of (filter has_logged ts)
 
--- The least of a number and of the first numbers of those that have logged a record: it is one of them.
-pub record IsLeastFirst (number : ℕ) (ts : List Txn) (least : ℕ) : Type 0 where
-  pub most : least ≤ number
-  pub below : (t : Txn) → IsAmong t ts → 0 < first_of t → least ≤ first_of t
-  pub one : (least ≡ number) ⊎ ((t : Txn) × IsAmong t ts × (0 < first_of t) × (first_of t ≡ least))
+-- it has logged a record, and its first has this number
+abbrev pub BeginsAt : ℕ → Txn → Type 0
+BeginsAt first t = (0 < first_of t) × (first_of t ≡ first)
+
+-- The least of the first numbers of those that have logged a record: it is one of them. It is 0 if none has.
+pub record IsLeastFirst (ts : List Txn) (least : ℕ) : Type 0 where
+  pub below : (t : Txn) → IsAmong t ts → 0 < first_of t → (0 < least) × (least ≤ first_of t)
+  pub one : (least ≡ 0) ⊎ ((t : Txn) × IsAmong t ts × BeginsAt least t)
+
+-- the log is kept from its first record on: no other that has logged a record has logged one before it
+pub record IsOldest (t : Txn) (ts : List Txn) : Type 0 where
+  pub there : IsAmong t ts
+  pub logged : 0 < first_of t
+  pub least : (u : Txn) → IsAmong u ts → 0 < first_of u → first_of t ≤ first_of u

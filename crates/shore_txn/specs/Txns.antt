@@ -11,10 +11,10 @@ use Rattle.shore_model.specs.declared.rollbacks.Rollback.{Rollback}
 use Rattle.shore_model.specs.declared.rollbacks.Rollback.TheVariants.{Whole}
 use Rattle.shore_txn.specs.declared.txn.Txn.{Txn}
 use Rattle.shore_txn.specs.declared.txn_state.TxnState.{TxnState}
-use Rattle.shore_txn.specs.declared.txn_state.TxnState.TheVariants.{Active, Prepared, Preparing, RollingBack}
+use Rattle.shore_txn.specs.declared.txn_state.TxnState.TheVariants.{Active, Doomed, Prepared, Preparing, RollingBack}
 use Rattle.shore_txn.specs.declared.undo.UndoEntry.{UndoEntry}
 use Rattle.shore_txn.specs.Numbers.{first_with}
-use Rattle.shore_txn.specs.TxnStates.{second_ending}
+use Rattle.shore_txn.specs.TxnStates.{doomed_from, second_ending}
 use Rattle.shore_txn.specs.UndoEntries.{images_of}
 
 -- its changes that are not decided, the oldest first
@@ -28,9 +28,10 @@ marks_of t = t.marks.items
 abbrev pub state_of : Txn → TxnState
 state_of t = t.state
 
--- the rollback that has begun and is not complete
+-- the rollback that has begun, or is all that may be done, and is not complete
 abbrev pub rolling_of : TxnState → Option Rollback
 rolling_of Active = None
+rolling_of Doomed = Some Whole
 rolling_of (RollingBack rollback) = Some rollback
 rolling_of Preparing = None
 rolling_of Prepared = None
@@ -76,6 +77,7 @@ reserved_for t = ENDING_COST + compensation_costs (images_of (entries_of t)) + s
 -- one in doubt, as the sessions have it
 abbrev pub in_doubt_as : ℕ → List ℕ → TxnState → Option PreparedTxn
 in_doubt_as number name Active = None
+in_doubt_as number name Doomed = None
 in_doubt_as number name (RollingBack rollback) = None
 in_doubt_as number name Preparing = Some record { txn = number; global = name; answered = false }
 in_doubt_as number name Prepared = Some record { txn = number; global = name; answered = true }
@@ -169,7 +171,7 @@ pub record IsDoomed (old new : Txn) : Type 0 where
   pub entries : entries_of new ≡ entries_of old
   pub reserved : new.reserved ≡ old.reserved
   pub marks : marks_of new ≡ []
-  pub state : state_of new ≡ RollingBack Whole
+  pub state : state_of new ≡ doomed_from (state_of old)
 
 -- ---- one that is prepared
 

@@ -1,9 +1,15 @@
 //! The table of transactions as a checkpoint takes it.
-ghost use Rattle.std.specs.Prelude.{◌≡◌, ◌⊎◌, ◌<◌, ◌≤◌, IfOk, IsPermutation, IsTrue, map};
+ghost use Rattle.std.specs.Prelude.{◌≡◌, ◌⊎◌, ◌<◌, ◌≤◌, All, IfNone, IfOk, IfSome, IsPermutation, IsTrue, length, map};
+ghost use Rattle.std.specs.List.{HoldsAt};
 ghost use Rattle.shore_model.specs.Logs.{rise_above};
-ghost use Rattle.shore_txn.specs.LogEntries.{IsLeastFirst, entries_logged};
+ghost use Rattle.laws_lives.specs.Views.{IsAmong};
+ghost use Rattle.shore_txn.specs.LogEntries.{BeginsAt, IsLeastFirst, IsOldest, entries_logged};
+ghost use Rattle.shore_txn.specs.Txns.{first_of};
+ghost use Rattle.shore_txn.specs.declared.txn.Txn.{Txn};
 
+use crate::active::NOBODY;
 use crate::transactions::Transactions;
+use crate::txn::Txn;
 use shore_model::LogTxn;
 use shore_types::Lsn;
 use std::alloc::{AllocError, Global};
@@ -34,25 +40,45 @@ impl Transactions {
         Ok(table)
     }
 
-    /// The least of this number and of the first numbers of the transactions under way: none of them has a record before it.
-    pub fn least_first(&self, number: Lsn) -> Lsn
-        ensures { IsLeastFirst number (txns_in self.now) result }
+    /// The transaction under way whose first record was logged first, of those that have logged one: the log is kept from there on. None if no transaction has.
+    pub fn oldest(&self) -> Option<&Txn>
+        ensures some { IfSome result (λ t. IsOldest t.now (txns_in self.now)) }
+        ensures none { IfNone result ((t : Txn) → IsAmong t (txns_in self.now) → first_of t ≡ 0) }
     {
-        let mut least = number;
+        let index = self.begun_at(self.least_first())?;
+        let seat = self.seat_at(NOBODY, index);
+        Some(self.txn(&seat))
+    }
+
+    // The least of the first numbers of the transactions under way, 0 if none has logged a record.
+    fn least_first(&self) -> Lsn
+        ensures { IsLeastFirst (txns_in self.now) result }
+    {
+        let mut least = Lsn(0);
         for active in &self.active {
             least = lesser(least, active.txn().first());
         }
         least
     }
+
+    // Where a transaction is whose first record has this number.
+    fn begun_at(&self, first: Lsn) -> Option<usize>
+        ensures some { IfSome result (λ index. (index < length self.now.active.items) × HoldsAt (λ a. BeginsAt first a.txn) self.now.active.items index) }
+        ensures none { IfNone result (All (λ a. BeginsAt first a.txn → ⊥) self.now.active.items) }
+    {
+        self.active
+            .iter()
+            .position(|active| active.txn().begins_at(first))
+    }
 }
 
-// The least of a number and of a first number, 0 for none.
+// The least of a number and of a first number, each of them 0 for none.
 fn lesser(least: Lsn, first: Lsn) -> Lsn
-    ensures most { result ≤ least }
-    ensures below { 0 < first → result ≤ first }
+    ensures still { 0 < least → (0 < result) × (result ≤ least) }
+    ensures below { 0 < first → (0 < result) × (result ≤ first) }
     ensures one { (result ≡ least) ⊎ ((0 < first) × (first ≡ result)) }
 {
-    if 0 < first.0 && first.0 < least.0 {
+    if least.0 == 0 || (0 < first.0 && first.0 < least.0) {
         first
     } else {
         least

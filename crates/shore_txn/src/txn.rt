@@ -1,5 +1,5 @@
 //! A transaction under way.
-ghost use Rattle.std.specs.Prelude.{◌≡◌, ◌↔◌, ◌+◌, ◌<◌, ◌≤◌, ◌++◌, ◌∷◌, [], List, IfNone, IfOk, IfSome, IsOk, IsTrue, MatchOption, None, OnErr, OnOk, Some, false, is_some, length, option_to_list, reverse, slice_get, true};
+ghost use Rattle.std.specs.Prelude.{◌≡◌, ◌↔◌, ◌+◌, ◌<◌, ◌≤◌, ◌++◌, ◌∷◌, [], ℕ, List, IfNone, IfOk, IfSome, IsOk, IsTrue, MatchOption, None, OnErr, OnOk, Some, false, is_some, length, option_to_list, reverse, slice_get, true};
 ghost use Rattle.shore_types.specs.declared.layout.TheConstants.{ENDING_COST, LAST_TXN, MAX_LOG_BYTES, MAX_RECORD_BYTES, MAX_SAVEPOINTS};
 ghost use Rattle.shore_types.specs.Images.{image_len};
 ghost use Rattle.laws_room.specs.LogRooms.{compensation_cost, compensation_costs};
@@ -62,7 +62,7 @@ pub struct Txn {
 }
 
 impl Txn {
-    ghost use Rattle.shore_txn.specs.LogEntries.{entry_of, has_logged};
+    ghost use Rattle.shore_txn.specs.LogEntries.{BeginsAt, entry_of, has_logged};
     ghost use Rattle.shore_txn.specs.Txns.{HasEntryRoom, HasMarkRoom, IsAfterAnswer, IsAfterChange, IsAfterDecision, IsAfterPrepare, IsAfterSavepoint, IsAfterUndo, IsBackAt, IsDoomed, IsFoundPrepared, IsOf, SameTxn, as_prepared, decided_of, entries_of, first_of, global_of, last_of, marks_of, number_of, prepare_of, reserved_for, state_of};
 
     /// A transaction that has logged nothing.
@@ -125,6 +125,25 @@ impl Txn {
         ensures { result ≡ first_of self.now }
     {
         self.first
+    }
+
+    /// Whether it has logged a record, and its first has this number.
+    pub(crate) fn begins_at(&self, first: Lsn) -> bool
+        ensures { IsTrue result ↔ BeginsAt first self.now }
+    {
+        self.has_logged() && self.first == first
+    }
+
+    /// The session that is in it: none if an open has found it, or a resolve rolls it back.
+    pub fn seated(&self) -> Option<SessionId>
+        ensures some { IfSome result (λ session. IsOf session self.now) }
+        ensures none { IfNone result ((session : ℕ) → IsOf session self.now → ⊥) }
+    {
+        if self.is_seated {
+            Some(self.session)
+        } else {
+            None
+        }
     }
 
     /// What is reserved for its endings and its undo, in bytes of the log.
@@ -294,12 +313,13 @@ impl Txn {
         self.state = TxnState::Active;
     }
 
-    /// From now on it can only be rolled back, whole: its savepoints are gone. Nothing of it is put back yet.
+    /// From now on it can only be rolled back, whole: its savepoints are gone.
     pub fn doom(&mut self)
         requires { states.is_in_doubt (state_of self.old) ≡ false }
         ensures { IsDoomed self.old self.new }
     {
-        self.state = doomed(&mut self.marks);
+        keep_marks(&mut self.marks, Rollback::Whole);
+        self.state = self.state.doomed();
     }
 
     /// The name that its coordinator gave it.
@@ -399,7 +419,8 @@ impl Txn {
         ensures reserved { self.new.reserved + ENDING_COST ≡ self.old.reserved }
     {
         self.unseat();
-        self.state = doomed(&mut self.marks);
+        self.marks.clear();
+        self.state = TxnState::RollingBack(Rollback::Whole);
         self.reserved -= ENDING_COST;
         self.decided = number;
         self.first = first_with(self.first, number);
@@ -419,15 +440,6 @@ fn first_with(first: Lsn, lsn: Lsn) -> Lsn
     ensures { result ≡ numbers.first_with first lsn }
 {
     if first.0 == 0 { lsn } else { first }
-}
-
-// What may be done from now on is a whole rollback: no savepoint is left.
-fn doomed(marks: &mut Marks) -> TxnState
-    ensures marks { marks.new.items ≡ [] }
-    ensures state { result ≡ state.RollingBack Whole }
-{
-    keep_marks(marks, Rollback::Whole);
-    TxnState::RollingBack(Rollback::Whole)
 }
 
 // The marks of the savepoints that a rollback keeps stay.

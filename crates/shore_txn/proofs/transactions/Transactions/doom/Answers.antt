@@ -1,9 +1,10 @@
 use Rattle.shore_txn.proofs.DoubtSteps.{doubt_free, doubts_same}
-use Rattle.std.proofs.Common.{◌≡◌, false, ap}
+use Rattle.std.proofs.Common.{◌≡◌, false, ap, ◌∙◌}
 use Rattle.laws_lives.specs.UndoLists.{undo_rolled}
 use Rattle.shore_model.specs.declared.rollbacks.Rollback.TheVariants.{Whole}
 use Rattle.shore_txn.specs.TxnStates.{is_in_doubt}
 use Rattle.shore_txn.specs.Txns.{IsDoomed, state_of}
+use Rattle.shore_txn.proofs.Dooms.{free_doomed}
 use Rattle.shore_txn.proofs.ActiveSteps.{KeepsChanges, claims_still, doomed_keeps, kept_still, session_doomed, undos_by}
 use Rattle.shore_txn.proofs.Lending.{kept_in, lent_becomes, lent_holds, at_before}
 use Rattle.shore_txn.proofs.Seats.{seat_inside}
@@ -44,4 +45,4 @@ returns-clause-claims c =
 pub returns-clause-doubts : goal.returns-clause-doubts
 returns-clause-doubts c =
     let doomed = returns-clause-doomed c in
-    doubts_same doomed (doubt_free doomed.before doomed.after (at_before c.args.self.now c.args.seat.now doomed (λ t. is_in_doubt (state_of t) ≡ false) c.requires.free) (ap is_in_doubt doomed.becomes.state))
+    doubts_same doomed (doubt_free doomed.before doomed.after (at_before c.args.self.now c.args.seat.now doomed (λ t. is_in_doubt (state_of t) ≡ false) c.requires.free) (ap is_in_doubt doomed.becomes.state ∙ free_doomed (state_of doomed.before)))

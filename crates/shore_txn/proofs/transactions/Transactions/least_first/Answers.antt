@@ -13,9 +13,9 @@ loop-active-preserved c =
     let inside : i < length items = omega (arith, c.loop-active-test.true, ap length c.deref-active-items.ensures.value) in
     let is : get_or items i a ≡ a = ap (λ (l : List ActiveTxn). get_or l i a) (sym c.deref-active-items.ensures.value) ∙ sym c.active-item.is in
     let first : c.first.result ≡ first_of a.txn = c.first.ensures ∙ ap first_of c.txn.ensures in
-    least_further items i a inside is c.args.number c.loop-active.least c.lesser-least.result c.loop-active.invariant c.lesser-least.ensures.most
-    (subst (λ (n : ℕ). 0 < n → c.lesser-least.result ≤ n) first c.lesser-least.ensures.below)
+    least_further items i a inside is c.loop-active.least c.lesser-least.result c.loop-active.invariant c.lesser-least.ensures.still
+    (subst (λ (n : ℕ). 0 < n → (0 < c.lesser-least.result) × (c.lesser-least.result ≤ n)) first c.lesser-least.ensures.below)
     (subst (λ (n : ℕ). (c.lesser-least.result ≡ c.loop-active.least) ⊎ ((0 < n) × (n ≡ c.lesser-least.result))) first c.lesser-least.ensures.one)
 
 pub returns : goal.returns
-returns c = least_in_all c.args.self.now.active.items c.loop-active.active-index c.args.number c.loop-active.least (omega (arith, c.loop-active-test.false, ap length c.deref-active-items.ensures.value)) c.loop-active.invariant
+returns c = least_in_all c.args.self.now.active.items c.loop-active.active-index c.loop-active.least (omega (arith, c.loop-active-test.false, ap length c.deref-active-items.ensures.value)) c.loop-active.invariant
