@@ -39,3 +39,4 @@ pub mod Stopped
 pub mod CheckpointSteps
 pub mod CheckpointFull
 pub mod LetThrough
+pub mod SameCore

@@ -10,3 +10,4 @@ pub mod Resumes
 pub mod Checkpointing
 pub mod Waking
 pub mod Trails
+pub mod TailHolders

@@ -29,6 +29,7 @@ use Rattle.shore_model.specs.declared.step.Step.TheVariants.{Done, Waits, Refuse
 use Rattle.laws_lives.specs.Sessions.{SessionTxn}
 use Rattle.laws_calls.specs.StateChanges.{CanLog, MayChange, after_refusal}
 use Rattle.laws_calls.specs.CallSteps.{AnswersBehind, HasPlace, MayAsk, RefusesBehind, RefusesEarly, CallStep, behind_place}
+use Rattle.laws_calls.specs.GivingUp.{GiveUpStep}
 use Rattle.laws_calls.specs.Settling.{GoesSettled, SettledCall, SettledResume}
 use Rattle.shore_types.specs.Images.{Image}
 use Rattle.shore_types.specs.declared.ids.Rid.{Rid}
@@ -208,6 +209,12 @@ module _ {T V : Type 0} {G : tail.Ghosts T} {H : disk.Ghosts V} where
   pub record Resumed (session : ℕ) (step : Step) (old new : Core T V G H) (front : List ℕ) (before : List LogRecord) (s : State) (store : CheckpointedStore) : Type 0 where
     pub later : State
     pub moves : SettledResume (geometry_of old) s session step later
+    pub comes : CoreComesTo new front before store later
+
+  -- .. and a wait that is to be taken back
+  pub record GaveUp (session : ℕ) (step : Step) (old new : Core T V G H) (front : List ℕ) (before : List LogRecord) (s : State) (store : CheckpointedStore) : Type 0 where
+    pub later : State
+    pub moves : GiveUpStep s session step later
     pub comes : CoreComesTo new front before store later
 
   -- the pages that going on with the call of a session may read

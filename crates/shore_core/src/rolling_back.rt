@@ -71,7 +71,7 @@ impl<T: Tail, V: Disk> Core<T, V> {
         let own = self.control.txn(seat);
         match own.state() {
             TxnState::Active => Ok(own),
-            TxnState::RollingBack(_) => Err(Fault::MustAbort),
+            TxnState::Doomed | TxnState::RollingBack(_) => Err(Fault::MustAbort),
             TxnState::Preparing | TxnState::Prepared => Err(Fault::IsPrepared),
         }
     }
@@ -329,7 +329,7 @@ fn may_go_back(state: TxnState, index: usize) -> bool
     match state {
         TxnState::Active => true,
         TxnState::RollingBack(Rollback::To(begun)) => begun == index,
-        TxnState::RollingBack(Rollback::Whole) => false,
+        TxnState::Doomed | TxnState::RollingBack(Rollback::Whole) => false,
         TxnState::Preparing | TxnState::Prepared => false,
     }
 }

@@ -1,4 +1,4 @@
--- What calls of the core that touch the volume alone make of a world: a call of a session, and a step of the flush.
+-- What calls of the core that touch the volume alone make of a world: a call of a session, a wait that is taken back, and a step of the flush.
 use Rattle.std.proofs.Common.{◌≡◌, inl, inr, ℕ, IsTrue, List, false, true, sym, ap, subst, ◌∙◌}
 use Rattle.shore_disk.specs.declared.device.Disk.{Ghosts}
 use Rattle.shore_log.specs.Settled.{cut_of_log, records_of_log}
@@ -11,13 +11,13 @@ use Rattle.laws_checkpoints.specs.CheckpointedStores.{CheckpointedStore}
 use Rattle.shore_core.specs.Cores as cores
 use Rattle.shore_core.specs.Cores.{IsKept, heap_of, tail_of, waiting_of}
 use Rattle.shore_core.specs.Flushing.{AreFlushes, FlushSteps}
-use Rattle.shore_core.specs.Replies.{InEach, MayLeave, Resumed, Stepped}
+use Rattle.shore_core.specs.Replies.{GaveUp, InEach, MayLeave, Resumed, Stepped}
 use Rattle.shore_world.specs.declared.event.Event.TheVariants as event
 use Rattle.shore_world.specs.declared.world.World.{World}
 use Rattle.shore_world.specs.Worlds.{EventMovesWorld, anchors_in, before_in, cut_in, durable_in, failed_in, geometry_in}
-use Rattle.shore_world.proofs.GrowLemmas.{call_grows, failed_call_stays, failed_resume_keeps, flush_same, kept_same, resume_grows}
+use Rattle.shore_world.proofs.GrowLemmas.{call_grows, failed_call_stays, failed_resume_keeps, flush_same, give_up_grows, given_up_same, kept_same, resume_grows}
 use Rattle.shore_world.proofs.LogParts.{IsBesideOf, before_stays}
-use Rattle.shore_world.proofs.RunLemmas.{call_is_no_flush, resume_is_no_flush}
+use Rattle.shore_world.proofs.RunLemmas.{call_is_no_flush, give_up_is_no_flush, resume_is_no_flush}
 use Rattle.shore_world.proofs.VolumeLemmas.{comes_worked, comes_written, runs_or_failed, volume_alone, volume_written, written_flushes}
 use Rattle.shore_world.proofs.WorldLemmas.{grown_kept, kept_as_before, same_list}
 
@@ -84,6 +84,30 @@ module _ {L V : Type 0} {G : Ghosts L} {H : Ghosts V} where
               (λ failed. kept_same s resumed.later store (failed_resume_keeps (geometry_in old) s session step resumed.later resumed.moves failed) at.over.kept);
         });
     any_moment = volume_alone old new (ap (λ (l : LogDev L G). G.history l.device) log) leaves still;
+  }
+
+  -- a wait that is to be taken back
+  pub give_up_moves : (old new : World L V G H) (session : ℕ) (step : Step) → geometry_in new ≡ geometry_in old → new.log ≡ old.log → new.stage ≡ old.stage
+      → InEach (λ front disk before s store. GaveUp session step old.core new.core front before s store) old.core
+      → MayLeave old.core new.core → heap_of new.core ≡ heap_of old.core → durable_in new ≡ durable_in old
+      → EventMovesWorld old (event.GiveUp session) step new
+  give_up_moves old new session step geometry log stage steps leaves still durable = record {
+    geometry = geometry;
+    state = λ log_front front disk s store at safe may.
+        let given = steps front disk (before_in old s) s store at.is_in safe at.over in
+        let comes = comes_beside old new s given.later front store at.is_in.beside log given.comes in
+        let same = given_up_same s session step given.later given.moves in
+        let grows = give_up_grows old new s given.later session step at.is_in.beside comes.is_in.beside (same_cut old new log) given.moves durable in
+        let kept = grown_kept old new log stage grows log_front at.log in
+        inl (record {
+          beside = λ is. is;
+          later = given.later;
+          moves = given.moves;
+          flushes = λ is. absurd (give_up_is_no_flush session is);
+          comes = comes_written old new geometry stage (same_anchors old new log) log_front front disk s store at (volume_written old new leaves (λ fails. still) log_front front disk s store at) kept
+              given.later comes (λ failed. kept_same s given.later store same at.over.kept);
+        });
+    any_moment = volume_alone old new (ap (λ (l : LogDev L G). G.history l.device) log) leaves (λ fails. still);
   }
 
   -- a step of the flush

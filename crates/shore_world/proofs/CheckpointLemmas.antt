@@ -69,6 +69,7 @@ firsts_kept s step new h firsts = step_keeps AllBeginWithTheirs s (λ l. firsts)
 pub checkpoint_step : (g : Geometry) (s : State) (e : Event) (step : Step) (new : State) → IsOfCheckpoint e → CheckpointsState s step new → EventStep g s e step new
 checkpoint_step g s (event.Call session call) step new is h = absurd is
 checkpoint_step g s (event.Resume session) step new is h = absurd is
+checkpoint_step g s (event.GiveUp session) step new is h = absurd is
 checkpoint_step g s (event.Ask ticket) step new is h = absurd is
 checkpoint_step g s event.ForceStage step new is h = absurd is
 checkpoint_step g s event.ForceOpen step new is h = absurd is
@@ -79,6 +80,7 @@ checkpoint_step g s event.CutTrail step new is h = absurd is
 pub checkpoint_moves : (e : Event) (step : Step) → IsOfCheckpoint e → moves_by e step ≡ OfCheckpoint step ∷ []
 checkpoint_moves (event.Call session call) step is = absurd is
 checkpoint_moves (event.Resume session) step is = absurd is
+checkpoint_moves (event.GiveUp session) step is = absurd is
 checkpoint_moves (event.Ask ticket) step is = absurd is
 checkpoint_moves event.ForceStage step is = absurd is
 checkpoint_moves event.ForceOpen step is = absurd is

@@ -44,6 +44,7 @@ use Rattle.laws_calls.specs.CallSteps.{CallStep}
 use Rattle.laws_calls.specs.Events.{Called, IsStateAfter, Resumed, call_waiting, entries_of_resume, entries_of_waiting}
 use Rattle.laws_calls.specs.LockedStates.{entries_of_call}
 use Rattle.laws_calls.specs.Resolves.{DecidesRollback, ResolvesTo}
+use Rattle.laws_calls.specs.GivingUp.{GiveUpStep}
 use Rattle.laws_calls.specs.Settling.{SettledCall, SettledResume, Settles}
 use Rattle.laws_calls.specs.Shapes.{ResolvesTxn, WaitsForItsRecord}
 use Rattle.laws_calls.specs.States.{DoesNotWait, IsOfSession, State, Waiting, next_number}
@@ -134,9 +135,14 @@ module _ (g : Geometry) (o : Opening) (found : List LogRecord) (es : List Entry)
       sym (as_made (entries_of_resume s session step) (settled_resume_stays o found es s k g session step new h) (session_event_goes_on g s new (Resumed session step) h))
       ∙ resumed_decide s (call_waiting session s.waiting) step
 
+  give_up_decides_nothing : (session : ℕ) (step : Step) → GiveUpStep s session step new → decisions_in (length s.log) new.log ≡ []
+  give_up_decides_nothing session step (inl h) = same_decides_nothing (ap (λ (x : State). x.log) h.is)
+  give_up_decides_nothing session step (inr h) = same_decides_nothing (ap (λ (x : State). x.log) h.is)
+
   pub decides_nothing : (e : Event) (step : Step) → ((session : ℕ) (c : Call) → e ≢ event.Call session c) → EventStep g s e step new → decisions_in (length s.log) new.log ≡ []
   decides_nothing (event.Call session c) step none h = absurd (none session c refl)
   decides_nothing (event.Resume session) step none h = resume_decides_nothing session step h
+  decides_nothing (event.GiveUp session) step none h = give_up_decides_nothing session step h
   decides_nothing (event.Ask ticket) step none h = same_decides_nothing (ask_log g s new ticket step h)
   decides_nothing event.ForceStage step none h = same_decides_nothing (stage_log g s new step h)
   decides_nothing event.ForceOpen step none h = same_decides_nothing (open_log g s new step h)

@@ -25,12 +25,13 @@ use Rattle.shore_cycles.specs.declared.victims.Victim.{Victim}
 use Rattle.laws_lives.specs.LogPrefixes.{decisions_in}
 use Rattle.laws_lives.specs.SessionSteps.{exchange}
 use Rattle.laws_lives.specs.Views.{IsAmong}
-use Rattle.laws_calls.proofs.LockWaits.{MayWait, call_waits_have, resume_waits_have}
+use Rattle.laws_calls.proofs.LockWaits.{MayWait, call_waits_have, event_waits_on, resume_waits_have}
 use Rattle.laws_calls.proofs.SettledEnds.{idle_in, settled_call_ends}
 use Rattle.laws_calls.specs.CallHistories.{txn_of}
 use Rattle.laws_calls.specs.CallSteps.{CallStep, ResumeStep}
-use Rattle.laws_calls.specs.Events.{Called, Forced, HasFailed, IsStateAfter, ManagerEvent, Resumed, TicketAsked, EventMoves, call_waiting, entries_of, entries_of_resume, entries_of_waiting}
+use Rattle.laws_calls.specs.Events.{Called, Forced, GaveUp, HasFailed, IsStateAfter, ManagerEvent, Resumed, TicketAsked, EventMoves, call_waiting, entries_of, entries_of_resume, entries_of_waiting}
 use Rattle.laws_calls.specs.LockedStates.{decisions_made, entries_of_call, entries_of_resumed}
+use Rattle.laws_calls.specs.GivingUp.{GiveUpStep}
 use Rattle.laws_calls.specs.Settling.{SettledCall, SettledResume, Settles}
 use Rattle.laws_calls.specs.States.{DoesNotWait, State, Waiting}
 use Rattle.laws_runs.proofs.Checkpointing.{step_goes}
@@ -68,6 +69,7 @@ pub event_tells : (ws : Waited) (e : Event) (step : Step) (later : List PlainMov
     → told_in ws (moves_by e step ++ later) ≡ told_by ws e step ++ told_in (waited_behind ws e step) later
 event_tells ws (event.Call session c) step later = refl
 event_tells ws (event.Resume session) step later = refl
+event_tells ws (event.GiveUp session) step later = refl
 event_tells ws (event.Ask ticket) (Done a) later = asked_tells ws ticket a later
 event_tells ws (event.Ask ticket) (Refused f) later = refl
 event_tells ws (event.Ask ticket) (Waits wait) later = refl
@@ -103,6 +105,7 @@ asked_waits ws ticket _ later = refl
 pub event_waits : (ws : Waited) (e : Event) (step : Step) (later : List PlainMove) → waited_in ws (moves_by e step ++ later) ≡ waited_in (waited_behind ws e step) later
 event_waits ws (event.Call session c) step later = refl
 event_waits ws (event.Resume session) step later = refl
+event_waits ws (event.GiveUp session) step later = refl
 event_waits ws (event.Ask ticket) (Done a) later = asked_waits ws ticket a later
 event_waits ws (event.Ask ticket) (Refused f) later = refl
 event_waits ws (event.Ask ticket) (Waits wait) later = refl
@@ -128,6 +131,7 @@ module _ {L V : Type 0} {G : Ghosts L} {H : Ghosts V} where
   between_tells old new ws (OfManager HasFailed ∷ failures) later (mid, fails, rest) = between_tells mid new ws failures later rest
   between_tells old new ws (OfManager (Called session c step) ∷ failures) later between = absurd between
   between_tells old new ws (OfManager (Resumed session step) ∷ failures) later between = absurd between
+  between_tells old new ws (OfManager (GaveUp session step) ∷ failures) later between = absurd between
   between_tells old new ws (OfManager (Forced n) ∷ failures) later between = absurd between
   between_tells old new ws (OfManager (TicketAsked ticket answer) ∷ failures) later between = absurd between
   between_tells old new ws (OfCheckpoint step ∷ failures) later between = absurd between
@@ -137,6 +141,7 @@ module _ {L V : Type 0} {G : Ghosts L} {H : Ghosts V} where
   between_waits old new ws (OfManager HasFailed ∷ failures) later (mid, fails, rest) = between_waits mid new ws failures later rest
   between_waits old new ws (OfManager (Called session c step) ∷ failures) later between = absurd between
   between_waits old new ws (OfManager (Resumed session step) ∷ failures) later between = absurd between
+  between_waits old new ws (OfManager (GaveUp session step) ∷ failures) later between = absurd between
   between_waits old new ws (OfManager (Forced n) ∷ failures) later between = absurd between
   between_waits old new ws (OfManager (TicketAsked ticket answer) ∷ failures) later between = absurd between
   between_waits old new ws (OfCheckpoint step ∷ failures) later between = absurd between
@@ -279,6 +284,7 @@ module _ (g : Geometry) (o : Opening) (found : List LogRecord) (es : List Entry)
   pub event_last : (e : ManagerEvent) (new : State) → EventMoves g s e new → AreLast (waited_behind_event ws e) new
   event_last (Called session c step) new h = call_last session c step new h.1
   event_last (Resumed session step) new h = resume_waits_have g (IsLastOf ws) (same_lock ws) s new session step h last
+  event_last (GaveUp session step) new h = event_waits_on g (IsLastOf ws) (same_lock ws) s new (GaveUp session step) tt h last
   event_last (Forced n) new h = subst (AreLast ws) (sym h.2) last
   event_last HasFailed new h = subst (AreLast ws) (sym h) last
   event_last (TicketAsked ticket answer) new h = subst (AreLast ws) (sym h.1) last
@@ -312,9 +318,14 @@ module _ (g : Geometry) (o : Opening) (found : List LogRecord) (es : List Entry)
       by first mid (inl still) (v ∷ vs) h = let clash : Waits (Lock h.1) ≡ Nothing = sym h.4 ∙ still.1 in absurd cc
       by first mid (inr goes) rounds h = absurd (idle goes.0 goes.1 goes.2)
 
-  resume_told : (session : ℕ) (step : Step) (new : State) → SettledResume g s session step new
+  nothing_given_up : (session : ℕ) (step : Step) (new : State) → DoesNotWait s session → GiveUpStep s session step new → step ≡ Nothing
+  nothing_given_up session step new idle (inl h) = absurd (idle h.waited h.there h.of)
+  nothing_given_up session step new idle (inr h) = h.told
+
+  -- a resume, or a wait that is taken back
+  waiter_told : (session : ℕ) (step : Step) → (DoesNotWait s session → step ≡ Nothing)
       → tellings_in (entries_of_resume s session step) ≡ told_of_waiting session (last_waited session ws) step
-  resume_told session step new h = by (call_waiting session s.waiting) refl
+  waiter_told session step idle = by (call_waiting session s.waiting) refl
     where
       told_nothing : (o : Option Call) → told_of_waiting session o Nothing ≡ []
       told_nothing None = refl
@@ -323,7 +334,7 @@ module _ (g : Geometry) (o : Opening) (found : List LogRecord) (es : List Entry)
       by : (o : Option Waiting) → call_waiting session s.waiting ≡ o → tellings_in (entries_of_waiting s o step) ≡ told_of_waiting session (last_waited session ws) step
       by None none =
           sym (told_nothing (last_waited session ws))
-          ∙ ap (told_of_waiting session (last_waited session ws)) (sym (nothing_waits session step new (λ w there. waits_not session s.waiting none w there) h))
+          ∙ ap (told_of_waiting session (last_waited session ws)) (sym (idle (λ w there. waits_not session s.waiting none w there)))
       by (Some w) some =
           let is = waits_so session s.waiting w some in
           let which : last_waited session ws ≡ Some w.call = ap (λ n. last_waited n ws) (sym is.1) ∙ last w is.0 in
@@ -331,7 +342,8 @@ module _ (g : Geometry) (o : Opening) (found : List LogRecord) (es : List Entry)
 
   pub event_told : (e : ManagerEvent) (new : State) → EventMoves g s e new → tellings_in (entries_of s e new) ≡ told_by_event ws e
   event_told (Called session c step) new h = call_told session c step new
-  event_told (Resumed session step) new h = resume_told session step new h
+  event_told (Resumed session step) new h = waiter_told session step (λ idle. nothing_waits session step new idle h)
+  event_told (GaveUp session step) new h = waiter_told session step (λ idle. nothing_given_up session step new idle h)
   event_told (Forced n) new h = refl
   event_told HasFailed new h = refl
   event_told (TicketAsked ticket answer) new h = refl

@@ -15,11 +15,12 @@ use Rattle.shore_model.specs.declared.step.Step.TheVariants.{Done, Waits, Refuse
 use Rattle.shore_model.specs.declared.step.Wait.{Wait}
 use Rattle.shore_model.specs.declared.step.Wait.TheVariants.{Durable, Lock}
 use Rattle.laws_calls.proofs.AfterRefusals.{goes_leaves}
-use Rattle.laws_calls.proofs.LongerLogs.{further_on, settled_call_further, settled_resume_further}
+use Rattle.laws_calls.proofs.LongerLogs.{further_on, give_up_further, settled_call_further, settled_resume_further}
 use Rattle.laws_calls.proofs.LockRounds.{same_failed}
 use Rattle.laws_calls.proofs.SessionInversions.{answered_from, waits_running}
 use Rattle.laws_calls.specs.StateChanges.{wait_refused, with_failure}
-use Rattle.laws_calls.specs.CallSteps.{AnswersBehind, CallGoesOn, ResumesWait, CallStep, ResumeStep, behind_lock}
+use Rattle.laws_calls.specs.CallSteps.{AnswersBehind, CallGoesOn, ResumesWait, CallStep, ResumeStep, behind_lock, with_requests}
+use Rattle.laws_calls.specs.GivingUp.{GiveUpStep}
 use Rattle.laws_calls.specs.Settling.{SettledCall, SettledResume, Settles, WaitsOn}
 use Rattle.laws_calls.specs.Shapes.{with_locks_of}
 use Rattle.laws_calls.specs.States.{State, Waiting}
@@ -33,11 +34,16 @@ use Rattle.shore_world.specs.Worlds.{cut_in, durable_in, geometry_in}
 use Rattle.shore_world.proofs.VolumeLemmas.{never_both}
 use Rattle.shore_world.proofs.LogParts.{IsBesideOf, log_of}
 use Rattle.shore_world.proofs.WorldLemmas.{ListGrows}
+use Rattle.shore_locks.specs.Grants.{cancelled}
 
 -- ---- what runs ran before
 
 runs_before : (s new later : State) → new ≡ later → later.failed ≡ s.failed → new.failed ≡ false → s.failed ≡ false
 runs_before s new later is same runs = sym same ∙ sym (ap (λ (x : State). x.failed) is) ∙ runs
+
+given_up_runs : (s : State) (session : ℕ) (step : Step) (new : State) → GiveUpStep s session step new → new.failed ≡ false → s.failed ≡ false
+given_up_runs s session step new (inl h) runs = h.running
+given_up_runs s session step new (inr h) runs = runs_before s new s h.is refl runs
 
 call_runs : (g : Geometry) (s : State) (session : ℕ) (c : Call) (step : Step) (new : State) → CallStep g s session c step new → new.failed ≡ false → s.failed ≡ false
 call_runs g s session c step new (inl same) runs = runs_before s new s same.1 refl runs
@@ -204,6 +210,10 @@ failed_resume_keeps g s session step new (inl told) failed = same_log_of s new _
 failed_resume_keeps g s session step new (inr (inl same)) failed = same_log_of s new s same.1 (refl, refl)
 failed_resume_keeps g s session step new (inr (inr on)) failed = settles_keep g s session on.first on.rounds step on.mid new on.resumes on.settles failed
 
+pub given_up_same : (s : State) (session : ℕ) (step : Step) (new : State) → GiveUpStep s session step new → HasSameLog s new
+given_up_same s session step new (inl h) = same_log_of s new (with_requests (wait_refused s session) (cancelled h.txn.txn s.locks.requests)) h.is (refl, refl)
+given_up_same s session step new (inr h) = same_log_of s new s h.is (refl, refl)
+
 pub flush_same : (s : State) (step : Step) (new : State) → FlushMoves s step new → HasSameLog s new
 flush_same s (Done answer) new moves = same_log_of s new s moves.2 (refl, refl)
 flush_same s (Waits wait) new moves = absurd moves
@@ -247,3 +257,9 @@ module _ {L V : Type 0} {G : Ghosts L} {H : Ghosts V} where
       → SettledResume (geometry_in old) s session step later → durable_in new ≡ durable_in old → ListGrows old new
   resume_grows old new s later session step is now cut moves durable =
       state_grows old new s later is now cut durable (further_on s later (settled_resume_further (geometry_in old) s session step later moves)) (settled_resume_runs (geometry_in old) s session step later moves)
+
+  -- a wait that is taken back
+  pub give_up_grows : (old new : World L V G H) (s later : State) (session : ℕ) (step : Step) → IsBesideOf old s → IsBesideOf new later → cut_in new ≡ cut_in old
+      → GiveUpStep s session step later → durable_in new ≡ durable_in old → ListGrows old new
+  give_up_grows old new s later session step is now cut moves durable =
+      state_grows old new s later is now cut durable (further_on s later (give_up_further s session step later moves)) (given_up_runs s session step later moves)

@@ -16,7 +16,7 @@ use Rattle.shore_model.specs.declared.step.Step.{Step}
 use Rattle.shore_model.specs.declared.step.Step.TheVariants.{Done, Nothing, Refused, Waits}
 use Rattle.laws_calls.proofs.LongerLogs.{session_event_goes_on}
 use Rattle.laws_calls.specs.CallHistories.{IsPrefix}
-use Rattle.laws_calls.specs.Events.{Called, Resumed}
+use Rattle.laws_calls.specs.Events.{Called, GaveUp, Resumed}
 use Rattle.laws_calls.specs.States.{State}
 use Rattle.laws_checkpoints.specs.Checkpoints as checkpoints
 use Rattle.laws_checkpoints.specs.Checkpoints.{end_payload, of_checkpoint}
@@ -55,6 +55,7 @@ checkpoint_goes_on s (Waits wait) new h = absurd h
 event_goes_on : (g : Geometry) (s : State) (e : Event) (step : Step) (new : State) → IsServedEvent e → EventStep g s e step new → IsPrefix s.log new.log
 event_goes_on g s (event.Call session c) step new served h = session_event_goes_on g s new (Called session c step) (served, h)
 event_goes_on g s (event.Resume session) step new served h = session_event_goes_on g s new (Resumed session step) h
+event_goes_on g s (event.GiveUp session) step new served h = session_event_goes_on g s new (GaveUp session step) h
 event_goes_on g s (event.Ask ticket) step new served h = same_goes_on s new (ask_log g s new ticket step h)
 event_goes_on g s event.ForceStage step new served h = same_goes_on s new (stage_log g s new step h)
 event_goes_on g s event.ForceOpen step new served h = same_goes_on s new (open_log g s new step h)
@@ -67,6 +68,7 @@ event_goes_on g s event.CutTrail step new served h = same_goes_on s new (cut_log
 is_checkpoint : (e : Event) → IsOfCheckpoint e → e ≡ event.CheckpointStep
 is_checkpoint (event.Call session c) is = absurd is
 is_checkpoint (event.Resume session) is = absurd is
+is_checkpoint (event.GiveUp session) is = absurd is
 is_checkpoint (event.Ask ticket) is = absurd is
 is_checkpoint event.ForceStage is = absurd is
 is_checkpoint event.ForceOpen is = absurd is

@@ -11,6 +11,7 @@ pub mod TurnLemmas
 pub mod UnchangedLemmas
 pub mod RunLemmas
 pub mod ForceLemmas
+pub mod GivingUpLemmas
 pub mod GrowLemmas
 pub mod CallLemmas
 pub mod DecidedLemmas

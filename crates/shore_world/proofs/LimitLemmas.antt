@@ -22,7 +22,7 @@ use Rattle.laws_calls.proofs.PrepareSteps.{prepare_locks}
 use Rattle.laws_calls.proofs.ResolveLeaves.{decided_table}
 use Rattle.laws_calls.proofs.RollingLeaves.{back_table, interrupted_table, savepoint_table}
 use Rattle.laws_calls.specs.CallSteps.{AbortStep, AnswersBehind, CallGoesOn, CallStep, CommitStep, HasLocked, InnerStep, OutsideStep, RefusesBehind, ResumeStep, ResumesWait}
-use Rattle.laws_calls.specs.Events.{Called, EventMoves, Forced, HasFailed, ManagerEvent, Resumed, TicketAsked}
+use Rattle.laws_calls.specs.Events.{Called, EventMoves, Forced, GaveUp, HasFailed, ManagerEvent, Resumed, TicketAsked}
 use Rattle.laws_calls.specs.Midway.{AsksIn, Interlude, Intervene, Takes, WaitsAnew}
 use Rattle.laws_calls.specs.Resolves.{ResolvesTo}
 use Rattle.laws_calls.specs.Settling.{SettledResume, Settles}
@@ -165,6 +165,8 @@ module _ (g : Geometry) where
   event_limit : (s new : State) (e : ManagerEvent) → EventMoves g s e new → SameLimit s new
   event_limit s new (Called session c step) h = settles_limit h.1.mid session h.1.first h.1.rounds step new h.1.settles ∙ call_limit s session c h.1.first h.1.mid h.1.calls
   event_limit s new (Resumed session step) h = resumed_limit s session step new h
+  event_limit s new (GaveUp session step) (inl h) = by_state h.is
+  event_limit s new (GaveUp session step) (inr h) = by_state h.is
   event_limit s new (Forced n) h = by_state h.2
   event_limit s new HasFailed h = by_state h
   event_limit s new (TicketAsked ticket answer) h = by_state h.1

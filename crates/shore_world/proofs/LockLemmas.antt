@@ -84,16 +84,17 @@ flush_keeps s new (Refused f) (inr (runs, inr h)) = same_all h.1
 flush_keeps s new (Waits wait) h = absurd h
 flush_keeps s new Nothing h = same_all h.1
 
-others_keep : (g : Geometry) (s new : State) (e : Event) (step : Step) → ((session : ℕ) (c : Call) → e ≢ event.Call session c) → ((session : ℕ) → e ≢ event.Resume session) → EventStep g s e step new
-    → SameLocks s new
-others_keep g s new (event.Call session c) step no_call no_resume h = absurd (no_call session c refl)
-others_keep g s new (event.Resume session) step no_call no_resume h = absurd (no_resume session refl)
-others_keep g s new (event.Ask ticket) step no_call no_resume h = asked_keeps g s new ticket step h
-others_keep g s new event.ForceStage step no_call no_resume h = stage_keeps g s new step h
-others_keep g s new event.ForceOpen step no_call no_resume h = open_keeps g s new step h
-others_keep g s new event.FlushStep step no_call no_resume h = flush_keeps s new step h
-others_keep g s new event.CheckpointStep step no_call no_resume h = step_keeps (SameLocks s) s (λ l. refl) (λ n. refl) refl refl step new h
-others_keep g s new event.CutTrail step no_call no_resume h = cut_keeps g s new step h
+others_keep : (g : Geometry) (s new : State) (e : Event) (step : Step) → ((session : ℕ) (c : Call) → e ≢ event.Call session c) → ((session : ℕ) → e ≢ event.Resume session)
+    → ((session : ℕ) → e ≢ event.GiveUp session) → EventStep g s e step new → SameLocks s new
+others_keep g s new (event.Call session c) step no_call no_resume no_give_up h = absurd (no_call session c refl)
+others_keep g s new (event.Resume session) step no_call no_resume no_give_up h = absurd (no_resume session refl)
+others_keep g s new (event.GiveUp session) step no_call no_resume no_give_up h = absurd (no_give_up session refl)
+others_keep g s new (event.Ask ticket) step no_call no_resume no_give_up h = asked_keeps g s new ticket step h
+others_keep g s new event.ForceStage step no_call no_resume no_give_up h = stage_keeps g s new step h
+others_keep g s new event.ForceOpen step no_call no_resume no_give_up h = open_keeps g s new step h
+others_keep g s new event.FlushStep step no_call no_resume no_give_up h = flush_keeps s new step h
+others_keep g s new event.CheckpointStep step no_call no_resume no_give_up h = step_keeps (SameLocks s) s (λ l. refl) (λ n. refl) refl refl step new h
+others_keep g s new event.CutTrail step no_call no_resume no_give_up h = cut_keeps g s new step h
 
 -- ---- answered calls
 
@@ -179,12 +180,12 @@ module _ (g : Geometry) (o : Opening) (found : List LogRecord) (es : List Entry)
 -- ---- of the world
 
 module _ {L V : Type 0} {G : Ghosts L} {H : Ghosts V} (w : World L V G H) (o : Opening) (es : List Entry) (ws : List (ℕ × Call)) (k : IsManagerOf w o es ws) (new : World L V G H) where
-  pub other_events_keep : (e : Event) (step : Step) → IsServedEvent e → ((session : ℕ) (c : Call) → e ≢ event.Call session c) → ((session : ℕ) → e ≢ event.Resume session) → Steps w e step new
-      → requests_in new ≡ requests_in w
-  other_events_keep e step served no_call no_resume one =
+  pub other_events_keep : (e : Event) (step : Step) → IsServedEvent e → ((session : ℕ) (c : Call) → e ≢ event.Call session c) → ((session : ℕ) → e ≢ event.Resume session)
+      → ((session : ℕ) → e ≢ event.GiveUp session) → Steps w e step new → requests_in new ≡ requests_in w
+  other_events_keep e step served no_call no_resume no_give_up one =
       let went = stepped w o es ws k e step new served one in
       let later = seen new o (es ++ went.on.made) (waited_behind ws e step) went.on.manager in
-      sym later.requests ∙ ap (λ (t : Table). t.requests) (others_keep (geometry_in w) k.now.state went.on.manager.now.state e step no_call no_resume went.moves) ∙ (seen w o es ws k).requests
+      sym later.requests ∙ ap (λ (t : Table). t.requests) (others_keep (geometry_in w) k.now.state went.on.manager.now.state e step no_call no_resume no_give_up went.moves) ∙ (seen w o es ws k).requests
 
   pub answered_call : (session : ℕ) (c : Call) (answer : Answer) → IsServed c → Steps w (event.Call session c) (Done answer) new → (a : SessionTxn) → IsOfSession k.now.state session a
       → HasLocksFor (held_by_all (requests_in new)) a.txn c answer

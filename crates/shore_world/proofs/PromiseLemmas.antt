@@ -93,6 +93,7 @@ AreFailures [] = Unit {0}
 AreFailures (OfManager HasFailed ∷ moves) = AreFailures moves
 AreFailures (OfManager (calls.Called session c step) ∷ moves) = ⊥
 AreFailures (OfManager (calls.Resumed session step) ∷ moves) = ⊥
+AreFailures (OfManager (calls.GaveUp session step) ∷ moves) = ⊥
 AreFailures (OfManager (calls.Forced n) ∷ moves) = ⊥
 AreFailures (OfManager (calls.TicketAsked ticket answer) ∷ moves) = ⊥
 AreFailures (OfCheckpoint step ∷ moves) = ⊥
@@ -102,6 +103,7 @@ between_fails old new [] between = tt
 between_fails old new (OfManager HasFailed ∷ failures) (mid, fails, rest) = between_fails mid new failures rest
 between_fails old new (OfManager (calls.Called session c step) ∷ failures) between = absurd between
 between_fails old new (OfManager (calls.Resumed session step) ∷ failures) between = absurd between
+between_fails old new (OfManager (calls.GaveUp session step) ∷ failures) between = absurd between
 between_fails old new (OfManager (calls.Forced n) ∷ failures) between = absurd between
 between_fails old new (OfManager (calls.TicketAsked ticket answer) ∷ failures) between = absurd between
 between_fails old new (OfCheckpoint step ∷ failures) between = absurd between
@@ -114,6 +116,7 @@ failures_leave_waits g m (Goes (Manage HasFailed works) ∷ moves) last made h f
     failures_leave_waits g h.0 moves last h.1 h.3 fail ∙ ap (λ (x : State). x.waiting) h.2.0.0
 failures_leave_waits g m (Goes (Manage (calls.Called session c step) works) ∷ moves) last made h fail = absurd fail
 failures_leave_waits g m (Goes (Manage (calls.Resumed session step) works) ∷ moves) last made h fail = absurd fail
+failures_leave_waits g m (Goes (Manage (calls.GaveUp session step) works) ∷ moves) last made h fail = absurd fail
 failures_leave_waits g m (Goes (Manage (calls.Forced n) works) ∷ moves) last made h fail = absurd fail
 failures_leave_waits g m (Goes (Manage (calls.TicketAsked ticket answer) works) ∷ moves) last made h fail = absurd fail
 failures_leave_waits g m (Goes (Tend works) ∷ moves) last made h fail =
@@ -405,6 +408,7 @@ module _ {L V : Type 0} {G : Ghosts L} {H : Ghosts V} (w : World L V G H) (o : O
   moved_appends_none : (e : Event) (step : Step) (later : State) → IsOfCheckpoint e → step ≡ Done Moved → EventStep g k.now.state e step later → later.log ≡ k.now.state.log
   moved_appends_none (event.Call session call) step later is moved h = absurd is
   moved_appends_none (event.Resume session) step later is moved h = absurd is
+  moved_appends_none (event.GiveUp session) step later is moved h = absurd is
   moved_appends_none (event.Ask ticket) step later is moved h = absurd is
   moved_appends_none event.ForceStage step later is moved h = absurd is
   moved_appends_none event.ForceOpen step later is moved h = absurd is

@@ -27,7 +27,7 @@ use Rattle.shore_fronts.specs.Causes.{HasCauseOfPair}
 use Rattle.shore_world.specs.declared.event.Event.{Event}
 use Rattle.shore_world.specs.declared.event.Event.TheVariants as event
 use Rattle.shore_world.specs.declared.world.World.{World}
-use Rattle.shore_world.specs.Events.{IsCall, IsOfCheckpoint, IsOfForce, IsOfNoSession, IsOfPages, ReadBy, force_needed_at}
+use Rattle.shore_world.specs.Events.{IsCall, IsNoCall, IsOfCheckpoint, IsOfForce, IsOfPages, ReadBy, force_needed_at}
 use Rattle.shore_world.specs.EventMoves.{PlainMove, all_moves, moves_by}
 use Rattle.shore_world.specs.Worlds.{EventStep, HasFlushed, IsLike, IsUnchanged, EventMovesWorld, Runs, Steps, durable_in, report_in}
 use Rattle.shore_world.proofs.VolumeLemmas.{both_still, comes_unworked}
@@ -87,6 +87,7 @@ module _ {L V : Type 0} {G : Ghosts L} {H : Ghosts V} where
 pub call_is_no_force : (e : Event) → IsCall e → IsOfPages e
 call_is_no_force (event.Call session call) is = tt
 call_is_no_force (event.Resume session) is = absurd is
+call_is_no_force (event.GiveUp session) is = absurd is
 call_is_no_force (event.Ask ticket) is = absurd is
 call_is_no_force event.ForceStage is = absurd is
 call_is_no_force event.ForceOpen is = absurd is
@@ -97,6 +98,7 @@ call_is_no_force event.CutTrail is = absurd is
 of_both : (e : Event) → IsOfPages e → IsOfForce e → ⊥
 of_both (event.Call session call) one other = other
 of_both (event.Resume session) one other = other
+of_both (event.GiveUp session) one other = other
 of_both (event.Ask ticket) one other = other
 of_both event.ForceStage one other = one
 of_both event.ForceOpen one other = one
@@ -107,6 +109,7 @@ of_both event.CutTrail one other = other
 pub pages_are_no_checkpoint : (e : Event) → IsOfPages e → IsOfCheckpoint e → ⊥
 pages_are_no_checkpoint (event.Call session call) one other = other
 pages_are_no_checkpoint (event.Resume session) one other = other
+pages_are_no_checkpoint (event.GiveUp session) one other = other
 pages_are_no_checkpoint (event.Ask ticket) one other = other
 pages_are_no_checkpoint event.ForceStage one other = other
 pages_are_no_checkpoint event.ForceOpen one other = other
@@ -122,9 +125,10 @@ of_pages_alone e pages (inr checkpoint) = pages_are_no_checkpoint e pages checkp
 pub call_is_no_flush : (e : Event) → IsCall e → e ≡ event.FlushStep → ⊥
 call_is_no_flush e call is = subst IsCall is call
 
-pub call_is_no_own_step : (e : Event) → IsCall e → IsOfNoSession e → ⊥
+pub call_is_no_own_step : (e : Event) → IsCall e → IsNoCall e → ⊥
 call_is_no_own_step (event.Call session call) is other = other
 call_is_no_own_step (event.Resume session) is other = is
+call_is_no_own_step (event.GiveUp session) is other = is
 call_is_no_own_step (event.Ask ticket) is other = is
 call_is_no_own_step event.ForceStage is other = is
 call_is_no_own_step event.ForceOpen is other = is
@@ -138,6 +142,9 @@ call_is_no_resume e session call is = subst IsCall is call
 pub call_is_no_ask : (e : Event) (ticket : ℕ) → IsCall e → e ≡ event.Ask ticket → ⊥
 call_is_no_ask e ticket call is = subst IsCall is call
 
+pub give_up_is_no_ask : (session ticket : ℕ) → event.GiveUp session ≡ event.Ask ticket → ⊥
+give_up_is_no_ask session ticket is = absurd cc
+
 pub resume_is_no_ask : (session ticket : ℕ) → event.Resume session ≡ event.Ask ticket → ⊥
 resume_is_no_ask session ticket is = absurd cc
 
@@ -147,8 +154,8 @@ force_is_no_ask e ticket force is = subst IsOfForce is force
 pub flush_is_no_ask : (ticket : ℕ) → event.FlushStep ≡ event.Ask ticket → ⊥
 flush_is_no_ask ticket is = absurd cc
 
-pub own_is_no_resume : (e : Event) (session : ℕ) → IsOfNoSession e → e ≡ event.Resume session → ⊥
-own_is_no_resume e session own is = subst IsOfNoSession is own
+pub own_is_no_resume : (e : Event) (session : ℕ) → IsNoCall e → e ≡ event.Resume session → ⊥
+own_is_no_resume e session own is = subst IsNoCall is own
 
 -- a resume of one session is none of another
 pub same_session : (n session : ℕ) → event.Resume n ≡ event.Resume session → n ≡ session
@@ -162,6 +169,9 @@ stage_is_no_open is = absurd cc
 
 pub resume_is_no_flush : (session : ℕ) → event.Resume session ≡ event.FlushStep → ⊥
 resume_is_no_flush session is = absurd cc
+
+pub give_up_is_no_flush : (session : ℕ) → event.GiveUp session ≡ event.FlushStep → ⊥
+give_up_is_no_flush session is = absurd cc
 
 pub checkpoint_is_no_stage : event.CheckpointStep ≡ event.ForceStage → ⊥
 checkpoint_is_no_stage is = absurd cc
@@ -201,6 +211,9 @@ other_is_no_cut e (inr checkpoint) is = subst IsOfCheckpoint is checkpoint
 pub resume_is_no_cut : (session : ℕ) → event.Resume session ≡ event.CutTrail → ⊥
 resume_is_no_cut session is = absurd cc
 
+pub give_up_is_no_cut : (session : ℕ) → event.GiveUp session ≡ event.CutTrail → ⊥
+give_up_is_no_cut session is = absurd cc
+
 pub flush_is_no_cut : event.FlushStep ≡ event.CutTrail → ⊥
 flush_is_no_cut is = absurd cc
 
@@ -235,7 +248,7 @@ log_cause step log log_now volume volume_now same cause = record {
 pub no_force : {L V : Type 0} {G : Ghosts L} {H : Ghosts V} (old new : World L V G H) (e : Event) (step : Step) → IsOfPages e → new.log ≡ old.log
     → report_in new ≡ report_in old → EventMovesWorld old e step new → SameVolume old.core new.core → (e ≡ event.FlushStep → HasFlushed old step new)
     → Earns old.core (ReadBy old.core e) (fault_at step) → NeedsForceIn old.core (force_needed_at e old.core new.core) (fault_at step)
-    → HasCause (fault_at step) (faults_of old.core) (faults_of new.core) → (IsOfNoSession e → step ≡ Nothing → IsUnchanged old new)
+    → HasCause (fault_at step) (faults_of old.core) (faults_of new.core) → (IsNoCall e → step ≡ Nothing → IsUnchanged old new)
     → ((session : ℕ) → e ≡ event.Resume session → NoneWaits old.core session → (step ≡ Nothing) × IsUnchanged old new)
     → ((ticket : ℕ) → e ≡ event.Ask ticket → (answer : Bool) × (step ≡ Done (IsDurable answer)) × ((answer ≡ true) ↔ (ticket ≤ durable_in old)) × IsUnchanged old new)
     → (e ≡ event.CutTrail → AnswersCut old.core step × IsUnchanged old new) → Steps old e step new
@@ -270,6 +283,7 @@ no_force {L = L} {G = G} old new e step other log report moves same flushed earn
 pub not_copied : (g : Geometry) (s : State) (e : Event) → IsCall e → EventStep g s e (Refused Memory) s
 not_copied g s (event.Call session call) is = at_once g s session call (Refused Memory) s (inl (refl, refl)) tt
 not_copied g s (event.Resume session) is = absurd is
+not_copied g s (event.GiveUp session) is = absurd is
 not_copied g s (event.Ask ticket) is = absurd is
 not_copied g s event.ForceStage is = absurd is
 not_copied g s event.ForceOpen is = absurd is

@@ -16,7 +16,7 @@ use Rattle.laws_calls.proofs.OwnCycles.{resume_told_first}
 use Rattle.laws_calls.proofs.SettledRefusals.{settled_resume_deadlock}
 use Rattle.laws_calls.proofs.ToldLater.{told_among}
 use Rattle.laws_calls.specs.Events as calls
-use Rattle.laws_calls.specs.Events.{Called, EventMoves, IsStateAfter, ManagerEvent, Resumed}
+use Rattle.laws_calls.specs.Events.{Called, EventMoves, GaveUp, IsStateAfter, ManagerEvent, Resumed}
 use Rattle.laws_calls.specs.Midway.{IsItsCycle}
 use Rattle.laws_calls.specs.States.{State, Waiting}
 use Rattle.laws_calls.specs.StoodCycles.{IsWithin, StoodAmong}
@@ -80,6 +80,7 @@ module _ (g : Geometry) (o : Opening) (found : List LogRecord) (es : List Entry)
   event_told : (e : Event) (step : Step) → IsServedEvent e → EventStep g s e step new → ToldBefore (moves_by e step)
   event_told (event.Call session c) step served h = by_move (Called session c step) (served, h)
   event_told (event.Resume session) step served h = by_move (Resumed session step) h
+  event_told (event.GiveUp session) step served h = by_move (GaveUp session step) h
   event_told (event.Ask ticket) (Done (IsDurable answer)) served h = same_waits (OfManager (calls.TicketAsked ticket answer) ∷ []) (ap (λ (y : State). y.waiting) h.1)
   event_told event.ForceStage (Done (Staged n)) served h = same_waits [] (ap (λ (y : State). y.waiting) h.3)
   event_told event.ForceStage Nothing served h = same_waits [] (ap (λ (y : State). y.waiting) h.1)

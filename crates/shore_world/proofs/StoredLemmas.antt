@@ -21,7 +21,7 @@ use Rattle.laws_lives.specs.Recovery.{RecoveryEvent}
 use Rattle.laws_checkpoints.specs.CheckpointedStores.{CheckpointedStore}
 use Rattle.shore_model.specs.declared.step.Step.{Step}
 use Rattle.shore_model.specs.declared.step.Step.TheVariants.{Done, Waits, Refused, Nothing}
-use Rattle.laws_calls.specs.Events.{Called, HasFailed, ManagerEvent, Resumed, EventMoves}
+use Rattle.laws_calls.specs.Events.{Called, GaveUp, HasFailed, ManagerEvent, Resumed, EventMoves}
 use Rattle.laws_calls.specs.StateChanges.{with_failure}
 use Rattle.laws_calls.specs.Events as calls
 use Rattle.laws_calls.specs.States.{State, cost_of_log}
@@ -38,7 +38,7 @@ use Rattle.shore_core.specs.Flushing.{FlushMoves}
 use Rattle.shore_core.specs.Stores.{WorksOn}
 use Rattle.shore_core.proofs.Works.{stores_to, works_to}
 use Rattle.shore_world.specs.declared.event.Event.{Event}
-use Rattle.shore_world.specs.declared.event.Event.TheVariants.{Call, Resume, Ask, ForceStage, ForceOpen, FlushStep, CheckpointStep, CutTrail}
+use Rattle.shore_world.specs.declared.event.Event.TheVariants.{Call, GiveUp, Resume, Ask, ForceStage, ForceOpen, FlushStep, CheckpointStep, CutTrail}
 use Rattle.shore_world.specs.declared.world.World.{World}
 use Rattle.shore_world.specs.Crashes.{AreLeft, AreLeftBetween}
 use Rattle.shore_world.specs.Events.{IsOfCheckpoint, IsServedEvent}
@@ -91,6 +91,7 @@ module _ (g : Geometry) (m : CheckpointedState) (works : List RecoveryEvent) (st
   one_stored : (e : Event) (step : Step) → (IsOfCheckpoint e → ⊥) → IsServedEvent e → EventStep g m.state e step new → StoredAs g m here (moves_by e step)
   one_stored (Call session call) step beside served p = managed_as (Called session call step) (served, p)
   one_stored (Resume session) step beside served p = managed_as (Resumed session step) p
+  one_stored (GiveUp session) step beside served p = managed_as (GaveUp session step) p
   one_stored (Ask ticket) (Done (IsDurable answer)) beside served p = managed_as (calls.TicketAsked ticket answer) p
   one_stored ForceStage (Done (Staged n)) beside served p = tended p.3
   one_stored ForceStage Nothing beside served p = tended p.1
@@ -303,6 +304,7 @@ module _ {L V : Type 0} {G : Ghosts L} {H : Ghosts V} (g : Geometry) (ring_bytes
       run_on es m (OfManager HasFailed ∷ []) failures mid new one (between_run (es ++ one.made) mid one.last one.up failures new rest)
   between_run es old m up (OfManager (Called session call step) ∷ failures) new between = absurd between
   between_run es old m up (OfManager (Resumed session step) ∷ failures) new between = absurd between
+  between_run es old m up (OfManager (GaveUp session step) ∷ failures) new between = absurd between
   between_run es old m up (OfManager (calls.Forced n) ∷ failures) new between = absurd between
   between_run es old m up (OfManager (calls.TicketAsked ticket answer) ∷ failures) new between = absurd between
   between_run es old m up (OfCheckpoint step ∷ failures) new between = absurd between

@@ -270,6 +270,7 @@ module _ {L V : Type 0} {G : Ghosts L} {H : Ghosts V} (w : World L V G H) (o : O
   stays_same (event.Call session c) new served one = absurd (calls_to_nothing session c new served one)
   stays_same (event.Resume session) new served one =
       is_same new (one.none session refl (none_waits w.core (before_in w s) s k.at.is_in.beside session ((resumes_to_nothing session Nothing new one).0 refl))).1
+  stays_same (event.GiveUp session) new served one = is_same new (one.quiet tt refl)
   stays_same (event.Ask ticket) new served one = is_same new (one.quiet tt refl)
   stays_same event.ForceStage new served one = is_same new (one.quiet tt refl)
   stays_same event.ForceOpen new served one = is_same new (one.quiet tt refl)

@@ -82,11 +82,12 @@ asked_by ticket (Anchored checkpoint tail) = []
 asked_by ticket Moved = []
 asked_by ticket Cut = []
 
--- a call and a resume with what they came to; an ask with its answer; of a force the number that it made durable, or the device's failure; of a flush nothing
+-- a call and a resume with what they came to, and a wait that is to be taken back; an ask with its answer; of a force the number that it made durable, or the device's failure; of a flush nothing
 -- but the volume's; a step of a checkpoint with what it came to; a cut of the trail leaves no trace
 abbrev pub moves_by : Event → Step → List PlainMove
 moves_by (event.Call session call) step = OfManager (calls.Called session call step) ∷ []
 moves_by (event.Resume session) step = OfManager (calls.Resumed session step) ∷ []
+moves_by (event.GiveUp session) step = OfManager (calls.GaveUp session step) ∷ []
 moves_by (event.Ask ticket) (Done answer) = asked_by ticket answer
 moves_by (event.Ask ticket) (Refused fault) = []
 moves_by (event.Ask ticket) (Waits wait) = []

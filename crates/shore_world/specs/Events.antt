@@ -12,6 +12,7 @@ use Rattle.shore_world.specs.declared.event.Event.TheVariants as event
 abbrev pub IsServedEvent : Event → Type 0
 IsServedEvent (event.Call session call) = IsServed call
 IsServedEvent (event.Resume session) = Unit {0}
+IsServedEvent (event.GiveUp session) = Unit {0}
 IsServedEvent (event.Ask ticket) = Unit {0}
 IsServedEvent event.ForceStage = Unit {0}
 IsServedEvent event.ForceOpen = Unit {0}
@@ -23,6 +24,7 @@ IsServedEvent event.CutTrail = Unit {0}
 abbrev pub IsCall : Event → Type 0
 IsCall (event.Call session call) = Unit {0}
 IsCall (event.Resume session) = ⊥
+IsCall (event.GiveUp session) = ⊥
 IsCall (event.Ask ticket) = ⊥
 IsCall event.ForceStage = ⊥
 IsCall event.ForceOpen = ⊥
@@ -34,6 +36,7 @@ IsCall event.CutTrail = ⊥
 abbrev pub IsOfPages : Event → Type 0
 IsOfPages (event.Call session call) = Unit {0}
 IsOfPages (event.Resume session) = Unit {0}
+IsOfPages (event.GiveUp session) = Unit {0}
 IsOfPages (event.Ask ticket) = Unit {0}
 IsOfPages event.ForceStage = ⊥
 IsOfPages event.ForceOpen = ⊥
@@ -45,6 +48,7 @@ IsOfPages event.CutTrail = Unit {0}
 abbrev pub IsOfForce : Event → Type 0
 IsOfForce (event.Call session call) = ⊥
 IsOfForce (event.Resume session) = ⊥
+IsOfForce (event.GiveUp session) = ⊥
 IsOfForce (event.Ask ticket) = ⊥
 IsOfForce event.ForceStage = Unit {0}
 IsOfForce event.ForceOpen = Unit {0}
@@ -56,6 +60,7 @@ IsOfForce event.CutTrail = ⊥
 abbrev pub IsOfCheckpoint : Event → Type 0
 IsOfCheckpoint (event.Call session call) = ⊥
 IsOfCheckpoint (event.Resume session) = ⊥
+IsOfCheckpoint (event.GiveUp session) = ⊥
 IsOfCheckpoint (event.Ask ticket) = ⊥
 IsOfCheckpoint event.ForceStage = ⊥
 IsOfCheckpoint event.ForceOpen = ⊥
@@ -63,21 +68,23 @@ IsOfCheckpoint event.FlushStep = ⊥
 IsOfCheckpoint event.CheckpointStep = Unit {0}
 IsOfCheckpoint event.CutTrail = ⊥
 
--- a step that no session asks for: an ask, a cut of the trail, or one of a force, of the flush or of a checkpoint
-abbrev pub IsOfNoSession : Event → Type 0
-IsOfNoSession (event.Call session call) = ⊥
-IsOfNoSession (event.Resume session) = ⊥
-IsOfNoSession (event.Ask ticket) = Unit {0}
-IsOfNoSession event.ForceStage = Unit {0}
-IsOfNoSession event.ForceOpen = Unit {0}
-IsOfNoSession event.FlushStep = Unit {0}
-IsOfNoSession event.CheckpointStep = Unit {0}
-IsOfNoSession event.CutTrail = Unit {0}
+-- an event that neither makes a call nor goes on with one: a wait that is to be taken back, an ask, a cut of the trail, or a step of a force, of the flush or of a checkpoint
+abbrev pub IsNoCall : Event → Type 0
+IsNoCall (event.Call session call) = ⊥
+IsNoCall (event.Resume session) = ⊥
+IsNoCall (event.GiveUp session) = Unit {0}
+IsNoCall (event.Ask ticket) = Unit {0}
+IsNoCall event.ForceStage = Unit {0}
+IsNoCall event.ForceOpen = Unit {0}
+IsNoCall event.FlushStep = Unit {0}
+IsNoCall event.CheckpointStep = Unit {0}
+IsNoCall event.CutTrail = Unit {0}
 
 -- the pages of the volume that an event of a core may read: going on with a call may read what the call may
 abbrev pub ReadBy : {T V : Type 0} {G : tail.Ghosts T} {H : disk.Ghosts V} → Core T V G H → Event → PageId → Type 0
 ReadBy core (event.Call session call) page = Reads call page
 ReadBy core (event.Resume session) page = ReadsWaiting core session page
+ReadBy core (event.GiveUp session) page = ⊥
 ReadBy core (event.Ask ticket) page = ⊥
 ReadBy core event.ForceStage page = ⊥
 ReadBy core event.ForceOpen page = ⊥
@@ -89,6 +96,7 @@ ReadBy core event.CutTrail page = ⊥
 abbrev pub force_needed_at : {T V : Type 0} {G : tail.Ghosts T} {H : disk.Ghosts V} → Event → Core T V G H → Core T V G H → Core T V G H
 force_needed_at (event.Call session call) old new = forced_at call old new
 force_needed_at (event.Resume session) old new = old
+force_needed_at (event.GiveUp session) old new = old
 force_needed_at (event.Ask ticket) old new = old
 force_needed_at event.ForceStage old new = old
 force_needed_at event.ForceOpen old new = old

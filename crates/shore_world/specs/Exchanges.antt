@@ -83,10 +83,11 @@ told_of_ask ticket (Refused fault) = []
 told_of_ask ticket (Waits wait) = []
 told_of_ask ticket Nothing = []
 
--- a call is told at once, or by a resume once it waits no more, and a ticket by an ask; a step of a force, of the flush or of a checkpoint, and a cut of the trail, tell nobody
+-- a call is told at once, or by a resume once it waits no more, or as its wait is taken back, and a ticket by an ask; a step of a force, of the flush or of a checkpoint, and a cut of the trail, tell nobody
 abbrev pub told_by : List (ℕ × Call) → Event → Step → List Telling
 told_by ws (event.Call session c) step = told_of session c step
 told_by ws (event.Resume session) step = told_of_waiting session (last_waited session ws) step
+told_by ws (event.GiveUp session) step = told_of_waiting session (last_waited session ws) step
 told_by ws (event.Ask ticket) step = told_of_ask ticket step
 told_by ws event.ForceStage step = []
 told_by ws event.ForceOpen step = []
@@ -104,6 +105,7 @@ waits_behind ws session c Nothing = (session, c) ∷ ws
 abbrev pub waited_behind : List (ℕ × Call) → Event → Step → List (ℕ × Call)
 waited_behind ws (event.Call session c) step = waits_behind ws session c step
 waited_behind ws (event.Resume session) step = ws
+waited_behind ws (event.GiveUp session) step = ws
 waited_behind ws (event.Ask ticket) step = ws
 waited_behind ws event.ForceStage step = ws
 waited_behind ws event.ForceOpen step = ws
@@ -130,6 +132,7 @@ tellings_of ws (e ∷ es) [] = []
 abbrev pub told_by_event : List (ℕ × Call) → ManagerEvent → List Telling
 told_by_event ws (calls.Called session c step) = told_of session c step
 told_by_event ws (calls.Resumed session step) = told_of_waiting session (last_waited session ws) step
+told_by_event ws (calls.GaveUp session step) = told_of_waiting session (last_waited session ws) step
 told_by_event ws (calls.Forced n) = []
 told_by_event ws calls.HasFailed = []
 told_by_event ws (calls.TicketAsked ticket answer) = OfTicket ticket answer ∷ []
@@ -137,6 +140,7 @@ told_by_event ws (calls.TicketAsked ticket answer) = OfTicket ticket answer ∷ 
 abbrev pub waited_behind_event : List (ℕ × Call) → ManagerEvent → List (ℕ × Call)
 waited_behind_event ws (calls.Called session c step) = waits_behind ws session c step
 waited_behind_event ws (calls.Resumed session step) = ws
+waited_behind_event ws (calls.GaveUp session step) = ws
 waited_behind_event ws (calls.Forced n) = ws
 waited_behind_event ws calls.HasFailed = ws
 waited_behind_event ws (calls.TicketAsked ticket answer) = ws

@@ -24,6 +24,7 @@ use Rattle.shore_model.specs.declared.step.Step.TheVariants.{Done, Nothing, Refu
 use Rattle.laws_calls.specs.Events.{Called, HasFailed, Resumed}
 use Rattle.laws_calls.specs.StateChanges.{with_durable, with_failure}
 use Rattle.laws_calls.specs.Events as calls
+use Rattle.laws_calls.specs.GivingUp.{GiveUpStep}
 use Rattle.laws_calls.specs.Settling.{SettledCall, SettledResume}
 use Rattle.laws_calls.specs.CallSteps.{txn_count}
 use Rattle.laws_calls.specs.States.{State, cost_of_log, next_number}
@@ -53,7 +54,7 @@ use Rattle.laws_images.specs.StandsBehind.{anchored_by}
 use Rattle.shore_world.specs.declared.event.Event.{Event}
 use Rattle.shore_world.specs.declared.event.Event.TheVariants as event
 use Rattle.shore_world.specs.declared.world.World.{World}
-use Rattle.shore_world.specs.Events.{IsOfCheckpoint, IsOfForce, IsOfNoSession, IsOfPages, ReadBy, force_needed_at}
+use Rattle.shore_world.specs.Events.{IsNoCall, IsOfCheckpoint, IsOfForce, IsOfPages, ReadBy, force_needed_at}
 use Rattle.shore_world.specs.EventMoves.{OfCheckpoint, OfManager, PlainMove, moves_by}
 use Rattle.shore_world.specs.Ready.{IsReadyLog}
 
@@ -206,6 +207,7 @@ CutRefused s fault = (IsTrue s.failed × (fault ≡ Failed)) ⊎ ((s.failed ≡ 
 abbrev pub EventStep : Geometry → State → Event → Step → State → Type 0
 EventStep g s (event.Call session call) step new = SettledCall g s session call step new
 EventStep g s (event.Resume session) step new = SettledResume g s session step new
+EventStep g s (event.GiveUp session) step new = GiveUpStep s session step new
 EventStep g s (event.Ask ticket) (Done (IsDurable answer)) new = ((answer ≡ true) ↔ (ticket ≤ s.durable)) × (new ≡ s)
 EventStep g s event.ForceStage (Done (Staged n)) new = (s.failed ≡ false) × (s.durable < n) × (n ≤ length s.log) × (new ≡ s)
 EventStep g s event.ForceStage Nothing new = (s.failed ≡ false) × (new ≡ s)
@@ -382,7 +384,7 @@ module _ {L V : Type 0} {G : Ghosts L} {H : Ghosts V} where
   -- One event: what it moves, what a step of a force or of the flush has done, when it may come to nothing, and who tells of a failure.
   pub record Steps (old : World L V G H) (e : Event) (step : Step) (new : World L V G H) : Type 0 where
     pub moves : EventMovesWorld old e step new
-    -- a call, a resume, an ask, a cut of the trail and a step of the flush make no call of the log device, and a step of a force or of a checkpoint none of the volume
+    -- a call, a resume, a wait taken back, an ask, a cut of the trail and a step of the flush make no call of the log device, and a step of a force or of a checkpoint none of the volume
     pub still : IsOfPages e → new.log.device ≡ old.log.device
     pub volume : IsOfForce e ⊎ IsOfCheckpoint e → cores.heap_of new.core ≡ cores.heap_of old.core
     -- a step of a checkpoint calls the log device at the move of the anchor alone, and no other event moves it
@@ -396,7 +398,7 @@ module _ {L V : Type 0} {G : Ghosts L} {H : Ghosts V} where
     pub idle : e ≡ event.ForceStage → step ≡ Nothing → IsIdle old
     pub shut : e ≡ event.ForceOpen → step ≡ Nothing → old.log.staged ≡ None
     -- .. and whatever comes to nothing has changed nothing; so has a resume of a session of which no call waits
-    pub quiet : IsOfNoSession e → step ≡ Nothing → IsUnchanged old new
+    pub quiet : IsNoCall e → step ≡ Nothing → IsUnchanged old new
     pub none : (session : ℕ) → e ≡ event.Resume session → NoneWaits old.core session → (step ≡ Nothing) × IsUnchanged old new
     -- an ask is answered whatever has failed, and changes nothing
     pub asked : (ticket : ℕ) → e ≡ event.Ask ticket → (answer : Bool) × (step ≡ Done (IsDurable answer)) × ((answer ≡ true) ↔ (ticket ≤ durable_in old)) × IsUnchanged old new
@@ -462,6 +464,7 @@ Between old [] new = IsLike old new
 Between {L = L} {V = V} {G = G} {H = H} old (OfManager HasFailed ∷ failures) new = (mid : World L V G H) × HasFailedToRead old mid × Between mid failures new
 Between old (OfManager (Called session c step) ∷ failures) new = ⊥
 Between old (OfManager (Resumed session step) ∷ failures) new = ⊥
+Between old (OfManager (calls.GaveUp session step) ∷ failures) new = ⊥
 Between old (OfManager (calls.Forced n) ∷ failures) new = ⊥
 Between old (OfManager (calls.TicketAsked ticket answer) ∷ failures) new = ⊥
 Between old (OfCheckpoint step ∷ failures) new = ⊥

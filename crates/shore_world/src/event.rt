@@ -13,6 +13,8 @@ pub enum Event {
     Call(SessionId, Call),
     /// A session goes on with its call that waits.
     Resume(SessionId),
+    /// The wait of a session's call for a lock is taken back: the call is refused by `WouldBlock` if its request waits. It takes no memory.
+    GiveUp(SessionId),
     /// Whether the Commit of a ticket that this manager gave is durable. It changes nothing, and is answered after a failure too.
     Ask(Ticket),
     /// The longest list of waiting records that one frame holds is written behind a closed gate.
@@ -36,6 +38,7 @@ impl Event {
         Ok(match self {
             Event::Call(session, call) => Event::Call(*session, call.try_clone(alloc)?),
             Event::Resume(session) => Event::Resume(*session),
+            Event::GiveUp(session) => Event::GiveUp(*session),
             Event::Ask(ticket) => Event::Ask(*ticket),
             Event::ForceStage => Event::ForceStage,
             Event::ForceOpen => Event::ForceOpen,

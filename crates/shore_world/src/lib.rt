@@ -15,7 +15,7 @@ pub mod promises;
 mod world;
 
 pub use event::Event;
-pub use shore_core::{Step, Wait};
+pub use shore_core::{Step, TailHolder, Wait};
 pub use shore_format::{format, volume_bytes};
 pub use shore_restart::Report;
 pub use world::{World, crashed};

@@ -271,7 +271,7 @@ impl<L: Disk, V: Disk> World<L, V> {
         self.core.nodes(alloc)
     }
 
-    /// One event. A refusal has changed nothing but locks that were taken, and transactions that a call doomed as victims before it was refused; a rollback
+    /// One event. A refusal has changed nothing but locks that were taken, a wait that was taken back, and transactions that a call doomed as victims before it was refused; a rollback
     /// that is refused has put some changes back at most; except for
     /// `Device` and `Damaged`: after them every call is refused by `Failed` or `Memory`, and so is each call that waits, once. An ask is always answered.
     pub fn step(&mut self, alloc: Global, event: Event) -> Step
@@ -281,6 +281,7 @@ impl<L: Disk, V: Disk> World<L, V> {
         match event {
             Event::Call(session, call) => self.core.call(alloc, session, call),
             Event::Resume(session) => self.core.resume(alloc, session),
+            Event::GiveUp(session) => self.core.give_up(session),
             Event::Ask(ticket) => self.core.ask(ticket),
             Event::ForceStage => self.force_stage(alloc),
             Event::ForceOpen => self.force_open(),

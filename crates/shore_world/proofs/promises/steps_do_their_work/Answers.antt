@@ -1,5 +1,6 @@
 use Rattle.shore_world.proofs.WorkLemmas.{calls_to_nothing, flushes, opens, resumes_to_nothing, stages, stays_same}
 use Rattle.shore_world.proofs.CheckpointWorks.{checks, goes_plainly}
+use Rattle.shore_world.proofs.GivingUpLemmas.{given_up_nothing}
 use Rattle.shore_world.proofs.promises.steps_do_their_work.Goals as goal
 
 pub returns-clause-stage : goal.returns-clause-stage
@@ -28,3 +29,7 @@ returns-clause-as_plain c d w new o es ws step k one = goes_plainly w o es ws k 
 
 pub returns-clause-move_takes_no_memory : goal.returns-clause-move_takes_no_memory
 returns-clause-move_takes_no_memory c d w new named step one at = one.no_memory tt named at
+
+pub returns-clause-give_up : goal.returns-clause-give_up
+returns-clause-give_up c d w new o es ws session step k one =
+    given_up_nothing w o es ws k session step new one

@@ -8,9 +8,9 @@ use Rattle.shore_core.specs.Flushing.{FlushAnswers}
 use Rattle.shore_core.specs.Replies.{fault_at}
 use Rattle.shore_core.specs.Resumes.{NoneWaits}
 use Rattle.shore_world.specs.declared.event.Event.TheVariants as event
-use Rattle.shore_world.proofs.CallLemmas.{call_moves, flush_moves, resume_moves}
+use Rattle.shore_world.proofs.CallLemmas.{call_moves, flush_moves, give_up_moves, resume_moves}
 use Rattle.shore_world.proofs.DumpLemmas.{never_true}
-use Rattle.shore_world.proofs.RunLemmas.{checkpoint_is_no_ask, checkpoint_is_no_flush, checkpoint_is_no_open, checkpoint_is_no_stage, call_is_no_ask, call_is_no_cut, call_is_no_flush, call_is_no_resume, flush_asks_nothing, flush_faults, flush_is_no_ask, flush_is_no_cut, flush_says_nothing, force_is_no_ask, log_cause, no_force, open_is_no_flush, open_is_no_stage, other_is_no_cut, own_is_no_resume, resume_is_no_ask, resume_is_no_cut, resume_is_no_flush, same_session, same_volume, stage_is_no_flush, stage_is_no_open}
+use Rattle.shore_world.proofs.RunLemmas.{checkpoint_is_no_ask, checkpoint_is_no_flush, checkpoint_is_no_open, checkpoint_is_no_stage, call_is_no_ask, call_is_no_cut, call_is_no_flush, call_is_no_resume, flush_asks_nothing, flush_faults, flush_is_no_ask, flush_is_no_cut, flush_says_nothing, force_is_no_ask, give_up_is_no_ask, give_up_is_no_cut, give_up_is_no_flush, log_cause, no_force, open_is_no_flush, open_is_no_stage, other_is_no_cut, own_is_no_resume, resume_is_no_ask, resume_is_no_cut, resume_is_no_flush, same_session, same_volume, stage_is_no_flush, stage_is_no_open}
 use Rattle.shore_world.proofs.UnchangedLemmas.{ask_steps, cut_steps, flush_unchanged, unchanged_parts}
 use Rattle.shore_world.proofs.WorldLemmas.{failed_runs}
 use Rattle.shore_world.specs.Worlds.{failed_in}
@@ -43,6 +43,17 @@ returns-in-Resume g c =
     let nothing = e.none (subst (λ (n : ℕ). NoneWaits old.core n) (sym (same_session c.in-Resume.session session is)) idle) in
     (nothing.0, unchanged_parts old _ nothing.1 refl refl refl))
     (λ ticket is. absurd (resume_is_no_ask c.in-Resume.session ticket is)) (λ is. absurd (resume_is_no_cut c.in-Resume.session is)))
+
+pub returns-in-GiveUp : goal.returns-in-GiveUp
+returns-in-GiveUp g c =
+    let old = c.args.self.now in
+    let e = c.give_up.ensures in
+    rw c.in-GiveUp.is (
+    no_force old _ _ _ tt refl refl (give_up_moves old _ _ _ e.serves.volume.geometry refl refl e.step e.serves.any_moment e.heap e.serves.durable) e.serves.volume
+    (λ is. absurd (give_up_is_no_flush c.in-GiveUp.session is)) e.serves.damaged e.serves.forced e.serves.cause
+    (λ own nothing. unchanged_parts old _ (e.nothing nothing) refl refl refl)
+    (λ session is. absurd (own_is_no_resume (event.GiveUp c.in-GiveUp.session) session tt is))
+    (λ ticket is. absurd (give_up_is_no_ask c.in-GiveUp.session ticket is)) (λ is. absurd (give_up_is_no_cut c.in-GiveUp.session is)))
 
 pub returns-in-Ask : goal.returns-in-Ask
 returns-in-Ask g c = rw c.in-Ask.is (ask_steps c.args.self.now c.in-Ask.ticket c.ask.result c.ask.ensures.answered)
