@@ -21,7 +21,7 @@ use Rattle.shore_model.specs.declared.log_records.LogRecord.{LogRecord}
 use Rattle.shore_model.specs.declared.step.Step.{Step}
 use Rattle.shore_model.specs.declared.step.Step.TheVariants.{Done, Waits, Refused, Nothing}
 use Rattle.laws_lives.specs.Recovery.{ForceLog, RecoveryEvent, after_force}
-use Rattle.laws_calls.specs.Events.{Called, EventMoves, Forced, HasFailed, ManagerEvent, Resumed}
+use Rattle.laws_calls.specs.Events.{Called, EventMoves, Forced, GaveUp, HasFailed, ManagerEvent, Resumed}
 use Rattle.laws_calls.specs.StateChanges.{with_durable, with_failure}
 use Rattle.laws_calls.specs.States.{State}
 use Rattle.laws_checkpoints.specs.Checkpoints.{Anchored, cut_of}
@@ -43,7 +43,7 @@ use Rattle.shore_core.specs.Replies.{InEach, MayLeave, Stepped}
 use Rattle.shore_core.specs.Replies as replies
 use Rattle.shore_core.specs.Stores.{WorksOn, force_to}
 use Rattle.shore_core.proofs.Works.{stores_to, works_leave, works_to}
-use Rattle.shore_world.proofs.GrowLemmas.{failed_call_stays, failed_resume_keeps, flush_same, kept_same}
+use Rattle.shore_world.proofs.GrowLemmas.{failed_call_stays, given_up_same, failed_resume_keeps, flush_same, kept_same}
 use Rattle.shore_world.specs.EventMoves.{OfCheckpoint, OfManager, PlainMove, moves_among}
 use Rattle.shore_world.proofs.MadeSteps.{anchor_kept}
 use Rattle.shore_world.proofs.StoredLemmas.{all_join, among_join}
@@ -227,6 +227,19 @@ module _ {T V : Type 0} {G : tail.Ghosts T} {H : disk.Ghosts V} {start : Beginni
             (kept_same h.last.state s.later h.last.store (failed_resume_keeps (geometry_of old) h.last.state session step s.later s.moves fails) h.over.kept)
       ] in
       goes_on new same ring s.later came (Resumed session step) s.moves
+
+  pub given_up : (new : Core T V G H) (session : ℕ) (step : Step) → geometry_of new ≡ geometry_of old → ring_of new ≡ ring_of old
+      → InEach (λ front disk before s store. replies.GaveUp session step old new front before s store) old
+      → MayLeave old new → heap_of new ≡ heap_of old → Come new (OfManager (GaveUp session step) ∷ [])
+  given_up new session step same ring each leaves still =
+      let s = each h.front h.disk h.before h.last.state h.last.store h.is_in safe h.over in
+      let came : CameTo new s.later = elim (runs_or_failed s.later.failed) [
+        | inl runs ↦ running new same s.later s.comes runs
+        | inr fails ↦
+            torn new same s.later s.comes (volume_amid new leaves (λ failed. still)) fails
+            (kept_same h.last.state s.later h.last.store (given_up_same h.last.state session step s.later s.moves) h.over.kept)
+      ] in
+      goes_on new same ring s.later came (GaveUp session step) s.moves
 
   -- what leaves the heap leaves the volume
   module _ (new : Core T V G H) (heap : heap_of new ≡ heap_of old) (ring : ring_of new ≡ ring_of old) where

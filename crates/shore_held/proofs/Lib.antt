@@ -4,6 +4,7 @@ pub mod Comings
 pub mod Following
 pub mod KeptLogs
 pub mod Moments
+pub mod Rooms
 pub mod Staging
 pub mod Steps
 pub mod Trails

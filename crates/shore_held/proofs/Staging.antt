@@ -1,7 +1,8 @@
 -- What is kept of a log device that stages a frame, and opens its gate.
-use Rattle.std.proofs.Common.{◌≡◌, ◌≤◌, ◌<◌, ◌+◌, ◌↔◌, inl, inr, ℕ, Bool, false, List, [], ◌∷◌, ◌++◌, length, take, refl, sym, ◌∙◌, ap, subst, arith, length-append, Option, None, Some}
-use Rattle.std.specs.Option.{ForSome}
-use Rattle.std.specs.Prelude.{IfSome, IsSome}
+use Rattle.std.proofs.Common.{◌≡◌, ◌≤◌, ◌<◌, ◌+◌, ◌↔◌, inl, inr, ℕ, Bool, true, false, true≢false, List, [], ◌∷◌, ◌++◌, length, take, refl, sym, ◌∙◌, ap, subst, arith, length-append, Option, None, Some, Result, Ok, Err}
+use Rattle.std.specs.Option.{ForSome, is_some}
+use Rattle.std.specs.Prelude.{◌⊎◌, IfOk, IfSome, IsSome, OnErr}
+use Rattle.shore_types.specs.declared.faults.Fault.{Fault}
 use Rattle.shore_types.specs.declared.layout.Geometry.{Geometry}
 use Rattle.shore_disk.specs.Device.{Call, DeviceHistory, LeavesOnly, LeftAfter, LeftSince, may_leave, moment, seen}
 use Rattle.shore_disk.specs.declared.device.Disk.{Ghosts}
@@ -11,7 +12,7 @@ use Rattle.shore_gate.specs.declared.anchors.Anchors.{Anchors}
 use Rattle.shore_model.specs.declared.log_records.LogRecord.{LogRecord}
 use Rattle.shore_log.specs.declared.device.LogDev.{LogDev}
 use Rattle.shore_log.specs.declared.device.Staged.{Staged}
-use Rattle.shore_log.specs.Settled.{IsSettledFrom, IsStagedFrom, anchor_of, stable}
+use Rattle.shore_log.specs.Settled.{IsSettledFrom, IsStagedFrom, anchor_of, stable, waiting}
 use Rattle.shore_world.proofs.WorldLemmas.{ready_gives}
 use Rattle.shore_world.specs.Ready.{IsReadyLog}
 use Rattle.shore_held.specs.Comings.{HasAim}
@@ -48,6 +49,26 @@ not_staged (Some x) none = none refl
 
 pub none_counts : (s : Option Staged) → s ≡ None → count_of s ≡ 0
 none_counts s none = ap count_of none
+
+none_or_some : (s : Option Staged) → (s ≡ None) ⊎ ((x : Staged) × (s ≡ Some x))
+none_or_some None = inl refl
+none_or_some (Some x) = inr (x, refl)
+
+pub none_counted : (s : Option Staged) → ForSome s (λ x. 1 ≤ x.count) → count_of s ≡ 0 → s ≡ None
+none_counted None least none = refl
+none_counted (Some x) least none = absurd (omega (arith, least x refl, none))
+
+-- ---- what an answer says, once it is known which it is
+
+pub if_ok : {A : Type 0} (r : Result A Fault) (x : A) (P : A → Type 0) → r ≡ Ok x → IfOk r P → P x
+if_ok {A = A} r x P is p = subst (λ (q : Result A Fault). IfOk q P) is p
+
+pub on_err : {A : Type 0} (r : Result A Fault) (fault : Fault) (P : Type 0) → r ≡ Err fault → OnErr r P → P
+on_err {A = A} r fault P is p = subst (λ (q : Result A Fault). OnErr q P) is p
+
+pub on_some : {A : Type 0} (n : Option A) (P : Type 0) → is_some n ≡ true → IfSome n (λ _. P) → P
+on_some (Some x) P is p = p
+on_some None P is p = absurd (true≢false (sym is))
 
 -- ---- the images
 
@@ -102,6 +123,23 @@ module _ {L : Type 0} {G : Ghosts L} where
         | inr s ↦
             kept_ready old new k.front k.labelled anchors k.anchored failed
             (inl (subst (λ (a : Anchors). IsSettledFrom a.anchor.tail a.anchor.tail_place new k.front) (sym anchors) (settled (anchor_of old).tail (anchor_of old).tail_place k.front s.0 s.1), none))
+      ]
+
+      -- .. and of one that opens a gate and may stage another frame
+      pub kept_opened_on : (old.staged ≡ None → new ≡ old)
+          → ((tail place : ℕ) (front : List ℕ) (group : List LogRecord) → IsStagedFrom tail place old front group → new.staged ≡ None → IsSettledFrom tail place new front)
+          → ((tail place : ℕ) (front : List ℕ) (group : List LogRecord) → IsStagedFrom tail place old front group → ForSome new.staged (λ s. IsStagedFrom tail place new front (take s.count (waiting new))))
+          → IsKept g log_bytes new failed aim
+      kept_opened_on same settled staged = elim (k.ready runs) [
+        | inl s ↦ subst (λ (l : LogDev L G). IsKept g log_bytes l failed aim) (sym (same s.1)) k
+        | inr s ↦
+            kept_ready old new k.front k.labelled anchors k.anchored failed
+            (subst (λ (a : Anchors). (IsSettledFrom a.anchor.tail a.anchor.tail_place new k.front × (new.staged ≡ None)) ⊎ ((group : List LogRecord) × IsStagedFrom a.anchor.tail a.anchor.tail_place new k.front group))
+            (sym anchors)
+            (elim (none_or_some new.staged) [
+              | inl none ↦ inl (settled (anchor_of old).tail (anchor_of old).tail_place k.front s.0 s.1 none, none)
+              | inr next ↦ inr (take next.0.count (waiting new), staged (anchor_of old).tail (anchor_of old).tail_place k.front s.0 s.1 next.0 next.1)
+            ]))
       ]
 
 -- ---- one call, and then another

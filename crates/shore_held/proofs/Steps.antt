@@ -10,7 +10,7 @@ use Rattle.shore_model.specs.declared.calls.Call.{Call}
 use Rattle.shore_model.specs.declared.log_records.LogRecord.{LogRecord}
 use Rattle.shore_model.specs.declared.step.Step.{Step}
 use Rattle.shore_model.specs.declared.step.Step.TheVariants.{Done, Nothing, Refused, Waits}
-use Rattle.laws_calls.specs.Events.{Called, EventMoves, HasFailed, ManagerEvent, Resumed}
+use Rattle.laws_calls.specs.Events.{Called, EventMoves, GaveUp, HasFailed, ManagerEvent, Resumed}
 use Rattle.laws_calls.specs.StateChanges.{with_failure}
 use Rattle.laws_calls.specs.States.{State}
 use Rattle.laws_checkpoints.specs.Checkpoints.{Anchored}
@@ -23,7 +23,7 @@ use Rattle.shore_core.specs.Flushing.{FlushMoves, FlushSteps}
 use Rattle.shore_core.specs.Replies.{InEach, MayLeave, Stepped}
 use Rattle.shore_core.specs.Replies as replies
 use Rattle.shore_core.proofs.Works.{stores_to, works_leave, works_to}
-use Rattle.shore_world.proofs.GrowLemmas.{failed_call_stays, failed_resume_keeps, kept_same}
+use Rattle.shore_world.proofs.GrowLemmas.{failed_call_stays, failed_resume_keeps, given_up_same, kept_same}
 use Rattle.shore_world.proofs.VolumeLemmas.{runs_or_failed}
 use Rattle.shore_world.specs.EventMoves.{OfManager, PlainMove, moves_among}
 use Rattle.shore_held.proofs.Comings.{CameTo, failing, flush_came, ring_of, running, safe, torn, volume_amid}
@@ -108,6 +108,18 @@ module _ {T V : Type 0} {G : tail.Ghosts T} {H : disk.Ghosts V} {start : Beginni
                 (kept_same h.last.state s.later h.last.store (failed_resume_keeps (geometry_of old) h.last.state session step s.later s.moves fails) h.over.kept)
           ] in
           by_event (Resumed session step) s.later came s.moves
+
+      pub give_up_makes : (session : ℕ) (step : Step) → InEach (λ front disk before s store. replies.GaveUp session step old new front before s store) old → Makes new (GaveUp session step)
+      give_up_makes session step each =
+          let s = each h.front h.disk h.before h.last.state h.last.store h.is_in (safe cut kept old stage anchored trail h) h.over in
+          let amid = volume_amid cut kept old stage anchored trail h new leaves still in
+          let came : CameTo cut kept old stage anchored trail h new s.later = elim (runs_or_failed s.later.failed) [
+            | inl runs ↦ running cut kept old stage anchored trail h new same s.later s.comes runs
+            | inr fails ↦
+                torn cut kept old stage anchored trail h new same s.later s.comes amid fails
+                (kept_same h.last.state s.later h.last.store (given_up_same h.last.state session step s.later s.moves) h.over.kept)
+          ] in
+          by_event (GaveUp session step) s.later came s.moves
 
       -- work between two events, or the failure of the volume
       pub record Flushes : Type 0 where

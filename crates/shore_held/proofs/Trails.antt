@@ -1,10 +1,10 @@
 -- A trail grows by one.
-use Rattle.std.proofs.Common.{◌≡◌, ◌⊎◌, inl, inr, ◌+◌, ◌∙◌, ◌||◌, ℕ, Bool, true, false, IsTrue, List, [], ◌∷◌, ◌++◌, length, arith, refl, sym, ap, append_assoc, append-nil, length-append}
+use Rattle.std.proofs.Common.{◌≡◌, ◌≢◌, ◌⊎◌, inl, inr, ◌+◌, ◌∙◌, ◌||◌, ℕ, Bool, true, false, IsTrue, List, [], ◌∷◌, ◌++◌, length, arith, refl, sym, ap, append_assoc, append-nil, length-append, None}
 use Rattle.shore_model.specs.declared.step.Step.{Step}
 use Rattle.shore_model.specs.declared.step.Step.TheVariants as made
 use Rattle.shore_held.specs.declared.asked.Asked.{Asked}
 use Rattle.shore_held.specs.declared.asked.Asked.TheVariants as asks
-use Rattle.shore_held.specs.Trails.{GoesOn, calls_in, counted, has_failure, is_failure, move_of, moves_of, noted_in, noted_of}
+use Rattle.shore_held.specs.Trails.{GoesOn, calls_in, counted, has_failure, is_failure, move_of, moves_of, noted_back, noted_in, noted_of}
 
 pub moves_snoc : (asked : List (Asked × ℕ)) (steps : List (Step × ℕ)) (a : Asked × ℕ) (step : Step × ℕ) → length steps ≡ length asked
     → moves_of (asked ++ a ∷ []) (steps ++ step ∷ []) ≡ moves_of asked steps ++ move_of a.0 a.1 step.0 ∷ []
@@ -20,6 +20,13 @@ noted_snoc [] (s ∷ steps) a step same = absurd (omega (arith, same))
 noted_snoc (b ∷ asked) [] a step same = absurd (omega (arith, same))
 noted_snoc (b ∷ asked) (s ∷ steps) a step same =
     ap (λ ns. noted_of b.0 b.1 s.0 ++ ns) (noted_snoc asked steps a step (omega (arith, same))) ∙ sym (append_assoc (noted_of b.0 b.1 s.0) (noted_in asked steps) (noted_of a.0 a.1 step.0))
+
+-- a wait that was taken back is noted as what its call went on with; that there was none is not
+pub noted_if_taken : (session : ℕ) (step : Step) → step ≢ made.Nothing → noted_back session step ≡ (record { session = session; heard = record { asked = None; step = step } } ∷ [])
+noted_if_taken session made.Nothing not = absurd (not refl)
+noted_if_taken session (made.Done a) not = refl
+noted_if_taken session (made.Waits w) not = refl
+noted_if_taken session (made.Refused f) not = refl
 
 -- what is asked by no session is not noted
 pub noted_still : (asked new_asked : List (Asked × ℕ)) (steps new_steps : List (Step × ℕ)) (a : Asked × ℕ) (step : Step × ℕ) → length steps ≡ length asked

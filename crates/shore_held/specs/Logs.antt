@@ -1,10 +1,12 @@
 -- What is kept of the log device under its lock, and what contracts see of it.
-use Rattle.std.specs.Prelude.{◌≡◌, ◌⊎◌, ◌+◌, ◌≤◌, ◌<◌, ◌++◌, Bool, List, None, Option, Some, ℕ, false, length, take}
+use Rattle.std.specs.Prelude.{◌≡◌, ◌⊎◌, ◌+◌, ◌-◌, ◌≤◌, ◌<◌, ◌++◌, Bool, List, None, Option, Some, ℕ, drop, false, length, take}
+use Rattle.std.specs.Global.{Vec}
 use Rattle.shore_types.specs.declared.layout.Geometry.{Geometry}
-use Rattle.shore_types.specs.declared.layout.TheConstants.{LOG_FRONT_BYTES}
+use Rattle.shore_types.specs.declared.layout.TheConstants.{FRAME_SHARE, LOG_FRONT_BYTES}
 use Rattle.shore_disk.specs.Device.{DeviceHistory, LeavesOnly, may_leave}
 use Rattle.shore_disk.specs.declared.device.Disk.{Ghosts}
-use Rattle.shore_frames.specs.Frames.{GivesBehindFrom}
+use Rattle.shore_logrec.specs.Text.{texts}
+use Rattle.shore_frames.specs.Frames.{GivesBehindFrom, IsLongest}
 use Rattle.shore_gate.specs.Anchor.{Counts}
 use Rattle.shore_gate.specs.declared.anchors.Anchor.{Anchor}
 use Rattle.shore_gate.specs.declared.anchors.Anchors.{Anchors}
@@ -37,13 +39,38 @@ pub record LogState : Type 0 where
   -- where a move of the anchor that has failed was to lead
   pub aim : ℕ × ℕ
   pub failed : Bool
-  -- the calls of its device
+  -- how many bytes of the ring the frames that are kept leave
+  pub free : ℕ
+  -- how many of those that wait for a force have no text there yet: they did not come through the queue
+  pub textless : ℕ
+  -- how many failures its device has told, and its calls
+  pub faults : ℕ
   pub history : DeviceHistory
 
 -- how many records a staged frame has
 abbrev pub count_of : Option Staged → ℕ
 count_of None = 0
 count_of (Some frame) = frame.count
+
+-- how many bytes are free between its head and its tail
+abbrev pub free_of : {L : Type 0} {G : Ghosts L} → LogDev L G → ℕ
+free_of log = log.tail.place + log.stream_bytes - log.head
+
+-- how many of so many records that wait have no text there
+abbrev pub textless_of : Option (Vec LogRecord) → ℕ → ℕ
+textless_of None waiting = 0
+textless_of (Some read) waiting = waiting
+
+-- what it took in and is not durable: the next frames have that
+abbrev pub unforced_in : LogState → List LogRecord
+unforced_in s = drop (length s.stable) (take (length s.list - length s.waits) s.list)
+
+-- There is no place for the frame of the longest list of these that one frame holds, with a byte behind it.
+pub record HasNoPlace (s : LogState) : Type 0 where
+  pub count : ℕ
+  pub some : 1 ≤ count
+  pub longest : IsLongest (unforced_in s) count
+  pub full : s.free ≤ FRAME_SHARE + length (texts (take count (unforced_in s)))
 
 -- the anchor that counts, as seats know it
 abbrev pub known_in : LogState → Known

@@ -2,7 +2,7 @@
 use Rattle.std.specs.Prelude.{◌≡◌, ◌⊎◌, ◌+◌, ◌||◌, ℕ, Bool, true, false, List, [], ◌∷◌, ◌++◌, None, Some}
 use Rattle.shore_model.specs.declared.step.Step.{Step}
 use Rattle.shore_model.specs.declared.step.Step.TheVariants as made
-use Rattle.laws_calls.specs.Events.{Called, Forced, HasFailed, Resumed}
+use Rattle.laws_calls.specs.Events.{Called, Forced, GaveUp, HasFailed, Resumed}
 use Rattle.shore_words.specs.declared.rule.Noted.{Noted}
 use Rattle.shore_world.specs.EventMoves.{OfCheckpoint, OfManager, PlainMove}
 use Rattle.shore_held.specs.declared.asked.Asked.{Asked}
@@ -12,6 +12,7 @@ use Rattle.shore_held.specs.declared.asked.Asked.TheVariants as asked
 abbrev pub move_of : Asked → ℕ → Step → PlainMove
 move_of (asked.Call c) session step = OfManager (Called session c step)
 move_of asked.Resume session step = OfManager (Resumed session step)
+move_of asked.GiveUp session step = OfManager (GaveUp session step)
 move_of (asked.Told n) session step = OfManager (Forced n)
 move_of asked.Checkpoint session step = OfCheckpoint step
 move_of asked.Failed session step = OfManager HasFailed
@@ -21,10 +22,18 @@ moves_of [] steps = []
 moves_of (a ∷ others) [] = []
 moves_of (a ∷ others) (step ∷ steps) = move_of a.0 a.1 step.0 ∷ moves_of others steps
 
+-- what a session hears as its wait is taken back: nothing if there was none
+abbrev pub noted_back : ℕ → Step → List Noted
+noted_back session made.Nothing = []
+noted_back session (made.Done a) = record { session = session; heard = record { asked = None; step = made.Done a } } ∷ []
+noted_back session (made.Waits w) = record { session = session; heard = record { asked = None; step = made.Waits w } } ∷ []
+noted_back session (made.Refused f) = record { session = session; heard = record { asked = None; step = made.Refused f } } ∷ []
+
 -- what a session hears of it
 abbrev pub noted_of : Asked → ℕ → Step → List Noted
 noted_of (asked.Call c) session step = record { session = session; heard = record { asked = Some c; step = step } } ∷ []
 noted_of asked.Resume session step = record { session = session; heard = record { asked = None; step = step } } ∷ []
+noted_of asked.GiveUp session step = noted_back session step
 noted_of (asked.Told n) session step = []
 noted_of asked.Checkpoint session step = []
 noted_of asked.Failed session step = []
@@ -34,10 +43,11 @@ noted_in [] steps = []
 noted_in (a ∷ others) [] = []
 noted_in (a ∷ others) (step ∷ steps) = noted_of a.0 a.1 step.0 ++ noted_in others steps
 
--- how many of them are calls and resumes of sessions
+-- how many of them are calls and resumes of sessions, and waits that are to be taken back
 abbrev pub counted : Asked → ℕ
 counted (asked.Call c) = 1
 counted asked.Resume = 1
+counted asked.GiveUp = 1
 counted (asked.Told n) = 0
 counted asked.Checkpoint = 0
 counted asked.Failed = 0
@@ -50,6 +60,7 @@ calls_in (a ∷ others) = counted a.0 + calls_in others
 abbrev pub is_failure : Asked → Bool
 is_failure (asked.Call c) = false
 is_failure asked.Resume = false
+is_failure asked.GiveUp = false
 is_failure (asked.Told n) = false
 is_failure asked.Checkpoint = false
 is_failure asked.Failed = true

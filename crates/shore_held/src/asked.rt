@@ -7,6 +7,8 @@ use shore_types::Lsn;
 pub enum Asked {
     Call(Call),
     Resume,
+    /// A session's wait for a lock is to be taken back.
+    GiveUp,
     /// The log is durable up to this number.
     Told(Lsn),
     /// The next step of a checkpoint.

@@ -7,10 +7,11 @@ ghost use Rattle.shore_check.specs.declared.stage.Stage.TheVariants as Stage;
 ghost use Rattle.shore_model.specs.Calls.{IsServed};
 ghost use Rattle.shore_model.specs.declared.step.Step.TheVariants as Step;
 ghost use Rattle.shore_core.specs.Cores.{durable_of, geometry_of, has_failed, heap_of, last_of, txns_of, volume_of, waiting_of, waits_of};
+ghost use Rattle.shore_core.specs.TailHolders.{HoldsTail};
 ghost use Rattle.shore_core.specs.Waking.{IsLetThrough, NoneLetThrough};
 ghost use Rattle.shore_sessions.specs.declared.waits.WaitingCall.{WaitingCall};
 ghost use Rattle.shore_core.specs.Flushing.{FlushAnswers, FlushSteps};
-ghost use Rattle.shore_core.specs.Replies.{InEach, Reads, ReadsWaiting, Resumed, Serves, Stepped, fault_at, forced_at};
+ghost use Rattle.shore_core.specs.Replies.{GaveUp, InEach, Reads, ReadsWaiting, Resumed, Serves, Stepped, fault_at, forced_at};
 ghost use Rattle.shore_words.specs.Words.{listener, looker, AreBy, HasHeard, Listens, heard_of};
 ghost use Rattle.shore_held.specs.Comings.{Beginning, HasAim, HasComeBy, IsAimOf, anchored_at};
 ghost use Rattle.shore_held.specs.Trails.{calls_in, has_failure, moves_of, noted_in};
@@ -22,10 +23,11 @@ use crate::names::Named;
 use crate::seat::Seat;
 use crate::tape::{Taped, note_on};
 use http_server::Log as GhostLog;
-use shore_core::{Core, Stage, Step};
+use shore_core::{Core, Stage, Step, TailHolder};
 use shore_disk::Disk;
 use shore_log::{PlainTail, Tail};
 use shore_model::Call;
+use shore_txn::LogRoom;
 use shore_types::{Fault, Lsn, SessionId};
 use shore_words::Words;
 use std::alloc::Global;
@@ -172,6 +174,42 @@ impl<B: Named, T: Tail, V: Disk> CoreHeld<B, T, V> {
         note_on(&mut self.tape, session, &step);
         self.calls.add(share, 1);
         self.book.note(words, ear, &Snapshot::of(&None), &step);
+        step
+    }
+
+    /// A session's wait for a lock is taken back, if it waits for one. It counts as a call.
+    pub fn give_up(
+        &mut self,
+        words: &Words,
+        session: SessionId,
+        share: &mut Share<B>,
+        ear: &mut Seat<B>,
+    ) -> Step
+        requires words { (words.now.table.shared.table_id ≡ B.table) × (4 < B.table.words) }
+        requires share { share.old.parts ≡ 1 }
+        requires ear { Listens ear.old × (ear.old.session ≡ session) }
+        ensures step { InEach (λ front disk before s store. GaveUp session result self.old.core self.new.core front before s store) self.old.core }
+        ensures serves { Serves (λ page. ⊥) self.old.core (fault_at result) self.old.core self.new.core }
+        ensures heap { heap_of self.new.core ≡ heap_of self.old.core }
+        ensures share { (share.new.parts ≡ 1) × (share.new.amount ≡ share.old.amount + 1) }
+        // Its seat has heard it as a step with which its call went on; if there was nothing to take back, it has heard nothing.
+        ensures heard { result ≢ Step.Nothing → ear.new ≡ record ear.old { heard = ear.old.heard ++ record { asked = None; step = result } ∷ [] } }
+        ensures unheard { result ≡ Step.Nothing → ear.new ≡ ear.old }
+        ensures asked { self.new.asked.items ≡ self.old.asked.items ++ (Asked.GiveUp, session) ∷ [] }
+        ensures stepped { self.new.stepped.items ≡ self.old.stepped.items ++ (result, session) ∷ [] }
+        ensures tape { self.old.tape ≡ None → self.new.tape ≡ None }
+        ensures same { (self.new.stage ≡ self.old.stage) × (self.new.made ≡ self.old.made) × (self.new.rest ≡ self.old.rest) × (self.new.seat ≡ self.old.seat) }
+    {
+        self.asked = self.asked.and(&Asked::GiveUp, &session);
+        let step = self.core.give_up(session);
+        self.stepped = self.stepped.and(&step, &session);
+        note_on(&mut self.tape, session, &step);
+        self.calls.add(share, 1);
+        if is_nothing(&step) {
+            return step;
+        }
+        let none = Snapshot::of(&None);
+        self.book.note(words, ear, &none, &step);
         step
     }
 
@@ -349,6 +387,20 @@ impl<B: Named, T: Tail, V: Disk> CoreHeld<B, T, V> {
         self.core.next_let_through(from)
     }
 
+    /// The room of the log.
+    pub fn room(&self) -> LogRoom
+        ensures { result ≡ room_in (txns_of self.now.core) }
+    {
+        self.core.room()
+    }
+
+    /// Whom the log has to be kept for from furthest back on.
+    pub fn tail_holder(&self) -> TailHolder
+        ensures { HoldsTail (txns_of self.now.core) (heap_of self.now.core) result }
+    {
+        self.core.tail_holder()
+    }
+
     /// Whether no checkpoint is under way.
     pub fn rests(&self) -> bool
         ensures { IsTrue result ↔ (self.now.stage ≡ Stage.Resting) }
@@ -384,6 +436,13 @@ fn least(a: u64, b: u64) -> u64
     ensures exact { a ≤ b → result ≡ a }
 {
     if a < b { a } else { b }
+}
+
+// Whether the step changed nothing.
+fn is_nothing(step: &Step) -> bool
+    ensures { IsTrue result ↔ (step.now ≡ Step.Nothing) }
+{
+    matches!(step, Step::Nothing)
 }
 
 // Whether a device has failed in the step.

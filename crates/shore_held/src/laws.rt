@@ -10,7 +10,7 @@ ghost use Rattle.shore_model.specs.Calls.{IsServed};
 ghost use Rattle.shore_model.specs.declared.calls.Call.{Call};
 ghost use Rattle.shore_model.specs.declared.log_records.LogRecord.{LogRecord};
 ghost use Rattle.shore_model.specs.declared.step.Step.{Step};
-ghost use Rattle.laws_calls.specs.Events.{Called, HasFailed, Resumed};
+ghost use Rattle.laws_calls.specs.Events.{Called, GaveUp, HasFailed, Resumed};
 ghost use Rattle.laws_checkpoints.specs.Checkpoints.{Anchored};
 ghost use Rattle.laws_images.specs.StandsBehind.{StandsForBehind, anchored_by};
 ghost use Rattle.laws_lives.specs.Pages.{LoggedPages};
@@ -72,7 +72,7 @@ pub fn pairs_stand_amid_a_move<T: Tail, V: Disk>()
         × StandsForBehind h.geometry log_bytes (volume_bytes h.geometry) anchor (take n end.store.store.log) left log_left volume_left) }
 {}
 
-/// What the contracts of the core's calls say is such a step: of a call (`call`), of a resume (`resume`), of a step of the flush, which is work between two events or notes that the volume has failed
+/// What the contracts of the core's calls say is such a step: of a call (`call`), of a resume (`resume`), of a wait that is taken back (`give_up`), of a step of the flush, which is work between two events or notes that the volume has failed
 /// (`flush`), and of a core that makes none (`none`).
 pub fn calls_are_steps_under_way<T: Tail, V: Disk>()
     ensures none { (start : Beginning) (cut : ℕ) (kept : List LogRecord) (old : Core T V T.Tail V.Disk) (stage : Stage) (anchored : Anchored) (trail : List PlainMove) (h : HasComeBy start cut kept old stage anchored trail) →
@@ -85,6 +85,10 @@ pub fn calls_are_steps_under_way<T: Tail, V: Disk>()
         (session : ℕ) (step : Step) → InEach (λ front disk before s store. replies.Resumed session step old new front before s store) old → MayLeave old new →
         durable_of new ≡ durable_of old → (IsTrue (has_failed old) → heap_of new ≡ heap_of old) → geometry_of new ≡ geometry_of old →
         (plain : CheckpointedMove) × (last : CheckpointedState) × IsMakingStep h new plain last × (moves_among (plain ∷ []) ≡ OfManager (Resumed session step) ∷ []) }
+    ensures give_up { (start : Beginning) (cut : ℕ) (kept : List LogRecord) (old new : Core T V T.Tail V.Disk) (stage : Stage) (anchored : Anchored) (trail : List PlainMove) (h : HasComeBy start cut kept old stage anchored trail)
+        (session : ℕ) (step : Step) → InEach (λ front disk before s store. replies.GaveUp session step old new front before s store) old → MayLeave old new →
+        durable_of new ≡ durable_of old → (IsTrue (has_failed old) → heap_of new ≡ heap_of old) → geometry_of new ≡ geometry_of old →
+        (plain : CheckpointedMove) × (last : CheckpointedState) × IsMakingStep h new plain last × (moves_among (plain ∷ []) ≡ OfManager (GaveUp session step) ∷ []) }
     ensures flush { (start : Beginning) (cut : ℕ) (kept : List LogRecord) (old new : Core T V T.Tail V.Disk) (stage : Stage) (anchored : Anchored) (trail : List PlainMove) (h : HasComeBy start cut kept old stage anchored trail)
         (step : Step) → InEach (λ front disk before s store. FlushSteps step new front before s store) old → MayLeave old new → durable_of new ≡ durable_of old → (IsTrue (has_failed old) → heap_of new ≡ heap_of old) →
         geometry_of new ≡ geometry_of old → (room_in (txns_of new)).stream_bytes ≡ (room_in (txns_of old)).stream_bytes →

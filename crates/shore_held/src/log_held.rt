@@ -1,9 +1,10 @@
 //! What lies under the log device's lock.
-ghost use Rattle.std.specs.Prelude.{◌≡◌, ◌⊎◌, ◌↔◌, ◌≤◌, ◌<◌, ◌+◌, [], ◌++◌, length, take, ℕ, List, IfErr, IsTrue, OnErr, OnOk, Ok, Err, false, true};
+ghost use Rattle.std.specs.Prelude.{◌≡◌, ◌≢◌, ◌⊎◌, ◌↔◌, ◌≤◌, ◌<◌, ◌+◌, ◌-◌, [], ◌++◌, length, take, ℕ, List, IfErr, IsTrue, OnErr, OnOk, Ok, Err, false, true};
 ghost use Rattle.std.specs.Arc.{arc_value};
 ghost use Rattle.crossbeam_queue.specs.SegTies.{IsSegPassOf};
 ghost use Rattle.shore_types.specs.declared.faults.Fault.TheVariants as Fault;
 ghost use Rattle.shore_types.specs.declared.layout.TheConstants.{LAST_OPENED};
+ghost use Rattle.shore_disk.specs.Cause.{HasCause};
 ghost use Rattle.shore_disk.specs.Device as devices;
 ghost use Rattle.shore_log.specs.PlainTails.{first_of, waiting_in};
 ghost use Rattle.shore_log.specs.Settled.{cut_of_log, records_of_log, stable};
@@ -11,7 +12,7 @@ ghost use Rattle.shore_model.specs.declared.log_records.LogRecord.{LogRecord};
 ghost use Rattle.shore_queue.specs.Queues.{ends};
 ghost use Rattle.shore_words.specs.Words.{known, looker};
 ghost use Rattle.shore_held.specs.Comings.{Beginning};
-ghost use Rattle.shore_held.specs.Logs.{Follows, IsKept, LeavesHeld, LeavesStable, LogState, count_of};
+ghost use Rattle.shore_held.specs.Logs.{Follows, HasNoPlace, IsKept, LeavesHeld, LeavesStable, LogState, count_of, free_of, textless_of};
 
 use crate::names::Named;
 use crate::seat::Seat;
@@ -44,7 +45,7 @@ pub struct LogHeld<N: Numbers, B: Named, L: Disk> {
 impl<N: Numbers, B: Named, L: Disk> Model for LogHeld<N, B, L> {
     ghost Value = { LogState };
 
-    ghost view = { λ h. record { anchors = h.log.anchors; cut = cut_of_log h.log; list = records_of_log h.log ++ waiting_in h.next; waits = waiting_in h.next; stable = stable h.log; staged = count_of h.log.staged; got = h.pass.me.view.client.got; met = h.pass.me.view.client.sent; told = h.seat.told; aim = h.seat.anchor.aim; failed = h.failed; history = L.Disk.history h.log.device } };
+    ghost view = { λ h. record { anchors = h.log.anchors; cut = cut_of_log h.log; list = records_of_log h.log ++ waiting_in h.next; waits = waiting_in h.next; stable = stable h.log; staged = count_of h.log.staged; got = h.pass.me.view.client.got; met = h.pass.me.view.client.sent; told = h.seat.told; aim = h.seat.anchor.aim; failed = h.failed; free = free_of h.log; textless = textless_of h.log.read (h.log.count - h.log.forced); faults = L.Disk.faults h.log.device; history = L.Disk.history h.log.device } };
 
     ghost invariant = { λ h. ((arc_value h.channel).queue ≡ B.queue) × IsSegPassOf B.queue h.pass × (h.pass.me.view.client ≡ ends false true h.pass.me.view.client.sent h.pass.me.view.client.got)
         × Follows B.cut B.before h.pass.me.view.client.got (cut_of_log h.log) (records_of_log h.log ++ waiting_in h.next)
@@ -70,7 +71,7 @@ impl<N: Numbers, B: Named, L: Disk> LogHeld<N, B, L> {
         requires long { devices.size (L.Disk.history log.device) ≡ B.log_bytes }
         requires kept { (start : Beginning) → B.honest start → ∥ IsKept B.geometry B.log_bytes log false (0, 0) ∥₁ }
         ensures { (result.anchors ≡ log.anchors) × (result.list ≡ records_of_log log) × (result.waits ≡ []) × (result.cut ≡ cut_of_log log) × (result.stable ≡ stable log) × (result.staged ≡ count_of log.staged) × (result.got ≡ []) × (result.met ≡ []) × (result.told ≡ seat.told)
-            × (result.aim ≡ (0, 0)) × (result.failed ≡ false) × (result.history ≡ L.Disk.history log.device) }
+            × (result.aim ≡ (0, 0)) × (result.failed ≡ false) × (result.free ≡ free_of log) × (result.faults ≡ L.Disk.faults log.device) × (result.history ≡ L.Disk.history log.device) }
     {
         let next = PlainTail::new(alloc, Lsn(log.last().0 + 1));
         LogHeld {
@@ -87,7 +88,8 @@ impl<N: Numbers, B: Named, L: Disk> LogHeld<N, B, L> {
     /// Takes in what came through the queue and waits for memory, and then one push more. False if there was none more: then all came that this end knows to be sent. `Memory` if an allocation failed: nothing is lost.
     pub fn take_one<R: Wait>(&mut self, rt: &R) -> Result<bool, Fault>
         ensures same { (self.new.anchors ≡ self.old.anchors) × (self.new.cut ≡ self.old.cut) × (self.new.stable ≡ self.old.stable) × (self.new.staged ≡ self.old.staged) × (self.new.told ≡ self.old.told) × (self.new.failed ≡ self.old.failed)
-            × (self.new.aim ≡ self.old.aim) × (self.new.history ≡ self.old.history) × (self.new.met ≡ self.old.met) }
+            × (self.new.aim ≡ self.old.aim) × (self.new.history ≡ self.old.history) × (self.new.met ≡ self.old.met) × (self.new.free ≡ self.old.free) × (self.new.faults ≡ self.old.faults) }
+        ensures texts { OnOk result (self.new.textless ≡ 0) × (self.old.textless ≡ 0 → self.new.textless ≡ 0) }
         ensures more { (more : List LogRecord) × (self.new.list ≡ self.old.list ++ more) × (self.new.got ≡ self.old.got ++ more) }
         ensures none { result ≡ Ok false → (self.new.list ≡ self.old.list) × (self.new.got ≡ self.old.got) }
         ensures some { result ≡ Ok true → length self.old.got < length self.new.got }
@@ -112,7 +114,12 @@ impl<N: Numbers, B: Named, L: Disk> LogHeld<N, B, L> {
         ensures same { (self.new.anchors ≡ self.old.anchors) × (self.new.cut ≡ self.old.cut) × (self.new.list ≡ self.old.list) × (self.new.waits ≡ self.old.waits) × (self.new.got ≡ self.old.got)
             × (self.new.met ≡ self.old.met) × (self.new.told ≡ self.old.told) × (self.new.aim ≡ self.old.aim) }
         ensures unforced { self.new.stable ≡ self.old.stable }
-        ensures failed { IsTrue self.old.failed → result ≡ Err Fault.Device }
+        ensures failed { IsTrue self.old.failed → (result ≡ Err Fault.Device) × (self.new ≡ self.old) }
+        ensures others { IfErr result (λ fault. (fault ≡ Fault.Device) ⊎ (fault ≡ Fault.Memory) ⊎ (fault ≡ Fault.LogFull)) }
+        ensures full { result ≡ Err Fault.LogFull → HasNoPlace self.old }
+        // It is never refused memory for what came through the queue.
+        ensures idle { self.old.textless ≡ 0 → result ≢ Err Fault.Memory }
+        ensures cause { self.old.failed ≡ false → HasCause result self.old.faults self.new.faults }
         ensures none { result ≡ Ok false → (self.new.staged ≡ 0) × (self.new.list ≡ self.new.stable ++ self.new.waits) }
         ensures staged { result ≡ Ok true → (0 < self.new.staged) × (length self.new.stable + self.new.staged + length self.new.waits ≤ length self.new.list) }
         // A frame that was staged before is not staged anew, and whoever stages knows of no move of the anchor that has failed.
@@ -141,7 +148,8 @@ impl<N: Numbers, B: Named, L: Disk> LogHeld<N, B, L> {
     pub fn open(&mut self) -> Result<bool, Fault>
         ensures same { (self.new.anchors ≡ self.old.anchors) × (self.new.cut ≡ self.old.cut) × (self.new.list ≡ self.old.list) × (self.new.waits ≡ self.old.waits) × (self.new.got ≡ self.old.got)
             × (self.new.met ≡ self.old.met) × (self.new.told ≡ self.old.told) × (self.new.aim ≡ self.old.aim) }
-        ensures failed { IsTrue self.old.failed → result ≡ Err Fault.Device }
+        ensures failed { IsTrue self.old.failed → (result ≡ Err Fault.Device) × (self.new ≡ self.old) }
+        ensures cause { self.old.failed ≡ false → HasCause result self.old.faults self.new.faults }
         ensures unforced { OnErr result (self.new.stable ≡ self.old.stable) }
         ensures none { result ≡ Ok false → (self.new ≡ self.old) × (self.old.staged ≡ 0) }
         ensures opened { result ≡ Ok true → (0 < self.old.staged) × (length self.new.stable ≡ length self.old.stable + self.old.staged) × (self.new.staged ≡ 0) }
@@ -162,11 +170,50 @@ impl<N: Numbers, B: Named, L: Disk> LogHeld<N, B, L> {
         }
     }
 
+    /// Opens the gate of the frame that is staged, and by the same sync stages the longest list of the records after it that one frame holds, if there are any, and place and memory for it: so
+    /// each frame takes one sync as long as records wait. False if none is staged. After `Device`, its only error, it is not called any more.
+    pub fn open_and_stage(&mut self, alloc: Global) -> Result<bool, Fault>
+        ensures same { (self.new.anchors ≡ self.old.anchors) × (self.new.cut ≡ self.old.cut) × (self.new.list ≡ self.old.list) × (self.new.waits ≡ self.old.waits) × (self.new.got ≡ self.old.got)
+            × (self.new.met ≡ self.old.met) × (self.new.told ≡ self.old.told) × (self.new.aim ≡ self.old.aim) }
+        ensures failed { IsTrue self.old.failed → (result ≡ Err Fault.Device) × (self.new ≡ self.old) }
+        ensures cause { self.old.failed ≡ false → HasCause result self.old.faults self.new.faults }
+        ensures unforced { OnErr result (self.new.stable ≡ self.old.stable) }
+        ensures none { result ≡ Ok false → (self.new ≡ self.old) × (self.old.staged ≡ 0) }
+        // What was staged counts now, and nothing of the next frame.
+        ensures opened { result ≡ Ok true → (0 < self.old.staged) × (length self.new.stable ≡ length self.old.stable + self.old.staged) }
+        // Where what waits came through the queue a frame is staged if there is place for it.
+        ensures goes_on { self.old.textless ≡ 0 → result ≡ Ok true → self.new.staged ≡ 0 → (self.new.list ≡ self.new.stable ++ self.new.waits) ⊎ HasNoPlace self.new }
+        ensures texts { self.old.textless ≡ 0 → self.new.textless ≡ 0 }
+        ensures staged { result ≡ Ok true → length self.new.stable + self.new.staged + length self.new.waits ≤ length self.new.list }
+        // A loss of power at any moment of it leaves a prefix of the records, with all that were durable before; or what a move of the anchor has left that failed before.
+        ensures any_moment { (start : Beginning) → B.honest start → ∥ LeavesHeld B.geometry B.log_bytes self.old self.new.history ∥₁ }
+        ensures only_device { IfErr result (λ fault. fault ≡ Fault.Device) }
+        ensures breaks { IsTrue self.new.failed ↔ (result ≡ Err Fault.Device) }
+    {
+        if self.failed {
+            return Err(Fault::Device);
+        }
+        let opened = self.log.open_and_stage(alloc);
+        self.failed = opened.is_err();
+        Ok(opened?.is_some())
+    }
+
+    /// Whether a frame is staged.
+    pub fn is_staged(&self) -> bool
+        ensures { IsTrue result ↔ (0 < self.now.staged) }
+    {
+        self.log.is_staged()
+    }
+
     /// Forces the longest list of its records that one frame holds, or the frame that is staged: stages it and opens its gate. False if all that it took in is durable. After `Device` it is not called any more.
     pub fn force(&mut self, alloc: Global) -> Result<bool, Fault>
         ensures same { (self.new.anchors ≡ self.old.anchors) × (self.new.cut ≡ self.old.cut) × (self.new.list ≡ self.old.list) × (self.new.waits ≡ self.old.waits) × (self.new.got ≡ self.old.got)
             × (self.new.met ≡ self.old.met) × (self.new.told ≡ self.old.told) × (self.new.aim ≡ self.old.aim) }
-        ensures failed { IsTrue self.old.failed → result ≡ Err Fault.Device }
+        ensures failed { IsTrue self.old.failed → (result ≡ Err Fault.Device) × (self.new ≡ self.old) }
+        ensures others { IfErr result (λ fault. (fault ≡ Fault.Device) ⊎ (fault ≡ Fault.Memory) ⊎ (fault ≡ Fault.LogFull)) }
+        ensures full { result ≡ Err Fault.LogFull → HasNoPlace self.old }
+        ensures idle { self.old.textless ≡ 0 → result ≢ Err Fault.Memory }
+        ensures cause { self.old.failed ≡ false → HasCause result self.old.faults self.new.faults }
         ensures unforced { OnErr result (self.new.stable ≡ self.old.stable) }
         ensures none { result ≡ Ok false → (self.new.stable ≡ self.old.stable) × (self.new.list ≡ self.new.stable ++ self.new.waits) }
         // A loss of power at any moment of it leaves a prefix of the records, with all that were durable before; or what a move of the anchor has left that failed before.
@@ -187,7 +234,8 @@ impl<N: Numbers, B: Named, L: Disk> LogHeld<N, B, L> {
         requires { (words.now.table.shared.table_id ≡ B.table) × (4 < B.table.words) }
         ensures told { (result ≡ self.new.told) × (self.new.told ≡ self.new.cut + length self.new.stable) }
         ensures same { (self.new.anchors ≡ self.old.anchors) × (self.new.cut ≡ self.old.cut) × (self.new.list ≡ self.old.list) × (self.new.waits ≡ self.old.waits) × (self.new.stable ≡ self.old.stable) × (self.new.staged ≡ self.old.staged) × (self.new.got ≡ self.old.got)
-            × (self.new.met ≡ self.old.met) × (self.new.aim ≡ self.old.aim) × (self.new.failed ≡ self.old.failed) × (self.new.history ≡ self.old.history) }
+            × (self.new.met ≡ self.old.met) × (self.new.aim ≡ self.old.aim) × (self.new.failed ≡ self.old.failed) × (self.new.history ≡ self.old.history)
+            × (self.new.free ≡ self.old.free) × (self.new.textless ≡ self.old.textless) × (self.new.faults ≡ self.old.faults) }
     {
         let durable = self.log.durable().number();
         self.seat.tell(words, durable.0);

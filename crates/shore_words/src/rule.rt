@@ -6,7 +6,7 @@ use std::marker::{Brand, PhantomData};
 
 /// What a session asked, and what it came to. No value of it is made.
 pub struct Heard {
-    /// The call; none if it went on with its call that waits.
+    /// The call; none if it went on with its call that waits, or took that wait back.
     pub asked: Option<Call>,
     /// What that came to.
     pub step: Step,

@@ -11,7 +11,9 @@ use std::time::Duration;
 struct WakeWord {
     word: AtomicU64,
     asleep: AtomicU64,
-    apart: [u64; 6],
+    // Not 0 once whoever sleeps here is to wait for no lock any more.
+    unwanted: AtomicU64,
+    apart: [u64; 5],
 }
 
 /// Words that are raised by who wakes. A sleeper glances at its word first, then looks whether it has to wait, and sleeps only as long as the word is as it was:
@@ -32,7 +34,8 @@ impl WakeWords {
             words.push(WakeWord {
                 word: AtomicU64::new(0),
                 asleep: AtomicU64::new(0),
-                apart: [0; 6],
+                unwanted: AtomicU64::new(0),
+                apart: [0; 5],
             })?;
         }
         Ok(WakeWords { words })
@@ -53,6 +56,30 @@ impl WakeWords {
             if one.asleep.load(Ordering::SeqCst) > 0 {
                 one.word.wake_all();
             }
+        }
+    }
+
+    /// Whoever sleeps on this word, now or later, is to wait for no lock, until it is welcome again. It is told before it is woken: who glanced before that does not
+    /// sleep, and who glances behind it is told.
+    pub fn give_up(&self, sleeper: u32) {
+        if let Some(one) = self.words.get(sleeper as usize) {
+            one.unwanted.store(1, Ordering::SeqCst);
+        }
+        self.wake(sleeper);
+    }
+
+    /// Whether it is to wait for no lock. Who is to sleep asks behind its glance.
+    pub fn is_unwanted(&self, sleeper: u32) -> bool {
+        match self.words.get(sleeper as usize) {
+            Some(one) => one.unwanted.load(Ordering::SeqCst) != 0,
+            None => false,
+        }
+    }
+
+    /// It may wait for locks again.
+    pub fn welcome(&self, sleeper: u32) {
+        if let Some(one) = self.words.get(sleeper as usize) {
+            one.unwanted.store(0, Ordering::SeqCst);
         }
     }
 

@@ -1,4 +1,4 @@
-use Rattle.shore_held.proofs.Steps.{call_makes, flush_makes, rests, resume_makes}
+use Rattle.shore_held.proofs.Steps.{call_makes, flush_makes, give_up_makes, rests, resume_makes}
 use Rattle.shore_held.proofs.laws.calls_are_steps_under_way.Goals as goal
 
 pub returns-clause-none : goal.returns-clause-none
@@ -12,6 +12,11 @@ returns-clause-call g c start cut kept old new stage anchored trail h session ca
 pub returns-clause-resume : goal.returns-clause-resume
 returns-clause-resume g c start cut kept old new stage anchored trail h session step each leaves durable still same =
     let m = resume_makes cut kept old stage anchored trail h new durable leaves still same session step each in
+    (m.plain, m.last, m.step, m.is)
+
+pub returns-clause-give_up : goal.returns-clause-give_up
+returns-clause-give_up g c start cut kept old new stage anchored trail h session step each leaves durable still same =
+    let m = give_up_makes cut kept old stage anchored trail h new durable leaves still same session step each in
     (m.plain, m.last, m.step, m.is)
 
 pub returns-clause-flush : goal.returns-clause-flush

@@ -5,8 +5,9 @@ use Rattle.shore_log.specs.PlainTails.{waiting_in}
 use Rattle.shore_log.specs.Settled.{cut_of_log, records_of_log, stable, waiting}
 use Rattle.shore_world.proofs.WorldLemmas.{none_staged}
 use Rattle.shore_held.proofs.KeptLogs.{forced_left, kept_left, kept_longer, kept_running, kept_torn, stable_leaves}
+use Rattle.shore_held.proofs.Rooms.{forced_same, free_same, is_spelled, no_place, same_fault, textless_same}
 use Rattle.shore_held.proofs.Staging.{counted_some, kept_staged, none_counts, none_unless, not_staged, stage_leaves, staged_fits, staged_some}
-use Rattle.shore_held.specs.Logs.{LeavesHeld, LeavesStable, LogState, count_of}
+use Rattle.shore_held.specs.Logs.{HasNoPlace, LeavesHeld, LeavesStable, LogState, count_of, free_of, textless_of}
 use Rattle.shore_held.proofs.log_held.LogHeld.stage.Goals as goal
 
 abbrev answered : {E : Type 0} → Result Bool E → Bool
@@ -159,6 +160,9 @@ returns-in-Err-clause-refused g c =
       told = c.self.inside.seat.told;
       aim = c.self.inside.seat.anchor.aim;
       failed = (isnt ∙ sym runs) i;
+      free = free_same c.self.inside.log c.stage.new.self stays.0.tail stays.0.head is.size i;
+      textless = textless_same c.self.inside.log c.stage.new.self is.same.0 (forced_same c.self.inside.log c.stage.new.self is.same.1) is.list is.spelled i;
+      faults = g.L.Disk.faults (stays.1 i);
       history = g.L.Disk.history (stays.1 i);
     }) ∙ c.self.view_is)) (one_or_other fails.result)) c.in-Err.ensures.refused
 
@@ -179,6 +183,9 @@ returns-in-Ok-clause-under_way g c some =
       told = c.self.inside.seat.told;
       aim = c.self.inside.seat.anchor.aim;
       failed = c.self.inside.failed;
+      free = free_of l;
+      textless = textless_of l.read (l.count - l.forced);
+      faults = g.L.Disk.faults l.device;
       history = g.L.Disk.history l.device;
     }) same ∙ c.self.view_is
 
@@ -204,3 +211,11 @@ returns-in-Ok-clause-staged g c is =
       let most = staged_fits new.staged new.forced (length (records_of_log new)) new.staged_waits new.forced_inside in
           omega (arith, most, forced, length-append (records_of_log new) (waiting_in c.self.inside.next)),
     )
+
+-- ---- why it may be refused
+
+pub returns-in-Err-clause-full : goal.returns-in-Err-clause-full
+returns-in-Err-clause-full g c is = subst HasNoPlace c.self.view_is (no_place c.self.inside.log _ refl refl refl (c.in-Err.ensures.full (same_fault _ _ is)))
+
+pub returns-in-Err-clause-idle : goal.returns-in-Err-clause-idle
+returns-in-Err-clause-idle g c none is = c.in-Err.ensures.idle (is_spelled c.self.inside.log (ap (λ s. s.textless) c.self.view_is ∙ none)) (same_fault _ _ is)
