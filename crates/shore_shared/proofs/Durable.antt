@@ -7,8 +7,8 @@ use Rattle.shore_model.specs.declared.calls.Answer.TheVariants as answer
 use Rattle.shore_model.specs.declared.histories.Entry.{Entry}
 use Rattle.shore_model.specs.declared.step.Step.{Step}
 use Rattle.shore_model.specs.declared.step.Step.TheVariants as made
-use Rattle.laws_calls.proofs.LongerLogs.{settled_call_further, settled_resume_further}
-use Rattle.laws_calls.specs.Events.{Called, EventMoves, Forced, HasFailed, ManagerEvent, Resumed, TicketAsked}
+use Rattle.laws_calls.proofs.LongerLogs.{give_up_further, settled_call_further, settled_resume_further}
+use Rattle.laws_calls.specs.Events.{Called, EventMoves, Forced, GaveUp, HasFailed, ManagerEvent, Resumed, TicketAsked}
 use Rattle.laws_calls.specs.States.{State}
 use Rattle.laws_runs.specs.CheckpointSteps.{CheckpointAnswers, CheckpointMoves, CheckpointRefused, CheckpointedMove, CheckpointedMoves, CheckpointedState, Checkpoints, Goes}
 use Rattle.laws_runs.specs.StoredRuns.{Manage, Tend}
@@ -16,6 +16,7 @@ use Rattle.laws_runs.specs.StoredRuns.{Manage, Tend}
 by_event : (g : Geometry) (s new : State) (e : ManagerEvent) → EventMoves g s e new → s.durable ≤ new.durable
 by_event g s new (Called session c step) h = let same = (settled_call_further g s session c step new h.1).durable in omega (arith, same)
 by_event g s new (Resumed session step) h = let same = (settled_resume_further g s session step new h).durable in omega (arith, same)
+by_event g s new (GaveUp session step) h = let same = (give_up_further s session step new h).durable in omega (arith, same)
 by_event g s new (Forced n) h = let same = ap (λ (x : State). x.durable) h.2 in let more = h.0 in omega (arith, same, more)
 by_event g s new HasFailed h = let same = ap (λ (x : State). x.durable) h in omega (arith, same)
 by_event g s new (TicketAsked ticket answer) h = let same = ap (λ (x : State). x.durable) h.1 in omega (arith, same)

@@ -12,7 +12,7 @@ use Rattle.shore_model.specs.declared.step.Wait.{Wait}
 use Rattle.shore_model.specs.declared.step.Wait.TheVariants as wait
 use Rattle.shore_words.specs.declared.rule.Heard.{Heard}
 use Rattle.shore_words.specs.declared.rule.View.{View}
-use Rattle.shore_shared.specs.Heard.{AwaitsLock, AwaitsLog, EndsIn, HasLooked, Hears, HearsCommit, IsAnswered, IsOfCommit, IsRefusal, IsRefusalOfCommit, asked_behind}
+use Rattle.shore_shared.specs.Heard.{AwaitsLock, AwaitsLog, EndsIn, HasGoneOn, HasLooked, Hears, HearsCommit, IsAnswered, IsOfCommit, IsRefusal, IsRefusalOfCommit, asked_behind}
 
 -- a seat that is as it was has looked at least as far, and so has one that has looked twice
 pub looked : (old new : View) → new ≡ old → HasLooked old new
@@ -65,6 +65,23 @@ pub goes_on : (c : Call) (old now : View) (step : Step) → HasMade c old now st
 goes_on c old now step (gone, next, behind, inl none) awaits = lacks step none.0 awaits
 goes_on c old now step (gone, next, behind, inr is) awaits = let h : Heard = record { asked = next; step = step } in
     (gone ++ h ∷ [], (λ failed rest r hears. subst (λ hs. Hears failed c (Some c) hs r) (sym (append_assoc gone (h ∷ []) rest)) (behind failed (h ∷ rest) r (refl, inr (inr (awaits, hears))))), is)
+
+-- it has heard one step, and the wait that this came to was not taken back; or it was
+pub has_gone_once : (old first new : View) (came step : Step) → first ≡ has_heard old (record { asked = None; step = came } ∷ []) → new ≡ first → step ≡ came → HasGoneOn old new step
+has_gone_once old first new came step heard same is = inl (same ∙ heard ∙ (λ i. has_heard old (record { asked = None; step = sym is i } ∷ [])))
+
+pub has_gone_twice : (old first second new : View) (came back step : Step) → first ≡ has_heard old (record { asked = None; step = came } ∷ []) → AwaitsLock came
+    → second ≡ has_heard first (record { asked = None; step = back } ∷ []) → new ≡ second → step ≡ back → HasGoneOn old new step
+has_gone_twice old first second new came back step heard waits more same is =
+    inr (came, waits, same ∙ more ∙ (λ i. has_heard (heard i) (record { asked = None; step = sym is i } ∷ [])))
+
+-- it went on by one step, or by two
+pub gone_on : (c : Call) (old mid now : View) (step : Step) → IsAbout c old mid None → HasGoneOn mid now step → HasMade c old now step
+gone_on c old mid now step about (inl heard) = resumed c old mid now step about heard
+gone_on c old mid now step about (inr (waits, lock, heard)) =
+    let still = has_heard mid (record { asked = None; step = waits } ∷ []) in
+    let behind : IsAbout c old still (asked_behind c waits) = goes_on c old still waits (resumed c old mid still waits about refl) (inr lock) in
+    resumed c old still now step (subst (λ next. IsAbout c old still next) (ap (asked_behind c) lock.1) behind) heard
 
 -- what a call is answered, with what it heard
 abbrev pub IsOver : Bool → Call → View → View → Result Answer Fault → Type 0

@@ -13,7 +13,8 @@ use Rattle.shore_model.specs.declared.step.Step.{Step}
 use Rattle.shore_model.specs.declared.step.Step.TheVariants as made
 use Rattle.shore_model.specs.declared.step.Wait.{Wait}
 use Rattle.laws_calls.proofs.SettledRefusals.{settled_call_earned, settled_resume_earned}
-use Rattle.laws_calls.specs.Events.{Called, EventMoves, Forced, HasFailed, IsStateAfter, ManagerEvent, Resumed, TicketAsked}
+use Rattle.laws_calls.specs.Events.{Called, EventMoves, Forced, GaveUp, HasFailed, IsStateAfter, ManagerEvent, Resumed, TicketAsked}
+use Rattle.laws_calls.specs.GivingUp.{GiveUpStep}
 use Rattle.laws_calls.specs.Settling.{SettledCall, SettledResume}
 use Rattle.laws_calls.specs.Shapes.{LockWaitsMayAsk}
 use Rattle.laws_calls.specs.States.{State}
@@ -29,11 +30,19 @@ use Rattle.shore_shared.proofs.Durable.{by_checkpoint}
 use Rattle.shore_shared.proofs.Standing.{equal}
 use Rattle.shore_shared.proofs.WaitsOn.{IsWaiting, call_never, call_own, event_on, resume_never, resume_own, same}
 
+-- what a session hears as its wait is taken back: nothing if there was none
+abbrev pub heard_back : Step → List Heard → List Heard
+heard_back made.Nothing hs = hs
+heard_back (made.Done a) hs = record { asked = None; step = made.Done a } ∷ hs
+heard_back (made.Waits w) hs = record { asked = None; step = made.Waits w } ∷ hs
+heard_back (made.Refused f) hs = record { asked = None; step = made.Refused f } ∷ hs
+
 -- what a session hears of moves
 abbrev pub heard_in : ℕ → List PlainMove → List Heard
 heard_in n [] = []
 heard_in n (OfManager (Called session c step) ∷ ms) = if session == n then record { asked = Some c; step = step } ∷ heard_in n ms else heard_in n ms
 heard_in n (OfManager (Resumed session step) ∷ ms) = if session == n then record { asked = None; step = step } ∷ heard_in n ms else heard_in n ms
+heard_in n (OfManager (GaveUp session step) ∷ ms) = if session == n then heard_back step (heard_in n ms) else heard_in n ms
 heard_in n (OfManager (Forced k) ∷ ms) = heard_in n ms
 heard_in n (OfManager HasFailed ∷ ms) = heard_in n ms
 heard_in n (OfManager (TicketAsked ticket answer) ∷ ms) = heard_in n ms
@@ -80,9 +89,26 @@ module _ (g : Geometry) (n : ℕ) (s new : State) (waits : Bool) (waiting : wait
   by_resume session step h false is =
       later waits (λ on. event_on g s new (Resumed session step) n (λ e. true≢false (sym (eq-eqb session n (sym e)) ∙ is)) h (waiting on))
 
+  -- a wait that is taken back is refused, or nobody hears of it
+  own_back : (session : ℕ) (step : Step) → session ≡ n → GiveUpStep s session step new → NeverIdle waits (heard_back step (heard_in n ms))
+  own_back session made.Nothing own (inl h) = absurd (cc h.told)
+  own_back session made.Nothing own (inr h) = later waits (λ on. same s new n (ap (λ (x : State). x.waiting) h.is) (waiting on))
+  own_back session (made.Refused f) own h = ((λ nothing. absurd (cc nothing)), later false (λ on. absurd (true≢false (sym on))))
+  own_back session (made.Done a) own (inl h) = absurd (cc h.told)
+  own_back session (made.Done a) own (inr h) = absurd (cc h.told)
+  own_back session (made.Waits w) own (inl h) = absurd (cc h.told)
+  own_back session (made.Waits w) own (inr h) = absurd (cc h.told)
+
+  by_give_up : (session : ℕ) (step : Step) → EventMoves g s (GaveUp session step) new → (b : Bool) → (session == n) ≡ b
+      → NeverIdle waits (if b then heard_back step (heard_in n ms) else heard_in n ms)
+  by_give_up session step h true is = own_back session step (equal session n is) h
+  by_give_up session step h false is =
+      later waits (λ on. event_on g s new (GaveUp session step) n (λ e. true≢false (sym (eq-eqb session n (sym e)) ∙ is)) h (waiting on))
+
   by_event : (e : ManagerEvent) → EventMoves g s e new → NeverIdle waits (heard_in n (OfManager e ∷ ms))
   by_event (Called session c step) h = by_call session c step h (session == n) refl
   by_event (Resumed session step) h = by_resume session step h (session == n) refl
+  by_event (GaveUp session step) h = by_give_up session step h (session == n) refl
   by_event (Forced k) h = later waits (λ on. event_on g s new (Forced k) n tt h (waiting on))
   by_event HasFailed h = later waits (λ on. event_on g s new HasFailed n tt h (waiting on))
   by_event (TicketAsked ticket answer) h = later waits (λ on. event_on g s new (TicketAsked ticket answer) n tt h (waiting on))
@@ -110,6 +136,7 @@ NeverNotQuiet (h ∷ hs) = (h.step ≢ made.Refused fault.NotQuiet) × NeverNotQ
 abbrev IsNotRefusedSo : ManagerEvent → Type 0
 IsNotRefusedSo (Called session c step) = step ≢ made.Refused fault.NotQuiet
 IsNotRefusedSo (Resumed session step) = step ≢ made.Refused fault.NotQuiet
+IsNotRefusedSo (GaveUp session step) = step ≢ made.Refused fault.NotQuiet
 IsNotRefusedSo (Forced k) = Unit {0}
 IsNotRefusedSo HasFailed = Unit {0}
 IsNotRefusedSo (TicketAsked ticket answer) = Unit {0}
@@ -126,6 +153,8 @@ module _ (g : Geometry) (o : Opening) (found : List LogRecord) (es : List Entry)
   event_refuses (Resumed session step) h = λ is.
       ⊎_elim (λ failed. absurd (cc failed.1)) (λ again. again.3)
       (settled_resume_earned g o found es s k session asks fault.NotQuiet new no_deadlock ample (subst (λ x. SettledResume g s session x new) is h)).3
+  event_refuses (GaveUp session step) (inl h) = λ is. absurd (cc (is, h.told))
+  event_refuses (GaveUp session step) (inr h) = λ is. absurd (cc (is, h.told))
   event_refuses (Forced n) h = tt
   event_refuses HasFailed h = tt
   event_refuses (TicketAsked ticket answer) h = tt
@@ -134,9 +163,20 @@ heard_on : (h : Heard) (hs : List Heard) → h.step ≢ made.Refused fault.NotQu
 heard_on h hs other later true = (other, later)
 heard_on h hs other later false = later
 
+heard_back_on : (step : Step) (hs : List Heard) → step ≢ made.Refused fault.NotQuiet → NeverNotQuiet hs → NeverNotQuiet (heard_back step hs)
+heard_back_on made.Nothing hs other later = later
+heard_back_on (made.Done a) hs other later = (other, later)
+heard_back_on (made.Waits w) hs other later = (other, later)
+heard_back_on (made.Refused f) hs other later = (other, later)
+
+back_on : (step : Step) (hs : List Heard) → step ≢ made.Refused fault.NotQuiet → NeverNotQuiet hs → (b : Bool) → NeverNotQuiet (if b then heard_back step hs else hs)
+back_on step hs other later true = heard_back_on step hs other later
+back_on step hs other later false = later
+
 heard_behind : (n : ℕ) (ms : List PlainMove) (e : ManagerEvent) → IsNotRefusedSo e → NeverNotQuiet (heard_in n ms) → NeverNotQuiet (heard_in n (OfManager e ∷ ms))
 heard_behind n ms (Called session c step) other later = heard_on (record { asked = Some c; step = step }) (heard_in n ms) other later (session == n)
 heard_behind n ms (Resumed session step) other later = heard_on (record { asked = None; step = step }) (heard_in n ms) other later (session == n)
+heard_behind n ms (GaveUp session step) other later = back_on step (heard_in n ms) other later (session == n)
 heard_behind n ms (Forced k) other later = later
 heard_behind n ms HasFailed other later = later
 heard_behind n ms (TicketAsked ticket answer) other later = later

@@ -12,7 +12,7 @@ use Rattle.laws_calls.proofs.SessionEndings.{call_adds, call_waits, done_leaves,
 use Rattle.laws_calls.proofs.SessionResumes.{waits_stay}
 use Rattle.laws_calls.proofs.SettledEnds.{call_leaves}
 use Rattle.laws_calls.specs.CallSteps.{CallGoesOn, CallStep, InnerStep, OpenStep, OutsideStep, ResumeStep, ResumesWait}
-use Rattle.laws_calls.specs.Events.{Called, EventMoves, Forced, HasFailed, ManagerEvent, Resumed, TicketAsked}
+use Rattle.laws_calls.specs.Events.{Called, EventMoves, Forced, GaveUp, HasFailed, ManagerEvent, Resumed, TicketAsked}
 use Rattle.laws_calls.specs.Settling.{SettledCall, SettledResume, Settles}
 use Rattle.laws_calls.specs.StateChanges.{wait_refused}
 use Rattle.laws_calls.specs.States.{State, Waiting, without_waiting}
@@ -125,6 +125,7 @@ settles_on g s new session first (vs ∷ rounds) step n apart (a, at, broken, of
 abbrev pub IsOfOthers : ManagerEvent → ℕ → Type 0
 IsOfOthers (Called session c step) n = n ≢ session
 IsOfOthers (Resumed session step) n = n ≢ session
+IsOfOthers (GaveUp session step) n = n ≢ session
 IsOfOthers (Forced k) n = Unit {0}
 IsOfOthers HasFailed n = Unit {0}
 IsOfOthers (TicketAsked ticket answer) n = Unit {0}
@@ -136,6 +137,8 @@ event_on g s new (Resumed session step) n apart (inl h) waits = others s new n s
 event_on g s new (Resumed session step) n apart (inr (inl h)) waits = same s new n (ap (λ (x : State). x.waiting) h.1) waits
 event_on g s new (Resumed session step) n apart (inr (inr h)) waits =
     settles_on g h.mid new session h.first h.rounds step n apart h.settles (resume_on g s h.mid session h.first n apart h.resumes waits)
+event_on g s new (GaveUp session step) n apart (inl h) waits = others s new n session apart (ap (λ (x : State). x.waiting) h.is) waits
+event_on g s new (GaveUp session step) n apart (inr h) waits = same s new n (ap (λ (x : State). x.waiting) h.is) waits
 event_on g s new (Forced k) n apart h waits = same s new n (ap (λ (x : State). x.waiting) h.2) waits
 event_on g s new HasFailed n apart h waits = same s new n (ap (λ (x : State). x.waiting) h) waits
 event_on g s new (TicketAsked ticket answer) n apart h waits = same s new n (ap (λ (x : State). x.waiting) h.1) waits

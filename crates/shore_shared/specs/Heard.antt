@@ -25,6 +25,11 @@ AwaitsLog step = (number : ℕ) × ((step ≡ made.Waits (wait.Durable number)) 
 abbrev pub AwaitsLock : Step → Type 0
 AwaitsLock step = (granule : Granule) × (step ≡ made.Waits (wait.Lock granule))
 
+-- A session went on with its call that waits, and has heard this step; or two, if it waited still for a lock and that wait was taken back.
+abbrev pub HasGoneOn : View → View → Step → Type 0
+HasGoneOn old new step = (new ≡ record old { heard = old.heard ++ record { asked = None; step = step } ∷ [] })
+    ⊎ ((waits : Step) × AwaitsLock waits × (new ≡ record old { heard = (old.heard ++ record { asked = None; step = waits } ∷ []) ++ record { asked = None; step = step } ∷ [] }))
+
 -- what is asked behind a step that is not the last: a call that waits goes on, and one that needs a force is made again
 abbrev pub asked_behind : Call → Step → Option Call
 asked_behind c (made.Waits w) = None

@@ -9,7 +9,7 @@ ghost use Rattle.shore_model.specs.declared.calls.Call.{Call};
 ghost use Rattle.shore_core.specs.Replies.{InEach, Reads, ReadsWaiting, Resumed, Serves, Stepped, fault_at, forced_at};
 ghost use Rattle.shore_held.specs.declared.asked.Asked.TheVariants as Asked;
 ghost use Rattle.shore_words.specs.declared.rule.Heard.{Heard};
-ghost use Rattle.shore_shared.specs.Heard.{AwaitsLock, AwaitsLog, HasLooked, Hears, HearsCommit, IsAnswered, IsOfCommit, IsRefusal, IsRefusalOfCommit};
+ghost use Rattle.shore_shared.specs.Heard.{AwaitsLock, AwaitsLog, HasGoneOn, HasLooked, Hears, HearsCommit, IsAnswered, IsOfCommit, IsRefusal, IsRefusalOfCommit};
 
 use crate::session::Session;
 use crate::shared::{Shared, sleeper_of};
@@ -24,6 +24,7 @@ use shore_types::{Fault, Lsn, Ticket};
 use shore_words::Words;
 use std::alloc::Global;
 use std::sync::{MutexGuard, Wait};
+use std::time::Duration;
 
 // A session that found the core's lock taken by so many steps in turn gives way.
 const MOST_CROWDED: u32 = 8;
@@ -71,6 +72,30 @@ pub fn session_step<B: Named, T: Tail, V: Disk>(
     }
 }
 
+// The call that waits goes on if it may, and its wait is taken back if it waits still, under one hold of the core's lock: so a lock that was granted meanwhile is not lost. The answer is
+// what the session has heard last.
+fn back_step<B: Named, T: Tail, V: Disk>(
+    alloc: Global,
+    words: &Words,
+    core: &mut CoreHeld<B, T, V>,
+    session: &mut Session<B>,
+) -> Step
+    requires { (words.now.table.shared.table_id ≡ B.table) × (4 < B.table.words) }
+    ensures same { (session.new.number ≡ session.old.number) × (session.new.seat ≡ session.old.seat) × (session.old.share.amount < session.new.share.amount) }
+    ensures heard { HasGoneOn session.old.ear session.new.ear result }
+{
+    let step = session_step(alloc, words, core, session, None);
+    if !waits_for_lock(&step) {
+        return step;
+    }
+    let back = core.give_up(words, session.number, &mut session.share, &mut session.ear);
+    // It has heard nothing if there was nothing to take back, and waits on.
+    if is_nothing(&back) {
+        return step;
+    }
+    back
+}
+
 // What a call that is over was answered.
 fn answer_of(step: Step) -> Result<Answer, Fault>
     requires log { ¬ AwaitsLog step }
@@ -106,6 +131,12 @@ fn is_refused(step: &Step) -> bool
     ensures { IsTrue result ↔ ((f : faults.Fault) × (step.now ≡ Step.Refused f)) }
 {
     matches!(step, Step::Refused(_))
+}
+
+fn is_nothing(step: &Step) -> bool
+    ensures { IsTrue result ↔ (step.now ≡ Step.Nothing) }
+{
+    matches!(step, Step::Nothing)
 }
 
 // Whether the session is in a transaction behind a step.
@@ -148,7 +179,11 @@ impl<B: Named> Session<B> {
         if may_let_through(&step) {
             shared.wake_let_through(&core);
         }
+        let more_taken = shared.freeing.note_step(&core.room(), self.number);
         drop(core);
+        if more_taken {
+            shared.note_taken();
+        }
         if is_log_full(&step) {
             shared.note_full();
         }
@@ -208,12 +243,9 @@ impl<B: Named> Session<B> {
         ensures seat { HasLooked self.old.seat self.new.seat }
         ensures same { (self.new.number ≡ self.old.number) × (self.new.share ≡ self.old.share) × (self.new.ear ≡ self.old.ear) }
     {
-        if self.is_counted {
-            shared.count_out();
-        }
         self.crowded = 0;
-        let turn = shared.turn();
-        let told = shared.wait_for(rt, &mut self.seat, &mut self.spared, number);
+        let (turn, is_counted) = (shared.turn(), self.is_counted);
+        let told = shared.wait_for(rt, &mut self.seat, &mut self.spared, is_counted, number);
         self.is_counted = shared.turn() != turn;
         told
     }
@@ -258,15 +290,41 @@ impl<B: Named> Session<B> {
         // A refusal is that of the last of them.
         ensures refused { IfErr result (λ fault. (more : List Heard) × (self.new.ear.heard ≡ self.old.ear.heard ++ more) × IsRefusal self.new.seat.failed more fault) }
     {
+        self.call_within(rt, alloc, shared, call, None)
+    }
+
+    /// As `call`, but that no single wait for a lock is longer than this: else the call is refused by `WouldBlock`, and its transaction goes on. So it is refused too once the session
+    /// is to wait for no lock (`Shared::give_up`). No clock is read: a nap that ends early ends the wait early.
+    pub fn call_within<N: Numbers, R: Wait, T: Tail, L: Disk, V: Disk>(
+        &mut self,
+        rt: &R,
+        alloc: Global,
+        shared: &Shared<N, B, T, L, V>,
+        call: Call,
+        most: Option<Duration>,
+    ) -> Result<Answer, Fault>
+        requires { IsServed call }
+        ensures same { self.new.number ≡ self.old.number }
+        ensures seat { HasLooked self.old.seat self.new.seat }
+        ensures counted { self.old.share.amount ≤ self.new.share.amount }
+        ensures asked { IfOk result (λ _. self.old.share.amount < self.new.share.amount) }
+        // It has heard steps behind which it waits, and last of all what it is answered. That its wait is taken back is one of them.
+        ensures heard { (more : List Heard) × (self.new.ear ≡ record self.old.ear { heard = self.old.ear.heard ++ more }) × Hears self.new.seat.failed call (Some call) more result }
+        ensures refused { IfErr result (λ fault. (more : List Heard) × (self.new.ear.heard ≡ self.old.ear.heard ++ more) × IsRefusal self.new.seat.failed more fault) }
+    {
+        if matches!(call, Call::Begin) {
+            shared.wait_for_room(rt);
+        }
         let mut glanced = shared.sleepers.glance(sleeper_of(self.number));
         let mut step = self.first_step(rt, alloc, shared, &call);
         for _ in rt.forever() {
+            let mut gives_up = false;
             if let Some(number) = number_awaited(&step) {
                 if !self.wait_for(rt, shared, Lsn(number)) {
                     return Err(Fault::Device);
                 }
             } else if waits_for_lock(&step) {
-                shared.sleep_for_lock(rt, self.number, glanced);
+                gives_up = self.is_over_for_lock(rt, shared, glanced, most);
             } else {
                 return answer_of(step);
             }
@@ -274,10 +332,75 @@ impl<B: Named> Session<B> {
             step = if is_refused(&step) {
                 self.first_step(rt, alloc, shared, &call)
             } else {
-                self.step(rt, alloc, shared, None)
+                self.go_on(rt, alloc, shared, gives_up)
             };
         }
         unreachable!()
+    }
+
+    // Waits for a lock. Whether the wait is to be taken back: the time is over, or the session is to wait for none. That is asked after the glance, so no mark that is set is missed.
+    fn is_over_for_lock<N: Numbers, R: Wait, T: Tail, L: Disk, V: Disk>(
+        &self,
+        rt: &R,
+        shared: &Shared<N, B, T, L, V>,
+        glanced: u64,
+        most: Option<Duration>,
+    ) -> bool {
+        if shared.sleepers.is_unwanted(sleeper_of(self.number)) {
+            return true;
+        }
+        match most {
+            Some(most) => !shared.nap_for_lock(rt, self.number, glanced, most),
+            None => {
+                shared.sleep_for_lock(rt, self.number, glanced);
+                false
+            }
+        }
+    }
+
+    // Goes on with its call that waits, or takes the wait back.
+    fn go_on<N: Numbers, R: Wait, T: Tail, L: Disk, V: Disk>(
+        &mut self,
+        rt: &R,
+        alloc: Global,
+        shared: &Shared<N, B, T, L, V>,
+        gives_up: bool,
+    ) -> Step
+        ensures same { (self.new.number ≡ self.old.number) × (self.new.seat ≡ self.old.seat) × (self.old.share.amount < self.new.share.amount) }
+        ensures heard { HasGoneOn self.old.ear self.new.ear result }
+    {
+        if gives_up {
+            return self.unwait(rt, alloc, shared);
+        }
+        self.step(rt, alloc, shared, None)
+    }
+
+    // Goes on with the call if it may, or takes its wait back.
+    fn unwait<N: Numbers, R: Wait, T: Tail, L: Disk, V: Disk>(
+        &mut self,
+        rt: &R,
+        alloc: Global,
+        shared: &Shared<N, B, T, L, V>,
+    ) -> Step
+        ensures same { (self.new.number ≡ self.old.number) × (self.new.seat ≡ self.old.seat) × (self.old.share.amount < self.new.share.amount) }
+        ensures heard { HasGoneOn self.old.ear self.new.ear result }
+    {
+        let mut core = self.take_core(rt, shared);
+        core.look(&shared.words);
+        let step = back_step(alloc, &shared.words, &mut core, self);
+        if may_let_through(&step) {
+            shared.wake_let_through(&core);
+        }
+        let more_taken = shared.freeing.note_step(&core.room(), self.number);
+        drop(core);
+        if more_taken {
+            shared.note_taken();
+        }
+        if is_log_full(&step) {
+            shared.note_full();
+        }
+        self.note_busy(shared, &step);
+        step
     }
 
     /// Commits, and waits until that is durable. `Device` if it finds meanwhile that a device has failed: then the commit may be durable or not.

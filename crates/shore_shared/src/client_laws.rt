@@ -1,5 +1,5 @@
 //! What `AllHold` of a world that `serve` gives back says of each client, as laws, each stated as the contract of an empty function.
-ghost use Rattle.std.specs.Prelude.{◌≡◌, ◌≢◌, ◌<◌, ◌+◌, ℕ, All, Bool, Contains, Err, List, None, Result, Some, flat_map};
+ghost use Rattle.std.specs.Prelude.{◌≡◌, ◌⊎◌, ◌≢◌, ◌<◌, ◌+◌, ℕ, All, Bool, Contains, Err, List, None, Result, Some, flat_map};
 ghost use Rattle.shore_types.specs.declared.faults.Fault.{Fault};
 ghost use Rattle.shore_types.specs.declared.faults.Fault.TheVariants as fault;
 ghost use Rattle.shore_model.specs.declared.calls.Answer.{Answer};
@@ -8,7 +8,7 @@ ghost use Rattle.shore_model.specs.declared.calls.Call.TheVariants as call;
 ghost use Rattle.shore_model.specs.declared.calls.Exchange.{Exchange};
 ghost use Rattle.shore_model.specs.declared.log_records.LogRecord.{LogRecord};
 ghost use Rattle.shore_model.specs.declared.step.Step.{Step};
-ghost use Rattle.laws_calls.specs.Events.{Called, Resumed};
+ghost use Rattle.laws_calls.specs.Events.{Called, GaveUp, Resumed};
 ghost use Rattle.shore_world.specs.EventMoves.{OfManager};
 ghost use Rattle.shore_held.specs.Comings.{Beginning};
 ghost use Rattle.shore_held.specs.Trails.{moves_of, noted_in};
@@ -38,13 +38,13 @@ pub fn answers_stand_in_the_trail<J: Job>()
         All (IsFromTrail noted is.failed (client + 1)) (flat_map (λ es. es) told) }
 {}
 
-/// What stands in the trail is a step of the manager: what a session asked is a call of it, and what it went on with a resume, each with what that came to. So what clients were told is what the manager answered whose
+/// What stands in the trail is a step of the manager: what a session asked is a call of it, and what it went on with a resume, or a wait that it took back, each with what that came to. So what clients were told is what the manager answered whose
 /// promises go on after its threads.
 pub fn what_is_noted_is_a_step()
     ensures call { (asked : List (Asked × ℕ)) (stepped : List (Step × ℕ)) (session : ℕ) (c : Call) (step : Step) → StandsIn (noted_in asked stepped) session (Some c) step →
         Contains (moves_of asked stepped) (OfManager (Called session c step)) }
     ensures resume { (asked : List (Asked × ℕ)) (stepped : List (Step × ℕ)) (session : ℕ) (step : Step) → StandsIn (noted_in asked stepped) session None step →
-        Contains (moves_of asked stepped) (OfManager (Resumed session step)) }
+        Contains (moves_of asked stepped) (OfManager (Resumed session step)) ⊎ Contains (moves_of asked stepped) (OfManager (GaveUp session step)) }
 {}
 
 /// Over a manager a Commit comes to its ticket at once, or is refused, and it never waits (`steps`). So each Commit of a client is answered by its ticket or refused, and not as `NotQuiet` (`replies`); nor is then a commit that

@@ -11,11 +11,12 @@ ghost use Rattle.shore_shared.specs.Told.{AreClaimed, HasHeardSince, IsClaimed, 
 use crate::session::Session;
 use crate::shared::Shared;
 use http_server::Log as GhostLog;
+use shore_core::TailHolder;
 use shore_disk::Disk;
 use shore_held::Named;
 use shore_model::{Answer, Call};
 use shore_queue::{Numbers, QueueTail};
-use shore_types::{Fault, Ticket};
+use shore_types::{Fault, SessionId, Ticket};
 use std::alloc::Global;
 use std::marker::{Brand, PhantomData};
 use std::snapshot::Snapshot;
@@ -23,6 +24,7 @@ use std::sync::Wait;
 use std::sync::atomic::{AtomicBool, Ordering};
 use std::thread;
 use std::thread::{Promise, PromisedHandle, SpawnError, Threads};
+use std::time::Duration;
 
 /// A session with what it talks to.
 pub trait Client {
@@ -46,6 +48,18 @@ pub trait Client {
         ensures told { told self.new ≡ told self.old ++ record { call = call; reply = result } ∷ [] }
         ensures known { IsWithin (known self.old) (known self.new) };
 
+    /// As `Session::call_within`: no single wait for a lock is longer than this.
+    fn call_within(&mut self, call: Call, most: Duration) -> Result<Answer, Fault>
+        requires { IsServed call }
+        ensures told { told self.new ≡ told self.old ++ record { call = call; reply = result } ∷ [] }
+        ensures known { IsWithin (known self.old) (known self.new) };
+
+    /// As `Shared::give_up`; that stays so in the jobs to come. The session of the client of number n is that of number n + 1.
+    fn give_up(&self, session: SessionId);
+
+    /// As `Shared::tail_holder`.
+    fn tail_holder(&self) -> TailHolder;
+
     /// As `Session::commit_durable`.
     fn commit_durable(&mut self) -> Result<Ticket, Fault>
         ensures told { (reply : Result Answer Fault) × (told self.new ≡ told self.old ++ record { call = Call.Commit; reply = reply } ∷ []) × IsOfCommit (known self.new).failed reply result }
@@ -55,17 +69,24 @@ pub trait Client {
 
 /// A manager as a client sees it in its thread: nobody has to look into it to send it there.
 pub trait Serves<B: Named, R> {
-    /// As `Session::call`.
+    /// As `Session::call_within`, or `Session::call` if there is no time.
     fn call_of(
         &self,
         rt: &R,
         alloc: Global,
         session: &mut Session<B>,
         call: Call,
+        most: Option<Duration>,
     ) -> Result<Answer, Fault>
         requires { IsServed call }
         ensures seen { IsWithin (seen_by session.old.seat) (seen_by session.new.seat) }
         ensures heard { (more : List Heard) × (session.new.ear ≡ record session.old.ear { heard = session.old.ear.heard ++ more }) × Hears session.new.seat.failed call (Some call) more result };
+
+    /// As `Shared::give_up`.
+    fn give_up_of(&self, session: SessionId);
+
+    /// As `Shared::tail_holder`.
+    fn tail_holder_of(&self, rt: &R) -> TailHolder;
 
     /// As `Session::awaited`: what a commit that was answered so comes to, once its number is durable.
     fn await_of(
@@ -88,8 +109,17 @@ impl<N: Numbers, B: Named, R: Wait + Copy, L: Disk, V: Disk> Serves<B, R>
         alloc: Global,
         session: &mut Session<B>,
         call: Call,
+        most: Option<Duration>,
     ) -> Result<Answer, Fault> {
-        session.call(rt, alloc, self, call)
+        session.call_within(rt, alloc, self, call, most)
+    }
+
+    fn give_up_of(&self, session: SessionId) {
+        self.give_up(session);
+    }
+
+    fn tail_holder_of(&self, rt: &R) -> TailHolder {
+        self.tail_holder(rt)
     }
 
     fn await_of(
@@ -139,16 +169,37 @@ impl<'m, E: Begins, B: Named, R: Copy, S: Serves<B, R>> Client for Talk<'m, E, B
         let asked = Snapshot::of(&call);
         let reply = self
             .manager
-            .call_of(&self.rt, self.alloc, &mut self.session, call);
+            .call_of(&self.rt, self.alloc, &mut self.session, call, None);
         self.told = self.told.and(&asked, &reply);
         reply
     }
 
-    fn commit_durable(&mut self) -> Result<Ticket, Fault> {
-        let asked = Snapshot::of(&Call::Commit);
+    fn call_within(&mut self, call: Call, most: Duration) -> Result<Answer, Fault> {
+        let asked = Snapshot::of(&call);
         let reply = self
             .manager
-            .call_of(&self.rt, self.alloc, &mut self.session, Call::Commit);
+            .call_of(&self.rt, self.alloc, &mut self.session, call, Some(most));
+        self.told = self.told.and(&asked, &reply);
+        reply
+    }
+
+    fn give_up(&self, session: SessionId) {
+        self.manager.give_up_of(session);
+    }
+
+    fn tail_holder(&self) -> TailHolder {
+        self.manager.tail_holder_of(&self.rt)
+    }
+
+    fn commit_durable(&mut self) -> Result<Ticket, Fault> {
+        let asked = Snapshot::of(&Call::Commit);
+        let reply = self.manager.call_of(
+            &self.rt,
+            self.alloc,
+            &mut self.session,
+            Call::Commit,
+            None,
+        );
         self.told = self.told.and(&asked, &reply);
         self.manager.await_of(&self.rt, &mut self.session, reply)
     }

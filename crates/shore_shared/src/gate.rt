@@ -8,14 +8,15 @@ pub enum Role {
     Checkpointer,
 }
 
-/// Where a worker is: before a turn, or before the syncs of one.
+/// Where a worker is: before a turn, or before a sync of one. The log writer is there before each of its syncs: before that of a frame's text, and before that of its gate, with which it may
+/// write the text of the next. The flusher is there before a batch, and the checkpointer before a step: what syncs these take are made under the core's lock.
 #[derive(Clone, Copy, PartialEq)]
 pub enum Place {
     Turn(Role),
     Sync(Role),
 }
 
-/// What a worker passes before each turn and before the syncs of each.
+/// What a worker passes before each turn, and before each sync or step of it.
 pub trait Gate {
     fn pass(&self, place: Place);
 }

@@ -1,5 +1,6 @@
 //! Who is under way, whose commits the log writer gathers, and the core's lock as it is taken by many.
-use crate::shared::{CROWD, Shared};
+use crate::pacing::{Pace, left_of, moment};
+use crate::shared::{CROWD, Shared, WRITER};
 use shore_disk::Disk;
 use shore_held::{CoreHeld, Named};
 use shore_log::Tail;
@@ -7,7 +8,7 @@ use shore_queue::Numbers;
 use std::sync::atomic::{AtomicU64, Ordering};
 use std::sync::{MutexGuard, Wait};
 use std::thread::yield_now;
-use std::time::Duration;
+use std::time::{Clock, Duration};
 
 // How often the log writer lets others run while it gathers: some 50 microseconds of a processor that nobody else wants.
 const GATHERS: u32 = 160;
@@ -18,6 +19,9 @@ const TRIES: u32 = 50;
 const NAPS: u32 = 3;
 
 const NAP_MICROS: u64 = 50;
+
+// Whoever comes wakes the log writer that gathers for long: it sleeps again, no more often than this.
+const GATHER_NAPS: u32 = 2_000;
 
 // More threads never lessen a count at one time.
 const MOST_LESSENING: u32 = 2_000;
@@ -49,6 +53,13 @@ impl<N: Numbers, B: Named, T: Tail, L: Disk, V: Disk> Shared<N, B, T, L, V> {
         lessen(&self.busy);
     }
 
+    // .. if it was counted.
+    pub(crate) fn count_out_if(&self, is_counted: bool) {
+        if is_counted {
+            self.count_out();
+        }
+    }
+
     // Which turn of the log writer is to come, or goes on.
     pub(crate) fn turn(&self) -> u64 {
         self.turns.load(Ordering::SeqCst)
@@ -72,20 +83,41 @@ impl<N: Numbers, B: Named, T: Tail, L: Disk, V: Disk> Shared<N, B, T, L, V> {
         self.asking.swap(0, Ordering::SeqCst)
     }
 
-    // These go on, and are under way again: their next commits are gathered.
-    pub(crate) fn count_going_on(&self, sessions: u64) {
-        self.busy.fetch_add(sessions, Ordering::SeqCst);
+    // A sync was made: those whose records were staged go on, and are under way again, so that their next commits are gathered. These go on with the next sync if a frame is
+    // staged now, and else with this one.
+    pub(crate) fn count_forced(&self, sessions: u64, is_staged: bool) {
+        let (staged, now) = if is_staged {
+            (sessions, 0)
+        } else {
+            (0, sessions)
+        };
+        let before = self.staged_for.swap(staged, Ordering::SeqCst);
+        self.busy
+            .fetch_add(before.saturating_add(now), Ordering::SeqCst);
     }
 
-    // What the sessions that are under way commit within a short time is forced together: the time begins as the first of them waits. Who has not come by then is not awaited any
-    // more. As long as nobody has, there is nothing to force.
-    pub(crate) fn gather(&self) {
+    // What the sessions that are under way commit within a short time is forced together: the time begins as the first of them waits, or who waits for a frame that is staged. Who has
+    // not come by then is not awaited any more. As long as nobody has, there is nothing to force.
+    pub(crate) fn gather(&self, rt: &(impl Wait + Clock), pace: &mut Pace) {
+        let began = moment(rt);
+        if self.gather_shortly() && self.busy.load(Ordering::SeqCst) > 0 {
+            if let Some(began) = began {
+                self.gather_on(rt, pace, began);
+            }
+            self.busy.store(0, Ordering::SeqCst);
+        }
+    }
+
+    // .. for some 50 microseconds. The answer is whether anybody waits.
+    fn gather_shortly(&self) -> bool {
         let mut waited = 0u32;
         for _ in 0..2 * GATHERS {
             if self.busy.load(Ordering::SeqCst) == 0 {
-                return;
+                return false;
             }
-            if self.asking.load(Ordering::SeqCst) > 0 {
+            if self.asking.load(Ordering::SeqCst) > 0
+                || self.staged_for.load(Ordering::SeqCst) > 0
+            {
                 waited = waited.saturating_add(1);
             }
             if waited >= GATHERS {
@@ -93,9 +125,26 @@ impl<N: Numbers, B: Named, T: Tail, L: Disk, V: Disk> Shared<N, B, T, L, V> {
             }
             yield_now();
         }
-        if waited > 0 {
-            self.busy.store(0, Ordering::SeqCst);
+        waited > 0
+    }
+
+    // .. and on from there, where a force takes long: until all who are under way wait, or until what a force takes would not repay it.
+    fn gather_on(&self, rt: &(impl Wait + Clock), pace: &mut Pace, began: u64) {
+        let Some(most) = pace.gathers_for() else {
+            return;
+        };
+        let asked = self.asking.load(Ordering::SeqCst);
+        for _ in 0..GATHER_NAPS {
+            let glanced = self.sleepers.glance(WRITER);
+            if self.busy.load(Ordering::SeqCst) == 0 {
+                break;
+            }
+            match left_of(rt, most, began) {
+                Some(left) => self.sleepers.nap(rt, WRITER, glanced, left),
+                None => break,
+            }
         }
+        pace.note_gathered(self.asking.load(Ordering::SeqCst) > asked);
     }
 
     // The core's lock. It is mostly held for less than a microsecond, so who finds it taken looks again for a short time: a lock on which somebody sleeps is handed over in

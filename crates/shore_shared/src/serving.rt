@@ -41,6 +41,7 @@ use std::marker::Brand;
 use std::sync::Wait;
 use std::thread;
 use std::thread::Threads;
+use std::time::Clock;
 
 /// What is left of a world behind its threads.
 #[derive(Drop)]
@@ -67,7 +68,12 @@ impl<L: Disk, V: Disk> Left<L, V> {
 /// Serves so many sessions with a world, which comes back: one job after another, each by all sessions at the same time, and what they came to, in the order of the jobs and
 /// of the sessions. `Failed` and `NotQuiet` as `Opened::of` has them; `NotQuiet` too if there are not so many sessions; and as `in_threads` refuses a job, behind which no
 /// other is begun. What the jobs came to stands as well where the devices come back alone.
-pub fn serve<J: Job + Sync, R: Threads + Wait + Sync + Send + Copy, L: Disk + Send, V: Disk + Send>(
+pub fn serve<
+    J: Job + Sync,
+    R: Threads + Wait + Clock + Sync + Send + Copy,
+    L: Disk + Send,
+    V: Disk + Send,
+>(
     rt: R,
     alloc: Global,
     world: World<L, V>,
@@ -98,7 +104,7 @@ pub fn serve<J: Job + Sync, R: Threads + Wait + Sync + Send + Copy, L: Disk + Se
 fn with_numbers<
     N: Numbers + Send + Sync,
     J: Job + Sync,
-    R: Threads + Wait + Sync + Send + Copy,
+    R: Threads + Wait + Clock + Sync + Send + Copy,
     L: Disk + Send,
     V: Disk + Send,
 >(
@@ -129,7 +135,7 @@ fn with_names<
     N: Numbers + Send + Sync,
     B: Named + Send + Sync,
     J: Job + Sync,
-    R: Threads + Wait + Sync + Send + Copy,
+    R: Threads + Wait + Clock + Sync + Send + Copy,
     L: Disk + Send,
     V: Disk + Send,
 >(
@@ -170,7 +176,7 @@ fn with_sessions<
     N: Numbers + Send + Sync,
     B: Named + Send + Sync,
     J: Job + Sync,
-    R: Threads + Wait + Sync + Send + Copy,
+    R: Threads + Wait + Clock + Sync + Send + Copy,
     L: Disk + Send,
     V: Disk + Send,
 >(
@@ -215,7 +221,7 @@ trait Works<B: Named, R> {
     fn stop(&self, seat: &mut Seat<B>);
 }
 
-impl<N: Numbers, B: Named, R: Wait + Copy, L: Disk, V: Disk> Works<B, R>
+impl<N: Numbers, B: Named, R: Wait + Clock + Copy, L: Disk, V: Disk> Works<B, R>
     for Shared<N, B, QueueTail<N, B, R>, L, V> {
     fn seat_of(&self, rt: &R) -> Seat<B> {
         self.seat(rt)
@@ -243,7 +249,7 @@ fn with_workers<
     'a,
     B: Named + Send + Sync,
     J: Job + Sync,
-    R: Threads + Wait + Sync + Send + Copy,
+    R: Threads + Wait + Clock + Sync + Send + Copy,
     S: Works<B, R> + Serves<B, R> + Sync,
 >(
     rt: R,
@@ -287,7 +293,7 @@ fn with_workers<
 fn in_turn<
     B: Named + Send + Sync,
     J: Job + Sync,
-    R: Threads + Wait + Sync + Send + Copy,
+    R: Threads + Wait + Clock + Sync + Send + Copy,
     S: Serves<B, R> + Sync,
 >(
     rt: R,

@@ -1,9 +1,14 @@
 //! The core and the log device under locks of their own, and what may be asked without waiting.
 ghost use Rattle.std.specs.Prelude.{◌≡◌, ◌↔◌, ◌≤◌, ◌<◌, ℕ, [], IfSome, IsTrue, true};
+ghost use Rattle.shore_core.specs.Cores.{heap_of, txns_of};
+ghost use Rattle.shore_core.specs.TailHolders.{HoldsTail};
+ghost use Rattle.shore_core.specs.declared.core_calls.Core.{Core};
 ghost use Rattle.shore_held.specs.declared.core_held.TheConstants.{ALL_PARTS};
 ghost use Rattle.shore_words.specs.Words.{looker};
 
+use crate::freeing::Freeing;
 use crate::session::Session;
+use shore_core::TailHolder;
 use shore_disk::Disk;
 use shore_held::{ALL_PARTS, CoreHeld, LogHeld, Meeting, Named, Seat, meeting};
 use shore_log::Tail;
@@ -26,7 +31,10 @@ pub(crate) const NEWS: u32 = 3;
 // Nobody raises it: who finds the core's lock taken for long naps on it.
 pub(crate) const CROWD: u32 = 4;
 
-const SESSIONS_AT: u32 = 5;
+// Who begins a transaction waits on it for room in the log.
+pub(crate) const ROOM: u32 = 5;
+
+const SESSIONS_AT: u32 = 6;
 
 /// So many wake words.
 pub(crate) const SLEEPERS: u32 = SESSIONS_AT + ALL_PARTS;
@@ -45,11 +53,17 @@ pub struct Shared<N: Numbers, B: Named, T: Tail, L: Disk, V: Disk> {
     pub(crate) report: Report,
     // Not 0 once a call was refused since the log is full, until a checkpoint begins.
     pub(crate) full: AtomicU64,
+    // How much room the log has for transactions to come.
+    pub(crate) freeing: Freeing,
     // How many sessions are under way and wait for nobody: in a transaction, or told a moment ago that their last is durable. The log writer gathers their commits.
     pub(crate) busy: AtomicU64,
     // How many sessions began to wait for the log since its latest turn began, and how many turns did.
     pub(crate) asking: AtomicU64,
     pub(crate) turns: AtomicU64,
+    // How many of them wait for records that are staged: they go on with the next sync.
+    pub(crate) staged_for: AtomicU64,
+    // How many sessions wait for locks, with no time set.
+    pub(crate) queued: AtomicU64,
     pub(crate) core: Mutex<CoreHeld<B, T, V>>,
     pub(crate) log: Mutex<LogHeld<N, B, L>>,
     ghost words_are: { words.table.shared.table_id ≡ B.table },
@@ -73,9 +87,12 @@ impl<N: Numbers, B: Named, T: Tail, L: Disk, V: Disk> Shared<N, B, T, L, V> {
             sleepers,
             report,
             full: AtomicU64::new(0),
+            freeing: Freeing::new(),
             busy: AtomicU64::new(0),
             asking: AtomicU64::new(0),
             turns: AtomicU64::new(0),
+            staged_for: AtomicU64::new(0),
+            queued: AtomicU64::new(0),
             core: Mutex::new(core),
             log: Mutex::new(log),
         }
@@ -123,6 +140,13 @@ impl<N: Numbers, B: Named, T: Tail, L: Disk, V: Disk> Shared<N, B, T, L, V> {
         self.core.lock(rt).seat(&self.words)
     }
 
+    /// Whom the log has to be kept for from furthest back on, as the core has it at a moment between two calls. It takes the core's lock.
+    pub fn tail_holder(&self, rt: &impl Wait) -> TailHolder
+        ensures { (core : Core T V T.Tail V.Disk) × HoldsTail (txns_of core) (heap_of core) result }
+    {
+        self.core.lock(rt).tail_holder()
+    }
+
     /// The durable number. It waits for nobody.
     pub fn durable_seen(&self, seat: &mut Seat<B>) -> Lsn
         ensures { (seat.new ≡ record seat.old { seen = result }) × (seat.old.seen ≤ result) }
@@ -166,6 +190,17 @@ impl<N: Numbers, B: Named, T: Tail, L: Disk, V: Disk> Shared<N, B, T, L, V> {
     // Whether it was found so.
     pub(crate) fn is_full(&self) -> bool {
         self.full.load(Ordering::SeqCst) != 0
+    }
+
+    // More of the log is taken: a checkpoint may be due.
+    pub(crate) fn note_taken(&self) {
+        self.sleepers.wake(CHECKPOINTER);
+    }
+
+    // No begin waits for room any more.
+    pub(crate) fn end_waits_for_room(&self) {
+        self.freeing.end_waits();
+        self.sleepers.wake(ROOM);
     }
 
     // Asks the log writer for a force.

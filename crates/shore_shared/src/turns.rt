@@ -1,9 +1,11 @@
 //! What turns of the workers do with the values under the locks, which are lent to them: of a function that takes a lock no clause can say it.
-ghost use Rattle.std.specs.Prelude.{◌≡◌, ◌⊎◌, ◌↔◌, ◌≤◌, ◌<◌, ◌+◌, [], ◌∷◌, ◌++◌, IfErr, IfOk, IsTrue, List, OnErr, OnOk, false, length, true};
+ghost use Rattle.std.specs.Prelude.{◌≡◌, ◌≢◌, ◌⊎◌, ◌↔◌, ◌≤◌, ◌<◌, ◌+◌, [], ◌∷◌, ◌++◌, Err, IfErr, IfOk, IsTrue, List, OnErr, OnOk, false, length, true};
+ghost use Rattle.shore_disk.specs.Cause.{HasCause};
 ghost use Rattle.shore_core.specs.Cores.{has_failed, last_of};
 ghost use Rattle.shore_core.specs.Flushing.{FlushAnswers, FlushSteps};
 ghost use Rattle.shore_core.specs.Replies.{InEach};
 ghost use Rattle.shore_model.specs.declared.log_records.LogRecord.{LogRecord};
+ghost use Rattle.shore_held.specs.Logs.{HasNoPlace};
 ghost use Rattle.shore_held.specs.Trails.{GoesOn};
 ghost use Rattle.shore_held.specs.declared.asked.Asked.TheVariants as Asked;
 ghost use Rattle.shore_types.specs.declared.faults.Fault.TheVariants as Fault;
@@ -33,7 +35,9 @@ pub(crate) fn take_all<N: Numbers, B: Named, L: Disk>(
     most: u64,
 ) -> Result<(), Fault>
     ensures same { (held.new.anchors ≡ held.old.anchors) × (held.new.cut ≡ held.old.cut) × (held.new.stable ≡ held.old.stable) × (held.new.told ≡ held.old.told) × (held.new.failed ≡ held.old.failed)
-        × (held.new.history ≡ held.old.history) × (held.new.met ≡ held.old.met) }
+        × (held.new.history ≡ held.old.history) × (held.new.met ≡ held.old.met) × (held.new.staged ≡ held.old.staged) × (held.new.free ≡ held.old.free) × (held.new.faults ≡ held.old.faults) }
+    ensures more { length held.old.got ≤ length held.new.got }
+    ensures texts { held.old.textless ≡ 0 → held.new.textless ≡ 0 }
     ensures all { OnOk result (((rest : List LogRecord) × (held.new.got ≡ held.old.met ++ rest)) ⊎ (length held.old.got + most < length held.new.got)) }
     // Nothing that came through the queue waits for memory then.
     ensures taken { OnOk result (held.new.waits ≡ []) }
@@ -49,32 +53,139 @@ pub(crate) fn take_all<N: Numbers, B: Named, L: Disk>(
 }
 
 impl<N: Numbers, B: Named, T: Tail, L: Disk, V: Disk> Shared<N, B, T, L, V> {
-    // A turn of the log writer: what is queued is taken in, what one frame holds is forced, and how far the log is durable is told. The answer is whether there is news, and whether
-    // there was memory for all that came through the queue.
+    // A turn of the log writer: one frame is forced, and by the same sync the next one is staged; then it is told how far the log is durable. The answer is whether there is news, and
+    // whether there was memory for all that came through the queue.
     pub(crate) fn write_held(
         &self,
         rt: &impl Wait,
         alloc: Global,
         gate: &impl Gate,
-        asking: u64,
         held: &mut LogHeld<N, B, L>,
     ) -> Result<(bool, bool), Fault>
         ensures told { OnOk result (held.new.told ≡ held.new.cut + length held.new.stable) }
         ensures cut { held.new.cut ≡ held.old.cut }
         ensures news { IfOk result (λ r. IsTrue r.0 ↔ (length held.old.stable < length held.new.stable)) }
-        ensures none { IfOk result (λ r. r.0 ≡ false → (held.new.stable ≡ held.old.stable) × (held.new.list ≡ held.new.stable ++ held.new.waits)) }
+        ensures none { IfOk result (λ r. r.0 ≡ false → (held.new.stable ≡ held.old.stable) × (held.new.staged ≡ 0) × (held.new.list ≡ held.new.stable ++ held.new.waits)) }
         ensures taken { IfOk result (λ r. IsTrue r.1 → held.new.waits ≡ []) }
         // All that the log device knows to be sent is taken in, or as much as one turn takes.
         ensures all { IfOk result (λ r. IsTrue r.1 → ((rest : List LogRecord) × (held.new.got ≡ held.old.met ++ rest)) ⊎ (length held.old.got + 65535 < length held.new.got)) }
         ensures unforced { OnErr result ((held.new.stable ≡ held.old.stable) × (held.new.told ≡ held.old.told)) }
+        // Where it is refused no frame stays staged, unless the device has failed.
+        ensures rests { IfErr result (λ fault. (fault ≡ Fault.Device) ⊎ (held.new.staged ≡ 0)) }
+        ensures others { IfErr result (λ fault. (fault ≡ Fault.Device) ⊎ (fault ≡ Fault.Memory) ⊎ (fault ≡ Fault.LogFull)) }
+        ensures full { result ≡ Err Fault.LogFull → HasNoPlace held.new }
+        ensures idle { held.old.textless ≡ 0 → result ≢ Err Fault.Memory }
+        ensures cause { held.old.failed ≡ false → HasCause result held.old.faults held.new.faults }
         ensures breaks { IfErr result (λ fault. IsTrue held.new.failed ↔ (fault ≡ Fault.Device)) }
     {
-        let taken = take_all(rt, held, MOST_TAKEN).is_ok();
-        gate.pass(Place::Sync(Role::LogWriter));
-        let forced = held.force(alloc)?;
-        self.count_going_on(asking);
+        let (forced, taken) = self.force_held(rt, alloc, gate, held)?;
         held.tell(&self.words);
         Ok((forced, taken))
+    }
+
+    // What is queued is taken in, and one frame is forced: the one that is staged, or one that is staged now.
+    fn force_held(
+        &self,
+        rt: &impl Wait,
+        alloc: Global,
+        gate: &impl Gate,
+        held: &mut LogHeld<N, B, L>,
+    ) -> Result<(bool, bool), Fault>
+        ensures same { (held.new.cut ≡ held.old.cut) × (held.new.told ≡ held.old.told) }
+        ensures news { IfOk result (λ r. IsTrue r.0 ↔ (length held.old.stable < length held.new.stable)) }
+        ensures none { IfOk result (λ r. r.0 ≡ false → (held.new.stable ≡ held.old.stable) × (held.new.staged ≡ 0) × (held.new.list ≡ held.new.stable ++ held.new.waits)) }
+        ensures taken { IfOk result (λ r. IsTrue r.1 → held.new.waits ≡ []) }
+        ensures all { IfOk result (λ r. IsTrue r.1 → ((rest : List LogRecord) × (held.new.got ≡ held.old.met ++ rest)) ⊎ (length held.old.got + 65535 < length held.new.got)) }
+        ensures unforced { OnErr result (held.new.stable ≡ held.old.stable) }
+        ensures rests { IfErr result (λ fault. (fault ≡ Fault.Device) ⊎ (held.new.staged ≡ 0)) }
+        ensures others { IfErr result (λ fault. (fault ≡ Fault.Device) ⊎ (fault ≡ Fault.Memory) ⊎ (fault ≡ Fault.LogFull)) }
+        ensures full { result ≡ Err Fault.LogFull → HasNoPlace held.new }
+        ensures idle { held.old.textless ≡ 0 → result ≢ Err Fault.Memory }
+        ensures cause { held.old.failed ≡ false → HasCause result held.old.faults held.new.faults }
+        ensures breaks { IfErr result (λ fault. IsTrue held.new.failed ↔ (fault ≡ Fault.Device)) }
+    {
+        if !held.is_staged() {
+            let (staged, taken) = self.stage_held(rt, alloc, gate, held)?;
+            if !staged {
+                return Ok((false, taken));
+            }
+        }
+        let (asking, taken) = self.take_queued(rt, gate, held);
+        held.open_and_stage(alloc)?;
+        self.count_forced(asking, held.is_staged());
+        Ok((true, taken))
+    }
+
+    // The last turn of the log writer: the frame that is staged is opened, and none is staged after it. The answer is whether there was one, which is news.
+    pub(crate) fn open_held(
+        &self,
+        gate: &impl Gate,
+        held: &mut LogHeld<N, B, L>,
+    ) -> Result<bool, Fault>
+        ensures told { IfOk result (λ r. IsTrue r → held.new.told ≡ held.new.cut + length held.new.stable) }
+        ensures cut { held.new.cut ≡ held.old.cut }
+        ensures news { IfOk result (λ r. IsTrue r ↔ (length held.old.stable < length held.new.stable)) }
+        ensures rests { OnOk result (held.new.staged ≡ 0) }
+        ensures unforced { OnErr result ((held.new.stable ≡ held.old.stable) × (held.new.told ≡ held.old.told)) }
+        ensures only_device { IfErr result (λ fault. fault ≡ Fault.Device) }
+        ensures cause { held.old.failed ≡ false → HasCause result held.old.faults held.new.faults }
+    {
+        if !held.is_staged() {
+            return Ok(false);
+        }
+        gate.pass(Place::Sync(Role::LogWriter));
+        let opened = held.open()?;
+        held.tell(&self.words);
+        Ok(opened)
+    }
+
+    // Where no frame is staged: what is queued is taken in, and what one frame holds is staged. The answer is whether a frame is, and whether there was memory.
+    fn stage_held(
+        &self,
+        rt: &impl Wait,
+        alloc: Global,
+        gate: &impl Gate,
+        held: &mut LogHeld<N, B, L>,
+    ) -> Result<(bool, bool), Fault>
+        requires { held.old.staged ≡ 0 }
+        ensures same { (held.new.cut ≡ held.old.cut) × (held.new.stable ≡ held.old.stable) × (held.new.told ≡ held.old.told) × (held.new.met ≡ held.old.met) }
+        ensures more { length held.old.got ≤ length held.new.got }
+        ensures none { IfOk result (λ r. r.0 ≡ false → (held.new.staged ≡ 0) × (held.new.list ≡ held.new.stable ++ held.new.waits)) }
+        ensures staged { IfOk result (λ r. IsTrue r.0 → 0 < held.new.staged) }
+        ensures taken { IfOk result (λ r. IsTrue r.1 → held.new.waits ≡ []) }
+        ensures all { IfOk result (λ r. IsTrue r.1 → ((rest : List LogRecord) × (held.new.got ≡ held.old.met ++ rest)) ⊎ (length held.old.got + 65535 < length held.new.got)) }
+        ensures rests { IfErr result (λ fault. (fault ≡ Fault.Device) ⊎ (held.new.staged ≡ 0)) }
+        ensures others { IfErr result (λ fault. (fault ≡ Fault.Device) ⊎ (fault ≡ Fault.Memory) ⊎ (fault ≡ Fault.LogFull)) }
+        ensures full { result ≡ Err Fault.LogFull → HasNoPlace held.new }
+        ensures idle { held.old.textless ≡ 0 → result ≢ Err Fault.Memory }
+        ensures cause { held.old.failed ≡ false → HasCause result held.old.faults held.new.faults }
+        ensures broken { OnOk result (held.new.failed ≡ held.old.failed) }
+        ensures breaks { IfErr result (λ fault. IsTrue held.new.failed ↔ (fault ≡ Fault.Device)) }
+    {
+        let (asking, taken) = self.take_queued(rt, gate, held);
+        let staged = held.stage(alloc)?;
+        self.count_forced(asking, staged);
+        Ok((staged, taken))
+    }
+
+    // Before a sync: what is queued is taken in. The answer is how many sessions wait for it, and whether there was memory for all that came through the queue.
+    fn take_queued(
+        &self,
+        rt: &impl Wait,
+        gate: &impl Gate,
+        held: &mut LogHeld<N, B, L>,
+    ) -> (u64, bool)
+        ensures same { (held.new.cut ≡ held.old.cut) × (held.new.stable ≡ held.old.stable) × (held.new.staged ≡ held.old.staged) × (held.new.told ≡ held.old.told) × (held.new.met ≡ held.old.met)
+            × (held.new.failed ≡ held.old.failed) × (held.new.faults ≡ held.old.faults) }
+        ensures more { length held.old.got ≤ length held.new.got }
+        ensures taken { IsTrue result.1 → held.new.waits ≡ [] }
+        ensures all { IsTrue result.1 → ((rest : List LogRecord) × (held.new.got ≡ held.old.met ++ rest)) ⊎ (length held.old.got + 65535 < length held.new.got) }
+        ensures texts { held.old.textless ≡ 0 → held.new.textless ≡ 0 }
+    {
+        let asking = self.take_asking();
+        let taken = take_all(rt, held, MOST_TAKEN).is_ok();
+        gate.pass(Place::Sync(Role::LogWriter));
+        (asking, taken)
     }
 
     // The log device has failed: the core refuses calls from now on, who waits for the log finds it, and who waits for a lock goes on to be told.
@@ -83,6 +194,7 @@ impl<N: Numbers, B: Named, T: Tail, L: Disk, V: Disk> Shared<N, B, T, L, V> {
         ensures told { core.new.book.failing ≡ true }
     {
         core.fail(&self.words);
+        self.end_waits_for_room();
         self.wake_let_through(core);
     }
 }

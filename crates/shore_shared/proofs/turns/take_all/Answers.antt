@@ -19,7 +19,7 @@ loop-count-preserved g c =
     let s = c.take_one.ensures.same in
     let yes : c.in_ok-take_one.field-0 ≡ true = c.if-not-branch.false in
     let more = c.take_one.ensures.some (c.in_ok-take_one.was ∙ ap Ok yes) in
-    (omega (arith, i.0, more), s.8 ∙ i.1, s.0 ∙ i.2, s.1 ∙ i.3, s.2 ∙ i.4, s.4 ∙ i.5, s.5 ∙ i.6, s.7 ∙ i.7)
+    (omega (arith, i.0, more), s.8 ∙ i.1, s.0 ∙ i.2, s.1 ∙ i.3, s.2 ∙ i.4, s.4 ∙ i.5, s.5 ∙ i.6, s.7 ∙ i.7, s.3 ∙ i.8, s.9 ∙ i.9, s.10 ∙ i.10, λ none. c.take_one.ensures.texts.1 (i.11 none))
 
 -- .. or the last one takes it behind so many.
 pub returns-clause-all : goal.returns-clause-all

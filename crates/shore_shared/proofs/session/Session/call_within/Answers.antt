@@ -1,11 +1,11 @@
-use Rattle.std.proofs.Common.{◌≡◌, ◌⊎◌, ◌≤◌, ◌+◌, [], ◌∷◌, inl, inr, ⊎_elim, Some, None, false, true≢false, refl, sym, ap, subst, ◌∙◌, arith}
+use Rattle.std.proofs.Common.{◌≡◌, ◌⊎◌, ◌≤◌, ◌<◌, ◌+◌, [], ◌∷◌, inl, inr, ⊎_elim, Some, None, false, true≢false, refl, sym, ap, subst, ◌∙◌, arith}
 use Rattle.shore_types.specs.declared.faults.Fault.TheVariants as fault
 use Rattle.shore_model.specs.declared.step.Step.{Step}
 use Rattle.shore_model.specs.declared.step.Step.TheVariants as made
 use Rattle.shore_shared.specs.Heard.{AwaitsLock, AwaitsLog, HasLooked, asked_behind}
-use Rattle.shore_shared.proofs.Hearing.{HasMade, IsAbout, IsFirst, answered, begins, goes_on, has_heard, looked, looked_on, made_first, none_behind, refused_over, resumed, untold}
-use Rattle.shore_shared.proofs.session.Session.call.Goals.{in-Some-number_awaited+else-not-wait_for, in_default+then-waits_for_lock, then-is_refused, else-is_refused}
-use Rattle.shore_shared.proofs.session.Session.call.Goals as goal
+use Rattle.shore_shared.proofs.Hearing.{HasMade, IsAbout, IsFirst, answered, begins, gone_on, goes_on, has_heard, looked, looked_on, made_first, none_behind, refused_over, untold}
+use Rattle.shore_shared.proofs.session.Session.call_within.Goals.{in-Some-number_awaited+else-not-wait_for, in_default-number_awaited+then-waits_for_lock, then-is_refused, else-is_refused}
+use Rattle.shore_shared.proofs.session.Session.call_within.Goals as goal
 
 pub loop-init : goal.loop-init
 loop-init g c =
@@ -47,7 +47,7 @@ loop-preserved g c =
         ap (λ s. s.ear) w.self-is ∙ w.wait_for.ensures.same.2,
         inl w.in-Some-number_awaited.ensures.some,
       )
-      | in_default+then-waits_for_lock w ↦ (
+      | in_default-number_awaited+then-waits_for_lock w ↦ (
         ap (λ s. s.number) w.self-is,
         looked was.seat m.seat (ap (λ s. s.seat) w.self-is),
         ap (λ s. s.share.amount) w.self-is,
@@ -57,7 +57,7 @@ loop-preserved g c =
     ] in
     let on = goes_on call old.ear was.ear c.loop.step inv.6 mid.4 in
     let about : IsAbout call old.ear m.ear (asked_behind call c.loop.step) = (on.0, on.1, mid.3 ∙ on.2) in
-    let next : (n.number ≡ m.number) × (n.seat ≡ m.seat) × (((c.if-is_refused.step ≡ made.Refused fault.Memory) × (n.share.amount ≡ m.share.amount)) ⊎ (n.share.amount ≡ m.share.amount + 1))
+    let next : (n.number ≡ m.number) × (n.seat ≡ m.seat) × (((c.if-is_refused.step ≡ made.Refused fault.Memory) × (n.share.amount ≡ m.share.amount)) ⊎ (m.share.amount < n.share.amount))
     × HasMade call old.ear n.ear c.if-is_refused.step = elim c.if-is_refused.branch [
       | then-is_refused w ↦
           let refused = c.is_refused.ensures.0 w.if-is_refused.true in
@@ -66,18 +66,18 @@ loop-preserved g c =
           ⊎_elim (λ x. inl (x.1 ∙ (λ i. has_heard m.ear (record { asked = Some (inv.7 i); step = w.first_step.result } ∷ [])))) (λ x. inr (x.0, x.2)) w.first_step.ensures.made in (
             ap (λ s. s.number) w.self-is ∙ w.first_step.ensures.same.0,
             ap (λ s. s.seat) w.self-is ∙ w.first_step.ensures.same.1,
-            ⊎_elim (λ x. inr (ap (λ s. s.share.amount) w.self-is ∙ x.0)) (λ x. inl (w.step-is ∙ x.0, ap (λ s. s.share.amount) w.self-is ∙ x.1)) w.first_step.ensures.made,
+            ⊎_elim (λ x. inr (omega (arith, ap (λ s. s.share.amount) w.self-is, x.0))) (λ x. inl (w.step-is ∙ x.0, ap (λ s. s.share.amount) w.self-is ∙ x.1)) w.first_step.ensures.made,
             subst (λ s. HasMade call old.ear s.ear c.if-is_refused.step) (sym w.self-is)
                 (subst (λ (s : Step). HasMade call old.ear w.first_step.new.self.ear s) (sym w.step-is) (made_first call old.ear m.ear w.first_step.new.self.ear w.first_step.result again first)),
           )
       | else-is_refused w ↦
           let none = none_behind call c.loop.step mid.4 (λ f. true≢false (sym (c.is_refused.ensures.1 f) ∙ w.if-is_refused.false)) in
           let further : IsAbout call old.ear m.ear None = subst (λ next. IsAbout call old.ear m.ear next) none about in (
-            ap (λ s. s.number) w.self-is ∙ w.step.ensures.same.0,
-            ap (λ s. s.seat) w.self-is ∙ w.step.ensures.same.1,
-            inr (ap (λ s. s.share.amount) w.self-is ∙ w.step.ensures.same.2),
+            ap (λ s. s.number) w.self-is ∙ w.go_on.ensures.same.0,
+            ap (λ s. s.seat) w.self-is ∙ w.go_on.ensures.same.1,
+            inr (omega (arith, ap (λ s. s.share.amount) w.self-is, w.go_on.ensures.same.2)),
             subst (λ s. HasMade call old.ear s.ear c.if-is_refused.step) (sym w.self-is)
-                (subst (λ (s : Step). HasMade call old.ear w.step.new.self.ear s) (sym w.step-is) (resumed call old.ear m.ear w.step.new.self.ear w.step.result further w.step.ensures.heard)),
+                (subst (λ (s : Step). HasMade call old.ear w.go_on.new.self.ear s) (sym w.step-is) (gone_on call old.ear m.ear w.go_on.new.self.ear w.go_on.result further w.go_on.ensures.heard)),
           )
     ] in (
       tt,
