@@ -146,8 +146,8 @@ class NoGlobalId(Fault):
 
 class WouldBlock(Again):
     number = 21
-    cause = "the lock would have to wait for this transaction, and the call may not wait"
-    after = ""
+    cause = "the lock would have to wait for this transaction, and the call may not wait, or its wait was taken back"
+    after = "the transaction goes on, with what it held"
     advice = "try again, or wait"
 
 

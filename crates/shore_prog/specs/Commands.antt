@@ -9,6 +9,7 @@ use Rattle.shore_script.specs.declared.settings.Devices.TheVariants as devices
 abbrev pub IsForFiles : Command → Type 0
 IsForFiles (command.Ask session call) = Unit {0}
 IsForFiles (command.Lazy session) = Unit {0}
+IsForFiles (command.GiveUp session) = Unit {0}
 IsForFiles (command.Durable ticket) = Unit {0}
 IsForFiles command.Nothing = Unit {0}
 IsForFiles command.Force = Unit {0}

@@ -16,6 +16,7 @@ IsDueIn opened command.EndCheckpoint = IsSome opened.checkpoint ⊎ IsTrue (fail
 IsDueIn opened command.Nothing = Unit {0}
 IsDueIn opened (command.Ask session call) = Unit {0}
 IsDueIn opened (command.Lazy session) = Unit {0}
+IsDueIn opened (command.GiveUp session) = Unit {0}
 IsDueIn opened (command.Durable ticket) = Unit {0}
 IsDueIn opened command.Force = Unit {0}
 IsDueIn opened command.Flush = Unit {0}

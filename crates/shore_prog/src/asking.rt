@@ -1,5 +1,5 @@
 //! Lines that an open manager answers at once, or whose calls wait.
-ghost use Rattle.std.specs.Prelude.{◌≡◌, ℕ, IfOk};
+ghost use Rattle.std.specs.Prelude.{◌≡◌, ◌≢◌, ℕ, IfOk};
 ghost use Rattle.shore_types.specs.declared.faults.Fault.TheVariants.{NeedForce};
 ghost use Rattle.shore_model.specs.Calls.{IsServed};
 ghost use Rattle.shore_script.specs.Commands.{IsServedCommand};
@@ -31,6 +31,7 @@ pub fn answer<W: Write>(
     match command {
         Command::Ask(session, call) => return ask(alloc, world, waiting, session, call, line, out),
         Command::Lazy(session) => lazy(alloc, world, session, out)?,
+        Command::GiveUp(session) => waiting.take_back(alloc, world, session, out)?,
         Command::Durable(ticket) => durable(alloc, world, ticket, out)?,
         Command::Dump => return dump(alloc, world, out),
         Command::Force => force_line(alloc, world, out)?,
@@ -119,8 +120,7 @@ pub fn refuse<W: Write>(
         },
         fault => fault,
     };
-    render::fault(out, session, &fault)?;
-    Ok(Progress::Done)
+    tell(out, session, &fault)
 }
 
 /// A line that is answered by a fault is done.
@@ -128,7 +128,19 @@ pub fn tell<W: Write>(
     out: &mut W,
     session: Option<SessionId>,
     fault: &Fault,
-) -> io::Result<Progress> {
+) -> io::Result<Progress>
+    ensures { IfOk result (λ progress. progress ≢ Again) }
+{
     render::fault(out, session, fault)?;
-    Ok(Progress::Done)
+    Ok(done_by(fault))
+}
+
+// A line that this fault answers is done.
+fn done_by(fault: &Fault) -> Progress
+    ensures { result ≢ Again }
+{
+    match fault {
+        Fault::LogFull => Progress::Full,
+        _ => Progress::Done,
+    }
 }

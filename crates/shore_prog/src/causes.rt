@@ -5,6 +5,7 @@ use crate::devices::ScriptDisk;
 use shore_disk::{AnyDisk, Disk, FileCause, FileRefusal, device_of_head};
 use shore_script::{Devices, FilePair};
 use shore_types::{Device, Fault, Setting};
+use shore_world::TailHolder;
 use std::io::{self, Write};
 
 /// A refusal of the devices, and what can be told of it beyond its fault.
@@ -56,6 +57,38 @@ pub fn write_cause<W: Write>(errors: &mut W, devices: &Devices, cause: &Cause) -
     match devices {
         Devices::Memory => Ok(()),
         Devices::Files(paths) => write_cause_of_files(errors, paths, cause),
+    }
+}
+
+/// Writes what a full log is kept for, and what lets go of it.
+pub fn write_tail_holder<W: Write>(errors: &mut W, holder: &TailHolder) -> io::Result<()> {
+    match holder {
+        TailHolder::Transaction {
+            txn,
+            session: Some(session),
+            first,
+        } => writeln!(
+            errors,
+            "the log is full: it is kept from record {} on for transaction {} of session {}: commit or abort it, or resolve it if it is prepared, and make a checkpoint",
+            first.0, txn.0, session.0
+        ),
+        TailHolder::Transaction {
+            txn,
+            session: None,
+            first,
+        } => writeln!(
+            errors,
+            "the log is full: it is kept from record {} on for transaction {}, in which no session is: resolve it, and make a checkpoint",
+            first.0, txn.0
+        ),
+        TailHolder::Page(entry) => writeln!(
+            errors,
+            "the log is full: it is kept from record {} on for page {}.{}, which is dirty: flush, and make a checkpoint",
+            entry.recovery.0, entry.page.store.0, entry.page.page
+        ),
+        TailHolder::Nobody => errors.write_all(
+            b"the log is full: no transaction and no page keeps it; make a checkpoint\n",
+        ),
     }
 }
 

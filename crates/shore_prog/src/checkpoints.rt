@@ -1,5 +1,6 @@
 //! The script's checkpoints.
 
+use crate::asking::tell;
 use crate::forcing::force;
 use crate::manager::{Progress, ScriptWorld};
 use shore_model::Answer;
@@ -88,10 +89,10 @@ pub fn begin_line<W: Write>(
         Ok(number) => {
             *checkpoint = Some(Begun { named: None });
             render::checkpoint_begun(out, Lsn(number))?;
+            Ok(Progress::Done)
         }
-        Err(fault) => render::fault(out, None, &fault)?,
+        Err(fault) => tell(out, None, &fault),
     }
-    Ok(Progress::Done)
 }
 
 /// The checkpoint that has begun ends, and the anchor moves.
@@ -120,10 +121,7 @@ pub fn checkpoint_line<W: Write>(
             *checkpoint = Some(Begun { named: None });
             end_line(alloc, world, checkpoint, out)
         }
-        Err(fault) => {
-            render::fault(out, None, &fault)?;
-            Ok(Progress::Done)
-        }
+        Err(fault) => tell(out, None, &fault),
     }
 }
 

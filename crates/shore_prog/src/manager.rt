@@ -7,7 +7,7 @@ ghost use Rattle.shore_prog.specs.Commands.{IsTaken};
 ghost use Rattle.shore_prog.specs.Due.{IsDue, IsDueIn};
 
 use crate::asking::{answer, refuse, tell};
-use crate::causes::{Cause, Refusal, cause_of, write_cause};
+use crate::causes::{Cause, Refusal, cause_of, write_cause, write_tail_holder};
 use crate::checkpoints::{Begun, begin_line, checkpoint_line, end_line};
 use crate::devices::{NotOpened, ScriptDisk, ScriptPair, first_pair, pair_after_crash};
 use crate::rounds::{WaitingLines, go_round};
@@ -21,6 +21,7 @@ use std::alloc::Global;
 use std::fs::{File, Files};
 use std::io::{self, Write};
 use std::thread::Threads;
+use std::time::Clock;
 use std::{mem, sync};
 
 /// A world over two devices.
@@ -57,6 +58,8 @@ pub enum Progress {
     Done,
     /// It needed a force, which was made. Nothing else was done, and nothing written: the line is to be made again.
     Again,
+    /// It is done, and was answered that the log is full.
+    Full,
     /// It is no line for the manager as it is. Nothing was done, and nothing written.
     Bad,
 }
@@ -85,6 +88,7 @@ impl Opened {
             Command::Nothing
             | Command::Ask(..)
             | Command::Lazy(_)
+            | Command::GiveUp(_)
             | Command::Durable(_)
             | Command::Force
             | Command::Flush
@@ -152,7 +156,7 @@ impl Manager {
 
     /// Does what a line asks for, and writes its answers, or forces the log for it. If its call has to wait for a lock, the line is kept.
     pub fn execute<
-        H: Files<File = File> + Threads + sync::Wait + Sync + Send + Copy,
+        H: Files<File = File> + Threads + sync::Wait + Clock + Sync + Send + Copy,
         W: Write,
         E: Write,
     >(
@@ -178,7 +182,29 @@ impl Manager {
             Command::Fuse(fuse) => self.set_fuse(fuse),
             Command::NextFuse(fuse) => self.next_fuses.set(fuse),
             Command::Threads(counting) => return self.threads_line(*host, alloc, counting, out),
-            command => return self.serve(alloc, command, line, out),
+            command => return self.serve_told(alloc, command, line, streams),
+        }
+        Ok(Progress::Done)
+    }
+
+    // A line that an open manager answers. If the log is full, `errors` are told what it is kept for.
+    fn serve_told<W: Write, E: Write>(
+        &mut self,
+        alloc: Global,
+        command: Command,
+        line: &[u8],
+        streams: &mut Streams<'_, W, E>,
+    ) -> io::Result<Progress>
+        requires { IsServedCommand command }
+    {
+        let progress = self.serve(alloc, command, line, &mut *streams.out)?;
+        if progress != Progress::Full {
+            return Ok(progress);
+        }
+        streams.out.flush()?;
+        if let Access::Open(opened) = &self.access {
+            // Where nobody reads it, the fault alone is told.
+            let _told = write_tail_holder(&mut *streams.errors, &opened.world.tail_holder());
         }
         Ok(Progress::Done)
     }
@@ -207,14 +233,14 @@ impl Manager {
             Command::Checkpoint => checkpoint_line(alloc, world, checkpoint, out)?,
             command => answer(alloc, world, waiting, command, line, out)?,
         };
-        if progress == Progress::Done {
+        if progress == Progress::Done || progress == Progress::Full {
             go_round(alloc, world, waiting, out)?;
         }
         Ok(progress)
     }
 
     // Threads count a record up, once it was looked at.
-    fn threads_line<R: Threads + sync::Wait + Sync + Send + Copy, W: Write>(
+    fn threads_line<R: Threads + sync::Wait + Clock + Sync + Send + Copy, W: Write>(
         &mut self,
         rt: R,
         alloc: Global,
@@ -243,7 +269,7 @@ impl Manager {
     }
 
     // The world is a manager for threads, and then a world again. No call waits meanwhile: the table has no transaction.
-    fn count_up<R: Threads + sync::Wait + Sync + Send + Copy>(
+    fn count_up<R: Threads + sync::Wait + Clock + Sync + Send + Copy>(
         &mut self,
         rt: R,
         alloc: Global,
@@ -412,7 +438,9 @@ fn total_of(counting: &Counting) -> u64 {
 // Whose call a line is.
 fn asker_of(command: &Command) -> Option<SessionId> {
     match command {
-        Command::Ask(session, _) | Command::Lazy(session) => Some(*session),
+        Command::Ask(session, _) | Command::Lazy(session) | Command::GiveUp(session) => {
+            Some(*session)
+        }
         _ => None,
     }
 }

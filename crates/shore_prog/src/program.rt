@@ -14,12 +14,13 @@ use std::io::{self, BufWriter, Read, Write};
 use std::process::ExitCode;
 use std::sync::Wait;
 use std::thread::Threads;
+use std::time::Clock;
 
 /// Runs the script of the input under its settings, line by line, and writes the answers to the output, at the latest before the input
 /// has to be waited for. What a person can do about a refused open or a wrong line goes to `errors`. Exit status 0: done. 1: bad settings, or a bad line at which the
 /// run ends, or input or output failed, or memory ended. 2: the first format or open was refused, or the last open of the script was.
 pub fn run<
-    H: Files<File = File> + Threads + Wait + Sync + Send + Copy,
+    H: Files<File = File> + Threads + Wait + Clock + Sync + Send + Copy,
     R: Read + Drop,
     W: Write + Drop,
     E: Write + Drop,
@@ -33,7 +34,7 @@ pub fn run<
 
 // `None`: there was no memory for a buffer.
 fn run_buffered<
-    H: Files<File = File> + Threads + Wait + Sync + Send + Copy,
+    H: Files<File = File> + Threads + Wait + Clock + Sync + Send + Copy,
     R: Read + Drop,
     W: Write,
     E: Write,
@@ -43,7 +44,7 @@ fn run_buffered<
 }
 
 fn run_streams<
-    H: Files<File = File> + Threads + Wait + Sync + Send + Copy,
+    H: Files<File = File> + Threads + Wait + Clock + Sync + Send + Copy,
     R: Read + Drop,
     W: Write,
     E: Write,
@@ -59,7 +60,7 @@ fn run_streams<
 }
 
 fn run_input<
-    H: Files<File = File> + Threads + Wait + Sync + Send + Copy,
+    H: Files<File = File> + Threads + Wait + Clock + Sync + Send + Copy,
     R: Read + Drop,
     W: Write,
     E: Write,
@@ -79,7 +80,7 @@ fn run_input<
 
 // The manager is lent, for what a function owns makes each of its ways out dear to prove.
 fn run_with<
-    H: Files<File = File> + Threads + Wait + Sync + Send + Copy,
+    H: Files<File = File> + Threads + Wait + Clock + Sync + Send + Copy,
     R: Read + Drop,
     W: Write,
     E: Write,
@@ -129,7 +130,7 @@ fn no_toml() -> Stop {
 
 // Runs each line, up to a wrong one that ends the run.
 fn run_script<
-    H: Files<File = File> + Threads + Wait + Sync + Send + Copy,
+    H: Files<File = File> + Threads + Wait + Clock + Sync + Send + Copy,
     R: Read + Drop,
     W: Write,
     E: Write,
@@ -167,7 +168,11 @@ fn run_script<
 
 // Runs a line of the script, or answers why it is none. One that needed a force is read again behind it, so that no call is copied
 // for the sake of a force that may not come.
-fn run_line<H: Files<File = File> + Threads + Wait + Sync + Send + Copy, W: Write, E: Write>(
+fn run_line<
+    H: Files<File = File> + Threads + Wait + Clock + Sync + Send + Copy,
+    W: Write,
+    E: Write,
+>(
     alloc: Global,
     host: &H,
     manager: &mut Manager,
@@ -182,7 +187,7 @@ fn run_line<H: Files<File = File> + Threads + Wait + Sync + Send + Copy, W: Writ
             return Ok(Some(why_not(manager, &command)));
         }
         match manager.execute(alloc, host, command, line, streams)? {
-            Progress::Done => return Ok(None),
+            Progress::Done | Progress::Full => return Ok(None),
             Progress::Bad => return Ok(Some(Wrong::NoNumber)),
             Progress::Again => {}
         }

@@ -84,6 +84,23 @@ impl WaitingLines {
         Ok(())
     }
 
+    /// The call of a session's line that waits for a lock is refused. If none does, that is said.
+    pub fn take_back<W: Write>(
+        &mut self,
+        alloc: Global,
+        world: &mut ScriptWorld,
+        session: SessionId,
+        out: &mut W,
+    ) -> io::Result<()> {
+        match world.step(alloc, Event::GiveUp(session)) {
+            Step::Refused(fault) => {
+                self.lines.retain(|line| line.session != session);
+                render::fault(out, Some(session), &fault)
+            }
+            _ => render::nothing(out, session),
+        }
+    }
+
     // Where the line of a session belongs.
     fn place_of(&self, session: SessionId) -> usize
         ensures { result ≤ vec_len self.now.lines }

@@ -19,6 +19,7 @@ use shore_types::{Fault, Geometry, Pairs, Rid};
 use std::alloc::Global;
 use std::sync::Wait;
 use std::thread::Threads;
+use std::time::Clock;
 
 /// What is left of a world behind the threads.
 pub type Left = LeftOf<ScriptDisk, ScriptDisk>;
@@ -89,7 +90,7 @@ fn check_record(geometry: &Geometry, id: &Rid) -> Result<(), Fault>
 }
 
 /// The threads, each with all its transactions. Refused by the fault of the lowest thread that was refused, by `Memory` if one could not be started.
-pub fn count_up<R: Threads + Wait + Sync + Send + Copy>(
+pub fn count_up<R: Threads + Wait + Clock + Sync + Send + Copy>(
     rt: R,
     alloc: Global,
     world: ScriptWorld,

@@ -158,6 +158,7 @@ AskCrash-four words (Some p) h = one-four words (codes "crash") _ h refl (pick-l
 pub AskPlain-four : (words : List (List ℕ)) (x : Command) → AskPlain words x → AreFour words
 AskPlain-four words (command.Ask session call) h = absurd h
 AskPlain-four words (command.Lazy session) h = absurd h
+AskPlain-four words (command.GiveUp session) h = absurd h
 AskPlain-four words (command.Durable ticket) h = one-four words (codes "durable") _ h refl (number-lacks (2 ^ 64) (omega arith) ticket)
 AskPlain-four words command.Nothing h = absurd h
 AskPlain-four words command.Force h = alone-four words (codes "force") h refl
@@ -208,6 +209,7 @@ crash-letter first others (Some p) h = one-letter first others (codes "crash") _
 pub AskPlain-letter : (first : List ℕ) (others : List (List ℕ)) (x : Command) → AskPlain (first ∷ others) x → 97 ≤ get_or first 0 0
 AskPlain-letter first others (command.Ask session call) h = absurd h
 AskPlain-letter first others (command.Lazy session) h = absurd h
+AskPlain-letter first others (command.GiveUp session) h = absurd h
 AskPlain-letter first others (command.Durable ticket) h = one-letter first others (codes "durable") _ h (omega arith)
 AskPlain-letter first others command.Nothing h = absurd h
 AskPlain-letter first others command.Force h = alone-letter first others (codes "force") h (omega arith)

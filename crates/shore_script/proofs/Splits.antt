@@ -179,18 +179,22 @@ no_plain line first rest session e h x p =
     let high = digit.1 in
     omega (arith, high, head, letter)
 
--- a text that is no lazy commit asks for a call alone
-pub call_asks : (text : List ℕ) (session : ℕ) → text ≢ codes "lazy" → (found : Option Command) → Reads (IsCallOf text session) found → Reads (AsksIn text session) found
-call_asks text session other None none = λ x asks. elim asks [
-  | inl lazy ↦ other lazy.0
-  | inr call ↦ none x call
+-- a text that is no lazy commit and takes no wait back asks for a call alone
+pub call_asks : (text : List ℕ) (session : ℕ) → text ≢ codes "lazy" → text ≢ codes "giveup" → (found : Option Command) → Reads (IsCallOf text session) found → Reads (AsksIn text session) found
+call_asks text session not_lazy not_giveup None none = λ x asks. elim asks [
+  | inl lazy ↦ not_lazy lazy.0
+  | inr other ↦ elim other [
+    | inl giveup ↦ not_giveup giveup.0
+    | inr call ↦ none x call
+  ]
 ]
-call_asks text session other (Some x) call = inr call
+call_asks text session not_lazy not_giveup (Some x) call = inr (inr call)
 
 -- what asks something of one session asks it of another, too
 of_session : (text rest : List ℕ) (one other : ℕ) (x : Command) → text ≡ rest → AsksIn text one x → (y : Command) × AsksIn rest other y
 of_session text rest one other x e (inl lazy) = (command.Lazy other, inl (sym e ∙ lazy.0, refl))
-of_session text rest one other x e (inr call) = (command.Ask other call.0, inr (call.0, refl, subst (λ (t : List ℕ). InWords AskCall t call.0) e call.2))
+of_session text rest one other x e (inr (inl giveup)) = (command.GiveUp other, inr (inl (sym e ∙ giveup.0, refl)))
+of_session text rest one other x e (inr (inr call)) = (command.Ask other call.0, inr (inr (call.0, refl, subst (λ (t : List ℕ). InWords AskCall t call.0) e call.2)))
 
 -- a line that begins with a session asks for what the rest asks of it
 pub session_line : (line first rest : List ℕ) (session : ℕ) → ¬ (IsRemark line) → line ≡ first ++ (32 ∷ rest) → Lacks 32 first → IsSession first session

@@ -7,6 +7,7 @@ use Rattle.shore_script.specs.declared.command.Command.TheVariants as command
 abbrev pub IsServedCommand : Command → Type 0
 IsServedCommand (command.Ask session call) = IsServed call
 IsServedCommand (command.Lazy session) = Unit {0}
+IsServedCommand (command.GiveUp session) = Unit {0}
 IsServedCommand (command.Durable ticket) = Unit {0}
 IsServedCommand command.Nothing = Unit {0}
 IsServedCommand command.Force = Unit {0}

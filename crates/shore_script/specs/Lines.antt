@@ -20,15 +20,16 @@ IsRemark text = (text ≡ []) ⊎ ((rest : List ℕ) × (text ≡ codes "#" ++ r
 abbrev pub IsCallOf : List ℕ → ℕ → Command → Type 0
 IsCallOf text session asked = (call : Call) × (asked ≡ command.Ask session call) × InWords AskCall text call
 
--- .. or for its lazy commit
+-- .. or for its lazy commit, or that its wait is taken back
 abbrev pub AsksIn : List ℕ → ℕ → Command → Type 0
-AsksIn text session asked = ((text ≡ codes "lazy") × (asked ≡ command.Lazy session)) ⊎ IsCallOf text session asked
+AsksIn text session asked =
+    ((text ≡ codes "lazy") × (asked ≡ command.Lazy session)) ⊎ (((text ≡ codes "giveup") × (asked ≡ command.GiveUp session)) ⊎ IsCallOf text session asked)
 
--- a session's number, a space, and what asks for a call of the session or its lazy commit
+-- a session's number, a space, and what asks for a call of the session, its lazy commit, or that its wait is taken back
 abbrev pub AsksOfSession : List ℕ → Command → Type 0
 AsksOfSession text asked = (session : ℕ) × (word : List ℕ) × (rest : List ℕ) × (text ≡ word ++ (codes " " ++ rest)) × IsSession word session × AsksIn rest session asked
 
--- a remark asks for nothing; any other text for a session's call or lazy commit, or for what is no call
+-- a remark asks for nothing; any other text for what a session asks, or for what is no call
 abbrev pub TextAsks : List ℕ → Command → Type 0
 TextAsks text asked = (IsRemark text × (asked ≡ command.Nothing)) ⊎ (InWords AskPlain text asked ⊎ AsksOfSession text asked)
 

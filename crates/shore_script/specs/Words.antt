@@ -85,6 +85,7 @@ AskCrash words (Some pick) = HasOne words (codes "crash") (λ word. word ≡ pic
 abbrev pub AskPlain : List (List ℕ) → Command → Type 0
 AskPlain words (command.Ask session call) = ⊥
 AskPlain words (command.Lazy session) = ⊥
+AskPlain words (command.GiveUp session) = ⊥
 AskPlain words (command.Durable ticket) = HasOne words (codes "durable") (λ word. IsNumber (2 ^ 64) word ticket)
 AskPlain words command.Nothing = ⊥
 AskPlain words command.Force = IsAlone words (codes "force")

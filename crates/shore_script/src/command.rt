@@ -25,6 +25,8 @@ pub enum Command {
     Ask(SessionId, Call),
     /// A commit of a session, of which its ticket is told, and which is not forced.
     Lazy(SessionId),
+    /// The wait of a session's call for a lock is taken back.
+    GiveUp(SessionId),
     /// Whether the commit of a ticket is durable.
     Durable(Ticket),
     /// Every waiting record is forced.
@@ -83,7 +85,7 @@ fn parse(alloc: Global, line: &str) -> Result<Option<Command>, AllocError>
     }
 }
 
-// A lazy commit of the session, or a call.
+// A lazy commit of the session, that its wait is taken back, or a call.
 fn session_command(
     alloc: Global,
     session: SessionId,
@@ -94,6 +96,7 @@ fn session_command(
 {
     match text {
         "lazy" => Ok(Some(Command::Lazy(session))),
+        "giveup" => Ok(Some(Command::GiveUp(session))),
         text => call_command(alloc, session, text),
     }
 }

@@ -22,6 +22,11 @@ pub fn fault<W: Write>(out: &mut W, session: Option<SessionId>, fault: &Fault) -
     }
 }
 
+/// Writes that a session's line had nothing to do.
+pub fn nothing<W: Write>(out: &mut W, session: SessionId) -> io::Result<()> {
+    writeln!(out, "{session}: nothing")
+}
+
 /// Writes the line of an open that was refused.
 pub fn open_fault<W: Write>(out: &mut W, fault: &Fault) -> io::Result<()>
     ensures { OnOk result (Appends (W.contents out.old) (W.contents out.new) (open_fault_line fault.now)) }
