@@ -7,7 +7,8 @@ use Rattle.shore_model.specs.declared.calls.Answer.TheVariants as answer
 use Rattle.shore_model.specs.declared.calls.Call.TheVariants as call
 use Rattle.shore_model.specs.declared.calls.Exchange.{Exchange}
 use Rattle.shore_shared.specs.Heard.{IsOfCommit}
-use Rattle.bank.specs.Claims.{AreTransfers, account, bytes_of, ComesTo, CommitNothing, IsDurable, IsTransfer, neighbour}
+use Rattle.shore_shared.specs.NoCommits.{CommitNothing}
+use Rattle.bank.specs.Claims.{AreTransfers, account, bytes_of, ComesTo, IsDurable, IsTransfer, neighbour}
 use Rattle.bank.specs.declared.transfers.Turn.{Turn}
 use Rattle.bank.specs.declared.transfers.Turn.TheVariants as turns
 

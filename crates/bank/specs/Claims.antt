@@ -1,14 +1,13 @@
 -- What the bank claims of each client, of its calls and their answers.
-use Rattle.std.specs.Prelude.{◌≡◌, ◌≢◌, ◌≤◌, ◌<◌, ◌+◌, ◌-◌, ◌%◌, ◌^◌, ◌++◌, ℕ, zero, suc, List, [], ◌∷◌, Result, Ok, Err, bit_xor}
+use Rattle.std.specs.Prelude.{◌≡◌, ◌≤◌, ◌<◌, ◌+◌, ◌-◌, ◌%◌, ◌^◌, ◌++◌, ℕ, zero, suc, List, [], ◌∷◌, Result, Ok, bit_xor}
 use Rattle.std.specs.Int.{to_le_bytes, w64}
 use Rattle.shore_types.specs.declared.faults.Fault.{Fault}
-use Rattle.shore_types.specs.declared.faults.Fault.TheVariants as fault
 use Rattle.shore_types.specs.declared.ids.Rid.{Rid}
 use Rattle.shore_model.specs.declared.calls.Answer.{Answer}
 use Rattle.shore_model.specs.declared.calls.Answer.TheVariants as answer
-use Rattle.shore_model.specs.declared.calls.Call.{Call}
 use Rattle.shore_model.specs.declared.calls.Call.TheVariants as call
 use Rattle.shore_model.specs.declared.calls.Exchange.{Exchange}
+use Rattle.shore_shared.specs.NoCommits.{CommitNothing}
 use Rattle.shore_shared.specs.Told.{Seen}
 use Rattle.bank.specs.declared.transfers.Task.{Task}
 use Rattle.bank.specs.declared.transfers.Task.TheVariants as task
@@ -49,34 +48,6 @@ IsLookedAt known slot has es = (looked : List Exchange) × Adds slot 0 has looke
 abbrev pub IsTransfer : ℕ → ℕ → ℕ → List Exchange → Type 0
 IsTransfer known from to es = (taken : List Exchange) × (given : List Exchange) × (leaves : ℕ) × (has : ℕ)
     × Adds from (2 ^ 64 - 1) leaves taken × Adds to 1 has given × IsDurable known (taken ++ given) es
-
--- Refused, and not since a device failed: a commit that is refused so may be durable all the same.
-abbrev pub IsRefused : Result Answer Fault → Type 0
-IsRefused (Ok a) = ⊥
-IsRefused (Err f) = f ≢ fault.Device
-
--- A call that commits nothing: none of those that may, or a commit that was refused. A prepare or a resolve is never among these, whatever it was answered.
-abbrev pub CommitsNothing : Call → Result Answer Fault → Type 0
-CommitsNothing call.Begin reply = Unit {0}
-CommitsNothing (call.Get id) reply = Unit {0}
-CommitsNothing (call.GetForUpdate id) reply = Unit {0}
-CommitsNothing (call.Insert store bytes) reply = Unit {0}
-CommitsNothing (call.Update id bytes) reply = Unit {0}
-CommitsNothing (call.Delete id) reply = Unit {0}
-CommitsNothing (call.Scan store) reply = Unit {0}
-CommitsNothing (call.Lock granule mode) reply = Unit {0}
-CommitsNothing (call.TryLock granule mode) reply = Unit {0}
-CommitsNothing call.Savepoint reply = Unit {0}
-CommitsNothing (call.BackTo index) reply = Unit {0}
-CommitsNothing call.Commit reply = IsRefused reply
-CommitsNothing call.Abort reply = Unit {0}
-CommitsNothing (call.Prepare global) reply = ⊥
-CommitsNothing (call.Resolve global outcome) reply = ⊥
-CommitsNothing call.InDoubt reply = Unit {0}
-
-abbrev pub CommitNothing : List Exchange → Type 0
-CommitNothing [] = Unit {0}
-CommitNothing (e ∷ es) = CommitsNothing e.call e.reply × CommitNothing es
 
 -- So many transfers, each durable: the first from this account, and each other from the one after it, of eight. Before, between and after them nothing is committed.
 abbrev pub AreTransfers : ℕ → ℕ → ℕ → List Exchange → Type 0

@@ -4,7 +4,8 @@ ghost use Rattle.shore_types.specs.declared.faults.Fault.TheVariants as Fault;
 ghost use Rattle.shore_model.specs.declared.calls.Answer.TheVariants as Answer;
 ghost use Rattle.shore_model.specs.declared.calls.Call.TheVariants as Call;
 ghost use Rattle.shore_model.specs.declared.calls.Exchange.{Exchange};
-ghost use Rattle.bank.specs.Claims.{Adds, ComesTo, CommitNothing, HasMade, IsLookedAt, IsOpened, IsTransfer, bytes_of};
+ghost use Rattle.shore_shared.specs.NoCommits.{CommitNothing};
+ghost use Rattle.bank.specs.Claims.{Adds, ComesTo, HasMade, IsLookedAt, IsOpened, IsTransfer, bytes_of};
 
 use shore_model::{Answer, Call};
 use shore_shared::{Client, Job};

@@ -1,5 +1,5 @@
 -- Laws of what a client's turns come to.
-use Rattle.std.proofs.Common.{◌≡◌, ◌≢◌, ◌≤◌, ◌<◌, ◌⊎◌, ◌+◌, ◌%◌, ◌^◌, ◌++◌, ◌∙◌, ℕ, Bool, zero, suc, List, [], ◌∷◌, Result, Ok, Err, IsErr, MatchResult, ap, sym, subst, refl, append_assoc, append-nil, add-one, inl, inr, arith}
+use Rattle.std.proofs.Common.{◌≡◌, ◌≢◌, ◌≤◌, ◌<◌, ◌+◌, ◌%◌, ◌^◌, ◌++◌, ◌∙◌, ℕ, Bool, zero, suc, List, [], ◌∷◌, Result, Ok, Err, IfOk, IsErr, MatchResult, ap, sym, subst, refl, append_assoc, append-nil, add-one, inl, inr, arith}
 use Rattle.std.specs.Int.{to_le_bytes, w64}
 use Rattle.shore_types.specs.declared.ids.Rid.{Rid}
 use Rattle.shore_types.specs.declared.faults.Fault.{Fault}
@@ -9,7 +9,8 @@ use Rattle.shore_model.specs.declared.calls.Answer.TheVariants as answer
 use Rattle.shore_model.specs.declared.calls.Call.TheVariants as call
 use Rattle.shore_model.specs.declared.calls.Exchange.{Exchange}
 use Rattle.shore_shared.specs.Heard.{IsOfCommit}
-use Rattle.turmoil.specs.Commits.{AreRead, ComesTo, CommitNothing, CommitsNothing, HasBegun, HasCommitted, HasCommittedNothing, HasRolledBack, HaveCommitted, IsNoted, counter}
+use Rattle.shore_shared.specs.NoCommits.{CommitNothing, CommitsNothing}
+use Rattle.turmoil.specs.Commits.{Adds, AreRead, ComesTo, CountsOne, HasBegun, HasCommitted, HasCommittedNothing, HasLeftCounters, HasRolledBack, HaveCommitted, IsNoted, LeaveCounters, LeavesCounters, account, counter}
 
 -- calls after calls
 pub told_both : (old a b : List Exchange) {between new : List Exchange} → between ≡ old ++ a → new ≡ between ++ b → new ≡ old ++ (a ++ b)
@@ -25,6 +26,52 @@ nothing_then old p q = (p.0 ++ q.0, told_both old p.0 q.0 p.1 q.1, nothing_both 
 pub nothing_by : (old : List Exchange) (e : Exchange) {new : List Exchange} → CommitsNothing e.call e.reply → new ≡ old ++ e ∷ [] → HasCommittedNothing old new
 nothing_by old e p h = (e ∷ [], h, (p, tt))
 
+pub left_both : (a b : List Exchange) → LeaveCounters a → LeaveCounters b → LeaveCounters (a ++ b)
+left_both [] b p q = q
+left_both (e ∷ a) b p q = (p.0, left_both a b p.1 q)
+
+pub left_then : (old : List Exchange) {between new : List Exchange} → HasLeftCounters old between → HasLeftCounters between new → HasLeftCounters old new
+left_then old p q = (p.0 ++ q.0, told_both old p.0 q.0 p.1 q.1, nothing_both p.0 q.0 p.2 q.2, left_both p.0 q.0 p.3 q.3)
+
+pub left_by : (old : List Exchange) (e : Exchange) {new : List Exchange} → CommitsNothing e.call e.reply → LeavesCounters e.call → new ≡ old ++ e ∷ [] → HasLeftCounters old new
+left_by old e p q h = (e ∷ [], h, (p, tt), (q, tt))
+
+adds_nothing : (id : Rid) (amount : ℕ) (es : List Exchange) → Adds id amount es → CommitNothing es
+adds_nothing id amount es p = subst CommitNothing (sym p.3) (tt, (tt, tt))
+
+adds_leave : (slot amount : ℕ) (es : List Exchange) → Adds (account slot) amount es → LeaveCounters es
+adds_leave slot amount es p = subst LeaveCounters (sym p.3) (tt, (refl, tt))
+
+-- What is added to an account leaves counters.
+pub left_by_account : (slot amount : ℕ) (old : List Exchange) {new : List Exchange} (id : Rid) → id ≡ account slot → (es : List Exchange) × (new ≡ old ++ es) × Adds id amount es → HasLeftCounters old new
+left_by_account slot amount old id is p =
+    let at : Adds (account slot) amount p.0 = subst (λ i. Adds i amount p.0) is p.2 in
+    (p.0, p.1, adds_nothing (account slot) amount p.0 at, adds_leave slot amount p.0 at)
+
+-- One more, of a record that was got and updated.
+pub added_one : (id : Rid) (amount has : ℕ) (old : List Exchange) {between new : List Exchange} {first last : Result Answer Fault} {updated : Answer} {bytes : List ℕ} → has < 2 ^ 64
+    → between ≡ old ++ record { call = call.GetForUpdate id; reply = first } ∷ [] → new ≡ between ++ record { call = call.Update id bytes; reply = last } ∷ []
+    → first ≡ Ok (answer.Got (to_le_bytes w64 has)) → bytes ≡ to_le_bytes w64 ((has + amount) % 2 ^ 64) → last ≡ Ok updated
+    → (es : List Exchange) × (new ≡ old ++ es) × Adds id amount es
+added_one id amount has old {between} {new} {first} {last} {updated} {bytes} small on then got put is = (
+  record { call = call.GetForUpdate id; reply = first } ∷ record { call = call.Update id bytes; reply = last } ∷ [],
+  told_both old (record { call = call.GetForUpdate id; reply = first } ∷ []) (record { call = call.Update id bytes; reply = last } ∷ []) on then,
+  (
+    has,
+    updated,
+    small,
+    ap (λ r. record { call = call.GetForUpdate id; reply = r } ∷ record { call = call.Update id bytes; reply = last } ∷ []) got
+        ∙ ap (λ b. record { call = call.GetForUpdate id; reply = Ok (answer.Got (to_le_bytes w64 has)) } ∷ record { call = call.Update id b; reply = last } ∷ []) put
+        ∙ ap (λ r. record { call = call.GetForUpdate id; reply = Ok (answer.Got (to_le_bytes w64 has)) } ∷ record { call = call.Update id (to_le_bytes w64 ((has + amount) % 2 ^ 64)); reply = r } ∷ []) is,
+  ),
+)
+
+pub counts_by : (client from : ℕ) (es : List Exchange) (id : Rid) → id ≡ counter client from → from < 8 → Adds id 1 es → CountsOne client es
+counts_by client from es id is small p = (from, small, subst (λ i. Adds i 1 es) is p)
+
+pub counts_nothing : (client : ℕ) (es : List Exchange) → CountsOne client es → CommitNothing es
+counts_nothing client es p = adds_nothing (counter client p.0) 1 es p.2
+
 -- a commit that was refused, and not by these two
 pub refused_commit : {failed : Bool} (reply : Result Answer Fault) (f : Fault) → IsOfCommit failed reply (Err f) → f ≢ fault.Device → f ≢ fault.NotQuiet → CommitNothing (record { call = call.Commit; reply = reply } ∷ [])
 refused_commit (Err x) f (inl e) p q = ((λ d. p (cc (e, d))), tt)
@@ -33,6 +80,15 @@ refused_commit (Err x) f (inr (inr o)) p q = absurd (q o.3)
 refused_commit (Ok x) f (inl e) p q = absurd (cc e)
 refused_commit (Ok x) f (inr (inl d)) p q = absurd (p d.2)
 refused_commit (Ok x) f (inr (inr o)) p q = absurd (q o.3)
+
+-- of a result, whichever it is
+pub at_result : {T : Type 0} (r : Result T Fault) {P R : T → Type 0} {Q S : Fault → Type 0} → MatchResult r P Q → ((x : T) → P x → R x) → ((f : Fault) → Q f → S f) → MatchResult r R S
+at_result (Ok x) p ok err = ok x p
+at_result (Err f) q ok err = err f q
+
+pub if_ok : {T : Type 0} (r : Result T Fault) {P Q : T → Type 0} → IfOk r P → ((x : T) → P x → Q x) → IfOk r Q
+if_ok (Ok x) p f = f x p
+if_ok (Err e) p f = tt
 
 -- of a result that is a refusal, whichever it is
 pub at_err : {T : Type 0} (r : Result T Fault) (P : T → Type 0) (Q : Fault → Type 0) → IsErr r → ((f : Fault) → Q f) → MatchResult r P Q
@@ -43,22 +99,22 @@ at_err (Err f) P Q e q = q f
 pub rolled_back : (a : List Exchange) (reply : Result Answer Fault) → CommitNothing a → HasRolledBack (a ++ record { call = call.Abort; reply = reply } ∷ [])
 rolled_back a reply p = (nothing_both a (record { call = call.Abort; reply = reply } ∷ []) p (tt, tt), a, reply, refl)
 
--- a durable commit after them
-pub committed_by : (known ticket : ℕ) (a : List Exchange) {reply : Result Answer Fault} → CommitNothing a → ticket ≤ known → reply ≡ Ok (answer.Committed ticket)
-    → HasCommitted known (a ++ record { call = call.Commit; reply = reply } ∷ [])
-committed_by known ticket a p le is = (a, ticket, p, le, ap (λ r. a ++ record { call = call.Commit; reply = r } ∷ []) is)
+-- a durable commit after what counts it
+pub committed_by : (client known ticket : ℕ) (a b : List Exchange) {reply : Result Answer Fault} → CommitNothing a → LeaveCounters a → CountsOne client b → ticket ≤ known → reply ≡ Ok (answer.Committed ticket)
+    → HasCommitted client known ((a ++ b) ++ record { call = call.Commit; reply = reply } ∷ [])
+committed_by client known ticket a b p q counts le is = (a, b, ticket, p, q, counts, le, ap (λ r. (a ++ b) ++ record { call = call.Commit; reply = r } ∷ []) is)
 
-pub commits_later : (known later : ℕ) → known ≤ later → (n : ℕ) (es : List Exchange) → HaveCommitted known n es → HaveCommitted later n es
-commits_later known later le zero es p = p
-commits_later known later le (suc n) es p =
-    (p.0, p.1, p.2, p.3, commits_later known later le n p.0 p.4, (p.5.0, p.5.1, p.5.2, omega (arith, le, p.5.3), p.5.4), p.6)
+pub commits_later : (client known later : ℕ) → known ≤ later → (n : ℕ) (es : List Exchange) → HaveCommitted client known n es → HaveCommitted client later n es
+commits_later client known later le zero es p = p
+commits_later client known later le (suc n) es p =
+    (p.0, p.1, p.2, p.3, commits_later client known later le n p.0 p.4, (p.5.0, p.5.1, p.5.2, p.5.3, p.5.4, p.5.5, omega (arith, le, p.5.6), p.5.7), p.6)
 
-pub commits_go_on : (known n : ℕ) (es more : List Exchange) → CommitNothing more → HaveCommitted known n es → HaveCommitted known n (es ++ more)
-commits_go_on known zero es more none p = nothing_both es more p none
-commits_go_on known (suc n) es more none p = (p.0, p.1, p.2 ++ more, ap (λ l. l ++ more) p.3 ∙ append_assoc (p.0 ++ p.1) p.2 more, p.4, p.5, nothing_both p.2 more p.6 none)
+pub commits_go_on : (client known n : ℕ) (es more : List Exchange) → CommitNothing more → HaveCommitted client known n es → HaveCommitted client known n (es ++ more)
+commits_go_on client known zero es more none p = nothing_both es more p none
+commits_go_on client known (suc n) es more none p = (p.0, p.1, p.2 ++ more, ap (λ l. l ++ more) p.3 ∙ append_assoc (p.0 ++ p.1) p.2 more, p.4, p.5, nothing_both p.2 more p.6 none)
 
 -- What may be noted before a turn may be after it, with the turn's commit.
-pub noted_more : (known later client old new : ℕ) (told more : List Exchange) {next : List Exchange} → known ≤ later → IsNoted known client old told → next ≡ told ++ more → ComesTo later old new more
+pub noted_more : (known later client old new : ℕ) (told more : List Exchange) {next : List Exchange} → known ≤ later → IsNoted known client old told → next ≡ told ++ more → ComesTo client later old new more
     → IsNoted later client new next
 noted_more known later client old new told more le p on (inl t) = (
   p.0,
@@ -67,7 +123,7 @@ noted_more known later client old new told more le p on (inl t) = (
   p.3 ++ more,
   on ∙ ap (λ l. l ++ more) p.4 ∙ append_assoc p.1 p.3 more,
   p.5,
-  commits_go_on later p.2 p.3 more t.1.0 (commits_later known later le p.2 p.3 p.6),
+  commits_go_on client later p.2 p.3 more t.1.0 (commits_later client known later le p.2 p.3 p.6),
   t.0 ∙ p.7,
 )
 noted_more known later client old new told more le p on (inr t) = (
@@ -77,7 +133,7 @@ noted_more known later client old new told more le p on (inr t) = (
   p.3 ++ more,
   on ∙ ap (λ l. l ++ more) p.4 ∙ append_assoc p.1 p.3 more,
   p.5,
-  (p.3, more, [], sym (append-nil (p.3 ++ more)), commits_later known later le p.2 p.3 p.6, t.1, tt),
+  (p.3, more, [], sym (append-nil (p.3 ++ more)), commits_later client known later le p.2 p.3 p.6, t.1, tt),
   omega (arith, t.0, p.7),
 )
 

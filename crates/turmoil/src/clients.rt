@@ -1,11 +1,13 @@
 //! What each client does, without an end.
-ghost use Rattle.std.specs.Prelude.{◌≡◌, ◌≢◌, ◌≤◌, ◌<◌, ◌^◌, ◌++◌, ◌∷◌, [], IfOk, List, MatchOption, MatchResult, Ok, length};
+ghost use Rattle.std.specs.Prelude.{◌≡◌, ◌≢◌, ◌≤◌, ◌<◌, ◌^◌, ◌++◌, ◌∷◌, [], IfOk, IsTrue, List, MatchOption, MatchResult, Ok, length};
 ghost use Rattle.std.specs.Int.{to_le_bytes, w64};
 ghost use Rattle.shore_types.specs.declared.faults.Fault.TheVariants as Fault;
+ghost use Rattle.shore_disk.specs.Device.{Writes};
 ghost use Rattle.shore_model.specs.declared.calls.Answer.TheVariants as Answer;
 ghost use Rattle.shore_model.specs.declared.calls.Call.TheVariants as Call;
 ghost use Rattle.shore_model.specs.declared.calls.Exchange.{Exchange};
-ghost use Rattle.turmoil.specs.Commits.{ComesTo, CommitNothing, HasBegun, HasCommittedNothing, IsNoted};
+ghost use Rattle.shore_shared.specs.NoCommits.{CommitNothing};
+ghost use Rattle.turmoil.specs.Commits.{Adds, ComesTo, HasBegun, HasCommittedNothing, HasLeftCounters, IsNoted};
 ghost use Rattle.turmoil.specs.Commits as commits;
 
 use shore_disk::{Disk, FileCause, FileDisk, FilePlace};
@@ -24,21 +26,22 @@ pub const FIRST: u64 = 1_000;
 /// No more clients may run.
 pub const MOST_CLIENTS: usize = 16;
 
-// Of so many transactions one is rolled back, and one goes back to a savepoint in its midst.
-const ABORTED: u64 = 7;
+/// Of so many transactions one is rolled back.
+pub const ABORTED: u64 = 7;
 
+// .. and one goes back to a savepoint in its midst.
 const BACK: u64 = 4;
 
 // The text of its notes: four numbers, the least byte first.
 const NOTE_BYTES: usize = 32;
 
-// What a client notes in its file once a commit was answered: its commits, and how often it was a victim, rolled back and went back.
+/// What a client notes in its file once a commit was answered: its commits, and how often it was a victim, rolled back and went back.
 #[derive(Clone, Copy)]
-struct Notes {
-    commits: u64,
-    victims: u64,
-    aborts: u64,
-    backs: u64,
+pub struct Notes {
+    pub commits: u64,
+    pub victims: u64,
+    pub aborts: u64,
+    pub backs: u64,
 }
 
 /// What each client does. It notes what it was answered in a file of the folder.
@@ -73,8 +76,8 @@ impl<'r, 'f> Job for Turmoil<'r, 'f> {
 }
 
 impl<'r, 'f> Turmoil<'r, 'f> {
-    // The file of a client's notes, which may be there from a life before.
-    fn note_file(&self, number: usize) -> Result<FileDisk, Fault> {
+    /// The file of a client's notes, which may be there from a life before.
+    pub fn note_file(&self, number: usize) -> Result<FileDisk, Fault> {
         let path = format!(in self.rt.alloc(); "{}/notes.{number}", self.folder)?;
         let place = of_device(FilePlace::look(self.rt, path.as_str()))?;
         if place.is_empty() {
@@ -92,14 +95,22 @@ fn of_device<T>(answer: Result<T, FileCause>) -> Result<T, Fault> {
     }
 }
 
-// They tell of a client, after what it was told, and are of its number. A file that somebody has cut has no room for them.
-fn write_notes<C: Client>(
-    file: &mut FileDisk,
+// They tell of a client, after what it was told, and are of its number.
+fn write_notes<D: Disk, C: Client>(
+    file: &mut D,
     _client: &C,
     _number: usize,
     notes: &Notes,
 ) -> Result<(), Fault>
     requires { IsNoted (C.known _client.now).durable _number notes.now.commits (C.told _client.now) }
+    ensures { IsTrue (D.is_honest file.old) → Writes 0 (commits.text_of notes.now) result (D.history file.old) (D.history file.new) }
+{
+    write_text(file, notes)
+}
+
+/// Refused by `Device` too if somebody has cut the file.
+pub fn write_text<D: Disk>(file: &mut D, notes: &Notes) -> Result<(), Fault>
+    ensures { IsTrue (D.is_honest file.old) → Writes 0 (commits.text_of notes.now) result (D.history file.old) (D.history file.new) }
 {
     if file.len() < NOTE_BYTES as u64 {
         return Err(Fault::Device);
@@ -120,8 +131,8 @@ fn text_of(notes: &Notes) -> [u8; NOTE_BYTES]
     text
 }
 
-// How many commits the client's counters tell, modulo 2 to the 64th.
-fn commits_of<C: Client>(client: &mut C, number: usize) -> Result<u64, Fault>
+/// How many commits the client's counters tell, modulo 2 to the 64th.
+pub fn commits_of<C: Client>(client: &mut C, number: usize) -> Result<u64, Fault>
     requires { C.told client.old ≡ [] }
     ensures { IfOk result (λ begun. HasBegun number begun (C.told client.new)) }
 {
@@ -154,7 +165,7 @@ fn take_turn<C: Client>(
     turn: u64,
     notes: &mut Notes,
 ) -> Result<(), Fault>
-    ensures told { (es : List Exchange) × (C.told client.new ≡ C.told client.old ++ es) × IfOk result (λ _. ComesTo (C.known client.new).durable notes.old.commits notes.new.commits es) }
+    ensures told { (es : List Exchange) × (C.told client.new ≡ C.told client.old ++ es) × IfOk result (λ _. ComesTo number (C.known client.new).durable notes.old.commits notes.new.commits es) }
     ensures known { (C.known client.old).durable ≤ (C.known client.new).durable }
 {
     match transaction(alloc, client, number, turn, notes) {
@@ -173,8 +184,8 @@ fn take_turn<C: Client>(
     }
 }
 
-// The client's counter for the account that gives tells how often it made it do so. In some turns all is rolled back.
-fn transaction<C: Client>(
+/// The client's counter for the account that gives tells how often it made it do so. In some turns all is rolled back.
+pub fn transaction<C: Client>(
     alloc: Global,
     client: &mut C,
     number: usize,
@@ -182,7 +193,7 @@ fn transaction<C: Client>(
     notes: &mut Notes,
 ) -> Result<(), Fault>
     ensures told { (es : List Exchange) × (C.told client.new ≡ C.told client.old ++ es)
-        × MatchResult result (λ _. ComesTo (C.known client.new).durable notes.old.commits notes.new.commits es)
+        × MatchResult result (λ _. ComesTo number (C.known client.new).durable notes.old.commits notes.new.commits es)
         (λ fault. (notes.new.commits ≡ notes.old.commits) × (fault ≢ Fault.Device → fault ≢ Fault.NotQuiet → CommitNothing es)) }
     ensures known { (C.known client.old).durable ≤ (C.known client.new).durable }
 {
@@ -212,6 +223,7 @@ fn transfer<C: Client>(
     notes: &mut Notes,
 ) -> Result<(), Fault>
     ensures nothing { HasCommittedNothing (C.told client.old) (C.told client.new) }
+    ensures left { IfOk result (λ _. HasLeftCounters (C.told client.old) (C.told client.new)) }
     ensures known { (C.known client.old).durable ≤ (C.known client.new).durable }
     ensures same { notes.new.commits ≡ notes.old.commits }
 {
@@ -230,6 +242,7 @@ fn change_and_go_back<C: Client>(
     notes: &mut Notes,
 ) -> Result<(), Fault>
     ensures nothing { HasCommittedNothing (C.told client.old) (C.told client.new) }
+    ensures left { IfOk result (λ _. HasLeftCounters (C.told client.old) (C.told client.new)) }
     ensures known { (C.known client.old).durable ≤ (C.known client.new).durable }
     ensures same { notes.new.commits ≡ notes.old.commits }
 {
@@ -243,8 +256,10 @@ fn change_and_go_back<C: Client>(
     Ok(())
 }
 
-fn add<C: Client>(alloc: Global, client: &mut C, id: Rid, amount: u64) -> Result<(), Fault>
+/// Adds to a record, modulo 2 to the 64th.
+pub fn add<C: Client>(alloc: Global, client: &mut C, id: Rid, amount: u64) -> Result<(), Fault>
     ensures nothing { HasCommittedNothing (C.told client.old) (C.told client.new) }
+    ensures adds { IfOk result (λ _. (es : List Exchange) × (C.told client.new ≡ C.told client.old ++ es) × Adds id amount es) }
     ensures known { (C.known client.old).durable ≤ (C.known client.new).durable }
 {
     let Answer::Got(bytes) = client.call(Call::GetForUpdate(id))? else {
@@ -257,7 +272,9 @@ fn add<C: Client>(alloc: Global, client: &mut C, id: Rid, amount: u64) -> Result
     Ok(())
 }
 
-fn account(slot: u16) -> Rid {
+pub fn account(slot: u16) -> Rid
+    ensures { result ≡ commits.account slot }
+{
     let page = PageId {
         store: StoreId(0),
         page: 0,
@@ -265,7 +282,7 @@ fn account(slot: u16) -> Rid {
     Rid { page, slot }
 }
 
-fn counter(number: usize, from: u16) -> Rid
+pub fn counter(number: usize, from: u16) -> Rid
     ensures { result ≡ commits.counter number from }
 {
     let page = PageId {

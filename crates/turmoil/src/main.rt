@@ -1,20 +1,25 @@
-//! A manager over files whose clients meet deadlocks, roll back and go back to savepoints, for a check that kills it: `turmoil make DIR`, `turmoil run DIR CLIENTS`, which ends by a
-//! kill alone, and `turmoil look DIR`. See tools/check-threads.
+//! A manager over files whose clients meet deadlocks, roll back and go back to savepoints, for a check that kills it: `turmoil make DIR`, `turmoil run DIR CLIENTS` and `turmoil kinds DIR CLIENTS`,
+//! which end by a kill alone, and `turmoil look DIR`. See tools/check-threads.
 #![tactic(auto)]
 
 mod clients;
+mod deciding;
 mod filling;
+mod kinds;
 
 use anyhow::{Error, Result};
 use clients::{MOST_CLIENTS, Turmoil, number_of};
+use deciding::Settle;
 use filling::Fill;
+use kinds::Kinds;
 use shore_disk::{FileDisk, FilePlaces, open_files};
-use shore_shared::serve;
+use shore_shared::{Job, Left, serve};
 use shore_types::{Fault, Geometry, Sequence, StoreId};
 use shore_world::{World, format, volume_bytes};
 use std::env;
 use std::sync::Wait;
 use std::thread::Threads;
+use std::time::Clock;
 
 const LOG_BYTES: u64 = 1 << 20;
 
@@ -53,7 +58,7 @@ fn format_files(rt: &HostRuntime, folder: &str) -> Result<()> {
     Ok(())
 }
 
-fn make<R: Threads + Wait + Sync + Send + Copy>(
+fn make<R: Threads + Wait + Clock + Sync + Send + Copy>(
     threads: R,
     rt: &HostRuntime,
     folder: &str,
@@ -65,16 +70,35 @@ fn make<R: Threads + Wait + Sync + Send + Copy>(
     Ok(())
 }
 
-fn run<R: Threads + Wait + Sync + Send + Copy>(
+// .. where nobody is in doubt any more: who was is decided as its client would have done.
+fn open_settled<R: Threads + Wait + Clock + Sync + Send + Copy>(
+    threads: R,
+    rt: &HostRuntime,
+    folder: &str,
+) -> Result<Manager> {
+    let (left, served) = serve(threads, rt.alloc(), open(rt, folder)?, 1, &[Settle]);
+    let Left::World(manager) = left else {
+        return Err(Error::from(Fault::Memory));
+    };
+    match served {
+        Ok(_) => Ok(manager),
+        Err(fault) => {
+            let _files = manager.into_devices();
+            Err(Error::from(fault))
+        }
+    }
+}
+
+fn run<R: Threads + Wait + Clock + Sync + Send + Copy, J: Job + Sync>(
     threads: R,
     rt: &HostRuntime,
     folder: &str,
     clients: u32,
+    jobs: &[J],
 ) -> Result<()> {
-    let manager = open(rt, folder)?;
+    let manager = open_settled(threads, rt, folder)?;
     let told = println!(rt; "opened");
-    let turmoil = Turmoil { rt, folder };
-    let (left, served) = serve(threads, rt.alloc(), manager, clients, &[turmoil]);
+    let (left, served) = serve(threads, rt.alloc(), manager, clients, jobs);
     let _files = left.into_devices();
     told?;
     served?;
@@ -82,8 +106,12 @@ fn run<R: Threads + Wait + Sync + Send + Copy>(
 }
 
 // What each account has, and each counter of each client.
-fn look(rt: &HostRuntime, folder: &str) -> Result<()> {
-    let mut manager = open(rt, folder)?;
+fn look<R: Threads + Wait + Clock + Sync + Send + Copy>(
+    threads: R,
+    rt: &HostRuntime,
+    folder: &str,
+) -> Result<()> {
+    let mut manager = open_settled(threads, rt, folder)?;
     let shown = show(rt, &mut manager);
     let _files = manager.into_devices();
     shown
@@ -108,16 +136,34 @@ fn show(rt: &HostRuntime, manager: &mut Manager) -> Result<()> {
     Ok(())
 }
 
+fn turmoil<'r, 'f>(rt: &'r HostRuntime, folder: &'f str) -> Turmoil<'r, 'f> {
+    Turmoil { rt, folder }
+}
+
 fn main(rt: HostRuntime) -> Result<()> {
     let words: Vec<String> = env::args(&rt)?.collect(rt.alloc())?;
     match words.as_slice() {
         [_, what, folder] if what.as_str() == "make" => make(rt, &rt, folder.as_str()),
-        [_, what, folder] if what.as_str() == "look" => look(&rt, folder.as_str()),
+        [_, what, folder] if what.as_str() == "look" => look(rt, &rt, folder.as_str()),
         [_, what, folder, clients] if what.as_str() == "run" => {
-            run(rt, &rt, folder.as_str(), clients.as_str().parse::<u32>()?)
+            let clients = clients.as_str().parse::<u32>()?;
+            run(
+                rt,
+                &rt,
+                folder.as_str(),
+                clients,
+                &[turmoil(&rt, folder.as_str())],
+            )
+        }
+        [_, what, folder, clients] if what.as_str() == "kinds" => {
+            let clients = clients.as_str().parse::<u32>()?;
+            let of = turmoil(&rt, folder.as_str());
+            run(rt, &rt, folder.as_str(), clients, &[Kinds { of }])
         }
         _ => {
-            println!(&rt; "turmoil make DIR; turmoil run DIR CLIENTS; turmoil look DIR")?;
+            println!(&rt;
+                "turmoil make DIR; turmoil run DIR CLIENTS; turmoil kinds DIR CLIENTS; turmoil look DIR"
+            )?;
             Ok(())
         }
     }

@@ -10,6 +10,7 @@ use std::alloc::{AllocError, Global};
 use std::sync::Wait;
 use std::test::Fail;
 use std::thread::{Threads, yield_now};
+use std::time::Clock;
 
 const THREADS: u32 = 4;
 
@@ -20,7 +21,7 @@ const MOST_ROUNDS: u32 = 1_000_000;
 const LARGE_RECORDS: u32 = 7;
 
 // The calls after which a device stops.
-const MOST_CALLS: u64 = 200;
+const MOST_CALLS: u64 = 100;
 
 const NEVER: u64 = u64::MAX;
 
@@ -97,7 +98,7 @@ fn count_up(alloc: Global, client: &mut impl Client, round: u32) -> Result<(), F
 }
 
 // The bytes of both devices with the record.
-fn begun<R: Threads + Wait + Sync + Send + Copy>(
+fn begun<R: Threads + Wait + Clock + Sync + Send + Copy>(
     rt: R,
     alloc: Global,
 ) -> Result<(MemDisk, MemDisk), Fault> {
@@ -158,7 +159,7 @@ struct Ended {
 }
 
 // A life with these fuses; None if its open was stopped.
-fn ended_with<R: Threads + Wait + Sync + Send + Copy>(
+fn ended_with<R: Threads + Wait + Clock + Sync + Send + Copy>(
     rt: R,
     alloc: Global,
     log: &[u8],
@@ -303,7 +304,7 @@ struct Stopped {
 }
 
 // Each life shows what was answered, and of each thread one commit more at most. After each eighth one the opens are stopped too.
-fn lives_shown<R: Threads + Wait + Sync + Send + Copy>(
+fn lives_shown<R: Threads + Wait + Clock + Sync + Send + Copy>(
     rt: R,
     alloc: Global,
     of_log: bool,

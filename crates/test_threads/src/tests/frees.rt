@@ -7,6 +7,7 @@ use std::alloc::Global;
 use std::sync::Wait;
 use std::test::Fail;
 use std::thread::{Threads, yield_now};
+use std::time::Clock;
 
 const UPDATES: u64 = 20_000;
 
@@ -55,7 +56,10 @@ fn update(alloc: Global, client: &mut impl Client, number: u64) -> Result<(), Fa
     Ok(())
 }
 
-fn made_by_one<R: Threads + Wait + Sync + Send + Copy>(rt: R, alloc: Global) -> Result<u64, Fault> {
+fn made_by_one<R: Threads + Wait + Clock + Sync + Send + Copy>(
+    rt: R,
+    alloc: Global,
+) -> Result<u64, Fault> {
     let (log, volume) = devices(alloc, LOG_BYTES)?;
     let world = manager(alloc, log, volume)?;
     let (left, served) = serve(rt, alloc, world, 1, &[Fill]);

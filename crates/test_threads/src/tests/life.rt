@@ -22,6 +22,7 @@ use std::marker::Brand;
 use std::sync::Wait;
 use std::thread;
 use std::thread::Threads;
+use std::time::Clock;
 
 pub(super) type Life<N, B, R> = Shared<N, B, QueueTail<N, B, R>, MemDisk, MemDisk>;
 
@@ -75,7 +76,7 @@ pub(super) struct Tape {
 }
 
 /// The jobs of clients, one behind the other, while the three workers of a manager pass a gate.
-pub(super) fn live<R: Threads + Wait + Sync + Send + Copy, J: Job + Sync, W: Gate + Sync>(
+pub(super) fn live<R: Threads + Wait + Clock + Sync + Send + Copy, J: Job + Sync, W: Gate + Sync>(
     rt: R,
     alloc: Global,
     log_bytes: usize,
@@ -95,7 +96,7 @@ pub(super) fn live<R: Threads + Wait + Sync + Send + Copy, J: Job + Sync, W: Gat
 
 fn with_numbers<
     N: Numbers + Send + Sync,
-    R: Threads + Wait + Sync + Send + Copy,
+    R: Threads + Wait + Clock + Sync + Send + Copy,
     J: Job + Sync,
     W: Gate + Sync,
 >(
@@ -120,7 +121,7 @@ fn with_numbers<
 fn with_names<
     N: Numbers + Send + Sync,
     B: Named + Send + Sync,
-    R: Threads + Wait + Sync + Send + Copy,
+    R: Threads + Wait + Clock + Sync + Send + Copy,
     J: Job + Sync,
     W: Gate + Sync,
 >(
@@ -193,7 +194,7 @@ fn is_empty(tape: &Option<Vec<Taped>>) -> bool {
 fn with_sessions<
     N: Numbers + Send + Sync,
     B: Named + Send + Sync,
-    R: Threads + Wait + Sync + Send + Copy,
+    R: Threads + Wait + Clock + Sync + Send + Copy,
     J: Job + Sync,
     W: Gate + Sync,
 >(
@@ -227,7 +228,7 @@ trait Works<B: Named, R> {
     fn stop(&self, seat: &mut Seat<B>);
 }
 
-impl<N: Numbers, B: Named, R: Wait + Copy> Works<B, R> for Life<N, B, R> {
+impl<N: Numbers, B: Named, R: Wait + Clock + Copy> Works<B, R> for Life<N, B, R> {
     fn seat_of(&self, rt: &R) -> Seat<B> {
         self.seat(rt)
     }
@@ -252,7 +253,7 @@ impl<N: Numbers, B: Named, R: Wait + Copy> Works<B, R> for Life<N, B, R> {
 fn with_workers<
     'a,
     B: Named + Send + Sync,
-    R: Threads + Wait + Sync + Send + Copy,
+    R: Threads + Wait + Clock + Sync + Send + Copy,
     S: Works<B, R> + Serves<B, R> + Sync,
     J: Job + Sync,
     W: Gate + Sync,
@@ -295,7 +296,7 @@ fn with_workers<
 // Each job of all clients, in threads, once the one before it has ended.
 fn one_by_one<
     B: Named + Send + Sync,
-    R: Threads + Wait + Sync + Send + Copy,
+    R: Threads + Wait + Clock + Sync + Send + Copy,
     S: Serves<B, R> + Sync,
     J: Job + Sync,
 >(

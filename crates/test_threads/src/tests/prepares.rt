@@ -8,6 +8,7 @@ use std::alloc::Global;
 use std::sync::Wait;
 use std::test::Fail;
 use std::thread::Threads;
+use std::time::Clock;
 
 const CLIENTS: u32 = 4;
 
@@ -64,7 +65,7 @@ fn global_id(alloc: Global, number: usize, round: u8) -> Result<GlobalId, Fault>
 }
 
 // How many rounds were answered, and how many records stand in the end.
-fn decided<R: Threads + Wait + Sync + Send + Copy>(
+fn decided<R: Threads + Wait + Clock + Sync + Send + Copy>(
     rt: R,
     alloc: Global,
 ) -> Result<(u64, usize), Fault> {

@@ -9,6 +9,7 @@ use std::alloc::Global;
 use std::sync::Wait;
 use std::test::Fail;
 use std::thread::Threads;
+use std::time::Clock;
 
 const WRITERS: u32 = 4;
 
@@ -112,7 +113,10 @@ impl<'c, C: Client> Writer<'c, C> {
 }
 
 // How many answers all of them got, if each is on the tape.
-fn all_taped<R: Threads + Wait + Sync + Send + Copy>(rt: R, alloc: Global) -> Result<usize, Fault> {
+fn all_taped<R: Threads + Wait + Clock + Sync + Send + Copy>(
+    rt: R,
+    alloc: Global,
+) -> Result<usize, Fault> {
     let tasks = [Task::Insert, Task::Write];
     let lived = live(rt, alloc, 1 << 22, WRITERS, &tasks, &Open)?;
     if !lived.tape.stays || !lived.tape.is_cut {

@@ -6,6 +6,7 @@ use std::alloc::Global;
 use std::sync::Wait;
 use std::test::Fail;
 use std::thread::Threads;
+use std::time::Clock;
 
 // What the clients do with the record.
 #[derive(Drop)]
@@ -43,7 +44,7 @@ impl Job for Task {
 }
 
 // What the record counts in the end.
-fn counted<R: Threads + Wait + Sync + Send + Copy>(
+fn counted<R: Threads + Wait + Clock + Sync + Send + Copy>(
     rt: R,
     alloc: Global,
     sessions: u32,
@@ -57,7 +58,7 @@ fn counted<R: Threads + Wait + Sync + Send + Copy>(
     }
 }
 
-fn check<R: Threads + Wait + Sync + Send + Copy>(
+fn check<R: Threads + Wait + Clock + Sync + Send + Copy>(
     rt: R,
     alloc: Global,
     sessions: u32,

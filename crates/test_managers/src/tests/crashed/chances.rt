@@ -244,12 +244,13 @@ impl Chance {
         }
     }
 
-    /// What a session does whose call waits: most try whether it goes on.
+    /// What a session does whose call waits: most try whether it goes on, and some take its wait back.
     pub(super) fn doing_of_waiter(&mut self) -> Doing {
         match self.below(16) {
             0 => self.doing(),
             1 | 2 => Doing::ForceStage,
             3 | 4 => Doing::ForceOpen,
+            5 => Doing::GiveUp,
             _ => Doing::Resume,
         }
     }

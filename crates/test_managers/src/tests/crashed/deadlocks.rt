@@ -190,7 +190,7 @@ impl Victims {
         }
         let is_refused = match asking.doing {
             Doing::ForceStage | Doing::ForceOpen | Doing::FlushStep | Doing::Resume => true,
-            Doing::CheckpointStep | Doing::InDoubt | Doing::Ask(_) => true,
+            Doing::CheckpointStep | Doing::InDoubt | Doing::Ask(_) | Doing::GiveUp => true,
             _ => is_refused(asking, tally),
         };
         require_all(&[

@@ -242,6 +242,7 @@ impl Deciding<'_> {
             }
             Doing::Resolve(name, outcome) => self.wanted_of_a_resolve(alloc, name, outcome),
             Doing::ForceStage | Doing::ForceOpen | Doing::FlushStep | Doing::Resume => Ok(0),
+            Doing::GiveUp => Ok(0),
             Doing::CheckpointStep => Ok(0),
             Doing::Begin | Doing::InDoubt | Doing::Ask(_) => Ok(0),
             _ => Ok(if is_prepared { 17 } else { 0 }),

@@ -57,6 +57,8 @@ pub(super) enum Doing {
     ForceStage,
     ForceOpen,
     Resume,
+    /// The session's wait for a lock is taken back.
+    GiveUp,
     FlushStep,
     /// The next of the four steps of a checkpoint.
     CheckpointStep,
@@ -133,7 +135,7 @@ impl Doing {
                 Some(Call::TryLock(granule_at(place, depth), mode))
             }
             Doing::ForceStage | Doing::ForceOpen | Doing::Resume | Doing::FlushStep => None,
-            Doing::CheckpointStep | Doing::Ask(_) => None,
+            Doing::CheckpointStep | Doing::Ask(_) | Doing::GiveUp => None,
         })
     }
 
@@ -185,6 +187,7 @@ impl Doing {
             Doing::ForceOpen => Event::ForceOpen,
             Doing::FlushStep => Event::FlushStep,
             Doing::CheckpointStep => Event::CheckpointStep,
+            Doing::GiveUp => Event::GiveUp(session),
             _ => Event::Resume(session),
         })
     }

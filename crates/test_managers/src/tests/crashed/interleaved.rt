@@ -6,7 +6,7 @@ use super::deadlocks::{Asking, Victims};
 use super::decided::{Deciding, Prepares, is_rolling_back};
 use super::devices::{Manager, NO_FUSES, cut_off};
 use super::doings::Doing;
-use super::judged_locks::{check_asked, check_locks, waits_at, would_wait};
+use super::judged_locks::{check_asked, check_given_up, check_locks, waits_at, would_wait};
 use super::lives::{Ground, Life, Pair, Past, formatted, logged, past_of};
 use super::lock_lists::{has_cycle, in_order, waiting_request};
 use super::log_copies::copy_of_log;
@@ -405,9 +405,14 @@ impl Meeting {
             step: told.step,
             has_failed: told.has_failed,
         };
-        let victims = asking.taken_back(alloc)?;
+        let mut victims = asking.taken_back(alloc)?;
         self.victims
             .judge(alloc, &asking, &victims, &mut tally.deadlocks)?;
+        if matches!(turn.doing, Doing::GiveUp) {
+            let (step, has_failed) = (told.step, told.has_failed);
+            check_given_up(alloc, &self.requests, requests, turn.txn, step, has_failed)?;
+            victims.push(turn.txn)?;
+        }
         let over = self.over(alloc, opening, turn, told)?;
         check_asked(&self.requests, requests, turn.txn, &over, &victims)
     }

@@ -1,10 +1,11 @@
 //! The locks of a manager, judged by the slow functions.
 use super::doings::{Doing, granule_at};
-use super::lock_lists::{asked, request_of};
+use super::lock_lists::{asked, have_the_same, request_of, take_back, waiting_request};
 use super::trouble::{Trouble, require};
 use shore_model::Request;
 use shore_modes::{parent_mode, sup};
-use shore_types::{Granule, Mode, TxnId};
+use shore_types::{Fault, Granule, Mode, TxnId};
+use shore_world::Step;
 use slow_locks::holds::{harmony, well_rooted};
 use slow_locks::requests::{are_requests, held_by_all, placed_last, waits_for};
 use std::alloc::Global;
@@ -71,6 +72,31 @@ fn is_kept(was: &Request, now: Option<Request>) -> bool {
     }
 }
 
+/// A wait that is to be taken back: the call is refused just if a request of its transaction waits, and no device has failed; that request goes, and those whose turn it is then are granted.
+pub(super) fn check_given_up(
+    alloc: Global,
+    old: &[Request],
+    new: &[Request],
+    txn: TxnId,
+    step: &Step,
+    has_failed: bool,
+) -> Result<(), Trouble> {
+    let waits = !has_failed && waiting_request(old, txn).is_some();
+    let is_refused = matches!(step, Step::Refused(Fault::WouldBlock { .. }));
+    require(
+        waits == is_refused,
+        "a wait is taken back that is none, or one is not",
+    )?;
+    let mut left = Vec::from_slice(alloc, old)?;
+    if waits {
+        take_back(alloc, &mut left, txn)?;
+    }
+    require(
+        have_the_same(new, &left),
+        "other requests are left than without the one that waited",
+    )
+}
+
 /// The transaction waits at the granule.
 pub(super) fn waits_at(requests: &[Request], txn: TxnId, granule: &Granule) -> bool {
     match request_of(requests, txn, granule) {
@@ -79,7 +105,7 @@ pub(super) fn waits_at(requests: &[Request], txn: TxnId, granule: &Granule) -> b
     }
 }
 
-/// Whether the transaction would wait for the other on the way to what it tried.
+/// Whether the transaction would wait for the other on the way to what it tried, or with its request that is taken back.
 pub(super) fn would_wait(
     alloc: Global,
     requests: &[Request],
@@ -87,6 +113,12 @@ pub(super) fn would_wait(
     doing: Doing,
     holder: TxnId,
 ) -> Result<bool, Trouble> {
+    if matches!(doing, Doing::GiveUp) {
+        return match waiting_request(requests, txn) {
+            Some(request) => waits_behind(alloc, requests, request, holder),
+            None => Ok(false),
+        };
+    }
     let Doing::TryOf(place, depth, mode) = doing else {
         return Ok(false);
     };

@@ -16,8 +16,9 @@ pub(super) struct Meetings {
     pub(super) lock_waits: u64,
     /// .. and those that were answered once they waited no more.
     pub(super) answered_behind: u64,
-    /// Tries that somebody was in the way of.
+    /// Tries that somebody was in the way of, and waits that were taken back.
     pub(super) blocked: u64,
+    pub(super) taken_back: u64,
     /// Asks that were answered by yes, and by no.
     pub(super) told_durable: u64,
     pub(super) told_waiting: u64,
@@ -29,7 +30,10 @@ pub(super) struct Meetings {
 impl Meetings {
     /// So many events, and something of each kind.
     pub(super) fn has_each(&self, events: u64) -> bool {
-        let of_locks = self.lock_waits > 0 && self.answered_behind > 0 && self.blocked > 0;
+        let of_locks = self.lock_waits > 0
+            && self.answered_behind > 0
+            && self.blocked > 0
+            && self.taken_back > 0;
         let of_rollbacks = self.all.rollbacks.has_each() && self.all.losers_begun > 0;
         let of_tickets = self.told_durable > 0 && self.told_waiting > 0;
         self.all.events >= events && of_locks && of_rollbacks && of_tickets && self.all.has_each()
@@ -47,6 +51,9 @@ impl Meetings {
             Step::Done(Answer::IsDurable(true)) => &mut self.told_durable,
             Step::Done(Answer::IsDurable(false)) => &mut self.told_waiting,
             Step::Done(_) if goes_on(waited, doing) => &mut self.answered_behind,
+            Step::Refused(Fault::WouldBlock { .. }) if matches!(doing, Doing::GiveUp) => {
+                &mut self.taken_back
+            }
             Step::Refused(Fault::WouldBlock { .. }) => &mut self.blocked,
             _ => return,
         };
@@ -67,6 +74,7 @@ pub(super) const NO_MEETINGS: Meetings = Meetings {
     lock_waits: 0,
     answered_behind: 0,
     blocked: 0,
+    taken_back: 0,
     told_durable: 0,
     told_waiting: 0,
     deadlocks: NO_DEADLOCKS,

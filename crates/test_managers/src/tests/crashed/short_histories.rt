@@ -192,7 +192,7 @@ impl ShortHistory {
         }
     }
 
-    // The failure of a device is told once. Behind it every call is refused, but an ask, and a resume of nothing.
+    // The failure of a device is told once. Behind it every call is refused, but an ask, a resume of nothing, and a wait that is to be taken back, of which nothing comes.
     fn note_failure(
         &mut self,
         session: SessionId,
@@ -202,6 +202,7 @@ impl ShortHistory {
         let is_free = match doing {
             Doing::Ask(_) => true,
             Doing::Resume => self.waiting(session).is_none(),
+            Doing::GiveUp => matches!(step, Step::Nothing),
             _ => false,
         };
         let is_refused = matches!(step, Step::Refused(Fault::Failed));
@@ -222,7 +223,7 @@ impl ShortHistory {
         doing: Doing,
         reply: Result<Answer, Fault>,
     ) -> Result<(), Trouble> {
-        let resumes = matches!(doing, Doing::Resume);
+        let resumes = matches!(doing, Doing::Resume | Doing::GiveUp);
         let asked = if resumes {
             self.waiting(session).unwrap_or(doing)
         } else {
@@ -266,6 +267,9 @@ impl ShortHistory {
         if matches!(doing, Doing::Resume) {
             return require(self.waiting(session).is_some(), "a resume with no call");
         }
+        if matches!(doing, Doing::GiveUp) {
+            return require(false, "a wait that is taken back lasts");
+        }
         self.set_waiting(session, Some(doing));
         Ok(())
     }
@@ -276,6 +280,7 @@ impl ShortHistory {
             Doing::ForceStage | Doing::ForceOpen | Doing::FlushStep => true,
             Doing::CheckpointStep => true,
             Doing::Resume => self.waiting(session).is_none(),
+            Doing::GiveUp => true,
             _ => false,
         }
     }

@@ -72,6 +72,7 @@ fn tell(rt: &HostRuntime, seed: u64, tally: &Meetings) -> io::Result<()> {
         lock_waits,
         answered_behind,
         blocked,
+        taken_back,
         told_durable,
         told_waiting,
         deadlocks,
@@ -81,7 +82,7 @@ fn tell(rt: &HostRuntime, seed: u64, tally: &Meetings) -> io::Result<()> {
         "seed {seed}: {events} events, {crashes} losses of power, {opens_cut_off} opens cut off, {commits_acknowledged} commits acknowledged\n\
          {losers_undone} losers undone, {losers_begun} of them begun\n\
          {savepoints} savepoints, {aborts} aborts and {ways_back} ways back that put something back\n\
-         {lock_waits} waits for a lock, {answered_behind} answered behind one, {blocked} tries blocked, {deadlocks:?}\n\
+         {lock_waits} waits for a lock, {answered_behind} answered behind one, {blocked} tries blocked, {taken_back} waits taken back, {deadlocks:?}\n\
          {told_durable} asks answered by yes, {told_waiting} by no"
     )
 }
@@ -92,15 +93,15 @@ fn from_seed_3(rt: HostRuntime) -> Result<(), Fail> {
         &rt,
         3,
         Deadlocks {
-            told_at_once: 85,
-            told_going_on: 3,
-            told_behind: 161,
-            let_through: 8,
-            waiting_on: 146,
-            of_several: 19,
-            longer: 44,
-            refused: 82,
-            lost: 3,
+            told_at_once: 108,
+            told_going_on: 4,
+            told_behind: 182,
+            let_through: 15,
+            waiting_on: 154,
+            of_several: 26,
+            longer: 59,
+            refused: 101,
+            lost: 1,
         },
     )
 }
@@ -111,15 +112,15 @@ fn from_seed_4(rt: HostRuntime) -> Result<(), Fail> {
         &rt,
         4,
         Deadlocks {
-            told_at_once: 86,
-            told_going_on: 3,
-            told_behind: 132,
-            let_through: 12,
-            waiting_on: 119,
-            of_several: 10,
-            longer: 32,
-            refused: 72,
-            lost: 1,
+            told_at_once: 101,
+            told_going_on: 5,
+            told_behind: 180,
+            let_through: 9,
+            waiting_on: 155,
+            of_several: 24,
+            longer: 50,
+            refused: 119,
+            lost: 6,
         },
     )
 }
@@ -130,15 +131,15 @@ fn from_seed_5(rt: HostRuntime) -> Result<(), Fail> {
         &rt,
         5,
         Deadlocks {
-            told_at_once: 116,
-            told_going_on: 5,
-            told_behind: 164,
-            let_through: 9,
-            waiting_on: 146,
-            of_several: 16,
-            longer: 61,
-            refused: 106,
-            lost: 3,
+            told_at_once: 85,
+            told_going_on: 4,
+            told_behind: 136,
+            let_through: 6,
+            waiting_on: 132,
+            of_several: 14,
+            longer: 40,
+            refused: 81,
+            lost: 1,
         },
     )
 }
@@ -149,15 +150,15 @@ fn from_seed_6(rt: HostRuntime) -> Result<(), Fail> {
         &rt,
         6,
         Deadlocks {
-            told_at_once: 112,
-            told_going_on: 2,
-            told_behind: 184,
-            let_through: 13,
-            waiting_on: 167,
-            of_several: 22,
-            longer: 52,
-            refused: 96,
-            lost: 4,
+            told_at_once: 104,
+            told_going_on: 3,
+            told_behind: 156,
+            let_through: 10,
+            waiting_on: 148,
+            of_several: 16,
+            longer: 42,
+            refused: 87,
+            lost: 6,
         },
     )
 }
@@ -168,15 +169,15 @@ fn from_seed_7(rt: HostRuntime) -> Result<(), Fail> {
         &rt,
         7,
         Deadlocks {
-            told_at_once: 91,
-            told_going_on: 6,
-            told_behind: 139,
-            let_through: 13,
-            waiting_on: 122,
-            of_several: 15,
-            longer: 48,
-            refused: 95,
-            lost: 5,
+            told_at_once: 110,
+            told_going_on: 7,
+            told_behind: 151,
+            let_through: 7,
+            waiting_on: 140,
+            of_several: 12,
+            longer: 35,
+            refused: 104,
+            lost: 1,
         },
     )
 }
@@ -187,15 +188,15 @@ fn from_seed_8(rt: HostRuntime) -> Result<(), Fail> {
         &rt,
         8,
         Deadlocks {
-            told_at_once: 119,
+            told_at_once: 118,
             told_going_on: 2,
-            told_behind: 156,
-            let_through: 9,
-            waiting_on: 146,
-            of_several: 16,
-            longer: 35,
-            refused: 105,
-            lost: 3,
+            told_behind: 183,
+            let_through: 10,
+            waiting_on: 163,
+            of_several: 19,
+            longer: 55,
+            refused: 115,
+            lost: 9,
         },
     )
 }

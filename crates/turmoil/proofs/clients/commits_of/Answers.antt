@@ -1,6 +1,5 @@
-use Rattle.std.proofs.Common.{◌++◌, ◌≡◌, ◌∙◌, List, [], ◌∷◌, Ok, ap, refl, inl, inr, rules, arith}
+use Rattle.std.proofs.Common.{◌++◌, ◌∙◌, [], ◌∷◌, ap, refl, arith}
 use Rattle.shore_model.specs.declared.calls.Call.TheVariants as Call
-use Rattle.shore_model.specs.declared.calls.Exchange.{Exchange}
 use Rattle.turmoil.proofs.Commits.{begun_by, read_more}
 use Rattle.turmoil.proofs.clients.commits_of.Goals as goal
 

@@ -1,6 +1,5 @@
-use Rattle.std.proofs.Common.{◌++◌, ◌≡◌, ◌∙◌, List, [], ◌∷◌, Ok, ap, refl, inl, inr, rules, arith}
+use Rattle.std.proofs.Common.{◌++◌, ◌∙◌, [], ◌∷◌, ap}
 use Rattle.shore_model.specs.declared.calls.Call.TheVariants as Call
-use Rattle.shore_model.specs.declared.calls.Exchange.{Exchange}
 use Rattle.turmoil.proofs.Commits.{got_number}
 use Rattle.turmoil.proofs.clients.number_at.Goals as goal
 

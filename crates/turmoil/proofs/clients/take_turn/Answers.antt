@@ -1,7 +1,7 @@
-use Rattle.std.proofs.Common.{◌++◌, ◌≡◌, ◌∙◌, List, [], ◌∷◌, Ok, ap, refl, inl, inr, rules, arith}
+use Rattle.std.proofs.Common.{◌++◌, List, [], ◌∷◌, inl}
 use Rattle.shore_model.specs.declared.calls.Call.TheVariants as Call
 use Rattle.shore_model.specs.declared.calls.Exchange.{Exchange}
-use Rattle.turmoil.proofs.Commits.{nothing_both, rolled_back, told_both}
+use Rattle.turmoil.proofs.Commits.{rolled_back, told_both}
 use Rattle.turmoil.proofs.clients.take_turn.Goals as goal
 
 pub returns-in_ok-call-in-Err-Deadlock-clause-told : goal.returns-in_ok-call-in-Err-Deadlock-clause-told

@@ -1,7 +1,7 @@
-use Rattle.std.proofs.Common.{◌++◌, ◌+◌, ◌%◌, ◌^◌, ◌≡◌, ◌∙◌, List, [], ◌∷◌, Ok, ap, refl, inl, inr, rules, arith}
+use Rattle.std.proofs.Common.{◌++◌, ◌+◌, ◌%◌, ◌^◌, ◌<◌, List, [], ◌∷◌, ap, inl, inr, arith}
 use Rattle.shore_model.specs.declared.calls.Call.TheVariants as Call
 use Rattle.shore_model.specs.declared.calls.Exchange.{Exchange}
-use Rattle.turmoil.proofs.Commits.{at_err, committed_by, nothing_then, refused_commit, nothing_both, rolled_back, told_both}
+use Rattle.turmoil.proofs.Commits.{at_err, committed_by, counts_by, nothing_then, refused_commit, nothing_both, rolled_back, told_both}
 use Rattle.turmoil.proofs.clients.transaction.Goals as goal
 
 pub returns-in_err-call-clause-told : goal.returns-in_err-call-clause-told
@@ -33,10 +33,17 @@ returns-in-Err-clause-told g c =
 
 pub returns-in-Ok-clause-told : goal.returns-in-Ok-clause-told
 returns-in-Ok-clause-told g c =
-    let n = nothing_then (g.C.Client.told c.args.client.now) c.transfer.ensures.nothing c.add.ensures.nothing in
+    let told = g.C.Client.told c.args.client.now in
+    let l = c.in_ok-transfer.ensures.left in
+    let w = c.in_ok-add.ensures.adds in
     let k = c.in-Ok.ensures.told in
-    let last : List Exchange = record { call = Call.Commit; reply = k.0 } ∷ [] in (
-      n.0 ++ last,
-      told_both (g.C.Client.told c.args.client.now) n.0 last n.1 k.1,
-      inr (ap (λ x. (x + 1) % 2 ^ 64) c.transfer.ensures.same, committed_by (g.C.Client.known c.commit_durable.new.self).durable c.in-Ok.field-0 n.0 n.2 c.in-Ok.ensures.durable k.2),
+    let last : List Exchange = record { call = Call.Commit; reply = k.0 } ∷ [] in
+    let small : c.args.turn % 8 < 8 = omega (arith) in (
+      (l.0 ++ w.0) ++ last,
+      told_both told (l.0 ++ w.0) last (told_both told l.0 w.0 l.1 w.1) k.1,
+      inr (
+        ap (λ x. (x + 1) % 2 ^ 64) c.transfer.ensures.same,
+        committed_by c.args.number (g.C.Client.known c.commit_durable.new.self).durable c.in-Ok.field-0 l.0 w.0 l.2 l.3 (counts_by c.args.number (c.args.turn % 8) w.0 c.counter.result c.counter.ensures small w.2)
+            c.in-Ok.ensures.durable k.2,
+      ),
     )
