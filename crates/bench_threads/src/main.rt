@@ -15,16 +15,33 @@ use shore_world::{World, format, volume_bytes};
 use std::env;
 use std::sync::Wait;
 use std::thread::Threads;
-use works::{Plan, named};
+use std::time::Clock;
+use works::{Plan, Work, named};
 
-// A log of 256 megabytes, and 64 stores of 16 pages: a store for each of the first threads.
-const LOG_BYTES: u64 = 1 << 28;
+// 64 stores of 16 pages: a store for each of the first threads.
 
 const STORES: usize = 64;
 
 const FRAMES: usize = 256;
 
-fn make(rt: &HostRuntime, log: &str, volume: &str) -> Result<()> {
+// The length of the log.
+fn log_bytes(work: Work) -> u64 {
+    match work {
+        Work::Short => 1 << 20,
+        Work::Middle => 1 << 22,
+        Work::Pages
+        | Work::Page
+        | Work::Record
+        | Work::Think
+        | Work::Gets
+        | Work::Idle
+        | Work::Lock
+        | Work::Commit
+        | Work::Updates => 1 << 28,
+    }
+}
+
+fn make(rt: &HostRuntime, log: &str, volume: &str, log_bytes: u64) -> Result<()> {
     let stores = Vec::from_elem(rt.alloc(), 16u32, STORES)?;
     let geometry = Geometry {
         pair: 1,
@@ -32,7 +49,7 @@ fn make(rt: &HostRuntime, log: &str, volume: &str) -> Result<()> {
         stores: Sequence::from_vec(stores),
     };
     let places = FilePlaces::look(rt, log, volume)?;
-    let (mut log, mut volume) = places.cleared(rt, LOG_BYTES, volume_bytes(&geometry))?;
+    let (mut log, mut volume) = places.cleared(rt, log_bytes, volume_bytes(&geometry))?;
     format(rt.alloc(), &mut log, &mut volume, &geometry)?;
     Ok(())
 }
@@ -45,7 +62,7 @@ fn plan_of(work: &str, threads: &str, rounds: &str) -> Option<Plan> {
     })
 }
 
-fn measured<R: Threads + Wait + Sync + Send + Copy>(
+fn measured<R: Threads + Wait + Clock + Sync + Send + Copy>(
     threads: R,
     rt: &HostRuntime,
     plan: Plan,
@@ -56,7 +73,7 @@ fn measured<R: Threads + Wait + Sync + Send + Copy>(
         format!(in rt.alloc(); "{folder}/threads.log")?,
         format!(in rt.alloc(); "{folder}/threads.volume")?,
     );
-    make(rt, log.as_str(), volume.as_str())?;
+    make(rt, log.as_str(), volume.as_str(), log_bytes(plan.work))?;
     let (log, volume) = open_files(rt, log.as_str(), volume.as_str())?;
     match World::open(rt.alloc(), log, volume, FRAMES) {
         Ok(world) => Ok(run(threads, host, world, plan)?),
@@ -94,5 +111,8 @@ fn main(rt: HostRuntime) -> Result<()> {
         "{name}_time.t{threads} {} nanoseconds",
         took.nanos / took.done.max(1)
     )?;
+    if took.refused > 0 {
+        println!(&rt; "{name}_refused.t{threads} {} transactions", took.refused)?;
+    }
     Ok(())
 }

@@ -32,6 +32,7 @@ pub fn measured(rt: &HostRuntime, syncs: u64, rounds: u64, folder: &str) -> Resu
     }
     Ok(Took {
         done: rounds,
+        refused: 0,
         nanos: host.nanos_since(start),
     })
 }

@@ -1,5 +1,5 @@
 //! The rounds of a client.
-use crate::works::{Plan, Work, update};
+use crate::works::{Plan, Work, change, update, update_twice};
 use bench_parts::host::Host;
 use shore_model::Call;
 use shore_shared::{Client, Job};
@@ -8,10 +8,14 @@ use std::alloc::Global;
 use std::thread;
 use std::time::Duration;
 
-/// How many rounds a client did, and when they began and ended, in nanoseconds of the run. Where calls alone are timed, they begin at 0 and end at what these took.
+// How long a client thinks.
+const THINKS_MICROS: u64 = 500;
+
+/// How many rounds a client did, how many of them were refused since the log was full, and when they began and ended, in nanoseconds of the run. Where calls alone are timed, they begin at 0 and end at what these took.
 #[derive(Clone, Copy)]
 pub struct Span {
     pub done: u64,
+    pub refused: u64,
     pub began: u64,
     pub ended: u64,
 }
@@ -42,16 +46,35 @@ impl<'a> Job for Rounds<'a> {
             return Err(Fault::NoRecord);
         };
         let done = self.plan.rounds as u64;
+        let mut refused = 0u64;
         let (began, ended) = match self.plan.work {
             Work::Lock => (0, self.lock(client, record)?),
             Work::Commit => (0, self.commit(alloc, client, record)?),
-            Work::Idle | Work::Gets | Work::Pages | Work::Page | Work::Record => {
+            Work::Short | Work::Middle => {
+                let began = self.host.nanos();
+                for round in 0..self.plan.rounds {
+                    refused = refused.saturating_add(self.lazily(alloc, client, record, round)?);
+                }
+                (began, self.host.nanos())
+            }
+            Work::Idle
+            | Work::Gets
+            | Work::Pages
+            | Work::Page
+            | Work::Record
+            | Work::Think
+            | Work::Updates => {
                 let began = self.host.nanos();
                 self.go_on(alloc, client, record)?;
                 (began, self.host.nanos())
             }
         };
-        Ok(Span { done, began, ended })
+        Ok(Span {
+            done,
+            refused,
+            began,
+            ended,
+        })
     }
 }
 
@@ -69,7 +92,27 @@ impl<'a> Rounds<'a> {
                 }
                 client.call(Call::Commit)?;
             }
-            Work::Pages | Work::Page | Work::Record | Work::Lock | Work::Commit => {
+            Work::Updates => {
+                client.call(Call::Begin)?;
+                for round in 0..self.plan.rounds {
+                    change(alloc, client, *record, (round % 256) as u8)?;
+                }
+                client.commit_durable()?;
+            }
+            Work::Think => {
+                for round in 0..self.plan.rounds {
+                    thread::sleep(self.host.rt, Duration::from_micros(THINKS_MICROS));
+                    update(alloc, client, *record, (round % 256) as u8)?;
+                    client.commit_durable()?;
+                }
+            }
+            Work::Pages
+            | Work::Page
+            | Work::Record
+            | Work::Lock
+            | Work::Commit
+            | Work::Short
+            | Work::Middle => {
                 for round in 0..self.plan.rounds {
                     update(alloc, client, *record, (round % 256) as u8)?;
                     client.commit_durable()?;
@@ -77,6 +120,27 @@ impl<'a> Rounds<'a> {
             }
         }
         Ok(())
+    }
+
+    // A lazy transaction of two updates, begun again until there is room for it. The answer is how often there was none.
+    fn lazily(
+        &self,
+        alloc: Global,
+        client: &mut impl Client,
+        record: &Rid,
+        round: u32,
+    ) -> Result<u64, Fault> {
+        let mut refused = 0u64;
+        for _ in 0..u32::MAX {
+            match update_twice(alloc, client, *record, (round % 256) as u8) {
+                Ok(()) => break,
+                Err(Fault::LogFull) => refused = refused.saturating_add(1),
+                Err(fault) => return Err(fault),
+            }
+            let _rolled_back = client.call(Call::Abort);
+        }
+        client.call(Call::Commit)?;
+        Ok(refused)
     }
 
     // One call of each round is timed: it has the core's lock for all of it but the taking. These come to the nanoseconds.
@@ -100,6 +164,9 @@ impl<'a> Rounds<'a> {
             client.call(Call::Commit)?;
             nanos = nanos.saturating_add(self.host.nanos_since(start));
         }
+        // All of them are durable in the end.
+        update(alloc, client, *record, 0)?;
+        client.commit_durable()?;
         Ok(nanos)
     }
 }

@@ -8,16 +8,18 @@ use shore_types::{Fault, Rid};
 use shore_world::World;
 use std::sync::Wait;
 use std::thread::Threads;
+use std::time::Clock;
 
-/// How many rounds were done, in how many nanoseconds.
+/// How many rounds were done, how many of them were refused, in how many nanoseconds.
 #[derive(Drop)]
 pub struct Took {
     pub done: u64,
+    pub refused: u64,
     pub nanos: u64,
 }
 
 /// What a plan takes.
-pub fn run<R: Threads + Wait + Sync + Send + Copy>(
+pub fn run<R: Threads + Wait + Clock + Sync + Send + Copy>(
     threads: R,
     host: Host<'_>,
     world: World<FileDisk, FileDisk>,
@@ -38,7 +40,7 @@ pub fn run<R: Threads + Wait + Sync + Send + Copy>(
 }
 
 // .. behind its records.
-fn go_on<R: Threads + Wait + Sync + Send + Copy>(
+fn go_on<R: Threads + Wait + Clock + Sync + Send + Copy>(
     threads: R,
     host: Host<'_>,
     world: World<FileDisk, FileDisk>,
@@ -69,22 +71,31 @@ fn records_of(filled: Vec<Vec<Vec<Rid>>>) -> Result<Vec<Rid>, Fault> {
 fn clients_of(plan: Plan) -> u32 {
     match plan.work {
         Work::Idle | Work::Lock | Work::Commit => 1,
-        Work::Pages | Work::Page | Work::Record | Work::Gets => plan.threads as u32,
+        Work::Pages
+        | Work::Page
+        | Work::Record
+        | Work::Think
+        | Work::Gets
+        | Work::Short
+        | Work::Middle
+        | Work::Updates => { plan.threads as u32 }
     }
 }
 
 // From the first that began to the last that ended.
 fn whole_of(served: Vec<Vec<Span>>) -> Took {
-    let (mut done, mut began, mut ended) = (0u64, u64::MAX, 0u64);
+    let (mut done, mut refused, mut began, mut ended) = (0u64, 0u64, u64::MAX, 0u64);
     for spans in served {
         for span in spans {
             done = done.saturating_add(span.done);
+            refused = refused.saturating_add(span.refused);
             began = began.min(span.began);
             ended = ended.max(span.ended);
         }
     }
     Took {
         done,
+        refused,
         nanos: ended.saturating_sub(began),
     }
 }

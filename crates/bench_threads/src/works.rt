@@ -13,6 +13,8 @@ pub enum Work {
     Page,
     /// .. the same record.
     Record,
+    /// .. a record on a page of its own, and thinks for half a millisecond before each.
+    Think,
     /// Each thread gets a record of its own.
     Gets,
     /// The threads do nothing; the workers turn for so many seconds.
@@ -21,6 +23,12 @@ pub enum Work {
     Lock,
     /// .. updates a record and commits lazily: the time of the commit.
     Commit,
+    /// Each thread makes lazy transactions of 500 bytes of log, over a log of 1 megabyte: how many are refused.
+    Short,
+    /// .. of 4 megabytes.
+    Middle,
+    /// Each thread makes all its updates in one transaction.
+    Updates,
 }
 
 /// The work of a name.
@@ -29,10 +37,14 @@ pub fn named(name: &str) -> Option<Work> {
         "pages" => Some(Work::Pages),
         "page" => Some(Work::Page),
         "record" => Some(Work::Record),
+        "think" => Some(Work::Think),
         "gets" => Some(Work::Gets),
         "idle" => Some(Work::Idle),
         "lock" => Some(Work::Lock),
         "commit" => Some(Work::Commit),
+        "short" => Some(Work::Short),
+        "middle" => Some(Work::Middle),
+        "updates" => Some(Work::Updates),
         _ => None,
     }
 }
@@ -75,7 +87,12 @@ impl Job for Fill {
         client.call(Call::Begin)?;
         for nth in 0..self.plan.threads {
             let store = match self.plan.work {
-                Work::Pages | Work::Gets => nth % 64,
+                Work::Pages
+                | Work::Think
+                | Work::Gets
+                | Work::Short
+                | Work::Middle
+                | Work::Updates => nth % 64,
                 Work::Page | Work::Record | Work::Idle | Work::Lock | Work::Commit => 0,
             };
             if let Answer::Inserted(rid) = client.call(Call::Insert(
@@ -90,9 +107,26 @@ impl Job for Fill {
     }
 }
 
+/// An update.
+pub fn change(alloc: Global, client: &mut impl Client, record: Rid, byte: u8) -> Result<(), Fault> {
+    client.call(Call::Update(record, bytes_of(alloc, byte)?))?;
+    Ok(())
+}
+
 /// A transaction of one update, which is not committed.
 pub fn update(alloc: Global, client: &mut impl Client, record: Rid, byte: u8) -> Result<(), Fault> {
     client.call(Call::Begin)?;
-    client.call(Call::Update(record, bytes_of(alloc, byte)?))?;
+    change(alloc, client, record, byte)
+}
+
+/// .. of two.
+pub fn update_twice(
+    alloc: Global,
+    client: &mut impl Client,
+    record: Rid,
+    byte: u8,
+) -> Result<(), Fault> {
+    update(alloc, client, record, byte)?;
+    client.call(Call::Update(record, bytes_of(alloc, 0)?))?;
     Ok(())
 }
