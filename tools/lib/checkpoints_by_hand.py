@@ -131,7 +131,7 @@ REOPENED_FRAMES = [
 ]
 REOPENED_PAGES = [page((0, 0), 3, [(24, 1)], [(24, b"\xbb")]), page((1, 0), 7, [(24, 1), (0, 0)], [(24, b"\xcc\xdd")])]
 
-# A victim that has logged a change, and the one that waited for it. The rollback of a victim counts as begun (docs/DECISIONS.md), with nothing put back.
+# `victim_is_listed_as_active`: one that has logged a change, of which nothing is put back yet, and the one that waited for it.
 VICTIM = """2 begin -> 2: began 1
 1 begin -> 1: began 2
 1 insert 0 cc -> 1: at 0.0.0
@@ -140,7 +140,7 @@ VICTIM = """2 begin -> 2: began 1
 1 get 0.0.1 -> 1: fault 12 Deadlock 2 1
 checkpoint -> checkpoint 3 tail 1
 """
-VICTIM_LISTED = [Txn(1, ACTIVE, 2, 2, 2, 0), Txn(2, ROLLING_BACK, 1, 1, 1, 0)]
+VICTIM_LISTED = [Txn(1, ACTIVE, 2, 2, 2, 0), Txn(2, ACTIVE, 1, 1, 1, 0)]
 VICTIM_FRAMES = [
     [change(2, 0, "0.0.0", None, b"\xcc"), change(1, 0, "0.0.1", None, b"\xa5"), checkpoint_begin(), checkpoint_end(3, 3, VICTIM_LISTED, [("0.0", 1)])],
     [anchor_record(3, 1)],

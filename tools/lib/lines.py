@@ -54,6 +54,7 @@ CALLS = [
     ("back N", "puts back what was changed since savepoint N"),
     ("commit", "ends the transaction; its changes are durable once this is answered"),
     ("lazy", "ends the transaction, and answers the ticket of its changes, which are not durable yet"),
+    ("giveup", "takes back its wait for a lock: the call is refused, and the transaction goes on"),
     ("abort", "ends the transaction; its changes are put back"),
     ("prepare GLOBAL", "makes it durable and undecided, by a name of its coordinator's"),
     ("resolve GLOBAL OUTCOME", "decides one that is prepared, from any session in no other"),

@@ -2,16 +2,19 @@
 import os
 import random
 import signal
+import subprocess
 
 from formats import STREAM_AT, read_anchors
 from lives import Failure
 from losses import Power
-from turmoil import CLIENTS, FILES, Turmoil, ended
+from refusing import FROM_THEN_ON, ONCE, SHORT, Calls, built
+from turmoil import ALIKE, CLIENTS, FILES, KINDS, Turmoil, ended
+from watching import Watch
 
 MOST_OPENS_CUT = 2
 # How many losses there are at most until it is noticed that a sync does nothing.
 LOSSES_TO_SEE = 10
-# So many losses have to show something: most of them are of both files, most opens are cut off, and a checkpoint moves the anchor within as many at least once.
+# So many losses have to show something: most of them are of both files, most opens are cut off, and a checkpoint moves the anchor within as many at least once, and in one a call of a file was refused.
 LOSSES_TO_SHOW = 20
 # How the call is picked at which a run loses its power, each as often as it is named, and how many it makes at most: one with writes that are not synced in both files, any one, or one since the anchor
 # began to move. After so many it ends at the latest.
@@ -19,6 +22,8 @@ WAYS = ("both",) * 5 + ("any",) + ("moved",) * 2
 CALLS_WITH_BOTH, CALLS, CALLS_SINCE_MOVED, MOST_CALLS = 600, 1_500, 60, 3_000
 # .. and an open.
 CALLS_OF_OPEN = 8
+# In one of so many runs a call of one of the files is refused before, at the latest one of this number.
+REFUSED_OF, CALLS_TO_REFUSE = 4, 600
 # How many microseconds a sync takes.
 SLOW = 1_000
 NEVER = 10**9
@@ -29,7 +34,7 @@ class Tally:
 
     def __init__(self):
         self.lost = []
-        self.acknowledged = self.more = self.opens = self.opens_cut = self.moves = 0
+        self.acknowledged = self.more = self.opens = self.opens_cut = self.moves = self.refused = 0
 
     @property
     def with_both(self):
@@ -37,11 +42,13 @@ class Tally:
 
     def shows(self):
         losses = len(self.lost)
-        return self.acknowledged and 2 * self.with_both >= losses and 2 * self.opens_cut >= self.opens and (self.moves + 1) * LOSSES_TO_SHOW >= losses
+        is_rare = any((count + 1) * LOSSES_TO_SHOW < losses for count in (self.moves, self.refused))
+        return self.acknowledged and 2 * self.with_both >= losses and 2 * self.opens_cut >= self.opens and not is_rare
 
     def __str__(self):
         return (f"{len(self.lost)} losses of power amid {CLIENTS} threads, at {self.with_both} of which both files had writes that were not synced: {self.acknowledged} commits were acknowledged, and each was "
-                f"there after every loss; {self.more} others were there; {self.opens_cut} of {self.opens} opens between lost their power too; the anchor moved {self.moves} times")
+                f"there after every loss; {self.more} others were there; {self.opens_cut} of {self.opens} opens between lost their power too; the anchor moved {self.moves} times; of {self.refused} runs a call of a file "
+                "was refused before")
 
 
 class Losing:
@@ -53,6 +60,7 @@ class Losing:
         self.turmoil.make()
         self.power.begin_again()
         self.counters = {client: 0 for client in range(CLIENTS)}
+        self.calls = Calls(built("device", room), room, [f"{self.power.folder}/{it}" for it in FILES])
 
     def moves(self):
         """How often the anchor of the log has been moved."""
@@ -73,11 +81,23 @@ class Losing:
             return self.ending(SLOW, MOST_CALLS, since_moved=self.chance.randint(1, CALLS_SINCE_MOVED))
         return self.ending(SLOW, self.chance.randint(1, CALLS))
 
-    def run_until_lost(self):
+    def refusing(self, how):
+        """The environment of a run of which a call of a file is refused, if it comes to that call before it is killed."""
+        self.calls.refuse_none()
+        if self.chance.randrange(REFUSED_OF):
+            return how
+        self.calls.refuse(self.chance.randrange(len(FILES)), self.chance.randint(1, CALLS_TO_REFUSE), self.chance.choice((ONCE, FROM_THEN_ON, SHORT)))
+        # The program tells of it, which is no failure.
+        return {"env": self.calls.environment(how["env"]), "stderr": subprocess.DEVNULL}
+
+    def run_until_lost(self, job):
         """The power is lost amid threads. Answers the files that had writes which were not synced."""
         self.turmoil.notes.clear()
-        printed, status = ended("a run", self.turmoil.run(**self.some_call()))
-        if status != -signal.SIGKILL:
+        run = self.turmoil.run(job, **self.refusing(self.some_call()))
+        Watch(self.turmoil.notes, run, CLIENTS).until(lambda _: False)
+        printed, status = ended("a run", run)
+        self.tally.refused += self.calls.refused > 0
+        if status != -signal.SIGKILL and not (status > 0 and self.calls.refused):
             raise Failure(f"a run ended by itself: status {status}, {printed!r}")
         return self.power.lose(FILES)
 
@@ -91,12 +111,13 @@ class Losing:
 
     def one_loss(self):
         tally = self.tally
-        tally.lost.append(self.run_until_lost())
+        job = self.chance.choice((ALIKE, KINDS))
+        tally.lost.append(self.run_until_lost(job))
         for _ in range(self.chance.randint(0, MOST_OPENS_CUT)):
             tally.opens += 1
             tally.opens_cut += self.open_until_lost()
         before = sum(self.counters.values())
-        self.counters, more = self.turmoil.require_what_was_answered(self.counters)
+        self.counters, more = self.turmoil.require_what_was_answered(self.counters, job)
         tally.acknowledged += sum(self.counters.values()) - before - more
         tally.more += more
         tally.moves = self.moves()

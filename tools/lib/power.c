@@ -45,7 +45,7 @@ static void note(const struct stat *of, enum kind kind, long at, const void *byt
 static void note_what_is_there(int file, enum kind kind, long at, long count) {
     struct stat of;
     char *bytes = calloc(1, count + 1);
-    if (!bytes || fstat(file, &of) != 0 || pread(file, bytes, count, at) < 0) abort();
+    if (!bytes || fstat(file, &of) != 0 || SYSTEM("pread", ssize_t, int, void *, size_t, off_t)(file, bytes, count, at) < 0) abort();
     note(&of, kind, at, bytes, count);
     free(bytes);
 }

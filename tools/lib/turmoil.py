@@ -5,10 +5,14 @@ import subprocess
 
 from lives import Failure
 from programs import ROOT, tell_help
+from watching import kept, stacks_of
 
 CLIENTS, ACCOUNTS, FIRST = 16, 8, 1000
 # What the program calls the files of its pair.
 FILES = ("log", "volume")
+# What clients do: all the same; or each what is of its kind, one of five by its number, of which one commits twice before it notes that.
+ALIKE, KINDS = "run", "kinds"
+COUNT_OF_KINDS, COMMITS_LAZILY = 5, 2
 # Whoever needs so many seconds hangs. Nothing is judged by them but that.
 LONGEST = 300
 
@@ -44,15 +48,28 @@ class Notes:
             text = b""
         return struct.unpack("<4Q", text) if len(text) == 32 else (0, 0, 0, 0)
 
+    def written_at(self, client):
+        """When the client wrote its notes last, by the clock; 0 if it never did."""
+        try:
+            return os.stat(self.paths[client]).st_mtime
+        except FileNotFoundError:
+            return 0.0
+
+
+def most_unanswered(job, client):
+    """How many commits of a client may be there that it has not noted."""
+    return 2 if job == KINDS and client % COUNT_OF_KINDS == COMMITS_LAZILY else 1
+
 
 def ended(what, run):
     """What a run printed, and its status, once it has ended."""
     try:
         printed, _ = run.communicate(timeout=LONGEST)
     except subprocess.TimeoutExpired:
+        path = kept(stacks_of(run.pid))
         run.kill()
         run.communicate()
-        raise Failure(f"{what} hangs: it has not ended after {LONGEST} seconds") from None
+        raise Failure(f"{what} hangs: it has not ended after {LONGEST} seconds, and what its threads were at is in {path}") from None
     return printed, run.returncode
 
 
@@ -70,8 +87,8 @@ class Turmoil:
         if status:
             raise Failure(f"no pair is made: status {status}, {printed!r}")
 
-    def run(self, **how):
-        return self.begun("run", self.folder, str(CLIENTS), **how)
+    def run(self, job=ALIKE, **how):
+        return self.begun(job, self.folder, str(CLIENTS), **how)
 
     def look(self, **how):
         return self.begun("look", self.folder, **how)
@@ -86,9 +103,9 @@ class Turmoil:
             raise Failure(f"the pair is not opened, or not all of it is shown: status {status}, {printed!r}")
         return accounts, counters
 
-    def require_what_was_answered(self, before):
+    def require_what_was_answered(self, before, job=ALIKE):
         """That an open shows each account as the clients' counters tell, so that each transaction is there as a whole or not at all, and of each client as many commits as it had before, or was answered
-        last in a run since, or one more. Answers how many each client has, and how many are there that were not answered."""
+        last in a run since, or one more, or two. Those in doubt are decided before. Answers how many each client has, and how many are there that were not answered."""
         accounts, counters = self.shown()
         taken = [sum(it) for it in zip(*counters)]
         told = [(FIRST - taken[account] + taken[account ^ 1]) % 2**64 for account in range(ACCOUNTS)]
@@ -98,7 +115,7 @@ class Turmoil:
         more = 0
         for client in range(CLIENTS):
             noted = max(self.notes.of(client)[0], before[client])
-            if found[client] not in (noted, noted + 1):
+            if not noted <= found[client] <= noted + most_unanswered(job, client):
                 raise Failure(f"client {client} was answered {noted} commits, and {found[client]} are there")
             more += found[client] - noted
         return found, more
