@@ -7,6 +7,7 @@ use Rattle.shore_types.specs.declared.layout.Geometry.{Geometry}
 use Rattle.shore_dwrite.specs.Differences.{DiffersInArea, DiffersInPages, HasImages, HasPages}
 use Rattle.shore_dwrite.specs.Shown.{AreInPlace, IsBatch, IsShut, ShowsBehind, ShowsEither, overlaid}
 use Rattle.shore_dwrite.specs.Tables.{IsTable}
+use Rattle.shore_dwrite.specs.UnderWay as under_way
 use Rattle.shore_dwrite.specs.Volumes.{page_at, page_count, page_offset, part}
 use Rattle.shore_dwrite.proofs.Overlays.{laid_alike, images_alike, laid_in_place}
 use Rattle.shore_dwrite.proofs.Overwrites.{take_below, take_less, drop_above, part_here, part_front, part_rest}
@@ -31,12 +32,8 @@ module _ (g : Geometry) (front : List ℕ) (pages : ℕ → List ℕ) (numbers t
   abbrev pub laid : ℕ → List ℕ
   laid = overlaid numbers texts pages
 
-  -- behind an open gate, with the batch in the area, and every other page as it was
-  pub record IsLaid (image : List ℕ) : Type 0 where
-    pub front_is : take 4096 image ≡ front
-    pub table : IsTable (part 4100 132 image) numbers
-    pub texts_are : part 8192 (length texts) image ≡ texts
-    pub others : (k : ℕ) → k < page_count g → (Contains numbers k → ⊥) → page_at image k ≡ pages k
+  abbrev pub IsLaid : List ℕ → Type 0
+  IsLaid = under_way.IsLaid g front pages numbers texts
 
   texts_long : (image : List ℕ) → part 8192 (length texts) image ≡ texts → take (8192 * length numbers) (drop 8192 image) ≡ texts
   texts_long image is = ap (λ (n : ℕ). take n (drop 8192 image)) (sym long) ∙ is

@@ -1,6 +1,7 @@
 pub mod Overwrites
 pub mod TableLemmas
 pub mod Moves
+pub mod SyncLemmas
 pub mod ReadLemmas
 pub mod ImageLemmas
 pub mod Numbers
@@ -11,4 +12,6 @@ pub mod Overlays
 pub mod Batches
 pub mod Growing
 pub mod BatchMoments
+pub mod BatchSteps
+pub mod UnderWay
 pub mod ReplayMoments

@@ -1,7 +1,9 @@
 pub mod Volumes
 pub mod Tables
 pub mod Images
+pub mod Syncs
 pub mod Shown
 pub mod Differences
 pub mod Settled
 pub mod Checks
+pub mod UnderWay

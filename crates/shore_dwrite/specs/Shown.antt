@@ -1,5 +1,7 @@
 -- What a volume shows: its pages in place, or behind an open gate those of the double-write area over them.
 use Rattle.std.specs.Prelude.{◌≡◌, ◌≢◌, ◌⊎◌, ◌==◌, ℕ, ◌+◌, ◌<◌, ◌≤◌, List, [], ◌∷◌, length, take, drop, All, if◌then◌else◌}
+use Rattle.std.specs.Coded.{×_prop, Unit-prop}
+use denote.Struct.Props as logic
 use Rattle.shore_gate.specs.declared.gates.TheConstants.{OPEN}
 use Rattle.shore_types.specs.declared.layout.Geometry.{Geometry}
 use Rattle.shore_types.specs.declared.layout.TheConstants.{PAGE_BYTES, MAX_BATCH_PAGES}
@@ -11,6 +13,10 @@ use Rattle.shore_dwrite.specs.Volumes.{part, page_at, page_count, IsImageOf}
 abbrev pub RiseFrom : ℕ → List ℕ → Type 0
 RiseFrom low [] = Unit {0}
 RiseFrom low (k ∷ ks) = (low ≤ k) × RiseFrom (k + 1) ks
+
+pub RiseFrom-prop : (low : ℕ) (ks : List ℕ) → IsProp (RiseFrom low ks)
+RiseFrom-prop low [] = Unit-prop
+RiseFrom-prop low (k ∷ ks) = ×_prop (Prim.hlevel logic.props) (RiseFrom-prop (k + 1) ks)
 
 -- the bytes begin with a text for each of these pages, one behind another, of which something holds
 abbrev pub AreTexts : (ℕ → List ℕ → Type 0) → List ℕ → List ℕ → Type 0
@@ -34,6 +40,13 @@ pub record IsBatch (g : Geometry) (numbers bytes : List ℕ) : Type 0 where
   pub rise : RiseFrom 0 numbers
   pub on_volume : All (λ k. k < page_count g) numbers
   pub images : AreImages g numbers bytes
+
+-- numbers that a batch may have, whatever its images are
+pub record AreBatchNumbers (g : Geometry) (numbers : List ℕ) : Type 0 where
+  pub some : 1 ≤ length numbers
+  pub most : length numbers ≤ MAX_BATCH_PAGES
+  pub rise : RiseFrom 0 numbers
+  pub on_volume : All (λ k. k < page_count g) numbers
 
 -- pages, with the images of some of them laid over
 abbrev pub overlaid : List ℕ → List ℕ → (ℕ → List ℕ) → ℕ → List ℕ

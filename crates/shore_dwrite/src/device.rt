@@ -2,13 +2,14 @@
 ghost use Rattle.std.specs.Prelude.{◌≡◌, [], ◌∷◌, ◌⊎◌, ◌+◌, ◌*◌, ◌<◌, ◌≤◌, ℕ, List, length, All, Contains, IsTrue, IfErr, IfOk, OnOk, slice_get, Some};
 ghost use Rattle.std.proofs.Props.{props};
 ghost use Rattle.shore_types.specs.declared.layout.TheConstants.{PAGE_BYTES, MAX_PAGES, MAX_STORES, PAGES_AT};
-ghost use Rattle.shore_disk.specs.Device.{DeviceHistory, size, seen, may_leave, overwritten, CountsFault, LeavesOnly, Stands};
+ghost use Rattle.shore_disk.specs.Device.{DeviceHistory, size, seen, may_leave, overwritten, CountsFault, LeavesOnly, Stands, TornFrom};
 ghost use Rattle.shore_gate.specs.declared.gates.TheConstants.{OPEN};
+ghost use Rattle.shore_dwrite.specs.Syncs.{SyncsOnce};
 ghost use Rattle.shore_dwrite.specs.Checks.{HasRead, RefusesArea};
 ghost use Rattle.shore_dwrite.specs.Differences.{DiffersInArea, DiffersInPages, HasImages, HasPages};
 ghost use Rattle.shore_dwrite.specs.declared.places.TheConstants.{GATE_AT};
 ghost use Rattle.shore_dwrite.specs.Images.{numbers_of, texts_of};
-ghost use Rattle.shore_dwrite.specs.Shown.{IsBatch, IsShut, RiseFrom, overlaid, Shows, ShowsBehind, ShowsEither};
+ghost use Rattle.shore_dwrite.specs.Shown.{AreBatchNumbers, IsBatch, IsShut, RiseFrom, overlaid, Shows, ShowsBehind, ShowsEither};
 ghost use Rattle.shore_disk.specs.Cause.{HasCause};
 ghost use Rattle.shore_gate.specs.Checks.{IsFromOutside};
 ghost use Rattle.shore_page.specs.Text.{IsPageText, images_of, settled_page};
@@ -24,7 +25,7 @@ use crate::places::{
 use crate::replay::{check_images, read_table};
 use crate::table::table_of;
 use shore_disk::{Disk, DiskFault, FuseDisk};
-use shore_gate::{close_gate, is_open, open_gate};
+use shore_gate::{CLOSED, OPEN, close_gate, is_open};
 use shore_page::Page;
 use shore_types::layout::{MAX_STORES, PAGE_BYTES};
 use shore_types::{Device, Fault, Geometry, Lsn, PageId};
@@ -63,6 +64,7 @@ pub struct PageDev<D: Disk> {
 
 impl<D: Disk> PageDev<D> {
     ghost use Rattle.shore_dwrite.specs.Settled.{IsSettled, IsStable, device_of, geometry_of};
+    ghost use Rattle.shore_dwrite.specs.UnderWay.{IsOpened, IsPlaced, IsWritten};
 
     /// The pages on a device that is as long as its geometry asks.
     pub fn new(device: D, geometry: Geometry) -> PageDev<D>
@@ -117,12 +119,18 @@ impl<D: Disk> PageDev<D> {
         ensures found { (front : List ℕ) (pages : ℕ → List ℕ) → IsSettled self.old front pages → IfOk result (λ page.
             IsPageText (pages (page_number (geometry_of self.old) id)) id page.number (images_of page.slots)
             × (page ≡ settled_page id page.number (images_of page.slots))) }
+        ensures found_at { (image : List ℕ) → IsTrue (D.is_honest self.old.device) → Stands (D.history self.old.device) image → IfOk result (λ page.
+            IsPageText (page_at image (page_number (geometry_of self.old) id)) id page.number (images_of page.slots)) }
         ensures page { IfOk result (λ page. page ≡ settled_page id page.number (images_of page.slots)) }
         ensures behind { IfOk result (λ page. page.number ≤ last) }
         ensures refused { (front : List ℕ) (pages : ℕ → List ℕ) → IsSettled self.old front pages → IfErr result (λ fault.
             IsFromOutside fault
             ⊎ ((fault ≡ Fault.Damaged Device.Volume (page_offset (page_number (geometry_of self.old) id)))
             × HasNoPage (pages (page_number (geometry_of self.old) id)) id last)) }
+        ensures refused_at { (image : List ℕ) → IsTrue (D.is_honest self.old.device) → Stands (D.history self.old.device) image → IfErr result (λ fault.
+            IsFromOutside fault
+            ⊎ ((fault ≡ Fault.Damaged Device.Volume (page_offset (page_number (geometry_of self.old) id)))
+            × HasNoPage (page_at image (page_number (geometry_of self.old) id)) id last)) }
         ensures settled { (front : List ℕ) (pages : ℕ → List ℕ) → IsSettled self.old front pages → IsSettled self.new front pages }
         ensures same { IsTrue (D.is_honest self.old.device) → D.history self.new.device ≡ D.history self.old.device }
         ensures honest { D.is_honest self.new.device ≡ D.is_honest self.old.device }
@@ -153,10 +161,87 @@ impl<D: Disk> PageDev<D> {
         ensures geometry { geometry_of self.new ≡ geometry_of self.old }
         ensures cause { CountsFault result (D.faults self.old.device) (D.faults self.new.device) }
     {
-        self.write_area(images)?;
-        open_gate(&mut self.device, GATE_AT)?;
-        self.write_in_place(images)?;
-        close_gate(&mut self.device, GATE_AT)
+        self.begin_batch(images)?;
+        self.open_batch()?;
+        self.place_batch(images)?;
+        self.end_batch()
+    }
+
+    /// The first of a batch's four syncs: its table and its images go into the area, behind the shut gate. All pages stay as they were. At an error, as at
+    /// that of each other step, the device failed, and any part of it may be done.
+    pub fn begin_batch(&mut self, images: &PageImages) -> Result<(), DiskFault>
+        requires { IsBatch (geometry_of self.old) (numbers_of images.now) (texts_of images.now) }
+        ensures written { (front : List ℕ) (pages : ℕ → List ℕ) → IsSettled self.old front pages
+            → OnOk result (IsWritten self.new front pages (numbers_of images.now) (texts_of images.now)) }
+        ensures settled { (front : List ℕ) (pages : ℕ → List ℕ) → IsSettled self.old front pages → OnOk result (IsSettled self.new front pages) }
+
+        // A crash at any moment of the call leaves each page as it was.
+        ensures any_moment { (front : List ℕ) (pages : ℕ → List ℕ) → IsSettled self.old front pages
+            → LeavesOnly (D.history self.old.device) (D.history self.new.device) (ShowsBehind (geometry_of self.old) front pages) }
+
+        ensures syncs { IsTrue (D.is_honest self.old.device) → SyncsOnce result (D.history self.old.device) (D.history self.new.device) }
+        ensures honest { D.is_honest self.new.device ≡ D.is_honest self.old.device }
+        ensures size { size (D.history self.new.device) ≡ size (D.history self.old.device) }
+        ensures geometry { geometry_of self.new ≡ geometry_of self.old }
+        ensures cause { CountsFault result (D.faults self.old.device) (D.faults self.new.device) }
+    {
+        self.write_area(images)
+    }
+
+    /// The second: the gate is opened. From its sync on the volume shows the batch's pages.
+    pub fn open_batch(&mut self) -> Result<(), DiskFault>
+        ensures opened { (front : List ℕ) (pages : ℕ → List ℕ) (numbers texts : List ℕ) → IsWritten self.old front pages numbers texts
+            → OnOk result (IsOpened self.new front pages numbers texts) }
+
+        // A crash at any moment of the call leaves all pages of the batch old or all new, and each other page as it was.
+        ensures any_moment { (front : List ℕ) (pages : ℕ → List ℕ) (numbers texts : List ℕ) → IsWritten self.old front pages numbers texts
+            → LeavesOnly (D.history self.old.device) (D.history self.new.device) (ShowsEither (geometry_of self.old) front pages (overlaid numbers texts pages)) }
+
+        ensures syncs { IsTrue (D.is_honest self.old.device) → SyncsOnce result (D.history self.old.device) (D.history self.new.device) }
+        ensures honest { D.is_honest self.new.device ≡ D.is_honest self.old.device }
+        ensures size { size (D.history self.new.device) ≡ size (D.history self.old.device) }
+        ensures geometry { geometry_of self.new ≡ geometry_of self.old }
+        ensures cause { CountsFault result (D.faults self.old.device) (D.faults self.new.device) }
+    {
+        self.set_gate(OPEN)
+    }
+
+    /// The third: each page of the batch is written in place.
+    pub fn place_batch(&mut self, images: &PageImages) -> Result<(), DiskFault>
+        requires { AreBatchNumbers (geometry_of self.old) (numbers_of images.now) }
+        ensures placed { (front : List ℕ) (pages : ℕ → List ℕ) → IsOpened self.old front pages (numbers_of images.now) (texts_of images.now)
+            → OnOk result (IsPlaced self.new front pages (numbers_of images.now) (texts_of images.now)) }
+
+        // A crash at any moment of the call leaves all pages of the batch new.
+        ensures any_moment { (front : List ℕ) (pages : ℕ → List ℕ) → IsOpened self.old front pages (numbers_of images.now) (texts_of images.now)
+            → LeavesOnly (D.history self.old.device) (D.history self.new.device)
+            (ShowsBehind (geometry_of self.old) front (overlaid (numbers_of images.now) (texts_of images.now) pages)) }
+
+        ensures syncs { IsTrue (D.is_honest self.old.device) → SyncsOnce result (D.history self.old.device) (D.history self.new.device) }
+        ensures honest { D.is_honest self.new.device ≡ D.is_honest self.old.device }
+        ensures size { size (D.history self.new.device) ≡ size (D.history self.old.device) }
+        ensures geometry { geometry_of self.new ≡ geometry_of self.old }
+        ensures cause { CountsFault result (D.faults self.old.device) (D.faults self.new.device) }
+    {
+        self.write_in_place(images)
+    }
+
+    /// The fourth: the gate is shut, and the area may be written anew.
+    pub fn end_batch(&mut self) -> Result<(), DiskFault>
+        ensures settled { (front : List ℕ) (pages : ℕ → List ℕ) (numbers texts : List ℕ) → IsPlaced self.old front pages numbers texts
+            → OnOk result (IsSettled self.new front (overlaid numbers texts pages)) }
+
+        // A crash at any moment of the call leaves all pages of the batch new.
+        ensures any_moment { (front : List ℕ) (pages : ℕ → List ℕ) (numbers texts : List ℕ) → IsPlaced self.old front pages numbers texts
+            → LeavesOnly (D.history self.old.device) (D.history self.new.device) (ShowsBehind (geometry_of self.old) front (overlaid numbers texts pages)) }
+
+        ensures syncs { IsTrue (D.is_honest self.old.device) → SyncsOnce result (D.history self.old.device) (D.history self.new.device) }
+        ensures honest { D.is_honest self.new.device ≡ D.is_honest self.old.device }
+        ensures size { size (D.history self.new.device) ≡ size (D.history self.old.device) }
+        ensures geometry { geometry_of self.new ≡ geometry_of self.old }
+        ensures cause { CountsFault result (D.faults self.old.device) (D.faults self.new.device) }
+    {
+        self.set_gate(CLOSED)
     }
 
     /// Lays the images of an open area into place, which a loss of power left there, and closes its gate. With a shut gate there is nothing
@@ -219,6 +304,21 @@ impl<D: Disk> PageDev<D> {
         Ok(PageImages::of(numbers, bytes))
     }
 
+    // Writes the gate, and syncs.
+    fn set_gate(&mut self, gate: u8) -> Result<(), DiskFault>
+        ensures stable { IsTrue (D.is_honest self.old.device) → OnOk result (Stands (D.history self.new.device) (overwritten (seen (D.history self.old.device)) GATE_AT (gate ∷ []))) }
+        ensures any_moment { IsTrue (D.is_honest self.old.device) → LeavesOnly (D.history self.old.device) (D.history self.new.device)
+            (TornFrom GATE_AT 1 (D.history self.old.device)) }
+        ensures syncs { IsTrue (D.is_honest self.old.device) → SyncsOnce result (D.history self.old.device) (D.history self.new.device) }
+        ensures honest { D.is_honest self.new.device ≡ D.is_honest self.old.device }
+        ensures size { size (D.history self.new.device) ≡ size (D.history self.old.device) }
+        ensures geometry { geometry_of self.new ≡ geometry_of self.old }
+        ensures cause { CountsFault result (D.faults self.old.device) (D.faults self.new.device) }
+    {
+        self.device.write_at(GATE_AT, &[gate])?;
+        self.device.sync()
+    }
+
     // Writes the table and the images behind the gate, and syncs.
     fn write_area(&mut self, images: &PageImages) -> Result<(), DiskFault>
         requires { IsBatch (geometry_of self.old) (numbers_of images.now) (texts_of images.now) }
@@ -226,6 +326,7 @@ impl<D: Disk> PageDev<D> {
             → OnOk result ((new : List ℕ) × Stands (D.history self.new.device) new × HasImages base new (numbers_of images.now) (texts_of images.now)) }
         ensures any_moment { (base : List ℕ) → IsTrue (D.is_honest self.old.device) → Stands (D.history self.old.device) base
             → LeavesOnly (D.history self.old.device) (D.history self.new.device) (DiffersInArea base) }
+        ensures syncs { IsTrue (D.is_honest self.old.device) → SyncsOnce result (D.history self.old.device) (D.history self.new.device) }
         ensures honest { D.is_honest self.new.device ≡ D.is_honest self.old.device }
         ensures size { size (D.history self.new.device) ≡ size (D.history self.old.device) }
         ensures geometry { geometry_of self.new ≡ geometry_of self.old }
@@ -238,11 +339,12 @@ impl<D: Disk> PageDev<D> {
 
     // Writes each page in place, and syncs.
     fn write_in_place(&mut self, images: &PageImages) -> Result<(), DiskFault>
-        requires { IsBatch (geometry_of self.old) (numbers_of images.now) (texts_of images.now) }
+        requires { AreBatchNumbers (geometry_of self.old) (numbers_of images.now) }
         ensures done { (base : List ℕ) → IsTrue (D.is_honest self.old.device) → Stands (D.history self.old.device) base
             → OnOk result ((new : List ℕ) × Stands (D.history self.new.device) new × HasPages base new (numbers_of images.now) (texts_of images.now)) }
         ensures any_moment { (base : List ℕ) → IsTrue (D.is_honest self.old.device) → Stands (D.history self.old.device) base
             → LeavesOnly (D.history self.old.device) (D.history self.new.device) (DiffersInPages (numbers_of images.now) base) }
+        ensures syncs { IsTrue (D.is_honest self.old.device) → SyncsOnce result (D.history self.old.device) (D.history self.new.device) }
         ensures honest { D.is_honest self.new.device ≡ D.is_honest self.old.device }
         ensures size { size (D.history self.new.device) ≡ size (D.history self.old.device) }
         ensures geometry { geometry_of self.new ≡ geometry_of self.old }

@@ -1,5 +1,5 @@
 //! The pages of a batch, with their texts one behind another, as one write takes them.
-ghost use Rattle.std.specs.Prelude.{◌≡◌, ◌*◌, ◌+◌, ◌++◌, ◌∷◌, [], ◌<◌, ℕ, All, length, IfOk, OnOk, OnErr};
+ghost use Rattle.std.specs.Prelude.{◌≡◌, ◌*◌, ◌+◌, ◌++◌, ◌∷◌, [], ◌<◌, ◌↔◌, ℕ, All, Contains, IsTrue, length, IfOk, OnOk, OnErr};
 ghost use Rattle.shore_types.specs.declared.layout.Geometry.{Geometry};
 ghost use Rattle.shore_types.specs.declared.layout.TheConstants.{PAGE_BYTES};
 ghost use Rattle.shore_dwrite.specs.Shown.{IsBatchSoFar};
@@ -64,6 +64,13 @@ impl PageImages {
         self.bytes.extend_from_slice(text)?;
         self.numbers.push(number)?;
         Ok(())
+    }
+
+    /// Whether it has an image of a page.
+    pub fn has(&self, number: u32) -> bool
+        ensures { IsTrue result ↔ Contains (numbers_of self.now) number }
+    {
+        self.numbers.contains(&number)
     }
 
     /// The numbers of the pages, in the order in which they came.

@@ -3,12 +3,14 @@ pub mod Indexes
 pub mod Settling
 pub mod Orders
 pub mod Written
+pub mod UnderWay
 pub mod Moments
 pub mod Same
 pub mod Dirty
 pub mod Counts
 pub mod Unwritten
 pub mod Steps
+pub mod Syncs
 pub mod Choices
 pub mod Freeing
 pub mod OldestDirty

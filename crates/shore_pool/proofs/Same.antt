@@ -10,7 +10,7 @@ use Rattle.shore_pool.specs.declared.frame.Frame.{Frame}
 use Rattle.shore_pool.specs.Changes.{changed, first_of, reclaimed, settled}
 use Rattle.shore_page.specs.Slots.{Slot, with_change}
 use Rattle.shore_pool.specs.FrameMaps.{IsDue}
-use Rattle.shore_pool.specs.Pages.{AreWritten, IsPage, IsTextOf, SamePages}
+use Rattle.shore_pool.specs.Pages.{HasText, AreWritten, IsPage, IsTextOf, SamePages}
 
 page_id : ℕ → ℕ → PageId
 page_id store page = record { store = store; page = page }
@@ -141,6 +141,27 @@ module _ (at now : ℕ → Option Frame) (disk : ℕ → List ℕ) (n slot : ℕ
           let both : reclaimed claim slot e ≡ f = cc in
           let dirty : e.recovery ≡ None = ap (λ (x : Frame). x.recovery) both ∙ clean in
           subst (λ (x : Frame). IsTextOf x (disk k)) both (subst (λ (l : List Image). IsPageText (disk k) e.page.id e.page.number l) (sym (images_stay claim keeps e.page.slots slot)) (text e refl dirty))
+
+  -- the text of its page is no other, and it stays
+  pub claims_text : (k : ℕ) (text : List ℕ) → HasText at k text → HasText now k text
+  claims_text k text has = elim (cases_eq k n) [
+    | inl same ↦ subst (λ (o : Option Frame). IsSomeAnd o (λ f. IsTextOf f text)) (sym (subst (λ (i : ℕ). now i ≡ option_map (reclaimed claim slot) (at i)) (sym same) here)) (each (at k) has)
+    | inr other ↦ subst (λ (o : Option Frame). IsSomeAnd o (λ f. IsTextOf f text)) (sym (others k other)) has
+  ]
+    where
+      each : (o : Option Frame) → IsSomeAnd o (λ f. IsTextOf f text) → IsSomeAnd (option_map (reclaimed claim slot) o) (λ f. IsTextOf f text)
+      each None has = has
+      each (Some e) has = subst (λ (l : List Image). IsPageText text e.page.id e.page.number l) (sym (images_stay claim keeps e.page.slots slot)) has
+
+  pub claims_some : (k : ℕ) → is_some (at k) ≡ true → is_some (now k) ≡ true
+  claims_some k is = elim (cases_eq k n) [
+    | inl same ↦ subst (λ (o : Option Frame). is_some o ≡ true) (sym (subst (λ (i : ℕ). now i ≡ option_map (reclaimed claim slot) (at i)) (sym same) here)) (each (at k) is)
+    | inr other ↦ subst (λ (o : Option Frame). is_some o ≡ true) (sym (others k other)) is
+  ]
+    where
+      each : (o : Option Frame) → is_some o ≡ true → is_some (option_map (reclaimed claim slot) o) ≡ true
+      each None there = there
+      each (Some e) there = refl
 
 -- a page that was changed is dirty
 pub change_written : (at now : ℕ → Option Frame) (disk : ℕ → List ℕ) (n lsn slot : ℕ) (after : Image) → now n ≡ option_map (changed lsn slot after) (at n) → ((k : ℕ) → k ≢ n → now k ≡ at k) → AreWritten at disk → AreWritten now disk

@@ -7,8 +7,8 @@ use Rattle.shore_pool.specs.declared.frame.Frame.{Frame}
 use Rattle.shore_pool.specs.declared.pool.Pool.{Pool}
 use Rattle.shore_pool.specs.Pages.{IsTextOf, MayBeLeft, SamePages, StayUnwritten, WereDirty}
 use Rattle.shore_pool.specs.Pools.{PoolHolds, NeedsForce, WroteBack, frame_at}
-use Rattle.shore_pool.proofs.Same.{pages_on}
-use Rattle.shore_pool.proofs.Unwritten.{none_written, unwritten_on}
+use Rattle.shore_pool.proofs.Same.{pages_on, pages_stay}
+use Rattle.shore_pool.proofs.Unwritten.{none_written, unwritten_on, were_same}
 
 -- what a map of frames says, as one equation
 pub alike : (at now : ℕ → Option Frame) → ((k : ℕ) → now k ≡ at k) → now ≡ at
@@ -45,6 +45,28 @@ module _ {D : Type 0} {G : Ghosts D} (old mid : Pool D G) (same : frame_at mid �
   refused_from (Err fault) (inl device) = inl device
   refused_from (Err fault) (inr (inl memory)) = inr (inl memory)
   refused_from (Err fault) (inr (inr n)) = inr (inr (n.0, n.1, force_from n.0 n.2))
+
+-- no page was written, and no frame has changed
+pub wrote_still : {D : Type 0} {G : Ghosts D} (old new : Pool D G) (durable : ℕ) (front : List ℕ) (disk : ℕ → List ℕ) → ((k : ℕ) → frame_at new k ≡ frame_at old k) → PoolHolds new front disk
+    → WroteBack old new durable front disk
+wrote_still old new durable front disk same holds = record {
+  left = disk;
+  holds = holds;
+  may = λ k. inl refl;
+  same = pages_stay (frame_at old) (frame_at new) disk same;
+  unwritten = none_written (frame_at old) (frame_at new) disk (were_same (frame_at old) (frame_at new) same);
+}
+
+-- a call that wrote back, and one more that changes no frame
+pub wrote_on : {D : Type 0} {G : Ghosts D} (old mid new : Pool D G) (durable : ℕ) (front : List ℕ) (disk : ℕ → List ℕ) → frame_at new ≡ frame_at mid → (w : WroteBack old mid durable front disk) → PoolHolds new front w.left
+    → WroteBack old new durable front disk
+wrote_on old mid new durable front disk is w holds = record {
+  left = w.left;
+  holds = holds;
+  may = w.may;
+  same = subst (λ (now : ℕ → Option Frame). SamePages (frame_at old) disk now w.left) (sym is) w.same;
+  unwritten = subst (λ (now : ℕ → Option Frame). StayUnwritten (frame_at old) disk now w.left) (sym is) w.unwritten;
+}
 
 -- one more page comes behind a call that wrote back
 pub wrote_then : {D : Type 0} {G : Ghosts D} (old mid new : Pool D G) (durable : ℕ) (front : List ℕ) (disk : ℕ → List ℕ) (w : WroteBack old mid durable front disk)

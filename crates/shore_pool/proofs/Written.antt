@@ -14,7 +14,7 @@ use Rattle.shore_pool.specs.Changes.{settled, settled_at}
 use Rattle.shore_pool.specs.Pages.{AreInOrder, AreUpTo, AreWritten, HasText, IsPage, IsTextOf, MayBeLeft, SamePages}
 
 -- what holds of each text
-texts_weaker : (P Q : ℕ → List ℕ → Type 0) → ((k : ℕ) (text : List ℕ) → P k text → Q k text) → (numbers texts : List ℕ) → AreTexts P numbers texts → AreTexts Q numbers texts
+pub texts_weaker : (P Q : ℕ → List ℕ → Type 0) → ((k : ℕ) (text : List ℕ) → P k text → Q k text) → (numbers texts : List ℕ) → AreTexts P numbers texts → AreTexts Q numbers texts
 texts_weaker P Q weaker [] texts are = tt
 texts_weaker P Q weaker (n ∷ numbers) texts are = (weaker n (take 8192 texts) are.0, texts_weaker P Q weaker numbers (drop 8192 texts) are.1)
 

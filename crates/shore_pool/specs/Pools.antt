@@ -1,5 +1,5 @@
 -- What a pool holds over a volume, and what a call leaves of both.
-use Rattle.std.specs.Prelude.{◌≡◌, ◌≢◌, ◌⊎◌, ◌<◌, Bool, ℕ, List, Option, Some, None, IsSomeAnd, option_map}
+use Rattle.std.specs.Prelude.{Contains, ◌≡◌, ◌≢◌, ◌⊎◌, ◌<◌, Bool, ℕ, List, Option, Some, None, IsSomeAnd, option_map}
 use Rattle.shore_disk.specs.Device.{DeviceHistory}
 use Rattle.shore_disk.specs.declared.device.Disk.{Ghosts}
 use Rattle.shore_types.specs.declared.ids.PageId.{PageId}
@@ -7,15 +7,18 @@ use Rattle.shore_types.specs.declared.layout.Geometry.{Geometry}
 use Rattle.shore_types.specs.Images.{Image}
 use Rattle.shore_dwrite.specs.declared.device.PageDev.{PageDev}
 use Rattle.shore_dwrite.specs.Settled as device
-use Rattle.shore_dwrite.specs.Settled.{IsSettled}
+use Rattle.shore_dwrite.specs.Images.{numbers_of, texts_of}
 use Rattle.shore_dwrite.specs.Shown.{ShowsBehind}
 use Rattle.shore_dwrite.specs.Volumes.{page_number}
+use Rattle.shore_pool.specs.declared.amid.Amid.{Amid}
+use Rattle.shore_pool.specs.declared.amid.Amid.TheVariants as amid
 use Rattle.shore_pool.specs.declared.frame.Frame.{Frame}
 use Rattle.shore_pool.specs.declared.pool.Pool.{Pool}
 use Rattle.shore_pool.specs.Changes.{settled}
 use Rattle.shore_pool.specs.FrameMaps as frames
 use Rattle.shore_pool.specs.FrameMaps.{AllDirty, IsChangedFirst, IsDue}
-use Rattle.shore_pool.specs.Pages.{AreWritten, IsPage, MayBeLeft, SamePages, StayUnwritten}
+use Rattle.shore_pool.specs.Pages.{AreUpTo, AreWritten, IsPage, MayBeLeft, SamePages, StayUnwritten}
+use Rattle.shore_pool.specs.UnderWay.{AreHeld, HoldsAmid}
 
 abbrev pub geometry_of : {D : Type 0} {G : Ghosts D} → Pool D G → Geometry
 geometry_of pool = device.geometry_of pool.device
@@ -48,10 +51,21 @@ count_of pool = frames.count_of pool.frames
 abbrev pub limit_of : {D : Type 0} {G : Ghosts D} → Pool D G → ℕ
 limit_of pool = frames.limit_of pool.frames
 
--- The volume is settled with these texts of its pages behind this front, and what is clean in the pool is there.
+-- how far its batch is, if one is under way, and the batch: the numbers of its pages, and their texts as they were when it began
+abbrev pub amid_of : {D : Type 0} {G : Ghosts D} → Pool D G → Amid
+amid_of pool = pool.amid
+
+abbrev pub batch_of : {D : Type 0} {G : Ghosts D} → Pool D G → List ℕ
+batch_of pool = numbers_of pool.batch
+
+abbrev pub batch_texts_of : {D : Type 0} {G : Ghosts D} → Pool D G → List ℕ
+batch_texts_of pool = texts_of pool.batch
+
+-- The volume shows these texts of its pages behind this front, with the batch that is under way, and what is clean in the pool is among them.
 pub record PoolHolds {D : Type 0} {G : Ghosts D} (pool : Pool D G) (front : List ℕ) (disk : ℕ → List ℕ) : Type 0 where
-  pub settled : IsSettled pool.device front disk
+  pub settled : HoldsAmid pool.amid pool.device front disk (batch_of pool) (batch_texts_of pool)
   pub written : AreWritten (frame_at pool) disk
+  pub held : AreHeld pool.amid (frame_at pool) (batch_of pool) (batch_texts_of pool)
 
 -- a page in place, over these texts: its number and what is in its slots
 abbrev pub HasInPlace : {D : Type 0} {G : Ghosts D} → Pool D G → (ℕ → List ℕ) → PageId → ℕ → List Image → Type 0
@@ -97,3 +111,16 @@ FreesInOrder old new durable = (k : ℕ) (f : Frame) → frame_at old k ≡ Some
 -- the volume was written only if no frame was clean
 abbrev pub WritesIfAllDirty : {D : Type 0} {G : Ghosts D} → Pool D G → Pool D G → Type 0
 WritesIfAllDirty old new = (history_of new ≡ history_of old) ⊎ AllDirty old.frames
+
+-- a batch goes on: neither it nor how far it is has changed
+pub record KeepsBatch {D : Type 0} {G : Ghosts D} (old new : Pool D G) : Type 0 where
+  pub amid : amid_of new ≡ amid_of old
+  pub batch : batch_of new ≡ batch_of old
+
+-- .. or it was given up, as nothing of it counted
+abbrev pub KeepsBatchOrGivesUp : {D : Type 0} {G : Ghosts D} → Pool D G → Pool D G → Type 0
+KeepsBatchOrGivesUp old new = (amid_of new ≡ amid_of old) ⊎ ((amid_of old ≡ amid.Written) × (amid_of new ≡ amid.Rest))
+
+-- a batch under way has a page, its gate is shut, and it may be opened: each of its pages has a durable number
+abbrev pub GoesOnWith : {D : Type 0} {G : Ghosts D} → Pool D G → ℕ → ℕ → Type 0
+GoesOnWith pool number durable = (amid_of pool ≡ amid.Written) × Contains (batch_of pool) number × AreUpTo (frame_at pool) durable (batch_of pool)

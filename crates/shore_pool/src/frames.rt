@@ -1,6 +1,6 @@
 //! The frames of a pool, each found by its page's number on the volume, in one step: the volume has at most 65,536 pages, so the table has
 //! four bytes for each of them, where the page itself has 8,192.
-ghost use Rattle.std.specs.Prelude.{◌≡◌, ◌≢◌, ◌⊎◌, ◌+◌, ◌^◌, ◌<◌, ◌≤◌, ◌↔◌, ℕ, None, Some, All, Contains, IfOk, OnOk, IfSome, IfNone, IsSomeAnd, IsTrue, length, nat_le, count_by, is_some, option_copied, option_map};
+ghost use Rattle.std.specs.Prelude.{◌≡◌, ◌≢◌, ◌⊎◌, ◌+◌, ◌^◌, ◌<◌, ◌≤◌, ◌↔◌, ℕ, None, Some, All, Contains, IfOk, OnOk, IfSome, IfNone, IsSomeAnd, IsTrue, length, nat_le, count_by, is_some, option_copied, option_map, IsFalse};
 ghost use Rattle.slab.specs.Slab.{slab_len};
 ghost use Rattle.shore_types.specs.Images.{Image, image_len};
 ghost use Rattle.shore_page.specs.Room.{Fits, lowered, raised};
@@ -114,6 +114,17 @@ impl Frames {
         match self.key(number) {
             Some(key) => self.slots.get(key),
             None => None,
+        }
+    }
+
+    /// Whether a page has a frame, with a number up to this one.
+    pub fn is_up_to(&self, number: u32, durable: Lsn) -> bool
+        ensures yes { IsTrue result → IsSomeAnd (frame_at self.now number) (λ f. f.page.number ≤ durable) }
+        ensures no { IsFalse result → IsSomeAnd (frame_at self.now number) (λ f. f.page.number ≤ durable) → ⊥ }
+    {
+        match self.find(number) {
+            Some(frame) => frame.page.number().0 <= durable.0,
+            None => false,
         }
     }
 

@@ -1,12 +1,13 @@
 //! The pool: pages of a volume, of which as many as there are frames are in memory.
-ghost use Rattle.std.specs.Prelude.{◌≡◌, ◌≢◌, ◌⊎◌, ◌+◌, ◌-◌, ◌*◌, ◌<◌, ◌≤◌, ℕ, [], List, All, Contains, IfErr, IfNone, IfOk, IfSome, IsErrAnd, IsSomeAnd, IsTrue, MatchResult, None, OnErr, OnOk, Some, is_some, length, map, option_copied, option_map};
+ghost use Rattle.std.specs.Prelude.{◌≡◌, ◌≢◌, ◌⊎◌, ◌+◌, ◌-◌, ◌*◌, ◌<◌, ◌≤◌, ℕ, [], List, All, Contains, IfErr, IfNone, IfOk, IfSome, IsErrAnd, IsSomeAnd, IsTrue, MatchResult, None, OnErr, OnOk, Some, is_some, length, map, option_copied, option_map, IsFalse};
 ghost use Rattle.std.proofs.Props.{props};
 ghost use Rattle.std.specs.List.Sorted.{IsStrictlySortedBy};
 ghost use Rattle.shore_types.specs.Ids.{page_cmp};
 ghost use Rattle.shore_disk.specs.Cause.{HasCause};
 ghost use Rattle.shore_disk.specs.Device.{CountsFault, LeavesOnly, size};
 ghost use Rattle.shore_dwrite.specs.Settled as settled_device;
-ghost use Rattle.shore_dwrite.specs.Shown.{RiseFrom};
+ghost use Rattle.shore_dwrite.specs.Images.{numbers_of};
+ghost use Rattle.shore_dwrite.specs.Shown.{AreBatchNumbers, RiseFrom, RiseFrom-prop, ShowsBehind};
 ghost use Rattle.shore_dwrite.specs.Volumes.{HasNoPage, page_count, page_number, page_offset};
 ghost use Rattle.shore_page.specs.Room.{Fits, lowered, raised};
 ghost use Rattle.shore_page.specs.Slots.{with_change};
@@ -19,10 +20,14 @@ ghost use Rattle.shore_types.specs.declared.layout.TheConstants.{MAX_BATCH_PAGES
 ghost use Rattle.shore_pool.specs.Changes.{changed, reclaimed, settled};
 ghost use Rattle.shore_pool.specs.FrameMaps as maps;
 ghost use Rattle.shore_pool.specs.FrameMaps.{IsDue};
+ghost use Rattle.shore_pool.specs.declared.amid.Amid.TheVariants as Amid;
 ghost use Rattle.shore_pool.specs.declared.frame.Frame.{Frame};
 ghost use Rattle.shore_pool.specs.Pages.{AreInOrder, AreUpTo, SamePages, WereDirty};
 ghost use Rattle.shore_pool.specs.declared.pool.Fetched.TheVariants as Fetched;
 
+mod batches;
+
+use crate::amid::Amid;
 use crate::frame::Frame;
 use crate::frames::Frames;
 use crate::gathering::gather;
@@ -51,17 +56,20 @@ pub struct Pool<D: Disk> {
     device: PageDev<D>,
     // The pages in memory. `in_order` says that each is the page of its number, `pages` that the table has a place for each page of the volume.
     frames: Frames,
-    // Room for a batch, taken once. `gather` fills it anew for each `write`; between calls it says nothing.
+    // Room for a batch, taken once. `gather` fills it anew for each batch; where none is under way it says nothing.
     batch: PageImages,
+    // How far the batch is that it has.
+    amid: Amid,
     ghost in_order: { AreInOrder (maps.frame_at frames) (settled_device.geometry_of device) } by { Prim.hlevel props },
     ghost some: { MIN_POOL_FRAMES ≤ maps.limit_of frames },
     ghost few: { maps.limit_of frames ≤ MAX_POOL_FRAMES },
     ghost pages: { maps.pages_of frames ≡ page_count (settled_device.geometry_of device) },
+    ghost batch_is: { amid ≢ Amid.Rest → AreBatchNumbers (settled_device.geometry_of device) (numbers_of batch) } by { Prim.hlevel (RiseFrom-prop, props) },
 }
 
 impl<D: Disk> Pool<D> {
     ghost use Rattle.shore_pool.specs.Batches.{AreDue, AreFirstFrom};
-    ghost use Rattle.shore_pool.specs.Pools.{FreesInOrder, HasInPlace, PoolHolds, LeavesPages, NeedsForce, StayOrGo, StaysOrGoes, WritesIfAllDirty, WroteBack, count_of, device_of, faults_of, frame_at, frame_of, geometry_of, history_of, honesty_of, limit_of};
+    ghost use Rattle.shore_pool.specs.Pools.{FreesInOrder, HasInPlace, KeepsBatch, KeepsBatchOrGivesUp, amid_of, batch_of, PoolHolds, LeavesPages, NeedsForce, StayOrGo, StaysOrGoes, WritesIfAllDirty, WroteBack, count_of, device_of, faults_of, frame_at, frame_of, geometry_of, history_of, honesty_of, limit_of};
 
     /// A pool of so many frames, with all its memory but that of pages. The device is handed back if an allocation failed.
     pub fn new(alloc: Global, device: PageDev<D>, frames: usize) -> Result<Pool<D>, PageDev<D>>
@@ -71,6 +79,7 @@ impl<D: Disk> Pool<D> {
         ensures empty { IfOk result (λ pool. (k : ℕ) → frame_at pool k ≡ None) }
         ensures count { IfOk result (λ pool. count_of pool ≡ 0) }
         ensures limit { IfOk result (λ pool. limit_of pool ≡ frames) }
+        ensures rests { IfOk result (λ pool. amid_of pool ≡ Amid.Rest) }
         ensures refused { IfErr result (λ back. back ≡ device) }
     {
         let pages = device.pages() as usize;
@@ -84,6 +93,7 @@ impl<D: Disk> Pool<D> {
             device,
             frames,
             batch,
+            amid: Amid::Rest,
         })
     }
 
@@ -137,7 +147,7 @@ impl<D: Disk> Pool<D> {
         // A frame goes, or changes, only if all are taken: a clean one before a dirty one, and the page that was changed first before other dirty ones.
         ensures needed { count_of self.old < limit_of self.old → (k : ℕ) (f : Frame) → frame_at self.old k ≡ Some f → frame_at self.new k ≡ Some f }
         ensures in_order { FreesInOrder self.old self.new ends.now.durable }
-        ensures writes { (front : List ℕ) (disk : ℕ → List ℕ) → PoolHolds self.old front disk → WritesIfAllDirty self.old self.new }
+        ensures writes { (front : List ℕ) (disk : ℕ → List ℕ) → PoolHolds self.old front disk → amid_of self.old ≡ Amid.Rest → WritesIfAllDirty self.old self.new }
 
         // A crash at any moment of the call leaves pages that are old, or those of their frames with durable numbers.
         ensures any_moment { (front : List ℕ) (disk : ℕ → List ℕ) → PoolHolds self.old front disk
@@ -172,7 +182,7 @@ impl<D: Disk> Pool<D> {
             ⊎ ((number : ℕ) × (fault ≡ Fault.NeedForce number) × NeedsForce self.old durable number)) }
         ensures unmoved { IfErr result (λ fault. (number : ℕ) → fault ≡ Fault.NeedForce number → (k : ℕ) → frame_at self.new k ≡ frame_at self.old k) }
         ensures in_order { FreesInOrder self.old self.new durable }
-        ensures writes { WritesIfAllDirty self.old self.new }
+        ensures writes { amid_of self.old ≡ Amid.Rest → WritesIfAllDirty self.old self.new }
         ensures needed { count_of self.old < limit_of self.old → (k : ℕ) → frame_at self.new k ≡ frame_at self.old k }
         ensures any_moment { (front : List ℕ) (disk : ℕ → List ℕ) → PoolHolds self.old front disk
             → LeavesOnly (history_of self.old) (history_of self.new) (LeavesPages self.old durable front disk) }
@@ -228,8 +238,12 @@ impl<D: Disk> Pool<D> {
         ensures count { count_of self.new ≡ count_of self.old }
         ensures limit { limit_of self.new ≡ limit_of self.old }
         ensures device { device_of self.new ≡ device_of self.old }
+        ensures batch { KeepsBatchOrGivesUp self.old self.new }
+        // A batch that the page is not of goes on.
+        ensures apart { (Contains (batch_of self.old) (page_number (geometry_of self.old) id) → ⊥) → amid_of self.new ≡ amid_of self.old }
     {
         let number = self.device.number(id);
+        self.give_up_with(number);
         self.frames.change(number, lsn, slot, after);
     }
 
@@ -319,7 +333,7 @@ impl<D: Disk> Pool<D> {
 
     /// Frees a frame: one of a clean page that was not used for a while, if there is a clean page; else that of the page whose changes are
     /// oldest among those with numbers up to the durable one. That page is written first, and with it, for a batch costs as many syncs as a page, those
-    /// behind it on the volume that may be. `NeedForce` with the number of a page if none has such a number. A pool with no page in a frame stays as it is.
+    /// behind it on the volume that may be; or the batch under way is gone on with, if it has the page and its gate is shut. `NeedForce` with the number of a page if none has such a number. A pool with no page in a frame stays as it is.
     pub fn evict(&mut self, alloc: Global, durable: Lsn) -> Result<(), Fault>
         ensures freed { OnOk result (count_of self.new ≡ count_of self.old - 1) }
         ensures frames { StayOrGo self.old self.new }
@@ -331,7 +345,7 @@ impl<D: Disk> Pool<D> {
 
         // A clean frame goes before a dirty one, and the page that was changed first before other dirty ones.
         ensures in_order { FreesInOrder self.old self.new durable }
-        ensures writes { WritesIfAllDirty self.old self.new }
+        ensures writes { amid_of self.old ≡ Amid.Rest → WritesIfAllDirty self.old self.new }
 
         // A crash at any moment of the call leaves pages that are old, or those of their frames with durable numbers.
         ensures any_moment { (front : List ℕ) (disk : ℕ → List ℕ) → PoolHolds self.old front disk
@@ -344,6 +358,7 @@ impl<D: Disk> Pool<D> {
         ensures cause { HasCause result (faults_of self.old) (faults_of self.new) }
     {
         if let Some(number) = self.frames.cold() {
+            self.let_go(number)?;
             self.free(number);
             return Ok(());
         }
@@ -369,8 +384,7 @@ impl<D: Disk> Pool<D> {
         ensures cause { HasCause result (faults_of self.old) (faults_of self.new) }
     {
         if let Some(number) = self.frames.oldest_due(durable) {
-            let pages = self.due(alloc, number, durable)?;
-            self.write(&pages)?;
+            self.write_with(alloc, number, durable)?;
             self.free(number);
             return Ok(());
         }
@@ -382,7 +396,8 @@ impl<D: Disk> Pool<D> {
 
     // Frees the frame of a clean page.
     fn free(&mut self, number: u32)
-        requires { IsSomeAnd (frame_at self.old number) (λ f. f.recovery ≡ None) }
+        requires clean { IsSomeAnd (frame_at self.old number) (λ f. f.recovery ≡ None) }
+        requires apart { amid_of self.old ≡ Amid.Opened → Contains (batch_of self.old) number → ⊥ }
         ensures gone { frame_at self.new number ≡ None }
         ensures others { (k : ℕ) → k ≢ number → frame_at self.new k ≡ frame_at self.old k }
         ensures kept { (front : List ℕ) (disk : ℕ → List ℕ) → PoolHolds self.old front disk
@@ -391,11 +406,13 @@ impl<D: Disk> Pool<D> {
         ensures limit { limit_of self.new ≡ limit_of self.old }
         ensures device { device_of self.new ≡ device_of self.old }
     {
+        self.give_up_with(number);
         self.frames.remove(number);
     }
 
     /// Writes pages that are in frames, as one batch; they are clean then. At an error all stay dirty that were.
     pub fn write(&mut self, numbers: &[u32]) -> Result<(), Fault>
+        requires rests { amid_of self.old ≡ Amid.Rest }
         requires some { 1 ≤ length numbers.now }
         requires most { length numbers.now ≤ MAX_BATCH_PAGES }
         requires rise { RiseFrom 0 numbers.now }
@@ -407,6 +424,7 @@ impl<D: Disk> Pool<D> {
             → MatchResult result (λ _. WroteBack self.old self.new durable front disk) (λ fault. (fault ≡ Fault.Device) ⊎ WroteBack self.old self.new durable front disk) }
         ensures any_moment { (front : List ℕ) (disk : ℕ → List ℕ) (durable : ℕ) → PoolHolds self.old front disk → AreUpTo (frame_at self.old) durable numbers.now
             → LeavesOnly (history_of self.old) (history_of self.new) (LeavesPages self.old durable front disk) }
+        ensures amid { amid_of self.new ≡ amid_of self.old }
         ensures count { count_of self.new ≡ count_of self.old }
         ensures honest { honesty_of self.new ≡ honesty_of self.old }
         ensures size { size (history_of self.new) ≡ size (history_of self.old) }

@@ -5,6 +5,7 @@ use Rattle.shore_dwrite.specs.Tables.{IsTable}
 use Rattle.shore_dwrite.specs.Volumes.{page_count}
 use Rattle.shore_dwrite.proofs.AreaWrites.{moments_none, moments_more, area_written}
 use Rattle.shore_dwrite.proofs.Moves.{sync_more}
+use Rattle.shore_dwrite.proofs.SyncLemmas.{failed_before, sync_once, write_none}
 use Rattle.shore_dwrite.proofs.device.PageDev.write_area.Goals as goal
 
 pub returns-in_err-write_at-clause-any_moment : goal.returns-in_err-write_at-clause-any_moment
@@ -46,3 +47,28 @@ returns-clause-any_moment g c base honest stands =
     (moments_more _ base stands (omega arith) _ _ _ _ c.write_at.result (omega arith) (omega (arith, c.table_of.ensures.whole)) (moments_none _ base stands (omega arith)) (c.write_at.ensures.written honest))
     (c.write_at-2.ensures.written still))
     (c.sync.ensures.synced still_so)
+
+pub returns-in_err-write_at-clause-syncs : goal.returns-in_err-write_at-clause-syncs
+returns-in_err-write_at-clause-syncs g c honest =
+    let before = g.D.Disk.history c.args.self.now.device in
+    let wrote = g.D.Disk.history c.write_at.new.self in
+    failed_before _ c.from_residual.result before wrote c.from_residual.ensures.1 (write_none _ _ c.write_at.result before wrote (c.write_at.ensures.written honest))
+
+pub returns-in_err-write_at-2-clause-syncs : goal.returns-in_err-write_at-2-clause-syncs
+returns-in_err-write_at-2-clause-syncs g c honest =
+    let still : IsTrue (g.D.Disk.is_honest c.write_at.new.self) = subst IsTrue (sym c.write_at.ensures.honest) honest in
+    let before = g.D.Disk.history c.args.self.now.device in
+    let wrote = g.D.Disk.history c.write_at.new.self in
+    let wrote_both = g.D.Disk.history c.write_at-2.new.self in
+    failed_before _ c.from_residual-in_err-write_at-2.result before wrote_both c.from_residual-in_err-write_at-2.ensures.1
+    (write_none _ _ c.write_at-2.result wrote wrote_both (c.write_at-2.ensures.written still) ∙ write_none _ _ c.write_at.result before wrote (c.write_at.ensures.written honest))
+
+pub returns-clause-syncs : goal.returns-clause-syncs
+returns-clause-syncs g c honest =
+    let still : IsTrue (g.D.Disk.is_honest c.write_at.new.self) = subst IsTrue (sym c.write_at.ensures.honest) honest in
+    let still_so : IsTrue (g.D.Disk.is_honest c.write_at-2.new.self) = subst IsTrue (sym c.write_at-2.ensures.honest) still in
+    let before = g.D.Disk.history c.args.self.now.device in
+    let wrote = g.D.Disk.history c.write_at.new.self in
+    let wrote_both = g.D.Disk.history c.write_at-2.new.self in
+    sync_once c.sync.result before wrote_both (g.D.Disk.history c.sync.new.self)
+    (write_none _ _ c.write_at-2.result wrote wrote_both (c.write_at-2.ensures.written still) ∙ write_none _ _ c.write_at.result before wrote (c.write_at.ensures.written honest)) (c.sync.ensures.synced still_so)

@@ -6,6 +6,7 @@ use Rattle.shore_dwrite.specs.Shown.{RiseFrom}
 use Rattle.shore_dwrite.specs.Volumes.{page_count}
 use Rattle.shore_dwrite.proofs.InPlace.{wrote_none, wrote_torn, wrote_more, wrote_and_synced, page_fits, text_is, length-text}
 use Rattle.shore_dwrite.proofs.Moves.{sync_more}
+use Rattle.shore_dwrite.proofs.SyncLemmas.{failed_before, sync_once, write_none}
 use Rattle.shore_dwrite.proofs.device.PageDev.write_in_place.Goals as goal
 
 pub loop-i-init : goal.loop-i-init
@@ -14,6 +15,7 @@ loop-i-init g c = record {
   size = refl;
   faults = refl;
   geometry = refl;
+  none = λ honest. refl;
   wrote = λ honest base stands. wrote_none _ _ _ base stands;
 }
 
@@ -36,6 +38,7 @@ loop-i-preserved g c = record {
   size = c.write_at.ensures.size ∙ c.loop-i.invariant.size;
   faults = c.in_ok-write_at.ensures.cause ∙ c.loop-i.invariant.faults;
   geometry = c.loop-i.invariant.geometry;
+  none = λ honest. write_none _ _ c.write_at.result (g.D.Disk.history c.loop-i.self.device) (g.D.Disk.history c.write_at.new.self) (c.write_at.ensures.written (subst IsTrue (sym c.loop-i.invariant.honest) honest)) ∙ c.loop-i.invariant.none honest;
   wrote = λ honest base stands.
       let numbers = c.numbers-numbers.result.now in
       let is : numbers ≡ c.args.images.now.numbers.items = c.numbers-numbers.ensures in
@@ -64,3 +67,12 @@ pub returns-clause-any_moment : goal.returns-clause-any_moment
 returns-clause-any_moment g c base honest stands =
     subst (λ (l : List ℕ). LeavesOnly (g.D.Disk.history c.args.self.now.device) (g.D.Disk.history c.sync.new.self) (DiffersInPages l base)) c.numbers-numbers.ensures
     (sync_more _ _ _ _ c.sync.result (c.loop-i.invariant.wrote honest base stands).moments (c.sync.ensures.synced (subst IsTrue (sym c.loop-i.invariant.honest) honest)))
+
+pub returns-in_err-write_at-clause-syncs : goal.returns-in_err-write_at-clause-syncs
+returns-in_err-write_at-clause-syncs g c honest =
+    let wrote = g.D.Disk.history c.write_at.new.self in
+    failed_before _ c.from_residual.result (g.D.Disk.history c.args.self.now.device) wrote c.from_residual.ensures.1
+    (write_none _ _ c.write_at.result (g.D.Disk.history c.loop-i.self.device) wrote (c.write_at.ensures.written (subst IsTrue (sym c.loop-i.invariant.honest) honest)) ∙ c.loop-i.invariant.none honest)
+
+pub returns-clause-syncs : goal.returns-clause-syncs
+returns-clause-syncs g c honest = sync_once c.sync.result (g.D.Disk.history c.args.self.now.device) (g.D.Disk.history c.loop-i.self.device) (g.D.Disk.history c.sync.new.self) (c.loop-i.invariant.none honest) (c.sync.ensures.synced (subst IsTrue (sym c.loop-i.invariant.honest) honest))

@@ -2,6 +2,9 @@ use Rattle.std.proofs.Common.{◌≡◌, sym, ◌∙◌, ap, subst}
 use Rattle.shore_types.specs.Layout.{HasPage}
 use Rattle.shore_types.specs.declared.layout.Geometry.{Geometry}
 use Rattle.shore_dwrite.specs.Volumes.{page_count, page_number}
+use Rattle.shore_dwrite.specs.Images.{numbers_of, texts_of}
+use Rattle.shore_dwrite.specs.Shown.{AreBatchNumbers}
+use Rattle.shore_pool.proofs.UnderWay.{amid_stays}
 use Rattle.shore_pool.proofs.pool.Pool+FuseDisk+D.set_fuse.Goals as goal
 
 pub invariant_of-self : goal.invariant_of-self
@@ -13,4 +16,16 @@ invariant_of-self g c =
       some = old.some;
       few = old.few;
       pages = old.pages ∙ ap page_count same;
+      batch_is = λ some. subst (λ (x : Geometry). AreBatchNumbers x (numbers_of old.batch)) same (old.batch_is some);
+    }
+
+pub returns-clause-holds : goal.returns-clause-holds
+returns-clause-holds g c front disk holds =
+    let old = c.args.self.now in
+    let new = c.set_fuse.new.self in
+    record {
+      settled = amid_stays old.amid old.device new (ap (λ d. g.D.Disk.history d) c.set_fuse.ensures.inner) (ap (λ d. g.D.Disk.is_honest d) c.set_fuse.ensures.inner) c.set_fuse.ensures.geometry
+          front disk (numbers_of old.batch) (texts_of old.batch) holds.settled;
+      written = holds.written;
+      held = holds.held;
     }

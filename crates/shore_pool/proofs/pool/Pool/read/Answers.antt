@@ -1,6 +1,10 @@
-use Rattle.std.proofs.Common.{◌≡◌, ◌≤◌, ℕ, Option, None, IsSomeAnd, inl, inr, refl, sym, ap, subst, ◌∙◌}
+use Rattle.std.proofs.Common.{◌≡◌, ◌<◌, ◌≤◌, ℕ, List, Option, None, IsSomeAnd, inl, inr, refl, sym, ap, subst, ◌∙◌}
 use Rattle.shore_dwrite.specs.Settled as settled_device
-use Rattle.shore_dwrite.specs.Volumes.{page_count, page_number}
+use Rattle.shore_dwrite.specs.Volumes.{HasNoPage, page_at, page_count, page_number}
+use Rattle.shore_dwrite.specs.Images.{numbers_of, texts_of}
+use Rattle.shore_dwrite.specs.Shown.{AreBatchNumbers}
+use Rattle.shore_pool.specs.UnderWay.{HoldsAmid}
+use Rattle.shore_pool.proofs.UnderWay.{amid_stays, held_added, in_place_of, is_shown}
 use Rattle.shore_dwrite.proofs.Moves.{if_err}
 use Rattle.shore_page.specs.Slots.{PageState}
 use Rattle.shore_page.specs.Text.{IsPageText, images_of, settled_page}
@@ -11,7 +15,7 @@ use Rattle.shore_pool.specs.declared.frame.Frame.{Frame}
 use Rattle.shore_pool.specs.FrameMaps as maps
 use Rattle.shore_pool.specs.Pages.{AreInOrder, IsTextOf}
 use Rattle.shore_pool.proofs.Orders.{order_added}
-use Rattle.shore_pool.proofs.Same.{page_comes, written_comes}
+use Rattle.shore_pool.proofs.Same.{page_comes, pages_stay, written_comes}
 use Rattle.shore_pool.proofs.Unwritten.{were_added}
 use Rattle.shore_pool.proofs.pool.Pool.read.Goals as goal
 
@@ -21,17 +25,52 @@ invariant_of-self g c = record {
   some = c.args.self.now.some;
   few = c.args.self.now.few;
   pages = c.args.self.now.pages ∙ ap page_count (sym c.read_page.ensures.geometry);
+  batch_is = λ some. subst (λ (it : Geometry). AreBatchNumbers it (numbers_of c.args.self.now.batch)) (sym c.read_page.ensures.geometry) (c.args.self.now.batch_is some);
 }
 
 pub returns-in_err-page-clause-refused : goal.returns-in_err-page-clause-refused
 returns-in_err-page-clause-refused g c front disk holds =
-    if_err c.from_residual.result c.from_residual.ensures.1 (λ fault is. elim (c.in_err-page.ensures.refused front disk holds.settled) [
+    let old = c.args.self.now in
+    let at = maps.frame_at old.frames in
+    let numbers = numbers_of old.batch in
+    let texts = texts_of old.batch in
+    let k = page_number (settled_device.geometry_of old.device) c.args.id in
+    let within : k < page_count (settled_device.geometry_of old.device) = subst (λ (n : ℕ). n < page_count (settled_device.geometry_of old.device)) c.number-number.ensures.number c.number-number.ensures.within in
+    let s = is_shown old.device front disk numbers texts old.amid holds.settled in
+    let place : page_at s.image k ≡ disk k = in_place_of old.amid old.device front disk numbers texts at k holds.settled holds.held within c.requires.none in
+    let stays : HoldsAmid old.amid c.read_page.new.self front disk numbers texts =
+    amid_stays old.amid old.device c.read_page.new.self (c.read_page.ensures.same s.honest) c.read_page.ensures.honest c.read_page.ensures.geometry front disk numbers texts holds.settled in
+    if_err c.from_residual.result c.from_residual.ensures.1 (λ fault is. elim (c.in_err-page.ensures.refused_at s.image s.honest s.stands) [
       | inl outside ↦ elim outside [
         | inl device ↦ inl (is ∙ device)
         | inr memory ↦ inr (inl (is ∙ memory))
       ]
-      | inr damaged ↦ inr (inr (is ∙ damaged.0, damaged.1))
+      | inr damaged ↦ inr (inr (is ∙ damaged.0, subst (λ (text : List ℕ). HasNoPage text c.args.id c.args.last) place damaged.1))
     ])
+
+pub returns-in_err-page-clause-history : goal.returns-in_err-page-clause-history
+returns-in_err-page-clause-history g c front disk holds =
+    let old = c.args.self.now in
+    c.read_page.ensures.same (is_shown old.device front disk (numbers_of old.batch) (texts_of old.batch) old.amid holds.settled).honest
+
+pub returns-clause-history : goal.returns-clause-history
+returns-clause-history g c front disk holds =
+    let old = c.args.self.now in
+    c.read_page.ensures.same (is_shown old.device front disk (numbers_of old.batch) (texts_of old.batch) old.amid holds.settled).honest
+
+pub returns-in_err-page-clause-kept : goal.returns-in_err-page-clause-kept
+returns-in_err-page-clause-kept g c front disk holds =
+    let old = c.args.self.now in
+    let at = maps.frame_at old.frames in
+    let numbers = numbers_of old.batch in
+    let texts = texts_of old.batch in
+    let k = page_number (settled_device.geometry_of old.device) c.args.id in
+    let within : k < page_count (settled_device.geometry_of old.device) = subst (λ (n : ℕ). n < page_count (settled_device.geometry_of old.device)) c.number-number.ensures.number c.number-number.ensures.within in
+    let s = is_shown old.device front disk numbers texts old.amid holds.settled in
+    let place : page_at s.image k ≡ disk k = in_place_of old.amid old.device front disk numbers texts at k holds.settled holds.held within c.requires.none in
+    let stays : HoldsAmid old.amid c.read_page.new.self front disk numbers texts =
+    amid_stays old.amid old.device c.read_page.new.self (c.read_page.ensures.same s.honest) c.read_page.ensures.honest c.read_page.ensures.geometry front disk numbers texts holds.settled in
+    (record { settled = stays; written = holds.written; held = holds.held }, pages_stay at at disk (λ k. refl))
 
 pub invariant_of-self-2-clause-in_order : goal.invariant_of-self-2-clause-in_order
 invariant_of-self-2-clause-in_order g c =
@@ -42,6 +81,9 @@ invariant_of-self-2-clause-in_order g c =
     let named : c.in_ok-page.page.id ≡ c.args.id = ap (λ (p : PageState). p.id) c.in_ok-page.ensures.page in
     subst (AreInOrder (maps.frame_at c.add.new.self)) (sym c.read_page.ensures.geometry)
     (order_added (maps.frame_at old.frames) (maps.frame_at c.add.new.self) geometry n f old.in_order c.add.ensures.here (subst (HasPage geometry) (sym named) c.requires.there) (ap (page_number geometry) named ∙ sym c.number-number.ensures.number) c.add.ensures.others)
+
+pub invariant_of-self-2-clause-batch_is : goal.invariant_of-self-2-clause-batch_is
+invariant_of-self-2-clause-batch_is g c = λ some. subst (λ (it : Geometry). AreBatchNumbers it (numbers_of c.args.self.now.batch)) (sym c.read_page.ensures.geometry) (c.args.self.now.batch_is some)
 
 pub returns-clause-read : goal.returns-clause-read
 returns-clause-read g c front disk holds =
@@ -54,18 +96,29 @@ pub returns-clause-kept : goal.returns-clause-kept
 returns-clause-kept g c front disk holds =
     let old = c.args.self.now in
     let at = maps.frame_at old.frames in
+    let numbers = numbers_of old.batch in
+    let texts = texts_of old.batch in
+    let k = page_number (settled_device.geometry_of old.device) c.args.id in
+    let within : k < page_count (settled_device.geometry_of old.device) = subst (λ (n : ℕ). n < page_count (settled_device.geometry_of old.device)) c.number-number.ensures.number c.number-number.ensures.within in
+    let s = is_shown old.device front disk numbers texts old.amid holds.settled in
+    let place : page_at s.image k ≡ disk k = in_place_of old.amid old.device front disk numbers texts at k holds.settled holds.held within c.requires.none in
+    let stays : HoldsAmid old.amid c.read_page.new.self front disk numbers texts =
+    amid_stays old.amid old.device c.read_page.new.self (c.read_page.ensures.same s.honest) c.read_page.ensures.honest c.read_page.ensures.geometry front disk numbers texts holds.settled in
     let now = maps.frame_at c.add.new.self in
     let page = c.in_ok-page.page in
     let n = c.number-number.result in
     let f : Frame = record { number = n; page = page; recovery = None } in
-    let found = c.in_ok-page.ensures.found front disk holds.settled in
+    let found : IsPageText (disk k) c.args.id page.number (images_of page.slots) =
+    subst (λ (text : List ℕ). IsPageText text c.args.id page.number (images_of page.slots)) place (c.in_ok-page.ensures.found_at s.image s.honest s.stands) in
     let id : page.id ≡ c.args.id = ap (λ (p : PageState). p.id) c.in_ok-page.ensures.page in
-    let text : IsTextOf f (disk n) = subst (λ (i : PageId). IsPageText (disk n) i page.number (images_of page.slots)) (sym id) (subst (λ (k : ℕ). IsPageText (disk k) c.args.id page.number (images_of page.slots)) (sym c.number-number.ensures.number) found.0) in (
+    let text : IsTextOf f (disk n) = subst (λ (i : PageId). IsPageText (disk n) i page.number (images_of page.slots)) (sym id) (subst (λ (i : ℕ). IsPageText (disk i) c.args.id page.number (images_of page.slots)) (sym c.number-number.ensures.number) found) in
+    let none : at n ≡ None = ap at c.number-number.ensures.number ∙ c.requires.none in (
       record {
-        settled = c.read_page.ensures.settled front disk holds.settled;
+        settled = stays;
         written = written_comes at now disk n c.add.ensures.others f text c.add.ensures.here holds.written;
+        held = held_added old.amid at now numbers texts n c.add.ensures.others none holds.held;
       },
-      page_comes at now disk n c.add.ensures.others f text (ap at c.number-number.ensures.number ∙ c.requires.none) c.add.ensures.here,
+      page_comes at now disk n c.add.ensures.others f text none c.add.ensures.here,
     )
 
 pub returns-clause-dirty : goal.returns-clause-dirty

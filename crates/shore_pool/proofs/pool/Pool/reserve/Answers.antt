@@ -4,7 +4,9 @@ use Rattle.shore_dwrite.specs.Settled as settled_device
 use Rattle.shore_pool.specs.Changes.{reclaimed}
 use Rattle.shore_pool.specs.FrameMaps as maps
 use Rattle.shore_pool.proofs.Orders.{order_changed}
-use Rattle.shore_pool.proofs.Same.{claims_stay, claims_written}
+use Rattle.shore_pool.proofs.Same.{claims_some, claims_stay, claims_text, claims_written}
+use Rattle.shore_dwrite.specs.Images.{numbers_of, texts_of}
+use Rattle.shore_pool.proofs.UnderWay.{held_stays}
 use Rattle.shore_pool.proofs.pool.Pool.reserve.Goals as goal
 
 pub invariant_of-self-clause-in_order : goal.invariant_of-self-clause-in_order
@@ -14,8 +16,14 @@ invariant_of-self-clause-in_order g c =
 
 pub returns-clause-kept : goal.returns-clause-kept
 returns-clause-kept g c front disk holds =
+    let old = c.args.self.now in
     let at = maps.frame_at c.args.self.now.frames in
     let now = maps.frame_at c.reserve.new.self in (
-      record { settled = holds.settled; written = claims_written at now disk c.number-number.result c.args.slot (raised c.args.bytes) (λ s. refl) c.reserve.ensures.here c.reserve.ensures.others holds.written },
+      record {
+        settled = holds.settled;
+        written = claims_written at now disk c.number-number.result c.args.slot (raised c.args.bytes) (λ s. refl) c.reserve.ensures.here c.reserve.ensures.others holds.written;
+        held = held_stays old.amid at now (numbers_of old.batch) (texts_of old.batch) holds.held
+            (λ k text is has had. claims_text at now disk c.number-number.result c.args.slot (raised c.args.bytes) (λ s. refl) c.reserve.ensures.here c.reserve.ensures.others k text had) (λ k is has there. claims_some at now disk c.number-number.result c.args.slot (raised c.args.bytes) (λ s. refl) c.reserve.ensures.here c.reserve.ensures.others k there);
+      },
       claims_stay at now disk c.number-number.result c.args.slot (raised c.args.bytes) (λ s. refl) c.reserve.ensures.here c.reserve.ensures.others,
     )

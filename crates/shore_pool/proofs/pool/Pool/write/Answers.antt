@@ -1,5 +1,5 @@
-use Rattle.std.proofs.Common.{ℕ, List, subst, sym, ap, ◌∙◌}
-use Rattle.shore_dwrite.specs.Images.{texts_of}
+use Rattle.std.proofs.Common.{ℕ, List, inr, refl, subst, sym, ap, ◌∙◌}
+use Rattle.shore_dwrite.specs.Images.{numbers_of, texts_of}
 use Rattle.shore_dwrite.specs.Settled as settled_device
 use Rattle.shore_dwrite.specs.Settled.{IsSettled}
 use Rattle.shore_dwrite.specs.Shown.{IsBatch, ShowsEither, overlaid}
@@ -7,11 +7,14 @@ use Rattle.shore_disk.specs.Device.{LeavesOnly}
 use Rattle.shore_dwrite.specs.Volumes.{page_count}
 use Rattle.shore_pool.specs.FrameMaps as maps
 use Rattle.shore_pool.specs.Pages.{AreInOrder}
-use Rattle.shore_pool.proofs.Moments.{while_still, while_written}
+use Rattle.shore_pool.proofs.Moments.{as_it_was, while_still, while_written}
 use Rattle.shore_pool.proofs.Orders.{order_settled}
 use Rattle.shore_pool.proofs.Settling.{settled_here, not_settled}
 use Rattle.shore_pool.proofs.Written.{is_batch, may_be_left, all_written, same_pages}
-use Rattle.shore_pool.proofs.Unwritten.{others_unwritten}
+use Rattle.shore_pool.proofs.Unwritten.{none_written, others_unwritten, were_same}
+use Rattle.shore_pool.proofs.Same.{pages_stay}
+use Rattle.shore_pool.proofs.Steps.{match_err}
+use Rattle.shore_pool.proofs.UnderWay.{at_rest, held_none, rests_at}
 use Rattle.shore_pool.proofs.pool.Pool.write.Goals as goal
 
 pub write_batch-requires : goal.write_batch-requires
@@ -25,7 +28,24 @@ write_batch-requires g c =
 pub returns-in_err-gather-clause-any_moment : goal.returns-in_err-gather-clause-any_moment
 returns-in_err-gather-clause-any_moment g c front disk durable holds up_to =
     let old = c.args.self.now in
-    while_still old.device (maps.frame_at old.frames) durable front disk holds.settled
+    while_still old.device (maps.frame_at old.frames) durable front disk (numbers_of old.batch) (texts_of old.batch) old.amid holds.settled
+
+pub returns-in_err-gather-clause-kept : goal.returns-in_err-gather-clause-kept
+returns-in_err-gather-clause-kept g c front disk durable holds up_to =
+    let old = c.args.self.now in
+    let at = maps.frame_at old.frames in
+    match_err _ c.from_residual.result c.from_residual.ensures.1 (λ fault is. inr (record {
+      left = disk;
+      holds = record {
+        settled = rests_at old.amid old.device front disk (numbers_of c.gather.new.batch) (texts_of c.gather.new.batch) c.requires.rests
+            (at_rest old.amid old.device front disk (numbers_of old.batch) (texts_of old.batch) c.requires.rests holds.settled);
+        written = holds.written;
+        held = held_none old.amid at (numbers_of c.gather.new.batch) (texts_of c.gather.new.batch) c.requires.rests;
+      };
+      may = as_it_was (settled_device.geometry_of old.device) at durable front disk;
+      same = pages_stay at at disk (λ k. refl);
+      unwritten = none_written at at disk (were_same at at (λ k. refl));
+    }))
 
 pub invariant_of-self-in-Break-branch-2 : goal.invariant_of-self-in-Break-branch-2
 invariant_of-self-in-Break-branch-2 g c = record {
@@ -33,6 +53,7 @@ invariant_of-self-in-Break-branch-2 g c = record {
   some = c.args.self.now.some;
   few = c.args.self.now.few;
   pages = c.args.self.now.pages ∙ ap page_count (sym c.write_batch.ensures.geometry);
+  batch_is = λ some. absurd (some c.requires.rests);
 }
 
 pub returns-in_err-write_batch-clause-any_moment : goal.returns-in_err-write_batch-clause-any_moment
@@ -45,7 +66,7 @@ returns-in_err-write_batch-clause-any_moment g c front disk durable holds up_to 
     let are = c.in_ok-gather.ensures.texts in
     while_written geometry at durable front disk _ _ (overlaid numbers texts disk) (may_be_left at durable numbers texts disk are up_to)
     (subst (λ (l : List ℕ). LeavesOnly (g.D.Disk.history (settled_device.device_of old.device)) (g.D.Disk.history (settled_device.device_of c.write_batch.new.self)) (ShowsEither geometry front disk (overlaid l texts disk)))
-    c.in_ok-gather.ensures.numbers (c.write_batch.ensures.any_moment front disk holds.settled))
+    c.in_ok-gather.ensures.numbers (c.write_batch.ensures.any_moment front disk (at_rest old.amid old.device front disk (numbers_of old.batch) (texts_of old.batch) c.requires.rests holds.settled)))
 
 pub returns-clause-any_moment : goal.returns-clause-any_moment
 returns-clause-any_moment g c front disk durable holds up_to =
@@ -57,7 +78,7 @@ returns-clause-any_moment g c front disk durable holds up_to =
     let are = c.in_ok-gather.ensures.texts in
     while_written geometry at durable front disk _ _ (overlaid numbers texts disk) (may_be_left at durable numbers texts disk are up_to)
     (subst (λ (l : List ℕ). LeavesOnly (g.D.Disk.history (settled_device.device_of old.device)) (g.D.Disk.history (settled_device.device_of c.write_batch.new.self)) (ShowsEither geometry front disk (overlaid l texts disk)))
-    c.in_ok-gather.ensures.numbers (c.write_batch.ensures.any_moment front disk holds.settled))
+    c.in_ok-gather.ensures.numbers (c.write_batch.ensures.any_moment front disk (at_rest old.amid old.device front disk (numbers_of old.batch) (texts_of old.batch) c.requires.rests holds.settled)))
 
 pub invariant_of-self-2-clause-in_order : goal.invariant_of-self-2-clause-in_order
 invariant_of-self-2-clause-in_order g c =
@@ -82,8 +103,11 @@ returns-clause-kept g c front disk durable holds up_to =
     record {
       left = overlaid numbers texts disk;
       holds = record {
-        settled = subst (λ (l : List ℕ). IsSettled c.write_batch.new.self front (overlaid l texts disk)) c.in_ok-gather.ensures.numbers (c.in_ok-write_batch.ensures.settled front disk holds.settled);
+        settled = rests_at old.amid c.write_batch.new.self front (overlaid numbers texts disk) (numbers_of c.gather.new.batch) texts c.requires.rests
+            (subst (λ (l : List ℕ). IsSettled c.write_batch.new.self front (overlaid l texts disk)) c.in_ok-gather.ensures.numbers
+            (c.in_ok-write_batch.ensures.settled front disk (at_rest old.amid old.device front disk (numbers_of old.batch) (texts_of old.batch) c.requires.rests holds.settled)));
         written = all_written at now numbers texts disk are c.settle_all.ensures.settled holds.written;
+        held = held_none old.amid now (numbers_of c.gather.new.batch) texts c.requires.rests;
       };
       may = may_be_left at durable numbers texts disk are up_to;
       same = same_pages at now numbers texts disk are c.settle_all.ensures.settled;
