@@ -17,7 +17,8 @@ use Rattle.shore_dwrite.specs.Volumes.{AreEmpty, page_at, page_count, page_numbe
 use Rattle.shore_dwrite.proofs.Numbers.{page_within}
 use Rattle.shore_pool.specs.declared.frame.Frame.{Frame}
 use Rattle.shore_pool.specs.Pages.{IsPage}
-use Rattle.shore_pool.specs.Pools.{PoolHolds}
+use Rattle.shore_pool.specs.Pools.{PoolHolds, amid_of, batch_of, batch_texts_of}
+use Rattle.shore_pool.proofs.UnderWay.{is_shown}
 use Rattle.shore_heap.specs.declared.heap.Heap.{Heap}
 use Rattle.shore_heap.specs.Heaps.{frame_at, geometry_of, history_of, pool_of}
 use Rattle.laws_heaps.specs.LoggedHeaps.{AreSettled, AreTextsOf, IsInPlace, IsStoreOf, IsTextOf, LeavesStore}
@@ -54,8 +55,8 @@ texts_shown log g front texts pages image left shown = record {
 pub left_settled : {D : Type 0} {G : Ghosts D} (heap : Heap D G) (front : List ℕ) (disk : ℕ → List ℕ) (s : RecoveryState) (image : List ℕ) → IsStoreOf heap disk s → PoolHolds (pool_of heap) front disk → may_leave (history_of heap) image
     → LeavesStore s.log (geometry_of heap) front s.volume image
 left_settled heap front disk s image store holds may =
-    let is = holds.settled in
-    subst (LeavesStore s.log (geometry_of heap) front s.volume) (sym (is.stands.only image may)) (disk, (is.front_is, inl (is.shut, is.in_place)), store.volume)
+    let is = is_shown (pool_of heap).device front disk (batch_of (pool_of heap)) (batch_texts_of (pool_of heap)) (amid_of (pool_of heap)) holds.settled in
+    subst (LeavesStore s.log (geometry_of heap) front s.volume) (sym (is.stands.only image may)) (disk, is.shows, store.volume)
 
 -- ---- a log that was cut
 

@@ -3,4 +3,4 @@
 
 mod flush;
 
-pub use flush::{Batch, choose, flush_step};
+pub use flush::{Batch, choose, flush_on, flush_step};

@@ -95,3 +95,20 @@ module _ {D : Type 0} {G : Ghosts D} (old new : Heap D G) (durable : ℕ) where
       kept_by geometry bounds (may_settle (frame_at old) (frame_at new) flushed.pages flushed.clean flushed.others) K front disk S shows w
   flush_kept (Err f) geometry bounds flushed refused K front disk S shows (inl device) = inl device
   flush_kept (Err f) geometry bounds flushed refused K front disk S shows (inr w) = inr (kept_by geometry bounds (λ k. inl (refused.1 k)) K front disk S shows w)
+
+  -- by a step that settles frames at most
+  pub settles_wrote : {T : Type 0} (r : Result T Fault) (front : List ℕ) (disk : ℕ → List ℕ)
+      → MatchResult r (λ _. pools.WroteBack old.pool new.pool durable front disk) (λ f. (f ≡ fault.Device) ⊎ pools.WroteBack old.pool new.pool durable front disk)
+      → MatchResult r (λ _. WroteBack old new durable front disk) (λ f. (f ≡ fault.Device) ⊎ WroteBack old new durable front disk)
+  settles_wrote (Ok made) front disk w = wrote_by front disk w
+  settles_wrote (Err f) front disk (inl device) = inl device
+  settles_wrote (Err f) front disk (inr w) = inr (wrote_by front disk w)
+
+  pub settles_kept : {T : Type 0} (r : Result T Fault) → geometry_of new ≡ geometry_of old → bounds_of new ≡ bounds_of old
+      → ((k : ℕ) → (frame_at new k ≡ frame_at old k) ⊎ (frame_at new k ≡ option_map settled (frame_at old k)))
+      → (K : ClaimsOfPages) (front : List ℕ) (disk : ℕ → List ℕ) (S : PageId → List Slot) → Shows K old front disk S
+      → MatchResult r (λ _. pools.WroteBack old.pool new.pool durable front disk) (λ f. (f ≡ fault.Device) ⊎ pools.WroteBack old.pool new.pool durable front disk)
+      → MatchResult r (λ _. KeepsSlots K old new durable front disk S) (λ f. (f ≡ fault.Device) ⊎ KeepsSlots K old new durable front disk S)
+  settles_kept (Ok made) geometry bounds may K front disk S shows w = kept_by geometry bounds may K front disk S shows w
+  settles_kept (Err f) geometry bounds may K front disk S shows (inl device) = inl device
+  settles_kept (Err f) geometry bounds may K front disk S shows (inr w) = inr (kept_by geometry bounds may K front disk S shows w)

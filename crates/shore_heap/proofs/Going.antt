@@ -23,6 +23,7 @@ use Rattle.shore_pool.specs.Pages.{AreInOrder, IsPage, IsTextOf, SamePages, Stay
 use Rattle.shore_pool.specs.Pools as pools
 use Rattle.shore_pool.specs.Pools.{PoolHolds, NeedsForce}
 use Rattle.shore_pool.proofs.Same.{pages_on, pages_stay}
+use Rattle.shore_pool.proofs.UnderWay.{is_shown}
 use Rattle.shore_pool.proofs.Unwritten.{unwritten_on}
 use Rattle.shore_heap.specs.declared.heap.Heap.{Heap}
 use Rattle.shore_heap.specs.Contents.{AreBounds, AreKept, ClaimsOfPages}
@@ -92,8 +93,8 @@ module _ {D : Type 0} {G : Ghosts D} (K : ClaimsOfPages) (durable : ℕ) where
     kept = λ front disk S shows are. (disk, shows, record { may = λ id has. inl refl; same = pages_stay (frame_at heap) (frame_at heap) disk (λ k. refl); unwritten = λ k f is dirty. (is, refl) });
     wrote = λ front disk holds. (disk, holds, record { may = λ id has. inl refl; same = pages_stay (frame_at heap) (frame_at heap) disk (λ k. refl); unwritten = λ k f is dirty. (is, refl) });
     any_moment = λ front disk holds.
-        let s = holds.settled in
-        stands_still (history_of heap) s.image (LeavesPages heap durable front disk) s.stands (disk, (s.front_is, inl (s.shut, s.in_place)), λ id has. inl refl);
+        let s = is_shown heap.pool.device front disk (pools.batch_of heap.pool) (pools.batch_texts_of heap.pool) heap.pool.amid holds.settled in
+        stands_still (history_of heap) s.image (LeavesPages heap durable front disk) s.stands (disk, s.shows, λ id has. inl refl);
     dirty = λ front disk holds k f is dirty. is;
     forced = λ front disk holds number needs. needs;
     honest = refl;

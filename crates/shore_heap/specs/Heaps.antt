@@ -17,6 +17,7 @@ use Rattle.shore_dwrite.specs.Shown.{ShowsBehind}
 use Rattle.shore_dwrite.specs.Volumes.{HasNoPage, page_number, page_offset}
 use Rattle.shore_page.specs.Slots.{Slot, settled}
 use Rattle.shore_page.specs.Text.{IsPageText, images_of}
+use Rattle.shore_pool.specs.declared.amid.Amid.{Amid}
 use Rattle.shore_pool.specs.declared.frame.Frame.{Frame}
 use Rattle.shore_pool.specs.declared.pool.Pool.{Pool}
 use Rattle.shore_pool.specs.Changes as changes
@@ -58,6 +59,10 @@ frame_at heap k = pools.frame_at heap.pool k
 -- .. and of a page
 abbrev pub frame_of : {D : Type 0} {G : Ghosts D} → Heap D G → PageId → Option Frame
 frame_of heap id = pools.frame_of heap.pool id
+
+-- how far the batch is that is on its way to the volume
+abbrev pub amid_of : {D : Type 0} {G : Ghosts D} → Heap D G → Amid
+amid_of heap = pools.amid_of heap.pool
 
 -- how many pages may have a frame
 abbrev pub limit_of : {D : Type 0} {G : Ghosts D} → Heap D G → ℕ

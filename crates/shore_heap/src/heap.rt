@@ -6,6 +6,7 @@ ghost use Rattle.shore_page.specs.Room.{Fits, claim_at, lowered};
 ghost use Rattle.shore_page.specs.Slots.{Slot, image_at_slot, settled, with_change, with_image};
 ghost use Rattle.shore_types.specs.Images.{image_len, Image};
 ghost use Rattle.shore_page.specs.Text.{IsPageText, images_of};
+ghost use Rattle.shore_pool.specs.declared.amid.Amid.TheVariants as Amid;
 ghost use Rattle.shore_pool.specs.Changes.{changed, reclaimed};
 ghost use Rattle.shore_pool.specs.Pages.{SamePages};
 ghost use Rattle.shore_pool.specs.Pools as pools;
@@ -36,7 +37,7 @@ pub struct Heap<D: Disk> {
 
 impl<D: Disk> Heap<D> {
     ghost use Rattle.shore_heap.specs.Dirty.{SameDirt};
-    ghost use Rattle.shore_heap.specs.Heaps.{KeepsVolume, Shows, device_of, frame_at, frame_of, geometry_of, limit_of};
+    ghost use Rattle.shore_heap.specs.Heaps.{KeepsVolume, Shows, amid_of, device_of, frame_at, frame_of, geometry_of, limit_of};
 
     /// The heap of a volume, with no page in a frame, over a pool of so many frames. All memory is taken but that of pages. The device is handed
     /// back if an allocation failed.
@@ -50,6 +51,7 @@ impl<D: Disk> Heap<D> {
             → IsPageText (disk (page_number (settled_device.geometry_of device) id)) id (number id) (images id))
             → IfOk result (λ heap. Shows unclaimed heap front disk (λ id. map settled (images id))) }
         ensures limit { IfOk result (λ heap. limit_of heap ≡ frames) }
+        ensures rests { IfOk result (λ heap. amid_of heap ≡ Amid.Rest) }
         ensures refused { IfErr result (λ back. back ≡ device) }
     {
         let Ok(free) = unknown_maps(alloc, device.geometry()) else {

@@ -9,6 +9,7 @@ use Rattle.shore_pool.specs.Pools as pools
 use Rattle.shore_heap.specs.Contents.{AreBounds, HasSlots, unclaimed}
 use Rattle.shore_heap.proofs.Bounds.{bounds_unknown, lengths_unknown}
 use Rattle.shore_heap.proofs.Frames.{Have}
+use Rattle.shore_pool.proofs.UnderWay.{held_none, rests_at}
 use Rattle.shore_heap.proofs.heap.Heap.new.Goals as goal
 
 pub invariant_of-result : goal.invariant_of-result
@@ -27,7 +28,8 @@ returns-clause-shows g c front disk number images is_settled texts =
     let bounds : AreBounds c.geometry.result.now c.in-Ok.free.items S = subst (λ (l : List (List ℕ)). AreBounds c.geometry.result.now l S) (sym c.in-Ok.ensures) (bounds_unknown c.geometry.result.now S) in
     record {
       holds = record {
-        settled = subst (λ d. settled_device.IsSettled d front disk) (sym c.in_ok-pool.ensures.device) is_settled;
+        settled = rests_at pool.amid pool.device front disk (pools.batch_of pool) (pools.batch_texts_of pool) c.in_ok-pool.ensures.rests (subst (λ d. settled_device.IsSettled d front disk) (sym c.in_ok-pool.ensures.device) is_settled);
+        held = held_none pool.amid (pools.frame_at pool) (pools.batch_of pool) (pools.batch_texts_of pool) c.in_ok-pool.ensures.rests;
         written = λ k f there clean. let clash : None ≡ Some f = sym (c.in_ok-pool.ensures.empty k) ∙ there in absurd cc;
       };
       pages = subst (λ (it : Geometry). Have it (pools.frame_at pool) disk unclaimed S) (sym geometry) have;
