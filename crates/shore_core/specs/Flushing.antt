@@ -1,12 +1,12 @@
 -- What a step of the flush is answered, and what it leaves.
 use Rattle.laws_checkpoints.specs.CheckpointedStores.{CheckpointedStore}
-use Rattle.std.specs.Prelude.{◌≡◌, ◌⊎◌, ◌<◌, ℕ, List, [], ◌∷◌, IsTrue, false}
+use Rattle.std.specs.Prelude.{◌≡◌, ◌⊎◌, ◌<◌, ℕ, Bool, List, [], ◌∷◌, IsTrue, false}
 use Rattle.shore_types.specs.declared.faults.Fault.TheVariants as fault
 use Rattle.shore_model.specs.declared.calls.Answer.TheVariants.{Flushed}
 use Rattle.shore_model.specs.declared.log_records.LogRecord.{LogRecord}
 use Rattle.shore_disk.specs.declared.device.Disk as disk
 use Rattle.shore_log.specs.declared.tail.Tail as tail
-use Rattle.shore_flush.specs.Flushes.{Flushes, NoneDue}
+use Rattle.shore_flush.specs.Flushes.{Flushes, GoesOn, NoneDue}
 use Rattle.shore_heap.specs.Heaps.{bounds_of, frame_at, pool_of}
 use Rattle.laws_lives.specs.Recovery.{AppendRecord, FlushPage, ForceLog, LosePower, RecoveryEvent, RedoRecord}
 use Rattle.laws_calls.specs.StateChanges.{with_failure}
@@ -54,3 +54,12 @@ module _ {T V : Type 0} {G : tail.Ghosts T} {H : disk.Ghosts V} where
       ((IsTrue (has_failed old) × (f ≡ fault.Failed)) ⊎ (f ≡ fault.Device) ⊎ (f ≡ fault.Memory)) × ((k : ℕ) → frame_at (heap_of new) k ≡ frame_at (heap_of old) k)
   FlushAnswers old Nothing new =
       NoneDue (pool_of (heap_of old)) (durable_of old) × (pool_of (heap_of new) ≡ pool_of (heap_of old)) × (bounds_of (heap_of new) ≡ bounds_of (heap_of old))
+
+  -- A turn of a flush makes one sync of a batch at most, or finds nothing to do: no batch is under way and no page is due. A refusal has changed no frame.
+  abbrev pub TurnAnswers : Core T V G H → Step → Core T V G H → Type 0
+  TurnAnswers old (Done answer) new = ⊥
+  TurnAnswers old (Waits wait) new = ⊥
+  TurnAnswers old (Refused f) new =
+      ((IsTrue (has_failed old) × (f ≡ fault.Failed)) ⊎ (f ≡ fault.Device) ⊎ (f ≡ fault.Memory)) × ((k : ℕ) → frame_at (heap_of new) k ≡ frame_at (heap_of old) k)
+  TurnAnswers old Nothing new =
+      ((made : Bool) × GoesOn (pool_of (heap_of old)) (pool_of (heap_of new)) (durable_of old) made) × (bounds_of (heap_of new) ≡ bounds_of (heap_of old))

@@ -6,11 +6,14 @@ ghost use Rattle.shore_txn.specs.Transactions.{room_in};
 ghost use Rattle.shore_check.specs.declared.stage.Stage.TheVariants as Stage;
 ghost use Rattle.shore_model.specs.Calls.{IsServed};
 ghost use Rattle.shore_model.specs.declared.step.Step.TheVariants as Step;
+ghost use Rattle.shore_dwrite.specs.Syncs.{syncs_of};
+ghost use Rattle.shore_pool.specs.Pools.{batch_of};
+ghost use Rattle.shore_heap.specs.Heaps.{amid_of, history_of, honesty_of, pool_of};
 ghost use Rattle.shore_core.specs.Cores.{durable_of, geometry_of, has_failed, heap_of, last_of, txns_of, volume_of, waiting_of, waits_of};
 ghost use Rattle.shore_core.specs.TailHolders.{HoldsTail};
 ghost use Rattle.shore_core.specs.Waking.{IsLetThrough, NoneLetThrough};
 ghost use Rattle.shore_sessions.specs.declared.waits.WaitingCall.{WaitingCall};
-ghost use Rattle.shore_core.specs.Flushing.{FlushAnswers, FlushSteps};
+ghost use Rattle.shore_core.specs.Flushing.{FlushSteps, TurnAnswers};
 ghost use Rattle.shore_core.specs.Replies.{GaveUp, InEach, Reads, ReadsWaiting, Resumed, Serves, Stepped, fault_at, forced_at};
 ghost use Rattle.shore_words.specs.Words.{listener, looker, AreBy, HasHeard, Listens, heard_of};
 ghost use Rattle.shore_held.specs.Comings.{Beginning, HasAim, HasComeBy, IsAimOf, anchored_at};
@@ -27,6 +30,7 @@ use shore_core::{Core, Stage, Step, TailHolder};
 use shore_disk::Disk;
 use shore_log::{PlainTail, Tail};
 use shore_model::Call;
+use shore_pool::Amid;
 use shore_txn::LogRoom;
 use shore_types::{Fault, Lsn, SessionId};
 use shore_words::Words;
@@ -250,13 +254,28 @@ impl<B: Named, T: Tail, V: Disk> CoreHeld<B, T, V> {
         }
     }
 
-    /// A step of the flush.
-    pub fn flush(&mut self, alloc: Global) -> Step
+    /// How far the batch is that is on its way to the volume.
+    pub fn amid(&self) -> Amid
+        ensures { result ≡ amid_of (heap_of self.now.core) }
+    {
+        self.core.amid()
+    }
+
+    /// How many pages that batch has, or the last one had.
+    pub fn batch_pages(&self) -> usize
+        ensures { result ≡ length (batch_of (pool_of (heap_of self.now.core))) }
+    {
+        self.core.batch_pages()
+    }
+
+    /// A step of the flush that makes one sync: the core may be given back between two of them.
+    pub fn flush_on(&mut self, alloc: Global) -> Step
         ensures step { InEach (λ front disk before s store. FlushSteps result self.new.core front before s store) self.old.core }
-        ensures answers { FlushAnswers self.old.core result self.new.core }
+        ensures answers { TurnAnswers self.old.core result self.new.core }
+        ensures syncs { IsTrue (honesty_of (heap_of self.old.core)) → syncs_of (history_of (heap_of self.new.core)) ≤ syncs_of (history_of (heap_of self.old.core)) + 1 }
         ensures failed { IsTrue (has_failed self.old.core) → result ≡ Step.Refused Fault.Failed }
-        ensures serves { Serves (λ page. ⊥) self.old.core (fault_at result) self.old.core self.new.core }
         ensures still { IsTrue (has_failed self.old.core) → heap_of self.new.core ≡ heap_of self.old.core }
+        ensures serves { Serves (λ page. ⊥) self.old.core (fault_at result) self.old.core self.new.core }
         // It is in the trail if the volume fails.
         ensures fails { result ≡ Step.Refused Fault.Device
             → (self.new.asked.items ≡ self.old.asked.items ++ (Asked.Failed, 0) ∷ []) × (self.new.stepped.items ≡ self.old.stepped.items ++ (Step.Nothing, 0) ∷ []) }
@@ -264,7 +283,7 @@ impl<B: Named, T: Tail, V: Disk> CoreHeld<B, T, V> {
         ensures same { (self.new.stage ≡ self.old.stage) × (self.new.made ≡ self.old.made) × (self.new.rest ≡ self.old.rest) × (self.new.seat ≡ self.old.seat) }
         ensures tape { self.new.tape ≡ self.old.tape }
     {
-        let step = self.core.flush_step(alloc);
+        let step = self.core.flush_on(alloc);
         if is_failure(&step) {
             self.asked = self.asked.and(&Asked::Failed, &SessionId(0));
             self.stepped = self.stepped.and(&Step::Nothing, &SessionId(0));

@@ -15,6 +15,9 @@ use Rattle.shore_dwrite.specs.Shown.{Shows}
 use Rattle.shore_dwrite.specs.declared.device.PageDev.{PageDev}
 use Rattle.shore_dwrite.specs.Volumes.{HasNoPage, page_number}
 use Rattle.shore_pool.specs.Pages.{IsPage}
+use Rattle.shore_pool.specs.Pools as pools
+use Rattle.shore_pool.specs.declared.amid.Amid.TheVariants as amid
+use Rattle.shore_pool.proofs.UnderWay.{held_none, rests_at}
 use Rattle.shore_pool.specs.declared.frame.Frame.{Frame}
 use Rattle.shore_heap.specs.declared.heap.Heap.{Heap}
 use Rattle.shore_heap.specs.Heaps as heaps
@@ -35,10 +38,12 @@ use Rattle.shore_world.specs.Refusals.{IsNamedFor, NamesAnchor, NamesPage, Names
 
 -- a heap with no page in a frame, over a volume that is settled
 pub held_empty : {V : Type 0} {H : Ghosts V} (front : List ℕ) (disk : ℕ → List ℕ) (heap : Heap V H) (dev : PageDev V H) (last : ℕ) → heaps.device_of heap ≡ dev → ((k : ℕ) → heaps.frame_at heap k ≡ None)
-    → settled_device.IsSettled dev front disk → IsHeld front disk disk heap [] last
-held_empty front disk heap dev last same none settled = record {
+    → heaps.amid_of heap ≡ amid.Rest → settled_device.IsSettled dev front disk → IsHeld front disk disk heap [] last
+held_empty front disk heap dev last same none rests settled = record {
   holds = record {
-    settled = subst (λ d. settled_device.IsSettled d front disk) (sym same) settled;
+    settled = rests_at (heaps.amid_of heap) (heaps.device_of heap) front disk (pools.batch_of (heaps.pool_of heap)) (pools.batch_texts_of (heaps.pool_of heap)) rests
+        (subst (λ d. settled_device.IsSettled d front disk) (sym same) settled);
+    held = held_none (heaps.amid_of heap) (heaps.frame_at heap) (pools.batch_of (heaps.pool_of heap)) (pools.batch_texts_of (heaps.pool_of heap)) rests;
     written = λ k f there clean. absurd (no_frame k f there);
   };
   low = λ k f there. absurd (no_frame k f there);

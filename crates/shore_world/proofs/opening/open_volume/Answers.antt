@@ -59,5 +59,5 @@ pub returns-in-Ok-clause-held : goal.returns-in-Ok-clause-held
 returns-in-Ok-clause-held g c honest image texts stands shows last =
     let same = c.new-pages.ensures.device in
     let geometry = c.new-pages.ensures.geometry in
-    held_empty (take GATE_AT image) texts c.in-Ok.heap _ last c.in-Ok.ensures.device c.in-Ok.ensures.none
+    held_empty (take GATE_AT image) texts c.in-Ok.heap _ last c.in-Ok.ensures.device c.in-Ok.ensures.none c.in-Ok.ensures.rests
     (c.in_default.ensures.replayed (take GATE_AT image) texts (stable_on c.args.volume c.new-pages.result _ same geometry honest image texts stands shows))

@@ -14,16 +14,16 @@ use Rattle.shore_held.specs.declared.asked.Asked.TheVariants as Asked
 use Rattle.shore_held.proofs.Aims.{aims_kept}
 use Rattle.shore_held.proofs.Comings.{flush_failed, flushed}
 use Rattle.shore_held.proofs.Trails.{calls_snoc, failure_told, long_snoc, moves_snoc, noted_still}
-use Rattle.shore_held.proofs.core_held.CoreHeld.flush.Goals as goal
+use Rattle.shore_held.proofs.core_held.CoreHeld.flush_on.Goals as goal
 
 pub invariant_of-self : goal.invariant_of-self
 invariant_of-self g c =
     let i = c.args.self.now in
-    let new = c.flush_step-step.new.self in
-    let did = c.flush_step-step.ensures in
+    let new = c.flush_on-step.new.self in
+    let did = c.flush_on-step.ensures in
     let e1 = c.and-self.ensures in
     let e2 = c.and-self-then-is_failure.ensures in
-    let is : c.flush_step-step.result ≡ step.Refused Fault.Device = c.is_failure.ensures.0 c.if-is_failure.true in
+    let is : c.flush_on-step.result ≡ step.Refused Fault.Device = c.is_failure.ensures.0 c.if-is_failure.true in
     let trail : moves_of c.and-self.result.items c.and-self-then-is_failure.result.items ≡ moves_of i.asked.items i.stepped.items ++ OfManager HasFailed ∷ [] =
     (λ j. moves_of (e1 j) (e2 j)) ∙ moves_snoc i.asked.items i.stepped.items (Asked.Failed, 0) (step.Nothing, 0) i.as_many in
     record {
@@ -47,13 +47,13 @@ invariant_of-self g c =
 pub invariant_of-self-else-is_failure : goal.invariant_of-self-else-is_failure
 invariant_of-self-else-is_failure g c =
     let i = c.args.self.now in
-    let new = c.flush_step-step.new.self in
-    let did = c.flush_step-step.ensures in
-    let other : ¬ (c.flush_step-step.result ≡ step.Refused Fault.Device) = λ is. true≢false (sym (c.is_failure.ensures.1 is) ∙ c.if-is_failure.false) in
+    let new = c.flush_on-step.new.self in
+    let did = c.flush_on-step.ensures in
+    let other : ¬ (c.flush_on-step.result ≡ step.Refused Fault.Device) = λ is. true≢false (sym (c.is_failure.ensures.1 is) ∙ c.if-is_failure.false) in
     record {
       come_by = λ start honest. ∥∥₁_map (i.come_by start honest)
           (λ h. flushed g.B.Named.cut g.B.Named.before i.core i.stage (anchored_at i.seat.kept) (moves_of i.asked.items i.stepped.items) h new did.serves.volume.geometry did.ring did.serves.any_moment did.still
-          c.flush_step-step.result other did.step);
+          c.flush_on-step.result other did.step);
       layout = did.serves.volume.geometry ∙ i.layout;
       ring = omega (arith, did.ring, i.ring);
       as_many = i.as_many;
