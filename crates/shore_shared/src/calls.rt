@@ -123,6 +123,11 @@ fn number_awaited(step: &Step) -> Option<u64>
     }
 }
 
+// Whether the call waits for room in the log: the begin of a session that is in no transaction. In one it may hold the tail itself, and is refused at once.
+fn needs_room(call: &Call, in_txn: bool) -> bool {
+    matches!(call, Call::Begin) && !in_txn
+}
+
 fn is_log_full(step: &Step) -> bool {
     matches!(step, Step::Refused(Fault::LogFull))
 }
@@ -312,7 +317,7 @@ impl<B: Named> Session<B> {
         ensures heard { (more : List Heard) × (self.new.ear ≡ record self.old.ear { heard = self.old.ear.heard ++ more }) × Hears self.new.seat.failed call (Some call) more result }
         ensures refused { IfErr result (λ fault. (more : List Heard) × (self.new.ear.heard ≡ self.old.ear.heard ++ more) × IsRefusal self.new.seat.failed more fault) }
     {
-        if matches!(call, Call::Begin) {
+        if needs_room(&call, self.in_txn) {
             shared.wait_for_room(rt);
         }
         let mut glanced = shared.sleepers.glance(sleeper_of(self.number));

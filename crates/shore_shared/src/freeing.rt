@@ -12,7 +12,8 @@ const HALF: u64 = 1;
 
 const MOST: u64 = 2;
 
-// Who holds the tail and has made no step for so many turns of the checkpointer, of a millisecond each, is awaited by no begin. One whose thread has lost its processor is not idle yet.
+// Who holds the tail and has made no step for so many turns of the checkpointer is awaited by no begin. They come every 20 milliseconds, and every one while a checkpoint is due.
+// One whose thread has lost its processor is not idle yet.
 const IDLE_TURNS: u32 = 20;
 
 fn taken(room: &LogRoom) -> u64 {

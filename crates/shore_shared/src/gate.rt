@@ -9,7 +9,8 @@ pub enum Role {
 }
 
 /// Where a worker is: before a turn, or before a sync of one. The log writer is there before each of its syncs: before that of a frame's text, and before that of its gate, with which it may
-/// write the text of the next. The flusher is there before a batch, and the checkpointer before a step: what syncs these take are made under the core's lock.
+/// write the text of the next. The flusher and the checkpointer are there before each turn of a batch of pages, which makes one sync under the core's lock, or two where the batch was given up; and the
+/// checkpointer before each step: what syncs that takes are made under both locks.
 #[derive(Clone, Copy, PartialEq)]
 pub enum Place {
     Turn(Role),

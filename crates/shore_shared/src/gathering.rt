@@ -97,8 +97,11 @@ impl<N: Numbers, B: Named, T: Tail, L: Disk, V: Disk> Shared<N, B, T, L, V> {
     }
 
     // What the sessions that are under way commit within a short time is forced together: the time begins as the first of them waits, or who waits for a frame that is staged. Who has
-    // not come by then is not awaited any more. As long as nobody has, there is nothing to force.
+    // not come by then is not awaited any more. As long as nobody has, there is nothing to force. After a frame that was full nobody is awaited: there is enough for another.
     pub(crate) fn gather(&self, rt: &(impl Wait + Clock), pace: &mut Pace) {
+        if pace.has_more() {
+            return;
+        }
         let began = moment(rt);
         if self.gather_shortly() && self.busy.load(Ordering::SeqCst) > 0 {
             if let Some(began) = began {

@@ -5,6 +5,7 @@ mod calls;
 mod client_laws;
 mod clients;
 mod closing;
+mod flushing;
 mod freeing;
 mod gate;
 mod gathering;

@@ -1,4 +1,6 @@
 //! How long the log writer gathers: by what its last forces took.
+ghost use Rattle.std.specs.Prelude.{◌≡◌, ◌↔◌, ◌⊎◌, ◌*◌, ◌≤◌, ◌<◌, IfNone, IfSome, IsTrue};
+
 use std::time::{Clock, Duration};
 
 // A force counts for so much of the mean as this part of it.
@@ -28,11 +30,17 @@ pub(crate) struct Pace {
     mean: u64,
     // How many turns to come do without.
     spared: u32,
+    // Whether the last frame had no place for all that was there to be forced: then as much waits as one more holds.
+    is_full: bool,
 }
 
 impl Pace {
     pub(crate) fn new() -> Pace {
-        Pace { mean: 0, spared: 0 }
+        Pace {
+            mean: 0,
+            spared: 0,
+            is_full: false,
+        }
     }
 
     // A force took the time between these moments.
@@ -45,8 +53,27 @@ impl Pace {
         self.mean = kept.saturating_add(took / WEIGHT);
     }
 
+    // Records up to a number were there, and those up to another are durable.
+    pub(crate) fn note_frame(&mut self, taken: u64, durable: u64)
+        ensures full { IsTrue self.new.is_full ↔ (durable < taken) }
+        ensures same { (self.new.mean ≡ self.old.mean) × (self.new.spared ≡ self.old.spared) }
+    {
+        self.is_full = durable < taken;
+    }
+
+    // Whether a frame that is full waits for the next turn.
+    pub(crate) fn has_more(&self) -> bool
+        ensures { result ≡ self.now.is_full }
+    {
+        self.is_full
+    }
+
     // How many microseconds a turn gathers that begins now, if it pays.
-    pub(crate) fn gathers_for(&mut self) -> Option<u64> {
+    pub(crate) fn gathers_for(&mut self) -> Option<u64>
+        ensures pays { IfSome result (λ most. (LEAST_MICROS ≤ most) × (most * PART ≤ self.old.mean) × (self.old.spared ≡ 0)) }
+        ensures none { IfNone result ((self.old.mean < LEAST_MICROS * PART) ⊎ (0 < self.old.spared)) }
+        ensures same { (self.new.mean ≡ self.old.mean) × (self.new.is_full ≡ self.old.is_full) }
+    {
         let most = self.mean / PART;
         if most < LEAST_MICROS {
             return None;
@@ -59,7 +86,10 @@ impl Pace {
     }
 
     // Whether anybody came meanwhile.
-    pub(crate) fn note_gathered(&mut self, has_paid: bool) {
+    pub(crate) fn note_gathered(&mut self, has_paid: bool)
+        ensures spares { IsTrue has_paid ↔ (self.new.spared ≡ 0) }
+        ensures same { (self.new.mean ≡ self.old.mean) × (self.new.is_full ≡ self.old.is_full) }
+    {
         self.spared = if has_paid { 0 } else { SPARES };
     }
 }

@@ -1,8 +1,10 @@
 //! What turns of the workers do with the values under the locks, which are lent to them: of a function that takes a lock no clause can say it.
 ghost use Rattle.std.specs.Prelude.{◌≡◌, ◌≢◌, ◌⊎◌, ◌↔◌, ◌≤◌, ◌<◌, ◌+◌, [], ◌∷◌, ◌++◌, Err, IfErr, IfOk, IsTrue, List, OnErr, OnOk, false, length, true};
 ghost use Rattle.shore_disk.specs.Cause.{HasCause};
-ghost use Rattle.shore_core.specs.Cores.{has_failed, last_of};
-ghost use Rattle.shore_core.specs.Flushing.{FlushAnswers, FlushSteps};
+ghost use Rattle.shore_dwrite.specs.Syncs.{syncs_of};
+ghost use Rattle.shore_heap.specs.Heaps.{history_of, honesty_of};
+ghost use Rattle.shore_core.specs.Cores.{has_failed, heap_of, last_of};
+ghost use Rattle.shore_core.specs.Flushing.{FlushSteps, TurnAnswers};
 ghost use Rattle.shore_core.specs.Replies.{InEach};
 ghost use Rattle.shore_model.specs.declared.log_records.LogRecord.{LogRecord};
 ghost use Rattle.shore_held.specs.Logs.{HasNoPlace};
@@ -66,6 +68,8 @@ impl<N: Numbers, B: Named, T: Tail, L: Disk, V: Disk> Shared<N, B, T, L, V> {
         ensures cut { held.new.cut ≡ held.old.cut }
         ensures news { IfOk result (λ r. IsTrue r.0 ↔ (length held.old.stable < length held.new.stable)) }
         ensures none { IfOk result (λ r. r.0 ≡ false → (held.new.stable ≡ held.old.stable) × (held.new.staged ≡ 0) × (held.new.list ≡ held.new.stable ++ held.new.waits)) }
+        // Where what waits came through the queue the next frame is staged by the same sync, if there is one, and place for it.
+        ensures goes_on { held.old.textless ≡ 0 → 0 < held.old.staged → IfOk result (λ r. held.new.staged ≡ 0 → (held.new.list ≡ held.new.stable ++ held.new.waits) ⊎ HasNoPlace held.new) }
         ensures taken { IfOk result (λ r. IsTrue r.1 → held.new.waits ≡ []) }
         // All that the log device knows to be sent is taken in, or as much as one turn takes.
         ensures all { IfOk result (λ r. IsTrue r.1 → ((rest : List LogRecord) × (held.new.got ≡ held.old.met ++ rest)) ⊎ (length held.old.got + 65535 < length held.new.got)) }
@@ -94,6 +98,7 @@ impl<N: Numbers, B: Named, T: Tail, L: Disk, V: Disk> Shared<N, B, T, L, V> {
         ensures same { (held.new.cut ≡ held.old.cut) × (held.new.told ≡ held.old.told) }
         ensures news { IfOk result (λ r. IsTrue r.0 ↔ (length held.old.stable < length held.new.stable)) }
         ensures none { IfOk result (λ r. r.0 ≡ false → (held.new.stable ≡ held.old.stable) × (held.new.staged ≡ 0) × (held.new.list ≡ held.new.stable ++ held.new.waits)) }
+        ensures goes_on { held.old.textless ≡ 0 → 0 < held.old.staged → IfOk result (λ r. held.new.staged ≡ 0 → (held.new.list ≡ held.new.stable ++ held.new.waits) ⊎ HasNoPlace held.new) }
         ensures taken { IfOk result (λ r. IsTrue r.1 → held.new.waits ≡ []) }
         ensures all { IfOk result (λ r. IsTrue r.1 → ((rest : List LogRecord) × (held.new.got ≡ held.old.met ++ rest)) ⊎ (length held.old.got + 65535 < length held.new.got)) }
         ensures unforced { OnErr result (held.new.stable ≡ held.old.stable) }
@@ -199,18 +204,19 @@ impl<N: Numbers, B: Named, T: Tail, L: Disk, V: Disk> Shared<N, B, T, L, V> {
     }
 }
 
-// One batch is written back, with what the core has seen: a flush of the core. The answer is what it came to, and whether all that is logged was durable.
+// One turn of a flush of the core, which makes one sync at most, with what the core has seen. The answer is what it came to, and whether all that is logged was durable.
 pub(crate) fn flush_held<B: Named, T: Tail, V: Disk>(
     alloc: Global,
     seen: Lsn,
     core: &mut CoreHeld<B, T, V>,
 ) -> (Step, bool)
-    ensures flushes { FlushAnswers core.old.core result.0 core.new.core }
+    ensures turns { TurnAnswers core.old.core result.0 core.new.core }
+    ensures syncs { IsTrue (honesty_of (heap_of core.old.core)) → syncs_of (history_of (heap_of core.new.core)) ≤ syncs_of (history_of (heap_of core.old.core)) + 1 }
     ensures step { InEach (λ front disk before s store. FlushSteps result.0 core.new.core front before s store) core.old.core }
     ensures durable { IsTrue result.1 ↔ (last_of core.old.core ≤ seen) }
 {
     let durable = core.last() <= seen;
-    let step = core.flush(alloc);
+    let step = core.flush_on(alloc);
     (step, durable)
 }
 

@@ -5,7 +5,7 @@ use crate::freeing::Latest;
 use crate::gate::{Gate, Place, Role};
 use crate::pacing::{Pace, moment};
 use crate::shared::{CHECKPOINTER, FLUSHER, ROOM, Shared, WRITER};
-use crate::turns::{checkpoint_held, flush_held, is_device, is_due};
+use crate::turns::{checkpoint_held, is_device, is_due};
 use shore_core::{Answer, Step};
 use shore_disk::Disk;
 use shore_held::{Named, Seat};
@@ -13,15 +13,12 @@ use shore_log::Tail;
 use shore_queue::{Numbers, QueueTail};
 use shore_txn::LogRoom;
 use shore_types::Fault;
-use shore_types::layout::MAX_BATCH_PAGES;
 use std::alloc::Global;
 use std::sync::Wait;
 use std::sync::atomic::Ordering;
 use std::time::{Clock, Duration};
 
-// A turn of the checkpointer flushes no more batches than this, and makes no more steps.
-const MOST_BATCHES: u32 = 64;
-
+// A turn of the checkpointer makes no more steps than this.
 const MOST_STEPS: u32 = 4;
 
 // How long the flusher sleeps behind a batch, and any worker that finds nothing to do; and how long who has to wait for a force.
@@ -77,13 +74,14 @@ impl<N: Numbers, B: Named, T: Tail, L: Disk, V: Disk> Shared<N, B, T, L, V> {
         self.gather(rt, pace);
         let mut held = self.log.lock(rt);
         held.compare(&self.words, known);
-        let began = moment(rt);
+        let (began, taken) = (moment(rt), held.last());
         let (forced, _) = self.write_held(rt, alloc, gate, &mut held)?;
         if forced {
             pace.note_force(began, moment(rt));
         }
         *known = held.seat(&self.words);
         drop(held);
+        pace.note_frame(taken.0, known.look(&self.words));
         if forced {
             self.wake_waiting();
         }
@@ -113,7 +111,8 @@ impl<N: Numbers, B: Named, T: Tail, L: Disk, V: Disk> Shared<N, B, T, L, V> {
         }
     }
 
-    /// Writes pages back until the stop is asked for, a batch at a time: the core's lock is held meanwhile, and pages that are changed all the time need not be written each time.
+    /// Writes pages back until the stop is asked for, a batch at a time: the core's lock is held for one sync of it and then for the next, and pages that are changed all the time
+    /// need not be written each time.
     pub fn flusher(&self, rt: &impl Wait, alloc: Global, seat: &mut Seat<B>, gate: &impl Gate)
         ensures { seat.new ≡ record seat.old { stopped = true } }
     {
@@ -123,37 +122,11 @@ impl<N: Numbers, B: Named, T: Tail, L: Disk, V: Disk> Shared<N, B, T, L, V> {
             if seat.stopping(&self.words) {
                 return;
             }
-            gate.pass(Place::Sync(Role::Flusher));
-            self.flush_turn(rt, alloc);
+            self.flush_batch(rt, alloc, gate, Role::Flusher);
             self.sleepers
                 .nap(rt, FLUSHER, glanced, Duration::from_millis(PAUSE_MILLIS));
         }
         unreachable!()
-    }
-
-    // One batch is written back, with what the core has seen. The answer is whether more may be due, and whether all that is logged was durable and the batch was written. What is
-    // not durable is asked for.
-    fn flush_turn(&self, rt: &impl Wait, alloc: Global) -> (bool, bool) {
-        let mut core = self.lock_core(rt);
-        let seen = core.look(&self.words);
-        let (step, durable) = flush_held(alloc, seen, &mut core);
-        let refused = matches!(step, Step::Refused(_));
-        if refused {
-            self.wake_let_through(&core);
-        }
-        drop(core);
-        if !durable {
-            self.ask_force();
-        }
-        (is_full(&step), durable && !refused)
-    }
-}
-
-// Whether a batch had all the pages that it may have.
-fn is_full(step: &Step) -> bool {
-    match step {
-        Step::Done(Answer::Flushed(count)) => *count >= MAX_BATCH_PAGES,
-        _ => false,
     }
 }
 
@@ -219,7 +192,7 @@ impl<N: Numbers, B: Named, R: Wait + Copy, L: Disk, V: Disk> Shared<
                 return;
             }
             // A page that is changed all the time is written back once its last change is durable; in a full log nothing else frees what it stands on.
-            if !self.flush_all(rt, alloc, gate) && self.is_full() {
+            if !self.flush_all(rt, alloc, gate, Role::Checkpointer) && self.is_full() {
                 return;
             }
             self.full.store(0, Ordering::SeqCst);
@@ -238,18 +211,6 @@ impl<N: Numbers, B: Named, R: Wait + Copy, L: Disk, V: Disk> Shared<
         }
         // What was logged is to be durable, and what was freed may let a force through that was refused.
         self.ask_force();
-    }
-
-    // All pages that are due are written back. The answer is whether all that is logged was durable then: no other page was left.
-    fn flush_all(&self, rt: &R, alloc: Global, gate: &impl Gate) -> bool {
-        for _ in 0..MOST_BATCHES {
-            gate.pass(Place::Sync(Role::Checkpointer));
-            let (more, durable) = self.flush_turn(rt, alloc);
-            if !more {
-                return durable;
-            }
-        }
-        false
     }
 
     // One step, under both locks, the core's first; and the room that it leaves.

@@ -4,7 +4,7 @@ use Rattle.shore_model.specs.declared.step.Step.{Step}
 use Rattle.shore_model.specs.declared.step.Step.TheVariants as made
 use Rattle.shore_shared.specs.Heard.{AwaitsLock, AwaitsLog, HasLooked, asked_behind}
 use Rattle.shore_shared.proofs.Hearing.{HasMade, IsAbout, IsFirst, answered, begins, gone_on, goes_on, has_heard, looked, looked_on, made_first, none_behind, refused_over, untold}
-use Rattle.shore_shared.proofs.session.Session.call_within.Goals.{in-Some-number_awaited+else-not-wait_for, in_default-number_awaited+then-waits_for_lock, then-is_refused, else-is_refused}
+use Rattle.shore_shared.proofs.session.Session.call_within.Goals.{in-Some-number_awaited+else-not-wait_for, in_default+then-waits_for_lock, then-is_refused, else-is_refused}
 use Rattle.shore_shared.proofs.session.Session.call_within.Goals as goal
 
 pub loop-init : goal.loop-init
@@ -47,7 +47,7 @@ loop-preserved g c =
         ap (λ s. s.ear) w.self-is ∙ w.wait_for.ensures.same.2,
         inl w.in-Some-number_awaited.ensures.some,
       )
-      | in_default-number_awaited+then-waits_for_lock w ↦ (
+      | in_default+then-waits_for_lock w ↦ (
         ap (λ s. s.number) w.self-is,
         looked was.seat m.seat (ap (λ s. s.seat) w.self-is),
         ap (λ s. s.share.amount) w.self-is,
