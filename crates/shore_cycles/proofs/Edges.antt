@@ -1,6 +1,6 @@
 -- Who waits for whom, request by request, and what other requests have to do with it.
 use Rattle.std.proofs.Common.{◌≡◌, ◌++◌, ◌⊎◌, inl, inr, ⊎_elim, ℕ, List, [], ◌∷◌, Bool, true, false, refl, ap, sym, subst, ◌∙◌}
-use Rattle.std.specs.Prelude.{filter, not, ◌==◌, ◌&&◌, Any, Option, None, Some, is_some}
+use Rattle.std.specs.Prelude.{filter, not, ◌==◌, ◌&&◌, Option, None, Some, is_some}
 use Rattle.std.proofs.lemmas.Bool.Decides.{Decides-eqb}
 use Rattle.std.proofs.lemmas.List.Elements.{filter-append}
 use Rattle.shore_types.specs.declared.locking.Granule.{Granule}

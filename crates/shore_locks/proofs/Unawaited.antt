@@ -1,13 +1,12 @@
 -- Nobody waits for a transaction none of whose requests is waited for.
 use Rattle.std.proofs.Common.{◌≡◌, ◌++◌, ◌⊎◌, inl, inr, ⊎_elim, ℕ, List, [], ◌∷◌, Bool, true, false, Option, None, Some, refl, ap, sym, subst, ◌∙◌}
-use Rattle.std.specs.Prelude.{filter, not, ◌&&◌, ◌==◌, is_some, All, Any, IsSome, IsSomeAnd}
+use Rattle.std.specs.Prelude.{filter, not, ◌&&◌, ◌==◌, is_some, All, Any, IsSomeAnd}
 use Rattle.std.proofs.lemmas.Bool.Decides.{Decides-eqb}
 use Rattle.std.proofs.lemmas.List.Elements.{All-cons, filter-append}
 use Rattle.shore_types.specs.declared.locking.Granule.{Granule}
 use Rattle.shore_types.specs.declared.locking.Mode.{Mode}
 use Rattle.shore_types.specs.Locking.{same_granule}
 use Rattle.shore_model.specs.declared.requests.Request.{Request}
-use Rattle.shore_model.specs.declared.requests.Group.{Group}
 use Rattle.shore_model.specs.declared.requests.Group.TheVariants.{Holders, Conversions, NewWaiters}
 use Rattle.shore_model.specs.Modes.{grants}
 use Rattle.shore_model.specs.Requests.{are_alike, AreRequests, Before, IsBehind, IsRefusedBy, WaitsFor, WaitsIn, is_in_group, queue_at, requests_at, requests_by}

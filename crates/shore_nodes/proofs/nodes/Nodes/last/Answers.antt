@@ -1,4 +1,4 @@
-use Rattle.std.proofs.Common.{◌≡◌, ◌++◌, ◌∷◌, [], ◌<◌, List, Option, None, Some, Bor, refl, ap, sym, subst, ◌∙◌}
+use Rattle.std.proofs.Common.{◌≡◌, ◌++◌, ◌∷◌, [], ◌<◌, List, Option, None, Some, Bor, refl, sym, subst, ◌∙◌}
 use Rattle.std.specs.Prelude.{IfSome, option_copied}
 use Rattle.shore_model.specs.declared.requests.Request.{Request}
 use Rattle.shore_nodes.specs.Nodes.{alive}
