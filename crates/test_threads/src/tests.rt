@@ -1,7 +1,9 @@
+mod batches;
 mod crashes;
 mod frees;
 mod gates;
 mod gathers;
+mod holders;
 mod life;
 mod prepares;
 mod queues;

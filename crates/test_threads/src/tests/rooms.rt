@@ -62,10 +62,16 @@ impl<'r, 'm, R: Clock> Fill<'r, 'm, R> {
     }
 }
 
-// The record of a client is made, and then changed again and again.
+// The record of a client is made, and then changed again and again. Beside one that keeps the log it may be full by then.
 fn make_and_change(alloc: Global, client: &mut impl Client) -> Result<u64, Fault> {
-    let record = made(alloc, client)?;
-    turns_of(alloc, client, &record)
+    match made(alloc, client) {
+        Ok(record) => turns_of(alloc, client, &record),
+        Err(Fault::LogFull) => {
+            let _ended = client.call(Call::Abort);
+            Ok(1)
+        }
+        Err(fault) => Err(fault),
+    }
 }
 
 fn turns_of(alloc: Global, client: &mut impl Client, record: &Rid) -> Result<u64, Fault> {
