@@ -1,6 +1,7 @@
 //! How many transactions threads make durable in a second, over files. `bench_threads WORK THREADS ROUNDS DIR`: see bench/threads.
 #![tactic(auto)]
 
+mod latencies;
 mod plain;
 mod rounds;
 mod serving;
@@ -33,6 +34,7 @@ fn log_bytes(work: Work) -> u64 {
         | Work::Page
         | Work::Record
         | Work::Think
+        | Work::Latency
         | Work::Gets
         | Work::Idle
         | Work::Lock
@@ -111,6 +113,9 @@ fn main(rt: HostRuntime) -> Result<()> {
         "{name}_time.t{threads} {} nanoseconds",
         took.nanos / took.done.max(1)
     )?;
+    if let Some(micros) = took.latencies.percentile(99) {
+        println!(&rt; "{name}_p99.t{threads} {micros} microseconds")?;
+    }
     if took.refused > 0 {
         println!(&rt; "{name}_refused.t{threads} {} transactions", took.refused)?;
     }

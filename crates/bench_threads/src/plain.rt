@@ -1,4 +1,5 @@
 //! Plain writes, each with its sync: what a commit cannot be faster than, one or two of them for each.
+use crate::latencies::Latencies;
 use crate::serving::Took;
 use anyhow::Result;
 use bench_parts::files::{file_of, write_and_sync};
@@ -33,6 +34,7 @@ pub fn measured(rt: &HostRuntime, syncs: u64, rounds: u64, folder: &str) -> Resu
     Ok(Took {
         done: rounds,
         refused: 0,
+        latencies: Latencies::new(),
         nanos: host.nanos_since(start),
     })
 }

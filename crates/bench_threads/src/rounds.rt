@@ -1,4 +1,5 @@
 //! The rounds of a client.
+use crate::latencies::Latencies;
 use crate::works::{Plan, Work, change, update, update_twice};
 use bench_parts::host::Host;
 use shore_model::Call;
@@ -18,6 +19,7 @@ pub struct Span {
     pub refused: u64,
     pub began: u64,
     pub ended: u64,
+    pub latencies: Latencies,
 }
 
 /// What is done, the records, and the clock.
@@ -47,6 +49,7 @@ impl<'a> Job for Rounds<'a> {
         };
         let done = self.plan.rounds as u64;
         let mut refused = 0u64;
+        let mut latencies = Latencies::new();
         let (began, ended) = match self.plan.work {
             Work::Lock => (0, self.lock(client, record)?),
             Work::Commit => (0, self.commit(alloc, client, record)?),
@@ -55,6 +58,11 @@ impl<'a> Job for Rounds<'a> {
                 for round in 0..self.plan.rounds {
                     refused = refused.saturating_add(self.lazily(alloc, client, record, round)?);
                 }
+                (began, self.host.nanos())
+            }
+            Work::Latency => {
+                let began = self.host.nanos();
+                self.time_commits(alloc, client, record, &mut latencies)?;
                 (began, self.host.nanos())
             }
             Work::Idle
@@ -74,6 +82,7 @@ impl<'a> Job for Rounds<'a> {
             refused,
             began,
             ended,
+            latencies,
         })
     }
 }
@@ -109,6 +118,7 @@ impl<'a> Rounds<'a> {
             Work::Pages
             | Work::Page
             | Work::Record
+            | Work::Latency
             | Work::Lock
             | Work::Commit
             | Work::Short
@@ -118,6 +128,23 @@ impl<'a> Rounds<'a> {
                     client.commit_durable()?;
                 }
             }
+        }
+        Ok(())
+    }
+
+    // Each commit is timed from its call to its answer, which comes once it is durable.
+    fn time_commits(
+        &self,
+        alloc: Global,
+        client: &mut impl Client,
+        record: &Rid,
+        latencies: &mut Latencies,
+    ) -> Result<(), Fault> {
+        for round in 0..self.plan.rounds {
+            update(alloc, client, *record, (round % 256) as u8)?;
+            let start = self.host.nanos();
+            client.commit_durable()?;
+            latencies.note(self.host.nanos_since(start));
         }
         Ok(())
     }

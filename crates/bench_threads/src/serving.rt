@@ -1,4 +1,5 @@
 //! A work over a manager: one client makes the records, and then each does its rounds.
+use crate::latencies::Latencies;
 use crate::rounds::{Rounds, Span};
 use crate::works::{Fill, Plan, Work};
 use bench_parts::host::Host;
@@ -10,12 +11,13 @@ use std::sync::Wait;
 use std::thread::Threads;
 use std::time::Clock;
 
-/// How many rounds were done, how many of them were refused, in how many nanoseconds.
+/// How many rounds were done, how many of them were refused, in how many nanoseconds, and what those that were timed alone took.
 #[derive(Drop)]
 pub struct Took {
     pub done: u64,
     pub refused: u64,
     pub nanos: u64,
+    pub latencies: Latencies,
 }
 
 /// What a plan takes.
@@ -75,6 +77,7 @@ fn clients_of(plan: Plan) -> u32 {
         | Work::Page
         | Work::Record
         | Work::Think
+        | Work::Latency
         | Work::Gets
         | Work::Short
         | Work::Middle
@@ -85,17 +88,20 @@ fn clients_of(plan: Plan) -> u32 {
 // From the first that began to the last that ended.
 fn whole_of(served: Vec<Vec<Span>>) -> Took {
     let (mut done, mut refused, mut began, mut ended) = (0u64, 0u64, u64::MAX, 0u64);
+    let mut latencies = Latencies::new();
     for spans in served {
         for span in spans {
             done = done.saturating_add(span.done);
             refused = refused.saturating_add(span.refused);
             began = began.min(span.began);
             ended = ended.max(span.ended);
+            latencies.join(&span.latencies);
         }
     }
     Took {
         done,
         refused,
         nanos: ended.saturating_sub(began),
+        latencies,
     }
 }

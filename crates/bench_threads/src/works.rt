@@ -15,6 +15,8 @@ pub enum Work {
     Record,
     /// .. a record on a page of its own, and thinks for half a millisecond before each.
     Think,
+    /// .. a record on a page of its own, and each commit is timed alone.
+    Latency,
     /// Each thread gets a record of its own.
     Gets,
     /// The threads do nothing; the workers turn for so many seconds.
@@ -38,6 +40,7 @@ pub fn named(name: &str) -> Option<Work> {
         "page" => Some(Work::Page),
         "record" => Some(Work::Record),
         "think" => Some(Work::Think),
+        "latency" => Some(Work::Latency),
         "gets" => Some(Work::Gets),
         "idle" => Some(Work::Idle),
         "lock" => Some(Work::Lock),
@@ -89,6 +92,7 @@ impl Job for Fill {
             let store = match self.plan.work {
                 Work::Pages
                 | Work::Think
+                | Work::Latency
                 | Work::Gets
                 | Work::Short
                 | Work::Middle
