@@ -13,6 +13,8 @@ FILES = ("log", "volume")
 # What clients do: all the same; or each what is of its kind, one of five by its number, of which one commits twice before it notes that.
 ALIKE, KINDS = "run", "kinds"
 COUNT_OF_KINDS, COMMITS_LAZILY = 5, 2
+# How long the log is as a rule, and the shortest that there may be.
+LOG_BYTES, LEAST_LOG_BYTES = 1 << 20, 135_168
 # Whoever needs so many seconds hangs. Nothing is judged by them but that.
 LONGEST = 300
 
@@ -82,8 +84,8 @@ class Turmoil:
     def begun(self, *words, **how):
         return subprocess.Popen([self.program, *words], stdin=subprocess.DEVNULL, stdout=subprocess.PIPE, text=True, **{**self.how, **how})
 
-    def make(self):
-        printed, status = ended("make", self.begun("make", self.folder))
+    def make(self, log_bytes=LOG_BYTES):
+        printed, status = ended("make", self.begun("make", self.folder, str(log_bytes)))
         if status:
             raise Failure(f"no pair is made: status {status}, {printed!r}")
 

@@ -1,5 +1,5 @@
-//! A manager over files whose clients meet deadlocks, roll back and go back to savepoints, for a check that kills it: `turmoil make DIR`, `turmoil run DIR CLIENTS` and `turmoil kinds DIR CLIENTS`,
-//! which end by a kill alone, and `turmoil look DIR`. See tools/check-threads.
+//! A manager over files whose clients meet deadlocks, roll back and go back to savepoints, for a check that kills it: `turmoil make DIR [LOG_BYTES]`, `turmoil run DIR CLIENTS` and `turmoil kinds DIR
+//! CLIENTS`, which end by a kill alone, and `turmoil look DIR`. See tools/check-threads.
 #![tactic(auto)]
 
 mod clients;
@@ -21,6 +21,7 @@ use std::sync::Wait;
 use std::thread::Threads;
 use std::time::Clock;
 
+// If no length is given.
 const LOG_BYTES: u64 = 1 << 20;
 
 // Fewer frames than pages, so that some are written back to make room for others.
@@ -41,7 +42,7 @@ fn open(rt: &HostRuntime, folder: &str) -> Result<Manager> {
 }
 
 // Both files, formatted.
-fn format_files(rt: &HostRuntime, folder: &str) -> Result<()> {
+fn format_files(rt: &HostRuntime, folder: &str, log_bytes: u64) -> Result<()> {
     let stores = Vec::from_elem(rt.alloc(), 1u32, 1 + MOST_CLIENTS)?;
     let geometry = Geometry {
         pair: 1,
@@ -53,7 +54,7 @@ fn format_files(rt: &HostRuntime, folder: &str) -> Result<()> {
         format!(in rt.alloc(); "{folder}/volume")?,
     );
     let places = FilePlaces::look(rt, log.as_str(), volume.as_str())?;
-    let (mut log, mut volume) = places.cleared(rt, LOG_BYTES, volume_bytes(&geometry))?;
+    let (mut log, mut volume) = places.cleared(rt, log_bytes, volume_bytes(&geometry))?;
     format(rt.alloc(), &mut log, &mut volume, &geometry)?;
     Ok(())
 }
@@ -62,8 +63,9 @@ fn make<R: Threads + Wait + Clock + Sync + Send + Copy>(
     threads: R,
     rt: &HostRuntime,
     folder: &str,
+    log_bytes: u64,
 ) -> Result<()> {
-    format_files(rt, folder)?;
+    format_files(rt, folder, log_bytes)?;
     let (left, served) = serve(threads, rt.alloc(), open(rt, folder)?, 1, &[Fill]);
     let _files = left.into_devices();
     served?;
@@ -143,7 +145,10 @@ fn turmoil<'r, 'f>(rt: &'r HostRuntime, folder: &'f str) -> Turmoil<'r, 'f> {
 fn main(rt: HostRuntime) -> Result<()> {
     let words: Vec<String> = env::args(&rt)?.collect(rt.alloc())?;
     match words.as_slice() {
-        [_, what, folder] if what.as_str() == "make" => make(rt, &rt, folder.as_str()),
+        [_, what, folder] if what.as_str() == "make" => make(rt, &rt, folder.as_str(), LOG_BYTES),
+        [_, what, folder, bytes] if what.as_str() == "make" => {
+            make(rt, &rt, folder.as_str(), bytes.as_str().parse::<u64>()?)
+        }
         [_, what, folder] if what.as_str() == "look" => look(rt, &rt, folder.as_str()),
         [_, what, folder, clients] if what.as_str() == "run" => {
             let clients = clients.as_str().parse::<u32>()?;
@@ -162,7 +167,7 @@ fn main(rt: HostRuntime) -> Result<()> {
         }
         _ => {
             println!(&rt;
-                "turmoil make DIR; turmoil run DIR CLIENTS; turmoil kinds DIR CLIENTS; turmoil look DIR"
+                "turmoil make DIR [LOG_BYTES]; turmoil run DIR CLIENTS; turmoil kinds DIR CLIENTS; turmoil look DIR"
             )?;
             Ok(())
         }
