@@ -2,13 +2,14 @@
 ghost use Rattle.std.specs.Prelude.{◌≡◌, ◌<◌, ◌≤◌, ◌++◌, ℕ, All, Some, false, drop, get_or, length, take, slice_get, slice_index, IfOk, IfErr, OnOk, OnErr};
 ghost use Rattle.shore_types.specs.declared.faults.Fault.TheVariants.{Memory};
 ghost use Rattle.shore_model.specs.Requests.{HasNoCycle};
+ghost use Rattle.shore_locks.specs.LetThrough.{Tells};
 ghost use Rattle.shore_locks.specs.Tables.{is_waiting};
 ghost use Rattle.shore_cycles.specs.Blockers as blockers;
 ghost use Rattle.shore_cycles.specs.Cycles.{AreVictims, IsOnEachCycle, IsOnNoCycle, IsOnNoCycleWithout, after_victims};
 
 use crate::search::Search;
-use shore_locks::LockTable;
 use shore_locks::laws::tables_are_orderly;
+use shore_locks::{LetThrough, LockTable};
 use shore_types::{Fault, Sequence, TxnId};
 use std::alloc::Global;
 
@@ -37,16 +38,19 @@ pub fn break_cycles(alloc: Global, table: &mut LockTable, txn: TxnId) -> Result<
     // For the proof: the requests of any table are orderly. Nothing runs.
     tables_are_orderly(table);
     let victims = choose(alloc, table, txn)?;
-    take_back(table, &victims);
+    take_back(table, &victims, &mut LetThrough::nobody());
     Ok(victims)
 }
 
-/// The requests with which these wait are taken back, in their turn.
-pub fn take_back(table: &mut LockTable, victims: &[Victim])
-    ensures { table.new ≡ record { limit = table.old.limit; requests = after_victims victims.now table.old.requests } }
+/// The requests with which these wait are taken back, in their turn. Who waits no more is noted, they among them.
+pub fn take_back(table: &mut LockTable, victims: &[Victim], let_through: &mut LetThrough)
+    ensures told { Tells table.old.requests table.new.requests let_through.old let_through.new }
+    ensures table { table.new ≡ record { limit = table.old.limit; requests = after_victims victims.now table.old.requests } }
 {
     for victim in victims {
-        table.cancel(victim.txn);
+        // For the proof: the requests of any table are orderly. Nothing runs.
+        tables_are_orderly(table);
+        table.cancel(victim.txn, let_through);
     }
 }
 

@@ -1,9 +1,10 @@
 //! The call that takes a lock along a path, waits for it, and breaks the cycles that its wait closes.
-ghost use Rattle.std.specs.Prelude.{◌≡◌, ◌<◌, ◌++◌, [], ℕ, List, Some, true, false, Ok, Err, IfOk, IfErr, IfSome, IfNone, OnErr};
+ghost use Rattle.std.specs.Prelude.{◌≡◌, ◌⊎◌, ◌<◌, ◌++◌, [], ℕ, List, None, Some, true, false, Ok, Err, IfOk, IfErr, IfSome, IfNone, OnErr};
 ghost use Rattle.shore_types.specs.declared.faults.Fault.TheVariants.{Memory};
 ghost use Rattle.shore_model.specs.declared.requests.Request.{Request};
 ghost use Rattle.shore_model.specs.Requests.{HasNoCycle};
 ghost use Rattle.shore_locks.specs.Grants.{cancelled};
+ghost use Rattle.shore_locks.specs.LetThrough.{Tells};
 ghost use Rattle.shore_locks.specs.Tables.{Table, is_waiting, waiting_request};
 ghost use Rattle.shore_path.specs.Acquires.{IsReached};
 ghost use Rattle.shore_cycles.specs.Blockers as blockers;
@@ -12,8 +13,8 @@ ghost use Rattle.shore_deadlock.specs.Locking.{AnswersBroken, Ends, IsBroken, Is
 ghost use Rattle.shore_cycles.specs.declared.victims.Victim.{Victim as VictimData};
 
 use shore_cycles::{Victim, choose, is_victim, take_back};
-use shore_locks::LockTable;
 use shore_locks::laws::tables_are_orderly;
+use shore_locks::{LetThrough, LockTable};
 use shore_path::{Acquired, OnConflict, acquire};
 use shore_types::{Fault, Granule, Mode, TxnId};
 use std::alloc::Global;
@@ -53,12 +54,13 @@ pub fn lock(alloc: Global, table: &mut LockTable, txn: TxnId, target: Granule, m
     // For the proof: the requests of any table are orderly. Nothing runs.
     tables_are_orderly(table);
     let target = &target;
+    let mut let_through = LetThrough::nobody();
     match acquire(table, txn, *target, mode, OnConflict::Wait) {
         Ok(Acquired::Done) => Reply {
             answer: Ok(Locked::Done),
             victims: Vec::new(alloc),
         },
-        Ok(Acquired::Waiting(_)) => settle(alloc, table, txn, *target, mode),
+        Ok(Acquired::Waiting(_)) => settle(alloc, table, txn, *target, mode, &mut let_through),
         Err(fault) => Reply {
             answer: Err(fault),
             victims: Vec::new(alloc),
@@ -67,7 +69,8 @@ pub fn lock(alloc: Global, table: &mut LockTable, txn: TxnId, target: Granule, m
 }
 
 /// Goes on with a lock whose transaction an acquire has just let wait, as `lock` does: the cycles that pass it are broken, and if a
-/// victim's request was all that stood in its way, it acquires again. What holds then is told from the table before that acquire.
+/// victim's request was all that stood in its way, it acquires again. What holds then is told from the table before that acquire. Who waits no more is noted, a
+/// victim too; once it acquires again only that there may be others.
 ///
 /// Refused as `acquire` is, and with Memory if an allocation failed; then the transaction does not wait. What was taken stays.
 pub fn settle(
@@ -76,6 +79,7 @@ pub fn settle(
     txn: TxnId,
     target: Granule,
     mode: Mode,
+    let_through: &mut LetThrough,
 ) -> Reply
     requires waiting { is_waiting txn table.old.requests ≡ true }
     ensures settles { (before : Table) → IsLetWait before txn target mode table.old → Settles before table.new txn target mode result.answer result.victims.items }
@@ -83,16 +87,18 @@ pub fn settle(
     ensures quiet { ((g : Granule) → result.answer ≡ Ok (Locked.Waiting g) → ⊥) → is_waiting txn table.new.requests ≡ false }
     ensures keeps { (before : Table) → IsLetWait before txn target mode table.old → Keeps txn before.requests table.new.requests }
     ensures others { (before : Table) → IsLetWait before txn target mode table.old → OnlyGrantsOthers txn result.victims.items before.requests table.new.requests }
+    ensures told { (let_through.new ≡ None) ⊎ Tells table.old.requests table.new.requests let_through.old let_through.new }
 {
     // For the proof: the requests of any table are orderly. Nothing runs.
     tables_are_orderly(table);
     let target = &target;
     let mut victims = Vec::new(alloc);
-    if let Some(answer) = break_wait(alloc, table, txn, &mut victims) {
+    if let Some(answer) = break_wait(alloc, table, txn, &mut victims, let_through) {
         return Reply { answer, victims };
     }
+    let_through.note_others();
     loop {
-        if let Some(answer) = go_round(alloc, table, txn, target, mode, &mut victims) {
+        if let Some(answer) = go_round(alloc, table, txn, target, mode, &mut victims, let_through) {
             return Reply { answer, victims };
         }
     }
@@ -106,6 +112,7 @@ fn go_round(
     target: &Granule,
     mode: Mode,
     victims: &mut Vec<Victim>,
+    let_through: &mut LetThrough,
 ) -> Option<Result<Locked, Fault>>
     requires { is_waiting txn table.old.requests ≡ false }
     ensures limit { table.new.limit ≡ table.old.limit }
@@ -115,6 +122,7 @@ fn go_round(
     ensures let_through { IfNone result ((vs : List VictimData) × IsLetThrough table.old txn target.now mode vs table.new.requests × (victims.new.items ≡ victims.old.items ++ vs)) }
     ensures fewer { IfNone result (others_waiting txn table.new.requests < others_waiting txn table.old.requests) }
     ensures keeps { Keeps txn table.old.requests table.new.requests }
+    ensures told { let_through.old ≡ None → let_through.new ≡ None }
 {
     // For the proof: the requests of any table are orderly. Nothing runs.
     tables_are_orderly(table);
@@ -123,7 +131,7 @@ fn go_round(
         Ok(Acquired::Waiting(_)) => {
             // For the proof: the requests of any table are orderly. Nothing runs.
             tables_are_orderly(table);
-            break_wait(alloc, table, txn, victims)
+            break_wait(alloc, table, txn, victims, let_through)
         }
         Err(fault) => Some(Err(fault)),
     }
@@ -135,8 +143,10 @@ fn break_wait(
     table: &mut LockTable,
     txn: TxnId,
     victims: &mut Vec<Victim>,
+    let_through: &mut LetThrough,
 ) -> Option<Result<Locked, Fault>>
     requires { is_waiting txn table.old.requests ≡ true }
+    ensures told { Tells table.old.requests table.new.requests let_through.old let_through.new }
     ensures limit { table.new.limit ≡ table.old.limit }
     ensures ends { IfSome result (λ answer. IfOk answer (λ locked. (vs : List VictimData) × IsBroken table.old.requests txn vs table.new.requests
         × AnswersBroken locked txn vs table.new.requests × (victims.new.items ≡ victims.old.items ++ vs))) }
@@ -147,14 +157,14 @@ fn break_wait(
 {
     // For the proof: the requests of any table are orderly. Nothing runs.
     tables_are_orderly(table);
-    match break_for(alloc, table, txn, victims) {
+    match break_for(alloc, table, txn, victims, let_through) {
         Ok(true) => Some(Ok(Locked::Deadlock)),
         Ok(false) => match table.waiting_request(txn) {
             Some(request) => Some(Ok(Locked::Waiting(request.granule))),
             None => None,
         },
         Err(fault) => {
-            table.cancel(txn);
+            table.cancel(txn, let_through);
             Some(Err(fault))
         }
     }
@@ -166,7 +176,9 @@ fn break_for(
     table: &mut LockTable,
     txn: TxnId,
     victims: &mut Vec<Victim>,
+    let_through: &mut LetThrough,
 ) -> Result<bool, Fault>
+    ensures told { Tells table.old.requests table.new.requests let_through.old let_through.new }
     ensures broken { IfOk result (λ own. (vs : List VictimData) × IsBroken table.old.requests txn vs table.new.requests
         × (own ≡ blockers.is_victim vs txn) × (victims.new.items ≡ victims.old.items ++ vs)) }
     ensures limit { table.new.limit ≡ table.old.limit }
@@ -179,6 +191,6 @@ fn break_for(
     let own = is_victim(&chosen, txn);
     let known = victims.len();
     victims.append(&mut chosen)?;
-    take_back(table, &victims[known..]);
+    take_back(table, &victims[known..], let_through);
     Ok(own)
 }

@@ -3,6 +3,7 @@ use Rattle.std.proofs.Common.{ℕ, arith, length, suc, ◌≡◌, ◌∷◌, inl
 use Rattle.std.specs.Prelude.{not, ◌&&◌, ◌||◌, ◌==◌, is_some, slice_get}
 use Rattle.std.specs.List.{list_any}
 use Rattle.std.proofs.lemmas.Bool.Decides.{Decides-eqb}
+use Rattle.std.proofs.lemmas.Option.{same_Some}
 use Rattle.shore_types.specs.declared.locking.Granule.{Granule}
 use Rattle.shore_types.specs.declared.locking.Mode.{Mode}
 use Rattle.shore_types.specs.declared.locking.Mode.TheVariants.{IS, IX, SH, SIX, EX, UD}
@@ -12,7 +13,7 @@ use Rattle.shore_model.specs.Modes.{grants, is_at_most}
 use Rattle.shore_model.specs.Requests.{are_alike, requests_at}
 use Rattle.shore_locks.specs.Findings.{IsGrantable}
 use Rattle.shore_nodes.specs.Tables.{is_waiting, mode_held, Table, request_for, is_for, waiters_at}
-use Rattle.shore_locks.specs.Grants.{asking, can_be_granted, obstacle, granted, is_ahead, is_refused, is_stopped_by, passed, put, refuses, replaced}
+use Rattle.shore_locks.specs.Grants.{asking, wanted_mode, can_be_granted, obstacle, granted, is_ahead, is_refused, is_stopped_by, passed, put, refuses, replaced}
 use Rattle.shore_nodes.specs.Orderly.{IsOrderly, IsStopped, Rises}
 use Rattle.shore_nodes.proofs.Members.{In, either, In-filter, filter-In}
 use Rattle.shore_nodes.proofs.Keys.{alike-Decides, in_place, in_place-no, in_place-yes, only_one, same_granule-Decides}
@@ -45,9 +46,33 @@ few_meet_six SIX h meets bars = refl
 few_meet_six EX h meets bars = refl
 few_meet_six UD h meets bars = refl
 
--- a stronger mode refuses all that a weaker one does, unless that is IS: it refuses UD, and SH does not
-refuses_no_less : (a h m : Mode) → (h ≡ IS → ⊥) → is_at_most h m ≡ true → grants h a ≡ false → grants m a ≡ false
-refuses_no_less a IS m other up bars = absurd (other refl)
+ex_meets_none : (m : Mode) → grants m EX ≡ false
+ex_meets_none IS = refl
+ex_meets_none IX = refl
+ex_meets_none SH = refl
+ex_meets_none SIX = refl
+ex_meets_none EX = refl
+ex_meets_none UD = refl
+
+ud_meets_shares : (m : Mode) → (m ≡ SH → ⊥) → grants m UD ≡ false
+ud_meets_shares IS other = refl
+ud_meets_shares IX other = refl
+ud_meets_shares SH other = absurd (other refl)
+ud_meets_shares SIX other = refl
+ud_meets_shares EX other = refl
+ud_meets_shares UD other = refl
+
+above_is : (a m : Mode) → (m ≡ SH → ⊥) → grants IS a ≡ false → grants m a ≡ false
+above_is IS m other bars = cc
+above_is IX m other bars = cc
+above_is SH m other bars = cc
+above_is SIX m other bars = cc
+above_is EX m other bars = ex_meets_none m
+above_is UD m other bars = ud_meets_shares m other
+
+-- a stronger mode refuses all that a weaker one does, but for SH above IS: IS refuses UD, and SH does not
+refuses_no_less : (a h m : Mode) → (h ≡ IS → m ≡ SH → ⊥) → is_at_most h m ≡ true → grants h a ≡ false → grants m a ≡ false
+refuses_no_less a IS m other up bars = above_is a m (other refl) bars
 refuses_no_less a IX IX other up bars = bars
 refuses_no_less a IX SIX other up bars = few_meet_six a IX refl bars
 refuses_no_less a IX EX other up bars = none_meets_ex a
@@ -83,11 +108,11 @@ not_true : (b : Bool) → not b ≡ true → b ≡ false
 not_true true e = cc
 not_true false e = refl
 
-refused_still : (asked held wanted : Option Mode) → (held ≡ Some IS → ⊥) → is_some wanted ≡ true → Rises held wanted → is_refused asked held ≡ true → is_refused asked wanted ≡ true
+refused_still : (asked held wanted : Option Mode) → (held ≡ Some IS → wanted ≡ Some SH → ⊥) → is_some wanted ≡ true → Rises held wanted → is_refused asked held ≡ true → is_refused asked wanted ≡ true
 refused_still None held wanted other wants up bars = cc
 refused_still (Some a) None wanted other wants up bars = cc
 refused_still (Some a) (Some h) None other wants up bars = cc
-refused_still (Some a) (Some h) (Some m) other wants up bars = ap not (refuses_no_less a h m (λ e. other (ap Some e)) up (not_true (grants h a) bars))
+refused_still (Some a) (Some h) (Some m) other wants up bars = ap not (refuses_no_less a h m (λ e f. other (ap Some e) (ap Some f)) up (not_true (grants h a) bars))
 
 -- one who is not ahead and waits is new, and the asker holds the granule
 ahead_or_holds : (held wanted mine : Option Mode) → is_some wanted ≡ true → (is_some wanted && (is_some held || not (is_some mine))) ≡ false → (m : Mode) × (mine ≡ Some m)
@@ -120,7 +145,7 @@ in_replaced : (r q : Request) (rs : List Request) → In q rs → In (in_place r
 in_replaced r q [] h = absurd h
 in_replaced r q (x ∷ rs) h = ⊎_elim (λ e. inl (ap (in_place r) e)) (λ t. inr (in_replaced r q rs t)) h
 
-module _ (table : Table) (r : Request) (free : IsGrantable table r) (other : r.held ≡ Some IS → ⊥) where
+module _ (table : Table) (r : Request) (free : IsGrantable table r) (other : r.held ≡ Some IS → r.wanted ≡ Some SH → ⊥) where
   -- who waits at the granule is another, and the asker holds it
   waits_with_holder : (w : Request) → In w table.requests → w.granule ≡ r.granule → is_some w.wanted ≡ true → (m : Mode) × (r.held ≡ Some m)
   waits_with_holder w in_w at wants =
@@ -179,9 +204,13 @@ module _ (table : Table) (r : Request) (free : IsGrantable table r) (other : r.h
   pub grants_nobody : passed r.granule (put (granted r) table.requests) ≡ put (granted r) table.requests
   grants_nobody = by_first (slice_get (waiters_at r.granule (put (granted r) table.requests)) 0) refl
 
-pub nobody_to_grant : (rs : List Request) (t : ℕ) (g : Granule) (mode : Mode) → IsOrderly rs → is_waiting t rs ≡ false → obstacle (asking t g mode rs) rs ≡ None → (mode_held t g rs ≡ Some IS → ⊥)
+-- what one who holds IS asks for is all that it wants
+wanted_above_is : (held : Option Mode) (mode : Mode) → held ≡ Some IS → Some (wanted_mode held mode) ≡ Some SH → mode ≡ SH
+wanted_above_is held mode is wants = same_Some mode SH (sym (ap (λ h. Some (wanted_mode h mode)) is) ∙ wants)
+
+pub nobody_to_grant : (rs : List Request) (t : ℕ) (g : Granule) (mode : Mode) → IsOrderly rs → is_waiting t rs ≡ false → obstacle (asking t g mode rs) rs ≡ None → (mode_held t g rs ≡ Some IS → mode ≡ SH → ⊥)
     → passed g (put (granted (asking t g mode rs)) rs) ≡ put (granted (asking t g mode rs)) rs
 nobody_to_grant rs t g mode orderly quiet free other =
     grants_nobody (record { limit = suc (length rs); requests = rs }) (asking t g mode rs)
     (record { orderly = orderly; quiet = quiet; finds_node = λ _. omega arith; as_held = refl; wants = refl; rises = rises_to_wanted (mode_held t g rs) mode; free = free })
-    other
+    (λ is wants. other is (wanted_above_is (mode_held t g rs) mode is wants))

@@ -11,6 +11,7 @@ mod Quiets
 pub mod LawLemmas
 pub mod Outcomes
 pub mod Tables
+pub mod Tellings
 pub mod Unawaited
 mod Inventories
 pub use Rattle.shore_nodes.proofs.Counts

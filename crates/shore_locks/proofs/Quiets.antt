@@ -67,5 +67,9 @@ quiet_placed t u g mode rs other quiet =
 pub quiet_taken_back : (u : ℕ) (r : Request) (rs : List Request) → AreRequests rs → is_waiting u rs ≡ false → is_waiting u (taken_back r rs) ≡ false
 quiet_taken_back u r rs one quiet = nobody_wants u (taken_back r rs) (idle_passed u r.granule _ (AreRequests-stopped r rs one) (idle_stopped u r rs (none_waits u rs quiet)))
 
+-- a request goes, with a grant pass over its queue
+pub quiet_removed : (u : ℕ) (r : Request) (rs : List Request) → AreRequests rs → is_waiting u rs ≡ false → is_waiting u (passed r.granule (removed r rs)) ≡ false
+quiet_removed u r rs one quiet = nobody_wants u (passed r.granule (removed r rs)) (idle_given_up u (r ∷ []) rs one (none_waits u rs quiet))
+
 pub quiet_released : (t u : ℕ) (rs : List Request) → AreRequests rs → is_waiting u rs ≡ false → is_waiting u (released t rs) ≡ false
 quiet_released t u rs one quiet = nobody_wants u (released t rs) (idle_given_up u (requests_by t rs) rs one (none_waits u rs quiet))

@@ -5,5 +5,6 @@ pub mod Laws
 pub mod Listing
 pub mod Popping
 pub mod Unawaited
+pub use Rattle.shore_nodes.specs.LetThrough
 pub use Rattle.shore_nodes.specs.Orderly
 pub use Rattle.shore_nodes.specs.Tables

@@ -1,27 +1,31 @@
 //! Changes to the list of requests.
-ghost use Rattle.std.specs.Prelude.{◌≡◌, IsFalse, IsSomeAnd, IsTrue, cond, is_some, length, slice_get, true};
+ghost use Rattle.std.specs.Prelude.{◌≡◌, IsFalse, IsSomeAnd, IsTrue, Some, cond, is_some, length, slice_get, true};
 ghost use Rattle.std.specs.List.{list_any};
 ghost use Rattle.shore_model.specs.Requests as asked;
 ghost use Rattle.shore_model.specs.Requests.{AreRequests};
 ghost use Rattle.shore_locks.specs.Findings.{FindsNode, IsGrantable};
 ghost use Rattle.shore_locks.specs.Grants as steps;
-ghost use Rattle.shore_nodes.specs.Tables.{waiters_at};
+ghost use Rattle.shore_nodes.specs.LetThrough.{TellsFirst, TellsOthers};
+ghost use Rattle.shore_nodes.specs.Orderly.{IsOrderly};
+ghost use Rattle.shore_nodes.specs.Tables.{waiters_at, waiting_request};
 
 use crate::counted::{Counted, Popped};
 use crate::searches::{self, can_be_granted};
 use shore_model::Request;
 use shore_nodes::judgements::{granted, holds_is, withdrawn};
+use shore_nodes::let_through::LetThrough;
 use shore_types::{Granule, TxnId};
 
 /// A grant pass: waiters of a granule's queue are granted in turn, up to the first that another holder refuses. Mostly that is the
-/// first of them, and a walk ends there. If the counts show that nobody waits, that is all.
-pub fn pass(nodes: &mut Counted, granule: &Granule)
+/// first of them, and a walk ends there. If the counts show that nobody waits, that is all. Who was granted is noted.
+pub fn pass(nodes: &mut Counted, granule: &Granule, let_through: &mut LetThrough)
     requires { AreRequests nodes.old.requests }
     ensures items { nodes.new.requests ≡ steps.passed granule.now nodes.old.requests }
     ensures limit { nodes.new.limit ≡ nodes.old.limit }
+    ensures told { TellsFirst granule.now nodes.old.requests nodes.new.requests let_through.old let_through.new }
 {
     if nodes.may_have_waiters(granule) && grants_somebody(nodes, granule) {
-        nodes.grant_waiters(granule);
+        nodes.grant_waiters(granule, let_through);
     }
 }
 
@@ -46,14 +50,15 @@ fn first_waiter(nodes: &Counted, granule: &Granule) -> Option<Request>
     }
 }
 
-/// A waiting request is taken back, with a grant pass over its queue.
-pub fn take_back(nodes: &mut Counted, request: &Request)
+/// A waiting request is taken back, with a grant pass over its queue. Who was granted is noted.
+pub fn take_back(nodes: &mut Counted, request: &Request, let_through: &mut LetThrough)
     requires { AreRequests nodes.old.requests }
     ensures items { nodes.new.requests ≡ steps.taken_back request.now nodes.old.requests }
     ensures limit { nodes.new.limit ≡ nodes.old.limit }
+    ensures told { IsOrderly nodes.old.requests → waiting_request request.now.txn nodes.old.requests ≡ Some request.now → TellsOthers request.now.txn nodes.old.requests nodes.new.requests let_through.old let_through.new }
 {
     stop_waiting(nodes, request);
-    pass(nodes, &request.granule);
+    pass(nodes, &request.granule, let_through);
 }
 
 fn stop_waiting(nodes: &mut Counted, request: &Request)
@@ -70,19 +75,20 @@ fn stop_waiting(nodes: &mut Counted, request: &Request)
 }
 
 /// Gives up all that a transaction holds and wants, each with a grant pass over its queue, and answers how many requests
-/// that were. No queue is searched for them: the transaction's ring has them.
-pub fn release(nodes: &mut Counted, txn: TxnId) -> usize
+/// that were. No queue is searched for them: the transaction's ring has them. Who was granted is noted.
+pub fn release(nodes: &mut Counted, txn: TxnId, let_through: &mut LetThrough) -> usize
     requires { AreRequests nodes.old.requests }
     ensures items { nodes.new.requests ≡ steps.released txn nodes.old.requests }
     ensures limit { nodes.new.limit ≡ nodes.old.limit }
     ensures count { result ≡ length (asked.requests_by txn nodes.old.requests) }
+    ensures told { IsOrderly nodes.old.requests → TellsOthers txn nodes.old.requests nodes.new.requests let_through.old let_through.new }
 {
     let most = nodes.len();
     for count in 0..most {
         match nodes.pop_first(txn) {
             Popped::Nothing => return count,
             Popped::Quiet => {}
-            Popped::Awaited(granule) => pass(nodes, &granule),
+            Popped::Awaited(granule) => pass(nodes, &granule, let_through),
         }
     }
     most
@@ -111,7 +117,7 @@ pub fn grant(nodes: &mut Counted, request: &Request, known: bool)
     let granted = granted(request);
     put(nodes, &granted, known);
     if holds_is(request) {
-        pass(nodes, &request.granule);
+        pass(nodes, &request.granule, &mut LetThrough::nobody());
     }
 }
 

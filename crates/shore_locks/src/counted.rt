@@ -7,6 +7,7 @@ ghost use Rattle.shore_model.specs.Requests.{AreRequests, are_alike, is_in_group
 ghost use Rattle.shore_locks.specs.Grants.{first_hold, obstacle, passed, removed, replaced};
 ghost use Rattle.shore_locks.specs.Popping.{Pops};
 ghost use Rattle.shore_locks.specs.Unawaited.{ComesLast, IsUnawaited};
+ghost use Rattle.shore_nodes.specs.LetThrough.{TellsFirst};
 ghost use Rattle.shore_nodes.specs.Tables.{waiters_at};
 ghost use Rattle.shore_nodes.specs.Tallies.{Counts, crowd};
 
@@ -15,6 +16,7 @@ use crate::searches::request_for;
 use shore_model::Request;
 use shore_nodes::heads::queue_head;
 use shore_nodes::judgements::is_for;
+use shore_nodes::let_through::LetThrough;
 use shore_nodes::nodes::Nodes;
 use shore_nodes::tallies::{Tally, tally_of};
 use shore_types::{Granule, Mode, TxnId};
@@ -252,14 +254,15 @@ impl Counted {
         was_there
     }
 
-    /// Grants the waiters of a granule in their order, conversions first, up to the first whom another holder refuses.
-    pub fn grant_waiters(&mut self, granule: &Granule)
+    /// Grants the waiters of a granule in their order, conversions first, up to the first whom another holder refuses. They are noted in their order.
+    pub fn grant_waiters(&mut self, granule: &Granule, let_through: &mut LetThrough)
         requires { AreRequests self.old.requests }
         ensures items { self.new.requests ≡ passed granule.now self.old.requests }
+        ensures told { TellsFirst granule.now self.old.requests self.new.requests let_through.old let_through.new }
         ensures limit { self.new.limit ≡ self.old.limit }
     {
         let head = queue_head(granule, self.nodes.heads());
-        self.nodes.grant_waiters(granule);
+        self.nodes.grant_waiters(granule, let_through);
         self.tallies[head] = recount(&self.nodes, head);
     }
 

@@ -38,10 +38,10 @@ pub fn grant_pass_only_grants()
     ensures { (rs : List Request) (g : Granule) → AreRequests rs → OnlyGrants rs (passed g rs) }
 {}
 
-/// After a request that is granted at once a grant pass would grant nobody, unless its transaction held IS: what is held refuses no less
+/// After a request that is granted at once a grant pass would grant nobody, unless its transaction held IS and asked for SH: else what is held refuses no less
 /// than before. IS refuses UD, and SH does not.
 pub fn grant_leaves_nobody_to_grant()
-    ensures { (rs : List Request) (t : ℕ) (g : Granule) (mode : Mode) → IsOrderly rs → is_waiting t rs ≡ false → obstacle (asking t g mode rs) rs ≡ None → mode_held t g rs ≢ Some Mode.IS →
+    ensures { (rs : List Request) (t : ℕ) (g : Granule) (mode : Mode) → IsOrderly rs → is_waiting t rs ≡ false → obstacle (asking t g mode rs) rs ≡ None → (mode_held t g rs ≡ Some Mode.IS → mode ≢ Mode.SH) →
         after_grant t g mode rs ≡ put (granted (asking t g mode rs)) rs }
 {}
 

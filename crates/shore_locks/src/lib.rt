@@ -15,4 +15,5 @@ pub mod table;
 pub use answers::{HeldAbove, Requested, Tried};
 pub use queues::{Holders, Waiters};
 pub use shore_nodes::judgements::refuses;
+pub use shore_nodes::let_through::LetThrough;
 pub use table::LockTable;

@@ -7,6 +7,7 @@ ghost use Rattle.shore_types.specs.declared.locking.Granule.TheVariants.{Page, S
 ghost use Rattle.shore_model.specs.declared.requests.Group.TheVariants.{Conversions};
 ghost use Rattle.shore_model.specs.Requests.{WaitsFor, is_in_group, requests_at, requests_by};
 ghost use Rattle.shore_locks.specs.Grants.{after_request, after_try, answer_to, answer_to_try, cancelled, in_its_way, in_the_way, released};
+ghost use Rattle.shore_nodes.specs.LetThrough.{Tells};
 ghost use Rattle.shore_nodes.specs.Tables.{holders_at, is_waiting, mode_held, request_for, waiters_at, waiting_request};
 ghost use Rattle.shore_locks.specs.Listing.{request_cmp};
 ghost use Rattle.shore_nodes.specs.Orderly.{IsOrderly};
@@ -20,6 +21,7 @@ use crate::queues::{Holders, Waiters};
 use crate::{changes, findings, searches};
 use shore_model::Request;
 use shore_nodes::judgements::is_enough;
+use shore_nodes::let_through::LetThrough;
 use shore_types::{Granule, Mode, PageId, Sequence, TxnId};
 use std::alloc::{AllocError, Global};
 use std::marker::Model;
@@ -180,6 +182,13 @@ impl LockTable {
         Waiters::new(&self.nodes, granule)
     }
 
+    /// Whether somebody may wait for a granule: nobody does if not. It takes no search.
+    pub fn may_have_waiters(&self, granule: &Granule) -> bool
+        ensures { IsFalse result → waiters_at granule.now self.now.requests ≡ [] }
+    {
+        self.nodes.may_have_waiters(granule)
+    }
+
     /// Whether somebody who holds a granule may wait for more of it: nobody does if not. It takes no search.
     pub fn may_have_conversions(&self, granule: Granule) -> bool
         ensures { IsFalse result → filter (is_in_group Conversions) (requests_at granule self.now.requests) ≡ [] }
@@ -312,22 +321,29 @@ impl LockTable {
         Ok(Sequence::from_vec(granules))
     }
 
-    /// A transaction waits no more: what it waited for is given up, and what it holds stays. Those behind it may be granted.
-    pub fn cancel(&mut self, txn: TxnId)
-        ensures { self.new ≡ record { limit = self.old.limit; requests = cancelled txn self.old.requests } }
+    /// A transaction waits no more: what it waited for is given up, and what it holds stays. Those behind it may be granted. Who waits no more is noted, itself
+    /// first.
+    pub fn cancel(&mut self, txn: TxnId, let_through: &mut LetThrough)
+        ensures told { Tells self.old.requests self.new.requests let_through.old let_through.new }
+        ensures table { self.new ≡ record { limit = self.old.limit; requests = cancelled txn self.old.requests } }
     {
         if let Some(request) = searches::waiting_request(self.nodes.nodes(), txn) {
-            changes::take_back(&mut self.nodes, &request);
+            let_through.note(txn);
+            changes::take_back(&mut self.nodes, &request, let_through);
         }
     }
 
     /// A transaction holds and wants nothing any more, and each queue in which it stood gets a grant pass. The answer is how many
-    /// nodes it had.
-    pub fn release_all(&mut self, txn: TxnId) -> usize
+    /// nodes it had. Who waits no more is noted.
+    pub fn release_all(&mut self, txn: TxnId, let_through: &mut LetThrough) -> usize
+        ensures told { Tells self.old.requests self.new.requests let_through.old let_through.new }
         ensures table { self.new ≡ record { limit = self.old.limit; requests = released txn self.old.requests } }
         ensures count { result ≡ length (requests_by txn self.old.requests) }
     {
+        if searches::waiting_request(self.nodes.nodes(), txn).is_some() {
+            let_through.note(txn);
+        }
         self.cache.forget(txn);
-        changes::release(&mut self.nodes, txn)
+        changes::release(&mut self.nodes, txn, let_through)
     }
 }

@@ -225,6 +225,14 @@ module _ (heads : ℕ) (first slots : Slab Request) (queues lists owners : List 
             target = ap (passed g) put ∙ pass_on g (requests_in slots ks) w s.one is_first (come ∙ free) ∙ s.target;
           }
 
+      -- it was the first of those who wait, and is none of them any more
+      pub walk_tells : (after : Slab Request) → Updates slots after key (Some (granted w)) → waiters_at g (requests_in slots ks) ≡ w ∷ waiters_at g (requests_in after ks)
+      walk_tells after updates =
+          let update : Updates slots after next.key (Some (granted w)) = subst (λ k. Updates slots after k (Some (granted w))) (key_here key is) updates in
+          let alike : are_alike (request_at slots next.key) (granted w) ≡ true = ap (λ q. are_alike q (granted w)) here ∙ alike-self w in
+          let put : requests_in after ks ≡ replaced (granted w) (requests_in slots ks) = replaced_is slots after ks (granted w) s.one next.key in_keys alike update in
+          turn ∙ ap (λ ws. w ∷ ws) (sym (ap (waiters_at g) put ∙ first_granted g (requests_in slots ks) w (group_at group g (requests_in slots next.others) ++ behind) s.one turn))
+
 -- a group of which nobody is counted is granted
 pub nobody_walks : (heads : ℕ) (slots : Slab Request) (queues lists owners : List Link) (head : ℕ) (g : Granule) (group : Group) (behind : List Request) (tally : Tally) (ks : List ℕ) → CanWalk heads slots queues lists owners head g group behind tally ks
     → ((rs : List Request) → Counts tally rs → filter (is_in_group group) rs ≡ []) → IsWalked heads slots slots queues lists owners g behind tally true ks

@@ -6,6 +6,7 @@ pub mod Fits
 pub mod GrantWalks
 pub mod Judged
 pub mod Keys
+pub mod LetThrough
 pub mod Links
 pub mod Members
 pub mod NodeLemmas

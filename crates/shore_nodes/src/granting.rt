@@ -7,10 +7,12 @@ ghost use Rattle.shore_model.specs.declared.requests.Request.{Request};
 ghost use Rattle.shore_model.specs.Requests.{is_in_group};
 ghost use Rattle.shore_rings.specs.declared.ring.Link.{Link};
 ghost use Rattle.shore_nodes.specs.Grants.{passed};
+ghost use Rattle.shore_nodes.specs.LetThrough.{TellsFirst};
 ghost use Rattle.shore_nodes.specs.Nodes.{IsLinked, requests_in};
 ghost use Rattle.shore_nodes.specs.Granting.{CanWalk, IsWalked, new_waiters};
 
 use crate::judgements::{granted, is_at, is_in};
+use crate::let_through::LetThrough;
 use crate::nodes::set_slot;
 use crate::tallies::Tally;
 use shore_model::Request;
@@ -20,7 +22,7 @@ use shore_types::Granule;
 use slab::Slab;
 
 /// Grants the waiters of a granule in the order of its ring, conversions first, up to the first whom another holder refuses. The tally
-/// counts the queue.
+/// counts the queue. Who was granted is noted.
 pub fn grant_waiters(
     slots: &mut Slab<Request>,
     queues: &Rings,
@@ -28,6 +30,7 @@ pub fn grant_waiters(
     head: usize,
     granule: &Granule,
     counted: Tally,
+    let_through: &mut LetThrough,
 )
     requires { head < length queues.now }
     ensures capacity { slots.new.capacity ≡ slots.old.capacity }
@@ -35,6 +38,8 @@ pub fn grant_waiters(
         IsLinked heads slots.new queues.now lists owners ks }
     ensures granted { (lists owners : List Link) (ks : List ℕ) → CanWalk heads slots.old queues.now lists owners head granule.now Conversions (new_waiters granule.now (requests_in slots.old ks)) counted ks →
         requests_in slots.new ks ≡ passed granule.now (requests_in slots.old ks) }
+    ensures told { (lists owners : List Link) (ks : List ℕ) → CanWalk heads slots.old queues.now lists owners head granule.now Conversions (new_waiters granule.now (requests_in slots.old ks)) counted ks →
+        TellsFirst granule.now (requests_in slots.old ks) (requests_in slots.new ks) let_through.old let_through.new }
 {
     let mut tally = counted;
     if grant_group(
@@ -45,6 +50,7 @@ pub fn grant_waiters(
         granule,
         Group::Conversions,
         &mut tally,
+        let_through,
     ) {
         grant_group(
             slots,
@@ -54,6 +60,7 @@ pub fn grant_waiters(
             granule,
             Group::NewWaiters,
             &mut tally,
+            let_through,
         );
     }
 }
@@ -67,11 +74,14 @@ fn grant_group(
     granule: &Granule,
     group: Group,
     tally: &mut Tally,
+    let_through: &mut LetThrough,
 ) -> bool
     requires { head < length queues.now }
     ensures capacity { slots.new.capacity ≡ slots.old.capacity }
     ensures walked { (lists owners : List Link) (ks : List ℕ) (behind : List Request) → CanWalk heads slots.old queues.now lists owners head granule.now group behind tally.old ks →
         IsWalked heads slots.old slots.new queues.now lists owners granule.now behind tally.new result ks }
+    ensures told { (lists owners : List Link) (ks : List ℕ) (behind : List Request) → CanWalk heads slots.old queues.now lists owners head granule.now group behind tally.old ks →
+        TellsFirst granule.now (requests_in slots.old ks) (requests_in slots.new ks) let_through.old let_through.new }
 {
     if !tally.may_have(group) {
         return true;
@@ -88,6 +98,7 @@ fn grant_group(
             let granted = granted(&waiter);
             set_slot(slots, key, &granted);
             tally.add(&granted);
+            let_through.note(granted.txn);
         }
         node = queues.after(node);
         left -= 1;

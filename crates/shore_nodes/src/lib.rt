@@ -4,6 +4,7 @@
 pub mod granting;
 pub mod heads;
 pub mod judgements;
+pub mod let_through;
 pub mod nodes;
 pub mod tallies;
 pub mod walks;

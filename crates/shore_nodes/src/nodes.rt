@@ -8,6 +8,7 @@ ghost use Rattle.shore_model.specs.declared.requests.Request.{Request};
 ghost use Rattle.shore_rings.specs.Rings.{In, IsRing, after_at};
 ghost use Rattle.slab.specs.Slab.{HasRoomFor, Updates, get, slab_len};
 ghost use Rattle.shore_nodes.specs.Grants.{passed, removed, replaced};
+ghost use Rattle.shore_nodes.specs.LetThrough.{TellsFirst};
 ghost use Rattle.shore_nodes.specs.Nodes as spec;
 ghost use Rattle.shore_nodes.specs.Orderly.{IsNewest};
 ghost use Rattle.shore_nodes.specs.Tables.{is_for};
@@ -16,6 +17,7 @@ ghost use Rattle.shore_nodes.specs.Nodes.{IsLinked, LinksIn, LinksOut, pairs_fro
 
 use crate::granting::grant_waiters;
 use crate::heads::{heads_for, list_head, owner_head, queue_head};
+use crate::let_through::LetThrough;
 use crate::tallies::tally_at;
 use crate::walks::Walk;
 use http_server::Log as GhostLog;
@@ -303,10 +305,11 @@ impl Nodes {
     }
 
     /// Grants the waiters of a granule in their order, conversions first, up to the first whom another holder refuses: one walk over the
-    /// queue counts what is held, and one for each group grants, however many they are.
-    pub fn grant_waiters(&mut self, granule: &Granule)
+    /// queue counts what is held, and one for each group grants, however many they are. They are noted in their order.
+    pub fn grant_waiters(&mut self, granule: &Granule, let_through: &mut LetThrough)
         requires { AreRequests self.old.requests }
         ensures items { self.new.requests ≡ passed granule.now self.old.requests }
+        ensures told { TellsFirst granule.now self.old.requests self.new.requests let_through.old let_through.new }
         ensures limit { self.new.limit ≡ self.old.limit }
         ensures heads { self.new.heads ≡ self.old.heads }
     {
@@ -321,6 +324,7 @@ impl Nodes {
             head,
             granule,
             tally,
+            let_through,
         );
     }
 }

@@ -10,6 +10,7 @@ pub mod Intentions
 pub mod JudgedGranules
 pub mod JudgedWays
 pub mod Kept
+pub mod LettingThrough
 pub mod Lockable
 pub mod ModeFacts
 pub mod Moving

@@ -1,5 +1,5 @@
 //! Laws of locks along paths, each stated as the contract of an empty function.
-ghost use Rattle.std.specs.Prelude.{◌≡◌, ◌↔◌, ◌⊎◌, ◌∷◌, [], ℕ, List, All, None, Ok};
+ghost use Rattle.std.specs.Prelude.{◌≡◌, ◌↔◌, ◌⊎◌, ◌∷◌, [], ℕ, List, All, None, Ok, false, true};
 ghost use Rattle.shore_types.specs.declared.ids.Rid.{Rid};
 ghost use Rattle.shore_types.specs.declared.locking.Granule.{Granule};
 ghost use Rattle.shore_types.specs.declared.locking.Granule.TheVariants.{Page, Record};
@@ -11,8 +11,9 @@ ghost use Rattle.shore_model.specs.Locks.{Agree, Harmony, IsRooted, StandTogethe
 ghost use Rattle.shore_model.specs.Requests.{held_by_all};
 ghost use Rattle.shore_locks.specs.Grants.{cancelled, in_the_way, released};
 ghost use Rattle.shore_locks.specs.Orderly.{IsOrderly};
-ghost use Rattle.shore_locks.specs.Tables.{Table};
+ghost use Rattle.shore_locks.specs.Tables.{Table, is_waiting, waiters_at};
 ghost use Rattle.shore_path.specs.declared.answers.Acquired.TheVariants.{Done};
+ghost use Rattle.shore_path.specs.declared.answers.OnConflict.{OnConflict};
 ghost use Rattle.shore_path.specs.declared.answers.OnConflict.TheVariants.{Refuse, Wait};
 ghost use Rattle.shore_path.specs.Acquires.{IsCoveredAbove, IsReached, NoOtherWeaker, NoneWeaker};
 ghost use Rattle.shore_path.specs.Intending.{CoversRecords};
@@ -45,6 +46,13 @@ pub fn empty_table_is_rooted()
 pub fn done_without_waiting()
     ensures { (table : Table) (t : ℕ) (target : Granule) (mode : Mode) → (acquired Refuse table t target mode).answer ≡ Ok Done →
         acquired Wait table t target mode ≡ acquired Refuse table t target mode }
+{}
+
+/// Who waited waits on after an acquire of another, unless it takes SH of a granule that somebody waits for: what is held refuses no less than before, but IS refuses UD, and
+/// SH does not.
+pub fn acquire_lets_nobody_through()
+    ensures { (c : OnConflict) (table : Table) (t : ℕ) (target : Granule) (mode : Mode) (u : ℕ) → IsOrderly table.requests → is_waiting t table.requests ≡ false →
+        (mode ≡ Mode.SH → waiters_at target table.requests ≡ []) → is_waiting u table.requests ≡ true → is_waiting u (acquired c table t target mode).requests ≡ true }
 {}
 
 /// A record that could be locked in EX now lies on a page that could be locked in IX.

@@ -30,6 +30,8 @@ pub mod LockRounds
 pub mod LockStarts
 pub mod LockRefusals
 pub mod TriedLocks
+pub mod MarkedControls
+pub mod Marks
 pub mod Named
 pub mod AnswerSteps
 pub mod DoubtsListed

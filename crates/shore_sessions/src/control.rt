@@ -1,5 +1,5 @@
 //! Active transactions.
-ghost use Rattle.std.specs.Prelude.{◌≡◌, ◌≢◌, ◌+◌, ◌≤◌, ◌↔◌, [], ℕ, IfNone, IfOk, IfSome, IsTrue, List, false, filter, length, true};
+ghost use Rattle.std.specs.Prelude.{◌≡◌, ◌≢◌, ◌+◌, ◌<◌, ◌≤◌, ◌↔◌, [], ℕ, IfNone, IfOk, IfSome, IsTrue, List, Some, false, filter, length, slice_get, true};
 ghost use Rattle.std.specs.List.Sorted.{IsPermutation, IsSorted};
 ghost use Rattle.shore_model.specs.declared.calls.Call.TheVariants as call;
 ghost use Rattle.shore_model.specs.declared.calls.Outcome.{Outcome};
@@ -16,11 +16,13 @@ ghost use Rattle.shore_txn.specs.Transactions as table;
 ghost use Rattle.shore_txn.specs.TxnStates.{is_in_doubt};
 ghost use Rattle.shore_txn.specs.Txns.{IsOf, as_session_txn, number_of, state_of};
 ghost use Rattle.shore_sessions.specs.Calls.{as_waiting, awaits_record, is_resolve, logs_decision};
+ghost use Rattle.shore_sessions.specs.declared.waits.WaitingCall.{WaitingCall};
 ghost use Rattle.shore_sessions.specs.Seated.{rolled_in, seat_as};
+ghost use Rattle.shore_sessions.specs.Waits.{AreMarked};
 
 use crate::waits::{WaitingCall, Waits};
 use shore_locks::LockTable;
-use shore_model::Request;
+use shore_model::{Request, Wait};
 use shore_txn::{Seat, Transactions, Txn};
 use shore_types::{SessionId, TxnId};
 use std::alloc::{AllocError, Global};
@@ -32,13 +34,14 @@ pub struct Control {
     pub(crate) txns: Transactions,
     /// The requests of locks, of those under way: no more than a Prepare may list (`few_locks`).
     pub(crate) locks: LockTable,
-    /// The calls that wait: for a lock, or for the force of a prepare or of a resolve.
+    /// The calls that wait: for a lock, or for the force of a prepare or of a resolve. Of those that were let through each is marked (`marked`).
     pub(crate) waits: Waits,
     ghost few_locks: { locks.limit ≤ MOST_MAX_LOCKS },
+    ghost marked: { AreMarked locks.requests waits },
 }
 
 impl Control {
-    ghost use Rattle.shore_sessions.specs.Controls.{HasNoWait, locks_in, txns_in, waits_in};
+    ghost use Rattle.shore_sessions.specs.Controls.{HasNoWait, IsLetThrough, NoneLetThrough, locks_in, txns_in, waits_in};
     ghost use Rattle.shore_sessions.specs.Standing.{HasControl, HasTxns};
 
     /// A control with no call that waits. It stands for each state with these locks in which nobody waits, and no resolve has ended a transaction.
@@ -135,6 +138,32 @@ impl Control {
         ensures { result.now ≡ waits_in self.now }
     {
         self.waits.all()
+    }
+
+    /// The place of the first call, from this one of their list on, that was let through: it waits for a lock, and its transaction waits no more. Only those are looked at
+    /// that were let through since they began to wait.
+    pub fn next_let_through(&self, from: usize) -> Option<usize>
+        ensures some { IfSome result (λ place. (w : WaitingCall) × (slice_get (waits_in self.now) place ≡ Some w) × IsLetThrough self.now w) }
+        ensures first { IfSome result (λ place. (from ≤ place) × NoneLetThrough self.now from place) }
+        ensures none { IfNone result (NoneLetThrough self.now from (length (waits_in self.now))) }
+    {
+        let mut next = from;
+        while let Some(place) = self.waits.next_let_through(next) {
+            if self.is_let_through(place) {
+                return Some(place);
+            }
+            next = place + 1;
+        }
+        None
+    }
+
+    // Whether the call at a place waits for a lock, and its transaction waits no more.
+    fn is_let_through(&self, place: usize) -> bool
+        requires { place < length (waits_in self.now) }
+        ensures { (w : WaitingCall) → slice_get (waits_in self.now) place ≡ Some w → IsTrue result ↔ IsLetThrough self.now w }
+    {
+        let waiting = &self.waits.all()[place];
+        matches!(waiting.wait, Wait::Lock(_)) && !self.locks.is_waiting(waiting.txn)
     }
 
     // ---- locks

@@ -24,6 +24,7 @@ ghost use Rattle.shore_sessions.specs.Noting as noting;
 
 use crate::control::Control;
 use shore_deadlock::{Locked, Reply, Victim};
+use shore_locks::LetThrough;
 use shore_locks::laws::tables_are_orderly;
 use shore_path::{Acquired, OnConflict};
 use shore_txn::Seat;
@@ -107,13 +108,16 @@ impl Control {
         match self.acquire(txn, *granule, mode, OnConflict::Wait)? {
             Acquired::Done => Ok(Acquired::Done),
             Acquired::Waiting(_) => {
+                let mut let_through = LetThrough::nobody();
                 let Reply { answer, victims } = shore_deadlock::settle(
                     alloc,
                     &mut self.locks,
                     txn,
                     *granule,
                     mode,
+                    &mut let_through,
                 );
+                self.waits.note_let_through(&let_through, &self.locks);
                 let told = self.note_victims(seat.session, txn, victims);
                 answer_of(answer, told)
             }

@@ -11,6 +11,7 @@ ghost use Rattle.shore_txn.specs.Transactions as table;
 ghost use Rattle.shore_txn.specs.UndoEntries.{claims_on, images_of};
 
 use crate::control::Control;
+use shore_locks::LetThrough;
 use shore_txn::{Seat, UndoEntry};
 
 impl Control {
@@ -32,7 +33,9 @@ impl Control {
         ensures stream { (room_in (txns_in self.new)).stream_bytes ≡ (room_in (txns_in self.old)).stream_bytes }
     {
         let (txn, changes) = self.txns.note_commit(seat);
-        self.locks.release_all(txn);
+        let mut let_through = LetThrough::nobody();
+        self.locks.release_all(txn, &mut let_through);
+        self.waits.note_let_through(&let_through, &self.locks);
         changes
     }
 }

@@ -9,6 +9,7 @@ ghost use Rattle.laws_calls.specs.States.{State};
 ghost use Rattle.shore_sessions.specs.Calls.{is_durable};
 
 use crate::control::Control;
+use shore_locks::LetThrough;
 use shore_model::Wait;
 use shore_types::{SessionId, TxnId};
 
@@ -44,7 +45,9 @@ impl Control {
         ensures waits { waits_in self.new ≡ waits_in self.old }
         ensures stands { (s : State) → HasControl self.old s → HasControl self.new (with_requests s (cancelled txn s.locks.requests)) }
     {
-        self.locks.cancel(txn);
+        let mut let_through = LetThrough::nobody();
+        self.locks.cancel(txn, &mut let_through);
+        self.waits.note_let_through(&let_through, &self.locks);
     }
 }
 

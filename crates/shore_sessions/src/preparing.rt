@@ -83,13 +83,14 @@ impl Control {
     {
         let txn = self.txns.txn(seat).id();
         self.txns.note_prepare(seat, global, number, cost);
-        self.waits.push(WaitingCall {
+        let call = WaitingCall {
             session: seat.session,
             txn,
             call: Call::Prepare(asked),
             wait: Wait::Durable(number),
             cycle: None,
-        });
+        };
+        self.waits.push(call, false);
     }
 
     /// The prepare of a session is answered: its transaction can be resolved.

@@ -22,6 +22,7 @@ ghost use Rattle.shore_sessions.specs.declared.waits.WaitingCall.{WaitingCall};
 
 use crate::control::Control;
 use crate::waits::WaitingCall;
+use shore_locks::LetThrough;
 use shore_model::{Call, Outcome, Wait};
 use shore_txn::{Seat, TxnState, UndoEntry};
 use shore_types::{GlobalId, Lsn, SessionId, TxnId};
@@ -73,7 +74,9 @@ impl Control {
         ensures stream { (room_in (txns_in self.new)).stream_bytes ≡ (room_in (txns_in self.old)).stream_bytes }
     {
         let (txn, changes) = self.txns.note_commit(seat);
-        self.locks.release_all(txn);
+        let mut let_through = LetThrough::nobody();
+        self.locks.release_all(txn, &mut let_through);
+        self.waits.note_let_through(&let_through, &self.locks);
         self.await_resolve(seat.session, txn, global, Outcome::Commit, number);
         changes
     }
@@ -113,13 +116,14 @@ impl Control {
         ensures stands { (s : State) → HasControlBut (record { txn = txn; global = global; outcome = outcome }) self.old s → s.sessions.seats session ≡ histories.free
             → HasControl self.new (record s { waiting = decision_waiting session (Call.Resolve global outcome) number ∷ s.waiting }) }
     {
-        self.waits.push(WaitingCall {
+        let call = WaitingCall {
             session,
             txn,
             call: Call::Resolve(global, outcome),
             wait: Wait::Durable(number),
             cycle: None,
-        });
+        };
+        self.waits.push(call, false);
     }
 
     /// The resolve of a session is answered: the name of its transaction is free.

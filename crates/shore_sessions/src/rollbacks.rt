@@ -23,6 +23,7 @@ ghost use Rattle.shore_txn.specs.Txns.{IsAfterSavepoint, IsAfterUndo, IsBackAt, 
 ghost use Rattle.shore_txn.specs.UndoEntries.{image_of};
 
 use crate::control::Control;
+use shore_locks::LetThrough;
 use shore_model::Rollback;
 use shore_txn::{Seat, UndoEntry};
 use shore_types::Lsn;
@@ -117,6 +118,8 @@ impl Control {
         ensures stream { (room_in (txns_in self.new)).stream_bytes ≡ (room_in (txns_in self.old)).stream_bytes }
     {
         let txn = self.txns.note_end(seat, logged);
-        self.locks.release_all(txn);
+        let mut let_through = LetThrough::nobody();
+        self.locks.release_all(txn, &mut let_through);
+        self.waits.note_let_through(&let_through, &self.locks);
     }
 }

@@ -1,11 +1,11 @@
 //! Locks that are asked for, and calls that wait.
-ghost use Rattle.std.specs.Prelude.{◌≡◌, ◌≢◌, ◌==◌, ◌∷◌, ◌++◌, [], ℕ, IfErr, IfNone, IfSome, IsOk, IsSome, None, Ok, OnOk, false, filter, not};
+ghost use Rattle.std.specs.Prelude.{◌≡◌, ◌≢◌, ◌==◌, ◌∷◌, ◌++◌, [], ℕ, IfErr, IfNone, IfSome, IsFalse, IsOk, IsSome, None, Ok, OnOk, false, filter, not};
 ghost use Rattle.shore_types.specs.declared.locking.Granule.{Granule};
 ghost use Rattle.shore_types.specs.declared.locking.Mode.{Mode};
 ghost use Rattle.shore_model.specs.declared.calls.Call.{Call};
 ghost use Rattle.laws_lives.specs.Sessions.{SessionTxn};
 ghost use Rattle.laws_lives.specs.Views.{IsAmong};
-ghost use Rattle.shore_locks.specs.Tables.{is_waiting};
+ghost use Rattle.shore_locks.specs.Tables.{is_waiting, waiters_at};
 ghost use Rattle.shore_path.specs.Acquires.{IsReached, MayRefuse};
 ghost use Rattle.shore_path.specs.Intending.{CoversRecords, IntendsToWrite};
 ghost use Rattle.shore_path.specs.declared.intending.WayToWrite.TheVariants as WayToWrite;
@@ -20,8 +20,9 @@ ghost use Rattle.shore_sessions.specs.declared.waits.WaitingCall.{WaitingCall};
 
 use crate::control::Control;
 use crate::waits::WaitingCall;
+use shore_locks::laws::tables_are_orderly;
 use shore_model::{Call, Wait};
-use shore_path::laws::covered_records_are_had;
+use shore_path::laws::{acquire_lets_nobody_through, covered_records_are_had};
 use shore_path::{Acquired, OnConflict, WayToWrite};
 use shore_types::{Fault, Granule, Mode, Rid, SessionId, TxnId};
 use std::alloc::AllocError;
@@ -49,7 +50,21 @@ impl Control {
         ensures refused { IfErr result (MayRefuse on_conflict (locks_in self.new) txn granule mode) }
         ensures stands { (s : State) → HasControl self.old s → HasControl self.new (with_requests s (acquired on_conflict s.locks txn granule mode).requests) }
     {
-        shore_path::acquire(&mut self.locks, txn, granule, mode, on_conflict)
+        // For the proof: the requests of any table are orderly, and an acquire lets nobody through. Nothing runs.
+        tables_are_orderly(&self.locks);
+        acquire_lets_nobody_through();
+        let may_be_others = self.may_let_through(&granule, mode);
+        let answer = shore_path::acquire(&mut self.locks, txn, granule, mode, on_conflict);
+        self.waits.note_others(may_be_others, &self.locks);
+        answer
+    }
+
+    // Whether an acquire of a granule in a mode may let somebody through. What is granted refuses no less than what was held before, so mostly it lets nobody; but IS refuses UD,
+    // and SH does not.
+    fn may_let_through(&self, granule: &Granule, mode: Mode) -> bool
+        ensures { IsFalse result → mode ≡ Mode.SH → waiters_at granule.now (locks_in self.now).requests ≡ [] }
+    {
+        matches!(mode, Mode::SH) && self.locks.may_have_waiters(granule)
     }
 
     /// As `acquire`, for a record in EX, if the transaction may not wait. Only what its way to write leaves is asked for: nothing if the store's records are
@@ -73,8 +88,10 @@ impl Control {
         ensures refused { IfErr result (MayRefuse Refuse (locks_in self.new) txn (Granule.Record id.now) Mode.EX) }
         ensures stands { (s : State) → HasControl self.old s → HasControl self.new (with_requests s (acquired Refuse s.locks txn (Granule.Record id.now) Mode.EX).requests) }
     {
-        // For the proof: what covers a store's records leaves nothing to ask for. Nothing runs.
+        // For the proof: what covers a store's records leaves nothing to ask for, the requests of any table are orderly, and an acquire lets nobody through. Nothing runs.
         covered_records_are_had();
+        tables_are_orderly(&self.locks);
+        acquire_lets_nobody_through();
         match way {
             WayToWrite::Covered => Ok(Acquired::Done),
             WayToWrite::Intended => shore_path::acquire_in_store(&mut self.locks, txn, id),
@@ -106,13 +123,15 @@ impl Control {
         ensures stands { (s : State) (a : SessionTxn) → HasControl self.old s → IsOfSession s session a → a.txn ≡ txn → logs_decision call ≡ false
             → HasControl self.new (record s { waiting = lock_waiting a call granule ∷ s.waiting }) }
     {
-        self.waits.push(WaitingCall {
+        let is_let_through = !self.locks.is_waiting(txn);
+        let call = WaitingCall {
             session,
             txn,
             call,
             wait: Wait::Lock(granule),
             cycle: None,
-        });
+        };
+        self.waits.push(call, is_let_through);
     }
 
     /// The call of a session waits no more, and is handed over. One that waits for its record is taken so once a device has failed.

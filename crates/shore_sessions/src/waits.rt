@@ -1,10 +1,13 @@
 //! The calls that wait.
-ghost use Rattle.std.specs.Prelude.{◌≡◌, ◌≢◌, ◌<◌, ◌≤◌, ◌^◌, ◌++◌, ◌∷◌, [], ℕ, All, AllPairs, IfNone, IfSome, IsFalse, IsOk, IsSome, IsTrue, OnOk, false, filter, length, not, slice_index_or, true, ◌==◌};
+ghost use Rattle.std.specs.Prelude.{◌≡◌, ◌≢◌, ◌<◌, ◌≤◌, ◌^◌, ◌++◌, ◌∷◌, [], ℕ, List, Some, All, AllPairs, IfNone, IfSome, IsFalse, IsOk, IsSome, IsTrue, OnOk, false, filter, length, not, slice_get, slice_index_or, true, ◌==◌};
 ghost use Rattle.shore_model.specs.declared.calls.Outcome.{Outcome};
+ghost use Rattle.shore_model.specs.declared.requests.Request.{Request};
 ghost use Rattle.laws_lives.specs.Views.{IsAmong};
+ghost use Rattle.shore_locks.specs.Tables.{is_waiting};
 ghost use Rattle.shore_sessions.specs.Calls.{asks_resolve, awaits_record, cycle_noted, is_resolve};
 ghost use Rattle.shore_sessions.specs.declared.waits.WaitingCall.{WaitingCall};
 
+use shore_locks::{LetThrough, LockTable};
 use shore_model::{Call, Wait};
 use shore_types::{GlobalId, Sequence, SessionId, TxnId};
 use std::alloc::{AllocError, Global};
@@ -29,17 +32,21 @@ pub struct WaitingCall {
 pub(crate) struct Waits {
     /// The calls that wait, the oldest first: no two of a session (`once`).
     calls: Vec<WaitingCall>,
+    // For each of them whether it was let through: it waits for a lock, and its transaction waits no more. It stands apart, so that not all calls are looked at (`alike`).
+    let_through: Vec<bool>,
     ghost once: { AllPairs (λ (v w : WaitingCall). v.session ≢ w.session) calls.items },
+    ghost alike: { length let_through.items ≡ length calls.items },
 }
 
 impl Waits {
-    ghost use Rattle.shore_sessions.specs.Waits.{HasCallRoom, HasNoCall, calls_in};
+    ghost use Rattle.shore_sessions.specs.Waits.{AreMarked, AreMarkedBut, HasCallRoom, HasNoCall, IsMarked, IsNoneMarked, calls_in};
 
     pub(crate) fn new(alloc: Global) -> Waits
         ensures { calls_in result ≡ [] }
     {
         Waits {
             calls: Vec::new(alloc),
+            let_through: Vec::new(alloc),
         }
     }
 
@@ -121,6 +128,7 @@ impl Waits {
         ensures same { IfNone result (calls_in self.new ≡ calls_in self.old) }
         ensures free { (session : ℕ) → HasNoCall session self.old → HasNoCall session self.new }
         ensures room { HasCallRoom self.old → HasCallRoom self.new }
+        ensures marks { (rs : List Request) → AreMarked rs self.old → AreMarked rs self.new }
     {
         let index = self.index_of_asker(txn)?;
         let session = self.calls[index].session;
@@ -133,18 +141,22 @@ impl Waits {
         ensures room { OnOk result (HasCallRoom self.new) }
         ensures idle { HasCallRoom self.old → IsOk result }
         ensures same { calls_in self.new ≡ calls_in self.old }
+        ensures marks { (rs : List Request) → AreMarked rs self.old → AreMarked rs self.new }
     {
         self.calls.reserve(1)?;
+        self.let_through.reserve(1)?;
         Ok(())
     }
 
-    /// A call waits from now on.
-    pub(crate) fn push(&mut self, call: WaitingCall)
+    /// A call waits from now on, or is let through at once.
+    pub(crate) fn push(&mut self, call: WaitingCall, is_let_through: bool)
         requires room { HasCallRoom self.old }
         requires free { HasNoCall call.session self.old }
-        ensures { calls_in self.new ≡ calls_in self.old ++ call ∷ [] }
+        ensures calls { calls_in self.new ≡ calls_in self.old ++ call ∷ [] }
+        ensures marks { (rs : List Request) → AreMarked rs self.old → (awaits_record call ≡ false → is_waiting call.txn rs ≡ false → is_let_through ≡ true) → AreMarked rs self.new }
     {
         self.calls.push_reserved(call);
+        self.let_through.push_reserved(is_let_through);
     }
 
     /// The call of a session waits no more, and is handed over.
@@ -154,9 +166,83 @@ impl Waits {
         ensures free { HasNoCall session self.new }
         ensures room { IsSome result → HasCallRoom self.new }
         ensures left { calls_in self.new ≡ filter (λ (w : WaitingCall). not (w.session == session)) (calls_in self.old) }
+        ensures marks { (rs : List Request) → AreMarked rs self.old → AreMarked rs self.new }
     {
         let index = self.index_of(session)?;
+        self.let_through.remove(index);
         Some(self.calls.remove(index))
+    }
+    // ---- calls that were let through
+
+    /// The place of the first call, from this one on, that was let through. None if no call was.
+    pub(crate) fn next_let_through(&self, from: usize) -> Option<usize>
+        ensures some { IfSome result (λ place. (from ≤ place) × (place < length (calls_in self.now))) }
+        ensures first { IfSome result (λ place. IsNoneMarked self.now from place) }
+        ensures none { IfNone result (IsNoneMarked self.now from (length (calls_in self.now))) }
+        ensures small { length (calls_in self.now) < 2 ^ 63 }
+    {
+        for place in from..self.let_through.len() {
+            if self.let_through[place] {
+                return Some(place);
+            }
+        }
+        None
+    }
+
+    /// These transactions were let through, and with each its call. If they are more than are told, all calls are looked at.
+    pub(crate) fn note_let_through(&mut self, let_through: &LetThrough, locks: &LockTable)
+        ensures calls { calls_in self.new ≡ calls_in self.old }
+        ensures room { HasCallRoom self.old → HasCallRoom self.new }
+        ensures marks { AreMarkedBut let_through.now locks.now.requests self.old → AreMarked locks.now.requests self.new }
+    {
+        match let_through.all() {
+            Some(txns) => {
+                for txn in txns {
+                    self.mark(*txn);
+                }
+            }
+            None => self.mark_all(locks),
+        }
+    }
+
+    /// There may be others, of whom it is not known who they are: then all calls are looked at.
+    pub(crate) fn note_others(&mut self, may_be: bool, locks: &LockTable)
+        ensures calls { calls_in self.new ≡ calls_in self.old }
+        ensures room { HasCallRoom self.old → HasCallRoom self.new }
+        ensures keeps { (n : ℕ) → IsMarked n self.old → IsMarked n self.new }
+        ensures marks { IsTrue may_be → AreMarked locks.now.requests self.new }
+    {
+        if may_be {
+            self.mark_all(locks);
+        }
+    }
+
+    // The calls of a transaction were let through.
+    fn mark(&mut self, txn: TxnId)
+        ensures calls { calls_in self.new ≡ calls_in self.old }
+        ensures room { HasCallRoom self.old → HasCallRoom self.new }
+        ensures keeps { (n : ℕ) → IsMarked n self.old → IsMarked n self.new }
+        ensures marked { (n : ℕ) (w : WaitingCall) → slice_get (calls_in self.old) n ≡ Some w → w.txn ≡ txn → IsMarked n self.new }
+    {
+        for place in 0..self.calls.len() {
+            if self.calls[place].txn == txn {
+                self.let_through[place] = true;
+            }
+        }
+    }
+
+    // Each call whose transaction does not wait was let through.
+    fn mark_all(&mut self, locks: &LockTable)
+        ensures calls { calls_in self.new ≡ calls_in self.old }
+        ensures room { HasCallRoom self.old → HasCallRoom self.new }
+        ensures keeps { (n : ℕ) → IsMarked n self.old → IsMarked n self.new }
+        ensures marked { AreMarked locks.now.requests self.new }
+    {
+        for place in 0..self.calls.len() {
+            if !locks.is_waiting(self.calls[place].txn) {
+                self.let_through[place] = true;
+            }
+        }
     }
 }
 

@@ -13,7 +13,7 @@ returns-clause-broken c =
     ap (λ xs. take (length c.deref-2.result.now - c.len-known.result) (drop c.len-known.result xs)) whole
     ∙ rest_of c.args.victims.now.items c.in_ok-chosen.chosen.items c.len-known.result (length c.deref-2.result.now) known (ap length whole) in
     let after : c.take_back.new.table.requests ≡ after_victims c.in_ok-chosen.chosen.items c.args.table.now.requests =
-    ap (λ t. t.requests) c.take_back.ensures ∙ ap (λ vs. after_victims vs c.args.table.now.requests) rest in (
+    ap (λ t. t.requests) c.take_back.ensures.table ∙ ap (λ vs. after_victims vs c.args.table.now.requests) rest in (
       c.in_ok-chosen.chosen.items,
       broken_of c.args.table.now.requests c.args.txn c.in_ok-chosen.chosen.items c.take_back.new.table.requests c.tables_are_orderly.ensures c.in_ok-chosen.ensures.victims c.in_ok-chosen.ensures.all after,
       c.is_victim-own.ensures ∙ ap (λ vs. is_victim vs c.args.txn) c.deref.ensures.value,

@@ -1,5 +1,7 @@
 use Rattle.std.proofs.Common.{◌≡◌, ◌∙◌, ap, sym}
 use Rattle.std.specs.Prelude.{Ok, is_some}
+use Rattle.shore_locks.specs.LetThrough.{noted_all}
+use Rattle.shore_locks.proofs.Tellings.{others_still}
 use Rattle.shore_path.specs.declared.answers.Acquired.TheVariants as acquire
 use Rattle.shore_deadlock.proofs.Lockings.{acquire_count, acquire_each, acquire_free, gentle_acquire, keeps_of}
 use Rattle.shore_deadlock.proofs.Rounds.{acquires_so, ends_of, fewer_round, keeps_round, through_of}
@@ -57,3 +59,6 @@ returns-in-Err-clause-keeps c =
     (gentle_acquire c.args.txn c.args.table.now.requests c.acquire.new.table.requests c.acquire.ensures.none_weaker c.acquire.ensures.rooted c.acquire.ensures.others)
     (acquire_free c.args.txn c.args.target.now c.args.mode c.args.table.now c.acquire.new.table c.acquire.result c.tables_are_orderly.ensures c.requires c.acquire.ensures.as_asked
     (λ g is. (let both = sym c.in-Err.is ∙ is in cc)))
+
+pub returns-in-Ok-Waiting-clause-told : goal.returns-in-Ok-Waiting-clause-told
+returns-in-Ok-Waiting-clause-told c = λ others. let tells = c.break_wait.ensures.told in tells.2 ∙ ap (noted_all tells.0) others ∙ others_still tells.0

@@ -1,3 +1,4 @@
+use Rattle.std.proofs.Common.{inl, inr}
 use Rattle.shore_deadlock.proofs.LetWaits.{first_gone, first_keeps, first_round_keeps, first_settles}
 use Rattle.shore_deadlock.proofs.Lockings.{keeps_on}
 use Rattle.shore_deadlock.proofs.Rounds.{gone_on, settled}
@@ -30,6 +31,7 @@ loop-answer-init c = record {
   keeps = λ before waits.
       first_round_keeps before c.args.txn c.args.target c.args.mode c.args.table.now waits c.tables_are_orderly.ensures c.break_wait.new.table c.break_wait.ensures.limit
       c.new-victims.result.items c.break_wait.new.victims.items c.new-victims.ensures.items c.in_default.ensures.let_through;
+  others = c.note_others.ensures;
 }
 
 -- the rounds after it
@@ -58,4 +60,13 @@ loop-answer-preserved c =
           (c.loop-answer.invariant.gone before waits) c.go_round.ensures.limit told.1 told.2;
       quiet = told.1.quiet;
       keeps = λ before waits. keeps_on c.args.txn before.requests c.loop-answer.table.requests c.go_round.new.table.requests (c.loop-answer.invariant.keeps before waits) c.go_round.ensures.keeps;
+      others = c.go_round.ensures.told c.loop-answer.invariant.others;
     }
+
+-- ---- who is let through
+
+pub returns-in-Some-clause-told : goal.returns-in-Some-clause-told
+returns-in-Some-clause-told c = inr c.break_wait.ensures.told
+
+pub returns-in-Some-go_round-clause-told : goal.returns-in-Some-go_round-clause-told
+returns-in-Some-go_round-clause-told c = inl (c.go_round.ensures.told c.loop-answer.invariant.others)

@@ -18,4 +18,4 @@ pass-requires c =
 pub returns-else-holds_is-clause-items : goal.returns-else-holds_is-clause-items
 returns-else-holds_is-clause-items c =
     c.put.ensures.items ∙ ap (λ r. put r c.args.nodes.now.requests) c.granted-granted.ensures
-    ∙ sym (grants_nobody c.args.nodes.now c.args.request.now c.requires.free (λ e. absurd (let f : IsTrue false = subst IsTrue c.if-holds_is.false (c.holds_is.ensures.1 e) in cc)))
+    ∙ sym (grants_nobody c.args.nodes.now c.args.request.now c.requires.free (λ e _. absurd (let f : IsTrue false = subst IsTrue c.if-holds_is.false (c.holds_is.ensures.1 e) in cc)))

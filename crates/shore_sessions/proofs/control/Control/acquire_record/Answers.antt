@@ -1,13 +1,14 @@
-use Rattle.std.proofs.Common.{refl, ap, subst, sym, ◌∙◌}
+use Rattle.std.proofs.Common.{◌≡◌, true, refl, ap, subst, sym, ◌∙◌}
 use Rattle.shore_types.specs.declared.locking.Granule.TheVariants.{Record}
 use Rattle.shore_types.specs.declared.locking.Mode.TheVariants.{EX}
-use Rattle.shore_locks.specs.Tables.{Table}
+use Rattle.shore_locks.specs.Tables.{Table, is_waiting}
 use Rattle.shore_path.specs.Intending.{CoversRecords}
 use Rattle.shore_path.specs.Walks.{Outcome, acquired}
 use Rattle.shore_path.specs.declared.answers.OnConflict.TheVariants.{Refuse}
 use Rattle.laws_calls.specs.CallSteps.{with_requests}
 use Rattle.shore_sessions.specs.Controls.{locks_in, txns_in, waits_in}
 use Rattle.shore_sessions.proofs.ControlSteps.{txns_kept}
+use Rattle.shore_sessions.proofs.Marks.{marked_still}
 use Rattle.shore_sessions.proofs.WaitSteps.{waits_kept}
 use Rattle.shore_sessions.proofs.control.Control.acquire_record.Goals as goal
 
@@ -42,3 +43,10 @@ returns-in-Covered-clause-stands c s has =
           ap (λ (o : Outcome). let l : Table = record { limit = s.locks.limit; requests = o.requests } in l) (c.covered_records_are_had.ensures.had s.locks c.args.txn c.args.id.now covers)
           ∙ has.locks;
     }
+
+pub invariant_of-self-clause-marked : goal.invariant_of-self-clause-marked
+invariant_of-self-clause-marked c =
+    let old = locks_in c.args.self.now in
+    marked_still c.args.self.now.waits old.requests c.acquire_in_store.new.table.requests c.args.self.now.marked
+    (λ u waits. subst (λ (t : Table). is_waiting u t.requests ≡ true) (sym c.acquire_in_store.ensures.as_asked.1)
+    (c.acquire_lets_nobody_through.ensures Refuse old c.args.txn (Record c.args.id.now) EX u c.tables_are_orderly.ensures c.requires.quiet (λ e. absurd cc) waits))

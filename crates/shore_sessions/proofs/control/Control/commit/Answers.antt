@@ -6,9 +6,11 @@ use Rattle.laws_lives.specs.Sessions.{EachOnce, txns_of}
 use Rattle.laws_lives.specs.Views.{IsAmong}
 use Rattle.laws_calls.specs.StateChanges.{committed}
 use Rattle.shore_sessions.specs.Controls.{locks_in, txns_in, waits_in}
+use Rattle.shore_sessions.specs.Standing.{AreResolving, HasWaits}
 use Rattle.shore_sessions.specs.declared.waits.WaitingCall.{WaitingCall}
 use Rattle.shore_sessions.proofs.ControlSteps.{resolving_kept}
 use Rattle.shore_sessions.proofs.DoubtTables.{doubts_but}
+use Rattle.shore_sessions.proofs.Marks.{marked_but_told}
 use Rattle.shore_sessions.proofs.TxnSteps.{rolled_left, txns_committed, undone}
 use Rattle.shore_sessions.proofs.WaitSteps.{waits_freed}
 use Rattle.shore_sessions.proofs.control.Control.commit.Goals as goal
@@ -39,7 +41,13 @@ returns-clause-stands c s a was its at =
     record {
       txns = txns_committed old new s was.txns number changes a done.left its.0.0 at its.0.1
           (done.undos a here at) (done.doubts ∙ doubts_but old s.sessions was.txns.seats a here its.0.1 number at) done.next done.kept done.stream;
-      waits = waits_freed calls s was.waits a its.0.0 once free (committed s a) refl refl refl refl (λ n. refl);
-      resolving = resolving_kept old new calls calls s (committed s a) (rolled_left old new s was.txns number changes a done.left its.0.0 at its.0.1) refl refl (λ f. f) was.resolving;
+      waits = subst (λ cs. HasWaits cs (committed s a)) (sym c.note_let_through.ensures.calls) (waits_freed calls s was.waits a its.0.0 once free (committed s a) refl refl refl refl (λ n. refl));
+      resolving = subst (λ cs. AreResolving new cs (committed s a)) (sym c.note_let_through.ensures.calls)
+          (resolving_kept old new calls calls s (committed s a) (rolled_left old new s was.txns number changes a done.left its.0.0 at its.0.1) refl refl (λ f. f) was.resolving);
       locks = ap (left_by a.txn) was.locks ∙ ap (λ n. left_by n (locks_in c.args.self.now)) at ∙ sym (returns-clause-locks c);
     }
+
+pub invariant_of-self-clause-marked : goal.invariant_of-self-clause-marked
+invariant_of-self-clause-marked c =
+    c.note_let_through.ensures.marks
+    (marked_but_told c.args.self.now.waits (locks_in c.args.self.now).requests c.release_all.new.self.requests c.nobody-let_through.result c.release_all.new.let_through c.args.self.now.marked c.release_all.ensures.told)

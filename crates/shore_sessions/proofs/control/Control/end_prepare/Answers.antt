@@ -4,7 +4,7 @@ use Rattle.shore_txn.specs.Txns.{state_of}
 use Rattle.shore_txn.specs.Transactions as table
 use Rattle.shore_txn.proofs.ActiveSteps.{one_at_number}
 use Rattle.shore_txn.proofs.OneOfMany.{among_middle}
-use Rattle.shore_sessions.specs.Controls.{txns_in}
+use Rattle.shore_sessions.specs.Controls.{locks_in, txns_in}
 use Rattle.shore_sessions.proofs.AnswerSteps.{control_answered, lasts_answered, none_prepares, own_prepares, rolled_answered, txns_answered}
 use Rattle.shore_sessions.proofs.control.Control.end_prepare.Goals as goal
 use Rattle.shore_sessions.proofs.control.Control.end_prepare.Goals.{in-Preparing, in_default-matches}
@@ -52,3 +52,6 @@ returns-clause-stands c s t global own was works is =
 
 pub returns-clause-lasts : goal.returns-clause-lasts
 returns-clause-lasts c = lasts_answered (txns_in c.args.self.now) c.note_answer.new.self c.note_answer.ensures.answered
+
+pub invariant_of-self-clause-marked : goal.invariant_of-self-clause-marked
+invariant_of-self-clause-marked c = c.take.ensures.marks (locks_in c.args.self.now).requests c.args.self.now.marked

@@ -1,4 +1,4 @@
-use Rattle.std.proofs.Common.{◌≡◌, ◌≤◌, None, sym, ap, subst, ◌∙◌, false}
+use Rattle.std.proofs.Common.{◌≡◌, ◌≤◌, ⊎_elim, None, sym, ap, subst, ◌∙◌, false}
 use Rattle.std.specs.Prelude.{Ok, Err, All, IfErr, ◌≢◌}
 use Rattle.std.proofs.lemmas.Result.{err_from_is_err_and}
 use Rattle.shore_types.specs.declared.layout.TheConstants.{MOST_MAX_LOCKS}
@@ -18,6 +18,7 @@ use Rattle.shore_sessions.specs.declared.waits.WaitingCall.{WaitingCall}
 use Rattle.shore_sessions.proofs.LockRounds.{IsStart, settles_to}
 use Rattle.shore_sessions.proofs.LockRefusals.{done_so, refuses_so}
 use Rattle.shore_sessions.proofs.LockStarts.{starts, stands_for}
+use Rattle.shore_sessions.proofs.Marks.{marked_but_others, marked_but_told}
 use Rattle.shore_sessions.proofs.NotedVictims.{seat_named}
 use Rattle.shore_sessions.proofs.TriedLocks.{waits_for_none}
 use Rattle.shore_sessions.proofs.WaitSteps.{free_waits_not}
@@ -55,7 +56,14 @@ invariant_of-self c =
     let settles = c.settle-answer.ensures.settles (locks_in c.args.self.now)
     (lets_wait (locks_in c.args.self.now) c.args.txn c.args.granule c.args.mode (Ok c.in_ok-acquire.field-0) c.acquire.new.self.locks c.tables_are_orderly.ensures c.requires.quiet
     (c.in_ok-acquire.ensures.answer, c.acquire.ensures.locks) c.in-Waiting.field-0 (ap Ok c.in-Waiting.is)) in
-    record { few_locks = subst (λ n. n ≤ MOST_MAX_LOCKS) (sym settles.limit) c.args.self.now.few_locks }
+    record {
+      few_locks = subst (λ n. n ≤ MOST_MAX_LOCKS) (sym settles.limit) c.args.self.now.few_locks;
+      marked = c.note_let_through.ensures.marks
+          (⊎_elim
+          (λ others. marked_but_others c.acquire.new.self.waits c.settle-answer.new.table.requests c.settle-answer.new.let_through others)
+          (λ told. marked_but_told c.acquire.new.self.waits c.acquire.new.self.locks.requests c.settle-answer.new.table.requests c.nobody-let_through.result c.settle-answer.new.let_through c.acquire.new.self.marked told)
+          c.settle-answer.ensures.told);
+    }
 
 settled : (c : After-answer_of)
     → Settles (locks_in c.args.self.now) c.settle-answer.new.table c.args.txn c.args.granule c.args.mode c.settle-answer.result.answer c.settle-answer.result.victims.items
@@ -114,8 +122,8 @@ returns-in-Waiting-clause-locks c s o found es a call was state works its number
     ap (λ t. answer_of answer (told_cycle t None victims)) number ∙ ap (answer_of answer) (sym c.note_victims-told.ensures.told) ∙ sym c.answer_of.ensures in
     let noted : AreNoted c.args.seat.now.session c.args.txn s victims comes.new =
     subst (λ t. AreNoted c.args.seat.now.session t s victims comes.new) number (subst (λ n. AreNoted n a.txn s victims comes.new) its.1 comes.noted) in
-    let stands = c.note_victims-told.ensures.stands s comes.new (stands_for control _ s was c.acquire.ensures.txns c.acquire.ensures.waits)
-    (subst (All (λ (w : WaitingCall). w.session ≢ c.args.seat.now.session)) (sym c.acquire.ensures.waits) c.requires.free) noted in (
+    let stands = c.note_victims-told.ensures.stands s comes.new (stands_for control _ s was c.acquire.ensures.txns (c.note_let_through.ensures.calls ∙ c.acquire.ensures.waits))
+    (subst (All (λ (w : WaitingCall). w.session ≢ c.args.seat.now.session)) (sym (c.note_let_through.ensures.calls ∙ c.acquire.ensures.waits)) c.requires.free) noted in (
       comes.new,
       subst (λ answered. LocksTo s a call asked answered comes.new) told comes.locks_to,
       record { txns = stands.txns; waits = stands.waits; resolving = stands.resolving; locks = comes.locks ∙ sym c.note_victims-told.ensures.keeps.locks },

@@ -5,7 +5,7 @@ use Rattle.laws_lives.specs.Sessions.{EachOnce, txns_of}
 use Rattle.laws_calls.specs.Prepares.{prepared}
 use Rattle.laws_calls.specs.States.{next_number}
 use Rattle.shore_model.specs.declared.step.Wait.TheVariants.{Durable}
-use Rattle.shore_sessions.specs.Controls.{txns_in, waits_in}
+use Rattle.shore_sessions.specs.Controls.{locks_in, txns_in, waits_in}
 use Rattle.shore_sessions.specs.Standing.{AreResolving, HasWaits}
 use Rattle.shore_sessions.specs.declared.waits.WaitingCall.{WaitingCall}
 use Rattle.shore_sessions.proofs.ControlSteps.{resolving_kept}
@@ -16,7 +16,7 @@ use Rattle.shore_sessions.proofs.control.Control.prepare.Goals as goal
 pub returns-clause-waits : goal.returns-clause-waits
 returns-clause-waits c =
     let calls = waits_in c.args.self.now in
-    c.push.ensures
+    c.push.ensures.calls
     ∙ ap (λ n. calls ++ record { session = c.args.seat.now.session; txn = n; call = call.Prepare c.args.asked; wait = Durable c.args.number; cycle = None } ∷ []) (c.id-txn.ensures.number ∙ c.txn.ensures.number)
     ∙ ap (λ g. calls ++ record { session = c.args.seat.now.session; txn = c.args.seat.now.txn; call = call.Prepare g; wait = Durable c.args.number; cycle = None } ∷ []) c.requires.copy
 
@@ -41,3 +41,6 @@ returns-clause-stands c s a granules was its at number costs =
           (resolved_still calls (record { session = a.session; txn = a.txn; call = call.Prepare c.args.global; wait = Durable (next_number s); cycle = None }) refl) refl (λ f. f) was.resolving);
       locks = was.locks;
     }
+
+pub invariant_of-self-clause-marked : goal.invariant_of-self-clause-marked
+invariant_of-self-clause-marked c = c.push.ensures.marks (locks_in c.args.self.now).requests c.args.self.now.marked (λ lock gone. absurd cc)

@@ -1,4 +1,4 @@
-use Rattle.std.proofs.Common.{◌≡◌, ◌∷◌, ℕ, List, refl, sym, ap, subst, ◌∙◌}
+use Rattle.std.proofs.Common.{◌≡◌, ◌∷◌, ℕ, List, sym, ap, subst, ◌∙◌}
 use Rattle.shore_locks.specs.Grants.{released}
 use Rattle.shore_locks.specs.Tables.{Table}
 use Rattle.shore_model.specs.declared.calls.Call.TheVariants as call
@@ -10,6 +10,7 @@ use Rattle.shore_sessions.specs.Controls.{locks_in, txns_in}
 use Rattle.shore_sessions.specs.Standing.{HasControl, HasControlBut}
 use Rattle.shore_sessions.specs.declared.control.Control.{Control}
 use Rattle.shore_sessions.proofs.Committing.{control_resolving, resolved_state, resolver_free, rolled_stay, txns_resolved}
+use Rattle.shore_sessions.proofs.Marks.{marked_but_told}
 use Rattle.shore_sessions.proofs.TxnSteps.{undone}
 use Rattle.shore_sessions.proofs.control.Control.resolve.Goals as goal
 
@@ -40,5 +41,10 @@ returns-clause-stands c s a was its can may differ number =
     subst (λ n. HasControl c.await_resolve.new.self (record mid { waiting = decision_waiting c.args.seat.now.session (call.Resolve c.args.global Commit) n ∷ s.waiting })) number
     (c.await_resolve.ensures.stands mid
     (but_of c.args.global _ mid a.txn c.note_commit-txn.result.0 (its.1 ∙ sym done.number)
-    (control_resolving c.args.self.now _ s was a c.args.global can txns rolled refl locks))
+    (control_resolving c.args.self.now _ s was a c.args.global can txns rolled c.note_let_through.ensures.calls locks))
     (resolver_free s c.args.seat.now.session a c.args.global can may differ))
+
+pub invariant_of-self-clause-marked : goal.invariant_of-self-clause-marked
+invariant_of-self-clause-marked c =
+    c.note_let_through.ensures.marks
+    (marked_but_told c.args.self.now.waits (locks_in c.args.self.now).requests c.release_all.new.self.requests c.nobody-let_through.result c.release_all.new.let_through c.args.self.now.marked c.release_all.ensures.told)

@@ -15,6 +15,7 @@ use Rattle.shore_txn.specs.Txns.{IsAfterSavepoint, SameTxn}
 use Rattle.shore_txn.proofs.ActiveSteps.{becomes_so}
 use Rattle.shore_sessions.specs.Controls.{locks_in, txns_in, waits_in}
 use Rattle.shore_sessions.specs.Standing.{HasControl, IsAt}
+use Rattle.shore_sessions.specs.Waits.{AreMarked}
 use Rattle.shore_sessions.proofs.ControlSteps.{resolving_kept}
 use Rattle.shore_sessions.proofs.RollbackSteps.{savepoint_logged}
 use Rattle.shore_sessions.proofs.SeatSteps.{rolled_kept, same_seated, savepoint_seated}
@@ -23,15 +24,15 @@ use Rattle.shore_sessions.proofs.WaitSteps.{names-with_undo, waits_kept}
 use Rattle.shore_sessions.proofs.control.Control.savepoint.Goals as goal
 
 pub returns-clause-stands : goal.returns-clause-stands
-returns-clause-stands c = each _ c.savepoint.result c.savepoint.ensures.set c.savepoint.ensures.index c.savepoint.ensures.undos
+returns-clause-stands c = each _ _ c.savepoint.result c.savepoint.ensures.set c.savepoint.ensures.index c.savepoint.ensures.undos
   where
-    each : (few : (locks_in c.args.self.now).limit ≤ MOST_MAX_LOCKS) (r : Result ℕ AllocError) → OnOk r (OneBecomes c.args.seat.now.txn IsAfterSavepoint (table.txns_in (txns_in c.args.self.now)) (table.txns_in c.savepoint.new.self))
+    each : (few : (locks_in c.args.self.now).limit ≤ MOST_MAX_LOCKS) (marks : AreMarked (locks_in c.args.self.now).requests c.args.self.now.waits) (r : Result ℕ AllocError) → OnOk r (OneBecomes c.args.seat.now.txn IsAfterSavepoint (table.txns_in (txns_in c.args.self.now)) (table.txns_in c.savepoint.new.self))
         → IfOk r (λ index. (a : SessionTxn) → IsAmong a (undos_in (txns_in c.args.self.now)) → a.txn ≡ c.args.seat.now.txn → index ≡ length a.undo.marks)
         → OnOk r ((a : SessionTxn) → IsAmong a (undos_in (txns_in c.args.self.now)) → a.txn ≡ c.args.seat.now.txn → undos_in c.savepoint.new.self ≡ with_undo a.txn (with_mark a.undo) (undos_in (txns_in c.args.self.now)))
         → IfOk r (λ index. (s : State) (a : SessionTxn) → HasControl c.args.self.now s → IsAt c.args.seat.now s a
-        → (index ≡ length a.undo.marks) × HasControl (record c.args.self.now { txns = c.savepoint.new.self; few_locks = few }) (answered s a call.Savepoint (Saved index) s.counts))
-    each few (Err e) none more undos = none
-    each few (Ok index) one its undos = λ s a was own.
+        → (index ≡ length a.undo.marks) × HasControl (record c.args.self.now { txns = c.savepoint.new.self; few_locks = few; marked = marks }) (answered s a call.Savepoint (Saved index) s.counts))
+    each few marks (Err e) none more undos = none
+    each few marks (Ok index) one its undos = λ s a was own.
         let here = subst (IsAmong a) was.txns.active own.0 in
         let new : State = answered s a call.Savepoint (Saved index) s.counts in (
           its a here own.1,
@@ -45,12 +46,12 @@ returns-clause-stands c = each _ c.savepoint.result c.savepoint.ensures.set c.sa
         )
 
 pub returns-clause-unchanged : goal.returns-clause-unchanged
-returns-clause-unchanged c = each _ c.savepoint.result c.savepoint.ensures.same c.savepoint.ensures.unchanged
+returns-clause-unchanged c = each _ _ c.savepoint.result c.savepoint.ensures.same c.savepoint.ensures.unchanged
   where
-    each : (few : (locks_in c.args.self.now).limit ≤ MOST_MAX_LOCKS) (r : Result ℕ AllocError) → OnErr r (OneBecomes c.args.seat.now.txn SameTxn (table.txns_in (txns_in c.args.self.now)) (table.txns_in c.savepoint.new.self))
-        → OnErr r (undos_in c.savepoint.new.self ≡ undos_in (txns_in c.args.self.now)) → OnErr r ((s : State) → HasControl c.args.self.now s → HasControl (record c.args.self.now { txns = c.savepoint.new.self; few_locks = few }) s)
-    each few (Ok index) none undos = none
-    each few (Err e) one undos = λ s was. record {
+    each : (few : (locks_in c.args.self.now).limit ≤ MOST_MAX_LOCKS) (marks : AreMarked (locks_in c.args.self.now).requests c.args.self.now.waits) (r : Result ℕ AllocError) → OnErr r (OneBecomes c.args.seat.now.txn SameTxn (table.txns_in (txns_in c.args.self.now)) (table.txns_in c.savepoint.new.self))
+        → OnErr r (undos_in c.savepoint.new.self ≡ undos_in (txns_in c.args.self.now)) → OnErr r ((s : State) → HasControl c.args.self.now s → HasControl (record c.args.self.now { txns = c.savepoint.new.self; few_locks = few; marked = marks }) s)
+    each few marks (Ok index) none undos = none
+    each few marks (Err e) one undos = λ s was. record {
       txns = txns_same (txns_in c.args.self.now) c.savepoint.new.self s was.txns one undos c.savepoint.ensures.doubts c.savepoint.ensures.next c.savepoint.ensures.room;
       waits = was.waits;
       resolving = resolving_kept (txns_in c.args.self.now) c.savepoint.new.self (waits_in c.args.self.now) (waits_in c.args.self.now) s s (rolled_kept (becomes_so same_seated one)) refl refl (λ f. f) was.resolving;

@@ -1,5 +1,5 @@
 use Rattle.std.proofs.Common.{refl, sym, ◌∙◌}
-use Rattle.shore_sessions.specs.Controls.{waits_in}
+use Rattle.shore_sessions.specs.Controls.{locks_in, waits_in}
 use Rattle.shore_sessions.proofs.Answered.{none_so, some_so}
 use Rattle.shore_sessions.proofs.ControlSteps.{control_refused, control_same}
 use Rattle.shore_sessions.proofs.Taking.{none_removed}
@@ -19,3 +19,6 @@ returns-clause-same c = none_so c.take.result
       free_waits_not (waits_in c.args.self.now) s was.waits c.args.session none,
       control_same c.args.self.now _ s was refl refl (c.take.ensures.left ∙ sym (none_removed c.args.session (waits_in c.args.self.now) none)),
     )) c.take.ensures.none
+
+pub invariant_of-self-clause-marked : goal.invariant_of-self-clause-marked
+invariant_of-self-clause-marked c = c.take.ensures.marks (locks_in c.args.self.now).requests c.args.self.now.marked

@@ -1,8 +1,10 @@
 use Rattle.std.proofs.Common.{refl, set, subst, sym, ap, ◌∙◌}
+use Rattle.std.specs.Prelude.{slice_get}
 use Rattle.laws_lives.specs.Views.{IsAmong}
 use Rattle.shore_sessions.specs.Calls.{awaits_record}
 use Rattle.shore_sessions.specs.Waits.{calls_in}
 use Rattle.shore_sessions.specs.declared.waits.WaitingCall.{WaitingCall}
+use Rattle.shore_sessions.proofs.Marks.{marked_noted}
 use Rattle.shore_sessions.proofs.NotedCalls.{read_same, set_noted, told}
 use Rattle.shore_sessions.proofs.Taking.{among_at}
 use Rattle.shore_sessions.proofs.waits.Waits.note_cycle.Goals as goal
@@ -29,3 +31,7 @@ returns-clause-some c =
       ap (λ (w : WaitingCall). w.txn) c.index.ensures ∙ at.1 found,
       ap awaits_record c.index.ensures ∙ at.2 found,
     )
+
+pub returns-clause-marks : goal.returns-clause-marks
+returns-clause-marks c = λ rs marked n w at lock gone.
+    marked_noted rs c.index.result.now.session c.args.cycle (calls_in c.args.self.now) c.args.self.now.let_through.items marked n w (sym (ap (λ xs. slice_get xs n) (returns-clause-noted c)) ∙ at) lock gone

@@ -1,0 +1,13 @@
+use Rattle.std.proofs.Common.{◌≡◌, ◌<◌, ℕ, Some}
+use Rattle.std.specs.Prelude.{slice_get}
+use Rattle.shore_sessions.specs.Waits.{HasCallRoom, IsMarked, calls_in}
+use Rattle.shore_sessions.specs.declared.waits.WaitingCall.{WaitingCall}
+use Rattle.shore_sessions.proofs.waits.Waits.mark.Given as goal
+
+abbrev pub invariant-loop-place : goal.invariant-loop-place
+invariant-loop-place l = record {
+  calls : calls_in l.self ≡ calls_in l.initial.self;
+  room : HasCallRoom l.initial.self → HasCallRoom l.self;
+  keeps : (n : ℕ) → IsMarked n l.initial.self → IsMarked n l.self;
+  marked : (n : ℕ) (w : WaitingCall) → n < l.place → slice_get (calls_in l.initial.self) n ≡ Some w → w.txn ≡ l.txn → IsMarked n l.self;
+}
