@@ -19,8 +19,8 @@ use Rattle.shore_log.specs.declared.device.LogDev.{LogDev}
 use Rattle.shore_log.specs.declared.device.Staged.{Staged}
 use Rattle.shore_log.specs.Indexes.{IsInGroup, frame_with}
 use Rattle.shore_log.specs.Listed.{all_in}
-use Rattle.shore_log.specs.PlainTails.{KnowsEntries, KnowsTexts}
-use Rattle.shore_log.specs.declared.tail.PlainTail.{PlainTail}
+use Rattle.shore_log.specs.Told.{Covers}
+use Rattle.shore_log.specs.declared.tail.Told.{Told}
 
 -- every record that is kept, in the order of their numbers
 abbrev pub records_of_log : {D : Type 0} {G : Ghosts D} → LogDev D G → List LogRecord
@@ -158,9 +158,9 @@ HasRecordRoom log count = IsSomeAnd log.read (λ v. vec_len v + count ≤ vec_ca
 abbrev pub IsSpelled : {D : Type 0} {G : Ghosts D} → LogDev D G → Type 0
 IsSpelled log = IsSome log.read → log.count ≤ log.forced
 
--- a log buffer knows what there is room for, so what it has is taken in with no memory more
-abbrev pub KnowsRoom : {D : Type 0} {G : Ghosts D} → LogDev D G → PlainTail → Type 0
-KnowsRoom log t = KnowsEntries (vec_len log.frames + length (waiting log)) (vec_capacity log.frames) t × KnowsTexts (vec_len log.bytes) (vec_capacity log.bytes) t
+-- A log buffer that was told this knows what there is room for, so what it has is taken in with no memory more.
+abbrev pub KnowsRoom : {D : Type 0} {G : Ghosts D} → LogDev D G → Told → Type 0
+KnowsRoom log told = Covers told.entries (vec_len log.frames + length (waiting log)) (vec_capacity log.frames) × Covers told.texts (vec_len log.bytes) (vec_capacity log.bytes)
 
 -- Nothing has changed but for memory that was taken for the index.
 pub record IsAsBefore {D : Type 0} {G : Ghosts D} (old new : LogDev D G) : Type 0 where

@@ -10,7 +10,7 @@ ghost use Rattle.shore_frames.specs.LoggedRecords.{are_numbered};
 ghost use Rattle.shore_frames.specs.Frames.{behind_gate, GivesBehindFrom, GivesWithOrWithoutFrom, IsLongest};
 ghost use Rattle.shore_log.specs.Indexes.{are_listed, first_in, place_in};
 ghost use Rattle.shore_log.specs.Listed.{all_in};
-ghost use Rattle.shore_log.specs.declared.tail.PlainTail.{PlainTail};
+ghost use Rattle.shore_log.specs.declared.tail.Told.{Told};
 
 mod moving;
 mod opening;
@@ -117,7 +117,7 @@ pub struct LogDev<D: Disk> {
 
 impl<D: Disk> LogDev<D> {
     ghost use Rattle.shore_log.specs.Settled.{HasList, HasNoFrameRoom, HasRecordRoom, IsAsBefore, IsSettledFrom, IsSpelled, IsStagedFrom, KeepsFrames, KnowsRoom, cut_of_log, records_of_log, stable, waiting};
-    ghost use Rattle.shore_log.specs.PlainTails.{first_of, waiting_in};
+    ghost use Rattle.shore_log.specs.PlainTails.{first_of, told_in, waiting_in};
 
     /// Takes all records that wait in the log buffer. `Memory` if an allocation failed, or while a record waits that `take` took: each stays where it was.
     pub fn take_in(&mut self, tail: &mut PlainTail) -> Result<(), Fault>
@@ -126,8 +126,8 @@ impl<D: Disk> LogDev<D> {
         ensures emptied { OnOk result (waiting_in tail.new ≡ []) }
         ensures next { first_of tail.new + length (waiting_in tail.new) ≡ first_of tail.old + length (waiting_in tail.old) }
         ensures refused { OnErr result ((records_of_log self.new ≡ records_of_log self.old) × (waiting_in tail.new ≡ waiting_in tail.old)) }
-        ensures idle { KnowsRoom self.old tail.old → IsSpelled self.old → IsOk result }
-        ensures knows { OnOk result (KnowsRoom self.new tail.new) }
+        ensures idle { KnowsRoom self.old (told_in tail.old) → IsSpelled self.old → IsOk result }
+        ensures knows { OnOk result (KnowsRoom self.new (told_in tail.new)) }
         ensures spelled { OnOk result (IsSpelled self.new) × (IsSpelled self.old → IsSpelled self.new) }
         ensures only_memory { IfErr result (λ fault. fault ≡ Fault.Memory) }
         ensures list { OnErr result (HasList self.old → HasList self.new) }
@@ -230,7 +230,7 @@ impl<D: Disk> LogDev<D> {
         ensures full { result ≡ Err Fault.LogFull → HasNoFrameRoom self.old }
         ensures none_staged { OnErr result (self.new.staged ≡ None) }
         // What a log buffer knows of its room holds still.
-        ensures knows { (t : PlainTail) → KnowsRoom self.old t → KnowsRoom self.new t }
+        ensures knows { (told : Told) → KnowsRoom self.old told → KnowsRoom self.new told }
         // It is never refused memory for records that came from a log buffer.
         ensures idle { IsSpelled self.old → result ≢ Err Fault.Memory }
         ensures spelled { IsSpelled self.old → IsSpelled self.new }
@@ -287,7 +287,7 @@ impl<D: Disk> LogDev<D> {
         ensures tail { (self.new.tail ≡ self.old.tail) × (self.new.anchors ≡ self.old.anchors) }
         ensures list { HasList self.old → HasList self.new }
         // What a log buffer knows of its room holds still.
-        ensures knows { (t : PlainTail) → KnowsRoom self.old t → KnowsRoom self.new t }
+        ensures knows { (told : Told) → KnowsRoom self.old told → KnowsRoom self.new told }
         ensures only_device { IfErr result (λ fault. fault ≡ Fault.Device) }
         ensures unforced { OnErr result (stable self.new ≡ stable self.old) }
         ensures size { size (D.history self.new.device) ≡ size (D.history self.old.device) }
@@ -349,8 +349,9 @@ impl<D: Disk> LogDev<D> {
         ensures others { IfErr result (λ fault. (fault ≡ Fault.Device) ⊎ (fault ≡ Fault.Memory) ⊎ (fault ≡ Fault.LogFull)) }
         ensures full { result ≡ Err Fault.LogFull → HasNoFrameRoom self.old }
         // What a log buffer knows of its room holds still.
-        ensures knows { (t : PlainTail) → KnowsRoom self.old t → KnowsRoom self.new t }
+        ensures knows { (told : Told) → KnowsRoom self.old told → KnowsRoom self.new told }
         ensures idle { IsSpelled self.old → result ≢ Err Fault.Memory }
+        ensures unstaged { OnOk result (self.old.staged ≡ None → self.new.staged ≡ None) }
         ensures size { size (D.history self.new.device) ≡ size (D.history self.old.device) }
         ensures honest { D.is_honest self.new.device ≡ D.is_honest self.old.device }
         ensures cause { HasCause result (D.faults self.old.device) (D.faults self.new.device) }
@@ -475,7 +476,7 @@ impl<D: Disk> LogDev<D> {
 
 impl<D: Disk> LogDev<FuseDisk<D>> {
     ghost use Rattle.shore_disk.specs.Fuse.{fuse_inner, fuse_calls, fuse_refused};
-    ghost use Rattle.shore_log.specs.Settled.{HasList, KeepsFrames, KnowsRoom, records_of_log};
+    ghost use Rattle.shore_log.specs.Settled.{HasList, IsSpelled, KeepsFrames, KnowsRoom, records_of_log};
 
     /// Lets so many more writes and syncs of the device pass; then every call of it fails.
     pub fn set_fuse(&mut self, calls: u64)
@@ -486,7 +487,8 @@ impl<D: Disk> LogDev<FuseDisk<D>> {
         ensures frame { (self.new.head ≡ self.old.head) × (self.new.staged ≡ self.old.staged) }
         ensures tail { (self.new.tail ≡ self.old.tail) × (self.new.anchors ≡ self.old.anchors) }
         ensures list { HasList self.old → HasList self.new }
-        ensures knows { (t : PlainTail) → KnowsRoom self.old t → KnowsRoom self.new t }
+        ensures knows { (told : Told) → KnowsRoom self.old told → KnowsRoom self.new told }
+        ensures spelled { IsSpelled self.old → IsSpelled self.new }
         ensures frames { KeepsFrames self.old self.new }
     {
         self.device.set_calls(calls);

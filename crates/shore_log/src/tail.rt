@@ -1,10 +1,11 @@
 //! The log buffer: the records that wait on their way from the core to the log device.
-ghost use Rattle.std.specs.Prelude.{◌≡◌, ◌↔◌, ◌+◌, ◌<◌, ◌≤◌, ◌^◌, [], ◌∷◌, ◌++◌, ℕ, List, All, IsTrue, false, length, IfOk, IfErr, IsOk, OnOk, OnErr, vec_capacity, vec_len};
+ghost use Rattle.std.specs.Prelude.{◌≡◌, ◌↔◌, ◌+◌, ◌<◌, ◌≤◌, ◌^◌, [], ◌∷◌, ◌++◌, ℕ, List, All, IsTrue, length, IfOk, IfErr, IsOk, OnOk, OnErr, vec_capacity, vec_len};
 ghost use Rattle.shore_types.specs.declared.faults.Fault.TheVariants as Fault;
 ghost use Rattle.shore_model.specs.declared.log_records.LogRecord.{LogRecord};
 ghost use Rattle.shore_logrec.specs.Text.{Fits, texts};
 ghost use Rattle.shore_frames.specs.LoggedRecords.{are_numbered};
 ghost use Rattle.shore_log.specs.Listed.{listed};
+ghost use Rattle.shore_log.specs.Told.{Covers, HasRoom};
 
 use crate::texts::{decode_all, move_behind, take_entries};
 use http_server::Log as GhostLog;
@@ -15,11 +16,16 @@ use std::alloc::{AllocError, Global};
 
 /// Takes the records of the core in their order and gives each its number.
 pub trait Tail {
+    ghost use Rattle.shore_log.specs.declared.tail.Told.{Told};
+
     /// The number of the first record that it has.
     ghost first: { Self → ℕ };
 
     /// The records that it has, in the order of their numbers.
     ghost records: { Self → List LogRecord };
+
+    /// What it was told of the log device.
+    ghost told: { Self → Told };
 
     /// Adds a record and answers its number. If it is refused none is added: `Memory` if an allocation failed.
     fn push(&mut self, logged: &LogRecord) -> Result<Lsn, Fault>
@@ -30,7 +36,8 @@ pub trait Tail {
         ensures added { OnOk result (records self.new ≡ records self.old ++ logged.now ∷ []) }
         ensures refused { IfErr result (λ fault. fault ≡ Fault.Memory) }
         ensures none_added { OnErr result (records self.new ≡ records self.old) }
-        ensures first { first self.new ≡ first self.old };
+        ensures first { first self.new ≡ first self.old }
+        ensures told { told self.new ≡ told self.old };
 
     /// The number that the next record will have.
     fn next(&self) -> Lsn
@@ -39,37 +46,56 @@ pub trait Tail {
 }
 
 // A log device of which nothing is known: it takes what it needs itself.
-const NOTHING_KNOWN: Known = Known {
-    held: 0,
-    room: usize::MAX,
-    is_brought: false,
+const NOTHING_TOLD: Told = Told {
+    entries: Known {
+        held: 0,
+        room: usize::MAX,
+    },
+    texts: Known {
+        held: 0,
+        room: usize::MAX,
+    },
 };
 
-/// How much of something the log device holds for what it has, and for how much there is room: its own, or what the log buffer brings.
+/// How much the log device holds of something at most, and for how much it has room at least.
 #[derive(Clone, Copy)]
 pub struct Known {
     /// How much it holds.
     pub held: usize,
     /// For how much there is room.
     pub room: usize,
-    /// Whether the log buffer brings that room.
-    pub is_brought: bool,
 }
 
 impl Known {
+    // Whether there is room for so much more: at the log device, or this that is brought.
+    fn has_room(self, more: usize, brought: usize) -> bool
+        ensures { IsTrue result ↔ HasRoom self more brought }
+    {
+        let room = self.room.max(brought);
+        self.held <= room && more <= room - self.held
+    }
+
     // Of what holds no more than this.
     fn no_more_than(self, most: usize) -> Known
         ensures held { (result.held ≤ self.held) × (result.held ≤ most) }
         ensures least { (held : ℕ) → held ≤ self.held → held ≤ most → held ≤ result.held }
-        ensures room { (result.room ≡ self.room) × (result.is_brought ≡ self.is_brought) }
+        ensures room { result.room ≡ self.room }
     {
         let held = if self.held <= most { self.held } else { most };
         Known {
             held,
             room: self.room,
-            is_brought: self.is_brought,
         }
     }
+}
+
+/// What a log buffer was told of the log device. No push changes it.
+#[derive(Clone, Copy)]
+pub struct Told {
+    /// The entries of the index, with those to come for what waits there.
+    pub entries: Known,
+    /// The bytes of the texts that wait there.
+    pub texts: Known,
 }
 
 /// A log buffer for one caller: the texts of the records wait in memory until the log device takes them. What the log device needs to take them in, and to force
@@ -84,9 +110,8 @@ pub struct PlainTail {
     bytes: Vec<u8>,
     // Which they are. It takes no memory: only proofs read it.
     waiting: GhostLog<LogRecord, ()>,
-    // What is known of the index of the log device and of the texts that wait there; and an index with no entry, with the room that is brought.
-    in_index: Known,
-    in_texts: Known,
+    // What it was told of the log device; and an index with no entry, with the room that is brought. That of texts is brought with theirs.
+    told: Told,
     index: Vec<FrameAt>,
     ghost numbered: { IsTrue (are_numbered first (listed waiting.items)) },
     ghost counted: { count ≡ length (listed waiting.items) },
@@ -94,15 +119,13 @@ pub struct PlainTail {
     ghost spelled: { bytes.items ≡ texts (listed waiting.items) },
     // There is room for all that waits: at the log device, or it is brought.
     ghost no_entry: { vec_len index ≡ 0 },
-    ghost index_room: { in_index.held + count ≤ in_index.room },
-    ghost index_brought: { IsTrue in_index.is_brought → in_index.room ≤ vec_capacity index },
-    ghost texts_room: { in_texts.held + vec_len bytes ≤ in_texts.room },
-    ghost texts_short: { in_texts.held < 2 ^ 63 },
-    ghost texts_brought: { IsTrue in_texts.is_brought → in_texts.room ≤ vec_capacity bytes },
+    ghost index_room: { HasRoom told.entries count (vec_capacity index) },
+    ghost texts_room: { HasRoom told.texts (vec_len bytes) (vec_capacity bytes) },
+    ghost texts_short: { told.texts.held < 2 ^ 63 },
 }
 
 impl PlainTail {
-    ghost use Rattle.shore_log.specs.PlainTails.{KeepsRoom, KnowsEntries, KnowsTexts, first_of, waiting_in};
+    ghost use Rattle.shore_log.specs.PlainTails.{first_of, told_in, waiting_in};
 
     /// A log buffer with no record, whose next has this number.
     pub fn new(alloc: Global, next: Lsn) -> PlainTail
@@ -115,8 +138,7 @@ impl PlainTail {
             count: 0,
             bytes: Vec::new(alloc),
             waiting: GhostLog::new(),
-            in_index: NOTHING_KNOWN,
-            in_texts: NOTHING_KNOWN,
+            told: NOTHING_TOLD,
             index: Vec::new(alloc),
         }
     }
@@ -127,23 +149,24 @@ impl PlainTail {
         ensures count { IfOk result (λ count. count ≡ length (waiting_in self.old)) }
         ensures emptied { OnOk result (waiting_in self.new ≡ []) }
         ensures next { first_of self.new + length (waiting_in self.new) ≡ first_of self.old + length (waiting_in self.old) }
-        ensures idle { KnowsTexts (vec_len out.old) (vec_capacity out.old) self.old → IsOk result }
-        ensures knows { OnOk result (KnowsTexts (vec_len out.new) (vec_capacity out.new) self.new) }
-        ensures entries { OnOk result ((self.new.in_index.held ≡ self.old.in_index.held + length (waiting_in self.old)) × (self.new.in_index.room ≡ self.old.in_index.room) × (self.new.in_index.is_brought ≡ self.old.in_index.is_brought)) }
+        ensures idle { Covers (told_in self.old).texts (vec_len out.old) (vec_capacity out.old) → IsOk result }
+        ensures knows { OnOk result (Covers (told_in self.new).texts (vec_len out.new) (vec_capacity out.new)) }
+        ensures entries { OnOk result (((told_in self.new).entries.held ≡ (told_in self.old).entries.held + length (waiting_in self.old)) × ((told_in self.new).entries.room ≡ (told_in self.old).entries.room)) }
         ensures err { OnErr result (out.new.items ≡ out.old.items) }
         ensures stay { OnErr result (waiting_in self.new ≡ waiting_in self.old) }
     {
         move_behind(out, &mut self.bytes)?;
-        self.in_texts = Known {
-            held: out.len(),
-            room: out.capacity(),
-            is_brought: false,
-        };
         let count = self.count;
-        self.in_index = Known {
-            held: self.in_index.held + count as usize,
-            room: self.in_index.room,
-            is_brought: self.in_index.is_brought,
+        let Known { held, room } = self.told.entries;
+        self.told = Told {
+            entries: Known {
+                held: held + count as usize,
+                room,
+            },
+            texts: Known {
+                held: out.len(),
+                room: out.capacity(),
+            },
         };
         self.first += count;
         self.count = 0;
@@ -152,26 +175,26 @@ impl PlainTail {
     }
 
     /// Learns what the log device holds and has room for, while nothing waits.
-    pub(crate) fn learn(&mut self, entries: Known, texts: Known)
+    pub(crate) fn learn(&mut self, told: Told)
         requires empty { waiting_in self.old ≡ [] }
-        requires room { (entries.held ≤ entries.room) × (texts.held ≤ texts.room) × (texts.held < 2 ^ 63) }
-        requires not_brought { (entries.is_brought ≡ false) × (texts.is_brought ≡ false) }
-        ensures known { (self.new.in_index ≡ entries) × (self.new.in_texts ≡ texts) }
+        requires room { (told.entries.held ≤ told.entries.room) × (told.texts.held ≤ told.texts.room) × (told.texts.held < 2 ^ 63) }
+        ensures told { told_in self.new ≡ told }
         ensures same { (first_of self.new ≡ first_of self.old) × (waiting_in self.new ≡ waiting_in self.old) }
     {
-        self.in_index = entries;
-        self.in_texts = texts;
+        self.told = told;
     }
 
-    /// Learns that the log device holds no more than this, behind a force.
+    /// Learns that the log device holds no more than this, after a force.
     pub(crate) fn hold_no_more(&mut self, entries: usize, texts: usize)
-        ensures entries { (held room : ℕ) → held ≤ entries → KnowsEntries held room self.old → KnowsEntries held room self.new }
-        ensures texts { (held room : ℕ) → held ≤ texts → KnowsTexts held room self.old → KnowsTexts held room self.new }
-        ensures least { (self.new.in_index.held ≤ entries) × (self.new.in_texts.held ≤ texts) }
+        ensures entries { (held room : ℕ) → held ≤ entries → Covers (told_in self.old).entries held room → Covers (told_in self.new).entries held room }
+        ensures texts { (held room : ℕ) → held ≤ texts → Covers (told_in self.old).texts held room → Covers (told_in self.new).texts held room }
+        ensures least { ((told_in self.new).entries.held ≤ entries) × ((told_in self.new).texts.held ≤ texts) }
         ensures same { (first_of self.new ≡ first_of self.old) × (waiting_in self.new ≡ waiting_in self.old) }
     {
-        self.in_index = self.in_index.no_more_than(entries);
-        self.in_texts = self.in_texts.no_more_than(texts);
+        self.told = Told {
+            entries: self.told.entries.no_more_than(entries),
+            texts: self.told.texts.no_more_than(texts),
+        };
     }
 
     /// Sees that an index has room for what waits, beside so many records that wait at the log device: by the room that was brought, if it has none.
@@ -185,18 +208,20 @@ impl PlainTail {
         ensures len { vec_len frames.new ≡ vec_len frames.old }
         ensures room { OnOk result (vec_len frames.new + (waiting + length (waiting_in self.old)) ≤ vec_capacity frames.new) }
         ensures kept { vec_capacity frames.old ≤ vec_capacity frames.new }
-        ensures idle { KnowsEntries (vec_len frames.old + waiting) (vec_capacity frames.old) self.old → IsOk result }
-        ensures knows { OnOk result (KnowsEntries (vec_len frames.new + waiting) (vec_capacity frames.new) self.new) }
+        ensures idle { Covers (told_in self.old).entries (vec_len frames.old + waiting) (vec_capacity frames.old) → IsOk result }
+        ensures knows { OnOk result (Covers (told_in self.new).entries (vec_len frames.new + waiting) (vec_capacity frames.new)) }
         ensures same { (self.new.first ≡ self.old.first) × (self.new.count ≡ self.old.count) × (self.new.waiting ≡ self.old.waiting) }
-        ensures texts { (self.new.in_texts ≡ self.old.in_texts) × (self.new.bytes ≡ self.old.bytes) }
+        ensures texts { ((told_in self.new).texts ≡ (told_in self.old).texts) × (self.new.bytes ≡ self.old.bytes) }
     {
         let count = self.count as usize;
         let more = waiting + count;
         take_entries(frames, &mut self.index, more)?;
-        self.in_index = Known {
-            held: frames.len() + waiting,
-            room: frames.capacity(),
-            is_brought: false,
+        self.told = Told {
+            entries: Known {
+                held: frames.len() + waiting,
+                room: frames.capacity(),
+            },
+            texts: self.told.texts,
         };
         Ok(())
     }
@@ -204,30 +229,23 @@ impl PlainTail {
     // Takes what the log device will need for one record more with a text of so many bytes.
     fn take_room(&mut self, len: usize) -> Result<(), AllocError>
         requires { len < 2 ^ 40 }
-        ensures entries { OnOk result (self.new.in_index.held + self.new.count < self.new.in_index.room) }
-        ensures texts { OnOk result (self.new.in_texts.held + vec_len self.new.bytes + len ≤ self.new.in_texts.room) }
+        ensures entries { OnOk result (HasRoom (told_in self.new).entries (self.new.count + 1) (vec_capacity self.new.index)) }
+        ensures texts { OnOk result (HasRoom (told_in self.new).texts (vec_len self.new.bytes + len) (vec_capacity self.new.bytes)) }
         ensures bytes { self.new.bytes.items ≡ self.old.bytes.items }
         ensures same { (self.new.first ≡ self.old.first) × (self.new.count ≡ self.old.count) × (self.new.waiting ≡ self.old.waiting) }
-        ensures keeps { KeepsRoom self.old self.new }
+        ensures told { told_in self.new ≡ told_in self.old }
     {
-        if self.in_index.room == self.in_index.held + self.count as usize {
-            let Some(wanted) = self.in_index.room.checked_add(1) else {
+        let Told { entries, texts } = self.told;
+        let count = self.count as usize + 1;
+        if !entries.has_room(count, self.index.capacity()) {
+            let Some(wanted) = entries.held.checked_add(count) else {
                 return Err(AllocError);
             };
             self.index.reserve(wanted)?;
-            self.in_index = Known {
-                held: self.in_index.held,
-                room: self.index.capacity(),
-                is_brought: true,
-            };
         }
-        if self.in_texts.room - (self.in_texts.held + self.bytes.len()) < len {
-            self.bytes.reserve(self.in_texts.held + len)?;
-            self.in_texts = Known {
-                held: self.in_texts.held,
-                room: self.bytes.capacity(),
-                is_brought: true,
-            };
+        let longer = self.bytes.len() + len;
+        if !texts.has_room(longer, self.bytes.capacity()) {
+            self.bytes.reserve(texts.held + len)?;
         }
         Ok(())
     }
@@ -255,11 +273,13 @@ impl PlainTail {
 }
 
 impl Tail for PlainTail {
-    ghost use Rattle.shore_log.specs.PlainTails.{first_of, waiting_in};
+    ghost use Rattle.shore_log.specs.PlainTails.{first_of, told_in, waiting_in};
 
     ghost first = { first_of };
 
     ghost records = { waiting_in };
+
+    ghost told = { told_in };
 
     fn push(&mut self, logged: &LogRecord) -> Result<Lsn, Fault> {
         self.take_room(encoded_len(logged))?;

@@ -104,9 +104,13 @@ impl<N: Numbers, B: Queued, R: Wait + Copy> QueueTail<N, B, R> {
 }
 
 impl<N: Numbers, B: Queued, R: Wait + Copy> Tail for QueueTail<N, B, R> {
+    ghost use Rattle.shore_queue.specs.Names.{nothing_told};
+
     ghost first = { λ t. N.first_number };
 
     ghost records = { λ t. t };
+
+    ghost told = { λ t. nothing_told };
 
     fn push(&mut self, logged: &LogRecord) -> Result<Lsn, Fault> {
         let number = self.next;

@@ -12,7 +12,7 @@ ghost use Rattle.shore_frames.specs.Frames.{joined, number_behind};
 ghost use Rattle.shore_frames.specs.Offsets.{IsFrameOf};
 ghost use Rattle.shore_frames.specs.Streams.{index_of};
 ghost use Rattle.shore_log.specs.Indexes.{AreBelow, IsInGroup, frame_with};
-ghost use Rattle.shore_log.specs.declared.tail.PlainTail.{PlainTail};
+ghost use Rattle.shore_log.specs.declared.tail.Told.{Told};
 
 use super::LogDev;
 use shore_disk::Disk;
@@ -35,7 +35,7 @@ fn anchor_behind(anchors: &Anchors, checkpoint: Lsn, tail: FrameAt) -> Anchor
 }
 
 impl<D: Disk> LogDev<D> {
-    ghost use Rattle.shore_log.specs.Settled.{FreesBelow, HasList, HoldsFrom, KnowsRoom, IsAnchored, IsCutTo, IsLeftByMove, IsSettledFrom, IsStagedFrom, LosesFront, anchor_of, cut_of_log, next_anchor, records_of_log, stable, waiting};
+    ghost use Rattle.shore_log.specs.Settled.{FreesBelow, HasList, HoldsFrom, IsSpelled, KnowsRoom, IsAnchored, IsCutTo, IsLeftByMove, IsSettledFrom, IsStagedFrom, LosesFront, anchor_of, cut_of_log, next_anchor, records_of_log, stable, waiting};
 
     /// The number of the checkpoint that the log is read with, 0 for none.
     pub fn checkpoint(&self) -> Lsn
@@ -114,7 +114,8 @@ impl<D: Disk> LogDev<D> {
         ensures same { OnErr result ((records_of_log self.new ≡ records_of_log self.old) × (self.new.forced ≡ self.old.forced) × (self.new.staged ≡ self.old.staged)) }
         ensures index { OnErr result ((self.new.frames ≡ self.old.frames) × (self.new.head ≡ self.old.head)) }
         // What a log buffer knows of its room holds still.
-        ensures knows { (t : PlainTail) → KnowsRoom self.old t → KnowsRoom self.new t }
+        ensures knows { (told : Told) → KnowsRoom self.old told → KnowsRoom self.new told }
+        ensures spelled { IsSpelled self.old → IsSpelled self.new }
         ensures only_device { IfErr result (λ fault. fault ≡ Fault.Device) }
         ensures size { size (D.history self.new.device) ≡ size (D.history self.old.device) }
         ensures honest { D.is_honest self.new.device ≡ D.is_honest self.old.device }
@@ -140,7 +141,8 @@ impl<D: Disk> LogDev<D> {
         ensures under_way { (tail place : ℕ) (front : List ℕ) (group : List LogRecord) → IsStagedFrom tail place self.old front group
             → IsStagedFrom self.new.tail.first self.new.tail.place self.new front group }
         ensures lost { LosesFront self.old self.new }
-        ensures knows { (t : PlainTail) → KnowsRoom self.old t → KnowsRoom self.new t }
+        ensures knows { (told : Told) → KnowsRoom self.old told → KnowsRoom self.new told }
+        ensures spelled { IsSpelled self.old → IsSpelled self.new }
         ensures device { self.new.device ≡ self.old.device }
     {
         let tail = self.frames[before];

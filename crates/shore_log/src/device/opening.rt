@@ -8,7 +8,7 @@ ghost use Rattle.shore_model.specs.declared.log_records.LogRecord.{LogRecord};
 ghost use Rattle.shore_gate.specs.Anchor.{Counts, MayCount, may_count, offset_of};
 ghost use Rattle.shore_frames.specs.Frames.{GivesFrom};
 ghost use Rattle.shore_frames.specs.Offsets.{IsBadAt, RefusesReading};
-ghost use Rattle.shore_log.specs.declared.tail.PlainTail.{PlainTail};
+ghost use Rattle.shore_log.specs.declared.tail.Told.{Told};
 
 use super::LogDev;
 use http_server::Log as GhostLog;
@@ -64,7 +64,7 @@ fn room_of_a_frame(alloc: Global) -> Option<Vec<u8>>
 }
 
 impl<D: Disk> LogDev<D> {
-    ghost use Rattle.shore_log.specs.Settled.{HasList, IsAnchored, IsSettledFrom, KeepsFrames, KnowsRoom, records_of_log, stable, device_of, fault_of};
+    ghost use Rattle.shore_log.specs.Settled.{HasList, IsAnchored, IsSettledFrom, IsSpelled, KeepsFrames, KnowsRoom, records_of_log, stable, device_of, fault_of};
 
     /// Opens the log of a device that is formatted, whose anchor is this one: reads its frames, from the anchor's tail on. `Damaged` at the first offset where
     /// neither a closed gate nor a whole frame stands, at the label's length if no log has that length, and at the anchor if no anchor is within the limits of this
@@ -161,7 +161,8 @@ impl<D: Disk> LogDev<D> {
             → IsBadAt self.old.tail.first self.old.tail.place (seen (D.history self.old.device)) offset }
         ensures refused { IfErr result RefusesReading }
         ensures frames { KeepsFrames self.old self.new }
-        ensures knows { (t : PlainTail) → KnowsRoom self.old t → KnowsRoom self.new t }
+        ensures knows { (told : Told) → KnowsRoom self.old told → KnowsRoom self.new told }
+        ensures spelled { IsSpelled self.old → IsSpelled self.new }
         ensures log { records_of_log self.new ≡ records_of_log self.old }
         ensures same { IsTrue (D.is_honest self.old.device) → D.history self.new.device ≡ D.history self.old.device }
         ensures honest { D.is_honest self.new.device ≡ D.is_honest self.old.device }

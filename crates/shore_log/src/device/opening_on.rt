@@ -8,7 +8,7 @@ ghost use Rattle.shore_disk.specs.Device.{LeavesOnly, size};
 ghost use Rattle.shore_model.specs.declared.log_records.LogRecord.{LogRecord};
 ghost use Rattle.shore_logrec.specs.Text.{texts};
 ghost use Rattle.shore_frames.specs.Frames.{GivesWithOrWithoutFrom, IsLongest, behind_gate};
-ghost use Rattle.shore_log.specs.declared.tail.PlainTail.{PlainTail};
+ghost use Rattle.shore_log.specs.declared.tail.Told.{Told};
 
 use super::{Durable, LogDev, Staged};
 use crate::group::{frame_bytes, texts_for};
@@ -52,7 +52,7 @@ impl<D: Disk> LogDev<D> {
         ensures tail { (self.new.tail ≡ self.old.tail) × (self.new.anchors ≡ self.old.anchors) }
         ensures list { HasList self.old → HasList self.new }
         // What a log buffer knows of its room holds still.
-        ensures knows { (t : PlainTail) → KnowsRoom self.old t → KnowsRoom self.new t }
+        ensures knows { (told : Told) → KnowsRoom self.old told → KnowsRoom self.new told }
         ensures only_device { IfErr result (λ fault. fault ≡ Fault.Device) }
         ensures unforced { OnErr result (stable self.new ≡ stable self.old) }
         ensures size { size (D.history self.new.device) ≡ size (D.history self.old.device) }
@@ -89,7 +89,7 @@ impl<D: Disk> LogDev<D> {
         ensures same { records_of_log self.new ≡ records_of_log self.old }
         ensures tail { (self.new.tail ≡ self.old.tail) × (self.new.anchors ≡ self.old.anchors) }
         ensures list { HasList self.old → HasList self.new }
-        ensures knows { (t : PlainTail) → KnowsRoom self.old t → KnowsRoom self.new t }
+        ensures knows { (told : Told) → KnowsRoom self.old told → KnowsRoom self.new told }
         ensures spelled { IsSpelled self.old → IsSpelled self.new }
         ensures only_device { IfErr result (λ fault. fault ≡ Fault.Device) }
         ensures unforced { OnErr result (stable self.new ≡ stable self.old) }
@@ -133,7 +133,7 @@ impl<D: Disk> LogDev<D> {
         ensures listed { IfSome result (λ _. vec_len self.new.frames + 1 < vec_capacity self.new.frames) }
         ensures none { IsSpelled self.old → result ≡ None → (drop staged.count (waiting self.new) ≡ []) ⊎ HasNoRoomAfter self.new staged }
         ensures texts { IsSpelled self.old → IsSpelled self.new }
-        ensures knows { (t : PlainTail) → KnowsRoom self.old t → KnowsRoom self.new t }
+        ensures knows { (told : Told) → KnowsRoom self.old told → KnowsRoom self.new told }
     {
         let (count, len) = self.next_group(staged.count, staged.len);
         if count == 0 {

@@ -3,16 +3,16 @@ ghost use Rattle.std.specs.Prelude.{◌≡◌, []};
 
 use super::LogDev;
 use crate::PlainTail;
-use crate::tail::Known;
+use crate::tail::{Known, Told};
 use shore_disk::Disk;
 
 impl<D: Disk> LogDev<D> {
-    ghost use Rattle.shore_log.specs.PlainTails.{first_of, waiting_in};
+    ghost use Rattle.shore_log.specs.PlainTails.{first_of, told_in, waiting_in};
     ghost use Rattle.shore_log.specs.Settled.{IsSpelled, KnowsRoom};
 
     /// Tells a log buffer what there is room for; nothing as long as a record waits there, or here one that `take` took.
     pub fn tell_room(&self, tail: &mut PlainTail)
-        ensures knows { waiting_in tail.old ≡ [] → IsSpelled self.now → KnowsRoom self.now tail.new }
+        ensures knows { waiting_in tail.old ≡ [] → IsSpelled self.now → KnowsRoom self.now (told_in tail.new) }
         ensures same { (first_of tail.new ≡ first_of tail.old) × (waiting_in tail.new ≡ waiting_in tail.old) }
     {
         if !tail.is_empty() || !self.is_spelled() {
@@ -21,19 +21,17 @@ impl<D: Disk> LogDev<D> {
         let entries = Known {
             held: self.frames.len() + (self.count - self.forced),
             room: self.frames.capacity(),
-            is_brought: false,
         };
         let texts = Known {
             held: self.bytes.len(),
             room: self.bytes.capacity(),
-            is_brought: false,
         };
-        tail.learn(entries, texts);
+        tail.learn(Told { entries, texts });
     }
 
-    /// Tells a log buffer how little is held behind a force.
+    /// Tells a log buffer how little is held after a force.
     pub fn tell_left(&self, tail: &mut PlainTail)
-        ensures knows { KnowsRoom self.now tail.old → KnowsRoom self.now tail.new }
+        ensures knows { KnowsRoom self.now (told_in tail.old) → KnowsRoom self.now (told_in tail.new) }
         ensures same { (first_of tail.new ≡ first_of tail.old) × (waiting_in tail.new ≡ waiting_in tail.old) }
     {
         let waiting = self.count - self.forced;

@@ -500,7 +500,7 @@ returns-clause-knows g c = λ t k.
     let waits_new = length-drop (old.forced - gone) (drop (old.gone + gone) all) in (
       (
         omega (arith, k.0.0, waits_old, waits_new, inside, kept_long, here, from, h.to, c.rotate_left.ensures.len, c.truncate.ensures.len),
-        λ no. omega (arith, k.0.1 no, c.rotate_left.ensures.capacity, c.truncate.ensures.capacity),
+        omega (arith, k.0.1, c.rotate_left.ensures.capacity, c.truncate.ensures.capacity),
       ),
       k.1,
     )

@@ -1,5 +1,4 @@
 use Rattle.std.proofs.Common.{◌≡◌, ◌+◌, List, [], IsTrue, length, refl, sym, subst, ap, ◌∙◌, arith}
-use Rattle.std.proofs.lemmas.Bool.{true≢false}
 use Rattle.shore_model.specs.declared.log_records.LogRecord.{LogRecord}
 use Rattle.shore_logrec.specs.Text.{texts}
 use Rattle.shore_frames.specs.LoggedRecords.{are_numbered}
@@ -17,10 +16,8 @@ invariant_of-self-2 c =
       spelled = c.in_ok-move_behind.ensures.ok.1 ∙ ap texts (sym none);
       no_entry = old.no_entry;
       index_room = let room = old.index_room in omega (arith, room);
-      index_brought = old.index_brought;
       texts_room = omega (arith, c.len.ensures, c.capacity.ensures, c.move_behind.new.out.ok.1, c.move_behind.new.more.ok.0, ap length c.in_ok-move_behind.ensures.ok.1);
       texts_short = omega (arith, c.len.ensures, c.move_behind.new.out.ok.1, c.move_behind.new.out.small);
-      texts_brought = λ is. absurd (true≢false (sym is));
     }
 
 pub invariant_of-self : goal.invariant_of-self
@@ -33,8 +30,6 @@ invariant_of-self c =
       spelled = c.in_err-move_behind.ensures.err.1 ∙ old.spelled;
       no_entry = old.no_entry;
       index_room = old.index_room;
-      index_brought = old.index_brought;
-      texts_room = omega (arith, old.texts_room, c.move_behind.new.more.ok.0, old.bytes.ok.0, ap length c.in_err-move_behind.ensures.err.1);
+      texts_room = omega (arith, old.texts_room, c.move_behind.new.more.ok.0, old.bytes.ok.0, ap length c.in_err-move_behind.ensures.err.1, c.in_err-move_behind.ensures.left);
       texts_short = old.texts_short;
-      texts_brought = λ is. omega (arith, old.texts_brought is, c.in_err-move_behind.ensures.left);
     }

@@ -23,11 +23,9 @@ invariant_of-self-2 c =
       few = omega (arith, c.requires.numbers, old.counted, same.0, long);
       spelled = c.in_ok-encode.ensures.ok ∙ ap (λ (l : List ℕ). l ++ text r) old.spelled ∙ sym (texts-push all r) ∙ ap texts (sym more);
       no_entry = old.no_entry;
-      index_room = omega (arith, c.in_ok-take_room.ensures.entries);
-      index_brought = old.index_brought;
-      texts_room = omega (arith, c.in_ok-take_room.ensures.texts, ap length c.in_ok-encode.ensures.ok, length-append old.bytes.items (text r), c.encode.new.out.ok.0, old.bytes.ok.0, c.encoded_len.ensures.len);
+      index_room = c.in_ok-take_room.ensures.entries;
+      texts_room = omega (arith, c.in_ok-take_room.ensures.texts, ap length c.in_ok-encode.ensures.ok, length-append old.bytes.items (text r), c.encode.new.out.ok.0, old.bytes.ok.0, c.encoded_len.ensures.len, c.in_ok-encode.ensures.capacity);
       texts_short = old.texts_short;
-      texts_brought = λ is. omega (arith, old.texts_brought is, c.in_ok-encode.ensures.capacity);
     }
 
 pub returns-clause-added : goal.returns-clause-added
