@@ -1,5 +1,5 @@
 -- What calls one after another keep of the volume.
-use Rattle.std.proofs.Common.{◌≡◌, ◌∙◌, sym, subst}
+use Rattle.std.proofs.Common.{◌≡◌, ◌∙◌, ap, sym, subst}
 use Rattle.shore_disk.specs.declared.device.Disk as disk
 use Rattle.shore_disk.specs.Device.{DeviceHistory, LeavesOnly}
 use Rattle.shore_log.specs.declared.tail.Tail as tail
@@ -9,6 +9,10 @@ use Rattle.shore_heap.specs.Contents.{unclaimed}
 use Rattle.shore_heap.specs.Heaps.{LeavesPages}
 use Rattle.shore_core.specs.Cores.{durable_of, heap_of, history_of}
 use Rattle.shore_core.specs.Replies.{Keeps, MayLeave}
+
+-- two that are the same in both parts
+pub both : {A B : Type 0} {a b : A} {x y : B} → a ≡ b → x ≡ y → ◌≡◌ {A = A × B} (a, x) (b, y)
+both {b = b} {x = x} one two = ap (λ a. (a, x)) one ∙ ap (λ x. (b, x)) two
 
 module _ {T V : Type 0} {G : tail.Ghosts T} {H : disk.Ghosts V} where
   -- two calls that keep what no call changes

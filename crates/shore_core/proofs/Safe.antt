@@ -167,7 +167,7 @@ module _ {T V : Type 0} {G : tail.Ghosts T} {H : disk.Ghosts V} (mid new : Core 
     };
     durable = same.durable;
     failed = same.failed;
-    first = ap G.first same.tail;
+    first = ap (λ t. (G.first t, G.told t)) same.tail;
   }
 
 -- who has a record locked for writing is alone there

@@ -24,7 +24,7 @@ use Rattle.shore_heap.specs.Heaps.{pool_of}
 use Rattle.laws_calls.specs.CallSteps.{RefusesEarly, RefusesGranule, RefusesId, RefusesLock}
 use Rattle.shore_sessions.specs.Noting.{IsOfNoDevice}
 use Rattle.shore_core.specs.declared.core_calls.Core.{Core}
-use Rattle.shore_core.specs.Cores.{durable_of, faults_of, first_of, geometry_of, has_failed, heap_of, last_of, tail_of}
+use Rattle.shore_core.specs.Cores.{begins_of, durable_of, faults_of, geometry_of, has_failed, heap_of, last_of, tail_of}
 use Rattle.shore_core.specs.Replies.{IsEarned, Keeps, MakesNoCall, NeedsForceIn, OnlyLocks, Serves, ServesCall, fault_at}
 use Rattle.shore_core.proofs.Earning.{earned_as}
 use Rattle.shore_core.proofs.Forcing.{forced_as}
@@ -146,7 +146,7 @@ module _ {T V : Type 0} {G : tail.Ghosts T} {H : disk.Ghosts V} where
   -- ---- no call of the device
 
   -- the pages are where they were
-  pub nothing_called : (old new : Core T V G H) → heap_of new ≡ heap_of old → durable_of new ≡ durable_of old → first_of new ≡ first_of old → has_failed new ≡ has_failed old → MakesNoCall old new
+  pub nothing_called : (old new : Core T V G H) → heap_of new ≡ heap_of old → durable_of new ≡ durable_of old → begins_of new ≡ begins_of old → has_failed new ≡ has_failed old → MakesNoCall old new
   nothing_called old new heap durable first failed = record {
     keeps = record {
       volume = record { geometry = ap (λ h. heaps.geometry_of h) heap; honest = ap (λ h. heaps.honesty_of h) heap; size = ap (λ h. size (heaps.history_of h)) heap };
@@ -159,7 +159,7 @@ module _ {T V : Type 0} {G : tail.Ghosts T} {H : disk.Ghosts V} where
   }
 
   -- .. or at least their device
-  pub device_alone : (old new : Core T V G H) → heaps.device_of (heap_of new) ≡ heaps.device_of (heap_of old) → durable_of new ≡ durable_of old → first_of new ≡ first_of old → has_failed new ≡ has_failed old
+  pub device_alone : (old new : Core T V G H) → heaps.device_of (heap_of new) ≡ heaps.device_of (heap_of old) → durable_of new ≡ durable_of old → begins_of new ≡ begins_of old → has_failed new ≡ has_failed old
       → MakesNoCall old new
   device_alone old new device durable first failed = record {
     keeps = record {
@@ -197,7 +197,7 @@ module _ {T V : Type 0} {G : tail.Ghosts T} {H : disk.Ghosts V} where
 
   -- .. for the pages are where they were
   pub serves_still : {A : Type 0} (IsRead : PageId → Type 0) (at old new : Core T V G H) (r : Result A Fault) → heap_of new ≡ heap_of old → durable_of new ≡ durable_of old
-      → first_of new ≡ first_of old → has_failed new ≡ has_failed old → IfErr r IsAside → Serves IsRead at r old new
+      → begins_of new ≡ begins_of old → has_failed new ≡ has_failed old → IfErr r IsAside → Serves IsRead at r old new
   serves_still IsRead at old new r heap durable first failed aside = serves_alone IsRead at old new r (nothing_called old new heap durable first failed) aside
 
   -- a fault is handed on
@@ -251,13 +251,13 @@ module _ {T V : Type 0} {G : tail.Ghosts T} {H : disk.Ghosts V} where
   pub call_alone : (IsRead : PageId → Type 0) (at old new : Core T V G H) (r : Result Step Fault) → MakesNoCall old new → IfErr r IsAside → IfOk r (λ step. fault_at step ≡ Ok tt) → ServesCall IsRead at r old new
   call_alone IsRead at old new r none aside plain = record { beside = serves_alone IsRead at old new r none aside; failed = none.keeps.failed; plain = plain }
 
-  pub call_still : (IsRead : PageId → Type 0) (at old new : Core T V G H) (r : Result Step Fault) → heap_of new ≡ heap_of old → durable_of new ≡ durable_of old → first_of new ≡ first_of old
+  pub call_still : (IsRead : PageId → Type 0) (at old new : Core T V G H) (r : Result Step Fault) → heap_of new ≡ heap_of old → durable_of new ≡ durable_of old → begins_of new ≡ begins_of old
       → has_failed new ≡ has_failed old → IfErr r IsAside → IfOk r (λ step. fault_at step ≡ Ok tt) → ServesCall IsRead at r old new
   call_still IsRead at old new r heap durable first failed aside plain = call_alone IsRead at old new r (nothing_called old new heap durable first failed) aside plain
 
   -- .. and hands a refusal on
   pub refused_still : (IsRead : PageId → Type 0) (at old new : Core T V G H) (r : Result Step Fault) (f : Fault) → IsErrAnd r (λ e. e ≡ f) → heap_of new ≡ heap_of old → durable_of new ≡ durable_of old
-      → first_of new ≡ first_of old → has_failed new ≡ has_failed old → IsAside f → ServesCall IsRead at r old new
+      → begins_of new ≡ begins_of old → has_failed new ≡ has_failed old → IsAside f → ServesCall IsRead at r old new
   refused_still IsRead at old new r f same heap durable first failed aside =
       call_still IsRead at old new r heap durable first failed (aside_as r f same aside) (none_answered (λ step. fault_at step ≡ Ok tt) r f same)
 
@@ -295,7 +295,7 @@ module _ {T V : Type 0} {G : tail.Ghosts T} {H : disk.Ghosts V} where
       size = ap (λ h. size (heaps.history_of h)) heap ∙ serves.volume.size;
     };
     durable = durable ∙ serves.durable;
-    first = ap G.first tail ∙ serves.first;
+    first = ap (λ t. (G.first t, G.told t)) tail ∙ serves.first;
     any_moment = leaves_then old mid new serves.any_moment (ap (λ h. heaps.history_of h) heap);
     damaged = serves.damaged;
     forced = serves.forced;

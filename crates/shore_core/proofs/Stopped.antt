@@ -36,7 +36,7 @@ use Rattle.laws_calls.specs.StateChanges.{after_refusal, decision_waiting}
 use Rattle.laws_calls.specs.States.{DoesNotWait, State}
 use Rattle.shore_core.specs.declared.core_calls.Core.{Core}
 use Rattle.shore_core.specs.Callers.{MayPutBack}
-use Rattle.shore_core.specs.Cores.{CoreComesTo, IsSafe, durable_of, faults_of, first_of, geometry_of, has_failed, heap_of, last_of}
+use Rattle.shore_core.specs.Cores.{CoreComesTo, IsSafe, begins_of, durable_of, faults_of, geometry_of, has_failed, heap_of, last_of}
 use Rattle.shore_core.specs.Replies.{MakesNoCall, Replied, Serves}
 use Rattle.shore_core.specs.Resolving.{AnswersRollback, ComesBut}
 use Rattle.shore_core.specs.Undoing.{Rewinds, Unwinds}
@@ -178,7 +178,7 @@ none_less n = omega arith
 -- ---- what stands beside its answer
 
 -- what has changed before a call that makes no call of the device is nothing of the pages
-pub no_call_behind : {T V : Type 0} {G : tail.Ghosts T} {H : disk.Ghosts V} (old mid new : Core T V G H) → MakesNoCall mid new → heap_of mid ≡ heap_of old → durable_of mid ≡ durable_of old → first_of mid ≡ first_of old
+pub no_call_behind : {T V : Type 0} {G : tail.Ghosts T} {H : disk.Ghosts V} (old mid new : Core T V G H) → MakesNoCall mid new → heap_of mid ≡ heap_of old → durable_of mid ≡ durable_of old → begins_of mid ≡ begins_of old
     → has_failed mid ≡ has_failed old → MakesNoCall old new
 no_call_behind old mid new after heap durable first failed = no_call_then old mid new (nothing_called old mid heap durable first failed) after
 

@@ -4,6 +4,7 @@ use Rattle.std.specs.Prelude.{◌≡◌, ◌+◌, ◌-◌, ℕ, List, Bool, fals
 use Rattle.shore_disk.specs.Device.{DeviceHistory, may_leave}
 use Rattle.shore_disk.specs.declared.device.Disk as disk
 use Rattle.shore_log.specs.declared.tail.Tail as tail
+use Rattle.shore_log.specs.declared.tail.Told.{Told}
 use Rattle.shore_types.specs.declared.layout.Geometry.{Geometry}
 use Rattle.shore_model.specs.declared.log_records.LogRecord.{LogRecord}
 use Rattle.shore_heap.specs.declared.heap.Heap.{Heap}
@@ -68,6 +69,14 @@ module _ {T V : Type 0} {G : tail.Ghosts T} {H : disk.Ghosts V} where
   -- the number of the first of them
   abbrev pub first_of : Core T V G H → ℕ
   first_of core = G.first core.tail
+
+  -- what the log buffer was told of the log device
+  abbrev pub told_of : Core T V G H → Told
+  told_of core = G.told core.tail
+
+  -- both: no push changes them
+  abbrev pub begins_of : Core T V G H → ℕ × Told
+  begins_of core = (first_of core, told_of core)
 
   -- the number of the log's last record
   abbrev pub last_of : Core T V G H → ℕ

@@ -46,7 +46,7 @@ use Rattle.shore_path.specs.Acquires.{IsReached}
 use Rattle.shore_path.specs.declared.answers.Acquired.{Acquired}
 use Rattle.shore_path.specs.declared.answers.Acquired.TheVariants as acquire
 use Rattle.shore_core.specs.declared.core_calls.Core.{Core}
-use Rattle.shore_core.specs.Cores.{CoreComesTo, FailsOver, IsBeside, IsIn, IsOver, IsSafe, durable_of, faults_of, first_of, geometry_of, has_failed, heap_of, history_of, last_of, control_of, tail_of, txns_of, waits_of}
+use Rattle.shore_core.specs.Cores.{CoreComesTo, FailsOver, IsBeside, IsIn, IsOver, IsSafe, begins_of, durable_of, faults_of, geometry_of, has_failed, heap_of, history_of, last_of, control_of, tail_of, txns_of, waits_of}
 
 -- ---- faults of the volume
 
@@ -145,7 +145,7 @@ module _ {T V : Type 0} {G : tail.Ghosts T} {H : disk.Ghosts V} where
     pub volume : SameVolume old new
     pub durable : durable_of new ≡ durable_of old
     pub failed : has_failed new ≡ has_failed old
-    pub first : first_of new ≡ first_of old
+    pub first : begins_of new ≡ begins_of old
 
   -- a call that has read pages at most, for which others may have been written back: all else is what it was
   pub record OnlyReads (old new : Core T V G H) : Type 0 where
@@ -261,7 +261,7 @@ module _ {T V : Type 0} {G : tail.Ghosts T} {H : disk.Ghosts V} where
   pub record Serves {A : Type 0} (IsRead : PageId → Type 0) (at : Core T V G H) (result : Result A Fault) (old new : Core T V G H) : Type 0 where
     pub volume : SameVolume old new
     pub durable : durable_of new ≡ durable_of old
-    pub first : first_of new ≡ first_of old
+    pub first : begins_of new ≡ begins_of old
     pub any_moment : MayLeave old new
     pub damaged : Earns old IsRead result
     pub forced : NeedsForceIn old at result

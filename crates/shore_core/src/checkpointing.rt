@@ -38,7 +38,7 @@ pub enum CheckpointStep {
 }
 
 impl<T: Tail, V: Disk> Core<T, V> {
-    ghost use Rattle.shore_core.specs.Cores.{durable_of, first_of, has_failed, heap_of, txns_of, waiting_of};
+    ghost use Rattle.shore_core.specs.Cores.{durable_of, first_of, has_failed, heap_of, told_of, txns_of, waiting_of};
     ghost use Rattle.shore_core.specs.Checkpointing.{Begins, HasKept, IsFullFor, IsReady, IsRoomyFor, MakesStep, MayGoOn, MovesTo, StepsCheckpoint, sums_of, with_store};
     ghost use Rattle.shore_core.specs.Replies.{InEach};
 
@@ -66,6 +66,7 @@ impl<T: Tail, V: Disk> Core<T, V> {
         ensures heap { heap_of self.new ≡ heap_of self.old }
         ensures durable { durable_of self.new ≡ durable_of self.old }
         ensures first { first_of self.new ≡ first_of self.old }
+        ensures told { told_of self.new ≡ told_of self.old }
         ensures running { has_failed self.new ≡ has_failed self.old }
         ensures ring { (room_in (txns_of self.new)).stream_bytes ≡ (room_in (txns_of self.old)).stream_bytes }
 
@@ -112,6 +113,7 @@ impl<T: Tail, V: Disk> Core<T, V> {
         ensures heap { heap_of self.new ≡ heap_of self.old }
         ensures durable { durable_of self.new ≡ durable_of self.old }
         ensures first { first_of self.new ≡ first_of self.old }
+        ensures told { told_of self.new ≡ told_of self.old }
         ensures running { has_failed self.new ≡ has_failed self.old }
         ensures ring { (room_in (txns_of self.new)).stream_bytes ≡ (room_in (txns_of self.old)).stream_bytes }
         ensures busy { result ≢ Step.Nothing }
@@ -150,6 +152,7 @@ impl<T: Tail, V: Disk> Core<T, V> {
         ensures heap { heap_of self.new ≡ heap_of self.old }
         ensures durable { durable_of self.new ≡ durable_of self.old }
         ensures first { first_of self.new ≡ first_of self.old }
+        ensures told { told_of self.new ≡ told_of self.old }
         ensures running { has_failed self.new ≡ has_failed self.old }
         ensures ring { (room_in (txns_of self.new)).stream_bytes ≡ (room_in (txns_of self.old)).stream_bytes }
         ensures refused { IfErr result (λ f. (f ≡ Fault.Memory) ⊎ (f ≡ Fault.LogFull) ⊎ (f ≡ Fault.TooManyTransactions)) }
@@ -198,6 +201,7 @@ impl<T: Tail, V: Disk> Core<T, V> {
         ensures heap { heap_of self.new ≡ heap_of self.old }
         ensures durable { durable_of self.new ≡ durable_of self.old }
         ensures first { first_of self.new ≡ first_of self.old }
+        ensures told { told_of self.new ≡ told_of self.old }
         ensures running { has_failed self.new ≡ has_failed self.old }
         ensures ring { (room_in (txns_of self.new)).stream_bytes ≡ (room_in (txns_of self.old)).stream_bytes }
         ensures busy { result ≢ Step.Nothing }
@@ -229,6 +233,7 @@ impl<T: Tail, V: Disk> Core<T, V> {
         ensures heap { heap_of self.new ≡ heap_of self.old }
         ensures durable { durable_of self.new ≡ durable_of self.old }
         ensures first { first_of self.new ≡ first_of self.old }
+        ensures told { told_of self.new ≡ told_of self.old }
         ensures running { has_failed self.new ≡ has_failed self.old }
         ensures ring { (room_in (txns_of self.new)).stream_bytes ≡ (room_in (txns_of self.old)).stream_bytes }
         ensures quiet { result ≡ Step.Nothing → (self.new ≡ self.old) × (stage.new ≡ Stage.Ended ended) }
@@ -260,6 +265,7 @@ impl<T: Tail, V: Disk> Core<T, V> {
         ensures heap { heap_of self.new ≡ heap_of self.old }
         ensures durable { durable_of self.new ≡ durable_of self.old }
         ensures first { first_of self.new ≡ first_of self.old }
+        ensures told { told_of self.new ≡ told_of self.old }
         ensures waiting { waiting_of self.new ≡ waiting_of self.old }
         ensures running { has_failed self.new ≡ has_failed self.old }
         ensures ring { (room_in (txns_of self.new)).stream_bytes ≡ (room_in (txns_of self.old)).stream_bytes }

@@ -5,8 +5,6 @@ ghost use Rattle.shore_sessions.specs.declared.waits.WaitingCall.{WaitingCall};
 use crate::core_calls::Core;
 use shore_disk::Disk;
 use shore_log::Tail;
-use shore_model::Wait;
-use shore_sessions::WaitingCall;
 use shore_types::SessionId;
 
 impl<T: Tail, V: Disk> Core<T, V> {
@@ -20,19 +18,12 @@ impl<T: Tail, V: Disk> Core<T, V> {
         ensures first { IfSome result (λ r. (from ≤ r.1) × NoneLetThrough self.now from r.1) }
         ensures none { IfNone result (NoneLetThrough self.now from (length (waits_of self.now))) }
     {
-        let calls = self.control.calls();
-        for place in from..calls.len() {
-            if self.is_let_through(&calls[place]) {
-                return Some((calls[place].session, place));
-            }
-        }
-        None
-    }
-
-    fn is_let_through(&self, waiting: &WaitingCall) -> bool
-        ensures { IsTrue result ↔ IsLetThrough self.now waiting.now }
-    {
-        self.failed
-            || (matches!(waiting.wait, Wait::Lock(_)) && !self.control.is_waiting(waiting.txn))
+        let place = if self.failed {
+            from
+        } else {
+            self.control.next_let_through(from)?
+        };
+        let waiting = self.control.calls().get(place)?;
+        Some((waiting.session, place))
     }
 }

@@ -7,7 +7,7 @@ ghost use Rattle.shore_types.specs.declared.layout.TheConstants.{LAST_OPENED};
 ghost use Rattle.shore_disk.specs.Cause.{HasCause};
 ghost use Rattle.shore_disk.specs.Device as devices;
 ghost use Rattle.shore_log.specs.PlainTails.{first_of, waiting_in};
-ghost use Rattle.shore_log.specs.Settled.{cut_of_log, records_of_log, stable};
+ghost use Rattle.shore_log.specs.Settled.{IsSpelled, cut_of_log, records_of_log, stable};
 ghost use Rattle.shore_model.specs.declared.log_records.LogRecord.{LogRecord};
 ghost use Rattle.shore_queue.specs.Queues.{ends};
 ghost use Rattle.shore_words.specs.Words.{known, looker};
@@ -291,6 +291,7 @@ impl<N: Numbers, B: Named, L: Disk> LogHeld<N, B, L> {
         ensures log { (result.anchors ≡ self.anchors) × (cut_of_log result ≡ self.cut) × (stable result ≡ self.stable) × (self.list ≡ records_of_log result ++ self.waits)
             × (L.Disk.history result.device ≡ self.history) }
         ensures long { devices.size (L.Disk.history result.device) ≡ B.log_bytes }
+        ensures spelled { self.textless ≡ 0 → IsSpelled result }
         ensures kept { (start : Beginning) → B.honest start → ∥ IsKept B.geometry B.log_bytes result self.failed self.aim ∥₁ }
     {
         self.log

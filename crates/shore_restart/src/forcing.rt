@@ -1,5 +1,5 @@
 //! The force of the records of undo.
-ghost use Rattle.std.specs.Prelude.{◌≡◌, ◌⊎◌, ◌<◌, [], ℕ, List, IfErr, IfOk, IsFalse, IsTrue, None, length};
+ghost use Rattle.std.specs.Prelude.{◌≡◌, ◌⊎◌, ◌<◌, [], ℕ, List, IfErr, IfOk, IsFalse, IsTrue, None, OnOk, length};
 ghost use Rattle.shore_disk.specs.Cause.{HasCause};
 ghost use Rattle.shore_gate.specs.declared.anchors.Anchor.{Anchor};
 ghost use Rattle.shore_disk.specs.Device.{DeviceHistory, may_leave};
@@ -31,6 +31,7 @@ pub fn force<L: Disk>(alloc: Global, log: &mut LogDev<L>) -> Result<(), RestartE
     ensures log_device { (log_front : List ℕ) → IsQuiet log_front log.old → StaysQuiet result log_front log.old log.new }
     ensures same { records_of_log log.new ≡ records_of_log log.old }
     ensures log { SameLog log.old log.new }
+    ensures forced { OnOk result (log.old.staged ≡ None → (log.new.staged ≡ None) × (waiting log.new ≡ [])) }
     ensures cause { HasCause (log_answer result) (log_faults log.old) (log_faults log.new) }
 {
     while force_frame(alloc, log)? {}
@@ -49,6 +50,7 @@ fn force_frame<L: Disk>(alloc: Global, log: &mut LogDev<L>) -> Result<bool, Rest
     ensures log_device { (log_front : List ℕ) → IsQuiet log_front log.old → StaysQuiet result log_front log.old log.new }
     ensures same { records_of_log log.new ≡ records_of_log log.old }
     ensures log { SameLog log.old log.new }
+    ensures unstaged { OnOk result (log.old.staged ≡ None → log.new.staged ≡ None) }
     ensures cause { HasCause (log_answer result) (log_faults log.old) (log_faults log.new) }
 {
     match log.append_frame(alloc) {

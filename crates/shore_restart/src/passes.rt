@@ -1,5 +1,5 @@
 //! The passes of a restart over its two devices: analysis, redo, undo, and the force of undo's records.
-ghost use Rattle.std.specs.Prelude.{◌≡◌, ◌≢◌, ◌⊎◌, ◌<◌, ◌≤◌, [], ℕ, List, IfErr, IfOk, OnOk, length};
+ghost use Rattle.std.specs.Prelude.{◌≡◌, ◌≢◌, ◌⊎◌, ◌<◌, ◌≤◌, [], ℕ, List, IfErr, IfOk, None, OnOk, length};
 ghost use Rattle.shore_disk.specs.Cause.{HasCause};
 ghost use Rattle.shore_gate.specs.declared.anchors.Anchor.{Anchor};
 ghost use Rattle.shore_model.specs.Logs.{IsTable};
@@ -7,7 +7,7 @@ ghost use Rattle.shore_types.specs.Layout.{LocksInLimits};
 ghost use Rattle.shore_types.specs.declared.layout.TheConstants.{LAST_OPENED};
 ghost use Rattle.shore_types.specs.declared.faults.Fault.{Fault};
 ghost use Rattle.shore_types.specs.declared.faults.Fault.TheVariants as Fault;
-ghost use Rattle.shore_log.specs.Settled.{cut_of_log, records_of_log};
+ghost use Rattle.shore_log.specs.Settled.{cut_of_log, records_of_log, waiting};
 ghost use Rattle.shore_heap.specs.Heaps.{faults_of, geometry_of};
 ghost use Rattle.shore_sessions.specs.Controls.{txns_in};
 ghost use Rattle.shore_txn.specs.Transactions.{next_in, room_in};
@@ -113,6 +113,7 @@ pub fn run_passes<L: Disk, V: Disk>(
         → OnOk result (NoneMisfitsOn (geometry_of heap.old) first (log_seen log.old) (due_seen (redo_table (end_among checkpoint (records_of_log log.old))) (cut_of_log log.old) (records_of_log log.old)) (log_seen log.new)) }
     ensures volume { SameVolume heap.old heap.new }
     ensures log { SameLog log.old log.new }
+    ensures forced { OnOk result (log.old.staged ≡ None → waiting log.new ≡ []) }
     ensures volume_cause { HasCause (volume_answer result) (faults_of heap.old) (faults_of heap.new) }
     ensures log_cause { HasCause (log_answer result) (log_faults log.old) (log_faults log.new) }
 {

@@ -1,11 +1,11 @@
 //! A restart, from what an open has found to a core.
-ghost use Rattle.std.specs.Prelude.{◌≡◌, ◌≢◌, ◌⊎◌, ◌<◌, ◌≤◌, ◌+◌, [], ℕ, List, IfErr, IfOk, OnOk, length};
+ghost use Rattle.std.specs.Prelude.{◌≡◌, ◌≢◌, ◌⊎◌, ◌<◌, ◌≤◌, ◌+◌, [], ℕ, List, IfErr, IfOk, None, OnOk, length};
 ghost use Rattle.shore_disk.specs.Cause.{HasCause};
 ghost use Rattle.shore_gate.specs.declared.anchors.Anchor.{Anchor};
 ghost use Rattle.shore_types.specs.Layout.{LocksInLimits};
 ghost use Rattle.shore_types.specs.declared.faults.Fault.{Fault};
 ghost use Rattle.shore_types.specs.declared.faults.Fault.TheVariants as Fault;
-ghost use Rattle.shore_log.specs.Settled.{cut_of_log, records_of_log, stable};
+ghost use Rattle.shore_log.specs.Settled.{IsSpelled, cut_of_log, records_of_log, stable};
 ghost use Rattle.shore_heap.specs.Heaps.{faults_of, geometry_of};
 ghost use Rattle.shore_core.specs.Cores.{control_of, durable_of, first_of, waiting_of};
 ghost use Rattle.laws_lives.specs.Recovery.{RecoveryState};
@@ -86,6 +86,7 @@ pub fn restart<L: Disk, V: Disk>(
         → IfErr result (λ refused. (f : Fault) → refused.0 ≡ RestartError.Page f → IsPageFault (geometry_of heap) (MayRead (cut_of_log log.old) checkpoint (records_of_log log.old)) disk (length (log_seen log.old)) f) }
     // The core's buffer is empty and begins behind the log, all of which is durable: any core.
     ensures waiting { IfOk result (λ done. waiting_of done.0 ≡ []) }
+    ensures spelled { OnOk result (log.old.staged ≡ None → IsSpelled log.new) }
     ensures numbers { IfOk result (λ done. (first_of done.0 ≡ 1 + length (log_seen log.new)) × (durable_of done.0 ≡ cut_of_log log.new + length (stable log.new))) }
     // Its room is that of the log device's stream: any core. The log leaves room in that, and numbers, beside what those in doubt have reserved.
     ensures room { OnOk result (LeavesRoom (cut_of_log log.new) (records_of_log log.new) (stream_bytes_of log.new)) }

@@ -1,5 +1,5 @@
 //! Undo: the losers' turns, a record of undo in each (ARIES: the undo pass).
-ghost use Rattle.std.specs.Prelude.{◌≡◌, ◌≢◌, ◌<◌, ◌≤◌, ◌++◌, ◌+◌, ◌∷◌, ◌↔◌, [], ℕ, List, Err, IfErr, IfOk, IsFalse, IsSome, IsTrue, OnOk, Some, is_some, length};
+ghost use Rattle.std.specs.Prelude.{◌≡◌, ◌≢◌, ◌<◌, ◌≤◌, ◌++◌, ◌+◌, ◌∷◌, ◌↔◌, [], ℕ, List, Err, IfErr, IfOk, IsFalse, IsSome, IsTrue, None, OnOk, Some, is_some, length};
 ghost use Rattle.shore_disk.specs.Cause.{HasCause};
 ghost use Rattle.shore_gate.specs.declared.anchors.Anchor.{Anchor};
 ghost use Rattle.shore_types.specs.Layout.{HasPage, HasSlot};
@@ -11,7 +11,7 @@ ghost use Rattle.shore_model.specs.Logs.{id_in, image_in, unanswered};
 ghost use Rattle.shore_page.specs.Room.{Fits};
 ghost use Rattle.shore_types.specs.Images.{image_len};
 ghost use Rattle.shore_heap.specs.Heaps.{faults_of, frame_of, geometry_of};
-ghost use Rattle.shore_log.specs.Settled.{HasRecordRoom, cut_of_log, records_of_log};
+ghost use Rattle.shore_log.specs.Settled.{HasRecordRoom, cut_of_log, records_of_log, waiting};
 ghost use Rattle.laws_lives.specs.Recovery.{RecoveryState};
 ghost use Rattle.laws_lives.specs.Undo.{HasNoLosers, undo_payload, undo_record};
 ghost use Rattle.shore_analysis.specs.Padded.{padded};
@@ -87,6 +87,7 @@ impl Undo {
             → AllFindRoom (geometry_of heap.old) first due → OnOk result (AllFindRoom (geometry_of heap.old) first (gone_on due (log_seen log.old) (log_seen log.new))) }
         ensures volume { SameVolume heap.old heap.new }
         ensures log { SameLog log.old log.new }
+        ensures forced { OnOk result (log.old.staged ≡ None → waiting log.new ≡ []) }
         ensures volume_cause { HasCause (volume_answer result) (faults_of heap.old) (faults_of heap.new) }
         ensures log_cause { HasCause (log_answer result) (log_faults log.old) (log_faults log.new) }
     {
@@ -125,6 +126,7 @@ impl Undo {
             → AllFindRoom (geometry_of heap.old) first due → OnOk result (AllFindRoom (geometry_of heap.old) first (gone_on due (log_seen log.old) (log_seen log.new))) }
         ensures volume { SameVolume heap.old heap.new }
         ensures log { SameLog log.old log.new }
+        ensures unstaged { OnOk result (log.old.staged ≡ None → log.new.staged ≡ None) }
         ensures volume_cause { HasCause (volume_answer result) (faults_of heap.old) (faults_of heap.new) }
         ensures log_cause { HasCause (log_answer result) (log_faults log.old) (log_faults log.new) }
     {
@@ -178,6 +180,7 @@ fn append<L: Disk, V: Disk>(
     ensures others { IfErr result (λ error. (error ≢ RestartError.NoRoom) × (error ≢ RestartError.BadAnchor)) }
     ensures same { records_of_log log.new ≡ records_of_log log.old }
     ensures log { SameLog log.old log.new }
+    ensures unstaged { OnOk result (log.old.staged ≡ None → log.new.staged ≡ None) }
     ensures bad_number { IfErr result (λ error. (n : ℕ) → error ≡ RestartError.BadRecord n → (n ≡ undone) × IsSome (id_in payload.now)) }
     ensures any_pages { (front : List ℕ) (first disk : ℕ → List ℕ) (due : List LogRecord) (r : LogRecord) (t : ℕ) → length due ≡ length (log_seen log.old) → IsHeld front first disk heap.old due (length due)
         → r.payload ≡ payload.now → payload.now ≡ undo_payload (unanswered t (log_seen log.old)) → number ≡ length due + 1
@@ -233,6 +236,7 @@ fn put_back<L: Disk, V: Disk>(
     ensures others { IfErr result (λ error. (error ≢ RestartError.NoRoom) × (error ≢ RestartError.BadAnchor)) }
     ensures same { records_of_log log.new ≡ records_of_log log.old }
     ensures log { SameLog log.old log.new }
+    ensures unstaged { OnOk result (log.old.staged ≡ None → log.new.staged ≡ None) }
     ensures bad_number { IfErr result (λ error. (n : ℕ) → error ≡ RestartError.BadRecord n → n ≡ undone) }
     ensures any_pages { (front : List ℕ) (first disk : ℕ → List ℕ) (due : List LogRecord) (r : LogRecord) → length due ≡ length (log_seen log.old) → IsHeld front first disk heap.old due (length due)
         → image_in r.payload ≡ Some (id, image.now) → number ≡ length due + 1
@@ -285,6 +289,7 @@ fn bring<L: Disk, V: Disk>(
     ensures others { IfErr result (λ error. (error ≢ RestartError.NoRoom) × (error ≢ RestartError.BadAnchor)) }
     ensures same { records_of_log log.new ≡ records_of_log log.old }
     ensures log { SameLog log.old log.new }
+    ensures unstaged { OnOk result (log.old.staged ≡ None → log.new.staged ≡ None) }
     ensures any_pages { (front : List ℕ) (first disk : ℕ → List ℕ) (done : List LogRecord) → IsHeld front first disk heap.old done (length (log_seen log.old))
         → WorksHeld result (λ p. p ≡ page) front first disk heap.old heap.new (length (log_seen log.old)) done (length (log_seen log.old)) }
     ensures volume { SameVolume heap.old heap.new }
@@ -334,6 +339,7 @@ fn reserve<L: Disk>(log: &mut LogDev<L>) -> Result<(), RestartError>
     ensures refused { IfErr result (λ error. error ≡ RestartError.Memory) }
     ensures same { (records_of_log log.new ≡ records_of_log log.old) × (log_history log.new ≡ log_history log.old) × (log_faults log.new ≡ log_faults log.old) }
     ensures log { SameLog log.old log.new }
+    ensures unstaged { OnOk result (log.old.staged ≡ None → log.new.staged ≡ None) }
 {
     match log.reserve(1) {
         Ok(()) => Ok(()),

@@ -3,6 +3,7 @@ pub mod CheckpointShown
 pub mod KeptOn
 pub mod MovedLemmas
 pub mod CheckpointLemmas
+pub mod KnownRooms
 pub mod LogParts
 pub mod WorldLemmas
 pub mod VolumeLemmas

@@ -273,6 +273,7 @@ no_force {L = L} {G = G} old new e step other log report moves same flushed earn
   full_begin = λ is refused. absurd (of_pages_alone e other (inr is));
   roomy_begin = λ n is done. absurd (of_pages_alone e other (inr is));
   no_memory = λ is. absurd (of_pages_alone e other (inr is));
+  force_no_memory = λ is. absurd (of_pages_alone e other (inl is));
   report = report;
   damaged = earned;
   unforced = unforced;

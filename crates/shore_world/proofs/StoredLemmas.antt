@@ -73,8 +73,7 @@ module _ (g : Geometry) (m : CheckpointedState) (works : List RecoveryEvent) (st
   refused : (f : Fault) → ForceRefused m.state f new → StoredAs g m here (failure_by f)
   refused f (inl p) = subst (λ (x : Fault). StoredAs g m here (failure_by x)) (sym p.1) (tended p.2)
   refused f (inr (inl p)) = subst (λ (x : Fault). StoredAs g m here (failure_by x)) (sym p.1) (managed_as HasFailed p.2)
-  refused f (inr (inr (running, (inl memory), same))) = subst (λ (x : Fault). StoredAs g m here (failure_by x)) (sym memory) (tended same)
-  refused f (inr (inr (running, (inr full), same))) = subst (λ (x : Fault). StoredAs g m here (failure_by x)) (sym full) (tended same)
+  refused f (inr (inr (running, full, same))) = subst (λ (x : Fault). StoredAs g m here (failure_by x)) (sym full) (tended same)
 
   open_refused : (f : Fault) → OpenRefused m.state f new → StoredAs g m here (failure_by f)
   open_refused f (inl p) = refused f (inl p)
@@ -84,7 +83,7 @@ module _ (g : Geometry) (m : CheckpointedState) (works : List RecoveryEvent) (st
   flush_stored (Done answer) p = tended p.2
   flush_stored (Waits wait) p = absurd p
   flush_stored (Refused f) (inl failed) = refused f (inl failed)
-  flush_stored (Refused f) (inr (running, (inl memory))) = refused f (inr (inr (running, inl memory.0, memory.1)))
+  flush_stored (Refused f) (inr (running, (inl memory))) = subst (λ (x : Fault). StoredAs g m here (failure_by x)) (sym memory.0) (tended memory.1)
   flush_stored (Refused f) (inr (running, (inr device))) = refused f (inr (inl (running, device.0, device.1)))
   flush_stored Nothing p = tended p.1
 

@@ -160,14 +160,13 @@ module _ {L V : Type 0} {G : Ghosts L} {H : Ghosts V} (w : World L V G H) (o : O
   not_idle n none above within (inl staged) = some_stands w.log.staged staged none
   not_idle n none above within (inr durable) = omega (arith, above, within, durable)
 
-  refused_so : (f : Fault) (later : State) → ForceRefused s f later → (Refused f ≡ Refused LogFull → ⊥) → IsRefusedStep w (Refused f)
-  refused_so f later (inl h) unfull = inl (inl (is_failed h.0, ap (λ (x : Fault). Refused x) h.1))
-  refused_so f later (inr (inl h)) unfull = inl (inr (is_running h.0, ap (λ (x : Fault). Refused x) h.1))
-  refused_so f later (inr (inr (runs, (inl memory), same))) unfull = inr (is_running runs, ap (λ (x : Fault). Refused x) memory)
-  refused_so f later (inr (inr (runs, (inr full), same))) unfull = absurd (unfull (ap (λ (x : Fault). Refused x) full))
+  refused_so : (f : Fault) (later : State) → ForceRefused s f later → (Refused f ≡ Refused LogFull → ⊥) → HasFailedStep w (Refused f)
+  refused_so f later (inl h) unfull = inl (is_failed h.0, ap (λ (x : Fault). Refused x) h.1)
+  refused_so f later (inr (inl h)) unfull = inr (is_running h.0, ap (λ (x : Fault). Refused x) h.1)
+  refused_so f later (inr (inr (runs, full, same))) unfull = absurd (unfull (ap (λ (x : Fault). Refused x) full))
 
   stages_so : (step : Step) (new : World L V G H) (later : State) → Steps w event.ForceStage step new → EventStep (geometry_in w) s event.ForceStage step later
-      → IsRefusedStep w step ⊎ StagesIfAny w step new
+      → HasFailedStep w step ⊎ StagesIfAny w step new
   stages_so (Done (Staged n)) new later one h =
       let staged = one.staged n refl refl in
       let above : durable_in w < n = subst (λ (m : ℕ). m < n) (seen w o es ws k).durable h.1 in
@@ -177,7 +176,7 @@ module _ {L V : Type 0} {G : Ghosts L} {H : Ghosts V} (w : World L V G H) (o : O
   stages_so (Refused f) new later one h = inl (refused_so f later h (λ full. one.full refl full room))
   stages_so step new later one h = absurd h
 
-  pub stages : (step : Step) (new : World L V G H) → Steps w event.ForceStage step new → IsRefusedStep w step ⊎ StagesIfAny w step new
+  pub stages : (step : Step) (new : World L V G H) → Steps w event.ForceStage step new → HasFailedStep w step ⊎ StagesIfAny w step new
   stages step new one = let went = stepped w o es ws k event.ForceStage step new tt one in stages_so step new went.on.manager.now.state one went.moves
 
   open_refused_so : (f : Fault) (later : State) → OpenRefused s f later → HasFailedStep w (Refused f)

@@ -151,9 +151,16 @@ module _ {L V : Type 0} {G : Ghosts L} {H : Ghosts V} where
 
 -- ---- what an event does to the state
 
--- a frame was not staged: a device had failed before; or it fails now, which the core is told; or nothing was done
+-- a frame was not staged: a device had failed before; or it fails now, which the core is told; or the log has no room for it, and nothing was done
 abbrev pub ForceRefused : State → Fault → State → Type 0
 ForceRefused s fault new =
+    (IsTrue s.failed × (fault ≡ Failed) × (new ≡ s))
+    ⊎ ((s.failed ≡ false) × (fault ≡ Device) × (new ≡ with_failure s))
+    ⊎ ((s.failed ≡ false) × (fault ≡ LogFull) × (new ≡ s))
+
+-- a step of a checkpoint was not made: the same, but that memory may be short too
+abbrev pub CheckpointRefused : State → Fault → State → Type 0
+CheckpointRefused s fault new =
     (IsTrue s.failed × (fault ≡ Failed) × (new ≡ s))
     ⊎ ((s.failed ≡ false) × (fault ≡ Device) × (new ≡ with_failure s))
     ⊎ ((s.failed ≡ false) × ((fault ≡ Memory) ⊎ (fault ≡ LogFull)) × (new ≡ s))
@@ -190,11 +197,11 @@ NotesCheckpoint s (Flushed n) new = ⊥
 NotesCheckpoint s Cut new = ⊥
 NotesCheckpoint s (IsDurable answer) new = ⊥
 
--- .. or it does nothing, and is refused as a step of a force is
+-- .. or it does nothing, or is refused
 abbrev pub CheckpointsState : State → Step → State → Type 0
 CheckpointsState s (Done answer) new = (s.failed ≡ false) × NotesCheckpoint s answer new
 CheckpointsState s Nothing new = (s.failed ≡ false) × (new ≡ s)
-CheckpointsState s (Refused fault) new = ForceRefused s fault new
+CheckpointsState s (Refused fault) new = CheckpointRefused s fault new
 CheckpointsState s (Waits wait) new = ⊥
 
 -- the trail was not cut: a device had failed before, or a transaction is under way
@@ -411,6 +418,8 @@ module _ {L V : Type 0} {G : Ghosts L} {H : Ghosts V} where
     pub roomy_begin : (n : ℕ) → IsOfCheckpoint e → step ≡ Done (Begun n) → ForCheckpoint old (IsRoomyIn old)
     -- the move takes no memory
     pub no_memory : IsOfCheckpoint e → (named : Named) → old.stage ≡ stage.Named named → step ≢ Refused Memory
+    -- nor does a step of a force
+    pub force_no_memory : IsOfForce e → step ≢ Refused Memory
     pub report : report_in new ≡ report_in old
     -- `Damaged` names a page that the event may read and that has no text; `NeedForce` comes if no page may leave its frame, as the event begins, and of a
     -- rollback as it has left the pages

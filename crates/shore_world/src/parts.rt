@@ -3,8 +3,8 @@ ghost use Rattle.std.specs.Prelude.{◌≡◌, ◌⊎◌, ◌+◌, [], false, No
 ghost use Rattle.shore_types.specs.declared.faults.Fault.TheVariants as Fault;
 ghost use Rattle.shore_types.specs.declared.layout.TheConstants.{LOG_FRONT_BYTES};
 ghost use Rattle.shore_disk.specs.Device.{size};
-ghost use Rattle.shore_core.specs.Cores.{durable_of, first_of, txns_of, waiting_of};
-ghost use Rattle.shore_log.specs.Settled.{cut_of_log, records_of_log, stable};
+ghost use Rattle.shore_core.specs.Cores.{durable_of, first_of, told_of, txns_of, waiting_of};
+ghost use Rattle.shore_log.specs.Settled.{IsSpelled, KnowsRoom, cut_of_log, records_of_log, stable};
 ghost use Rattle.shore_txn.specs.Transactions.{room_in};
 
 use crate::world::World;
@@ -25,15 +25,14 @@ impl<L: Disk, V: Disk> World<L, V> {
         self.log.checkpoint()
     }
 
-    /// Hands the records that wait in the core's log buffer over to the log device. `Failed` after a failure of a device or a damaged page, `NotQuiet` while a frame is
-    /// under way, and `Memory` if an allocation failed: they stay.
+    /// Hands the records that wait in the core's log buffer over to the log device. `Failed` after a failure of a device or a damaged page, and `NotQuiet` while a frame is
+    /// under way: they stay.
     pub fn hand_over(&mut self) -> Result<(), Fault>
         ensures unchanged { IsUnchanged self.old self.new }
         ensures emptied { OnOk result (waiting_of self.new.core ≡ []) }
         ensures running { OnOk result ((failed_in self.new ≡ false) × (self.new.log.staged ≡ None)) }
         ensures refused { IfErr result (λ fault. (IsTrue (failed_in self.old) × (fault ≡ Fault.Failed))
-            ⊎ ((failed_in self.old ≡ false) × IsSome self.old.log.staged × (fault ≡ Fault.NotQuiet))
-            ⊎ ((failed_in self.old ≡ false) × (self.old.log.staged ≡ None) × (fault ≡ Fault.Memory))) }
+            ⊎ ((failed_in self.old ≡ false) × IsSome self.old.log.staged × (fault ≡ Fault.NotQuiet))) }
         ensures stay { OnErr result (waiting_of self.new.core ≡ waiting_of self.old.core) }
     {
         if self.core.has_failed() {
@@ -42,7 +41,8 @@ impl<L: Disk, V: Disk> World<L, V> {
         if self.log.is_staged() {
             return Err(Fault::NotQuiet);
         }
-        self.core.hand_over(&mut self.log)
+        self.core.hand_over(&mut self.log);
+        Ok(())
     }
 
     /// Its core, its log device, how far its checkpoint has come, and what its restart did.
@@ -52,7 +52,7 @@ impl<L: Disk, V: Disk> World<L, V> {
         (self.core, self.log, self.stage, self.report)
     }
 
-    /// The world of such parts. They are of one world: the log buffer's next number is behind the log device's last, and the core was told what is durable.
+    /// The world of such parts. They are of one world: the log buffer's next number follows the log device's last, the core was told what is durable, and the log buffer what there is room for.
     pub fn from_parts(
         core: Core<PlainTail, V>,
         log: LogDev<L>,
@@ -62,6 +62,8 @@ impl<L: Disk, V: Disk> World<L, V> {
         requires numbers { first_of core ≡ cut_of_log log + 1 + length (records_of_log log) }
         requires durable { durable_of core ≡ cut_of_log log + length (stable log) }
         requires ring { (room_in (txns_of core)).stream_bytes + LOG_FRONT_BYTES ≡ size (L.Disk.history log.device) }
+        requires knows { KnowsRoom log (told_of core) }
+        requires spelled { IsSpelled log }
         ensures { (result.core ≡ core) × (result.log ≡ log) × (result.stage ≡ stage) × (result.report ≡ report) }
     {
         World {

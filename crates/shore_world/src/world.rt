@@ -9,11 +9,11 @@ ghost use Rattle.shore_disk.specs.Cause.{HasCause};
 ghost use Rattle.shore_disk.specs.Fuse.{fuse_inner};
 ghost use Rattle.shore_disk.specs.AnyDisk.{any_history, is_in_memory};
 ghost use Rattle.shore_disk.specs.Memory.{picked_after};
-ghost use Rattle.shore_log.specs.Settled.{anchor_of, cut_of_log, records_of_log, stable};
+ghost use Rattle.shore_log.specs.Settled.{IsSpelled, KnowsRoom, anchor_of, cut_of_log, records_of_log, stable};
 ghost use Rattle.laws_calls.specs.StateChanges.{IsPageFault, with_failure};
 ghost use Rattle.laws_calls.specs.States.{State};
 ghost use Rattle.laws_checkpoints.specs.CheckpointedStores.{CheckpointedStore};
-ghost use Rattle.shore_core.specs.Cores.{IsSafe, durable_of, first_of, heap_of, txns_of, waiting_of};
+ghost use Rattle.shore_core.specs.Cores.{IsSafe, durable_of, first_of, heap_of, told_of, txns_of, waiting_of};
 ghost use Rattle.shore_txn.specs.Transactions.{room_in};
 ghost use Rattle.shore_world.specs.Events.{IsServedEvent, ReadBy};
 
@@ -44,6 +44,9 @@ pub struct World<L: Disk, V: Disk> {
     ghost durable_agrees: { durable_of core ≡ cut_of_log log + length (stable log) },
     // The sums of the log count the bytes of its stream.
     ghost ring: { (room_in (txns_of core)).stream_bytes + LOG_FRONT_BYTES ≡ size (L.Disk.history log.device) },
+    // A force takes no memory: the log buffer knows what the log device has room for, and brings what is lacking.
+    ghost knows: { KnowsRoom log (told_of core) },
+    ghost spelled: { IsSpelled log },
 }
 
 impl<L: Disk, V: Disk> World<L, V> {
@@ -300,6 +303,7 @@ impl<L: Disk, V: Disk> World<L, V> {
         ensures idle { result ≡ Step.Nothing → IsIdle self.old }
         ensures quiet { result ≡ Step.Nothing → IsUnchanged self.old self.new }
         ensures full { result ≡ Step.Refused Fault.LogFull → ¬ HasForceRoom self.old }
+        ensures no_memory { result ≢ Step.Refused Fault.Memory }
         ensures damaged { Earns self.old.core (ReadBy self.old.core Event.ForceStage) (fault_at result) }
         ensures unforced { NeedsForce self.old.core (fault_at result) }
         ensures cause { HasCause (fault_at result) (L.faults self.old.log.device) (L.faults self.new.log.device) }
@@ -310,9 +314,7 @@ impl<L: Disk, V: Disk> World<L, V> {
         if self.log.is_staged() {
             return Step::Nothing;
         }
-        if let Err(fault) = self.core.hand_over(&mut self.log) {
-            return Step::Refused(fault);
-        }
+        self.core.hand_over(&mut self.log);
         match self.log.stage(alloc) {
             Ok(Some(number)) => Step::Done(Answer::Staged(number)),
             Ok(None) => Step::Nothing,
@@ -328,6 +330,7 @@ impl<L: Disk, V: Disk> World<L, V> {
         ensures report { report_in self.new ≡ report_in self.old }
         ensures shut { result ≡ Step.Nothing → self.old.log.staged ≡ None }
         ensures quiet { result ≡ Step.Nothing → IsUnchanged self.old self.new }
+        ensures no_memory { result ≢ Step.Refused Fault.Memory }
         ensures damaged { Earns self.old.core (ReadBy self.old.core Event.ForceOpen) (fault_at result) }
         ensures unforced { NeedsForce self.old.core (fault_at result) }
         ensures cause { HasCause (fault_at result) (L.faults self.old.log.device) (L.faults self.new.log.device) }

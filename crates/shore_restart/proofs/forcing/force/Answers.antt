@@ -17,6 +17,7 @@ loop-init g c = record {
   records = refl;
   same = record { tail = refl; anchors = refl; honest = refl; size = refl };
   faults = refl;
+  unstaged = λ none. none;
 }
 
 pub force_frame-requires : goal.force_frame-requires
@@ -45,6 +46,7 @@ loop-preserved g c =
       records = c.force_frame.ensures.same ∙ invariant.records;
       same = same_on first old c.force_frame.new.log invariant.same c.force_frame.ensures.log;
       faults = c.in_ok-force_frame.ensures.cause.unreported (λ e. cc) ∙ invariant.faults;
+      unstaged = λ none. c.in_ok-force_frame.ensures.unstaged (invariant.unstaged none);
     }
 
 pub returns-in_err-force_frame-clause-forces : goal.returns-in_err-force_frame-clause-forces
@@ -100,3 +102,9 @@ returns-clause-log_device g c log_front quiet =
     let more = now.1 in
     let longer = on.1 in
     record { named = tt; quiet = inr (on.0, omega (arith, more, longer)) }
+
+pub returns-clause-forced : goal.returns-clause-forced
+returns-clause-forced g c none =
+    let before = c.loop.invariant.unstaged none in
+    let last = c.in_ok-force_frame.ensures.none c.if-branch.false before in
+    (c.in_ok-force_frame.ensures.unstaged before, ap (λ (log : LogDev g.row.L.Denot g.L.Disk). waiting log) last.0 ∙ last.1)

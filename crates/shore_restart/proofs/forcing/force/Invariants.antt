@@ -1,4 +1,4 @@
-use Rattle.std.proofs.Common.{◌≡◌, ◌≤◌, ℕ, List, length}
+use Rattle.std.proofs.Common.{◌≡◌, ◌≤◌, ℕ, List, None, length}
 use Rattle.shore_types.specs.declared.layout.Geometry.{Geometry}
 use Rattle.shore_gate.specs.declared.anchors.Anchor.{Anchor}
 use Rattle.shore_disk.specs.Device.{DeviceHistory, may_leave}
@@ -18,6 +18,7 @@ invariant-loop g l = record {
   records : records_of_log l.log ≡ records_of_log l.initial.log;
   same : SameLog l.initial.log l.log;
   faults : log_faults l.log ≡ log_faults l.initial.log;
+  unstaged : l.initial.log.staged ≡ None → l.log.staged ≡ None;
 }
 
 abbrev pub decreases-loop : goal.decreases-loop

@@ -1,4 +1,4 @@
-use Rattle.std.proofs.Common.{◌≡◌, ◌-◌, ℕ, List, Err, arith, refl, sym, ap, subst, ◌∙◌, length, drop}
+use Rattle.std.proofs.Common.{◌≡◌, ◌-◌, ℕ, List, Err, arith, refl, sym, ap, subst, ◌∙◌, length, length-drop, drop}
 use Rattle.std.proofs.lemmas.List.{length-take-le}
 use Rattle.shore_heap.specs.declared.heap.Heap.{Heap}
 use Rattle.shore_heap.specs.Heaps.{geometry_of}
@@ -6,6 +6,7 @@ use Rattle.shore_model.specs.declared.log_records.LogRecord.{LogRecord}
 use Rattle.laws_checkpoints.specs.Checkpoints.{end_among}
 use Rattle.laws_lives.specs.Recovery.{RecoveryState}
 use Rattle.laws_runs.proofs.KeptBehind.{restart_noted}
+use Rattle.shore_log.specs.Listed.{all_in}
 use Rattle.shore_log.specs.Settled.{cut_of_log, records_of_log}
 use Rattle.laws_images.proofs.PathsBehind.{path_reaches}
 use Rattle.laws_images.specs.MomentsBehind.{PathBehind}
@@ -133,3 +134,9 @@ returns-in-Ok-clause-log_device g c log_front quiet =
 pub returns-in-Err-clause-log_device : goal.returns-in-Err-clause-log_device
 returns-in-Err-clause-log_device g c log_front quiet =
     quiet_err log_front c.args.log.now c.args.log.now c.run_passes.new.log (omega arith) (Err c.in-Err.error) c.in-Err.error refl (c.in-Err.ensures.log_device log_front quiet)
+
+pub returns-in-Ok-clause-spelled : goal.returns-in-Ok-clause-spelled
+returns-in-Ok-clause-spelled g c none some =
+    let new = c.run_passes.new.log in
+    let all = c.in-Ok.ensures.forced none in
+    omega (arith, ap length all, length-drop new.forced (records_of_log new), new.counted, length-drop new.gone (all_in new.found.items new.later.items))

@@ -12,6 +12,7 @@ use Rattle.shore_restart.proofs.PageErrors.{err_with}
 use Rattle.shore_restart.proofs.HeldPages.{fetch_alone, fetch_forced, fetch_seen, held_behind, held_other, stable_short}
 use Rattle.shore_restart.specs.Held.{FetchesHeld, IsHeld}
 use Rattle.shore_restart.proofs.QuietLogs.{quiet_beside, quiet_err, quiet_of}
+use Rattle.shore_restart.proofs.Undoing.{on_ok}
 use Rattle.shore_restart.proofs.turns.bring.Goals as goal
 
 pub returns-then-not-needs_force-clause-moves : goal.returns-then-not-needs_force-clause-moves
@@ -138,3 +139,9 @@ pub returns-clause-log_device : goal.returns-clause-log_device
 returns-clause-log_device g c log_front quiet =
     let on = quiet_of log_front c.args.log.now c.force.new.log c.in_ok-force.field-0 (c.in_ok-force.ensures.log_device log_front quiet) in
     quiet_beside log_front c.args.log.now c.force.new.log c.fetch.result (err_to c.fetch.result c.fetch.ensures.others (λ error others. others.2)) on.0 on.1
+
+pub returns-then-not-needs_force-clause-unstaged : goal.returns-then-not-needs_force-clause-unstaged
+returns-then-not-needs_force-clause-unstaged g c = on_ok c.fetch-fetched.result (λ none. none)
+
+pub returns-clause-unstaged : goal.returns-clause-unstaged
+returns-clause-unstaged g c = on_ok c.fetch.result (λ none. (c.in_ok-force.ensures.forced none).0)

@@ -30,6 +30,9 @@ returns-clause-as_plain c d w new o es ws step k one = goes_plainly w o es ws k 
 pub returns-clause-move_takes_no_memory : goal.returns-clause-move_takes_no_memory
 returns-clause-move_takes_no_memory c d w new named step one at = one.no_memory tt named at
 
+pub returns-clause-forces_take_no_memory : goal.returns-clause-forces_take_no_memory
+returns-clause-forces_take_no_memory c d w new e step one is = one.force_no_memory is
+
 pub returns-clause-give_up : goal.returns-clause-give_up
 returns-clause-give_up c d w new o es ws session step k one =
     given_up_nothing w o es ws k session step new one

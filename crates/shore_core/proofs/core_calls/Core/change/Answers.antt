@@ -36,6 +36,7 @@ use Rattle.shore_core.proofs.Tables.{each_among, has_no_room, has_room, next_is,
 use Rattle.shore_core.proofs.Taking.{framed_is, image_shown, true_false}
 use Rattle.shore_core.proofs.Serving.{device_alone, nothing_called}
 use Rattle.shore_sessions.proofs.ControlSteps.{own_number}
+use Rattle.shore_core.proofs.Keeping.{both}
 use Rattle.shore_core.proofs.core_calls.Core.change.Goals as goal
 
 pub returns-then-not-admits-clause-changed : goal.returns-then-not-admits-clause-changed
@@ -219,7 +220,7 @@ returns-clause-changed g c running front disk before s store is safe over a of l
     )
 
 pub returns-clause-no_call : goal.returns-clause-no_call
-returns-clause-no_call g c = device_alone _ _ c.change.ensures.device refl c.push.ensures.first refl
+returns-clause-no_call g c = device_alone _ _ c.change.ensures.device refl (both c.push.ensures.first c.push.ensures.told) refl
 
 pub returns-in-Err-clause-no_call : goal.returns-in-Err-clause-no_call
-returns-in-Err-clause-no_call g c = nothing_called _ _ refl refl c.push.ensures.first refl
+returns-in-Err-clause-no_call g c = nothing_called _ _ refl refl (both c.push.ensures.first c.push.ensures.told) refl

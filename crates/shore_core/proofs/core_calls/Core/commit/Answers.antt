@@ -33,6 +33,7 @@ use Rattle.shore_core.proofs.Releasing.{ShowsLeft, all_released, framed_as, none
 use Rattle.shore_core.proofs.Tables.{each_among, next_is, parts_logged}
 use Rattle.shore_core.proofs.Taking.{replied_as}
 use Rattle.shore_core.proofs.Serving.{as_aside, call_alone, call_still, device_alone, not_open_aside, refused_still}
+use Rattle.shore_core.proofs.Keeping.{both}
 use Rattle.shore_core.proofs.core_calls.Core.commit.Goals as goal
 
 pub returns-in_err-txn-clause-replied : goal.returns-in_err-txn-clause-replied
@@ -167,9 +168,9 @@ returns-in_err-txn-clause-serves g c =
     refused_still _ _ _ _ _ _ c.from_residual.ensures.1 refl refl refl refl (not_open_aside _ c.in_err-txn.ensures.refused)
 
 pub returns-in-Err-clause-serves : goal.returns-in-Err-clause-serves
-returns-in-Err-clause-serves g c = call_still _ _ _ _ _ refl refl c.in-Err.ensures.first refl (as_aside _ _ c.in-Err.ensures.refused tt) tt
+returns-in-Err-clause-serves g c = call_still _ _ _ _ _ refl refl (both c.in-Err.ensures.first c.in-Err.ensures.told) refl (as_aside _ _ c.in-Err.ensures.refused tt) tt
 
 pub returns-clause-serves : goal.returns-clause-serves
 returns-clause-serves g c =
     let inv = c.loop-change.invariant in
-    call_alone _ _ _ _ _ (device_alone _ _ inv.4 inv.2 (ap g.T.Tail.first inv.0 ∙ c.push.ensures.first) inv.3) tt refl
+    call_alone _ _ _ _ _ (device_alone _ _ inv.4 inv.2 (ap (λ t. (g.T.Tail.first t, g.T.Tail.told t)) inv.0 ∙ both c.push.ensures.first c.push.ensures.told) inv.3) tt refl

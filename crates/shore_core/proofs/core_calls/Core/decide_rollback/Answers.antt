@@ -23,6 +23,7 @@ use Rattle.shore_core.proofs.Leaving.{comes_lacking}
 use Rattle.shore_core.proofs.Prepared.{can_decide, decided_unprepared, earlier_decided, rolling_on}
 use Rattle.shore_core.proofs.Serving.{nothing_called}
 use Rattle.shore_core.proofs.Tables.{each_among, next_is}
+use Rattle.shore_core.proofs.Keeping.{both}
 use Rattle.shore_core.proofs.core_calls.Core.decide_rollback.Goals as goal
 
 pub returns-then-not-is_in_doubt-clause-decides : goal.returns-then-not-is_in_doubt-clause-decides
@@ -111,10 +112,10 @@ pub returns-then-not-is_in_doubt-clause-no_call : goal.returns-then-not-is_in_do
 returns-then-not-is_in_doubt-clause-no_call g c = nothing_called _ _ refl refl refl refl
 
 pub returns-in-Err-clause-no_call : goal.returns-in-Err-clause-no_call
-returns-in-Err-clause-no_call g c = nothing_called _ _ refl refl c.push.ensures.first refl
+returns-in-Err-clause-no_call g c = nothing_called _ _ refl refl (both c.push.ensures.first c.push.ensures.told) refl
 
 pub returns-clause-no_call : goal.returns-clause-no_call
-returns-clause-no_call g c = nothing_called _ _ refl refl c.push.ensures.first refl
+returns-clause-no_call g c = nothing_called _ _ refl refl (both c.push.ensures.first c.push.ensures.told) refl
 
 pub returns-in-Err-clause-longer : goal.returns-in-Err-clause-longer
 returns-in-Err-clause-longer g c =

@@ -18,6 +18,7 @@ use Rattle.shore_core.proofs.Leaving.{comes_lacking, earlier_left}
 use Rattle.shore_core.proofs.Tables.{each_among, none_told, some_told}
 use Rattle.shore_core.proofs.Undoing.{none_of, own_is}
 use Rattle.shore_core.proofs.Serving.{nothing_called}
+use Rattle.shore_core.proofs.Keeping.{both}
 use Rattle.shore_core.proofs.core_calls.Core.end.Goals as goal
 
 pub returns-then-is_some-clause-ended : goal.returns-then-is_some-clause-ended
@@ -112,10 +113,10 @@ returns-clause-ended g c running front disk before s store is safe over a of num
 )
 
 pub returns-in-Ok-clause-no_call : goal.returns-in-Ok-clause-no_call
-returns-in-Ok-clause-no_call g c = nothing_called _ _ refl refl c.push.ensures.first refl
+returns-in-Ok-clause-no_call g c = nothing_called _ _ refl refl (both c.push.ensures.first c.push.ensures.told) refl
 
 pub returns-clause-no_call : goal.returns-clause-no_call
-returns-clause-no_call g c = nothing_called _ _ refl refl c.push.ensures.first refl
+returns-clause-no_call g c = nothing_called _ _ refl refl (both c.push.ensures.first c.push.ensures.told) refl
 
 pub returns-then-eq-clause-no_call : goal.returns-then-eq-clause-no_call
 returns-then-eq-clause-no_call g c = nothing_called _ _ refl refl refl refl

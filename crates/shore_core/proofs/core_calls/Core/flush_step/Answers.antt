@@ -106,7 +106,7 @@ returns-in-Err-clause-serves g c =
     subst (λ (x : Step). Serves (λ page. ⊥) old (fault_at x) old new) (sym refuse.refused) (record {
       volume = record { geometry = ap heaps.geometry_of refuse.heap ∙ flush.geometry; honest = ap heaps.honesty_of refuse.heap ∙ flush.honest; size = ap (λ h. size (heaps.history_of h)) refuse.heap ∙ flush.size };
       durable = refuse.durable;
-      first = ap g.T.Tail.first refuse.tail;
+      first = ap (λ t. (g.T.Tail.first t, g.T.Tail.told t)) refuse.tail;
       any_moment = λ front disk holds.
           subst (λ h. LeavesOnly (heaps.history_of (heap_of old)) (heaps.history_of h) (heaps.LeavesPages (heap_of old) (durable_of old) front disk)) (sym refuse.heap) (flush.any_moment front disk holds);
       damaged = λ front disk holds d offset is. elim c.in-Err.ensures.refused.0 [

@@ -35,6 +35,7 @@ use Rattle.shore_core.proofs.Tables.{each_among, next_is, parts_logged, some_and
 use Rattle.shore_core.proofs.Undoing.{earlier_undone, next_cost, next_earlier, next_image, next_record, next_some, next_text, next_undone, pages_undone, slot_there}
 use Rattle.shore_core.proofs.Serving.{device_alone, nothing_called}
 use Rattle.shore_core.proofs.Callers.{at_becomes}
+use Rattle.shore_core.proofs.Keeping.{both}
 use Rattle.shore_core.proofs.core_calls.Core.log_undo.Goals as goal
 
 pub push-requires-clause-text : goal.push-requires-clause-text
@@ -193,7 +194,7 @@ returns-clause-unprepared g c =
     at_becomes (txns_of c.args.self.now) (txns_in c.note_compensation-undone.new.self) c.args.seat.now one one.becomes.txn (λ t. is_in_doubt (state_of t) ≡ false) (ap is_in_doubt one.becomes.state)
 
 pub returns-clause-no_call : goal.returns-clause-no_call
-returns-clause-no_call g c = device_alone _ _ (c.release_to.ensures.device ∙ c.change.ensures.device) refl c.push.ensures.first refl
+returns-clause-no_call g c = device_alone _ _ (c.release_to.ensures.device ∙ c.change.ensures.device) refl (both c.push.ensures.first c.push.ensures.told) refl
 
 pub returns-in-Err-clause-no_call : goal.returns-in-Err-clause-no_call
-returns-in-Err-clause-no_call g c = nothing_called _ _ refl refl c.push.ensures.first refl
+returns-in-Err-clause-no_call g c = nothing_called _ _ refl refl (both c.push.ensures.first c.push.ensures.told) refl

@@ -30,6 +30,7 @@ use Rattle.shore_core.proofs.Prepared.{earlier_prepared, prepare_refused, prepar
 use Rattle.shore_core.proofs.Serving.{as_aside, call_still, not_open_aside, refused_still}
 use Rattle.shore_core.proofs.Tables.{each_among, has_no_room, has_room, next_is}
 use Rattle.shore_core.proofs.Taking.{replied_as, true_false}
+use Rattle.shore_core.proofs.Keeping.{both}
 use Rattle.shore_core.proofs.core_calls.Core.prepare.Goals as goal
 
 pub returns-in_err-own-clause-replied : goal.returns-in_err-own-clause-replied
@@ -241,7 +242,7 @@ pub returns-in_err-reserve_wait-clause-serves : goal.returns-in_err-reserve_wait
 returns-in_err-reserve_wait-clause-serves g c = refused_still _ _ _ _ _ fault.Memory c.from_residual-in_err-reserve_wait.ensures.1 refl refl refl refl tt
 
 pub returns-in-Err-clause-serves : goal.returns-in-Err-clause-serves
-returns-in-Err-clause-serves g c = call_still _ _ _ _ _ refl refl c.in-Err.ensures.first refl (as_aside _ _ c.in-Err.ensures.refused tt) tt
+returns-in-Err-clause-serves g c = call_still _ _ _ _ _ refl refl (both c.in-Err.ensures.first c.in-Err.ensures.told) refl (as_aside _ _ c.in-Err.ensures.refused tt) tt
 
 pub returns-clause-serves : goal.returns-clause-serves
-returns-clause-serves g c = call_still _ _ _ _ _ refl refl c.in-Ok.ensures.first refl tt refl
+returns-clause-serves g c = call_still _ _ _ _ _ refl refl (both c.in-Ok.ensures.first c.in-Ok.ensures.told) refl tt refl

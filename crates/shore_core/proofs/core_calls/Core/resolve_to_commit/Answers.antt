@@ -40,6 +40,7 @@ use Rattle.shore_core.proofs.Releasing.{ShowsLeft, all_released, framed_as, none
 use Rattle.shore_core.proofs.Tables.{each_among, next_is, parts_logged}
 use Rattle.shore_core.proofs.Taking.{replied_as}
 use Rattle.shore_core.proofs.Serving.{as_aside, call_alone, call_still, device_alone, refused_still}
+use Rattle.shore_core.proofs.Keeping.{both}
 use Rattle.shore_core.proofs.core_calls.Core.resolve_to_commit.Goals as goal
 
 pub returns-then-not-is_in_doubt-clause-replied : goal.returns-then-not-is_in_doubt-clause-replied
@@ -206,9 +207,9 @@ pub returns-in_err-reserve_wait-clause-serves : goal.returns-in_err-reserve_wait
 returns-in_err-reserve_wait-clause-serves g c = refused_still _ _ _ _ _ fault.Memory c.from_residual.ensures.1 refl refl refl refl tt
 
 pub returns-in-Err-clause-serves : goal.returns-in-Err-clause-serves
-returns-in-Err-clause-serves g c = call_still _ _ _ _ _ refl refl c.in-Err.ensures.first refl (as_aside _ _ c.in-Err.ensures.refused tt) tt
+returns-in-Err-clause-serves g c = call_still _ _ _ _ _ refl refl (both c.in-Err.ensures.first c.in-Err.ensures.told) refl (as_aside _ _ c.in-Err.ensures.refused tt) tt
 
 pub returns-clause-serves : goal.returns-clause-serves
 returns-clause-serves g c =
     let inv = c.loop-change.invariant in
-    call_alone _ _ _ _ _ (device_alone _ _ inv.4 inv.2 (ap g.T.Tail.first inv.0 ∙ c.push.ensures.first) inv.3) tt refl
+    call_alone _ _ _ _ _ (device_alone _ _ inv.4 inv.2 (ap (λ t. (g.T.Tail.first t, g.T.Tail.told t)) inv.0 ∙ both c.push.ensures.first c.push.ensures.told) inv.3) tt refl

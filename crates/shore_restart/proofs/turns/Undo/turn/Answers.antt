@@ -382,3 +382,6 @@ returns-in_err-append-clause-bad_number g c found so_far =
     let bad = c.in_err-append.ensures.bad_number n (sym same ∙ is) in
     let names = bad.0 ∙ c.next_change.ensures log r.txn c.requires.losers turn.loser turn.next in
     (undone_behind cut kept r turn n names bad.1, (undone_within found log r turn so_far n names bad.1).1))
+
+pub returns-clause-unstaged : goal.returns-clause-unstaged
+returns-clause-unstaged g c none = c.take.ensures.frame.1 ∙ c.in_ok-append.ensures.unstaged none

@@ -1,4 +1,5 @@
-use Rattle.std.proofs.Common.{◌≡◌, ◌<◌, ◌-◌, ◌∷◌, Ok, ap, Err, length, arith, ℕ, List, [], Bool, inl, inr, refl, sym, subst, ◌∙◌}
+use Rattle.std.proofs.Common.{◌≡◌, ◌<◌, ◌-◌, ◌∷◌, Ok, ap, Err, Result, length, arith, ℕ, List, [], Bool, inl, inr, refl, sym, subst, ◌∙◌}
+use Rattle.std.specs.Prelude.{OnOk}
 use Rattle.shore_dwrite.proofs.Moves.{if_err}
 use Rattle.shore_model.specs.declared.log_records.LogRecord.{LogRecord}
 use Rattle.shore_heap.specs.Heaps.{faults_of, geometry_of, history_of}
@@ -47,6 +48,7 @@ loop-init g c = record {
   log = record { tail = refl; anchors = refl; honest = refl; size = refl };
   volume_faults = refl;
   log_faults = refl;
+  unstaged = λ none. none;
 }
 
 pub loop-preserved : goal.loop-preserved
@@ -101,6 +103,7 @@ loop-preserved g c =
       log = same_on c.args.log.now c.loop.log c.turn.new.log invariant.log c.turn.ensures.log;
       volume_faults = c.in_ok-turn.ensures.volume_cause.unreported (λ e. cc) ∙ invariant.volume_faults;
       log_faults = c.in_ok-turn.ensures.log_cause.unreported (λ e. cc) ∙ invariant.log_faults;
+      unstaged = λ none. c.in_ok-turn.ensures.unstaged (invariant.unstaged none);
     }
 
 pub loop-smaller : goal.loop-smaller
@@ -357,3 +360,11 @@ returns-clause-bad_number g c = err_to c.force.result c.force.ensures.refused (�
   | inr (inl device) ↦ let clash = sym device ∙ bad in absurd cc
   | inr (inr full) ↦ let clash = sym full ∙ bad in absurd cc
 ])
+
+ok_then : {T E P Q : Type 0} (r : Result T E) → OnOk r P → (P → Q) → OnOk r Q
+ok_then (Ok x) is then = then is
+ok_then (Err e) is then = tt
+
+pub returns-clause-forced : goal.returns-clause-forced
+returns-clause-forced g c =
+    ok_then c.force.result c.force.ensures.forced (λ all none. (all (c.in_ok-turn.ensures.unstaged (c.loop.invariant.unstaged none))).1)

@@ -1,4 +1,4 @@
-use Rattle.std.proofs.Common.{◌≡◌, ◌≤◌, ℕ, List, length}
+use Rattle.std.proofs.Common.{◌≡◌, ◌≤◌, ℕ, List, None, length}
 use Rattle.shore_heap.specs.Heaps.{faults_of, geometry_of}
 use Rattle.shore_gate.specs.declared.anchors.Anchor.{Anchor}
 use Rattle.shore_model.specs.declared.log_records.LogRecord.{LogRecord}
@@ -30,6 +30,7 @@ invariant-loop g l = record {
   log : SameLog l.initial.log l.log;
   volume_faults : faults_of l.heap ≡ faults_of l.initial.heap;
   log_faults : log_faults l.log ≡ log_faults l.initial.log;
+  unstaged : l.initial.log.staged ≡ None → l.log.staged ≡ None;
 }
 
 abbrev pub decreases-loop : goal.decreases-loop

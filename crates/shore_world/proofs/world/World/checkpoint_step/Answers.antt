@@ -1,4 +1,4 @@
-use Rattle.std.proofs.Common.{◌≡◌, ◌⊎◌, inl, inr, ◌-◌, ◌<◌, ◌++◌, ℕ, List, Bool, IsTrue, true, false, length, take, refl, sym, ◌∙◌, ap, subst, arith}
+use Rattle.std.proofs.Common.{◌≡◌, ◌⊎◌, inl, inr, ◌-◌, ◌<◌, ◌++◌, ℕ, List, Bool, IsTrue, true, false, length, length-drop, take, refl, sym, ◌∙◌, ap, subst, arith}
 use Rattle.shore_types.specs.declared.faults.Fault.TheVariants as fault
 use Rattle.shore_types.specs.declared.layout.Geometry.{Geometry}
 use Rattle.shore_disk.specs.Device.{LeavesOnly}
@@ -12,11 +12,13 @@ use Rattle.shore_log.specs.declared.device.LogDev.{LogDev}
 use Rattle.shore_core.specs.declared.checkpointing.CheckpointStep.{CheckpointStep}
 use Rattle.shore_core.specs.declared.checkpointing.CheckpointStep.TheVariants.{Made, Move}
 use Rattle.shore_core.specs.Checkpointing.{IsFullFor, IsRoomyFor}
-use Rattle.shore_core.specs.Cores.{IsIn, IsOver, IsSafe, durable_of, geometry_of, heap_of, waiting_of}
+use Rattle.shore_core.specs.Cores.{IsIn, IsOver, IsSafe, durable_of, geometry_of, heap_of, told_of, waiting_of}
 use Rattle.shore_core.proofs.CheckpointFull.{made_is}
 use Rattle.shore_world.specs.declared.event.Event.TheVariants as event
 use Rattle.shore_world.specs.Worlds.{EventMovesWorld, anchors_in, durable_in, failed_in, history_in, list_in}
+use Rattle.shore_world.proofs.KnownRooms.{knows_as}
 use Rattle.shore_world.proofs.LogParts.{in_same}
+use Rattle.shore_world.proofs.WorldLemmas.{length-stable}
 use Rattle.shore_world.proofs.MadeSteps.{each_begin, made_moves}
 use Rattle.shore_world.proofs.MovingAnchors.{MakesMove, MayBeMoved, has_moved, moves_failed, moves_made, never_refused, there_is_next}
 use Rattle.shore_world.proofs.UnchangedLemmas.{unchanged_parts}
@@ -35,6 +37,23 @@ move_is_no_failure mark is = absurd cc
 
 not_both : (b : Bool) → b ≡ true → b ≡ false → ⊥
 not_both b on off = let clash : true ≡ false = sym on ∙ off in absurd cc
+
+pub invariant_of-self-in-Ok : goal.invariant_of-self-in-Ok
+invariant_of-self-in-Ok g c =
+    let old = c.args.self.now in
+    let log = c.move_anchor.new.self in
+    let m = c.in-Move.ensures in
+    let k = c.moved.ensures in
+    let a = c.move_anchor.ensures in
+    let lost = c.in-Ok.ensures.lost in
+    let fewer = length-drop (cut_of_log log - cut_of_log old.log) (records_of_log old.log) in
+    record {
+      numbers = omega (arith, k.first, m.first, old.numbers, ap length lost.records, fewer, lost.rises, lost.last, length-stable old.log, old.log.forced_inside);
+      durable_agrees = omega (arith, k.durable, m.durable, old.durable_agrees, lost.last);
+      ring = omega (arith, old.ring, k.ring, m.ring, a.size);
+      knows = knows_as log (told_of old.core) (told_of c.moved.new.self) (k.told ∙ m.told) (a.knows (told_of old.core) old.knows);
+      spelled = a.spelled old.spelled;
+    }
 
 pub returns-in-Made-clause-moves : goal.returns-in-Made-clause-moves
 returns-in-Made-clause-moves g c =

@@ -7,15 +7,38 @@ use Rattle.shore_frames.specs.declared.reading.FrameAt.{FrameAt}
 use Rattle.shore_log.specs.Settled.{cut_of_log, records_of_log, stable}
 use Rattle.shore_log.specs.declared.device.LogDev.{LogDev}
 use Rattle.laws_calls.specs.StateChanges.{with_durable, with_failure}
-use Rattle.shore_core.specs.Cores.{waiting_of}
+use Rattle.shore_log.specs.PlainTails.{told_in}
+use Rattle.shore_log.specs.declared.tail.PlainTail.{PlainTail}
+use Rattle.shore_sessions.specs.Controls.{txns_in}
+use Rattle.shore_sessions.specs.declared.control.Control.{Control}
+use Rattle.shore_txn.specs.Transactions.{room_in}
+use Rattle.shore_core.specs.Cores.{told_of, waiting_of}
 use Rattle.shore_core.proofs.LearningRoom.{in_learned, over_learned}
 use Rattle.shore_world.specs.declared.event.Event.TheVariants.{ForceOpen}
 use Rattle.shore_world.specs.Worlds.{before_in}
+use Rattle.shore_world.proofs.KnownRooms.{knows_as}
 use Rattle.shore_world.proofs.LogParts.{in_same, log_long}
 use Rattle.shore_world.proofs.RunLemmas.{open_is_no_flush}
 use Rattle.shore_world.proofs.UnchangedLemmas.{unchanged_parts}
 use Rattle.shore_world.proofs.WorldLemmas.{failed_runs, force_moves, none_more, nothing_done, opening_gate, same_list, some_stands, unmoved}
 use Rattle.shore_world.proofs.world.World.force_open.Goals as goal
+
+pub invariant_of-self-2 : goal.invariant_of-self-2
+invariant_of-self-2 g c =
+    let old = c.args.self.now in
+    let o = c.open_staged.ensures in
+    let t = c.told.ensures in
+    let same = c.learn_left.ensures.same in
+    let cut = ap (λ (f : FrameAt). f.first - 1) o.tail.0 in
+    let durable = rw c.in-Some.is at c.in-Ok.ensures.durable in
+    record {
+      numbers = omega (arith, same.first, t.first, old.numbers, cut, ap length o.same);
+      durable_agrees = omega (arith, same.durable, t.durable, c.number-number.ensures, durable);
+      ring = omega (arith, old.ring, t.ring, ap (λ (k : Control). (room_in (txns_in k)).stream_bytes) same.control, o.size);
+      knows = c.learn_left.ensures.knows
+          (knows_as c.open_staged.new.self (told_of old.core) (told_of c.told.new.self) (ap (λ (x : PlainTail). told_in x) t.tail) (o.knows (told_of old.core) old.knows));
+      spelled = o.spelled old.spelled;
+    }
 
 pub returns-then-has_failed-clause-moves : goal.returns-then-has_failed-clause-moves
 returns-then-has_failed-clause-moves g c =

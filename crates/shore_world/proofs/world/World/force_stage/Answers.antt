@@ -11,7 +11,7 @@ use Rattle.shore_log.specs.Settled.{IsSettledFrom, IsStagedFrom, cut_of_log, rec
 use Rattle.shore_log.specs.declared.device.LogDev.{LogDev}
 use Rattle.laws_calls.specs.StateChanges.{with_failure}
 use Rattle.laws_calls.specs.States.{State, cost_of_log}
-use Rattle.shore_core.specs.Cores.{IsSafe, waiting_of}
+use Rattle.shore_core.specs.Cores.{IsSafe, told_of, waiting_of}
 use Rattle.shore_world.specs.declared.event.Event.TheVariants.{ForceStage}
 use Rattle.shore_world.specs.declared.world.World.{World}
 use Rattle.shore_world.specs.Worlds.{IsInState, IsOverStore, anchor_in, cut_in, durable_in, failed_in, forced_in, list_in}
@@ -23,6 +23,20 @@ use Rattle.shore_restart.proofs.Rooms.{cost_append, frame_has_room}
 use Rattle.shore_world.proofs.ForceLemmas.{other_is_no_device, refused_is}
 use Rattle.shore_world.proofs.world.World.force_stage.Goals as goal
 
+pub invariant_of-self : goal.invariant_of-self
+invariant_of-self g c =
+    let old = c.args.self.now in
+    let h = c.hand_over.ensures in
+    let st = c.stage.ensures in
+    let cut = ap (λ (t : FrameAt). t.first - 1) st.tail.0 in
+    record {
+      numbers = omega (arith, h.numbers, ap length st.same.0, cut);
+      durable_agrees = omega (arith, h.durable, old.durable_agrees, h.cut, cut, ap length h.still.2, ap length st.same.1);
+      ring = omega (arith, old.ring, h.ring, ap (λ d. size (g.L.Disk.history d)) h.still.0, st.size);
+      knows = st.knows (told_of c.hand_over.new.self) h.knows;
+      spelled = st.spelled h.spelled;
+    }
+
 pub returns-then-has_failed-clause-moves : goal.returns-then-has_failed-clause-moves
 returns-then-has_failed-clause-moves g c =
     nothing_done c.args.self.now ForceStage _ (λ is. is) stage_is_no_flush (λ s is. inl (is.parts.failed_is ∙ sym c.has_failed.ensures ∙ c.if-has_failed.true, refl, refl))
@@ -30,21 +44,6 @@ returns-then-has_failed-clause-moves g c =
 pub returns-then-is_staged-clause-moves : goal.returns-then-is_staged-clause-moves
 returns-then-is_staged-clause-moves g c =
     nothing_done c.args.self.now ForceStage _ (λ is. is) stage_is_no_flush (λ s is. (is.parts.failed_is ∙ sym c.has_failed.ensures ∙ c.if-has_failed.false, refl))
-
-pub returns-in-Err-clause-moves : goal.returns-in-Err-clause-moves
-returns-in-Err-clause-moves g c =
-    let old = c.args.self.now in
-    let none = none_staged old.log c.is_staged.result c.is_staged.ensures c.if-is_staged.false in
-    let running = sym c.has_failed.ensures ∙ c.if-has_failed.false in
-    let h = c.hand_over.ensures in
-    force_moves old _ ForceStage _ (λ is. is) stage_is_no_flush (ap heaps.geometry_of h.heap) (ap heaps.history_of h.heap) (record { stage = refl; anchors = h.anchors })
-    (handed old _ running h.still.0 h.list h.still.2 h.anchors none h.still.1 h.settled)
-    (λ front disk s store is over safe. record {
-      later = s;
-      moves = inr (inr (is.beside.parts.failed_is ∙ running, inl c.in-Err.ensures.only_memory, refl));
-      is_in = in_at c.hand_over.new.log c.hand_over.new.self (cut_in old) h.cut front disk s (h.state front disk (take (cut_in old) s.log) s (gone_long old s is.beside) is);
-      told = inl (h.over disk s store over);
-    })
 
 pub returns-in-Ok-None-clause-moves : goal.returns-in-Ok-None-clause-moves
 returns-in-Ok-None-clause-moves g c =
@@ -108,8 +107,8 @@ returns-in-Ok-Some-clause-moves g c =
       told = inl (h.over disk s store over);
     })
 
-pub returns-in-Err-stage-clause-moves : goal.returns-in-Err-stage-clause-moves
-returns-in-Err-stage-clause-moves g c =
+pub returns-in-Err-clause-moves : goal.returns-in-Err-clause-moves
+returns-in-Err-clause-moves g c =
     let old = c.args.self.now in
     let new = c.refuse.new.self in
     let mid = c.hand_over.new.log in
@@ -126,7 +125,7 @@ returns-in-Err-stage-clause-moves g c =
     let anchors = ap (λ (l : LogDev g.row.L.Denot g.L.Disk). l.anchors) r.log ∙ c.stage.ensures.tail.1 ∙ h.anchors in
     let cut = ap (λ (t : FrameAt). t.first - 1) c.stage.ensures.tail.0 in
     let checkpoint : SameCheckpoint old new = record { stage = r.stage; anchors = anchors } in
-    rw r.refused (elim c.in-Err-stage.ensures.others [
+    rw r.refused (elim c.in-Err.ensures.others [
       | inl device ↦
           force_moves old new ForceStage _ (λ is. is) stage_is_no_flush geometry volume checkpoint
           (staging old new mid running none still.0 still.1 still.2 list stays anchors h.settled
@@ -143,10 +142,11 @@ returns-in-Err-stage-clause-moves g c =
             is_in = failed.0;
             told = inl failed.1;
           })
-      | inr other ↦
-          let isnt = other_is_no_device _ other in
+      | inr (inl memory) ↦ absurd (c.in-Err.ensures.idle h.spelled (ap Err memory))
+      | inr (inr full) ↦
+          let isnt = other_is_no_device _ (inr full) in
           let whole = r.other isnt in
-          let kept = not_left c.in-Err-stage.ensures.refused isnt in
+          let kept = not_left c.in-Err.ensures.refused isnt in
           force_moves old new ForceStage _ (λ is. is) stage_is_no_flush geometry volume checkpoint
           (handed old new running (ap (λ (l : LogDev g.row.L.Denot g.L.Disk). l.device) r.log ∙ kept.1 ∙ still.0)
           list stays anchors none
@@ -154,23 +154,23 @@ returns-in-Err-stage-clause-moves g c =
           (λ tail place front s. subst (λ (l : LogDev g.row.L.Denot g.L.Disk). IsSettledFrom tail place l front) (sym r.log) (kept.0.settled tail place front (h.settled tail place front s))))
           (λ front disk s store is over safe. record {
             later = s;
-            moves = inr (inr (is.beside.parts.failed_is ∙ running, other, refl));
+            moves = inr (inr (is.beside.parts.failed_is ∙ running, full, refl));
             is_in = subst (λ (w : World g.row.L.Denot g.row.V.Denot g.L.Disk g.V.Disk). IsInState w front disk s) (sym whole)
                 (in_same mid c.stage.new.self c.hand_over.new.self cut same front disk s (in_at mid c.hand_over.new.self (cut_in old) h.cut front disk s (h.state front disk (take (cut_in old) s.log) s (gone_long old s is.beside) is)));
             told = inl (subst (λ (w : World g.row.L.Denot g.row.V.Denot g.L.Disk g.V.Disk). IsOverStore w disk s store) (sym whole) (h.over disk s store over));
           })
     ])
 
-pub returns-in-Err-stage-clause-full : goal.returns-in-Err-stage-clause-full
-returns-in-Err-stage-clause-full g c refused has_room =
+pub returns-in-Err-clause-full : goal.returns-in-Err-clause-full
+returns-in-Err-clause-full g c refused has_room =
     let old = c.args.self.now in
     let front = has_room.log_front in
     let mid = c.hand_over.new.log in
     let none = none_staged old.log c.is_staged.result c.is_staged.ensures c.if-is_staged.false in
     let running = sym c.has_failed.ensures ∙ c.if-has_failed.false in
     let settled = c.hand_over.ensures.settled (anchor_in old).tail (anchor_in old).tail_place front (ready_settled old front none (has_room.kept.ready running)) in
-    let fault : c.in-Err-stage.fault ≡ LogFull = refused_is _ _ _ c.refuse.ensures.refused refused in
-    let full = c.in-Err-stage.ensures.full (ap (λ f. Err f) fault) in
+    let fault : c.in-Err.fault ≡ LogFull = refused_is _ _ _ c.refuse.ensures.refused refused in
+    let full = c.in-Err.ensures.full (ap (λ f. Err f) fault) in
     let room = frame_has_room mid front settled full.count full.some full.longest.within in
     let whole = ap cost_of_log c.hand_over.ensures.list in
     let longer = cost_append (records_of_log mid) (waiting_of c.hand_over.new.self) in
@@ -190,13 +190,34 @@ returns-in-Ok-Some-clause-staged g c n is =
     let longest = rw c.in-Ok-Some.field-0-is at (c.in-Ok-Some.ensures.longest waits) in
     let frame = rw c.in-Ok-Some.field-0-is at (c.in-Ok-Some.ensures.frame waits) in
     let forced : forced_in old ≡ mid.forced = sym (ap length still.2) ∙ length-stable mid in
-    let emptied : waiting_of c.hand_over.new.self ≡ [] = c.in_default.ensures.emptied in
+    let emptied : waiting_of c.hand_over.new.self ≡ [] = h.emptied in
     let list : (records_of_log mid) ≡ list_in old =
     sym (append-nil (records_of_log mid)) ∙ sym (ap (λ (l : List LogRecord). (records_of_log mid) ++ l) emptied) ∙ h.list in
     let count : number - (cut_of_log mid + mid.forced) ≡ n - durable_in old = omega (arith, same, old.durable_agrees, forced, h.cut) in
     has_staged old _ mid n number none same forced list (number - (cut_of_log mid + mid.forced)) count longest.1 (is_some_and _ _ _ frame refl)
     (λ front k. rw c.in-Ok-Some.field-0-is at (c.in-Ok-Some.ensures.staged (anchor_in old).tail (anchor_in old).tail_place front
     (h.settled (anchor_in old).tail (anchor_in old).tail_place front (ready_settled old front none (k.ready running))) waits))
+
+pub returns-in-Ok-None-clause-idle : goal.returns-in-Ok-None-clause-idle
+returns-in-Ok-None-clause-idle g c nothing =
+    let old = c.args.self.now in
+    let mid = c.hand_over.new.log in
+    let none = none_staged old.log c.is_staged.result c.is_staged.ensures c.if-is_staged.false in
+    let h = c.hand_over.ensures in
+    let waits : waiting mid ≡ [] = c.stage.ensures.none_waits (h.still.1 ∙ none) (c.in-Ok-None.is ∙ ap (λ n. Ok n) c.in-Ok-None.field-0-is) in
+    inr (omega (
+      arith,
+      old.durable_agrees,
+      h.cut,
+      ap length h.list,
+      length-append (records_of_log mid) (waiting_of c.hand_over.new.self),
+      ap length h.emptied,
+      ap length waits,
+      length-drop mid.forced (records_of_log mid),
+      length-stable mid,
+      ap length h.still.2,
+      mid.forced_inside,
+    ))
 
 pub returns-then-is_staged-clause-quiet : goal.returns-then-is_staged-clause-quiet
 returns-then-is_staged-clause-quiet g c nothing = unchanged_itself c.args.self.now
@@ -219,3 +240,8 @@ returns-in-Ok-None-clause-quiet g c nothing =
     unchanged_of old _ device (ap heaps.pool_of h.heap) list h.durable h.running staged anchors refl refl moves.kept
     (λ front disk s is. in_same mid c.stage.new.self c.hand_over.new.self (ap (λ (l : LogDev g.row.L.Denot g.L.Disk). cut_of_log l) unchanged) same front disk s
     (in_at mid c.hand_over.new.self (cut_in old) h.cut front disk s (h.state front disk (take (cut_in old) s.log) s (gone_long old s is.beside) is))) h.over
+
+pub returns-in-Err-clause-no_memory : goal.returns-in-Err-clause-no_memory
+returns-in-Err-clause-no_memory g c memory =
+    let fault = refused_is _ _ _ c.refuse.ensures.refused memory in
+    c.in-Err.ensures.idle c.hand_over.ensures.spelled (ap (λ f. Err f) fault)

@@ -59,6 +59,8 @@ invariant_of-result g c =
       numbers = omega (arith, e.numbers.0, long, same.first);
       durable_agrees = same.durable ∙ e.numbers.1;
       ring = omega (arith, e.ring, log.as_long, ap (λ (t : Control). (room_in (txns_in t)).stream_bytes) same.control);
+      knows = c.learn_room.ensures.knows e.waiting (e.spelled c.in-Ok-open.ensures.none_waits.0);
+      spelled = e.spelled c.in-Ok-open.ensures.none_waits.0;
     }
 
 pub returns-in-Ok-restart-clause-fronts : goal.returns-in-Ok-restart-clause-fronts
