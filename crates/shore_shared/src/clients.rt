@@ -54,8 +54,11 @@ pub trait Client {
         ensures told { told self.new ≡ told self.old ++ record { call = call; reply = result } ∷ [] }
         ensures known { IsWithin (known self.old) (known self.new) };
 
-    /// As `Shared::give_up`; that stays so in the jobs to come. The session of the client of number n is that of number n + 1.
+    /// As `Shared::give_up`; that stays so, in the jobs to come too, until it is welcome again. The session of the client of number n is that of number n + 1.
     fn give_up(&self, session: SessionId);
+
+    /// As `Shared::welcome`.
+    fn welcome(&self, session: SessionId);
 
     /// As `Shared::tail_holder`.
     fn tail_holder(&self) -> TailHolder;
@@ -84,6 +87,9 @@ pub trait Serves<B: Named, R> {
 
     /// As `Shared::give_up`.
     fn give_up_of(&self, session: SessionId);
+
+    /// As `Shared::welcome`.
+    fn welcome_of(&self, session: SessionId);
 
     /// As `Shared::tail_holder`.
     fn tail_holder_of(&self, rt: &R) -> TailHolder;
@@ -116,6 +122,10 @@ impl<N: Numbers, B: Named, R: Wait + Copy, L: Disk, V: Disk> Serves<B, R>
 
     fn give_up_of(&self, session: SessionId) {
         self.give_up(session);
+    }
+
+    fn welcome_of(&self, session: SessionId) {
+        self.welcome(session);
     }
 
     fn tail_holder_of(&self, rt: &R) -> TailHolder {
@@ -185,6 +195,10 @@ impl<'m, E: Begins, B: Named, R: Copy, S: Serves<B, R>> Client for Talk<'m, E, B
 
     fn give_up(&self, session: SessionId) {
         self.manager.give_up_of(session);
+    }
+
+    fn welcome(&self, session: SessionId) {
+        self.manager.welcome_of(session);
     }
 
     fn tail_holder(&self) -> TailHolder {

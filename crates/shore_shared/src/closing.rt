@@ -145,6 +145,7 @@ fn take_rest<N: Numbers, B: Named, R: Wait + Copy, L: Disk, V: Disk>(
     requires last { last_of core.now.core ≡ B.cut + length B.before + length (waiting_of core.now.core) }
     ensures follows { OnOk result (Follows B.cut B.before held.new.got held.new.cut held.new.list) }
     ensures taken { OnOk result (held.new.waits ≡ []) }
+    ensures texts { OnOk result (held.new.textless ≡ 0) }
     ensures all { OnOk result (length (waiting_of core.now.core) ≤ length held.new.got) }
     ensures refused { IfErr result (λ fault. fault ≡ Fault.Memory) }
 {
@@ -183,6 +184,7 @@ fn end<N: Numbers, B: Named, R: Wait + Copy, L: Disk, V: Disk>(
     ensures whole { IfOk result (λ _. core.new.made ≡ sessions) }
     ensures records { IfOk result (λ _. (gone : List LogRecord) × (B.before ++ waiting_of core.new.core ≡ gone ++ held.new.list) × (held.new.cut ≡ B.cut + length gone)) }
     ensures taken { IfOk result (λ _. held.new.waits ≡ []) }
+    ensures texts { IfOk result (λ _. held.new.textless ≡ 0) }
     ensures last { IfOk result (λ _. last_of core.new.core ≡ held.new.cut + length held.new.list) }
     ensures durable { IfOk result (λ _. (durable_of core.new.core ≡ held.new.cut + length held.new.stable) × (held.new.told ≡ durable_of core.new.core)) }
     ensures anchor { IfOk result (λ _. core.new.seat.kept ≡ known_in held.new) }

@@ -1,5 +1,6 @@
 //! Pages are written back by turns: each hold of the core's lock makes one sync of a batch, and who waits for the lock has it between two.
 use crate::gate::{Gate, Place, Role};
+use crate::pacing::{free_after, moment};
 use crate::shared::{CHECKPOINTER, FLUSHER, Shared, WRITER};
 use crate::turns::flush_held;
 use shore_core::Step;
@@ -11,7 +12,7 @@ use shore_queue::Numbers;
 use shore_types::layout::MAX_BATCH_PAGES;
 use std::alloc::Global;
 use std::sync::Wait;
-use std::time::Duration;
+use std::time::{Clock, Duration};
 
 // All that is due is looked for in no more batches than this.
 const MOST_BATCHES: u32 = 64;
@@ -19,8 +20,19 @@ const MOST_BATCHES: u32 = 64;
 // A batch is written under so many holds of the core's lock: one a sync.
 const HOLDS: u32 = 4;
 
-// How long the lock is free between two of them: longer than who finds it taken naps, or the four are one hold in effect.
-const FREE_MICROS: u64 = 400;
+// The flusher leaves the lock free so many times as long as it had it: pages may wait, and calls may not. A checkpoint, for which begins may wait, leaves it free as long.
+const FLUSHER_LEAVES: u64 = 3;
+
+// What a batch, or all of them, came to.
+#[derive(Clone, Copy)]
+pub(crate) struct Flushed {
+    // More pages may be due.
+    pub(crate) may_more: bool,
+    // All that was logged was durable as the last batch was begun, and nothing was refused: no page that was due was left.
+    pub(crate) is_durable: bool,
+    // A step was refused: a device has failed, or there was no memory.
+    pub(crate) is_refused: bool,
+}
 
 // What a turn of a flush has left.
 #[derive(Clone, Copy)]
@@ -33,9 +45,25 @@ struct Turn {
     // Whether all that is logged was durable.
     is_durable: bool,
     is_refused: bool,
+    // When it had the core's lock.
+    began: Option<u64>,
+    ended: Option<u64>,
 }
 
 impl Turn {
+    // Others have ended the batch meanwhile, so nothing was left to do.
+    fn idle(began: Option<u64>) -> Turn {
+        Turn {
+            amid: Amid::Rest,
+            has_looked: false,
+            may_more: true,
+            is_durable: true,
+            is_refused: false,
+            began,
+            ended: began,
+        }
+    }
+
     // No batch is under way.
     fn is_last(&self) -> bool {
         self.is_refused || matches!(self.amid, Amid::Rest)
@@ -43,61 +71,65 @@ impl Turn {
 }
 
 impl<N: Numbers, B: Named, T: Tail, L: Disk, V: Disk> Shared<N, B, T, L, V> {
-    // All pages that are due are written back. The answer is whether all that is logged was durable then: no other page was left.
+    // All pages that are due are written back.
     pub(crate) fn flush_all(
         &self,
-        rt: &impl Wait,
+        rt: &(impl Wait + Clock),
         alloc: Global,
         gate: &impl Gate,
         role: Role,
-    ) -> bool {
-        for _ in 0..MOST_BATCHES {
-            let (more, durable) = self.flush_batch(rt, alloc, gate, role);
-            if !more {
-                return durable;
+    ) -> Flushed {
+        for _ in 1..MOST_BATCHES {
+            let flushed = self.flush_batch(rt, alloc, gate, role);
+            if !flushed.may_more {
+                return flushed;
             }
         }
-        false
+        self.flush_batch(rt, alloc, gate, role)
     }
 
-    // One batch is written back, or the one under way is gone on with. The answer is whether more may be due, and whether all that is logged was durable as the batch was begun, and
-    // nothing was refused. What is not durable then is asked for.
+    // One batch is written back, or the one under way is gone on with. What is not durable as it is begun is asked for.
     pub(crate) fn flush_batch(
         &self,
-        rt: &impl Wait,
+        rt: &(impl Wait + Clock),
         alloc: Global,
         gate: &impl Gate,
         role: Role,
-    ) -> (bool, bool) {
+    ) -> Flushed {
         gate.pass(Place::Sync(role));
         let mut turn = self.flush_turn(rt, alloc, Amid::Rest);
-        let (mut more, mut durable) = (turn.may_more, turn.is_durable);
-        if !durable {
+        let (mut may_more, mut is_durable) = (turn.may_more, turn.is_durable);
+        if !is_durable {
             self.ask_force();
         }
         for _ in 1..HOLDS {
             if turn.is_last() {
                 break;
             }
-            self.leave_free(rt, role);
+            self.leave_free(rt, role, &turn);
             gate.pass(Place::Sync(role));
             turn = self.flush_turn(rt, alloc, turn.amid);
             if turn.has_looked {
-                more = turn.may_more;
-                durable = turn.is_durable;
+                may_more = turn.may_more;
+                is_durable = turn.is_durable;
             }
         }
-        (more && !turn.is_refused, durable && !turn.is_refused)
+        Flushed {
+            may_more: may_more && !turn.is_refused,
+            is_durable: is_durable && !turn.is_refused,
+            is_refused: turn.is_refused,
+        }
     }
 
     // One turn, with what the core has seen. A batch that was given up since the turn before, as a page of it was changed, is begun anew and its gate is opened under this one hold:
     // else a page that is changed all the time would keep others from being written. One that others have ended meanwhile leaves nothing to do.
-    fn flush_turn(&self, rt: &impl Wait, alloc: Global, before: Amid) -> Turn {
+    fn flush_turn(&self, rt: &(impl Wait + Clock), alloc: Global, before: Amid) -> Turn {
         let mut core = self.lock_core(rt);
+        let began = moment(rt);
         let seen = core.look(&self.words);
         let rests = matches!(core.amid(), Amid::Rest);
         if rests && matches!(before, Amid::Opened | Amid::Placed) {
-            return turn_of(&core, false, true, false);
+            return Turn::idle(began);
         }
         let (mut step, is_durable) = flush_held(alloc, seen, &mut core);
         if rests && matches!(before, Amid::Written) && matches!(core.amid(), Amid::Written) {
@@ -107,35 +139,36 @@ impl<N: Numbers, B: Named, T: Tail, L: Disk, V: Disk> Shared<N, B, T, L, V> {
         if is_refused {
             self.wake_let_through(&core);
         }
-        turn_of(&core, rests, is_durable, is_refused)
+        Turn {
+            amid: core.amid(),
+            has_looked: rests,
+            may_more: !rests || is_full(&core),
+            is_durable,
+            is_refused,
+            began,
+            ended: moment(rt),
+        }
     }
 
-    // Leaves the core's lock to others.
-    fn leave_free(&self, rt: &impl Wait, role: Role) {
+    // Leaves the core's lock to others, the longer the longer the turn had it.
+    fn leave_free(&self, rt: &impl Wait, role: Role, turn: &Turn) {
         let sleeper = match role {
             Role::LogWriter => WRITER,
             Role::Flusher => FLUSHER,
             Role::Checkpointer => CHECKPOINTER,
         };
+        let times = match role {
+            Role::Flusher => FLUSHER_LEAVES,
+            Role::LogWriter | Role::Checkpointer => 1,
+        };
+        let micros = free_after(turn.began, turn.ended, times);
         let glanced = self.sleepers.glance(sleeper);
         self.sleepers
-            .nap(rt, sleeper, glanced, Duration::from_micros(FREE_MICROS));
+            .nap(rt, sleeper, glanced, Duration::from_micros(micros));
     }
 }
 
-fn turn_of<B: Named, T: Tail, V: Disk>(
-    core: &CoreHeld<B, T, V>,
-    has_looked: bool,
-    is_durable: bool,
-    is_refused: bool,
-) -> Turn {
-    let amid = core.amid();
-    let is_full = !matches!(amid, Amid::Rest) && core.batch_pages() >= MAX_BATCH_PAGES;
-    Turn {
-        amid,
-        has_looked,
-        may_more: !has_looked || is_full,
-        is_durable,
-        is_refused,
-    }
+// Whether the batch under way has all that it may have, so that more may be due.
+fn is_full<B: Named, T: Tail, V: Disk>(core: &CoreHeld<B, T, V>) -> bool {
+    !matches!(core.amid(), Amid::Rest) && core.batch_pages() >= MAX_BATCH_PAGES
 }

@@ -3,13 +3,13 @@ ghost use Rattle.std.specs.Prelude.{◌≡◌, ◌⊎◌, ◌<◌, ◌+◌, List
 ghost use Rattle.std.specs.Arc.{arc_value};
 ghost use Rattle.crossbeam_queue.specs.SegTies.{IsSegPassOf};
 ghost use Rattle.shore_check.specs.declared.stage.Stage.{Stage};
-ghost use Rattle.shore_core.specs.Cores.{durable_of, first_of, geometry_of, has_failed, txns_of, waiting_of};
+ghost use Rattle.shore_core.specs.Cores.{durable_of, first_of, geometry_of, has_failed, told_of, txns_of, waiting_of};
 ghost use Rattle.shore_disk.specs.Device.{size};
 ghost use Rattle.shore_txn.specs.Transactions.{room_in};
 ghost use Rattle.shore_types.specs.declared.faults.Fault.TheVariants as Fault;
 ghost use Rattle.shore_types.specs.declared.layout.TheConstants.{LOG_FRONT_BYTES};
 ghost use Rattle.laws_images.specs.StandsBehind.{anchored_by};
-ghost use Rattle.shore_log.specs.Settled.{anchor_of, cut_of_log, records_of_log, stable};
+ghost use Rattle.shore_log.specs.Settled.{IsSpelled, KnowsRoom, anchor_of, cut_of_log, records_of_log, stable};
 ghost use Rattle.shore_queue.specs.Queues.{ends};
 ghost use Rattle.shore_model.specs.declared.histories.Entry.{Entry};
 ghost use Rattle.shore_model.specs.declared.histories.Opening.{Opening};
@@ -52,6 +52,8 @@ pub struct Opened<L: Disk, V: Disk> {
     ghost running: { has_failed core ≡ false },
     ghost still: { log.staged ≡ None },
     ghost ring: { (room_in (txns_of core)).stream_bytes + LOG_FRONT_BYTES ≡ size (L.Disk.history log.device) },
+    ghost knows: { KnowsRoom log (told_of core) },
+    ghost spelled: { IsSpelled log },
     ghost told: { teller.me ≡ (known.teller (cut_of_log log + length (stable log)) (anchored_in log), []) },
     ghost whose: { (teller.table_id ≡ words.table.shared.table_id) × (4 < words.table.shared.table_id.words) },
     ghost parts: { blank.parts ≡ ALL_PARTS },

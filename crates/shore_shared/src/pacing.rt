@@ -1,5 +1,5 @@
-//! How long the log writer gathers: by what its last forces took.
-ghost use Rattle.std.specs.Prelude.{◌≡◌, ◌↔◌, ◌⊎◌, ◌*◌, ◌≤◌, ◌<◌, IfNone, IfSome, IsTrue};
+//! How long the log writer gathers, by what its last forces took; and how long a flush leaves the core's lock free, by how long it had it.
+ghost use Rattle.std.specs.Prelude.{◌≡◌, ◌↔◌, ◌⊎◌, ◌*◌, ◌-◌, ◌≤◌, ◌<◌, ℕ, IfNone, IfSome, IsTrue, Some};
 
 use std::time::{Clock, Duration};
 
@@ -14,6 +14,11 @@ const LEAST_MICROS: u64 = 100;
 
 // As long as nobody came while it gathered so, so many turns do without.
 const SPARES: u32 = 7;
+
+// How long a flush leaves the core's lock free at least, in microseconds: longer than who finds it taken naps, or its holds are one in effect. And at most.
+const LEAST_FREE: u64 = 400;
+
+const MOST_FREE: u64 = 20_000;
 
 /// What a clock shows, in microseconds from its start. None if it cannot be read.
 pub(crate) fn moment(clock: &impl Clock) -> Option<u64> {
@@ -102,4 +107,17 @@ pub(crate) fn left_of(clock: &impl Clock, most: u64, began: u64) -> Option<Durat
     } else {
         None
     }
+}
+
+/// How many microseconds a flush leaves the core's lock free that had it between these moments: so many times as long, as far as that may be. The least where the clock could not be read.
+pub(crate) fn free_after(began: Option<u64>, ended: Option<u64>, times: u64) -> u64
+    ensures least { LEAST_FREE ≤ result }
+    ensures most { result ≤ MOST_FREE }
+    ensures held { (b e : ℕ) → began ≡ Some b → ended ≡ Some e → LEAST_FREE ≤ (e - b) * times → (e - b) * times ≤ MOST_FREE → result ≡ (e - b) * times }
+{
+    let held = match (began, ended) {
+        (Some(began), Some(ended)) => ended.saturating_sub(began),
+        _ => 0,
+    };
+    held.saturating_mul(times).max(LEAST_FREE).min(MOST_FREE)
 }

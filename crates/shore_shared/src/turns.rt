@@ -39,7 +39,7 @@ pub(crate) fn take_all<N: Numbers, B: Named, L: Disk>(
     ensures same { (held.new.anchors ≡ held.old.anchors) × (held.new.cut ≡ held.old.cut) × (held.new.stable ≡ held.old.stable) × (held.new.told ≡ held.old.told) × (held.new.failed ≡ held.old.failed)
         × (held.new.history ≡ held.old.history) × (held.new.met ≡ held.old.met) × (held.new.staged ≡ held.old.staged) × (held.new.free ≡ held.old.free) × (held.new.faults ≡ held.old.faults) }
     ensures more { length held.old.got ≤ length held.new.got }
-    ensures texts { held.old.textless ≡ 0 → held.new.textless ≡ 0 }
+    ensures texts { OnOk result (held.new.textless ≡ 0) × (held.old.textless ≡ 0 → held.new.textless ≡ 0) }
     ensures all { OnOk result (((rest : List LogRecord) × (held.new.got ≡ held.old.met ++ rest)) ⊎ (length held.old.got + most < length held.new.got)) }
     // Nothing that came through the queue waits for memory then.
     ensures taken { OnOk result (held.new.waits ≡ []) }

@@ -22,6 +22,9 @@ const ID: Rid = Rid {
 // Twenty seconds at least, also where each thread has to wait for a processor.
 const MOST_NAPS: u32 = 20_000;
 
+// Naps in which whoever is refused at once would have been told so.
+const REFUSED_NAPS: u32 = 200;
+
 // So many milliseconds a client waits for a lock that does not come.
 const SHORT: u64 = 100;
 
@@ -37,9 +40,13 @@ struct Meeting {
     ended: AtomicU64,
 }
 
-// Whether the word came to this within so many naps of a millisecond.
+// Whether the word came to this, and within so many naps of a millisecond.
 fn comes(clock: &impl Clock, word: &AtomicU64, wanted: u64) -> bool {
-    for _ in 0..MOST_NAPS {
+    comes_within(clock, word, wanted, MOST_NAPS)
+}
+
+fn comes_within(clock: &impl Clock, word: &AtomicU64, wanted: u64, naps: u32) -> bool {
+    for _ in 0..naps {
         if word.load(Ordering::SeqCst) >= wanted {
             return true;
         }
@@ -58,13 +65,15 @@ enum Doing {
     Behind,
     // The first deletes it, takes back the waits of so many others, and waits until each of them has aborted.
     Clear(u32),
+    // The first deletes it and gives up the second, which is refused at once; then it is welcome again, and waits until the first has aborted.
+    Welcome,
 }
 
 impl Doing {
     // What the client of this number is told.
     fn wanted(&self, number: usize) -> u64 {
         let waits_in_vain = match self {
-            Doing::Insert => false,
+            Doing::Insert | Doing::Welcome => false,
             Doing::Meet | Doing::Clear(_) => number > 0,
             Doing::Behind => number == 1,
         };
@@ -191,6 +200,36 @@ impl<'r, 'm, R: Clock> Task<'r, 'm, R> {
         }
         Ok(came)
     }
+
+    fn welcome<C: Client>(&self, number: usize, client: &mut C) -> Result<u64, Fault> {
+        let second = SessionId(2);
+        let came = if number == 0 {
+            self.takes(Call::Delete(ID), client)?;
+            client.give_up(second);
+            self.meeting.has_it.store(2, Ordering::SeqCst);
+            if !comes(self.rt, &self.meeting.ended, 1) {
+                return Ok(1);
+            }
+            client.welcome(second);
+            self.meeting.has_it.store(3, Ordering::SeqCst);
+            let is_refused = comes_within(self.rt, &self.meeting.ended, 2, REFUSED_NAPS);
+            u64::from(is_refused)
+        } else {
+            if !comes(self.rt, &self.meeting.has_it, 2) {
+                return Ok(1);
+            }
+            let before = self.asks(Call::Get(ID), NEVER, client)?;
+            client.call(Call::Abort)?;
+            self.ends();
+            if before != WOULD_BLOCK || !comes(self.rt, &self.meeting.has_it, 3) {
+                return Ok(1);
+            }
+            self.asks(Call::Get(ID), NEVER, client)?
+        };
+        client.call(Call::Abort)?;
+        self.ends();
+        Ok(came)
+    }
 }
 
 impl<'r, 'm, R: Clock> Job for Task<'r, 'm, R> {
@@ -211,6 +250,7 @@ impl<'r, 'm, R: Clock> Job for Task<'r, 'm, R> {
             Doing::Meet => self.meet(number, client),
             Doing::Behind => self.behind(number, client),
             Doing::Clear(others) => self.clear(number, others, client),
+            Doing::Welcome => self.welcome(number, client),
         }
     }
 }
@@ -266,4 +306,9 @@ fn whoever_waits_behind_one_is_let_through(rt: HostRuntime) -> Result<(), Fail> 
 #[test]
 fn as_many_as_there_may_be_are_cleared(rt: HostRuntime) -> Result<(), Fail> {
     check(rt, rt.alloc(), 255, Doing::Clear(254))
+}
+
+#[test]
+fn who_is_welcome_waits_again(rt: HostRuntime) -> Result<(), Fail> {
+    check(rt, rt.alloc(), 2, Doing::Welcome)
 }

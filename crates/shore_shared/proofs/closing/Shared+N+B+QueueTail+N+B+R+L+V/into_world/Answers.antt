@@ -5,8 +5,8 @@ use Rattle.shore_disk.specs.Device.{size}
 use Rattle.shore_gate.specs.declared.anchors.Anchors.{Anchors}
 use Rattle.shore_heap.specs.Heaps as heaps
 use Rattle.laws_images.specs.StandsBehind.{anchored_by}
-use Rattle.shore_log.specs.PlainTails.{waiting_in}
-use Rattle.shore_log.specs.Settled.{cut_of_log, records_of_log}
+use Rattle.shore_log.specs.PlainTails.{told_in, waiting_in}
+use Rattle.shore_log.specs.Settled.{KnowsRoom, cut_of_log, records_of_log}
 use Rattle.shore_log.specs.declared.tail.PlainTail.{PlainTail}
 use Rattle.shore_model.specs.declared.log_records.LogRecord.{LogRecord}
 use Rattle.shore_sessions.specs.Controls.{txns_in}
@@ -22,6 +22,15 @@ use Rattle.shore_held.specs.Trails.{calls_in, moves_of, noted_in}
 use Rattle.shore_words.specs.Words.{AreBy}
 use Rattle.shore_shared.proofs.Lives.{ended}
 use Rattle.shore_shared.proofs.closing.Shared+N+B+QueueTail+N+B+R+L+V.into_world.Goals as goal
+
+pub from_parts-requires-clause-spelled : goal.from_parts-requires-clause-spelled
+from_parts-requires-clause-spelled g c =
+    c.into_log-log.ensures.spelled (ap (λ (x : LogState). x.textless) c.gathered-calls.ensures.same ∙ c.in_default.ensures.texts)
+
+pub from_parts-requires-clause-knows : goal.from_parts-requires-clause-knows
+from_parts-requires-clause-knows g c =
+    let spelled = c.into_log-log.ensures.spelled (ap (λ (x : LogState). x.textless) c.gathered-calls.ensures.same ∙ c.in_default.ensures.texts) in
+    subst (λ (t : PlainTail). KnowsRoom c.into_log-log.result (told_in t)) (sym c.with_tail-core.ensures.tail) (c.tell_room.ensures.knows c.new-tail.ensures.waiting spelled)
 
 pub returns-clause-ended : goal.returns-clause-ended
 returns-clause-ended g c =
