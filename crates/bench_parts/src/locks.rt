@@ -5,7 +5,7 @@ ghost use Rattle.shore_locks.specs.Tables.{is_waiting};
 use crate::host::Host;
 use crate::layout::{STORE, page_id, record_id};
 use shore_locks::laws::waits_only_if_told_to;
-use shore_locks::{LockTable, Requested};
+use shore_locks::{LetThrough, LockTable, Requested};
 use shore_types::{Granule, Mode, TxnId};
 use std::alloc::{AllocError, Global};
 
@@ -146,7 +146,7 @@ pub fn ask(table: &mut LockTable, txn: u64, granule: Granule, mode: Mode) -> boo
 fn release_to(table: &mut LockTable, last: u64) -> usize {
     let nodes = table.nodes();
     for txn in 1..last.saturating_add(1) {
-        table.release_all(TxnId(txn));
+        table.release_all(TxnId(txn), &mut LetThrough::nobody());
     }
     nodes
 }
@@ -183,7 +183,7 @@ fn round_of_first(table: &mut LockTable, work: Work) -> usize {
     }
     match work {
         Work::Again(_) => table.nodes(),
-        _ => table.release_all(FIRST),
+        _ => table.release_all(FIRST, &mut LetThrough::nobody()),
     }
 }
 
