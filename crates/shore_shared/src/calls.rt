@@ -13,7 +13,7 @@ ghost use Rattle.shore_shared.specs.Heard.{AwaitsLock, AwaitsLog, HasGoneOn, Has
 
 use crate::session::Session;
 use crate::shared::{Shared, sleeper_of};
-use crate::waiting::{may_let_through, waits_for_lock};
+use crate::waiting::waits_for_lock;
 use shore_core::{Step, Wait as Awaits};
 use shore_disk::Disk;
 use shore_held::{CoreHeld, Named};
@@ -181,9 +181,7 @@ impl<B: Named> Session<B> {
         let mut core = self.take_core(rt, shared);
         core.look(&shared.words);
         let step = session_step(alloc, &shared.words, &mut core, self, call);
-        if may_let_through(&step) {
-            shared.wake_let_through(&core);
-        }
+        shared.wake_let_through(&core);
         let more_taken = shared.freeing.note_step(&core.room(), self.number);
         drop(core);
         if more_taken {
@@ -393,9 +391,7 @@ impl<B: Named> Session<B> {
         let mut core = self.take_core(rt, shared);
         core.look(&shared.words);
         let step = back_step(alloc, &shared.words, &mut core, self);
-        if may_let_through(&step) {
-            shared.wake_let_through(&core);
-        }
+        shared.wake_let_through(&core);
         let more_taken = shared.freeing.note_step(&core.room(), self.number);
         drop(core);
         if more_taken {

@@ -7,7 +7,6 @@ use shore_core::{Step, Wait as Awaits};
 use shore_disk::Disk;
 use shore_held::{CoreHeld, Named, Seat};
 use shore_log::Tail;
-use shore_model::Answer;
 use shore_queue::Numbers;
 use shore_types::{Lsn, SessionId};
 use std::sync::Wait;
@@ -160,7 +159,8 @@ impl<N: Numbers, B: Named, T: Tail, L: Disk, V: Disk> Shared<N, B, T, L, V> {
             .nap(rt, sleeper, glanced, Duration::from_micros(GIVES_MICROS));
     }
 
-    // Wakes the sessions whose calls may go on. The core's lock is held, so none begins to wait meanwhile.
+    // Wakes the sessions whose calls may go on, after any step: also one that is answered may have doomed another, whose call goes on to be refused. The core's lock is held, so none begins to wait
+    // meanwhile.
     pub(crate) fn wake_let_through(&self, core: &CoreHeld<B, T, V>) {
         let mut from = 0;
         for _ in 0..MOST_WAITING {
@@ -170,17 +170,6 @@ impl<N: Numbers, B: Named, T: Tail, L: Disk, V: Disk> Shared<N, B, T, L, V> {
             self.sleepers.wake(sleeper_of(session));
             from = place.saturating_add(1);
         }
-    }
-}
-
-// A step behind which another call may go on: a transaction has ended, a call was refused and may have doomed others, or it waits and the search for cycles may have
-// doomed one. A call that was let through may wait for its next lock, so that of a resume counts too: only who may go on is woken by it.
-pub(crate) fn may_let_through(step: &Step) -> bool {
-    match step {
-        Step::Done(Answer::Committed(_) | Answer::Aborted | Answer::Prepared | Answer::Resolved)
-        | Step::Refused(_)
-        | Step::Waits(_) => true,
-        Step::Done(_) | Step::Nothing => false,
     }
 }
 

@@ -11,5 +11,6 @@ mod rooms;
 mod sends;
 mod taken_back;
 mod tapes;
+mod victims;
 mod waits;
 mod words;

@@ -20,9 +20,10 @@ use shore_world::{World, format, volume_bytes};
 use std::alloc::Global;
 use std::marker::Brand;
 use std::sync::Wait;
+use std::sync::atomic::{AtomicU64, Ordering};
 use std::thread;
-use std::thread::Threads;
-use std::time::Clock;
+use std::thread::{Threads, sleep};
+use std::time::{Clock, Duration};
 
 pub(super) type Life<N, B, R> = Shared<N, B, QueueTail<N, B, R>, MemDisk, MemDisk>;
 
@@ -31,6 +32,9 @@ pub(super) const FRAMES: usize = 16;
 
 /// The pages of the store.
 pub(super) const PAGES: u32 = 4;
+
+/// Twenty seconds at least, also where each thread has to wait for a processor.
+pub(super) const MOST_NAPS: u32 = 20_000;
 
 /// Both devices of a manager, formatted: a log of so many bytes, and a store of these pages.
 pub(super) fn devices(alloc: Global, log_bytes: usize) -> Result<(MemDisk, MemDisk), Fault> {
@@ -365,4 +369,28 @@ pub(super) fn read(client: &mut impl Client) -> Result<u64, Fault> {
     let found = client.call(Call::Get(RECORD))?;
     client.call(Call::Commit)?;
     Ok(number_in(&found))
+}
+
+/// Whether the word came to this.
+pub(super) fn comes(clock: &impl Clock, word: &AtomicU64, wanted: u64) -> bool {
+    comes_within(clock, word, wanted, MOST_NAPS)
+}
+
+/// .. within so many naps of a millisecond.
+pub(super) fn comes_within(clock: &impl Clock, word: &AtomicU64, wanted: u64, naps: u32) -> bool {
+    for _ in 0..naps {
+        if word.load(Ordering::SeqCst) >= wanted {
+            return true;
+        }
+        sleep(clock, Duration::from_millis(1));
+    }
+    false
+}
+
+/// What a call was refused with, 0 if it was answered.
+pub(super) fn told(reply: Result<Answer, Fault>) -> u64 {
+    match reply {
+        Ok(_) => 0,
+        Err(fault) => u64::from(fault.number()),
+    }
 }

@@ -1,5 +1,5 @@
 //! Waits that end before their locks are free: by their time, and by another client.
-use super::life::{insert, live};
+use super::life::{MOST_NAPS, comes, comes_within, insert, live, told};
 use shore_model::{Answer, Call};
 use shore_shared::{Client, Job, Open};
 use shore_types::{Fault, Granule, Mode, PageId, Rid, SessionId, StoreId};
@@ -19,9 +19,6 @@ const ID: Rid = Rid {
     slot: 0,
 };
 
-// Twenty seconds at least, also where each thread has to wait for a processor.
-const MOST_NAPS: u32 = 20_000;
-
 // Naps in which whoever is refused at once would have been told so.
 const REFUSED_NAPS: u32 = 200;
 
@@ -38,21 +35,6 @@ const WOULD_BLOCK: u64 = 21;
 struct Meeting {
     has_it: AtomicU64,
     ended: AtomicU64,
-}
-
-// Whether the word came to this, and within so many naps of a millisecond.
-fn comes(clock: &impl Clock, word: &AtomicU64, wanted: u64) -> bool {
-    comes_within(clock, word, wanted, MOST_NAPS)
-}
-
-fn comes_within(clock: &impl Clock, word: &AtomicU64, wanted: u64, naps: u32) -> bool {
-    for _ in 0..naps {
-        if word.load(Ordering::SeqCst) >= wanted {
-            return true;
-        }
-        sleep(clock, Duration::from_millis(1));
-    }
-    false
 }
 
 #[derive(Drop)]
@@ -86,14 +68,6 @@ struct Task<'r, 'm, R: Clock> {
     rt: &'r R,
     meeting: &'m Meeting,
     doing: Doing,
-}
-
-// What a call was refused with, 0 if it was answered.
-fn told(reply: Result<Answer, Fault>) -> u64 {
-    match reply {
-        Ok(_) => 0,
-        Err(fault) => u64::from(fault.number()),
-    }
 }
 
 impl<'r, 'm, R: Clock> Task<'r, 'm, R> {
