@@ -1,5 +1,5 @@
 /* Preloaded by bench/threads. With SYNC_MICROS each sync of a file takes so many microseconds, and writes nothing through: a disk whose syncs are slow, over memory. With SYNC_COUNT that file has how many
-   syncs there were of files whose names end in .log: eight bytes, the least first on most machines. */
+   syncs there were of files whose names end in .log: eight bytes, in the machine's order. */
 #define _GNU_SOURCE
 #include <fcntl.h>
 #include <stdint.h>
