@@ -322,7 +322,7 @@ impl LockTable {
     }
 
     /// A transaction waits no more: what it waited for is given up, and what it holds stays. Those behind it may be granted. Who waits no more is noted, itself
-    /// first.
+    /// too.
     pub fn cancel(&mut self, txn: TxnId, let_through: &mut LetThrough)
         ensures told { Tells self.old.requests self.new.requests let_through.old let_through.new }
         ensures table { self.new ≡ record { limit = self.old.limit; requests = cancelled txn self.old.requests } }

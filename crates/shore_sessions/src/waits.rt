@@ -172,6 +172,7 @@ impl Waits {
         self.let_through.remove(index);
         Some(self.calls.remove(index))
     }
+
     // ---- calls that were let through
 
     /// The place of the first call, from this one on, that was let through. None if no call was.

@@ -28,7 +28,7 @@ const FLUSHER_LEAVES: u64 = 3;
 pub(crate) struct Flushed {
     // More pages may be due.
     pub(crate) may_more: bool,
-    // All that was logged was durable as the last batch was begun, and nothing was refused: no page that was due was left.
+    // All that was logged was durable as the last batch was begun, and nothing was refused: if no more may be due, no page that was due was left.
     pub(crate) is_durable: bool,
     // A step was refused: a device has failed, or there was no memory.
     pub(crate) is_refused: bool,
