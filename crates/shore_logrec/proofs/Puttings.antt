@@ -1,5 +1,5 @@
 -- Bytes that are put one after another.
-use Rattle.std.proofs.Common.{◌≡◌, ℕ, zero, suc, ◌+◌, ◌<◌, ◌≤◌, [], ◌∷◌, ◌++◌, List, length, get_or, take, refl, sym, ap, subst, ◌∙◌, append_assoc, arith}
+use Rattle.std.proofs.Common.{◌≡◌, ℕ, zero, suc, ◌+◌, ◌<◌, ◌≤◌, [], ◌∷◌, ◌++◌, List, length, get_or, take, drop, refl, sym, ap, subst, ◌∙◌, append_assoc, arith}
 use Rattle.std.specs.Prelude.{flat_map}
 use Rattle.std.proofs.lemmas.Grind.{flat_map-append}
 use Rattle.std.proofs.lemmas.List.{append-nil, length-append, take_all, take_more}
@@ -31,6 +31,32 @@ unfolding head_text
 head_put {old = old} {new = new} r kind len kind_is len_is put =
     subst (λ (k : ℕ). Puts old new ((k ∷ []) ++ little_bytes 8 r.txn ++ little_bytes 8 r.previous ++ little_bytes 4 (length (payload_text r.payload)))) kind_is
     (subst (λ (n : ℕ). Puts old new ((kind ∷ []) ++ little_bytes 8 r.txn ++ little_bytes 8 r.previous ++ little_bytes 4 n)) len_is put)
+
+-- a head that is filled from its front: the kind is there, then two numbers and the length are written in place
+abbrev pub behind_kind : List ℕ → List ℕ
+behind_kind txn = txn ++ 0 ∷ 0 ∷ 0 ∷ 0 ∷ 0 ∷ 0 ∷ 0 ∷ 0 ∷ 0 ∷ 0 ∷ 0 ∷ 0 ∷ []
+
+abbrev pub with_previous : List ℕ → List ℕ → List ℕ
+with_previous txn previous = take 8 (behind_kind txn) ++ (previous ++ drop 8 (drop 8 (behind_kind txn)))
+
+abbrev pub filled : ℕ → List ℕ → List ℕ → List ℕ → List ℕ
+filled kind txn previous len = kind ∷ (take 16 (with_previous txn previous) ++ (len ++ drop 4 (drop 16 (with_previous txn previous))))
+
+pub head_filled : {old new : Vec ℕ} {seen r : LogRecord} {txn previous word : List ℕ} → seen ≡ r → (kind len : ℕ) → kind ≡ kind_of seen.payload → len ≡ length (payload_text seen.payload)
+    → txn ≡ little_bytes 8 seen.txn → previous ≡ little_bytes 8 seen.previous ++ drop 8 (take 8 (drop 8 (behind_kind txn)))
+    → word ≡ little_bytes 4 len ++ drop 4 (take 4 (drop 16 (with_previous txn previous))) → Puts old new (filled kind txn previous word) → Puts old new (head_text r)
+head_filled {old = old} {new = new} {seen = seen} {txn = txn} {previous = previous} {word = word} is kind len kind_is len_is txn_is previous_is word_is put =
+    let x = little_bytes 8 seen.txn in
+    let y = little_bytes 8 seen.previous in
+    let z = little_bytes 4 len in
+    let previous_so = subst (λ (t : List ℕ). previous ≡ y ++ drop 8 (take 8 (drop 8 (behind_kind t)))) txn_is previous_is in
+    let word_then = subst (λ (t : List ℕ). word ≡ z ++ drop 4 (take 4 (drop 16 (with_previous t previous)))) txn_is word_is in
+    let word_so = subst (λ (p : List ℕ). word ≡ z ++ drop 4 (take 4 (drop 16 (with_previous x p)))) previous_so word_then in
+    subst (λ (r : LogRecord). Puts old new (head_text r)) is
+    (head_put seen kind len kind_is len_is
+    (subst (λ (w : List ℕ). Puts old new (filled kind x y w)) word_so
+    (subst (λ (p : List ℕ). Puts old new (filled kind x p word)) previous_so
+    (subst (λ (t : List ℕ). Puts old new (filled kind t previous word)) txn_is put))))
 
 -- a granule is its depth, and its ids
 pub granule_is : (g : Granule) → granule_text g ≡ depth_of (level_of g) ∷ rid_text (ids_of g)

@@ -53,9 +53,11 @@ fn put_rid(out: &mut Vec<u8>, id: Rid)
     requires { HasRoom out.old 10 }
     ensures { Puts out.old out.new (rid_text id) }
 {
-    put_u32(out, id.page.store.0);
-    put_u32(out, id.page.page);
-    put_u16(out, id.slot);
+    let mut ids = [0u8; 10];
+    LittleEndian::write_u32(&mut ids[0..4], id.page.store.0);
+    LittleEndian::write_u32(&mut ids[4..8], id.page.page);
+    LittleEndian::write_u16(&mut ids[8..10], id.slot);
+    put(out, &ids);
 }
 
 #[tactic(auto, using(crate::proofs::TextLengths::lengths), unfolding(crate::specs::Text::string_text))]
@@ -67,8 +69,9 @@ fn put_image(out: &mut Vec<u8>, image: &Option<Bytes>)
     match image {
         None => put(out, &[0]),
         Some(bytes) => {
-            put(out, &[1]);
-            put_u16(out, bytes.as_slice().len() as u16);
+            let mut head = [1u8; 3];
+            LittleEndian::write_u16(&mut head[1..3], bytes.as_slice().len() as u16);
+            put(out, &head);
             put(out, bytes.as_slice());
         }
     }
@@ -230,10 +233,12 @@ fn put_head(out: &mut Vec<u8>, logged: &LogRecord)
     requires room { HasRoom out.old 21 }
     ensures { Puts out.old out.new (head_text logged.now) }
 {
-    put(out, &[kind_of(&logged.payload)]);
-    put_u64(out, logged.txn.0);
-    put_u64(out, logged.previous.0);
-    put_u32(out, payload_len(&logged.payload) as u32);
+    let mut head = [0u8; 21];
+    head[0] = kind_of(&logged.payload);
+    LittleEndian::write_u64(&mut head[1..9], logged.txn.0);
+    LittleEndian::write_u64(&mut head[9..17], logged.previous.0);
+    LittleEndian::write_u32(&mut head[17..21], payload_len(&logged.payload) as u32);
+    put(out, &head);
 }
 
 /// Appends the record's text. If an allocation failed nothing is appended.
