@@ -1,7 +1,7 @@
 //! The pages of a batch, with their texts one behind another, as one write takes them.
-ghost use Rattle.std.specs.Prelude.{◌≡◌, ◌*◌, ◌+◌, ◌++◌, ◌∷◌, [], ◌<◌, ◌↔◌, ℕ, All, Contains, IsTrue, length, IfOk, OnOk, OnErr};
+ghost use Rattle.std.specs.Prelude.{◌≡◌, ◌*◌, ◌+◌, ◌++◌, ◌∷◌, [], ◌<◌, ◌↔◌, ℕ, All, Contains, IsTrue, length, IfOk, IsOk, OnOk, OnErr};
 ghost use Rattle.shore_types.specs.declared.layout.Geometry.{Geometry};
-ghost use Rattle.shore_types.specs.declared.layout.TheConstants.{PAGE_BYTES};
+ghost use Rattle.shore_types.specs.declared.layout.TheConstants.{MAX_BATCH_PAGES, PAGE_BYTES};
 ghost use Rattle.shore_dwrite.specs.Shown.{IsBatchSoFar};
 ghost use Rattle.shore_dwrite.specs.Volumes.{IsImageOf, page_count};
 
@@ -19,12 +19,13 @@ pub struct PageImages {
 }
 
 impl PageImages {
-    ghost use Rattle.shore_dwrite.specs.Images.{numbers_of, texts_of};
+    ghost use Rattle.shore_dwrite.specs.Images.{HasRoomFor, numbers_of, texts_of};
 
     /// No pages, with room for a batch.
     pub fn new(alloc: Global) -> Result<PageImages, AllocError>
         ensures numbers { IfOk result (λ images. numbers_of images ≡ []) }
         ensures texts { IfOk result (λ images. texts_of images ≡ []) }
+        ensures room { IfOk result (λ images. HasRoomFor images MAX_BATCH_PAGES) }
     {
         let numbers = Vec::with_capacity(alloc, MAX_BATCH_PAGES)?;
         let bytes = Vec::with_capacity(alloc, MAX_BATCH_PAGES * PAGE_BYTES)?;
@@ -44,17 +45,20 @@ impl PageImages {
     pub fn clear(&mut self)
         ensures numbers { numbers_of self.new ≡ [] }
         ensures texts { texts_of self.new ≡ [] }
+        ensures room { (most : ℕ) → HasRoomFor self.old most → HasRoomFor self.new most }
     {
         self.numbers.clear();
         self.bytes.clear();
     }
 
-    /// One page more, behind the others. After an error none was added. The text goes into the room of the batch in one copy.
+    /// One page more, after the others. After an error none was added: an allocation failed, and none is made while there is room. The text goes into the room of the batch in one copy.
     pub fn push(&mut self, number: u32, text: &[u8]) -> Result<(), AllocError>
         requires { length text.now ≡ PAGE_BYTES }
         ensures numbers { OnOk result (numbers_of self.new ≡ numbers_of self.old ++ number ∷ []) }
         ensures texts { OnOk result (texts_of self.new ≡ texts_of self.old ++ text.now) }
         ensures refused { OnErr result ((numbers_of self.new ≡ numbers_of self.old) × (texts_of self.new ≡ texts_of self.old)) }
+        ensures idle { (most : ℕ) → HasRoomFor self.old most → length (numbers_of self.old) < most → IsOk result }
+        ensures room { (most : ℕ) → HasRoomFor self.old most → HasRoomFor self.new most }
 
         // A batch goes on with a page that rises above the others, if this is its text.
         ensures goes_on { (g : Geometry) → IsBatchSoFar g (numbers_of self.old) (texts_of self.old) → All (λ k. k < number) (numbers_of self.old)

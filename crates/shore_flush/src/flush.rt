@@ -14,15 +14,14 @@ ghost use Rattle.shore_flush.specs.Batches.{pages_of};
 ghost use Rattle.shore_flush.specs.Flushes.{AreFirst, Flushes, GoesOn, GoesOnFrom, NoneDue};
 
 use shore_disk::Disk;
-use shore_pool::{Amid, Pool};
+use shore_pool::{Amid, BatchPages, Pool};
 use shore_types::{Fault, Lsn};
-use std::alloc::{AllocError, Global};
 
 /// Pages that are written together, by their numbers on the volume.
 #[derive(Drop)]
 pub struct Batch {
     // They rise and are due, as `choose` says.
-    pages: Vec<u32>,
+    pages: BatchPages,
 }
 
 impl Batch {
@@ -34,22 +33,22 @@ impl Batch {
 }
 
 /// The first dirty pages of the volume with numbers up to the durable one: all of them, or as many as a batch may have.
-pub fn choose<D: Disk>(alloc: Global, pool: &Pool<D>, durable: Lsn) -> Result<Batch, AllocError>
-    ensures rise { IfOk result (λ batch. RiseFrom 0 (pages_of batch)) }
-    ensures most { IfOk result (λ batch. length (pages_of batch) ≤ MAX_BATCH_PAGES) }
-    ensures due { IfOk result (λ batch. AreDue pool.now durable (pages_of batch)) }
-    ensures first { IfOk result (λ batch. AreFirst pool.now durable (pages_of batch)) }
-    ensures none { IfOk result (λ batch. pages_of batch ≡ [] → NoneDue pool.now durable) }
+pub fn choose<D: Disk>(pool: &Pool<D>, durable: Lsn) -> Batch
+    ensures rise { RiseFrom 0 (pages_of result) }
+    ensures most { length (pages_of result) ≤ MAX_BATCH_PAGES }
+    ensures due { AreDue pool.now durable (pages_of result) }
+    ensures first { AreFirst pool.now durable (pages_of result) }
+    ensures none { pages_of result ≡ [] → NoneDue pool.now durable }
 {
-    Ok(Batch {
-        pages: pool.due(alloc, 0, durable)?,
-    })
+    Batch {
+        pages: pool.due(0, durable),
+    }
 }
 
-/// Writes a batch of pages back, and answers how many. `Memory` if an allocation failed; nothing has changed then.
-pub fn flush_step<D: Disk>(alloc: Global, pool: &mut Pool<D>, durable: Lsn) -> Result<usize, Fault>
+/// Writes a batch of pages back, and answers how many. It takes no memory.
+pub fn flush_step<D: Disk>(pool: &mut Pool<D>, durable: Lsn) -> Result<usize, Fault>
     ensures flushed { IfOk result (λ count. Flushes pool.old pool.new durable count) }
-    ensures refused { IfErr result (λ fault. ((fault ≡ Fault.Device) ⊎ (fault ≡ Fault.Memory)) × ((k : ℕ) → frame_at pool.new k ≡ frame_at pool.old k)) }
+    ensures refused { IfErr result (λ fault. (fault ≡ Fault.Device) × ((k : ℕ) → frame_at pool.new k ≡ frame_at pool.old k)) }
     ensures kept { (front : List ℕ) (disk : ℕ → List ℕ) → PoolHolds pool.old front disk
         → MatchResult result (λ _. WroteBack pool.old pool.new durable front disk) (λ fault. (fault ≡ Fault.Device) ⊎ WroteBack pool.old pool.new durable front disk) }
 
@@ -66,7 +65,7 @@ pub fn flush_step<D: Disk>(alloc: Global, pool: &mut Pool<D>, durable: Lsn) -> R
     ensures geometry { geometry_of pool.new ≡ geometry_of pool.old }
     ensures cause { HasCause result (faults_of pool.old) (faults_of pool.new) }
 {
-    let batch = choose(alloc, pool, durable)?;
+    let batch = choose(pool, durable);
     let pages = batch.pages();
     if pages.is_empty() {
         return Ok(0);
@@ -78,9 +77,9 @@ pub fn flush_step<D: Disk>(alloc: Global, pool: &mut Pool<D>, durable: Lsn) -> R
 
 /// Makes one of the four syncs of a batch: it begins one if none is under way, or goes on with the one that is. Answers whether there was anything to do.
 /// Pages are written, and clean, by the second.
-pub fn flush_on<D: Disk>(alloc: Global, pool: &mut Pool<D>, durable: Lsn) -> Result<bool, Fault>
+pub fn flush_on<D: Disk>(pool: &mut Pool<D>, durable: Lsn) -> Result<bool, Fault>
     ensures frames { (k : ℕ) → (frame_at pool.new k ≡ frame_at pool.old k) ⊎ (frame_at pool.new k ≡ option_map settled (frame_at pool.old k)) }
-    ensures refused { IfErr result (λ fault. ((fault ≡ Fault.Device) ⊎ (fault ≡ Fault.Memory)) × ((k : ℕ) → frame_at pool.new k ≡ frame_at pool.old k)) }
+    ensures refused { IfErr result (λ fault. (fault ≡ Fault.Device) × ((k : ℕ) → frame_at pool.new k ≡ frame_at pool.old k)) }
     ensures kept { (front : List ℕ) (disk : ℕ → List ℕ) → PoolHolds pool.old front disk
         → MatchResult result (λ _. WroteBack pool.old pool.new durable front disk) (λ fault. (fault ≡ Fault.Device) ⊎ WroteBack pool.old pool.new durable front disk) }
 
@@ -98,7 +97,7 @@ pub fn flush_on<D: Disk>(alloc: Global, pool: &mut Pool<D>, durable: Lsn) -> Res
     ensures cause { HasCause result (faults_of pool.old) (faults_of pool.new) }
 {
     match pool.amid() {
-        Amid::Rest => begin_on(alloc, pool, durable),
+        Amid::Rest => begin_on(pool, durable),
         Amid::Written => open_on(pool, durable),
         Amid::Opened => {
             pool.place()?;
@@ -112,10 +111,10 @@ pub fn flush_on<D: Disk>(alloc: Global, pool: &mut Pool<D>, durable: Lsn) -> Res
 }
 
 // Begins a batch, if a page is due.
-fn begin_on<D: Disk>(alloc: Global, pool: &mut Pool<D>, durable: Lsn) -> Result<bool, Fault>
+fn begin_on<D: Disk>(pool: &mut Pool<D>, durable: Lsn) -> Result<bool, Fault>
     requires { amid_of pool.old ≡ Amid.Rest }
     ensures frames { (k : ℕ) → (frame_at pool.new k ≡ frame_at pool.old k) ⊎ (frame_at pool.new k ≡ option_map settled (frame_at pool.old k)) }
-    ensures refused { IfErr result (λ fault. ((fault ≡ Fault.Device) ⊎ (fault ≡ Fault.Memory)) × ((k : ℕ) → frame_at pool.new k ≡ frame_at pool.old k)) }
+    ensures refused { IfErr result (λ fault. (fault ≡ Fault.Device) × ((k : ℕ) → frame_at pool.new k ≡ frame_at pool.old k)) }
     ensures kept { (front : List ℕ) (disk : ℕ → List ℕ) → PoolHolds pool.old front disk
         → MatchResult result (λ _. WroteBack pool.old pool.new durable front disk) (λ fault. (fault ≡ Fault.Device) ⊎ WroteBack pool.old pool.new durable front disk) }
     ensures any_moment { (front : List ℕ) (disk : ℕ → List ℕ) → PoolHolds pool.old front disk
@@ -128,7 +127,7 @@ fn begin_on<D: Disk>(alloc: Global, pool: &mut Pool<D>, durable: Lsn) -> Result<
     ensures geometry { geometry_of pool.new ≡ geometry_of pool.old }
     ensures cause { HasCause result (faults_of pool.old) (faults_of pool.new) }
 {
-    let batch = choose(alloc, pool, durable)?;
+    let batch = choose(pool, durable);
     let pages = batch.pages();
     if pages.is_empty() {
         return Ok(false);
@@ -141,7 +140,7 @@ fn begin_on<D: Disk>(alloc: Global, pool: &mut Pool<D>, durable: Lsn) -> Result<
 fn open_on<D: Disk>(pool: &mut Pool<D>, durable: Lsn) -> Result<bool, Fault>
     requires { amid_of pool.old ≡ Amid.Written }
     ensures frames { (k : ℕ) → (frame_at pool.new k ≡ frame_at pool.old k) ⊎ (frame_at pool.new k ≡ option_map settled (frame_at pool.old k)) }
-    ensures refused { IfErr result (λ fault. ((fault ≡ Fault.Device) ⊎ (fault ≡ Fault.Memory)) × ((k : ℕ) → frame_at pool.new k ≡ frame_at pool.old k)) }
+    ensures refused { IfErr result (λ fault. (fault ≡ Fault.Device) × ((k : ℕ) → frame_at pool.new k ≡ frame_at pool.old k)) }
     ensures kept { (front : List ℕ) (disk : ℕ → List ℕ) → PoolHolds pool.old front disk
         → MatchResult result (λ _. WroteBack pool.old pool.new durable front disk) (λ fault. (fault ≡ Fault.Device) ⊎ WroteBack pool.old pool.new durable front disk) }
     ensures any_moment { (front : List ℕ) (disk : ℕ → List ℕ) → PoolHolds pool.old front disk

@@ -87,7 +87,7 @@ module _ {D : Type 0} {G : Ghosts D} (old new : Heap D G) (durable : ℕ) where
       (wrote.0, shows_by new.pool new (geometry_of old) K front wrote.0 S refl geometry wrote.1 have refused, wrote.2)
 
   pub flush_kept : (r : Result ℕ Fault) → geometry_of new ≡ geometry_of old → bounds_of new ≡ bounds_of old → IfOk r (λ count. Flushes old.pool new.pool durable count)
-      → IfErr r (λ f. ((f ≡ fault.Device) ⊎ (f ≡ fault.Memory)) × ((k : ℕ) → frame_at new k ≡ frame_at old k))
+      → IfErr r (λ f. (f ≡ fault.Device) × ((k : ℕ) → frame_at new k ≡ frame_at old k))
       → (K : ClaimsOfPages) (front : List ℕ) (disk : ℕ → List ℕ) (S : PageId → List Slot) → Shows K old front disk S
       → MatchResult r (λ _. pools.WroteBack old.pool new.pool durable front disk) (λ f. (f ≡ fault.Device) ⊎ pools.WroteBack old.pool new.pool durable front disk)
       → MatchResult r (λ _. KeepsSlots K old new durable front disk S) (λ f. (f ≡ fault.Device) ⊎ KeepsSlots K old new durable front disk S)

@@ -39,12 +39,11 @@ module _ {D : Type 0} {G : Ghosts D} (old mid : Pool D G) (same : frame_at mid �
     all = subst (λ (at : ℕ → Option Frame). (k : ℕ) (f : Frame) → at k ≡ Some f → (f.recovery ≢ None) × (durable < f.page.number)) same n.all;
   }
 
-  pub refused_from : {T : Type 0} (r : Result T Fault) → IfErr r (λ fault. (fault ≡ Fault.Device) ⊎ (fault ≡ Fault.Memory) ⊎ ((number : ℕ) × (fault ≡ Fault.NeedForce number) × NeedsForce mid durable number))
-      → IfErr r (λ fault. (fault ≡ Fault.Device) ⊎ (fault ≡ Fault.Memory) ⊎ ((number : ℕ) × (fault ≡ Fault.NeedForce number) × NeedsForce old durable number))
+  pub refused_from : {T : Type 0} (r : Result T Fault) → IfErr r (λ fault. (fault ≡ Fault.Device) ⊎ ((number : ℕ) × (fault ≡ Fault.NeedForce number) × NeedsForce mid durable number))
+      → IfErr r (λ fault. (fault ≡ Fault.Device) ⊎ ((number : ℕ) × (fault ≡ Fault.NeedForce number) × NeedsForce old durable number))
   refused_from (Ok x) is = is
   refused_from (Err fault) (inl device) = inl device
-  refused_from (Err fault) (inr (inl memory)) = inr (inl memory)
-  refused_from (Err fault) (inr (inr n)) = inr (inr (n.0, n.1, force_from n.0 n.2))
+  refused_from (Err fault) (inr n) = inr (n.0, n.1, force_from n.0 n.2)
 
 -- no page was written, and no frame has changed
 pub wrote_still : {D : Type 0} {G : Ghosts D} (old new : Pool D G) (durable : ℕ) (front : List ℕ) (disk : ℕ → List ℕ) → ((k : ℕ) → frame_at new k ≡ frame_at old k) → PoolHolds new front disk

@@ -1,35 +1,42 @@
 //! A batch made of pages that are in frames.
-ghost use Rattle.std.specs.Prelude.{◌≡◌, ◌++◌, ◌∷◌, [], ℕ, List, All, IsTrue, OnOk, is_some};
-ghost use Rattle.shore_dwrite.specs.Images.{numbers_of, texts_of};
+ghost use Rattle.std.specs.Prelude.{◌≡◌, ◌<◌, ◌≤◌, ◌++◌, ◌∷◌, [], ℕ, List, All, IsTrue, is_some, length};
+ghost use Rattle.shore_types.specs.declared.layout.TheConstants.{MAX_BATCH_PAGES};
+ghost use Rattle.shore_dwrite.specs.Images.{HasRoomFor, numbers_of, texts_of};
 ghost use Rattle.shore_dwrite.specs.Shown.{AreTexts};
 ghost use Rattle.shore_pool.specs.FrameMaps.{frame_at};
 ghost use Rattle.shore_pool.specs.Pages.{HasText};
 
 use crate::frames::Frames;
 use shore_dwrite::PageImages;
-use std::alloc::AllocError;
 
-/// Fills a batch with the texts of these pages, in their order.
-pub fn gather(batch: &mut PageImages, frames: &Frames, numbers: &[u32]) -> Result<(), AllocError>
-    requires { All (λ k. IsTrue (is_some (frame_at frames.now k))) numbers.now }
-    ensures numbers { OnOk result (numbers_of batch.new ≡ numbers.now) }
-    ensures texts { OnOk result (AreTexts (HasText (frame_at frames.now)) numbers.now (texts_of batch.new)) }
+/// Fills a batch, which has its room, with the texts of these pages, in their order.
+pub fn gather(batch: &mut PageImages, frames: &Frames, numbers: &[u32])
+    requires there { All (λ k. IsTrue (is_some (frame_at frames.now k))) numbers.now }
+    requires most { length numbers.now ≤ MAX_BATCH_PAGES }
+    requires room { HasRoomFor batch.old MAX_BATCH_PAGES }
+    ensures numbers { numbers_of batch.new ≡ numbers.now }
+    ensures texts { AreTexts (HasText (frame_at frames.now)) numbers.now (texts_of batch.new) }
+    ensures room { HasRoomFor batch.new MAX_BATCH_PAGES }
 {
     batch.clear();
     for i in 0..numbers.len() {
-        push_page(batch, frames, numbers[i])?;
+        push_page(batch, frames, numbers[i]);
     }
-    Ok(())
 }
 
-// The text of a page goes behind the others.
-fn push_page(batch: &mut PageImages, frames: &Frames, number: u32) -> Result<(), AllocError>
-    requires { IsTrue (is_some (frame_at frames.now number)) }
-    ensures number { OnOk result (numbers_of batch.new ≡ numbers_of batch.old ++ number ∷ []) }
-    ensures text { OnOk result ((text : List ℕ) × (texts_of batch.new ≡ texts_of batch.old ++ text) × HasText (frame_at frames.now) number text) }
+// The text of a page goes after the others.
+fn push_page(batch: &mut PageImages, frames: &Frames, number: u32)
+    requires there { IsTrue (is_some (frame_at frames.now number)) }
+    requires few { length (numbers_of batch.old) < MAX_BATCH_PAGES }
+    requires room { HasRoomFor batch.old MAX_BATCH_PAGES }
+    ensures number { numbers_of batch.new ≡ numbers_of batch.old ++ number ∷ [] }
+    ensures text { (text : List ℕ) × (texts_of batch.new ≡ texts_of batch.old ++ text) × HasText (frame_at frames.now) number text }
+    ensures room { HasRoomFor batch.new MAX_BATCH_PAGES }
 {
-    match frames.find(number) {
-        Some(frame) => batch.push(number, frame.page.text()),
-        None => Ok(()),
-    }
+    let Some(frame) = frames.find(number) else {
+        unreachable!()
+    };
+    let Ok(()) = batch.push(number, frame.page.text()) else {
+        unreachable!()
+    };
 }

@@ -10,4 +10,4 @@ mod pool;
 
 pub use amid::Amid;
 pub use frame::Frame;
-pub use pool::{Fetched, Pool};
+pub use pool::{BatchPages, Fetched, Pool};

@@ -6,7 +6,7 @@ ghost use Rattle.shore_types.specs.Ids.{page_cmp};
 ghost use Rattle.shore_disk.specs.Cause.{HasCause};
 ghost use Rattle.shore_disk.specs.Device.{CountsFault, LeavesOnly, size};
 ghost use Rattle.shore_dwrite.specs.Settled as settled_device;
-ghost use Rattle.shore_dwrite.specs.Images.{numbers_of};
+ghost use Rattle.shore_dwrite.specs.Images.{HasRoomFor, numbers_of};
 ghost use Rattle.shore_dwrite.specs.Shown.{AreBatchNumbers, RiseFrom, RiseFrom-prop, ShowsBehind};
 ghost use Rattle.shore_dwrite.specs.Volumes.{HasNoPage, page_count, page_number, page_offset};
 ghost use Rattle.shore_page.specs.Room.{Fits, lowered, raised};
@@ -31,6 +31,7 @@ use crate::amid::Amid;
 use crate::frame::Frame;
 use crate::frames::Frames;
 use crate::gathering::gather;
+use arrayvec::ArrayVec;
 use shore_disk::{Disk, FuseDisk};
 use shore_dwrite::{PageDev, PageImages};
 use shore_model::DirtyPage;
@@ -38,6 +39,9 @@ use shore_page::Page;
 use shore_types::layout::MAX_BATCH_PAGES;
 use shore_types::{Fault, Geometry, LogEnds, Lsn, PageId};
 use std::alloc::{AllocError, Global};
+
+/// Numbers of pages on the volume, as many as a batch may have, which lie in the value itself.
+pub type BatchPages = ArrayVec<u32, MAX_BATCH_PAGES>;
 
 /// How a page came into its frame.
 #[derive(Clone, Copy, PartialEq)]
@@ -64,6 +68,7 @@ pub struct Pool<D: Disk> {
     ghost some: { MIN_POOL_FRAMES ≤ maps.limit_of frames },
     ghost few: { maps.limit_of frames ≤ MAX_POOL_FRAMES },
     ghost pages: { maps.pages_of frames ≡ page_count (settled_device.geometry_of device) },
+    ghost batch_room: { HasRoomFor batch MAX_BATCH_PAGES },
     ghost batch_is: { amid ≢ Amid.Rest → AreBatchNumbers (settled_device.geometry_of device) (numbers_of batch) } by { Prim.hlevel (RiseFrom-prop, props) },
 }
 
@@ -167,18 +172,18 @@ impl<D: Disk> Pool<D> {
         if self.frames.touch(number) {
             return Ok(Fetched::Held);
         }
-        self.make_room(alloc, ends.durable)?;
+        self.make_room(ends.durable)?;
         self.read(alloc, id, ends.last)?;
         Ok(Fetched::Read)
     }
 
     // Sees to it that a frame is free.
-    fn make_room(&mut self, alloc: Global, durable: Lsn) -> Result<(), Fault>
+    fn make_room(&mut self, durable: Lsn) -> Result<(), Fault>
         ensures room { OnOk result (count_of self.new < limit_of self.new) }
         ensures frames { StayOrGo self.old self.new }
         ensures kept { (front : List ℕ) (disk : ℕ → List ℕ) → PoolHolds self.old front disk
             → MatchResult result (λ _. WroteBack self.old self.new durable front disk) (λ fault. (fault ≡ Fault.Device) ⊎ WroteBack self.old self.new durable front disk) }
-        ensures refused { IfErr result (λ fault. (fault ≡ Fault.Device) ⊎ (fault ≡ Fault.Memory)
+        ensures refused { IfErr result (λ fault. (fault ≡ Fault.Device)
             ⊎ ((number : ℕ) × (fault ≡ Fault.NeedForce number) × NeedsForce self.old durable number)) }
         ensures unmoved { IfErr result (λ fault. (number : ℕ) → fault ≡ Fault.NeedForce number → (k : ℕ) → frame_at self.new k ≡ frame_at self.old k) }
         ensures in_order { FreesInOrder self.old self.new durable }
@@ -193,7 +198,7 @@ impl<D: Disk> Pool<D> {
         ensures cause { HasCause result (faults_of self.old) (faults_of self.new) }
     {
         if self.frames.is_full() {
-            return self.evict(alloc, durable);
+            return self.evict(durable);
         }
         Ok(())
     }
@@ -312,34 +317,34 @@ impl<D: Disk> Pool<D> {
     }
 
     /// The first dirty pages of the volume from one on, of those with numbers up to this one: all of them, or as many as a batch may have.
-    pub fn due(&self, alloc: Global, from: u32, durable: Lsn) -> Result<Vec<u32>, AllocError>
-        ensures rise { IfOk result (λ pages. RiseFrom 0 pages.items) }
-        ensures most { IfOk result (λ pages. length pages.items ≤ MAX_BATCH_PAGES) }
-        ensures least { IfOk result (λ pages. All (λ k. from ≤ k) pages.items) }
-        ensures due { IfOk result (λ pages. AreDue self.now durable pages.items) }
-        ensures first { IfOk result (λ pages. AreFirstFrom self.now from durable pages.items) }
+    pub fn due(&self, from: u32, durable: Lsn) -> BatchPages
+        ensures rise { RiseFrom 0 result.items }
+        ensures most { length result.items ≤ MAX_BATCH_PAGES }
+        ensures least { All (λ k. from ≤ k) result.items }
+        ensures due { AreDue self.now durable result.items }
+        ensures first { AreFirstFrom self.now from durable result.items }
     {
-        let mut pages = Vec::with_capacity(alloc, MAX_BATCH_PAGES)?;
+        let mut pages = BatchPages::new();
         let mut next = from;
         for _ in 0..MAX_BATCH_PAGES {
             let Some(number) = self.next_due(next, durable) else {
-                return Ok(pages);
+                return pages;
             };
-            pages.push_reserved(number);
+            pages.push(number);
             next = number + 1;
         }
-        Ok(pages)
+        pages
     }
 
     /// Frees a frame: one of a clean page that was not used for a while, if there is a clean page; else that of the page whose changes are
     /// oldest among those with numbers up to the durable one. That page is written first, and with it, for a batch costs as many syncs as a page, those
     /// behind it on the volume that may be; or the batch under way is gone on with, if it has the page and its gate is shut. `NeedForce` with the number of a page if none has such a number. A pool with no page in a frame stays as it is.
-    pub fn evict(&mut self, alloc: Global, durable: Lsn) -> Result<(), Fault>
+    pub fn evict(&mut self, durable: Lsn) -> Result<(), Fault>
         ensures freed { OnOk result (count_of self.new ≡ count_of self.old - 1) }
         ensures frames { StayOrGo self.old self.new }
         ensures kept { (front : List ℕ) (disk : ℕ → List ℕ) → PoolHolds self.old front disk
             → MatchResult result (λ _. WroteBack self.old self.new durable front disk) (λ fault. (fault ≡ Fault.Device) ⊎ WroteBack self.old self.new durable front disk) }
-        ensures refused { IfErr result (λ fault. (fault ≡ Fault.Device) ⊎ (fault ≡ Fault.Memory)
+        ensures refused { IfErr result (λ fault. (fault ≡ Fault.Device)
             ⊎ ((number : ℕ) × (fault ≡ Fault.NeedForce number) × NeedsForce self.old durable number)) }
         ensures unmoved { IfErr result (λ fault. (number : ℕ) → fault ≡ Fault.NeedForce number → (k : ℕ) → frame_at self.new k ≡ frame_at self.old k) }
 
@@ -362,16 +367,16 @@ impl<D: Disk> Pool<D> {
             self.free(number);
             return Ok(());
         }
-        self.steal(alloc, durable)
+        self.steal(durable)
     }
 
     // Frees the frame of the page whose changes are oldest among those with numbers up to this one. The page is written first, and others with it.
-    fn steal(&mut self, alloc: Global, durable: Lsn) -> Result<(), Fault>
+    fn steal(&mut self, durable: Lsn) -> Result<(), Fault>
         ensures freed { OnOk result (count_of self.new ≡ count_of self.old - 1) }
         ensures frames { StayOrGo self.old self.new }
         ensures kept { (front : List ℕ) (disk : ℕ → List ℕ) → PoolHolds self.old front disk
             → MatchResult result (λ _. WroteBack self.old self.new durable front disk) (λ fault. (fault ≡ Fault.Device) ⊎ WroteBack self.old self.new durable front disk) }
-        ensures refused { maps.AllDirty self.old.frames → IfErr result (λ fault. (fault ≡ Fault.Device) ⊎ (fault ≡ Fault.Memory)
+        ensures refused { maps.AllDirty self.old.frames → IfErr result (λ fault. (fault ≡ Fault.Device)
             ⊎ ((number : ℕ) × (fault ≡ Fault.NeedForce number) × NeedsForce self.old durable number)) }
         ensures unmoved { IfErr result (λ fault. (number : ℕ) → fault ≡ Fault.NeedForce number → (k : ℕ) → frame_at self.new k ≡ frame_at self.old k) }
         ensures oldest { maps.AllDirty self.old.frames → FreesInOrder self.old self.new durable }
@@ -384,7 +389,7 @@ impl<D: Disk> Pool<D> {
         ensures cause { HasCause result (faults_of self.old) (faults_of self.new) }
     {
         if let Some(number) = self.frames.oldest_due(durable) {
-            self.write_with(alloc, number, durable)?;
+            self.write_with(number, durable)?;
             self.free(number);
             return Ok(());
         }
@@ -419,7 +424,7 @@ impl<D: Disk> Pool<D> {
         requires there { All (λ k. IsTrue (is_some (frame_at self.old k))) numbers.now }
         ensures clean { OnOk result ((k : ℕ) → Contains numbers.now k → frame_at self.new k ≡ option_map settled (frame_at self.old k)) }
         ensures others { OnOk result ((k : ℕ) → (Contains numbers.now k → ⊥) → frame_at self.new k ≡ frame_at self.old k) }
-        ensures refused { IfErr result (λ fault. ((fault ≡ Fault.Device) ⊎ (fault ≡ Fault.Memory)) × ((k : ℕ) → frame_at self.new k ≡ frame_at self.old k)) }
+        ensures refused { IfErr result (λ fault. (fault ≡ Fault.Device) × ((k : ℕ) → frame_at self.new k ≡ frame_at self.old k)) }
         ensures kept { (front : List ℕ) (disk : ℕ → List ℕ) (durable : ℕ) → PoolHolds self.old front disk → AreUpTo (frame_at self.old) durable numbers.now
             → MatchResult result (λ _. WroteBack self.old self.new durable front disk) (λ fault. (fault ≡ Fault.Device) ⊎ WroteBack self.old self.new durable front disk) }
         ensures any_moment { (front : List ℕ) (disk : ℕ → List ℕ) (durable : ℕ) → PoolHolds self.old front disk → AreUpTo (frame_at self.old) durable numbers.now
@@ -432,7 +437,7 @@ impl<D: Disk> Pool<D> {
         ensures limit { limit_of self.new ≡ limit_of self.old }
         ensures cause { HasCause result (faults_of self.old) (faults_of self.new) }
     {
-        gather(&mut self.batch, &self.frames, numbers)?;
+        gather(&mut self.batch, &self.frames, numbers);
         self.device.write_batch(&self.batch)?;
         self.frames.settle_all(numbers);
         Ok(())

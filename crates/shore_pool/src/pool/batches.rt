@@ -16,7 +16,6 @@ use crate::amid::Amid;
 use crate::gathering::gather;
 use shore_disk::Disk;
 use shore_types::{Fault, Lsn};
-use std::alloc::Global;
 
 impl<D: Disk> Pool<D> {
     ghost use Rattle.shore_pool.specs.Pools.{GoesOnWith, LeavesPages, PoolHolds, KeepsBatchOrGivesUp, WroteBack, amid_of, batch_of, count_of, device_of, faults_of, frame_at, geometry_of, history_of, honesty_of, limit_of};
@@ -45,7 +44,7 @@ impl<D: Disk> Pool<D> {
         requires there { All (λ k. IsTrue (is_some (frame_at self.old k))) numbers.now }
         ensures begun { OnOk result ((amid_of self.new ≡ Amid.Written) × (batch_of self.new ≡ numbers.now)) }
         ensures frames { (k : ℕ) → frame_at self.new k ≡ frame_at self.old k }
-        ensures refused { IfErr result (λ fault. ((fault ≡ Fault.Device) ⊎ (fault ≡ Fault.Memory)) × (amid_of self.new ≡ Amid.Rest)) }
+        ensures refused { IfErr result (λ fault. (fault ≡ Fault.Device) × (amid_of self.new ≡ Amid.Rest)) }
         ensures kept { (front : List ℕ) (disk : ℕ → List ℕ) → PoolHolds self.old front disk
             → MatchResult result (λ _. PoolHolds self.new front disk) (λ fault. (fault ≡ Fault.Device) ⊎ PoolHolds self.new front disk) }
 
@@ -61,7 +60,7 @@ impl<D: Disk> Pool<D> {
         ensures limit { limit_of self.new ≡ limit_of self.old }
         ensures cause { HasCause result (faults_of self.old) (faults_of self.new) }
     {
-        gather(&mut self.batch, &self.frames, numbers)?;
+        gather(&mut self.batch, &self.frames, numbers);
         self.device.begin_batch(&self.batch)?;
         self.amid = Amid::Written;
         Ok(())
@@ -191,19 +190,14 @@ impl<D: Disk> Pool<D> {
 
     // Brings a due page onto the volume and in place, and others with it: by the two syncs that the batch under way still takes, if it has the page and its gate is shut; else by a
     // batch from this page on, once the one under way has ended.
-    pub(super) fn write_with(
-        &mut self,
-        alloc: Global,
-        number: u32,
-        durable: Lsn,
-    ) -> Result<(), Fault>
+    pub(super) fn write_with(&mut self, number: u32, durable: Lsn) -> Result<(), Fault>
         requires { IsSomeAnd (frame_at self.old number) (IsDue durable) }
         ensures clean { OnOk result (IsSomeAnd (frame_at self.new number) (λ f. f.recovery ≡ None)) }
         ensures closed { OnOk result (amid_of self.new ≡ Amid.Opened → ⊥) }
         ensures frames { (k : ℕ) → (frame_at self.new k ≡ frame_at self.old k) ⊎ (frame_at self.new k ≡ option_map settled (frame_at self.old k)) }
         ensures kept { (front : List ℕ) (disk : ℕ → List ℕ) → PoolHolds self.old front disk
             → MatchResult result (λ _. WroteBack self.old self.new durable front disk) (λ fault. (fault ≡ Fault.Device) ⊎ WroteBack self.old self.new durable front disk) }
-        ensures refused { IfErr result (λ fault. (fault ≡ Fault.Device) ⊎ (fault ≡ Fault.Memory)) }
+        ensures refused { IfErr result (λ fault. fault ≡ Fault.Device) }
         ensures any_moment { (front : List ℕ) (disk : ℕ → List ℕ) → PoolHolds self.old front disk
             → LeavesOnly (history_of self.old) (history_of self.new) (LeavesPages self.old durable front disk) }
         // A batch under way that has the page, with its gate shut, is gone on with by two syncs.
@@ -221,7 +215,7 @@ impl<D: Disk> Pool<D> {
             return Ok(());
         }
         self.finish()?;
-        let pages = self.due(alloc, number, durable)?;
+        let pages = self.due(number, durable);
         self.write(&pages)?;
         Ok(())
     }

@@ -11,11 +11,6 @@ use Rattle.shore_flush.proofs.Turns.{is_zero, no_pages}
 use Rattle.shore_pool.proofs.Syncs.{once_at_most}
 use Rattle.shore_flush.proofs.flush.begin_on.Goals as goal
 
-pub returns-in_err-batch-clause-any_moment : goal.returns-in_err-batch-clause-any_moment
-returns-in_err-batch-clause-any_moment g c front disk holds =
-    let pool = c.args.pool.now in
-    while_still (device_of pool) (frame_at pool) c.args.durable front disk (batch_of pool) (batch_texts_of pool) (amid_of pool) holds.settled
-
 pub returns-then-is_empty-clause-any_moment : goal.returns-then-is_empty-clause-any_moment
 returns-then-is_empty-clause-any_moment g c front disk holds =
     let pool = c.args.pool.now in
@@ -36,21 +31,21 @@ returns-clause-kept g c front disk holds = wrote_still c.args.pool.now c.begin.n
 
 pub returns-then-is_empty-clause-goes_on : goal.returns-then-is_empty-clause-goes_on
 returns-then-is_empty-clause-goes_on g c =
-    let pages = pages_of c.in_ok-batch.batch in
+    let pages = pages_of c.choose-batch.result in
     let none : length pages ≡ 0 = ap (λ (l : List ℕ). length l) (sym c.pages-pages.ensures) ∙ is_zero (length c.pages-pages.result.now) (sym c.is_empty.ensures ∙ c.if-is_empty.true) in
-    inr (refl, c.in_ok-batch.ensures.none (no_pages pages none), refl)
+    inr (refl, c.choose-batch.ensures.none (no_pages pages none), refl)
 
 pub returns-clause-goes_on : goal.returns-clause-goes_on
 returns-clause-goes_on g c =
     let pool = c.args.pool.now in
-    let is : batch_of c.begin.new.self ≡ pages_of c.in_ok-batch.batch = c.in_ok-begin.ensures.begun.1 ∙ c.pages-pages.ensures in
+    let is : batch_of c.begin.new.self ≡ pages_of c.choose-batch.result = c.in_ok-begin.ensures.begun.1 ∙ c.pages-pages.ensures in
     inl (
       refl,
       record {
         amid = c.in_ok-begin.ensures.begun.0;
-        rise = subst (RiseFrom 0) (sym is) c.in_ok-batch.ensures.rise;
-        due = subst (AreDue pool c.args.durable) (sym is) c.in_ok-batch.ensures.due;
-        first = subst (AreFirst pool c.args.durable) (sym is) c.in_ok-batch.ensures.first;
+        rise = subst (RiseFrom 0) (sym is) c.choose-batch.ensures.rise;
+        due = subst (AreDue pool c.args.durable) (sym is) c.choose-batch.ensures.due;
+        first = subst (AreFirst pool c.args.durable) (sym is) c.choose-batch.ensures.first;
         frames = c.begin.ensures.frames;
       },
     )

@@ -18,25 +18,22 @@ use Rattle.shore_flush.specs.Batches.{pages_of}
 use Rattle.shore_flush.proofs.Turns.{is_zero, no_pages}
 use Rattle.shore_flush.proofs.flush.flush_step.Goals as goal
 
-pub returns-in_err-batch-clause-any_moment : goal.returns-in_err-batch-clause-any_moment
-returns-in_err-batch-clause-any_moment g c front disk holds = while_still (device_of c.args.pool.now) (frame_at c.args.pool.now) c.args.durable front disk (batch_of c.args.pool.now) (batch_texts_of c.args.pool.now) (amid_of c.args.pool.now) holds.settled
-
 pub returns-then-is_empty-clause-any_moment : goal.returns-then-is_empty-clause-any_moment
 returns-then-is_empty-clause-any_moment g c front disk holds = while_still (device_of c.args.pool.now) (frame_at c.args.pool.now) c.args.durable front disk (batch_of c.args.pool.now) (batch_texts_of c.args.pool.now) (amid_of c.args.pool.now) holds.settled
 
 pub returns-then-is_empty-clause-flushed : goal.returns-then-is_empty-clause-flushed
 returns-then-is_empty-clause-flushed g c =
-    let pages = pages_of c.in_ok-batch.batch in
+    let pages = pages_of c.choose-batch.result in
     let none : length pages ≡ 0 = ap (λ (l : List ℕ). length l) (sym c.pages-pages.ensures) ∙ is_zero (length c.pages-pages.result.now) (sym c.is_empty.ensures ∙ c.if-is_empty.true) in
     record {
       pages = pages;
       count_is = none;
-      rise = c.in_ok-batch.ensures.rise;
-      due = c.in_ok-batch.ensures.due;
-      first = c.in_ok-batch.ensures.first;
+      rise = c.choose-batch.ensures.rise;
+      due = c.choose-batch.ensures.due;
+      first = c.choose-batch.ensures.first;
       clean = λ k has. absurd (omega (arith, none, has.1));
       others = λ k other. refl;
-      none = λ is. c.in_ok-batch.ensures.none (no_pages pages none);
+      none = λ is. c.choose-batch.ensures.none (no_pages pages none);
     }
 
 pub returns-in_err-finish-clause-any_moment : goal.returns-in_err-finish-clause-any_moment
@@ -50,7 +47,7 @@ returns-in_err-write-clause-any_moment g c front disk holds =
     let mid = c.finish.new.self in
     let is : frame_at mid ≡ frame_at pool = ap (λ (it : Frames). maps.frame_at it) c.finish.ensures.frames in
     let up : AreUpTo (frame_at mid) c.args.durable c.pages-pages.result.now = subst (λ (at : ℕ → Option Frame). AreUpTo at c.args.durable c.pages-pages.result.now) (sym is)
-    (subst (AreUpTo (frame_at pool) c.args.durable) (sym c.pages-pages.ensures) (up_to pool c.args.durable (pages_of c.in_ok-batch.batch) c.in_ok-batch.ensures.due)) in
+    (subst (AreUpTo (frame_at pool) c.args.durable) (sym c.pages-pages.ensures) (up_to pool c.args.durable (pages_of c.choose-batch.result) c.choose-batch.ensures.due)) in
     joined _ _ _ (LeavesPages pool c.args.durable front disk) (while_shown (geometry_of pool) (frame_at pool) c.args.durable front disk _ _ (c.finish.ensures.any_moment front disk holds))
     (subst (λ (at : ℕ → Option Frame). LeavesOnly (history_of mid) (history_of c.write.new.self) (Leaves (geometry_of pool) at c.args.durable front disk)) is
     (subst (λ (it : Geometry). LeavesOnly (history_of mid) (history_of c.write.new.self) (Leaves it (frame_at mid) c.args.durable front disk)) c.finish.ensures.geometry
@@ -62,7 +59,7 @@ returns-clause-any_moment g c front disk holds =
     let mid = c.finish.new.self in
     let is : frame_at mid ≡ frame_at pool = ap (λ (it : Frames). maps.frame_at it) c.finish.ensures.frames in
     let up : AreUpTo (frame_at mid) c.args.durable c.pages-pages.result.now = subst (λ (at : ℕ → Option Frame). AreUpTo at c.args.durable c.pages-pages.result.now) (sym is)
-    (subst (AreUpTo (frame_at pool) c.args.durable) (sym c.pages-pages.ensures) (up_to pool c.args.durable (pages_of c.in_ok-batch.batch) c.in_ok-batch.ensures.due)) in
+    (subst (AreUpTo (frame_at pool) c.args.durable) (sym c.pages-pages.ensures) (up_to pool c.args.durable (pages_of c.choose-batch.result) c.choose-batch.ensures.due)) in
     joined _ _ _ (LeavesPages pool c.args.durable front disk) (while_shown (geometry_of pool) (frame_at pool) c.args.durable front disk _ _ (c.finish.ensures.any_moment front disk holds))
     (subst (λ (at : ℕ → Option Frame). LeavesOnly (history_of mid) (history_of c.write.new.self) (Leaves (geometry_of pool) at c.args.durable front disk)) is
     (subst (λ (it : Geometry). LeavesOnly (history_of mid) (history_of c.write.new.self) (Leaves it (frame_at mid) c.args.durable front disk)) c.finish.ensures.geometry
@@ -74,7 +71,7 @@ returns-clause-kept g c front disk holds =
     let mid = c.finish.new.self in
     let is : frame_at mid ≡ frame_at pool = ap (λ (it : Frames). maps.frame_at it) c.finish.ensures.frames in
     let up : AreUpTo (frame_at mid) c.args.durable c.pages-pages.result.now = subst (λ (at : ℕ → Option Frame). AreUpTo at c.args.durable c.pages-pages.result.now) (sym is)
-    (subst (AreUpTo (frame_at pool) c.args.durable) (sym c.pages-pages.ensures) (up_to pool c.args.durable (pages_of c.in_ok-batch.batch) c.in_ok-batch.ensures.due)) in
+    (subst (AreUpTo (frame_at pool) c.args.durable) (sym c.pages-pages.ensures) (up_to pool c.args.durable (pages_of c.choose-batch.result) c.choose-batch.ensures.due)) in
     wrote_from pool mid c.write.new.self is c.args.durable front disk (c.in_ok-write.ensures.kept front disk c.args.durable (c.in_ok-finish.ensures.kept front disk holds) up)
 
 pub returns-in_err-write-clause-kept : goal.returns-in_err-write-clause-kept
@@ -83,7 +80,7 @@ returns-in_err-write-clause-kept g c front disk holds =
     let mid = c.finish.new.self in
     let is : frame_at mid ≡ frame_at pool = ap (λ (it : Frames). maps.frame_at it) c.finish.ensures.frames in
     let up : AreUpTo (frame_at mid) c.args.durable c.pages-pages.result.now = subst (λ (at : ℕ → Option Frame). AreUpTo at c.args.durable c.pages-pages.result.now) (sym is)
-    (subst (AreUpTo (frame_at pool) c.args.durable) (sym c.pages-pages.ensures) (up_to pool c.args.durable (pages_of c.in_ok-batch.batch) c.in_ok-batch.ensures.due)) in
+    (subst (AreUpTo (frame_at pool) c.args.durable) (sym c.pages-pages.ensures) (up_to pool c.args.durable (pages_of c.choose-batch.result) c.choose-batch.ensures.due)) in
     match_err _ c.from_residual-in_err-write.result c.from_residual-in_err-write.ensures.1 (λ fault said. elim (c.in_err-write.ensures.kept front disk c.args.durable (c.in_ok-finish.ensures.kept front disk holds) up) [
       | inl device ↦ inl (said ∙ device)
       | inr w ↦ inr (wrote_from pool mid c.write.new.self is c.args.durable front disk w)
@@ -99,10 +96,10 @@ returns-clause-flushed g c =
     record {
       pages = pages;
       count_is = refl;
-      rise = subst (RiseFrom 0) same c.in_ok-batch.ensures.rise;
-      due = subst (AreDue pool c.args.durable) same c.in_ok-batch.ensures.due;
-      first = subst (AreFirst pool c.args.durable) same c.in_ok-batch.ensures.first;
+      rise = subst (RiseFrom 0) same c.choose-batch.ensures.rise;
+      due = subst (AreDue pool c.args.durable) same c.choose-batch.ensures.due;
+      first = subst (AreFirst pool c.args.durable) same c.choose-batch.ensures.first;
       clean = λ k has. c.in_ok-write.ensures.clean k has ∙ ap (option_map settled) (is k);
       others = λ k apart. c.in_ok-write.ensures.others k apart ∙ is k;
-      none = λ zero. c.in_ok-batch.ensures.none (no_pages (pages_of c.in_ok-batch.batch) (ap (λ (l : List ℕ). length l) same ∙ zero));
+      none = λ zero. c.choose-batch.ensures.none (no_pages (pages_of c.choose-batch.result) (ap (λ (l : List ℕ). length l) same ∙ zero));
     }

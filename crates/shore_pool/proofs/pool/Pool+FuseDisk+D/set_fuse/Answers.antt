@@ -16,6 +16,7 @@ invariant_of-self g c =
       some = old.some;
       few = old.few;
       pages = old.pages ∙ ap page_count same;
+      batch_room = c.args.self.now.batch_room;
       batch_is = λ some. subst (λ (x : Geometry). AreBatchNumbers x (numbers_of old.batch)) same (old.batch_is some);
     }
 

@@ -1,21 +1,15 @@
-use Rattle.std.proofs.Common.{◌≡◌, ◌≢◌, ◌∙◌, ◌≤◌, ℕ, List, IsTrue, Option, refl, sym, ap, subst}
-use Rattle.shore_disk.specs.Device.{LeavesOnly}
+use Rattle.std.proofs.Common.{◌∙◌, ℕ, List, sym, ap, subst}
 use Rattle.shore_types.specs.declared.layout.Geometry.{Geometry}
 use Rattle.shore_dwrite.specs.Images.{numbers_of, texts_of}
 use Rattle.shore_dwrite.specs.Settled as settled_device
-use Rattle.shore_dwrite.specs.Shown.{AreBatchNumbers, ShowsBehind, overlaid}
-use Rattle.shore_dwrite.specs.UnderWay.{IsOpened, IsPlaced, IsWritten}
+use Rattle.shore_dwrite.specs.Shown.{AreBatchNumbers}
 use Rattle.shore_dwrite.specs.Volumes.{page_count}
-use Rattle.shore_dwrite.proofs.Moves.{on_ok}
 use Rattle.shore_pool.specs.declared.amid.Amid.{Amid}
 use Rattle.shore_pool.specs.declared.amid.Amid.TheVariants as amid
-use Rattle.shore_pool.specs.Changes.{settled_at}
 use Rattle.shore_pool.specs.FrameMaps as maps
 use Rattle.shore_pool.specs.Pages.{AreInOrder}
-use Rattle.shore_pool.specs.Pools.{PoolHolds}
 use Rattle.shore_pool.specs.UnderWay.{AreHeld, HoldsAmid}
 use Rattle.shore_dwrite.specs.Shown.{IsBatch}
-use Rattle.shore_pool.proofs.UnderWay.{shown_still}
 use Rattle.shore_pool.proofs.Written.{is_batch}
 use Rattle.shore_pool.proofs.pool.Pool.begin.Goals as goal
 
@@ -24,20 +18,16 @@ begin_batch-requires g c =
     let old = c.args.self.now in
     let numbers = c.args.numbers.now in
     let texts = texts_of c.gather.new.batch in
-    subst (λ (l : List ℕ). IsBatch (settled_device.geometry_of old.device) l texts) (sym c.in_ok-gather.ensures.numbers)
-    (is_batch (maps.frame_at old.frames) (settled_device.geometry_of old.device) numbers texts old.in_order c.requires.some c.requires.most c.requires.rise c.requires.there c.in_ok-gather.ensures.texts)
+    subst (λ (l : List ℕ). IsBatch (settled_device.geometry_of old.device) l texts) (sym c.gather.ensures.numbers)
+    (is_batch (maps.frame_at old.frames) (settled_device.geometry_of old.device) numbers texts old.in_order c.requires.some c.requires.most c.requires.rise c.requires.there c.gather.ensures.texts)
 
-pub returns-in_err-gather-clause-any_moment : goal.returns-in_err-gather-clause-any_moment
-returns-in_err-gather-clause-any_moment g c front disk holds =
-    let old = c.args.self.now in
-    shown_still old.device front disk (numbers_of old.batch) (texts_of old.batch) old.amid holds.settled
-
-pub invariant_of-self-in-Break-branch-2 : goal.invariant_of-self-in-Break-branch-2
-invariant_of-self-in-Break-branch-2 g c = record {
+pub invariant_of-self : goal.invariant_of-self
+invariant_of-self g c = record {
   in_order = subst (AreInOrder (maps.frame_at c.args.self.now.frames)) (sym c.begin_batch.ensures.geometry) c.args.self.now.in_order;
   some = c.args.self.now.some;
   few = c.args.self.now.few;
   pages = c.args.self.now.pages ∙ ap page_count (sym c.begin_batch.ensures.geometry);
+  batch_room = c.gather.ensures.room;
   batch_is = λ some. absurd (some c.requires.rests);
 }
 
@@ -47,11 +37,12 @@ invariant_of-self-2 g c = record {
   some = c.args.self.now.some;
   few = c.args.self.now.few;
   pages = c.args.self.now.pages ∙ ap page_count (sym c.begin_batch.ensures.geometry);
+  batch_room = c.gather.ensures.room;
   batch_is = λ some.
       let old = c.args.self.now in
       let texts = texts_of c.gather.new.batch in
-      let is = is_batch (maps.frame_at old.frames) (settled_device.geometry_of old.device) c.args.numbers.now texts old.in_order c.requires.some c.requires.most c.requires.rise c.requires.there c.in_ok-gather.ensures.texts in
-      subst (λ (l : List ℕ). AreBatchNumbers (settled_device.geometry_of c.begin_batch.new.self) l) (sym c.in_ok-gather.ensures.numbers)
+      let is = is_batch (maps.frame_at old.frames) (settled_device.geometry_of old.device) c.args.numbers.now texts old.in_order c.requires.some c.requires.most c.requires.rise c.requires.there c.gather.ensures.texts in
+      subst (λ (l : List ℕ). AreBatchNumbers (settled_device.geometry_of c.begin_batch.new.self) l) (sym c.gather.ensures.numbers)
       (subst (λ (it : Geometry). AreBatchNumbers it c.args.numbers.now) (sym c.begin_batch.ensures.geometry) (record { some = is.some; most = is.most; rise = is.rise; on_volume = is.on_volume }));
 }
 
@@ -64,7 +55,7 @@ returns-clause-kept g c front disk holds =
     record {
       settled = c.in_ok-begin_batch.ensures.written front disk s;
       written = holds.written;
-      held = subst (λ (l : List ℕ). AreHeld amid.Written (maps.frame_at old.frames) l (texts_of c.gather.new.batch)) (sym c.in_ok-gather.ensures.numbers) c.in_ok-gather.ensures.texts;
+      held = subst (λ (l : List ℕ). AreHeld amid.Written (maps.frame_at old.frames) l (texts_of c.gather.new.batch)) (sym c.gather.ensures.numbers) c.gather.ensures.texts;
     }
 
 pub returns-in_err-begin_batch-clause-any_moment : goal.returns-in_err-begin_batch-clause-any_moment

@@ -1,7 +1,5 @@
-use Rattle.std.proofs.Common.{◌≡◌, vec_capacity}
-use Rattle.shore_types.specs.declared.layout.TheConstants.{MAX_BATCH_PAGES}
 use Rattle.shore_pool.specs.Batches.{IsChosen}
 use Rattle.shore_pool.proofs.pool.Pool.due.Given as goal
 
 abbrev pub invariant-loop : goal.invariant-loop
-invariant-loop g l = IsChosen l.self l.from l.durable l.pages.items l.next l.counter × (vec_capacity l.pages ≡ MAX_BATCH_PAGES)
+invariant-loop g l = IsChosen l.self l.from l.durable l.pages.items l.next l.counter

@@ -57,10 +57,7 @@ returns-in_err-make_room-clause-refused g c front disk holds =
     let same = alike (maps.frame_at old.frames) (maps.frame_at c.touch.new.self) c.touch.ensures.same in
     if_err c.from_residual.result c.from_residual.ensures.1 (λ fault is. elim c.in_err-make_room.ensures.refused [
       | inl device ↦ inl (is ∙ device)
-      | inr other ↦ elim other [
-        | inl memory ↦ inr (inl (is ∙ memory))
-        | inr force ↦ inr (inr (inr (force.0, is ∙ force.1, force_from old _ same c.args.ends.now.durable force.0 force.2)))
-      ]
+      | inr force ↦ inr (inr (inr (force.0, is ∙ force.1, force_from old _ same c.args.ends.now.durable force.0 force.2)))
     ])
 
 pub returns-in_err-make_room-clause-any_moment : goal.returns-in_err-make_room-clause-any_moment

@@ -1,18 +1,15 @@
-use Rattle.std.proofs.Common.{◌≡◌, ◌≢◌, ◌∙◌, ◌≤◌, ℕ, List, IsTrue, Option, refl, sym, ap, subst}
-use Rattle.shore_disk.specs.Device.{LeavesOnly}
+use Rattle.std.proofs.Common.{◌≡◌, ◌∙◌, ℕ, List, refl, sym, ap, subst}
 use Rattle.shore_types.specs.declared.layout.Geometry.{Geometry}
 use Rattle.shore_dwrite.specs.Images.{numbers_of, texts_of}
 use Rattle.shore_dwrite.specs.Settled as settled_device
-use Rattle.shore_dwrite.specs.Shown.{AreBatchNumbers, ShowsBehind, overlaid}
-use Rattle.shore_dwrite.specs.UnderWay.{IsOpened, IsPlaced, IsWritten}
+use Rattle.shore_dwrite.specs.Shown.{AreBatchNumbers, overlaid}
+use Rattle.shore_dwrite.specs.UnderWay.{IsWritten}
 use Rattle.shore_dwrite.specs.Volumes.{page_count}
-use Rattle.shore_dwrite.proofs.Moves.{on_ok}
 use Rattle.shore_pool.specs.declared.amid.Amid.{Amid}
 use Rattle.shore_pool.specs.declared.amid.Amid.TheVariants as amid
 use Rattle.shore_pool.specs.Changes.{settled_at}
 use Rattle.shore_pool.specs.FrameMaps as maps
 use Rattle.shore_pool.specs.Pages.{AreInOrder}
-use Rattle.shore_pool.specs.Pools.{PoolHolds}
 use Rattle.shore_pool.specs.UnderWay.{AreHeld, HoldsAmid}
 use Rattle.shore_pool.proofs.Moments.{while_written}
 use Rattle.shore_pool.proofs.Orders.{order_settled}
@@ -28,6 +25,7 @@ invariant_of-self g c = record {
   some = c.args.self.now.some;
   few = c.args.self.now.few;
   pages = c.args.self.now.pages ∙ ap page_count (sym c.open_batch.ensures.geometry);
+  batch_room = c.args.self.now.batch_room;
   batch_is = λ some. subst (λ (it : Geometry). AreBatchNumbers it (numbers_of c.args.self.now.batch)) (sym c.open_batch.ensures.geometry)
       (c.args.self.now.batch_is (λ rests. let clash : amid.Written ≡ amid.Rest = sym c.requires ∙ rests in cc));
 }

@@ -25,6 +25,7 @@ invariant_of-self g c = record {
   some = c.args.self.now.some;
   few = c.args.self.now.few;
   pages = c.args.self.now.pages ∙ ap page_count (sym c.read_page.ensures.geometry);
+  batch_room = c.args.self.now.batch_room;
   batch_is = λ some. subst (λ (it : Geometry). AreBatchNumbers it (numbers_of c.args.self.now.batch)) (sym c.read_page.ensures.geometry) (c.args.self.now.batch_is some);
 }
 

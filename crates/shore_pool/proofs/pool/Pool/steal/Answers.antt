@@ -1,4 +1,4 @@
-use Rattle.std.proofs.Common.{◌≡◌, ◌≤◌, ℕ, List, Contains, length, inl, inr, refl, sym, ap, subst, ◌∙◌, arith}
+use Rattle.std.proofs.Common.{inl, inr, refl, sym, ap, subst, ◌∙◌}
 use Rattle.std.proofs.lemmas.Bool.{cases_eq}
 use Rattle.shore_disk.specs.Device.{LeavesOnly}
 use Rattle.shore_dwrite.specs.declared.device.PageDev.{PageDev}
@@ -57,7 +57,7 @@ returns-in-Some-any_number-clause-refused g c dirty =
     let number = c.in-Some-any_number.number in
     let one = c.in-Some-any_number.ensures.some in
     let all = all_above at c.args.durable dirty c.in_default.ensures.none in
-    inr (inr (number, refl, record { above = one_above at c.args.durable number one all; one = one; all = all }))
+    inr (number, refl, record { above = one_above at c.args.durable number one all; one = one; all = all })
 
 pub returns-in-Some-any_number-clause-any_moment : goal.returns-in-Some-any_number-clause-any_moment
 returns-in-Some-any_number-clause-any_moment g c front disk holds = while_still c.args.self.now.device (frame_at c.args.self.now) c.args.durable front disk (numbers_of c.args.self.now.batch) (texts_of c.args.self.now.batch) c.args.self.now.amid holds.settled

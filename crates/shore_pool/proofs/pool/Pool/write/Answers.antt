@@ -1,4 +1,4 @@
-use Rattle.std.proofs.Common.{ℕ, List, inr, refl, subst, sym, ap, ◌∙◌}
+use Rattle.std.proofs.Common.{ℕ, List, subst, sym, ap, ◌∙◌}
 use Rattle.shore_dwrite.specs.Images.{numbers_of, texts_of}
 use Rattle.shore_dwrite.specs.Settled as settled_device
 use Rattle.shore_dwrite.specs.Settled.{IsSettled}
@@ -7,13 +7,11 @@ use Rattle.shore_disk.specs.Device.{LeavesOnly}
 use Rattle.shore_dwrite.specs.Volumes.{page_count}
 use Rattle.shore_pool.specs.FrameMaps as maps
 use Rattle.shore_pool.specs.Pages.{AreInOrder}
-use Rattle.shore_pool.proofs.Moments.{as_it_was, while_still, while_written}
+use Rattle.shore_pool.proofs.Moments.{while_written}
 use Rattle.shore_pool.proofs.Orders.{order_settled}
 use Rattle.shore_pool.proofs.Settling.{settled_here, not_settled}
 use Rattle.shore_pool.proofs.Written.{is_batch, may_be_left, all_written, same_pages}
-use Rattle.shore_pool.proofs.Unwritten.{none_written, others_unwritten, were_same}
-use Rattle.shore_pool.proofs.Same.{pages_stay}
-use Rattle.shore_pool.proofs.Steps.{match_err}
+use Rattle.shore_pool.proofs.Unwritten.{others_unwritten}
 use Rattle.shore_pool.proofs.UnderWay.{at_rest, held_none, rests_at}
 use Rattle.shore_pool.proofs.pool.Pool.write.Goals as goal
 
@@ -22,37 +20,16 @@ write_batch-requires g c =
     let old = c.args.self.now in
     let numbers = c.args.numbers.now in
     let batch = c.gather.new.batch in
-    let is : IsBatch (settled_device.geometry_of old.device) numbers (texts_of batch) = is_batch (maps.frame_at old.frames) (settled_device.geometry_of old.device) numbers (texts_of batch) old.in_order c.requires.some c.requires.most c.requires.rise c.requires.there c.in_ok-gather.ensures.texts in
-    subst (λ (l : List ℕ). IsBatch (settled_device.geometry_of old.device) l (texts_of batch)) (sym c.in_ok-gather.ensures.numbers) is
+    let is : IsBatch (settled_device.geometry_of old.device) numbers (texts_of batch) = is_batch (maps.frame_at old.frames) (settled_device.geometry_of old.device) numbers (texts_of batch) old.in_order c.requires.some c.requires.most c.requires.rise c.requires.there c.gather.ensures.texts in
+    subst (λ (l : List ℕ). IsBatch (settled_device.geometry_of old.device) l (texts_of batch)) (sym c.gather.ensures.numbers) is
 
-pub returns-in_err-gather-clause-any_moment : goal.returns-in_err-gather-clause-any_moment
-returns-in_err-gather-clause-any_moment g c front disk durable holds up_to =
-    let old = c.args.self.now in
-    while_still old.device (maps.frame_at old.frames) durable front disk (numbers_of old.batch) (texts_of old.batch) old.amid holds.settled
-
-pub returns-in_err-gather-clause-kept : goal.returns-in_err-gather-clause-kept
-returns-in_err-gather-clause-kept g c front disk durable holds up_to =
-    let old = c.args.self.now in
-    let at = maps.frame_at old.frames in
-    match_err _ c.from_residual.result c.from_residual.ensures.1 (λ fault is. inr (record {
-      left = disk;
-      holds = record {
-        settled = rests_at old.amid old.device front disk (numbers_of c.gather.new.batch) (texts_of c.gather.new.batch) c.requires.rests
-            (at_rest old.amid old.device front disk (numbers_of old.batch) (texts_of old.batch) c.requires.rests holds.settled);
-        written = holds.written;
-        held = held_none old.amid at (numbers_of c.gather.new.batch) (texts_of c.gather.new.batch) c.requires.rests;
-      };
-      may = as_it_was (settled_device.geometry_of old.device) at durable front disk;
-      same = pages_stay at at disk (λ k. refl);
-      unwritten = none_written at at disk (were_same at at (λ k. refl));
-    }))
-
-pub invariant_of-self-in-Break-branch-2 : goal.invariant_of-self-in-Break-branch-2
-invariant_of-self-in-Break-branch-2 g c = record {
+pub invariant_of-self : goal.invariant_of-self
+invariant_of-self g c = record {
   in_order = subst (AreInOrder (maps.frame_at c.args.self.now.frames)) (sym c.write_batch.ensures.geometry) c.args.self.now.in_order;
   some = c.args.self.now.some;
   few = c.args.self.now.few;
   pages = c.args.self.now.pages ∙ ap page_count (sym c.write_batch.ensures.geometry);
+  batch_room = c.gather.ensures.room;
   batch_is = λ some. absurd (some c.requires.rests);
 }
 
@@ -63,10 +40,10 @@ returns-in_err-write_batch-clause-any_moment g c front disk durable holds up_to 
     let geometry = settled_device.geometry_of old.device in
     let numbers = c.args.numbers.now in
     let texts = texts_of c.gather.new.batch in
-    let are = c.in_ok-gather.ensures.texts in
+    let are = c.gather.ensures.texts in
     while_written geometry at durable front disk _ _ (overlaid numbers texts disk) (may_be_left at durable numbers texts disk are up_to)
     (subst (λ (l : List ℕ). LeavesOnly (g.D.Disk.history (settled_device.device_of old.device)) (g.D.Disk.history (settled_device.device_of c.write_batch.new.self)) (ShowsEither geometry front disk (overlaid l texts disk)))
-    c.in_ok-gather.ensures.numbers (c.write_batch.ensures.any_moment front disk (at_rest old.amid old.device front disk (numbers_of old.batch) (texts_of old.batch) c.requires.rests holds.settled)))
+    c.gather.ensures.numbers (c.write_batch.ensures.any_moment front disk (at_rest old.amid old.device front disk (numbers_of old.batch) (texts_of old.batch) c.requires.rests holds.settled)))
 
 pub returns-clause-any_moment : goal.returns-clause-any_moment
 returns-clause-any_moment g c front disk durable holds up_to =
@@ -75,10 +52,10 @@ returns-clause-any_moment g c front disk durable holds up_to =
     let geometry = settled_device.geometry_of old.device in
     let numbers = c.args.numbers.now in
     let texts = texts_of c.gather.new.batch in
-    let are = c.in_ok-gather.ensures.texts in
+    let are = c.gather.ensures.texts in
     while_written geometry at durable front disk _ _ (overlaid numbers texts disk) (may_be_left at durable numbers texts disk are up_to)
     (subst (λ (l : List ℕ). LeavesOnly (g.D.Disk.history (settled_device.device_of old.device)) (g.D.Disk.history (settled_device.device_of c.write_batch.new.self)) (ShowsEither geometry front disk (overlaid l texts disk)))
-    c.in_ok-gather.ensures.numbers (c.write_batch.ensures.any_moment front disk (at_rest old.amid old.device front disk (numbers_of old.batch) (texts_of old.batch) c.requires.rests holds.settled)))
+    c.gather.ensures.numbers (c.write_batch.ensures.any_moment front disk (at_rest old.amid old.device front disk (numbers_of old.batch) (texts_of old.batch) c.requires.rests holds.settled)))
 
 pub invariant_of-self-2-clause-in_order : goal.invariant_of-self-2-clause-in_order
 invariant_of-self-2-clause-in_order g c =
@@ -99,12 +76,12 @@ returns-clause-kept g c front disk durable holds up_to =
     let now = maps.frame_at c.settle_all.new.self in
     let numbers = c.args.numbers.now in
     let texts = texts_of c.gather.new.batch in
-    let are = c.in_ok-gather.ensures.texts in
+    let are = c.gather.ensures.texts in
     record {
       left = overlaid numbers texts disk;
       holds = record {
         settled = rests_at old.amid c.write_batch.new.self front (overlaid numbers texts disk) (numbers_of c.gather.new.batch) texts c.requires.rests
-            (subst (λ (l : List ℕ). IsSettled c.write_batch.new.self front (overlaid l texts disk)) c.in_ok-gather.ensures.numbers
+            (subst (λ (l : List ℕ). IsSettled c.write_batch.new.self front (overlaid l texts disk)) c.gather.ensures.numbers
             (c.in_ok-write_batch.ensures.settled front disk (at_rest old.amid old.device front disk (numbers_of old.batch) (texts_of old.batch) c.requires.rests holds.settled)));
         written = all_written at now numbers texts disk are c.settle_all.ensures.settled holds.written;
         held = held_none old.amid now (numbers_of c.gather.new.batch) texts c.requires.rests;

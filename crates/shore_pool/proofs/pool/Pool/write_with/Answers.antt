@@ -1,4 +1,4 @@
-use Rattle.std.proofs.Common.{◌≡◌, ◌⊎◌, ◌≤◌, ℕ, List, Contains, IsSomeAnd, IsTrue, Option, None, length, option_map, inl, inr, refl, sym, ap, subst, ◌∙◌, arith}
+use Rattle.std.proofs.Common.{◌≡◌, ◌≤◌, ℕ, List, Contains, IsSomeAnd, IsTrue, Option, None, length, option_map, inl, inr, sym, ap, subst, ◌∙◌, arith}
 use Rattle.shore_disk.specs.Device.{LeavesOnly}
 use Rattle.shore_disk.proofs.Moments.{joined}
 use Rattle.shore_types.specs.declared.layout.Geometry.{Geometry}
@@ -10,13 +10,12 @@ use Rattle.shore_pool.specs.Batches.{AreDue}
 use Rattle.shore_pool.specs.Changes.{settled}
 use Rattle.shore_pool.specs.FrameMaps as maps
 use Rattle.shore_pool.specs.FrameMaps.{IsDue}
-use Rattle.shore_pool.specs.Pages.{AreUpTo}
 use Rattle.shore_pool.specs.Pools.{LeavesPages, batch_of, frame_at, geometry_of, history_of}
 use Rattle.shore_pool.proofs.Choices.{are_there, cases_contains, has_first, up_to}
 use Rattle.shore_pool.proofs.Moments.{Leaves, while_left, while_shown}
 use Rattle.shore_pool.proofs.Same.{settled_clean}
 use Rattle.shore_pool.proofs.Syncs.{once_at_most}
-use Rattle.shore_pool.proofs.Steps.{match_err, wrote_from, wrote_on, wrote_still}
+use Rattle.shore_pool.proofs.Steps.{match_err, wrote_from, wrote_on}
 use Rattle.shore_pool.proofs.pool.Pool.write_with.Goals as goal
 
 pub open-requires : goal.open-requires
@@ -85,17 +84,6 @@ returns-in_err-finish-clause-any_moment g c front disk holds =
     let old = c.args.self.now in
     while_shown (geometry_of old) (frame_at old) c.args.durable front disk _ _ (c.finish.ensures.any_moment front disk holds)
 
-pub returns-in_err-pages-clause-any_moment : goal.returns-in_err-pages-clause-any_moment
-returns-in_err-pages-clause-any_moment g c front disk holds =
-    let old = c.args.self.now in
-    while_shown (geometry_of old) (frame_at old) c.args.durable front disk _ _ (c.finish.ensures.any_moment front disk holds)
-
-pub returns-in_err-pages-clause-kept : goal.returns-in_err-pages-clause-kept
-returns-in_err-pages-clause-kept g c front disk holds =
-    let mid = c.finish.new.self in
-    match_err _ c.from_residual-in_err-pages.result c.from_residual-in_err-pages.ensures.1
-    (λ fault said. inr (wrote_still c.args.self.now mid c.args.durable front disk (λ k. ap (λ (it : Frames). maps.frame_at it k) c.finish.ensures.frames) (c.in_ok-finish.ensures.kept front disk holds)))
-
 pub write-requires-clause-rests : goal.write-requires-clause-rests
 write-requires-clause-rests g c = c.in_ok-finish.ensures.ended
 
@@ -104,20 +92,20 @@ write-requires-clause-some g c =
     let mid = c.finish.new.self in
     let n = c.args.number in
     let same : frame_at mid ≡ frame_at c.args.self.now = ap (λ (it : Frames). maps.frame_at it) c.finish.ensures.frames in
-    let has = has_first mid n c.args.durable c.in_ok-pages.pages.items c.in_ok-pages.ensures.first c.in_ok-pages.ensures.least
+    let has = has_first mid n c.args.durable c.due-pages.result.items c.due-pages.ensures.first c.due-pages.ensures.least
     (subst (λ (at : ℕ → Option Frame). IsSomeAnd (at n) (IsDue c.args.durable)) (sym same) c.requires) in
     let some = has.1 in
-    subst (λ (l : List ℕ). 1 ≤ length l) (sym c.deref.ensures.value) (omega (arith, some))
+    subst (λ (l : List ℕ). 1 ≤ length l) (sym c.deref.ensures.0) (omega (arith, some))
 
 pub write-requires-clause-there : goal.write-requires-clause-there
-write-requires-clause-there g c = are_there c.finish.new.self c.args.durable c.deref.result.now (subst (AreDue c.finish.new.self c.args.durable) (sym c.deref.ensures.value) c.in_ok-pages.ensures.due)
+write-requires-clause-there g c = are_there c.finish.new.self c.args.durable c.deref.result.now (subst (AreDue c.finish.new.self c.args.durable) (sym c.deref.ensures.0) c.due-pages.ensures.due)
 
 pub returns-in_err-write-clause-any_moment : goal.returns-in_err-write-clause-any_moment
 returns-in_err-write-clause-any_moment g c front disk holds =
     let old = c.args.self.now in
     let mid = c.finish.new.self in
     let same : frame_at mid ≡ frame_at old = ap (λ (it : Frames). maps.frame_at it) c.finish.ensures.frames in
-    let up = up_to mid c.args.durable c.deref.result.now (subst (AreDue mid c.args.durable) (sym c.deref.ensures.value) c.in_ok-pages.ensures.due) in
+    let up = up_to mid c.args.durable c.deref.result.now (subst (AreDue mid c.args.durable) (sym c.deref.ensures.0) c.due-pages.ensures.due) in
     joined _ _ _ (LeavesPages old c.args.durable front disk) (while_shown (geometry_of old) (frame_at old) c.args.durable front disk _ _ (c.finish.ensures.any_moment front disk holds))
     (subst (λ (at : ℕ → Option Frame). LeavesOnly (history_of mid) (history_of c.write.new.self) (Leaves (geometry_of old) at c.args.durable front disk)) same
     (subst (λ (it : Geometry). LeavesOnly (history_of mid) (history_of c.write.new.self) (Leaves it (frame_at mid) c.args.durable front disk)) c.finish.ensures.geometry
@@ -128,7 +116,7 @@ returns-clause-any_moment g c front disk holds =
     let old = c.args.self.now in
     let mid = c.finish.new.self in
     let same : frame_at mid ≡ frame_at old = ap (λ (it : Frames). maps.frame_at it) c.finish.ensures.frames in
-    let up = up_to mid c.args.durable c.deref.result.now (subst (AreDue mid c.args.durable) (sym c.deref.ensures.value) c.in_ok-pages.ensures.due) in
+    let up = up_to mid c.args.durable c.deref.result.now (subst (AreDue mid c.args.durable) (sym c.deref.ensures.0) c.due-pages.ensures.due) in
     joined _ _ _ (LeavesPages old c.args.durable front disk) (while_shown (geometry_of old) (frame_at old) c.args.durable front disk _ _ (c.finish.ensures.any_moment front disk holds))
     (subst (λ (at : ℕ → Option Frame). LeavesOnly (history_of mid) (history_of c.write.new.self) (Leaves (geometry_of old) at c.args.durable front disk)) same
     (subst (λ (it : Geometry). LeavesOnly (history_of mid) (history_of c.write.new.self) (Leaves it (frame_at mid) c.args.durable front disk)) c.finish.ensures.geometry
@@ -139,7 +127,7 @@ returns-in_err-write-clause-kept g c front disk holds =
     let old = c.args.self.now in
     let mid = c.finish.new.self in
     let same : frame_at mid ≡ frame_at old = ap (λ (it : Frames). maps.frame_at it) c.finish.ensures.frames in
-    let up = up_to mid c.args.durable c.deref.result.now (subst (AreDue mid c.args.durable) (sym c.deref.ensures.value) c.in_ok-pages.ensures.due) in
+    let up = up_to mid c.args.durable c.deref.result.now (subst (AreDue mid c.args.durable) (sym c.deref.ensures.0) c.due-pages.ensures.due) in
     match_err _ c.from_residual-in_err-write.result c.from_residual-in_err-write.ensures.1 (λ fault said. elim (c.in_err-write.ensures.kept front disk c.args.durable (c.in_ok-finish.ensures.kept front disk holds) up) [
       | inl device ↦ inl (said ∙ device)
       | inr w ↦ inr (wrote_from old mid c.write.new.self same c.args.durable front disk w)
@@ -150,7 +138,7 @@ returns-clause-kept g c front disk holds =
     let old = c.args.self.now in
     let mid = c.finish.new.self in
     let same : frame_at mid ≡ frame_at old = ap (λ (it : Frames). maps.frame_at it) c.finish.ensures.frames in
-    let up = up_to mid c.args.durable c.deref.result.now (subst (AreDue mid c.args.durable) (sym c.deref.ensures.value) c.in_ok-pages.ensures.due) in
+    let up = up_to mid c.args.durable c.deref.result.now (subst (AreDue mid c.args.durable) (sym c.deref.ensures.0) c.due-pages.ensures.due) in
     wrote_from old mid c.write.new.self same c.args.durable front disk (c.in_ok-write.ensures.kept front disk c.args.durable (c.in_ok-finish.ensures.kept front disk holds) up)
 
 pub returns-in_err-write-clause-frames : goal.returns-in_err-write-clause-frames
@@ -170,8 +158,8 @@ returns-clause-clean g c =
     let n = c.args.number in
     let same : frame_at mid ≡ frame_at c.args.self.now = ap (λ (it : Frames). maps.frame_at it) c.finish.ensures.frames in
     let due : IsSomeAnd (frame_at mid n) (IsDue c.args.durable) = subst (λ (at : ℕ → Option Frame). IsSomeAnd (at n) (IsDue c.args.durable)) (sym same) c.requires in
-    let has = has_first mid n c.args.durable c.in_ok-pages.pages.items c.in_ok-pages.ensures.first c.in_ok-pages.ensures.least due in
-    settled_clean (frame_at mid n) (frame_at c.write.new.self n) (IsDue c.args.durable) due (c.in_ok-write.ensures.clean n (subst (λ (l : List ℕ). Contains l n) (sym c.deref.ensures.value) has))
+    let has = has_first mid n c.args.durable c.due-pages.result.items c.due-pages.ensures.first c.due-pages.ensures.least due in
+    settled_clean (frame_at mid n) (frame_at c.write.new.self n) (IsDue c.args.durable) due (c.in_ok-write.ensures.clean n (subst (λ (l : List ℕ). Contains l n) (sym c.deref.ensures.0) has))
 
 pub returns-clause-closed : goal.returns-clause-closed
 returns-clause-closed g c opened = let clash : amid.Rest ≡ amid.Opened = sym c.in_ok-finish.ensures.ended ∙ sym c.write.ensures.amid ∙ opened in cc
@@ -195,9 +183,6 @@ returns-then-has_durable-clause-syncs g c honest goes =
 
 pub returns-in_err-finish-clause-syncs : goal.returns-in_err-finish-clause-syncs
 returns-in_err-finish-clause-syncs g c honest goes = absurd (c.has_durable.ensures.no c.if-has_durable.false goes)
-
-pub returns-in_err-pages-clause-syncs : goal.returns-in_err-pages-clause-syncs
-returns-in_err-pages-clause-syncs g c honest goes = absurd (c.has_durable.ensures.no c.if-has_durable.false goes)
 
 pub returns-in_err-write-clause-syncs : goal.returns-in_err-write-clause-syncs
 returns-in_err-write-clause-syncs g c honest goes = absurd (c.has_durable.ensures.no c.if-has_durable.false goes)
