@@ -1,5 +1,5 @@
 -- What a step of the flush leaves of a state and of its store.
-use Rattle.std.proofs.Common.{◌≡◌, ◌⊎◌, ◌≤◌, ◌+◌, ◌∙◌, ℕ, List, [], ◌∷◌, Bool, MatchResult, inl, inr, true, false, length, refl, sym, ap, subst, arith}
+use Rattle.std.proofs.Common.{◌≡◌, ◌⊎◌, ◌≤◌, ◌+◌, ◌∙◌, ℕ, List, [], ◌∷◌, MatchResult, inl, inr, true, false, length, refl, sym, ap, subst, arith}
 use Rattle.shore_types.specs.declared.faults.Fault.{Fault}
 use Rattle.shore_types.specs.declared.faults.Fault.TheVariants as fault
 use Rattle.shore_model.specs.declared.log_records.LogRecord.{LogRecord}
@@ -25,16 +25,7 @@ use Rattle.laws_checkpoints.specs.RecoveryNumbers.{recovery_after}
 use Rattle.shore_core.specs.Stores.{WorksOn}
 use Rattle.shore_core.proofs.Works.{works_to}
 use Rattle.shore_core.proofs.Coming.{beside_same, kept_after, written_back}
-use Rattle.shore_core.proofs.Taking.{in_failed, over_failed, true_false}
-
--- a core that ran has not failed
-pub still_running : (was is : Bool) → was ≡ false → (is ≡ true → was ≡ true) → is ≡ was
-still_running was false running back = sym running
-still_running was true running back = absurd (true_false (sym (back refl) ∙ running))
-
--- another fault than the device's
-pub apart : fault.Memory ≡ fault.Device → ⊥
-apart same = cc
+use Rattle.shore_core.proofs.Taking.{in_failed, over_failed}
 
 -- ---- works that append nothing and force nothing more
 
@@ -129,7 +120,7 @@ module _ {T V : Type 0} {G : tail.Ghosts T} {H : disk.Ghosts V} where
         → FlushSteps (Refused f) new front before s store
     steps_failed f device tail txns durable failed = record {
       later = with_failure s;
-      moves = inr (works, inr (device, refl));
+      moves = inr (works, device, refl);
       comes = record {
         left = disk;
         is_in = in_failed old new front disk before s is.beside tail txns durable failed;

@@ -22,7 +22,7 @@ FlushMoves s (Done answer) new = (s.failed ≡ false) × ((count : ℕ) × (0 < 
 FlushMoves s (Waits wait) new = ⊥
 FlushMoves s (Refused f) new =
     (IsTrue s.failed × (f ≡ fault.Failed) × (new ≡ s))
-    ⊎ ((s.failed ≡ false) × (((f ≡ fault.Memory) × (new ≡ s)) ⊎ ((f ≡ fault.Device) × (new ≡ with_failure s))))
+    ⊎ ((s.failed ≡ false) × (f ≡ fault.Device) × (new ≡ with_failure s))
 FlushMoves s Nothing new = (s.failed ≡ false) × (new ≡ s)
 
 -- works that write pages back, and do nothing else
@@ -51,7 +51,7 @@ module _ {T V : Type 0} {G : tail.Ghosts T} {H : disk.Ghosts V} where
   FlushAnswers old (Done answer) new = (count : ℕ) × (0 < count) × (answer ≡ Flushed count) × Flushes (pool_of (heap_of old)) (pool_of (heap_of new)) (durable_of old) count
   FlushAnswers old (Waits wait) new = ⊥
   FlushAnswers old (Refused f) new =
-      ((IsTrue (has_failed old) × (f ≡ fault.Failed)) ⊎ (f ≡ fault.Device) ⊎ (f ≡ fault.Memory)) × ((k : ℕ) → frame_at (heap_of new) k ≡ frame_at (heap_of old) k)
+      ((IsTrue (has_failed old) × (f ≡ fault.Failed)) ⊎ (f ≡ fault.Device)) × ((k : ℕ) → frame_at (heap_of new) k ≡ frame_at (heap_of old) k)
   FlushAnswers old Nothing new =
       NoneDue (pool_of (heap_of old)) (durable_of old) × (pool_of (heap_of new) ≡ pool_of (heap_of old)) × (bounds_of (heap_of new) ≡ bounds_of (heap_of old))
 
@@ -60,6 +60,6 @@ module _ {T V : Type 0} {G : tail.Ghosts T} {H : disk.Ghosts V} where
   TurnAnswers old (Done answer) new = ⊥
   TurnAnswers old (Waits wait) new = ⊥
   TurnAnswers old (Refused f) new =
-      ((IsTrue (has_failed old) × (f ≡ fault.Failed)) ⊎ (f ≡ fault.Device) ⊎ (f ≡ fault.Memory)) × ((k : ℕ) → frame_at (heap_of new) k ≡ frame_at (heap_of old) k)
+      ((IsTrue (has_failed old) × (f ≡ fault.Failed)) ⊎ (f ≡ fault.Device)) × ((k : ℕ) → frame_at (heap_of new) k ≡ frame_at (heap_of old) k)
   TurnAnswers old Nothing new =
       ((made : Bool) × GoesOn (pool_of (heap_of old)) (pool_of (heap_of new)) (durable_of old) made) × (bounds_of (heap_of new) ≡ bounds_of (heap_of old))

@@ -13,7 +13,6 @@ use shore_log::Tail;
 use shore_model::{Answer, Step};
 use shore_pool::Amid;
 use shore_types::Fault;
-use std::alloc::Global;
 
 impl<T: Tail, V: Disk> Core<T, V> {
     ghost use Rattle.shore_core.specs.Cores.{durable_of, has_failed, heap_of, tail_of, control_of, txns_of};
@@ -21,9 +20,9 @@ impl<T: Tail, V: Disk> Core<T, V> {
     ghost use Rattle.shore_core.specs.Replies.{InEach, Serves, fault_at};
 
     /// A step of the flush: writes a batch of dirty pages with durable numbers back, the first of the volume, and answers how many. `Nothing` if no
-    /// page is due: then nothing has changed. `Failed` after a failure of a device or a damaged page. `Memory` if an allocation failed: no frame has
-    /// changed. After `Device` every later call is refused.
-    pub fn flush_step(&mut self, alloc: Global) -> Step
+    /// page is due: then nothing has changed. `Failed` after a failure of a device or a damaged page. It takes no memory. After
+    /// `Device` every later call is refused.
+    pub fn flush_step(&mut self) -> Step
         // In whatever state it was, it is in the same, but for a failure. The store beside it comes to another by flushes of pages alone.
         ensures step { InEach (λ front disk before s store. FlushSteps result self.new front before s store) self.old }
         ensures answers { FlushAnswers self.old result self.new }
@@ -47,7 +46,7 @@ impl<T: Tail, V: Disk> Core<T, V> {
         if self.failed {
             return Step::Refused(Fault::Failed);
         }
-        match self.heap.flush(alloc, self.durable) {
+        match self.heap.flush(self.durable) {
             Ok(0) => Step::Nothing,
             Ok(count) => Step::Done(Answer::Flushed(count)),
             Err(fault) => self.refuse_flush(fault),
@@ -70,7 +69,7 @@ impl<T: Tail, V: Disk> Core<T, V> {
 
     /// A step of the flush that makes one sync of the four by which a batch is written back: it begins a batch, or goes on with the one that is under way. `Nothing`
     /// is answered if it could: a step between two events of the manager, which asks for no record. Other calls may be made between two such steps.
-    pub fn flush_on(&mut self, alloc: Global) -> Step
+    pub fn flush_on(&mut self) -> Step
         // In whatever state it was, it is in the same, but for a failure. The store beside it comes to another by flushes of pages alone.
         ensures step { InEach (λ front disk before s store. FlushSteps result self.new front before s store) self.old }
         ensures answers { TurnAnswers self.old result self.new }
@@ -95,7 +94,7 @@ impl<T: Tail, V: Disk> Core<T, V> {
         if self.has_failed() {
             return Step::Refused(Fault::Failed);
         }
-        match self.heap.flush_on(alloc, self.durable) {
+        match self.heap.flush_on(self.durable) {
             Ok(_) => Step::Nothing,
             Err(fault) => self.refuse_flush(fault),
         }

@@ -309,8 +309,7 @@ module _ {T V : Type 0} {G : tail.Ghosts T} {H : disk.Ghosts V} {start : Beginni
         stays (Done answer) later other p = p.2
         stays (Waits wait) later other p = absurd p
         stays (Refused f) later other (inl p) = p.2
-        stays (Refused f) later other (inr (running, (inl p))) = p.1
-        stays (Refused f) later other (inr (running, (inr p))) = absurd (other (ap Refused p.0))
+        stays (Refused f) later other (inr (running, device, is)) = absurd (other (ap Refused device))
         stays Nothing later other p = p.1
 
     pub flush_failed : InEach (λ front disk before s store. FlushSteps (Refused fault.Device) new front before s store) old → Come new (OfManager HasFailed ∷ [])
@@ -320,8 +319,7 @@ module _ {T V : Type 0} {G : tail.Ghosts T} {H : disk.Ghosts V} {start : Beginni
       where
         device : (later : State) → FlushMoves h.last.state (Refused fault.Device) later → later ≡ with_failure h.last.state
         device later (inl p) = let clash : fault.Device ≡ fault.Failed = p.1 in cc
-        device later (inr (running, (inl p))) = let clash : fault.Device ≡ fault.Memory = p.0 in cc
-        device later (inr (running, (inr p))) = p.1
+        device later (inr (running, of_device, is)) = is
 
   -- ---- a checkpoint
 

@@ -35,8 +35,7 @@ flush_leaves : (s : State) (step : Step) (later : State) → FlushMoves s step l
 flush_leaves s (Done answer) later p = inl p.2
 flush_leaves s (Waits wait) later p = absurd p
 flush_leaves s (Refused f) later (inl p) = inl p.2
-flush_leaves s (Refused f) later (inr (running, inl p)) = inl p.1
-flush_leaves s (Refused f) later (inr (running, inr p)) = inr p.1
+flush_leaves s (Refused f) later (inr (running, device, is)) = inr is
 flush_leaves s Nothing later p = inl p.1
 
 module _ {T V : Type 0} {G : tail.Ghosts T} {H : disk.Ghosts V} {start : Beginning} (cut : ℕ) (kept : List LogRecord) (old : Core T V G H) (stage : Stage) (anchored : Anchored) (trail : List PlainMove)

@@ -269,7 +269,7 @@ impl<B: Named, T: Tail, V: Disk> CoreHeld<B, T, V> {
     }
 
     /// A step of the flush that makes one sync: the core may be given back between two of them.
-    pub fn flush_on(&mut self, alloc: Global) -> Step
+    pub fn flush_on(&mut self) -> Step
         ensures step { InEach (λ front disk before s store. FlushSteps result self.new.core front before s store) self.old.core }
         ensures answers { TurnAnswers self.old.core result self.new.core }
         ensures syncs { IsTrue (honesty_of (heap_of self.old.core)) → syncs_of (history_of (heap_of self.new.core)) ≤ syncs_of (history_of (heap_of self.old.core)) + 1 }
@@ -283,7 +283,7 @@ impl<B: Named, T: Tail, V: Disk> CoreHeld<B, T, V> {
         ensures same { (self.new.stage ≡ self.old.stage) × (self.new.made ≡ self.old.made) × (self.new.rest ≡ self.old.rest) × (self.new.seat ≡ self.old.seat) }
         ensures tape { self.new.tape ≡ self.old.tape }
     {
-        let step = self.core.flush_on(alloc);
+        let step = self.core.flush_on();
         if is_failure(&step) {
             self.asked = self.asked.and(&Asked::Failed, &SessionId(0));
             self.stepped = self.stepped.and(&Step::Nothing, &SessionId(0));

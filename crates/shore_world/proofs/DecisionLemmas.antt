@@ -117,8 +117,7 @@ open_log g s new step h = absurd h
 pub flush_log : (s new : State) (step : Step) → FlushMoves s step new → new.log ≡ s.log
 flush_log s new (Done answer) h = ap (λ (x : State). x.log) h.2
 flush_log s new (Refused f) (inl h) = ap (λ (x : State). x.log) h.2
-flush_log s new (Refused f) (inr (runs, inl h)) = ap (λ (x : State). x.log) h.1
-flush_log s new (Refused f) (inr (runs, inr h)) = ap (λ (x : State). x.log) h.1
+flush_log s new (Refused f) (inr (runs, device, h)) = ap (λ (x : State). x.log) h
 flush_log s new (Waits wait) h = absurd h
 flush_log s new Nothing h = ap (λ (x : State). x.log) h.1
 

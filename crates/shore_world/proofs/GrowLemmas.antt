@@ -218,8 +218,7 @@ pub flush_same : (s : State) (step : Step) (new : State) → FlushMoves s step n
 flush_same s (Done answer) new moves = same_log_of s new s moves.2 (refl, refl)
 flush_same s (Waits wait) new moves = absurd moves
 flush_same s (Refused f) new (inl failed) = same_log_of s new s failed.2 (refl, refl)
-flush_same s (Refused f) new (inr (running, (inl memory))) = same_log_of s new s memory.1 (refl, refl)
-flush_same s (Refused f) new (inr (running, (inr device))) = same_log_of s new (with_failure s) device.1 (refl, refl)
+flush_same s (Refused f) new (inr (running, device, is)) = same_log_of s new (with_failure s) is (refl, refl)
 flush_same s Nothing new moves = same_log_of s new s moves.1 (refl, refl)
 
 -- so the store is the new state's too

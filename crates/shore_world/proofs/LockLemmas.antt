@@ -79,8 +79,7 @@ open_keeps g s new step h = absurd h
 flush_keeps : (s new : State) (step : Step) → FlushMoves s step new → SameLocks s new
 flush_keeps s new (Done answer) h = same_all h.2
 flush_keeps s new (Refused f) (inl h) = same_all h.2
-flush_keeps s new (Refused f) (inr (runs, inl h)) = same_all h.1
-flush_keeps s new (Refused f) (inr (runs, inr h)) = same_all h.1
+flush_keeps s new (Refused f) (inr (runs, device, h)) = same_all h
 flush_keeps s new (Waits wait) h = absurd h
 flush_keeps s new Nothing h = same_all h.1
 

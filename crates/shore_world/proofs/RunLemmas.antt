@@ -1,5 +1,5 @@
 -- Events one after another, and the events that are no step of a force.
-use Rattle.std.proofs.Common.{◌≡◌, ◌⊎◌, ◌≤◌, inl, inr, ℕ, Bool, true, List, IfErr, [], ◌∷◌, ◌++◌, refl, sym, ◌∙◌, ap, subst, arith, append-nil, append_assoc}
+use Rattle.std.proofs.Common.{◌≡◌, ◌≢◌, ◌⊎◌, ◌≤◌, inl, inr, ℕ, Bool, true, List, IfErr, [], ◌∷◌, ◌++◌, refl, sym, ◌∙◌, ap, subst, arith, append-nil, append_assoc}
 use Rattle.std.specs.Prelude.{◌↔◌}
 use Rattle.shore_types.specs.declared.faults.Fault.TheVariants.{Damaged, Failed, Memory, NeedForce}
 use Rattle.shore_types.specs.declared.faults.Device.{Device}
@@ -305,17 +305,15 @@ memory_asks_nothing w e front disk holds n is = absurd cc
 
 -- the faults that a flush may have name no page, and ask for no force
 abbrev pub IsOfFlush : Fault → Type 0
-IsOfFlush f = (f ≡ fault.Failed) ⊎ (f ≡ fault.Device) ⊎ (f ≡ fault.Memory)
+IsOfFlush f = (f ≡ fault.Failed) ⊎ (f ≡ fault.Device)
 
 of_flush_is_no_damage : (f : Fault) (d : Device) (offset : ℕ) → IsOfFlush f → f ≡ Damaged d offset → ⊥
 of_flush_is_no_damage f d offset (inl failed) is = let clash : Failed ≡ Damaged d offset = sym failed ∙ is in absurd cc
-of_flush_is_no_damage f d offset (inr (inl device)) is = let clash : fault.Device ≡ Damaged d offset = sym device ∙ is in absurd cc
-of_flush_is_no_damage f d offset (inr (inr memory)) is = let clash : Memory ≡ Damaged d offset = sym memory ∙ is in absurd cc
+of_flush_is_no_damage f d offset (inr device) is = let clash : fault.Device ≡ Damaged d offset = sym device ∙ is in absurd cc
 
 of_flush_asks_nothing : (f : Fault) (n : ℕ) → IsOfFlush f → f ≡ NeedForce n → ⊥
 of_flush_asks_nothing f n (inl failed) is = let clash : Failed ≡ NeedForce n = sym failed ∙ is in absurd cc
-of_flush_asks_nothing f n (inr (inl device)) is = let clash : fault.Device ≡ NeedForce n = sym device ∙ is in absurd cc
-of_flush_asks_nothing f n (inr (inr memory)) is = let clash : Memory ≡ NeedForce n = sym memory ∙ is in absurd cc
+of_flush_asks_nothing f n (inr device) is = let clash : fault.Device ≡ NeedForce n = sym device ∙ is in absurd cc
 
 pub flush_says_nothing : {L V : Type 0} {G : Ghosts L} {H : Ghosts V} (w : World L V G H) (e : Event) (step : Step) → IfErr (fault_at step) IsOfFlush → Earns w.core (ReadBy w.core e) (fault_at step)
 flush_says_nothing w e (Refused f) of_flush = λ front disk holds d offset is. absurd (of_flush_is_no_damage f d offset of_flush is)
@@ -335,6 +333,14 @@ flush_faults old new (Waits wait) answers = tt
 flush_faults old new (Refused f) (inl failed, frames) = inl failed.1
 flush_faults old new (Refused f) (inr other, frames) = inr other
 flush_faults old new Nothing answers = tt
+
+-- .. nor does one lack memory
+pub flush_no_memory : (step : Step) → IfErr (fault_at step) IsOfFlush → step ≢ Refused Memory
+flush_no_memory step of_flush is = lacks (subst (λ (x : Step). IfErr (fault_at x) IsOfFlush) is of_flush)
+  where
+    lacks : IsOfFlush Memory → ⊥
+    lacks (inl failed) = cc
+    lacks (inr device) = cc
 
 -- the volume of a core whose heap is the same
 pub same_volume : {T V : Type 0} {G : tail.Ghosts T} {H : Ghosts V} (old new : Core T V G H) → heap_of new ≡ heap_of old → SameVolume old new

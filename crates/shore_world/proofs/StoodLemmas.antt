@@ -73,8 +73,7 @@ module _ (g : Geometry) (o : Opening) (found : List LogRecord) (es : List Entry)
   flush_waits moves (Done answer) h = same_waits moves (ap (λ (y : State). y.waiting) h.2)
   flush_waits moves (Waits wait) h = absurd h
   flush_waits moves (Refused f) (inl h) = same_waits moves (ap (λ (y : State). y.waiting) h.2)
-  flush_waits moves (Refused f) (inr (running, (inl memory))) = same_waits moves (ap (λ (y : State). y.waiting) memory.1)
-  flush_waits moves (Refused f) (inr (running, (inr device))) = same_waits moves (ap (λ (y : State). y.waiting) device.1)
+  flush_waits moves (Refused f) (inr (running, device, is)) = same_waits moves (ap (λ (y : State). y.waiting) is)
   flush_waits moves Nothing h = same_waits moves (ap (λ (y : State). y.waiting) h.1)
 
   event_told : (e : Event) (step : Step) → IsServedEvent e → EventStep g s e step new → ToldBefore (moves_by e step)

@@ -83,8 +83,7 @@ module _ (g : Geometry) (m : CheckpointedState) (works : List RecoveryEvent) (st
   flush_stored (Done answer) p = tended p.2
   flush_stored (Waits wait) p = absurd p
   flush_stored (Refused f) (inl failed) = refused f (inl failed)
-  flush_stored (Refused f) (inr (running, (inl memory))) = subst (λ (x : Fault). StoredAs g m here (failure_by x)) (sym memory.0) (tended memory.1)
-  flush_stored (Refused f) (inr (running, (inr device))) = refused f (inr (inl (running, device.0, device.1)))
+  flush_stored (Refused f) (inr (running, device, is)) = refused f (inr (inl (running, device, is)))
   flush_stored Nothing p = tended p.1
 
   one_stored : (e : Event) (step : Step) → (IsOfCheckpoint e → ⊥) → IsServedEvent e → EventStep g m.state e step new → StoredAs g m here (moves_by e step)

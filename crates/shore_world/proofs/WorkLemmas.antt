@@ -44,7 +44,7 @@ use Rattle.shore_world.specs.declared.event.Event.TheVariants as event
 use Rattle.shore_world.specs.declared.world.World.{World}
 use Rattle.shore_world.specs.Events.{IsServedEvent}
 use Rattle.shore_world.specs.Exchanges.{waited_behind}
-use Rattle.shore_world.specs.Promises.{FlushesIfAny, HasFailedStep, IsManagerOf, IsRefusedStep, OpensIfAny, StagesIfAny}
+use Rattle.shore_world.specs.Promises.{FlushesIfAny, HasFailedStep, IsManagerOf, OpensIfAny, StagesIfAny}
 use Rattle.shore_world.specs.Labels.{IsVolumeFront}
 use Rattle.shore_world.proofs.LabelLemmas.{log_front_stays}
 use Rattle.shore_world.specs.Worlds.{EventStep, ForceRefused, HasForceRoom, IsIdle, IsUnchanged, OpenRefused, Steps, before_in, durable_in, failed_in, geometry_in, history_in, last_in, stream_bytes_in}
@@ -203,16 +203,15 @@ module _ {L V : Type 0} {G : Ghosts L} {H : Ghosts V} (w : World L V G H) (o : O
       let went = stepped w o es ws k event.ForceOpen step new tt one in
       opens_so step new went.on.manager.now.state (sym (seen new o (es ++ went.on.made) (waited_behind ws event.ForceOpen step) went.on.manager).durable) one went.moves
 
-  flushes_so : (step : Step) (new : World L V G H) (later : State) → FlushAnswers w.core step new.core → FlushMoves s step later → IsRefusedStep w step ⊎ FlushesIfAny w step new
+  flushes_so : (step : Step) (new : World L V G H) (later : State) → FlushAnswers w.core step new.core → FlushMoves s step later → HasFailedStep w step ⊎ FlushesIfAny w step new
   flushes_so (Done answer) new later (count, some, is, flushes) h =
       inr (inr (some_due (pool_of (heap_of w.core)) (pool_of (heap_of new.core)) (durable_in w) count some flushes, (count, ap (λ (x : Answer). Done x) is, some, flushes)))
   flushes_so (Waits wait) new later answers h = absurd h
-  flushes_so (Refused f) new later answers (inl h) = inl (inl (inl (is_failed h.0, ap (λ (x : Fault). Refused x) h.1)))
-  flushes_so (Refused f) new later answers (inr (runs, (inl memory))) = inl (inr (is_running runs, ap (λ (x : Fault). Refused x) memory.0))
-  flushes_so (Refused f) new later answers (inr (runs, (inr device))) = inl (inl (inr (is_running runs, ap (λ (x : Fault). Refused x) device.0)))
+  flushes_so (Refused f) new later answers (inl h) = inl (inl (is_failed h.0, ap (λ (x : Fault). Refused x) h.1))
+  flushes_so (Refused f) new later answers (inr (runs, device, is)) = inl (inr (is_running runs, ap (λ (x : Fault). Refused x) device))
   flushes_so Nothing new later answers h = inr (inl (answers.0, refl))
 
-  pub flushes : (step : Step) (new : World L V G H) → Steps w event.FlushStep step new → IsRefusedStep w step ⊎ FlushesIfAny w step new
+  pub flushes : (step : Step) (new : World L V G H) → Steps w event.FlushStep step new → HasFailedStep w step ⊎ FlushesIfAny w step new
   flushes step new one =
       let went = stepped w o es ws k event.FlushStep step new tt one in
       flushes_so step new went.on.manager.now.state (one.flushed refl).answers went.moves

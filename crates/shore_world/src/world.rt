@@ -288,7 +288,7 @@ impl<L: Disk, V: Disk> World<L, V> {
             Event::Ask(ticket) => self.core.ask(ticket),
             Event::ForceStage => self.force_stage(alloc),
             Event::ForceOpen => self.force_open(),
-            Event::FlushStep => self.core.flush_step(alloc),
+            Event::FlushStep => self.core.flush_step(),
             Event::CheckpointStep => self.checkpoint_step(alloc),
             Event::CutTrail => self.core.cut_trail(),
         }

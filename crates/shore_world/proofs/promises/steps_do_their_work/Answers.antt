@@ -1,3 +1,5 @@
+use Rattle.std.proofs.Common.{refl}
+use Rattle.shore_world.proofs.RunLemmas.{flush_faults, flush_no_memory}
 use Rattle.shore_world.proofs.WorkLemmas.{calls_to_nothing, flushes, opens, resumes_to_nothing, stages, stays_same}
 use Rattle.shore_world.proofs.CheckpointWorks.{checks, goes_plainly}
 use Rattle.shore_world.proofs.GivingUpLemmas.{given_up_nothing}
@@ -32,6 +34,9 @@ returns-clause-move_takes_no_memory c d w new named step one at = one.no_memory 
 
 pub returns-clause-forces_take_no_memory : goal.returns-clause-forces_take_no_memory
 returns-clause-forces_take_no_memory c d w new e step one is = one.force_no_memory is
+
+pub returns-clause-flushes_take_no_memory : goal.returns-clause-flushes_take_no_memory
+returns-clause-flushes_take_no_memory c d w new step one = flush_no_memory step (flush_faults w.core new.core step (one.flushed refl).answers)
 
 pub returns-clause-give_up : goal.returns-clause-give_up
 returns-clause-give_up c d w new o es ws session step k one =

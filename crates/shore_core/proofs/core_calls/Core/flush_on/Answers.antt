@@ -7,12 +7,12 @@ use Rattle.shore_txn.specs.Transactions.{kept_in}
 use Rattle.shore_disk.specs.Device.{LeavesOnly, size}
 use Rattle.shore_dwrite.specs.Syncs.{syncs_of}
 use Rattle.shore_heap.specs.Heaps as heaps
-use Rattle.shore_heap.specs.Heaps.{KeepsSlots, WroteBack}
+use Rattle.shore_heap.specs.Heaps.{WroteBack}
 use Rattle.shore_core.specs.Cores.{durable_of, faults_of, has_failed, heap_of, txns_of}
 use Rattle.shore_core.specs.Flushing.{FlushSteps}
-use Rattle.shore_core.proofs.Flushed.{apart, refused_wrote, steps_failed, steps_refused, steps_written, still_running}
+use Rattle.shore_core.proofs.Flushed.{refused_wrote, steps_failed, steps_refused, steps_written}
 use Rattle.shore_disk.specs.Cause.{HasCause}
-use Rattle.shore_core.proofs.Serving.{IsAside, cause_aside, cause_handed, no_damage_of_device, no_force_of_device, none_failed, serves_still}
+use Rattle.shore_core.proofs.Serving.{cause_aside, cause_handed, no_damage_of_device, no_force_of_device, none_failed, serves_still}
 use Rattle.shore_core.specs.Replies.{Serves, fault_at}
 use Rattle.shore_model.specs.declared.step.Step.{Step}
 use Rattle.shore_core.proofs.core_calls.Core.flush_on.Goals as goal
@@ -37,21 +37,9 @@ returns-in-Err-clause-step g c front disk before s store is safe over =
     let works = is.beside.parts.failed_is ∙ (sym c.has_failed.ensures ∙ c.if-has_failed.false) in
     let flush = c.flush_on.ensures in
     let refuse = c.refuse_flush.ensures in
-    subst (λ step. FlushSteps step new front before s store) (sym refuse.refused) (elim c.in-Err.ensures.refused.0 [
-      | inl device ↦ steps_failed old new front disk before s store is over (sym c.has_failed.ensures ∙ c.if-has_failed.false) f device refuse.tail refuse.control refuse.durable (refuse.fails.1 (inr device))
-      | inr memory ↦ elim (c.in-Err.ensures.kept (kept_in (txns_of old)) front disk (page_slots s) (is.pages works)) [
-        | inl device ↦ absurd (apart (sym memory ∙ device))
-        | inr slots ↦ steps_written old new front disk before s store is over (sym c.has_failed.ensures ∙ c.if-has_failed.false) (Refused f) (inr (works, inl (memory, refl)))
-            (record {
-              volume = record { geometry = ap heaps.geometry_of refuse.heap ∙ flush.geometry; honest = ap heaps.honesty_of refuse.heap ∙ flush.honest; size = ap (λ h. size (heaps.history_of h)) refuse.heap ∙ flush.size };
-              durable = refuse.durable;
-              failed = still_running old.failed (has_failed new) (sym c.has_failed.ensures ∙ c.if-has_failed.false) (λ yes. elim (refuse.fails.0 yes) [ inl was ↦ was | inr device ↦ absurd (apart (sym memory ∙ device)) ]);
-              tail = refuse.tail;
-              control = refuse.control;
-            })
-            (subst (λ h. KeepsSlots (kept_in (txns_of old)) (heap_of old) h (durable_of old) front disk (page_slots s)) (sym refuse.heap) slots)
-      ]
-    ])
+    let device = c.in-Err.ensures.refused.0 in
+    subst (λ step. FlushSteps step new front before s store) (sym refuse.refused)
+    (steps_failed old new front disk before s store is over (sym c.has_failed.ensures ∙ c.if-has_failed.false) f device refuse.tail refuse.control refuse.durable (refuse.fails.1 (inr device)))
 
 pub returns-in-Err-clause-written : goal.returns-in-Err-clause-written
 returns-in-Err-clause-written g c front disk holds =
@@ -87,14 +75,8 @@ returns-in-Err-clause-serves g c =
       first = ap (λ t. (g.T.Tail.first t, g.T.Tail.told t)) refuse.tail;
       any_moment = λ front disk holds.
           subst (λ h. LeavesOnly (heaps.history_of (heap_of old)) (heaps.history_of h) (heaps.LeavesPages (heap_of old) (durable_of old) front disk)) (sym refuse.heap) (flush.any_moment front disk holds);
-      damaged = λ front disk holds d offset is. elim c.in-Err.ensures.refused.0 [
-        | inl device ↦ absurd (no_damage_of_device d offset (sym device ∙ is))
-        | inr memory ↦ absurd (subst IsAside (sym memory ∙ is) tt)
-      ];
-      forced = λ front disk holds n is. elim c.in-Err.ensures.refused.0 [
-        | inl device ↦ absurd (no_force_of_device n (sym device ∙ is))
-        | inr memory ↦ absurd (subst IsAside (sym memory ∙ is) tt)
-      ];
+      damaged = λ front disk holds d offset is. absurd (no_damage_of_device d offset (sym c.in-Err.ensures.refused.0 ∙ is));
+      forced = λ front disk holds n is. absurd (no_force_of_device n (sym c.in-Err.ensures.refused.0 ∙ is));
       cause = subst (HasCause (Err f) (faults_of old)) (sym (ap (λ h. heaps.faults_of h) refuse.heap)) (cause_handed (Err f) f _ _ refl c.in-Err.ensures.cause);
     })
 
