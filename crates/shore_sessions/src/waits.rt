@@ -177,7 +177,7 @@ impl Waits {
 
     /// The place of the first call, from this one on, that was let through. None if no call was.
     pub(crate) fn next_let_through(&self, from: usize) -> Option<usize>
-        ensures some { IfSome result (λ place. (from ≤ place) × (place < length (calls_in self.now))) }
+        ensures some { IfSome result (λ place. (from ≤ place) × (place < length (calls_in self.now)) × IsMarked place self.now) }
         ensures first { IfSome result (λ place. IsNoneMarked self.now from place) }
         ensures none { IfNone result (IsNoneMarked self.now from (length (calls_in self.now))) }
         ensures small { length (calls_in self.now) < 2 ^ 63 }
@@ -212,6 +212,7 @@ impl Waits {
         ensures room { HasCallRoom self.old → HasCallRoom self.new }
         ensures keeps { (n : ℕ) → IsMarked n self.old → IsMarked n self.new }
         ensures marks { IsTrue may_be → AreMarked locks.now.requests self.new }
+        ensures none { may_be ≡ false → self.new ≡ self.old }
     {
         if may_be {
             self.mark_all(locks);
