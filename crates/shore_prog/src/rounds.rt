@@ -10,9 +10,6 @@ use shore_world::{Event, Step};
 use std::alloc::{AllocError, Global};
 use std::io::{self, Write};
 
-// How often the log is forced for what waits before a refusal is told.
-pub(crate) const FORCES: u32 = 3;
-
 /// A session's line whose call waits.
 #[derive(Drop)]
 struct WaitingLine {
@@ -22,8 +19,6 @@ struct WaitingLine {
     wait: Wait,
     /// The text of a line that waits for a lock: its call may need a force when it goes on, and is made again then.
     line: Vec<u8>,
-    /// Whether it is answered, by the fault that refused its force. The call waits on in the manager, and ends with no other answer.
-    is_answered: bool,
 }
 
 impl WaitingLine {
@@ -41,15 +36,12 @@ impl WaitingLine {
 pub struct WaitingLines {
     // One line a session at most, in the order of the sessions.
     lines: Vec<WaitingLine>,
-    // Whether a force was refused in this round: then lines that are answered wait for the next one.
-    is_refused: bool,
 }
 
 impl WaitingLines {
     pub fn new(alloc: Global) -> WaitingLines {
         WaitingLines {
             lines: Vec::new(alloc),
-            is_refused: false,
         }
     }
 
@@ -78,7 +70,6 @@ impl WaitingLines {
                 session,
                 wait,
                 line,
-                is_answered: false,
             },
         )?;
         Ok(())
@@ -113,58 +104,20 @@ impl WaitingLines {
         self.lines.len()
     }
 
-    // The lowest session whose call waits for a number that is not durable, of those that are not answered; where all are, of these, once a round.
+    // The lowest session whose call waits for a number that is not durable.
     fn to_be_forced(&self, world: &ScriptWorld) -> Option<SessionId> {
         let durable = world.durable();
-        let mut answered = None;
         for line in &self.lines {
             if line.waits_for_force(durable) {
-                if !line.is_answered {
-                    return Some(line.session);
-                }
-                if answered.is_none() && !self.is_refused {
-                    answered = Some(line.session);
-                }
+                return Some(line.session);
             }
         }
-        answered
+        None
     }
-
-    // Whether the line of a session is answered.
-    fn is_answered(&self, session: SessionId) -> bool {
-        for line in &self.lines {
-            if line.session == session {
-                return line.is_answered;
-            }
-        }
-        false
-    }
-}
-
-/// Whether a force was refused for another cause than the device, so that it may be tried again.
-pub(crate) fn may_be_tried_again(forced: &Result<(), Fault>) -> bool {
-    match forced {
-        Ok(()) | Err(Fault::Device | Fault::Failed) => false,
-        Err(_) => true,
-    }
-}
-
-// Forces every waiting record, so often at most.
-fn force_again(alloc: Global, world: &mut ScriptWorld) -> Result<(), Fault> {
-    let mut forced = force(alloc, world);
-    for _ in 1..FORCES {
-        if !may_be_tried_again(&forced) {
-            break;
-        }
-        forced = force(alloc, world);
-    }
-    forced
 }
 
 /// Forces the log if a prepare or a resolve waits for it, and goes on with each call that waits, the lowest session first; again and again until a round changes
-/// nothing. If the device fails in the force, that is the answer of the lowest session that waits for it and has none, and all others are refused. A force that
-/// was refused for another cause (`Memory`) is tried again; then the fault is the answer of each that waits for it. Its record stands and may be durable, its call waits on,
-/// and the next line forces again: after that it is prepared or resolved, with no other answer.
+/// nothing. If the force is refused, and only a device's failure refuses one, that is the answer of the lowest session that waits for it, and all others are refused.
 pub fn go_round<W: Write>(
     alloc: Global,
     world: &mut ScriptWorld,
@@ -173,17 +126,15 @@ pub fn go_round<W: Write>(
 ) -> io::Result<()> {
     for _ in 0..u64::MAX {
         if let Some(session) = waiting.to_be_forced(world) {
-            match force_again(alloc, world) {
+            match force(alloc, world) {
                 Ok(()) | Err(Fault::Failed) => {}
-                Err(Fault::Device) => give_up(alloc, world, waiting, session, out)?,
-                Err(fault) => answer_refused(world.durable(), waiting, &fault, out)?,
+                Err(fault) => give_up(alloc, world, waiting, session, &fault, out)?,
             }
         }
         if !resume_all(alloc, world, waiting, out)? {
-            break;
+            return Ok(());
         }
     }
-    waiting.is_refused = false;
     Ok(())
 }
 
@@ -196,29 +147,11 @@ pub fn go_first<W: Write>(
     session: SessionId,
     out: &mut W,
 ) -> io::Result<()> {
-    match force_again(alloc, world) {
+    match force(alloc, world) {
         Ok(()) => resume_one(alloc, world, waiting, session, out),
         Err(Fault::Failed) => Ok(()),
-        Err(Fault::Device) => give_up(alloc, world, waiting, session, out),
-        Err(fault) => answer_refused(world.durable(), waiting, &fault, out),
+        Err(fault) => give_up(alloc, world, waiting, session, &fault, out),
     }
-}
-
-// The fault that refused a force is the answer of each call that waits for it and has none. They wait on.
-fn answer_refused<W: Write>(
-    durable: Lsn,
-    waiting: &mut WaitingLines,
-    fault: &Fault,
-    out: &mut W,
-) -> io::Result<()> {
-    waiting.is_refused = true;
-    for line in waiting.lines.iter_mut() {
-        if line.waits_for_force(durable) && !line.is_answered {
-            line.is_answered = true;
-            render::fault(out, Some(line.session), fault)?;
-        }
-    }
-    Ok(())
 }
 
 // Goes on with the call of a session that waits.
@@ -241,21 +174,18 @@ fn resume_one<W: Write>(
     Ok(())
 }
 
-// The call of a session that waits is answered by the failure of the device, if it has no answer, and waits no more.
+// The call of a session that waits is answered by the fault of its force, and waits no more.
 fn give_up<W: Write>(
     alloc: Global,
     world: &mut ScriptWorld,
     waiting: &mut WaitingLines,
     session: SessionId,
+    fault: &Fault,
     out: &mut W,
 ) -> io::Result<()> {
     let _refused = world.step(alloc, Event::Resume(session));
-    let is_answered = waiting.is_answered(session);
     waiting.lines.retain(|line| line.session != session);
-    if is_answered {
-        return Ok(());
-    }
-    render::fault(out, Some(session), &Fault::Device)
+    render::fault(out, Some(session), fault)
 }
 
 // Whether something has changed.
@@ -312,15 +242,11 @@ fn resume<W: Write>(
                 };
             }
             Step::Refused(fault) => {
-                if !line.is_answered {
-                    render::fault(out, Some(line.session), &fault)?;
-                }
+                render::fault(out, Some(line.session), &fault)?;
                 return Ok(Resumed::Ended);
             }
             Step::Done(answer) => {
-                if !line.is_answered {
-                    render::answer(out, line.session, &answer)?;
-                }
+                render::answer(out, line.session, &answer)?;
                 return Ok(Resumed::Ended);
             }
             Step::Nothing => return Ok(Resumed::Ended),

@@ -2,7 +2,6 @@
 
 use crate::forcing::force_up_to;
 use crate::manager::ScriptWorld;
-use crate::rounds::{FORCES, may_be_tried_again};
 use shore_model::{Answer, Call};
 use shore_script::render;
 use shore_types::{SessionId, Ticket};
@@ -11,8 +10,7 @@ use std::alloc::Global;
 use std::io::{self, Write};
 
 /// The session's commit has its ticket. The log is forced up to it, and the session is answered before any that waited for its locks. If the device fails in the
-/// force, that is the answer: whether the commit is kept the next open shows. A force that was refused for another cause (`Memory`) is tried again; then the fault is
-/// the answer, though the transaction has committed and its locks are free: the next force makes it durable.
+/// force, that is the answer: whether the commit is kept the next open shows.
 pub fn commit<W: Write>(
     alloc: Global,
     world: &mut ScriptWorld,
@@ -20,14 +18,7 @@ pub fn commit<W: Write>(
     ticket: Ticket,
     out: &mut W,
 ) -> io::Result<()> {
-    let mut forced = force_up_to(alloc, world, ticket);
-    for _ in 1..FORCES {
-        if !may_be_tried_again(&forced) {
-            break;
-        }
-        forced = force_up_to(alloc, world, ticket);
-    }
-    match forced {
+    match force_up_to(alloc, world, ticket) {
         Ok(()) => render::committed(out, session),
         Err(fault) => render::fault(out, Some(session), &fault),
     }

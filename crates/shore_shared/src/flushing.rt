@@ -10,7 +10,6 @@ use shore_log::Tail;
 use shore_pool::Amid;
 use shore_queue::Numbers;
 use shore_types::layout::MAX_BATCH_PAGES;
-use std::alloc::Global;
 use std::sync::Wait;
 use std::time::{Clock, Duration};
 
@@ -30,7 +29,7 @@ pub(crate) struct Flushed {
     pub(crate) may_more: bool,
     // All that was logged was durable as the last batch was begun, and nothing was refused: if no more may be due, no page that was due was left.
     pub(crate) is_durable: bool,
-    // A step was refused: a device has failed, or there was no memory.
+    // A step was refused: a device has failed.
     pub(crate) is_refused: bool,
 }
 
@@ -75,29 +74,31 @@ impl<N: Numbers, B: Named, T: Tail, L: Disk, V: Disk> Shared<N, B, T, L, V> {
     pub(crate) fn flush_all(
         &self,
         rt: &(impl Wait + Clock),
-        alloc: Global,
         gate: &impl Gate,
         role: Role,
     ) -> Flushed {
         for _ in 1..MOST_BATCHES {
-            let flushed = self.flush_batch(rt, alloc, gate, role);
+            let flushed = self.flush_batch(rt, gate, role);
             if !flushed.may_more {
                 return flushed;
             }
         }
-        self.flush_batch(rt, alloc, gate, role)
+        let last = self.flush_batch(rt, gate, role);
+        Flushed {
+            is_durable: last.is_durable && !last.may_more,
+            ..last
+        }
     }
 
     // One batch is written back, or the one under way is gone on with. What is not durable as it is begun is asked for.
     pub(crate) fn flush_batch(
         &self,
         rt: &(impl Wait + Clock),
-        alloc: Global,
         gate: &impl Gate,
         role: Role,
     ) -> Flushed {
         gate.pass(Place::Sync(role));
-        let mut turn = self.flush_turn(rt, alloc, Amid::Rest);
+        let mut turn = self.flush_turn(rt, Amid::Rest);
         let (mut may_more, mut is_durable) = (turn.may_more, turn.is_durable);
         if !is_durable {
             self.ask_force();
@@ -108,7 +109,7 @@ impl<N: Numbers, B: Named, T: Tail, L: Disk, V: Disk> Shared<N, B, T, L, V> {
             }
             self.leave_free(rt, role, &turn);
             gate.pass(Place::Sync(role));
-            turn = self.flush_turn(rt, alloc, turn.amid);
+            turn = self.flush_turn(rt, turn.amid);
             if turn.has_looked {
                 may_more = turn.may_more;
                 is_durable = turn.is_durable;
@@ -123,7 +124,7 @@ impl<N: Numbers, B: Named, T: Tail, L: Disk, V: Disk> Shared<N, B, T, L, V> {
 
     // One turn, with what the core has seen. A batch that was given up since the turn before, as a page of it was changed, is begun anew and its gate is opened under this one hold:
     // else a page that is changed all the time would keep others from being written. One that others have ended meanwhile leaves nothing to do.
-    fn flush_turn(&self, rt: &(impl Wait + Clock), alloc: Global, before: Amid) -> Turn {
+    fn flush_turn(&self, rt: &(impl Wait + Clock), before: Amid) -> Turn {
         let mut core = self.lock_core(rt);
         let began = moment(rt);
         let seen = core.look(&self.words);
@@ -131,9 +132,9 @@ impl<N: Numbers, B: Named, T: Tail, L: Disk, V: Disk> Shared<N, B, T, L, V> {
         if rests && matches!(before, Amid::Opened | Amid::Placed) {
             return Turn::idle(began);
         }
-        let (mut step, is_durable) = flush_held(alloc, seen, &mut core);
+        let (mut step, is_durable) = flush_held(seen, &mut core);
         if rests && matches!(before, Amid::Written) && matches!(core.amid(), Amid::Written) {
-            (step, _) = flush_held(alloc, seen, &mut core);
+            (step, _) = flush_held(seen, &mut core);
         }
         let is_refused = matches!(step, Step::Refused(_));
         if is_refused {

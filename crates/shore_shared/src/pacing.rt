@@ -1,5 +1,5 @@
 //! How long the log writer gathers, by what its last forces took; and how long a flush leaves the core's lock free, by how long it had it.
-ghost use Rattle.std.specs.Prelude.{◌≡◌, ◌↔◌, ◌⊎◌, ◌*◌, ◌-◌, ◌≤◌, ◌<◌, ℕ, IfNone, IfSome, IsTrue, Some};
+ghost use Rattle.std.specs.Prelude.{◌≡◌, ◌↔◌, ◌⊎◌, ◌*◌, ◌-◌, ◌≤◌, ◌<◌, ℕ, None, IfNone, IfSome, IsTrue, Some};
 
 use std::time::{Clock, Duration};
 
@@ -114,6 +114,9 @@ pub(crate) fn free_after(began: Option<u64>, ended: Option<u64>, times: u64) -> 
     ensures least { LEAST_FREE ≤ result }
     ensures most { result ≤ MOST_FREE }
     ensures held { (b e : ℕ) → began ≡ Some b → ended ≡ Some e → LEAST_FREE ≤ (e - b) * times → (e - b) * times ≤ MOST_FREE → result ≡ (e - b) * times }
+    ensures short { (b e : ℕ) → began ≡ Some b → ended ≡ Some e → (e - b) * times ≤ LEAST_FREE → result ≡ LEAST_FREE }
+    ensures long { (b e : ℕ) → began ≡ Some b → ended ≡ Some e → MOST_FREE ≤ (e - b) * times → result ≡ MOST_FREE }
+    ensures unread { began ≡ None ⊎ ended ≡ None → result ≡ LEAST_FREE }
 {
     let held = match (began, ended) {
         (Some(began), Some(ended)) => ended.saturating_sub(began),

@@ -214,7 +214,7 @@ trait Works<B: Named, R> {
 
     fn write_log(&self, rt: &R, alloc: Global, seat: &mut Seat<B>);
 
-    fn write_back(&self, rt: &R, alloc: Global, seat: &mut Seat<B>);
+    fn write_back(&self, rt: &R, seat: &mut Seat<B>);
 
     fn make_checkpoints(&self, rt: &R, alloc: Global, seat: &mut Seat<B>);
 
@@ -231,8 +231,8 @@ impl<N: Numbers, B: Named, R: Wait + Clock + Copy, L: Disk, V: Disk> Works<B, R>
         self.log_writer(rt, alloc, seat, &Open);
     }
 
-    fn write_back(&self, rt: &R, alloc: Global, seat: &mut Seat<B>) {
-        self.flusher(rt, alloc, seat, &Open);
+    fn write_back(&self, rt: &R, seat: &mut Seat<B>) {
+        self.flusher(rt, seat, &Open);
     }
 
     fn make_checkpoints(&self, rt: &R, alloc: Global, seat: &mut Seat<B>) {
@@ -274,7 +274,7 @@ fn with_workers<
                 manager.seat_of(&rt),
             );
             let writer = scope.spawn(move || manager.write_log(&rt, alloc, &mut one));
-            let flusher = scope.spawn(move || manager.write_back(&rt, alloc, &mut two));
+            let flusher = scope.spawn(move || manager.write_back(&rt, &mut two));
             let checkpointer = scope.spawn(move || manager.make_checkpoints(
                 &rt, alloc, &mut three,
             ));

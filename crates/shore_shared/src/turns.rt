@@ -206,7 +206,6 @@ impl<N: Numbers, B: Named, T: Tail, L: Disk, V: Disk> Shared<N, B, T, L, V> {
 
 // One turn of a flush of the core, which makes one sync at most, with what the core has seen. The answer is what it came to, and whether all that is logged was durable.
 pub(crate) fn flush_held<B: Named, T: Tail, V: Disk>(
-    alloc: Global,
     seen: Lsn,
     core: &mut CoreHeld<B, T, V>,
 ) -> (Step, bool)
@@ -216,7 +215,7 @@ pub(crate) fn flush_held<B: Named, T: Tail, V: Disk>(
     ensures durable { IsTrue result.1 ↔ (last_of core.old.core ≤ seen) }
 {
     let durable = core.last() <= seen;
-    let step = core.flush_on(alloc);
+    let step = core.flush_on();
     (step, durable)
 }
 

@@ -113,13 +113,7 @@ impl<N: Numbers, B: Named, T: Tail, L: Disk, V: Disk> Shared<N, B, T, L, V> {
 
     /// Writes pages back until the stop is asked for, a batch at a time: the core's lock is held for one sync of it and then for the next, and pages that are changed all the time
     /// need not be written each time.
-    pub fn flusher(
-        &self,
-        rt: &(impl Wait + Clock),
-        alloc: Global,
-        seat: &mut Seat<B>,
-        gate: &impl Gate,
-    )
+    pub fn flusher(&self, rt: &(impl Wait + Clock), seat: &mut Seat<B>, gate: &impl Gate)
         ensures { seat.new ≡ record seat.old { stopped = true } }
     {
         for _ in rt.forever() {
@@ -128,7 +122,7 @@ impl<N: Numbers, B: Named, T: Tail, L: Disk, V: Disk> Shared<N, B, T, L, V> {
             if seat.stopping(&self.words) {
                 return;
             }
-            self.flush_batch(rt, alloc, gate, Role::Flusher);
+            self.flush_batch(rt, gate, Role::Flusher);
             self.sleepers
                 .nap(rt, FLUSHER, glanced, Duration::from_millis(PAUSE_MILLIS));
         }
@@ -198,7 +192,7 @@ impl<N: Numbers, B: Named, R: Wait + Clock + Copy, L: Disk, V: Disk> Shared<
                 return;
             }
             // A page that is changed all the time is written back once its last change is durable; in a full log nothing else frees what it stands on.
-            let flushed = self.flush_all(rt, alloc, gate, Role::Checkpointer);
+            let flushed = self.flush_all(rt, gate, Role::Checkpointer);
             latest.note_refused(flushed.is_refused);
             if !flushed.is_durable && self.is_full() {
                 return;

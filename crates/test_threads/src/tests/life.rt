@@ -225,7 +225,7 @@ trait Works<B: Named, R> {
 
     fn write_log<W: Gate>(&self, rt: &R, alloc: Global, seat: &mut Seat<B>, gate: &W);
 
-    fn write_back<W: Gate>(&self, rt: &R, alloc: Global, seat: &mut Seat<B>, gate: &W);
+    fn write_back<W: Gate>(&self, rt: &R, seat: &mut Seat<B>, gate: &W);
 
     fn make_checkpoints<W: Gate>(&self, rt: &R, alloc: Global, seat: &mut Seat<B>, gate: &W);
 
@@ -241,8 +241,8 @@ impl<N: Numbers, B: Named, R: Wait + Clock + Copy> Works<B, R> for Life<N, B, R>
         self.log_writer(rt, alloc, seat, gate);
     }
 
-    fn write_back<W: Gate>(&self, rt: &R, alloc: Global, seat: &mut Seat<B>, gate: &W) {
-        self.flusher(rt, alloc, seat, gate);
+    fn write_back<W: Gate>(&self, rt: &R, seat: &mut Seat<B>, gate: &W) {
+        self.flusher(rt, seat, gate);
     }
 
     fn make_checkpoints<W: Gate>(&self, rt: &R, alloc: Global, seat: &mut Seat<B>, gate: &W) {
@@ -282,7 +282,7 @@ fn with_workers<
                 life.seat_of(&rt),
             );
             let writer = scope.spawn(move || life.write_log(&rt, alloc, &mut one, gate));
-            let flusher = scope.spawn(move || life.write_back(&rt, alloc, &mut two, gate));
+            let flusher = scope.spawn(move || life.write_back(&rt, &mut two, gate));
             let checkpointer = scope.spawn(move || life.make_checkpoints(
                 &rt, alloc, &mut three, gate,
             ));
