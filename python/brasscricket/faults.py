@@ -189,7 +189,7 @@ class WrongVersion(Fault):
 class Memory(Fault):
     number = 27
     cause = "an allocation failed"
-    after = "a rollback keeps the steps that it has made, a resolve to abort its decision too, and the same call goes on with the others. For a commit, a prepare and a resolve see \"No force lacks memory\" below"
+    after = "a rollback keeps the steps that it has made, a resolve to abort its decision too, and the same call goes on with the others. For a commit, a prepare and a resolve see \"No force and no flush lacks memory\" below"
     advice = "call again once there is memory"
 
 
