@@ -128,6 +128,7 @@ impl<D: Disk> LogDev<D> {
         ensures refused { OnErr result ((records_of_log self.new ≡ records_of_log self.old) × (waiting_in tail.new ≡ waiting_in tail.old)) }
         ensures idle { KnowsRoom self.old (told_in tail.old) → IsSpelled self.old → IsOk result }
         ensures knows { OnOk result (KnowsRoom self.new (told_in tail.new)) }
+        ensures aside { KnowsRoom self.old (told_in tail.old) → (told_in tail.new).aside ≡ (told_in tail.old).aside }
         ensures spelled { OnOk result (IsSpelled self.new) × (IsSpelled self.old → IsSpelled self.new) }
         ensures only_memory { IfErr result (λ fault. fault ≡ Fault.Memory) }
         ensures list { OnErr result (HasList self.old → HasList self.new) }

@@ -1,11 +1,11 @@
 //! The log buffer: the records that wait on their way from the core to the log device.
-ghost use Rattle.std.specs.Prelude.{◌≡◌, ◌↔◌, ◌+◌, ◌<◌, ◌≤◌, ◌^◌, [], ◌∷◌, ◌++◌, ℕ, List, All, IsTrue, length, IfOk, IfErr, IsOk, OnOk, OnErr, vec_capacity, vec_len};
+ghost use Rattle.std.specs.Prelude.{◌≡◌, ◌⊎◌, ◌↔◌, ◌+◌, ◌<◌, ◌≤◌, ◌^◌, [], ◌∷◌, ◌++◌, ℕ, Bool, List, All, IsTrue, false, true, length, max, IfOk, IfErr, IsOk, OnOk, OnErr, vec_capacity, vec_len};
 ghost use Rattle.shore_types.specs.declared.faults.Fault.TheVariants as Fault;
 ghost use Rattle.shore_model.specs.declared.log_records.LogRecord.{LogRecord};
-ghost use Rattle.shore_logrec.specs.Text.{Fits, texts};
+ghost use Rattle.shore_logrec.specs.Text.{Fits, text, texts};
 ghost use Rattle.shore_frames.specs.LoggedRecords.{are_numbered};
 ghost use Rattle.shore_log.specs.Listed.{listed};
-ghost use Rattle.shore_log.specs.Told.{Covers, HasRoom};
+ghost use Rattle.shore_log.specs.Told.{Covers, HasRoom, KeepsAside, SaysAlike, aside_for, taken_from};
 
 use crate::texts::{decode_all, move_behind, take_entries};
 use http_server::Log as GhostLog;
@@ -13,6 +13,7 @@ use shore_frames::FrameAt;
 use shore_logrec::{LogRecord, encode, encoded_len};
 use shore_types::{Fault, Lsn};
 use std::alloc::{AllocError, Global};
+use std::mem;
 
 /// Takes the records of the core in their order and gives each its number.
 pub trait Tail {
@@ -24,8 +25,11 @@ pub trait Tail {
     /// The records that it has, in the order of their numbers.
     ghost records: { Self → List LogRecord };
 
-    /// What it was told of the log device.
+    /// What it was told of the log device, and what it keeps aside.
     ghost told: { Self → Told };
+
+    /// Whether it keeps room aside.
+    ghost keeps: { Bool };
 
     /// Adds a record and answers its number. If it is refused none is added: `Memory` if an allocation failed.
     fn push(&mut self, logged: &LogRecord) -> Result<Lsn, Fault>
@@ -38,6 +42,31 @@ pub trait Tail {
         ensures none_added { OnErr result (records self.new ≡ records self.old) }
         ensures first { first self.new ≡ first self.old }
         ensures told { told self.new ≡ told self.old };
+
+    /// Keeps room aside for so many records with so many bytes of texts in all, in place of what was kept: no other record takes it. `Memory` if an allocation
+    /// failed: what was kept is kept.
+    fn keep_aside(&mut self, count: usize, bytes: usize) -> Result<(), Fault>
+        requires few { (count < 2 ^ 30) × (bytes < 2 ^ 30) }
+        ensures kept { OnOk result (IsTrue keeps → (told self.new).aside ≡ aside_for count bytes) }
+        ensures none { keeps ≡ false → (told self.new).aside ≡ (told self.old).aside }
+        ensures refused { IfErr result (λ fault. fault ≡ Fault.Memory) }
+        ensures none_kept { OnErr result ((told self.new).aside ≡ (told self.old).aside) }
+        ensures told { SaysAlike (told self.new) (told self.old) }
+        ensures first { first self.new ≡ first self.old }
+        ensures records { records self.new ≡ records self.old };
+
+    /// Adds a record as `push` does, into room that is kept aside: if there is so much of it, it is not refused.
+    fn push_kept(&mut self, logged: &LogRecord) -> Result<Lsn, Fault>
+        requires text { Fits logged.now }
+        requires previous { logged.now.previous < first self.old + length (records self.old) }
+        requires numbers { first self.old + length (records self.old) < 2 ^ 62 }
+        ensures number { IfOk result (λ n. n ≡ first self.old + length (records self.old)) }
+        ensures added { OnOk result (records self.new ≡ records self.old ++ logged.now ∷ []) }
+        ensures idle { KeepsAside (told self.old) 1 (length (text logged.now)) → IsOk result }
+        ensures refused { IfErr result (λ fault. fault ≡ Fault.Memory) }
+        ensures none_added { OnErr result (records self.new ≡ records self.old) }
+        ensures first { first self.new ≡ first self.old }
+        ensures told { told self.new ≡ taken_from (told self.old) 1 (length (text logged.now)) };
 
     /// The number that the next record will have.
     fn next(&self) -> Lsn
@@ -55,6 +84,12 @@ const NOTHING_TOLD: Told = Told {
         held: 0,
         room: usize::MAX,
     },
+    aside: NOTHING_ASIDE,
+};
+
+const NOTHING_ASIDE: Aside = Aside {
+    records: 0,
+    bytes: 0,
 };
 
 /// How much the log device holds of something at most, and for how much it has room at least.
@@ -89,13 +124,24 @@ impl Known {
     }
 }
 
-/// What a log buffer was told of the log device. No push changes it.
+/// Room for records to come, which no other record takes.
+#[derive(Clone, Copy)]
+pub struct Aside {
+    /// How many records.
+    pub records: usize,
+    /// How many bytes their texts have in all.
+    pub bytes: usize,
+}
+
+/// What a log buffer was told of the log device, and what it keeps aside. No push changes it but one of what was kept.
 #[derive(Clone, Copy)]
 pub struct Told {
     /// The entries of the index, with those to come for what waits there.
     pub entries: Known,
     /// The bytes of the texts that wait there.
     pub texts: Known,
+    /// What is kept aside.
+    pub aside: Aside,
 }
 
 /// A log buffer for one caller: the texts of the records wait in memory until the log device takes them. What the log device needs to take them in, and to force
@@ -113,15 +159,21 @@ pub struct PlainTail {
     // What it was told of the log device; and an index with no entry, with the room that is brought. That of texts is brought with theirs.
     told: Told,
     index: Vec<FrameAt>,
+    // Room for the texts of what is kept aside, if the log device's is short: it is for the texts to come once both have changed places.
+    spare: Vec<u8>,
     ghost numbered: { IsTrue (are_numbered first (listed waiting.items)) },
     ghost counted: { count ≡ length (listed waiting.items) },
     ghost few: { first + count ≤ 2 ^ 62 },
     ghost spelled: { bytes.items ≡ texts (listed waiting.items) },
-    // There is room for all that waits: at the log device, or it is brought.
+    // There is room for all that waits, and for what is kept aside: at the log device, or it is brought.
     ghost no_entry: { vec_len index ≡ 0 },
-    ghost index_room: { HasRoom told.entries count (vec_capacity index) },
-    ghost texts_room: { HasRoom told.texts (vec_len bytes) (vec_capacity bytes) },
+    ghost index_room: { HasRoom told.entries (count + told.aside.records) (vec_capacity index) },
+    ghost texts_room: { HasRoom told.texts (vec_len bytes + told.aside.bytes) (vec_capacity bytes) },
     ghost texts_short: { told.texts.held < 2 ^ 63 },
+    // There is room here for the texts of what is kept aside, and will be once these texts were handed over.
+    ghost aside_short: { (told.aside.records < 2 ^ 30) × (told.aside.bytes < 2 ^ 30) },
+    ghost aside_room: { vec_len bytes + told.aside.bytes ≤ vec_capacity bytes },
+    ghost spare_room: { (vec_len spare ≡ 0) × (told.aside.bytes ≤ max told.texts.room (vec_capacity spare)) },
 }
 
 impl PlainTail {
@@ -140,6 +192,7 @@ impl PlainTail {
             waiting: GhostLog::new(),
             told: NOTHING_TOLD,
             index: Vec::new(alloc),
+            spare: Vec::new(alloc),
         }
     }
 
@@ -152,21 +205,26 @@ impl PlainTail {
         ensures idle { Covers (told_in self.old).texts (vec_len out.old) (vec_capacity out.old) → IsOk result }
         ensures knows { OnOk result (Covers (told_in self.new).texts (vec_len out.new) (vec_capacity out.new)) }
         ensures entries { OnOk result (((told_in self.new).entries.held ≡ (told_in self.old).entries.held + length (waiting_in self.old)) × ((told_in self.new).entries.room ≡ (told_in self.old).entries.room)) }
+        ensures aside { Covers (told_in self.old).texts (vec_len out.old) (vec_capacity out.old) → (told_in self.new).aside ≡ (told_in self.old).aside }
         ensures err { OnErr result (out.new.items ≡ out.old.items) }
         ensures stay { OnErr result (waiting_in self.new ≡ waiting_in self.old) }
     {
         move_behind(out, &mut self.bytes)?;
         let count = self.count;
         let Known { held, room } = self.told.entries;
+        let aside = self.told.aside;
+        take_spare(&mut self.bytes, &mut self.spare, aside.bytes);
+        let texts = Known {
+            held: out.len(),
+            room: out.capacity(),
+        };
         self.told = Told {
             entries: Known {
                 held: held + count as usize,
                 room,
             },
-            texts: Known {
-                held: out.len(),
-                room: out.capacity(),
-            },
+            texts,
+            aside: still_aside(aside, texts, self.bytes.capacity(), self.spare.capacity()),
         };
         self.first += count;
         self.count = 0;
@@ -174,14 +232,18 @@ impl PlainTail {
         Ok(count as usize)
     }
 
-    /// Learns what the log device holds and has room for, while nothing waits.
-    pub(crate) fn learn(&mut self, told: Told)
+    /// Learns what the log device holds and has room for, while nothing waits. Nothing is kept aside then.
+    pub(crate) fn learn(&mut self, entries: Known, texts: Known)
         requires empty { waiting_in self.old ≡ [] }
-        requires room { (told.entries.held ≤ told.entries.room) × (told.texts.held ≤ told.texts.room) × (told.texts.held < 2 ^ 63) }
-        ensures told { told_in self.new ≡ told }
+        requires room { (entries.held ≤ entries.room) × (texts.held ≤ texts.room) × (texts.held < 2 ^ 63) }
+        ensures told { ((told_in self.new).entries ≡ entries) × ((told_in self.new).texts ≡ texts) }
         ensures same { (first_of self.new ≡ first_of self.old) × (waiting_in self.new ≡ waiting_in self.old) }
     {
-        self.told = told;
+        self.told = Told {
+            entries,
+            texts,
+            aside: NOTHING_ASIDE,
+        };
     }
 
     /// Learns that the log device holds no more than this, after a force.
@@ -189,11 +251,13 @@ impl PlainTail {
         ensures entries { (held room : ℕ) → held ≤ entries → Covers (told_in self.old).entries held room → Covers (told_in self.new).entries held room }
         ensures texts { (held room : ℕ) → held ≤ texts → Covers (told_in self.old).texts held room → Covers (told_in self.new).texts held room }
         ensures least { ((told_in self.new).entries.held ≤ entries) × ((told_in self.new).texts.held ≤ texts) }
+        ensures aside { (told_in self.new).aside ≡ (told_in self.old).aside }
         ensures same { (first_of self.new ≡ first_of self.old) × (waiting_in self.new ≡ waiting_in self.old) }
     {
         self.told = Told {
             entries: self.told.entries.no_more_than(entries),
             texts: self.told.texts.no_more_than(texts),
+            aside: self.told.aside,
         };
     }
 
@@ -211,10 +275,11 @@ impl PlainTail {
         ensures idle { Covers (told_in self.old).entries (vec_len frames.old + waiting) (vec_capacity frames.old) → IsOk result }
         ensures knows { OnOk result (Covers (told_in self.new).entries (vec_len frames.new + waiting) (vec_capacity frames.new)) }
         ensures same { (self.new.first ≡ self.old.first) × (self.new.count ≡ self.old.count) × (self.new.waiting ≡ self.old.waiting) }
-        ensures texts { ((told_in self.new).texts ≡ (told_in self.old).texts) × (self.new.bytes ≡ self.old.bytes) }
+        ensures texts { ((told_in self.new).texts ≡ (told_in self.old).texts) × (self.new.bytes ≡ self.old.bytes) × (self.new.spare ≡ self.old.spare) }
+        ensures aside { (told_in self.new).aside ≡ (told_in self.old).aside }
     {
         let count = self.count as usize;
-        let more = waiting + count;
+        let more = waiting + count + self.told.aside.records;
         take_entries(frames, &mut self.index, more)?;
         self.told = Told {
             entries: Known {
@@ -222,21 +287,26 @@ impl PlainTail {
                 room: frames.capacity(),
             },
             texts: self.told.texts,
+            aside: self.told.aside,
         };
         Ok(())
     }
 
-    // Takes what the log device will need for one record more with a text of so many bytes.
-    fn take_room(&mut self, len: usize) -> Result<(), AllocError>
-        requires { len < 2 ^ 40 }
-        ensures entries { OnOk result (HasRoom (told_in self.new).entries (self.new.count + 1) (vec_capacity self.new.index)) }
+    // Takes what the log device will need for so many records more with texts of so many bytes, and the room for these texts here.
+    fn take_room(&mut self, records: usize, len: usize) -> Result<(), AllocError>
+        requires { (records < 2 ^ 40) × (len < 2 ^ 40) }
+        ensures entries { OnOk result (HasRoom (told_in self.new).entries (self.new.count + records) (vec_capacity self.new.index)) }
         ensures texts { OnOk result (HasRoom (told_in self.new).texts (vec_len self.new.bytes + len) (vec_capacity self.new.bytes)) }
+        ensures here { OnOk result (vec_len self.new.bytes + len ≤ vec_capacity self.new.bytes) }
+        ensures idle { HasRoom (told_in self.old).entries (self.old.count + records) (vec_capacity self.old.index)
+            → HasRoom (told_in self.old).texts (vec_len self.old.bytes + len) (vec_capacity self.old.bytes) → vec_len self.old.bytes + len ≤ vec_capacity self.old.bytes → IsOk result }
         ensures bytes { self.new.bytes.items ≡ self.old.bytes.items }
         ensures same { (self.new.first ≡ self.old.first) × (self.new.count ≡ self.old.count) × (self.new.waiting ≡ self.old.waiting) }
         ensures told { told_in self.new ≡ told_in self.old }
+        ensures spare { self.new.spare ≡ self.old.spare }
     {
-        let Told { entries, texts } = self.told;
-        let count = self.count as usize + 1;
+        let Told { entries, texts, .. } = self.told;
+        let count = self.count as usize + records;
         if !entries.has_room(count, self.index.capacity()) {
             let Some(wanted) = entries.held.checked_add(count) else {
                 return Err(AllocError);
@@ -247,7 +317,31 @@ impl PlainTail {
         if !texts.has_room(longer, self.bytes.capacity()) {
             self.bytes.reserve(texts.held + len)?;
         }
-        Ok(())
+        self.bytes.reserve(len)
+    }
+
+    // One record more; what is kept aside stays so.
+    fn push_one(&mut self, logged: &LogRecord) -> Result<Lsn, Fault>
+        requires text { Fits logged.now }
+        requires previous { logged.now.previous < first_of self.old + length (waiting_in self.old) }
+        requires numbers { first_of self.old + length (waiting_in self.old) < 2 ^ 62 }
+        ensures number { IfOk result (λ n. n ≡ first_of self.old + length (waiting_in self.old)) }
+        ensures added { OnOk result (waiting_in self.new ≡ waiting_in self.old ++ logged.now ∷ []) }
+        ensures idle { HasRoom (told_in self.old).entries (self.old.count + ((told_in self.old).aside.records + 1)) (vec_capacity self.old.index)
+            → HasRoom (told_in self.old).texts (vec_len self.old.bytes + ((told_in self.old).aside.bytes + length (text logged.now))) (vec_capacity self.old.bytes)
+            → vec_len self.old.bytes + ((told_in self.old).aside.bytes + length (text logged.now)) ≤ vec_capacity self.old.bytes → IsOk result }
+        ensures refused { IfErr result (λ fault. fault ≡ Fault.Memory) }
+        ensures none_added { OnErr result (waiting_in self.new ≡ waiting_in self.old) }
+        ensures first { first_of self.new ≡ first_of self.old }
+        ensures told { told_in self.new ≡ told_in self.old }
+    {
+        let Aside { records, bytes } = self.told.aside;
+        self.take_room(records + 1, bytes + encoded_len(logged))?;
+        encode(logged, &mut self.bytes)?;
+        let number = self.first + self.count;
+        self.waiting = self.waiting.and(logged, &());
+        self.count += 1;
+        Ok(Lsn(number))
     }
 
     /// Copies of the records that wait, in the order of their numbers.
@@ -272,6 +366,32 @@ impl PlainTail {
     }
 }
 
+// What is kept aside still once texts were handed over, by so much room here and in spare: all of it, unless the log device has less room than was told.
+fn still_aside(aside: Aside, texts: Known, here: usize, spare: usize) -> Aside
+    ensures least { (result.records ≤ aside.records) × (result.bytes ≤ aside.bytes) }
+    ensures room { (result.bytes ≤ here) × (result.bytes ≤ max texts.room spare) }
+    ensures texts { texts.held ≤ texts.room → HasRoom texts result.bytes here }
+    ensures all { aside.bytes ≤ here → aside.bytes ≤ max texts.room spare → HasRoom texts aside.bytes here → result ≡ aside }
+{
+    let bytes = aside.bytes;
+    if bytes <= here && bytes <= texts.room.max(spare) && texts.has_room(bytes, here) {
+        return aside;
+    }
+    NOTHING_ASIDE
+}
+
+// Takes the spare's room where there is less than this; neither has anything in it.
+fn take_spare(bytes: &mut Vec<u8>, spare: &mut Vec<u8>, wanted: usize)
+    requires { (bytes.old.items ≡ []) × (vec_len spare.old ≡ 0) }
+    ensures empty { (bytes.new.items ≡ []) × (vec_len spare.new ≡ 0) }
+    ensures room { ((wanted ≤ vec_capacity bytes.old) × (vec_capacity bytes.new ≡ vec_capacity bytes.old) × (vec_capacity spare.new ≡ vec_capacity spare.old))
+        ⊎ ((vec_capacity bytes.old < wanted) × (vec_capacity bytes.new ≡ vec_capacity spare.old) × (vec_capacity spare.new ≡ vec_capacity bytes.old)) }
+{
+    if bytes.capacity() < wanted {
+        mem::swap(bytes, spare);
+    }
+}
+
 impl Tail for PlainTail {
     ghost use Rattle.shore_log.specs.PlainTails.{first_of, told_in, waiting_in};
 
@@ -281,13 +401,31 @@ impl Tail for PlainTail {
 
     ghost told = { told_in };
 
+    ghost keeps = { true };
+
     fn push(&mut self, logged: &LogRecord) -> Result<Lsn, Fault> {
-        self.take_room(encoded_len(logged))?;
-        encode(logged, &mut self.bytes)?;
-        let number = self.first + self.count;
-        self.waiting = self.waiting.and(logged, &());
-        self.count += 1;
-        Ok(Lsn(number))
+        self.push_one(logged)
+    }
+
+    fn keep_aside(&mut self, count: usize, bytes: usize) -> Result<(), Fault> {
+        self.take_room(count, bytes)?;
+        if self.told.texts.room < bytes {
+            self.spare.reserve(bytes)?;
+        }
+        self.told.aside = Aside {
+            records: count,
+            bytes,
+        };
+        Ok(())
+    }
+
+    fn push_kept(&mut self, logged: &LogRecord) -> Result<Lsn, Fault> {
+        let Aside { records, bytes } = self.told.aside;
+        self.told.aside = Aside {
+            records: records.saturating_sub(1),
+            bytes: bytes.saturating_sub(encoded_len(logged)),
+        };
+        self.push_one(logged)
     }
 
     fn next(&self) -> Lsn {

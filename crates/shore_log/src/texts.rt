@@ -1,5 +1,5 @@
 //! The texts of records, one behind another: they are counted, and read again.
-ghost use Rattle.std.specs.Prelude.{◌≡◌, ◌+◌, ◌≤◌, ◌<◌, ◌^◌, [], ◌∷◌, ◌++◌, All, List, ℕ, IfOk, IsOk, OnErr, OnOk, drop, length, take, vec_capacity, vec_len};
+ghost use Rattle.std.specs.Prelude.{◌≡◌, ◌⊎◌, ◌+◌, ◌≤◌, ◌<◌, ◌^◌, [], ◌∷◌, ◌++◌, All, List, ℕ, IfOk, IsOk, OnErr, OnOk, drop, length, take, vec_capacity, vec_len};
 ghost use Rattle.shore_model.specs.declared.log_records.LogRecord.{LogRecord};
 ghost use Rattle.shore_logrec.specs.Text.{Fits, text, texts};
 ghost use Rattle.shore_frames.specs.Frames.{IsLongest};
@@ -34,6 +34,9 @@ pub fn move_behind(out: &mut Vec<u8>, more: &mut Vec<u8>) -> Result<(), AllocErr
     ensures empty { vec_len out.old ≡ 0 → IsOk result }
     ensures err { OnErr result ((out.new.items ≡ out.old.items) × (more.new.items ≡ more.old.items)) }
     ensures left { OnErr result (vec_capacity more.old ≤ vec_capacity more.new) }
+    // Each has its room still, or they have changed places.
+    ensures room { OnOk result (((vec_capacity out.old ≤ vec_capacity out.new) × (vec_capacity more.old ≤ vec_capacity more.new))
+        ⊎ ((vec_capacity more.old ≤ vec_capacity out.new) × (vec_capacity out.old ≤ vec_capacity more.new))) }
 {
     if out.is_empty() {
         mem::swap(out, more);

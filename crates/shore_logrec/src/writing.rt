@@ -1,5 +1,5 @@
 //! Texts from their records.
-ghost use Rattle.std.specs.Prelude.{◌≡◌, ◌≤◌, ◌++◌, All, length, OnOk, OnErr, vec_capacity};
+ghost use Rattle.std.specs.Prelude.{◌≡◌, ◌≤◌, ◌+◌, ◌++◌, All, length, IsOk, OnOk, OnErr, vec_capacity, vec_len};
 ghost use Rattle.byteorder.specs.Endian.{little_bytes};
 ghost use Rattle.shore_logrec.specs.Text.{Fits, GranuleFits, ImageFits, ChangeFits, CheckpointFits, CompensationFits, PrepareFits, PayloadFits, kind_of, state_number};
 ghost use Rattle.shore_logrec.specs.Text.{anchor_text, checkpoint_text, dirty_text, granule_text, prepare_text, rid_text, image_text, change_text, compensation_text, payload_text, head_text, text, txn_text};
@@ -241,11 +241,12 @@ fn put_head(out: &mut Vec<u8>, logged: &LogRecord)
     put(out, &head);
 }
 
-/// Appends the record's text. If an allocation failed nothing is appended.
+/// Appends the record's text. If an allocation failed nothing is appended; none is made while there is room.
 #[tactic(auto, using(crate::proofs::TextLengths::lengths), unfolding(crate::specs::Text::text))]
 pub fn encode(logged: &LogRecord, out: &mut Vec<u8>) -> Result<(), AllocError>
     requires { Fits logged.now }
     ensures ok { OnOk result (out.new.items ≡ out.old.items ++ text logged.now) }
+    ensures idle { vec_len out.old + length (text logged.now) ≤ vec_capacity out.old → IsOk result }
     ensures err { OnErr result (out.new.items ≡ out.old.items) }
     ensures capacity { vec_capacity out.old ≤ vec_capacity out.new }
 {

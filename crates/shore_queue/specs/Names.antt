@@ -7,4 +7,4 @@ no_queue a = record { web = (0, 0); heap = a }
 
 -- Nothing: its records wait for no log device.
 abbrev pub nothing_told : Told
-nothing_told = record { entries = record { held = 0; room = 0 }; texts = record { held = 0; room = 0 } }
+nothing_told = record { entries = record { held = 0; room = 0 }; texts = record { held = 0; room = 0 }; aside = record { records = 0; bytes = 0 } }

@@ -112,6 +112,9 @@ impl<N: Numbers, B: Queued, R: Wait + Copy> Tail for QueueTail<N, B, R> {
 
     ghost told = { λ t. nothing_told };
 
+    // Each record that is sent takes its own room.
+    ghost keeps = { false };
+
     fn push(&mut self, logged: &LogRecord) -> Result<Lsn, Fault> {
         let number = self.next;
         let mut one = PlainTail::new(self.alloc, Lsn(number));
@@ -123,6 +126,14 @@ impl<N: Numbers, B: Queued, R: Wait + Copy> Tail for QueueTail<N, B, R> {
             }
             Err(_) => Err(Fault::Memory),
         }
+    }
+
+    fn keep_aside(&mut self, count: usize, bytes: usize) -> Result<(), Fault> {
+        Ok(())
+    }
+
+    fn push_kept(&mut self, logged: &LogRecord) -> Result<Lsn, Fault> {
+        self.push(logged)
     }
 
     fn next(&self) -> Lsn {

@@ -3,7 +3,7 @@ ghost use Rattle.std.specs.Prelude.{◌≡◌, []};
 
 use super::LogDev;
 use crate::PlainTail;
-use crate::tail::{Known, Told};
+use crate::tail::Known;
 use shore_disk::Disk;
 
 impl<D: Disk> LogDev<D> {
@@ -26,12 +26,13 @@ impl<D: Disk> LogDev<D> {
             held: self.bytes.len(),
             room: self.bytes.capacity(),
         };
-        tail.learn(Told { entries, texts });
+        tail.learn(entries, texts);
     }
 
     /// Tells a log buffer how little is held after a force.
     pub fn tell_left(&self, tail: &mut PlainTail)
         ensures knows { KnowsRoom self.now (told_in tail.old) → KnowsRoom self.now (told_in tail.new) }
+        ensures aside { (told_in tail.new).aside ≡ (told_in tail.old).aside }
         ensures same { (first_of tail.new ≡ first_of tail.old) × (waiting_in tail.new ≡ waiting_in tail.old) }
     {
         let waiting = self.count - self.forced;

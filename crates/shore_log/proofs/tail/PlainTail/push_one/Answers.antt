@@ -4,8 +4,9 @@ use Rattle.shore_logrec.specs.Text.{text, texts}
 use Rattle.shore_frames.specs.LoggedRecords.{are_numbered}
 use Rattle.shore_frames.proofs.LoggedLemmas.{numbered-push, texts-push}
 use Rattle.shore_log.specs.Listed.{listed}
+use Rattle.shore_log.specs.declared.tail.Told.{Told}
 use Rattle.shore_log.proofs.TextLemmas.{listed-push}
-use Rattle.shore_log.proofs.tail.PlainTailTail.push.Goals as goal
+use Rattle.shore_log.proofs.tail.PlainTail.push_one.Goals as goal
 
 pub invariant_of-self-2 : goal.invariant_of-self-2
 invariant_of-self-2 c =
@@ -16,6 +17,8 @@ invariant_of-self-2 c =
     let all = listed old.waiting.items in
     let all_is : all ≡ listed start.waiting.items = ap (λ w. listed w.items) same.2 in
     let long = ap length all_is in
+    let aside_is = ap (λ (t : Told). t.aside.records) c.take_room.ensures.told in
+    let bytes_is = ap (λ (t : Told). t.aside.bytes) c.take_room.ensures.told in
     let more : listed c.and-self.result.items ≡ all ++ r ∷ [] = ap listed c.and-self.ensures ∙ listed-push old.waiting.items r _ in
     record {
       numbered = subst (λ (l : List LogRecord). IsTrue (are_numbered old.first l)) (sym more) (numbered-push old.first all r old.numbered c.requires.text (omega (arith, c.requires.previous, same.0, long)));
@@ -23,9 +26,12 @@ invariant_of-self-2 c =
       few = omega (arith, c.requires.numbers, old.counted, same.0, long);
       spelled = c.in_ok-encode.ensures.ok ∙ ap (λ (l : List ℕ). l ++ text r) old.spelled ∙ sym (texts-push all r) ∙ ap texts (sym more);
       no_entry = old.no_entry;
-      index_room = c.in_ok-take_room.ensures.entries;
-      texts_room = omega (arith, c.in_ok-take_room.ensures.texts, ap length c.in_ok-encode.ensures.ok, length-append old.bytes.items (text r), c.encode.new.out.ok.0, old.bytes.ok.0, c.encoded_len.ensures.len, c.in_ok-encode.ensures.capacity);
+      index_room = omega (arith, c.in_ok-take_room.ensures.entries, aside_is);
+      texts_room = omega (arith, c.in_ok-take_room.ensures.texts, bytes_is, ap length c.in_ok-encode.ensures.ok, length-append old.bytes.items (text r), c.encode.new.out.ok.0, old.bytes.ok.0, c.encoded_len.ensures.len, c.in_ok-encode.ensures.capacity);
       texts_short = old.texts_short;
+      aside_short = old.aside_short;
+      aside_room = omega (arith, c.in_ok-take_room.ensures.here, bytes_is, ap length c.in_ok-encode.ensures.ok, length-append old.bytes.items (text r), c.encode.new.out.ok.0, old.bytes.ok.0, c.encoded_len.ensures.len, c.in_ok-encode.ensures.capacity);
+      spare_room = old.spare_room;
     }
 
 pub returns-clause-added : goal.returns-clause-added
