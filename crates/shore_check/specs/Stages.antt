@@ -1,5 +1,6 @@
 -- A checkpoint under way, as its owner has it in memory: the tables are in its End until that is logged, and then only what its Anchor record says is left.
-use Rattle.std.specs.Prelude.{◌≡◌, ◌+◌, ℕ, length}
+use Rattle.std.specs.Prelude.{◌≡◌, ◌+◌, ◌-◌, ◌*◌, ℕ, length}
+use Rattle.shore_types.specs.declared.layout.TheConstants.{FRAME_SHARE}
 use Rattle.shore_logrec.specs.Text.{CheckpointFits}
 use Rattle.laws_checkpoints.specs.Checkpoints.{Checkpoint, end_payload, of_checkpoint}
 use Rattle.laws_checkpoints.specs.CheckpointedStores.{AnchorLogged, BeginLogged, CheckpointStage, EndLogged, NoCheckpoint}
@@ -48,3 +49,13 @@ to_log stage.Resting = 0
 to_log (stage.Begun b) = b.end_cost + ANCHOR_COST
 to_log (stage.Ended e) = ANCHOR_COST
 to_log (stage.Named m) = 0
+
+-- what is to be kept aside for it: so many records, with so many bytes of texts
+abbrev pub records_to_log : Stage → ℕ
+records_to_log stage.Resting = 0
+records_to_log (stage.Begun b) = 2
+records_to_log (stage.Ended e) = 1
+records_to_log (stage.Named m) = 0
+
+abbrev pub bytes_to_log : Stage → ℕ
+bytes_to_log s = to_log s - FRAME_SHARE * records_to_log s

@@ -1,17 +1,17 @@
 //! How far a checkpoint has come. Nothing of it outlives a crash but what it has logged.
-ghost use Rattle.std.specs.Prelude.{◌≡◌, ◌<◌, ◌≤◌, ◌+◌, ◌∷◌, [], ℕ, IfSome, IsTrue, MatchOption, length};
+ghost use Rattle.std.specs.Prelude.{◌≡◌, ◌<◌, ◌≤◌, ◌+◌, ◌^◌, ◌∷◌, [], ℕ, IfSome, IsTrue, MatchOption, length};
 ghost use Rattle.shore_frames.specs.LoggedRecords.{are_numbered};
-ghost use Rattle.shore_types.specs.declared.layout.TheConstants.{ENDING_COST, GREATEST_CHECKPOINT};
+ghost use Rattle.shore_types.specs.declared.layout.TheConstants.{ENDING_COST, FRAME_SHARE, GREATEST_CHECKPOINT};
 ghost use Rattle.shore_check.specs.declared.stage.TheConstants.{ANCHOR_COST};
 ghost use Rattle.shore_model.specs.declared.log_records.Payload.TheVariants as payload;
-ghost use Rattle.shore_logrec.specs.Text.{Fits};
+ghost use Rattle.shore_logrec.specs.Text.{Fits, text};
 ghost use Rattle.laws_checkpoints.specs.Checkpoints.{Checkpoint, cut_point, end_payload, of_checkpoint};
 ghost use Rattle.laws_checkpoints.specs.CheckpointedStores.{CheckpointStage, awaited_by};
 ghost use Rattle.laws_checkpoints.specs.RingRooms as ring;
 ghost use Rattle.shore_check.specs.Marks.{mark_of};
 
 use shore_model::{LogRecord, Payload};
-use shore_types::layout::ENDING_COST;
+use shore_types::layout::{ENDING_COST, FRAME_SHARE};
 use shore_types::{Lsn, TxnId};
 
 /// What an Anchor record costs: its payload is two numbers.
@@ -50,6 +50,7 @@ pub struct Begun {
     end_cost: u64,
     ghost few: { ENDING_COST + end_cost + ANCHOR_COST ≤ GREATEST_CHECKPOINT },
     ghost fits: { IsTrue (are_numbered 1 (end ∷ [])) },
+    ghost costs: { end_cost ≡ FRAME_SHARE + length (text end) },
 }
 
 /// A checkpoint whose End is being pushed.
@@ -85,12 +86,14 @@ pub fn begin_record() -> LogRecord
 }
 
 impl Begun {
-    ghost use Rattle.shore_check.specs.Stages.{IsBegun, IsEnding};
+    ghost use Rattle.shore_check.specs.Stages.{IsBegun, IsEnding, bytes_to_log};
+    ghost use Rattle.shore_check.specs.declared.stage.Stage.TheVariants as Stage;
 
     // The checkpoint with this End ready.
     pub(crate) fn new(end: LogRecord, mark: Mark, end_cost: u64) -> Begun
         requires few { ENDING_COST + end_cost + ANCHOR_COST ≤ GREATEST_CHECKPOINT }
         requires fits { IsTrue (are_numbered 1 (end ∷ [])) }
+        requires costs { end_cost ≡ FRAME_SHARE + length (text end) }
         ensures { (result.end ≡ end) × (result.mark ≡ mark) × (result.end_cost ≡ end_cost) }
     {
         Begun {
@@ -107,6 +110,14 @@ impl Begun {
         ENDING_COST + self.end_cost + ANCHOR_COST
     }
 
+    /// How many bytes the texts of its End and of its Anchor record have.
+    pub fn bytes_to_log(&self) -> usize
+        ensures is { result ≡ bytes_to_log (Stage.Begun self.now) }
+        ensures few { result < 2 ^ 30 }
+    {
+        (self.end_cost + ANCHOR_COST - 2 * FRAME_SHARE) as usize
+    }
+
     /// What its Anchor record will say.
     pub fn mark(&self) -> Mark
         ensures { (c : Checkpoint) → IsBegun c self.now → result ≡ mark_of c }
@@ -120,6 +131,7 @@ impl Begun {
         ensures fits { Fits result.0 }
         ensures numbered { IsTrue (are_numbered 1 (result.0 ∷ [])) }
         ensures rest { (c : Checkpoint) → IsBegun c self → IsEnding c result.1 }
+        ensures cost { (result.1.end_cost ≡ self.end_cost) × (self.end_cost ≡ FRAME_SHARE + length (text result.0)) }
     {
         let ending = Ending {
             mark: self.mark,
@@ -151,8 +163,10 @@ impl Ending {
 
     /// The push was refused, and the End handed back: it may be pushed later.
     pub fn refused(self, end: LogRecord) -> Begun
-        requires { IsTrue (are_numbered 1 (end ∷ [])) }
-        ensures { (c : Checkpoint) → IsEnding c self → end ≡ of_checkpoint (end_payload c) → IsBegun c result }
+        requires fits { IsTrue (are_numbered 1 (end ∷ [])) }
+        requires costs { self.end_cost ≡ FRAME_SHARE + length (text end) }
+        ensures is { (c : Checkpoint) → IsEnding c self → end ≡ of_checkpoint (end_payload c) → IsBegun c result }
+        ensures cost { result.end_cost ≡ self.end_cost }
     {
         Begun::new(end, self.mark, self.end_cost)
     }
@@ -167,6 +181,7 @@ impl Ended {
             → MatchOption result (durable < n) (λ r. (n ≤ durable) × (r ≡ of_checkpoint (payload.Anchor c.begin (cut_point c)))) }
         ensures fits { IfSome result Fits }
         ensures none_before { IfSome result (λ r. r.previous ≡ 0) }
+        ensures cost { IfSome result (λ r. FRAME_SHARE + length (text r) ≡ ANCHOR_COST) }
     {
         if durable.0 < self.number.0 {
             return None;
@@ -209,7 +224,31 @@ impl Named {
 }
 
 impl Stage {
-    ghost use Rattle.shore_check.specs.Stages.{IsAt};
+    ghost use Rattle.shore_check.specs.Stages.{IsAt, bytes_to_log, records_to_log};
+
+    /// How many records it has to log still, beside its begin.
+    pub fn records_to_log(&self) -> usize
+        ensures is { result ≡ records_to_log self.now }
+        ensures few { result < 2 ^ 30 }
+    {
+        match self {
+            Stage::Resting | Stage::Named(_) => 0,
+            Stage::Ended(_) => 1,
+            Stage::Begun(_) => 2,
+        }
+    }
+
+    /// How many bytes the texts of these have in all.
+    pub fn bytes_to_log(&self) -> usize
+        ensures is { result ≡ bytes_to_log self.now }
+        ensures few { result < 2 ^ 30 }
+    {
+        match self {
+            Stage::Resting | Stage::Named(_) => 0,
+            Stage::Ended(_) => (ANCHOR_COST - FRAME_SHARE) as usize,
+            Stage::Begun(begun) => begun.bytes_to_log(),
+        }
+    }
 
     /// The number that has to be durable before the next step, if there is one.
     pub fn awaits(&self) -> Option<Lsn>

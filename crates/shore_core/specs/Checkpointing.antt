@@ -11,10 +11,12 @@ use Rattle.shore_log.specs.declared.device.LogDev.{LogDev}
 use Rattle.shore_log.specs.declared.tail.Tail as tail
 use Rattle.shore_log.specs.Indexes.{AreBelow}
 use Rattle.shore_log.specs.Settled.{cut_of_log, records_of_log, stable}
+use Rattle.shore_log.specs.Told.{KeepsAside}
+use Rattle.shore_log.specs.declared.tail.Told.{Told}
 use Rattle.shore_model.specs.declared.log_records.LogRecord.{LogRecord}
 use Rattle.shore_model.specs.declared.step.Step.{Step}
 use Rattle.shore_check.specs.Marks.{mark_of}
-use Rattle.shore_check.specs.Stages.{IsAt, IsBegun}
+use Rattle.shore_check.specs.Stages.{IsAt, IsBegun, bytes_to_log, records_to_log}
 use Rattle.shore_check.specs.declared.stage.Mark.{Mark}
 use Rattle.shore_check.specs.declared.stage.Stage.{Stage}
 use Rattle.shore_logrec.specs.Text.{CheckpointFits}
@@ -38,6 +40,10 @@ pub record HasKept {D : Type 0} {L : disk.Ghosts D} (log : LogDev D L) (m : Chec
   pub coming : List LogRecord
   pub kept : drop (cut_of m.store.anchored) m.state.log ≡ records_of_log log ++ coming
   pub forced : cut_of_log log + length (stable log) ≡ m.state.durable
+
+-- There is room aside for all that a checkpoint under way still has to log.
+abbrev pub KeepsFor : Stage → Told → Type 0
+KeepsFor stage told = KeepsAside told (records_to_log stage) (bytes_to_log stage)
 
 -- A checkpoint may go on: its owner's stage is that of the store, which is in order, and what is owed to it has room.
 pub record MayGoOn (stage : Stage) (m : CheckpointedState) : Type 0 where

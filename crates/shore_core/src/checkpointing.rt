@@ -1,6 +1,6 @@
 //! The steps of a checkpoint, between the calls of sessions.
 
-ghost use Rattle.std.specs.Prelude.{◌≡◌, ◌≢◌, ◌⊎◌, ◌↔◌, ◌+◌, ◌<◌, ◌≤◌, ℕ, List, IfErr, IfOk, IsTrue, false, length};
+ghost use Rattle.std.specs.Prelude.{◌≡◌, ◌≢◌, ◌⊎◌, ◌↔◌, ◌+◌, ◌<◌, ◌≤◌, ◌^◌, ◌++◌, ◌∷◌, [], ℕ, List, IfErr, IfOk, IsTrue, OnErr, OnOk, false, length};
 ghost use Rattle.laws_checkpoints.specs.StoresInOrder.{IsInOrder};
 ghost use Rattle.laws_checkpoints.specs.CheckpointedStores.{NoCheckpoint};
 ghost use Rattle.shore_types.specs.declared.faults.Fault.TheVariants as Fault;
@@ -14,7 +14,10 @@ ghost use Rattle.shore_check.specs.declared.stage.Named.{Named};
 ghost use Rattle.shore_types.specs.declared.faults.Fault.{Fault};
 ghost use Rattle.shore_core.specs.declared.checkpointing.CheckpointStep.TheVariants as CheckpointStep;
 ghost use Rattle.shore_log.specs.Settled.{HoldsFrom};
-ghost use Rattle.laws_checkpoints.specs.Checkpoints.{Anchored};
+ghost use Rattle.shore_log.specs.Told.{SaysAlike};
+ghost use Rattle.laws_checkpoints.specs.Checkpoints.{Anchored, of_checkpoint};
+ghost use Rattle.shore_core.specs.Checkpointing.{KeepsFor};
+ghost use Rattle.shore_model.specs.declared.log_records.Payload.TheVariants.{CheckpointBegin};
 ghost use Rattle.laws_runs.specs.CheckpointSteps.{IsNextAnchor, freed_to};
 ghost use Rattle.shore_txn.specs.Transactions.{room_in};
 
@@ -66,7 +69,8 @@ impl<T: Tail, V: Disk> Core<T, V> {
         ensures heap { heap_of self.new ≡ heap_of self.old }
         ensures durable { durable_of self.new ≡ durable_of self.old }
         ensures first { first_of self.new ≡ first_of self.old }
-        ensures told { told_of self.new ≡ told_of self.old }
+        ensures told { SaysAlike (told_of self.new) (told_of self.old) }
+        ensures aside { IsTrue T.keeps → KeepsFor stage.old (told_of self.old) → KeepsFor stage.new (told_of self.new) }
         ensures running { has_failed self.new ≡ has_failed self.old }
         ensures ring { (room_in (txns_of self.new)).stream_bytes ≡ (room_in (txns_of self.old)).stream_bytes }
 
@@ -76,7 +80,8 @@ impl<T: Tail, V: Disk> Core<T, V> {
             × ((named : Named) × (stage.old ≡ Stage.Named named) × (named.mark ≡ mark) × (named.number ≤ durable_of self.old)) }
         ensures others { (f : Fault) → result ≡ CheckpointStep.Made (Step.Refused f) → (f ≡ Fault.Failed) ⊎ (f ≡ Fault.Memory) ⊎ (f ≡ Fault.LogFull) ⊎ (f ≡ Fault.TooManyTransactions) }
         ensures no_move { result ≢ CheckpointStep.Made (Step.Done Answer.Moved) }
-        // The move takes no memory.
+        // A checkpoint that has begun is never refused memory: its begin took the room of its End and of its Anchor record. The move takes none.
+        ensures idle { KeepsFor stage.old (told_of self.old) → stage.old ≢ Stage.Resting → result ≢ CheckpointStep.Made (Step.Refused Fault.Memory) }
         ensures asked_for { (named : Named) → stage.old ≡ Stage.Named named → (result ≡ CheckpointStep.Made Step.Nothing) ⊎ (result ≡ CheckpointStep.Made (Step.Refused Fault.Failed))
             ⊎ ((mark : Mark) × (result ≡ CheckpointStep.Move mark)) }
     {
@@ -113,7 +118,8 @@ impl<T: Tail, V: Disk> Core<T, V> {
         ensures heap { heap_of self.new ≡ heap_of self.old }
         ensures durable { durable_of self.new ≡ durable_of self.old }
         ensures first { first_of self.new ≡ first_of self.old }
-        ensures told { told_of self.new ≡ told_of self.old }
+        ensures told { SaysAlike (told_of self.new) (told_of self.old) }
+        ensures aside { IsTrue T.keeps → KeepsFor stage.new (told_of self.new) }
         ensures running { has_failed self.new ≡ has_failed self.old }
         ensures ring { (room_in (txns_of self.new)).stream_bytes ≡ (room_in (txns_of self.old)).stream_bytes }
         ensures busy { result ≢ Step.Nothing }
@@ -145,14 +151,15 @@ impl<T: Tail, V: Disk> Core<T, V> {
         Ok(begin(self.tail.next(), next, txns, dirty))
     }
 
-    // Its room is asked for before its begin is logged.
+    // Its room in the log is asked for before its begin is logged.
     fn try_begin<D: Disk>(&mut self, alloc: Global, log: &LogDev<D>) -> Result<(Lsn, Begun), Fault>
         ensures begins { has_failed self.old ≡ false → (tail place : ℕ) (groups : List (List LogRecord)) → HoldsFrom tail place log.now groups → InEach (λ front disk before s store.
             HasKept log.now (with_store s store) → MayGoOn Stage.Resting (with_store s store) → Begins tail groups result self.new front disk before (with_store s store)) self.old }
         ensures heap { heap_of self.new ≡ heap_of self.old }
         ensures durable { durable_of self.new ≡ durable_of self.old }
         ensures first { first_of self.new ≡ first_of self.old }
-        ensures told { told_of self.new ≡ told_of self.old }
+        ensures told { SaysAlike (told_of self.new) (told_of self.old) }
+        ensures aside { IsTrue T.keeps → IfOk result (λ b. KeepsFor (Stage.Begun b.1) (told_of self.new)) }
         ensures running { has_failed self.new ≡ has_failed self.old }
         ensures ring { (room_in (txns_of self.new)).stream_bytes ≡ (room_in (txns_of self.old)).stream_bytes }
         ensures refused { IfErr result (λ f. (f ≡ Fault.Memory) ⊎ (f ≡ Fault.LogFull) ⊎ (f ≡ Fault.TooManyTransactions)) }
@@ -162,7 +169,7 @@ impl<T: Tail, V: Disk> Core<T, V> {
         if !self.sums().admits_checkpoint(begun.cost(), freed) {
             return Err(Fault::LogFull);
         }
-        let number = match self.tail.push(&begin_record()) {
+        let number = match push_begin(&mut self.tail, &begun) {
             Ok(number) => number,
             Err(fault) => return Err(fault),
         };
@@ -201,7 +208,9 @@ impl<T: Tail, V: Disk> Core<T, V> {
         ensures heap { heap_of self.new ≡ heap_of self.old }
         ensures durable { durable_of self.new ≡ durable_of self.old }
         ensures first { first_of self.new ≡ first_of self.old }
-        ensures told { told_of self.new ≡ told_of self.old }
+        ensures told { SaysAlike (told_of self.new) (told_of self.old) }
+        ensures idle { KeepsFor (Stage.Begun begun) (told_of self.old) → result ≢ Step.Refused Fault.Memory }
+        ensures aside { KeepsFor (Stage.Begun begun) (told_of self.old) → KeepsFor stage.new (told_of self.new) }
         ensures running { has_failed self.new ≡ has_failed self.old }
         ensures ring { (room_in (txns_of self.new)).stream_bytes ≡ (room_in (txns_of self.old)).stream_bytes }
         ensures busy { result ≢ Step.Nothing }
@@ -214,7 +223,7 @@ impl<T: Tail, V: Disk> Core<T, V> {
             *stage = Stage::Begun(ending.refused(end));
             return Step::Refused(Fault::LogFull);
         }
-        match self.tail.push(&end) {
+        match self.tail.push_kept(&end) {
             Ok(number) => {
                 self.control.note_checkpoint(cost);
                 *stage = Stage::Ended(ending.logged(number));
@@ -233,7 +242,9 @@ impl<T: Tail, V: Disk> Core<T, V> {
         ensures heap { heap_of self.new ≡ heap_of self.old }
         ensures durable { durable_of self.new ≡ durable_of self.old }
         ensures first { first_of self.new ≡ first_of self.old }
-        ensures told { told_of self.new ≡ told_of self.old }
+        ensures told { SaysAlike (told_of self.new) (told_of self.old) }
+        ensures idle { KeepsFor (Stage.Ended ended) (told_of self.old) → result ≢ Step.Refused Fault.Memory }
+        ensures aside { KeepsFor (Stage.Ended ended) (told_of self.old) → KeepsFor stage.new (told_of self.new) }
         ensures running { has_failed self.new ≡ has_failed self.old }
         ensures ring { (room_in (txns_of self.new)).stream_bytes ≡ (room_in (txns_of self.old)).stream_bytes }
         ensures quiet { result ≡ Step.Nothing → (self.new ≡ self.old) × (stage.new ≡ Stage.Ended ended) }
@@ -247,7 +258,7 @@ impl<T: Tail, V: Disk> Core<T, V> {
         if !self.holds(ANCHOR_COST) {
             return Step::Refused(Fault::LogFull);
         }
-        let number = match self.tail.push(&record) {
+        let number = match self.tail.push_kept(&record) {
             Ok(number) => number,
             Err(fault) => return Step::Refused(fault),
         };
@@ -275,4 +286,20 @@ impl<T: Tail, V: Disk> Core<T, V> {
         *stage = Stage::Resting;
         Step::Done(Answer::Moved)
     }
+}
+
+// Pushes the record that a checkpoint begins with, once there is room aside for those that it still has to log.
+fn push_begin<T: Tail>(tail: &mut T, begun: &Begun) -> Result<Lsn, Fault>
+    requires some { 0 < T.first tail.old + length (T.records tail.old) }
+    requires numbers { T.first tail.old + length (T.records tail.old) < 2 ^ 62 }
+    ensures number { IfOk result (λ n. n ≡ T.first tail.old + length (T.records tail.old)) }
+    ensures added { OnOk result (T.records tail.new ≡ T.records tail.old ++ of_checkpoint CheckpointBegin ∷ []) }
+    ensures aside { IsTrue T.keeps → OnOk result (KeepsFor (Stage.Begun begun.now) (T.told tail.new)) }
+    ensures refused { IfErr result (λ fault. fault ≡ Fault.Memory) }
+    ensures none_added { OnErr result (T.records tail.new ≡ T.records tail.old) }
+    ensures first { T.first tail.new ≡ T.first tail.old }
+    ensures told { SaysAlike (T.told tail.new) (T.told tail.old) }
+{
+    tail.keep_aside(2, begun.bytes_to_log())?;
+    tail.push(&begin_record())
 }

@@ -51,6 +51,7 @@ impl<V: Disk> Core<PlainTail, V> {
         ensures anchors { log.new.anchors ≡ log.old.anchors }
         ensures ring { (room_in (txns_of self.new)).stream_bytes ≡ (room_in (txns_of self.old)).stream_bytes }
         ensures knows { KnowsRoom log.new (told_of self.new) }
+        ensures aside { (told_of self.new).aside ≡ (told_of self.old).aside }
         ensures spelled { IsSpelled log.new }
         ensures still { (log.new.device ≡ log.old.device) × (log.new.staged ≡ log.old.staged) × (stable log.new ≡ stable log.old) }
         ensures settled { (tail place : ℕ) (front : List ℕ) → IsSettledFrom tail place log.old front → IsSettledFrom tail place log.new front }
@@ -72,6 +73,7 @@ impl<V: Disk> Core<PlainTail, V> {
     pub fn learn_left<D: Disk>(&mut self, log: &LogDev<D>)
         ensures same { KeepsAllButRoom self.old self.new }
         ensures knows { KnowsRoom log.now (told_of self.old) → KnowsRoom log.now (told_of self.new) }
+        ensures aside { (told_of self.new).aside ≡ (told_of self.old).aside }
     {
         log.tell_left(&mut self.tail);
     }

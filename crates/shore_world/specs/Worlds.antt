@@ -416,8 +416,8 @@ module _ {L V : Type 0} {G : Ghosts L} {H : Ghosts V} where
     -- a checkpoint begins just where the log has room for it
     pub full_begin : IsOfCheckpoint e → step ≡ Refused LogFull → ForCheckpoint old (IsFullIn old)
     pub roomy_begin : (n : ℕ) → IsOfCheckpoint e → step ≡ Done (Begun n) → ForCheckpoint old (IsRoomyIn old)
-    -- the move takes no memory
-    pub no_memory : IsOfCheckpoint e → (named : Named) → old.stage ≡ stage.Named named → step ≢ Refused Memory
+    -- a checkpoint that has begun takes no memory
+    pub no_memory : IsOfCheckpoint e → old.stage ≢ stage.Resting → step ≢ Refused Memory
     -- nor does a step of a force
     pub force_no_memory : IsOfForce e → step ≢ Refused Memory
     pub report : report_in new ≡ report_in old

@@ -17,7 +17,6 @@ use shore_types::{Fault, Lsn};
 use std::alloc::Global;
 
 impl<L: Disk, V: Disk> World<L, V> {
-    ghost use Rattle.shore_check.specs.declared.stage.Named.{Named};
     ghost use Rattle.shore_check.specs.declared.stage.Stage.TheVariants as Stage;
     ghost use Rattle.shore_core.specs.Replies.{Earns, NeedsForce, fault_at};
     ghost use Rattle.shore_gate.specs.declared.anchors.Anchor.{Anchor};
@@ -34,7 +33,7 @@ impl<L: Disk, V: Disk> World<L, V> {
         ensures quiet { result ≡ Step.Nothing → IsUnchanged self.old self.new }
         ensures full { result ≡ Step.Refused Fault.LogFull → ForCheckpoint self.old (IsFullIn self.old) }
         ensures roomy { (n : ℕ) → result ≡ Step.Done (Answer.Begun n) → ForCheckpoint self.old (IsRoomyIn self.old) }
-        ensures no_memory { (named : Named) → self.old.stage ≡ Stage.Named named → result ≢ Step.Refused Fault.Memory }
+        ensures no_memory { self.old.stage ≢ Stage.Resting → result ≢ Step.Refused Fault.Memory }
         ensures damaged { Earns self.old.core (ReadBy self.old.core Event.CheckpointStep) (fault_at result) }
         ensures unforced { NeedsForce self.old.core (fault_at result) }
         ensures cause { HasCause (fault_at result) (L.faults self.old.log.device) (L.faults self.new.log.device) }

@@ -4,6 +4,7 @@ ghost use Rattle.shore_types.specs.declared.faults.Fault.TheVariants as Fault;
 ghost use Rattle.shore_types.specs.declared.layout.TheConstants.{LOG_FRONT_BYTES};
 ghost use Rattle.shore_disk.specs.Device.{size};
 ghost use Rattle.shore_core.specs.Cores.{durable_of, first_of, told_of, txns_of, waiting_of};
+ghost use Rattle.shore_core.specs.Checkpointing.{KeepsFor};
 ghost use Rattle.shore_log.specs.Settled.{IsSpelled, KnowsRoom, cut_of_log, records_of_log, stable};
 ghost use Rattle.shore_txn.specs.Transactions.{room_in};
 
@@ -64,6 +65,7 @@ impl<L: Disk, V: Disk> World<L, V> {
         requires ring { (room_in (txns_of core)).stream_bytes + LOG_FRONT_BYTES ≡ size (L.Disk.history log.device) }
         requires knows { KnowsRoom log (told_of core) }
         requires spelled { IsSpelled log }
+        requires aside { KeepsFor stage (told_of core) }
         ensures { (result.core ≡ core) × (result.log ≡ log) × (result.stage ≡ stage) × (result.report ≡ report) }
     {
         World {

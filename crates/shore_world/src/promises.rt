@@ -23,7 +23,6 @@ ghost use Rattle.shore_world.specs.Events.{IsOfForce, IsServedEvent};
 ghost use Rattle.shore_world.specs.EventMoves.{PlainMove};
 ghost use Rattle.shore_world.specs.Exchanges.{tellings_in, tellings_of, waited_after};
 ghost use Rattle.laws_runs.specs.CheckpointSteps.{CheckpointMoves};
-ghost use Rattle.shore_check.specs.declared.stage.Named.{Named};
 ghost use Rattle.shore_check.specs.declared.stage.Stage.TheVariants as stage;
 ghost use Rattle.shore_world.specs.Promises.{ChecksIfAny, FlushesIfAny, GoesOnAs, HasFailedStep, IsManagerOf, IsRefusedStep, IsStateOf, OpensIfAny, StagesIfAny, gained};
 ghost use Rattle.shore_world.specs.Worlds.{IsFullIn, IsRoomyIn, IsUnchanged, Runs, Steps, failed_in, requests_in};
@@ -66,7 +65,7 @@ pub fn histories_are_sound<L: Disk, V: Disk>()
         decisions es ≡ decisions_in (length k.found) k.now.state.log }
 {}
 
-/// Steps do their work, unless a device has failed or, but for a force, a flush and the move of the anchor, memory is short. A `ForceStage` stages the longest list of the records not yet durable that one frame holds, and
+/// Steps do their work, unless a device has failed or, but for a force, a flush and a checkpoint that has begun, memory is short. A `ForceStage` stages the longest list of the records not yet durable that one frame holds, and
 /// nothing if there is none of them or a frame is under way. A `ForceOpen` makes durable just the frame that is under way, up to its last record, and nothing if
 /// none is. A step of the flush writes back as many pages as it answers, the first of the volume that are due, and nothing if none is. A step of a checkpoint makes the next of its
 /// four, and nothing exactly if the number that this needs is not durable; it is LogFull at the begin alone, just if a checkpoint as it would be now has no room, though all frames are counted as free that end before its cut point. A resume has nothing to do if no
@@ -83,7 +82,7 @@ pub fn steps_do_their_work<L: Disk, V: Disk>()
         (k : IsManagerOf w o es ws) → Steps w event.CheckpointStep step new →
         IsRefusedStep w step ⊎ ((w.stage ≡ stage.Resting) × (step ≡ Refused fault.LogFull) × IsFullIn w k.now)
         ⊎ (ChecksIfAny w step new × (w.stage ≡ stage.Resting → IsRoomyIn w k.now)) }
-    ensures move_takes_no_memory { (w new : World L V L.Disk V.Disk) (named : Named) (step : Step) → Steps w event.CheckpointStep step new → w.stage ≡ stage.Named named → step ≢ Refused fault.Memory }
+    ensures begun_checkpoints_take_no_memory { (w new : World L V L.Disk V.Disk) (step : Step) → Steps w event.CheckpointStep step new → w.stage ≢ stage.Resting → step ≢ Refused fault.Memory }
     ensures forces_take_no_memory { (w new : World L V L.Disk V.Disk) (e : Event) (step : Step) → Steps w e step new → IsOfForce e → step ≢ Refused fault.Memory }
     ensures flushes_take_no_memory { (w new : World L V L.Disk V.Disk) (step : Step) → Steps w event.FlushStep step new → step ≢ Refused fault.Memory }
     ensures as_plain { (w new : World L V L.Disk V.Disk) (o : Opening) (es : List Entry) (ws : List (ℕ × Call)) (step : Step) →

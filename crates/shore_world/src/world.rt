@@ -9,6 +9,7 @@ ghost use Rattle.shore_disk.specs.Cause.{HasCause};
 ghost use Rattle.shore_disk.specs.Fuse.{fuse_inner};
 ghost use Rattle.shore_disk.specs.AnyDisk.{any_history, is_in_memory};
 ghost use Rattle.shore_disk.specs.Memory.{picked_after};
+ghost use Rattle.shore_core.specs.Checkpointing.{KeepsFor};
 ghost use Rattle.shore_log.specs.Settled.{IsSpelled, KnowsRoom, anchor_of, cut_of_log, records_of_log, stable};
 ghost use Rattle.laws_calls.specs.StateChanges.{IsPageFault, with_failure};
 ghost use Rattle.laws_calls.specs.States.{State};
@@ -47,6 +48,8 @@ pub struct World<L: Disk, V: Disk> {
     // A force takes no memory: the log buffer knows what the log device has room for, and brings what is lacking.
     ghost knows: { KnowsRoom log (told_of core) },
     ghost spelled: { IsSpelled log },
+    // Nor does a checkpoint that has begun: there is room aside for all that it still has to log.
+    ghost aside: { KeepsFor stage (told_of core) },
 }
 
 impl<L: Disk, V: Disk> World<L, V> {

@@ -1,13 +1,14 @@
 use Rattle.std.proofs.Common.{◌∙◌, ◌∷◌, [], ◌<◌, ap, refl, subst, sym, arith}
-use Rattle.std.specs.Prelude.{All, IsTrue}
+use Rattle.std.specs.Prelude.{All, IsTrue, length}
 use Rattle.shore_frames.specs.LoggedRecords.{are_numbered}
 use Rattle.shore_frames.proofs.LoggedLemmas.{test-AreNumbered}
 use Rattle.std.proofs.lemmas.List.Sorted.{All-permutation}
+use Rattle.shore_model.specs.declared.log_records.LogRecord.{LogRecord}
 use Rattle.shore_model.specs.declared.log_records.LogTxn.{LogTxn}
 use Rattle.shore_model.specs.declared.log_records.Payload.TheVariants.{CheckpointEnd}
-use Rattle.shore_logrec.specs.Text.{DirtyFits, TxnFits}
+use Rattle.shore_logrec.specs.Text.{DirtyFits, TxnFits, text}
 use Rattle.laws_checkpoints.specs.Checkpoints.{cut_point, of_checkpoint}
-use Rattle.shore_check.proofs.Costs.{whole_cost}
+use Rattle.shore_check.proofs.Costs.{end_text, whole_cost}
 use Rattle.shore_check.proofs.tables.begin.Goals as goal
 
 pub txns_fit-requires : goal.txns_fit-requires
@@ -54,6 +55,15 @@ new-requires-clause-fits c =
       omega arith,
       tt,
     ))
+
+pub new-requires-clause-costs : goal.new-requires-clause-costs
+new-requires-clause-costs c =
+    let txns = c.put_txns_in_order.new.txns.items in
+    let dirty = c.put_pages_in_order.new.dirty.items in
+    let costs = c.checkpoint_cost-cost.ensures.cost 0 0 0 txns dirty (omega (arith, c.len.ensures)) (omega (arith, c.len-2.ensures)) ∙ whole_cost 0 0 0 txns dirty in
+    let said = ap (λ ts. of_checkpoint (CheckpointEnd c.args.number c.args.next ts c.from_vec-2.result)) c.from_vec.ensures
+    ∙ ap (λ ds. of_checkpoint (CheckpointEnd c.args.number c.args.next txns ds)) c.from_vec-2.ensures in
+    omega (arith, costs, end_text c.args.number c.args.next txns dirty, ap (λ (r : LogRecord). length (text r)) said)
 
 pub returns : goal.returns
 returns c =

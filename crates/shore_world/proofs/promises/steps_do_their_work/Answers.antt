@@ -29,8 +29,8 @@ returns-clause-checkpoint c d w new o es ws step k one = checks w o es ws k step
 pub returns-clause-as_plain : goal.returns-clause-as_plain
 returns-clause-as_plain c d w new o es ws step k one = goes_plainly w o es ws k step new one
 
-pub returns-clause-move_takes_no_memory : goal.returns-clause-move_takes_no_memory
-returns-clause-move_takes_no_memory c d w new named step one at = one.no_memory tt named at
+pub returns-clause-begun_checkpoints_take_no_memory : goal.returns-clause-begun_checkpoints_take_no_memory
+returns-clause-begun_checkpoints_take_no_memory c d w new step one begun = one.no_memory tt begun
 
 pub returns-clause-forces_take_no_memory : goal.returns-clause-forces_take_no_memory
 returns-clause-forces_take_no_memory c d w new e step one is = one.force_no_memory is

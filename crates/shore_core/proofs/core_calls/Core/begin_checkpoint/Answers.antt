@@ -8,7 +8,9 @@ use Rattle.shore_types.specs.declared.faults.Fault.TheVariants as fault
 use Rattle.shore_model.specs.declared.calls.Answer.{Answer}
 use Rattle.shore_model.specs.declared.step.Step.TheVariants.{Done, Refused}
 use Rattle.shore_check.specs.Stages.{IsAt}
-use Rattle.shore_core.specs.Checkpointing.{with_store}
+use Rattle.shore_check.specs.declared.stage.Stage.{Stage}
+use Rattle.shore_core.specs.Checkpointing.{KeepsFor, with_store}
+use Rattle.shore_core.specs.Cores.{told_of}
 use Rattle.shore_core.proofs.core_calls.Core.begin_checkpoint.Goals as goal
 
 pub returns-in-Err-clause-step : goal.returns-in-Err-clause-step
@@ -61,3 +63,9 @@ pub returns-in-Ok-clause-roomy : goal.returns-in-Ok-clause-roomy
 returns-in-Ok-clause-roomy g c running tail place groups holds front disk before s store is safe over kept may n says =
     let b = c.in-Ok.ensures.begins running tail place groups holds front disk before s store is safe over kept may in
     (b.0, b.1, b.2, b.3)
+
+pub returns-in-Err-clause-aside : goal.returns-in-Err-clause-aside
+returns-in-Err-clause-aside g c keeps = subst (λ (x : Stage). KeepsFor x (told_of c.try_begin.new.self)) (sym c.requires) (omega (arith), omega (arith))
+
+pub returns-in-Ok-clause-aside : goal.returns-in-Ok-clause-aside
+returns-in-Ok-clause-aside g c keeps = c.in-Ok.ensures.aside keeps

@@ -12,7 +12,8 @@ use Rattle.laws_runs.specs.CheckpointSteps.{CheckpointMoves, awaited}
 use Rattle.shore_check.specs.declared.stage.Mark.{Mark}
 use Rattle.shore_core.specs.declared.checkpointing.CheckpointStep.TheVariants.{Made, Move}
 use Rattle.shore_core.proofs.CheckpointFull.{begins_from, begun_none, ended_none, full_none, made_is, no_move}
-use Rattle.shore_core.specs.Checkpointing.{MayGoOn, with_store}
+use Rattle.shore_core.specs.Checkpointing.{KeepsFor, MayGoOn, with_store}
+use Rattle.shore_core.specs.Cores.{told_of}
 use Rattle.shore_core.proofs.core_calls.Core.checkpoint_step.Goals as goal
 
 pub returns-then-self-clause-step : goal.returns-then-self-clause-step
@@ -164,3 +165,46 @@ returns-in-Some-clause-asked_for g c named at = inr (inr (_, refl))
 
 pub returns-in-None-clause-asked_for : goal.returns-in-None-clause-asked_for
 returns-in-None-clause-asked_for g c named at = inl refl
+
+-- ---- what is kept aside for it
+
+pub returns-in-Resting-clause-aside : goal.returns-in-Resting-clause-aside
+returns-in-Resting-clause-aside g c keeps kept = c.begin_checkpoint.ensures.aside keeps
+
+pub returns-in-Begun-clause-aside : goal.returns-in-Begun-clause-aside
+returns-in-Begun-clause-aside g c keeps kept = c.end_checkpoint.ensures.aside (subst (λ (x : Stage). KeepsFor x (told_of c.args.self.now)) (sym c.replace.ensures.value ∙ c.in-Begun.is) kept)
+
+pub returns-in-Ended-clause-aside : goal.returns-in-Ended-clause-aside
+returns-in-Ended-clause-aside g c keeps kept = c.name_checkpoint.ensures.aside (subst (λ (x : Stage). KeepsFor x (told_of c.args.self.now)) (sym c.replace.ensures.value ∙ c.in-Ended.is) kept)
+
+pub returns-in-Some-clause-aside : goal.returns-in-Some-clause-aside
+returns-in-Some-clause-aside g c keeps kept = (omega (arith), omega (arith))
+
+pub returns-in-None-clause-aside : goal.returns-in-None-clause-aside
+returns-in-None-clause-aside g c keeps kept = (omega (arith), omega (arith))
+
+pub returns-in-Resting-clause-idle : goal.returns-in-Resting-clause-idle
+returns-in-Resting-clause-idle g c kept begun = absurd (begun (sym c.replace.ensures.value ∙ c.in-Resting.is))
+
+pub returns-in-Begun-clause-idle : goal.returns-in-Begun-clause-idle
+returns-in-Begun-clause-idle g c kept begun is =
+    c.end_checkpoint.ensures.idle (subst (λ (x : Stage). KeepsFor x (told_of c.args.self.now)) (sym c.replace.ensures.value ∙ c.in-Begun.is) kept) (made_is _ _ is)
+
+pub returns-in-Ended-clause-idle : goal.returns-in-Ended-clause-idle
+returns-in-Ended-clause-idle g c kept begun is =
+    c.name_checkpoint.ensures.idle (subst (λ (x : Stage). KeepsFor x (told_of c.args.self.now)) (sym c.replace.ensures.value ∙ c.in-Ended.is) kept) (made_is _ _ is)
+
+pub returns-then-self-clause-idle : goal.returns-then-self-clause-idle
+returns-then-self-clause-idle g c kept begun is = absurd (other_fault is)
+  where
+    other_fault : Made (Refused fault.Failed) ≡ Made (Refused fault.Memory) → ⊥
+    other_fault is = cc
+
+pub returns-in-Some-clause-idle : goal.returns-in-Some-clause-idle
+returns-in-Some-clause-idle g c kept begun is = absurd (no_move _ _ is)
+
+pub returns-in-None-clause-idle : goal.returns-in-None-clause-idle
+returns-in-None-clause-idle g c kept begun is = absurd (not_nothing is)
+  where
+    not_nothing : Made Nothing ≡ Made (Refused fault.Memory) → ⊥
+    not_nothing is = cc

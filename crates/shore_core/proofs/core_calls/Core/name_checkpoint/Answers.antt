@@ -1,4 +1,4 @@
-use Rattle.std.proofs.Common.{◌≡◌, ◌+◌, ◌++◌, ◌∷◌, [], inl, inr, length, length-append, refl, sym, ap, subst, ◌∙◌, arith}
+use Rattle.std.proofs.Common.{IsOk, ◌≡◌, ◌+◌, ◌++◌, ◌∷◌, [], inl, inr, length, length-append, refl, sym, ap, subst, ◌∙◌, arith}
 use Rattle.laws_lives.specs.Views.{IsAmong}
 use Rattle.shore_model.specs.declared.log_records.Payload.TheVariants as payload
 use Rattle.laws_checkpoints.specs.Checkpoints.{cut_point, of_checkpoint}
@@ -10,6 +10,7 @@ use Rattle.shore_check.specs.declared.stage.Mark.{Mark}
 use Rattle.shore_check.specs.Stages.{IsNamed}
 use Rattle.shore_core.specs.Checkpointing.{with_store}
 use Rattle.shore_check.proofs.Costs.{anchor_is}
+use Rattle.shore_log.specs.declared.tail.Told.{Told}
 use Rattle.shore_core.specs.Cores.{control_of, durable_of, first_of, has_failed, waiting_of}
 use Rattle.shore_core.proofs.CheckpointSteps.{holds_owed, logged_step, same_step}
 use Rattle.shore_core.proofs.Tables.{next_is}
@@ -29,14 +30,14 @@ returns-then-not-holds-clause-step g c running front disk before s store is safe
     let owed = ap owed_to k.2 in
     absurd (true_false (sym (c.holds.ensures.1 (holds_owed c.args.self.now front disk before s store is may.room _ (omega arith) (omega (arith, owed)))) ∙ c.if-not-holds.true))
 
-pub push-requires-clause-previous : goal.push-requires-clause-previous
-push-requires-clause-previous g c = omega (arith, c.in-Some.ensures.none_before, c.args.self.now.some_number)
+pub push_kept-requires-clause-previous : goal.push_kept-requires-clause-previous
+push_kept-requires-clause-previous g c = omega (arith, c.in-Some.ensures.none_before, c.args.self.now.some_number)
 
 pub invariant_of-self : goal.invariant_of-self
 invariant_of-self g c =
     let old = c.args.self.now in
     let same = ap length c.in-Err.ensures.none_added in
-    let first = c.push.ensures.first in
+    let first = c.push_kept.ensures.first in
     record {
       some_number = omega (arith, same, first, old.some_number);
       forced = omega (arith, same, first, old.forced);
@@ -48,7 +49,7 @@ pub invariant_of-self-2 : goal.invariant_of-self-2
 invariant_of-self-2 g c =
     let old = c.args.self.now in
     let more = ap length c.in-Ok.ensures.added ∙ length-append (waiting_of old) (_ ∷ []) in
-    let risen : g.T.Tail.first c.push.new.self + length (g.T.Tail.records c.push.new.self) ≡ first_of old + length (waiting_of old) + 1 = omega (arith, more, c.push.ensures.first) in
+    let risen : g.T.Tail.first c.push_kept.new.self + length (g.T.Tail.records c.push_kept.new.self) ≡ first_of old + length (waiting_of old) + 1 = omega (arith, more, c.push_kept.ensures.first) in
     let holds = c.if-not-holds.ensures.0 refl in
     record {
       some_number = omega (arith, risen, old.some_number);
@@ -62,7 +63,7 @@ returns-in-Err-clause-step g c running front disk before s store is safe over ma
     let k = may.at in
     let works = is.beside.parts.failed_is ∙ running in
     let named = c.in-Some.ensures.is k.0 k.1 k.3 in
-    same_step c.args.self.now _ front disk before s store is over _ _ refl c.push.ensures.first c.in-Err.ensures.none_added refl refl refl
+    same_step c.args.self.now _ front disk before s store is over _ _ refl c.push_kept.ensures.first c.in-Err.ensures.none_added refl refl refl
     (inr (works, inl (c.in-Err.ensures.refused, omega (arith, named.0, ap awaited k.2, is.beside.parts.durable_is), refl))) k
 
 pub returns-clause-step : goal.returns-clause-step
@@ -75,10 +76,27 @@ returns-clause-step g c running front disk before s store is safe over may =
     let r = of_checkpoint (payload.Anchor k.0.begin (cut_point k.0)) in
     let number = c.in-Ok.ensures.number ∙ sym (next_is (control_of old) (waiting_of old) (durable_of old) (has_failed old) before s is.beside.parts (first_of old) is.beside.first 0) in
     let added = c.in-Ok.ensures.added ∙ ap (λ x. waiting_of old ++ x ∷ []) named.1 in
-    logged_step old _ front disk before s store is over r (AnchorLogged k.0 (next_number s)) _ _ refl c.push.ensures.first refl refl c.note_checkpoint.ensures.claims added refl
+    logged_step old _ front disk before s store is over r (AnchorLogged k.0 (next_number s)) _ _ refl c.push_kept.ensures.first refl refl c.note_checkpoint.ensures.claims added refl
     (c.note_checkpoint.ensures.stands s r is.beside.parts.stands refl (sym (anchor_is k.0.begin (cut_point k.0)))) (
       works,
       subst (λ (m : Mark). CheckpointAnswers (with_store s store) (Anchored m.checkpoint m.tail) (noted (with_store s store) r (AnchorLogged k.0 (next_number s)))) (sym mark)
           (k.0, k.1, k.2, omega (arith, named.0, is.beside.parts.durable_is), refl, refl, refl),
     )
     (k.0, next_number s, refl, subst (λ n. IsNamed k.0 n c.named.result) number (c.named.ensures k.0 k.1 k.3))
+
+-- ---- what is kept aside
+
+pub returns-in-Err-clause-idle : goal.returns-in-Err-clause-idle
+returns-in-Err-clause-idle g c keeps is = let clash = subst IsOk c.in-Err.is (c.push_kept.ensures.idle (omega (arith, keeps.0), omega (arith, keeps.1, c.in-Some.ensures.cost))) in absurd cc
+
+pub returns-in-Err-clause-aside : goal.returns-in-Err-clause-aside
+returns-in-Err-clause-aside g c keeps = let clash = subst IsOk c.in-Err.is (c.push_kept.ensures.idle (omega (arith, keeps.0), omega (arith, keeps.1, c.in-Some.ensures.cost))) in absurd cc
+
+pub returns-in-Err-clause-told : goal.returns-in-Err-clause-told
+returns-in-Err-clause-told g c = (ap (λ (t : Told). t.entries) c.push_kept.ensures.told, ap (λ (t : Told). t.texts) c.push_kept.ensures.told)
+
+pub returns-clause-told : goal.returns-clause-told
+returns-clause-told g c = (ap (λ (t : Told). t.entries) c.push_kept.ensures.told, ap (λ (t : Told). t.texts) c.push_kept.ensures.told)
+
+pub returns-clause-aside : goal.returns-clause-aside
+returns-clause-aside g c keeps = (omega (arith), omega (arith))

@@ -1,5 +1,4 @@
 use Rattle.std.proofs.Common.{◌≡◌, ◌+◌, ◌≤◌, ◌++◌, ◌∷◌, [], inl, inr, length, length-append, refl, sym, ap, subst, ◌∙◌, arith}
-use Rattle.shore_model.specs.declared.log_records.LogRecord.{LogRecord}
 use Rattle.shore_model.specs.declared.log_records.Payload.TheVariants.{CheckpointBegin}
 use Rattle.laws_lives.specs.Views.{IsAmong}
 use Rattle.laws_checkpoints.specs.Checkpoints.{of_checkpoint}
@@ -56,14 +55,11 @@ returns-then-not-admits_checkpoint-clause-begins g c running tail place groups h
       over,
     )
 
-pub push-requires-clause-previous : goal.push-requires-clause-previous
-push-requires-clause-previous g c = omega (arith, ap (λ (r : LogRecord). r.previous) c.begin_record.ensures.is, c.args.self.now.some_number)
-
 pub invariant_of-self : goal.invariant_of-self
 invariant_of-self g c =
     let old = c.args.self.now in
     let same = ap length c.in-Err.ensures.none_added in
-    let first = c.push.ensures.first in
+    let first = c.push_begin.ensures.first in
     record {
       some_number = omega (arith, same, first, old.some_number);
       forced = omega (arith, same, first, old.forced);
@@ -74,7 +70,7 @@ invariant_of-self g c =
 pub returns-in-Err-clause-begins : goal.returns-in-Err-clause-begins
 returns-in-Err-clause-begins g c running tail place groups holds front disk before s store is safe over kept may = (
   inl c.in-Err.ensures.refused,
-  in_lacking c.args.self.now _ front disk before s store refl c.push.ensures.first c.in-Err.ensures.none_added refl refl refl is.beside.parts.stands is,
+  in_lacking c.args.self.now _ front disk before s store refl c.push_begin.ensures.first c.in-Err.ensures.none_added refl refl refl is.beside.parts.stands is,
   over_as c.args.self.now _ disk s s store refl refl refl refl over,
 )
 
@@ -88,7 +84,7 @@ pub invariant_of-self-2 : goal.invariant_of-self-2
 invariant_of-self-2 g c =
     let old = c.args.self.now in
     let more = ap length c.in-Ok.ensures.added ∙ length-append (waiting_of old) (_ ∷ []) in
-    let risen : g.T.Tail.first c.push.new.self + length (g.T.Tail.records c.push.new.self) ≡ first_of old + length (waiting_of old) + 1 = omega (arith, more, c.push.ensures.first) in
+    let risen : g.T.Tail.first c.push_begin.new.tail + length (g.T.Tail.records c.push_begin.new.tail) ≡ first_of old + length (waiting_of old) + 1 = omega (arith, more, c.push_begin.ensures.first) in
     let admitted = subst (λ (x : LogRoom). AdmitsCheckpoint x c.cost.result c.cost_below-freed.result) (sums_are c.args.self.now c.sums.result c.sums.ensures.kept c.sums.ensures.reserved c.sums.ensures.stream c.sums.ensures.last) (c.admits_checkpoint.ensures.0 c.if-not-admits_checkpoint.false) in
     let room = room_in (txns_of old) in
     let numbers = admitted.numbers in
@@ -114,7 +110,7 @@ returns-clause-begins g c running tail place groups holds front disk before s st
     let admitted = subst (λ (x : LogRoom). AdmitsCheckpoint x c.cost.result c.cost_below-freed.result) (sums_are c.args.self.now c.sums.result c.sums.ensures.kept c.sums.ensures.reserved c.sums.ensures.stream c.sums.ensures.last) (c.admits_checkpoint.ensures.0 c.if-not-admits_checkpoint.false) in
     let number = c.in-Ok.ensures.number ∙ sym (next_is (control_of old) (waiting_of old) (durable_of old) (has_failed old) before s is.beside.parts (first_of old) is.beside.first 0) ∙ sym k.1.begin in
     let r = of_checkpoint CheckpointBegin in
-    let added = c.in-Ok.ensures.added ∙ ap (λ x. waiting_of old ++ x ∷ []) c.begin_record.ensures.is in (
+    let added = c.in-Ok.ensures.added in (
       k.0,
       frees.0,
       record { now = counts_on c.args.log.now s store k.0 may.in_order kept k.1 frees.0 c.cost_below-freed.result found; before = frees.2.0; below = subst (λ n. AreBelow tail groups n frees.2.0 frees.0) mark frees.2.1 },
@@ -122,7 +118,12 @@ returns-clause-begins g c running tail place groups holds front disk before s st
           (subst (AdmitsCheckpoint (log_room s) c.cost.result) freed (admits_as old before s front disk is c.cost.result c.cost_below-freed.result admitted)),
       number,
       k.2,
-      in_logged old _ front disk before s (with_record r s) store is over refl c.push.ensures.first refl refl c.note_checkpoint.ensures.claims (λ p. refl) r added
+      in_logged old _ front disk before s (with_record r s) store is over refl c.push_begin.ensures.first refl refl c.note_checkpoint.ensures.claims (λ p. refl) r added
           (c.note_checkpoint.ensures.stands s r is.beside.parts.stands refl refl) refl refl refl,
       over_noted old _ disk s store r (BeginLogged k.0) refl refl over,
     )
+
+-- ---- what is kept aside
+
+pub returns-clause-aside : goal.returns-clause-aside
+returns-clause-aside g c keeps = c.in-Ok.ensures.aside keeps

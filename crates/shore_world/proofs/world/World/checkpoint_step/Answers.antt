@@ -4,19 +4,20 @@ use Rattle.shore_types.specs.declared.layout.Geometry.{Geometry}
 use Rattle.shore_disk.specs.Device.{LeavesOnly}
 use Rattle.shore_model.specs.declared.log_records.LogRecord.{LogRecord}
 use Rattle.shore_model.specs.declared.step.Step.{Step}
-use Rattle.shore_model.specs.declared.step.Step.TheVariants.{Nothing, Refused}
+use Rattle.shore_model.specs.declared.step.Step.TheVariants.{Refused}
 use Rattle.shore_check.specs.declared.stage.Mark.{Mark}
+use Rattle.shore_check.specs.declared.stage.Stage.{Stage}
 use Rattle.shore_frames.specs.declared.reading.FrameAt.{FrameAt}
 use Rattle.shore_log.specs.Settled.{IsLeftByMove, cut_of_log, next_anchor, records_of_log, stable}
 use Rattle.shore_log.specs.declared.device.LogDev.{LogDev}
 use Rattle.shore_core.specs.declared.checkpointing.CheckpointStep.{CheckpointStep}
 use Rattle.shore_core.specs.declared.checkpointing.CheckpointStep.TheVariants.{Made, Move}
-use Rattle.shore_core.specs.Checkpointing.{IsFullFor, IsRoomyFor}
+use Rattle.shore_core.specs.Checkpointing.{IsFullFor, IsRoomyFor, KeepsFor}
 use Rattle.shore_core.specs.Cores.{IsIn, IsOver, IsSafe, durable_of, geometry_of, heap_of, told_of, waiting_of}
 use Rattle.shore_core.proofs.CheckpointFull.{made_is}
 use Rattle.shore_world.specs.declared.event.Event.TheVariants as event
 use Rattle.shore_world.specs.Worlds.{EventMovesWorld, anchors_in, durable_in, failed_in, history_in, list_in}
-use Rattle.shore_world.proofs.KnownRooms.{knows_as}
+use Rattle.shore_world.proofs.KnownRooms.{knows_alike, knows_as}
 use Rattle.shore_world.proofs.LogParts.{in_same}
 use Rattle.shore_world.proofs.WorldLemmas.{length-stable}
 use Rattle.shore_world.proofs.MadeSteps.{each_begin, made_moves}
@@ -51,8 +52,10 @@ invariant_of-self-in-Ok g c =
       numbers = omega (arith, k.first, m.first, old.numbers, ap length lost.records, fewer, lost.rises, lost.last, length-stable old.log, old.log.forced_inside);
       durable_agrees = omega (arith, k.durable, m.durable, old.durable_agrees, lost.last);
       ring = omega (arith, old.ring, k.ring, m.ring, a.size);
-      knows = knows_as log (told_of old.core) (told_of c.moved.new.self) (k.told ∙ m.told) (a.knows (told_of old.core) old.knows);
+      knows = knows_as log (told_of c.checkpoint_step-made.new.self) (told_of c.moved.new.self) k.told
+          (knows_alike log (told_of old.core) (told_of c.checkpoint_step-made.new.self) m.told (a.knows (told_of old.core) old.knows));
       spelled = a.spelled old.spelled;
+      aside = subst (λ (x : Stage). KeepsFor x (told_of c.moved.new.self)) (sym k.resting) (omega (arith), omega (arith));
     }
 
 pub returns-in-Made-clause-moves : goal.returns-in-Made-clause-moves
@@ -149,21 +152,16 @@ returns-in-Err-clause-unmoved g c =
     let of = (c.in-Move.ensures.asked c.in-Move.mark refl).2 in
     inr (there_is_next c.args.self.now c.in-Move.mark of.0 of.1 of.2 of.3)
 
--- ---- the move takes no memory
-
-no_memory_of : (made : CheckpointStep) (step : Step) → made ≡ Made step → (made ≡ Made Nothing) ⊎ ((made ≡ Made (Refused fault.Failed)) ⊎ ((mark : Mark) × (made ≡ Move mark))) → step ≡ Refused fault.Memory → ⊥
-no_memory_of made step is (inl nothing) memory = let clash = sym memory ∙ made_is _ _ (sym is ∙ nothing) in absurd cc
-no_memory_of made step is (inr (inl failed)) memory = let clash = sym memory ∙ made_is _ _ (sym is ∙ failed) in absurd cc
-no_memory_of made step is (inr (inr (mark, move))) memory = let clash = sym is ∙ move in absurd cc
+-- ---- a checkpoint that has begun takes no memory
 
 pub returns-in-Made-clause-no_memory : goal.returns-in-Made-clause-no_memory
-returns-in-Made-clause-no_memory g c named at memory = no_memory_of (Made c.in-Made.step) c.in-Made.step refl (c.in-Made.ensures.asked_for named at) memory
+returns-in-Made-clause-no_memory g c begun memory = c.in-Made.ensures.idle c.args.self.now.aside begun (ap Made memory)
 
 pub returns-then-not-may_move-clause-no_memory : goal.returns-then-not-may_move-clause-no_memory
-returns-then-not-may_move-clause-no_memory g c named at memory = absurd cc
+returns-then-not-may_move-clause-no_memory g c begun memory = absurd cc
 
 pub returns-in-Ok-clause-no_memory : goal.returns-in-Ok-clause-no_memory
-returns-in-Ok-clause-no_memory g c named at memory = let clash = sym c.moved.ensures.moved ∙ memory in absurd cc
+returns-in-Ok-clause-no_memory g c begun memory = let clash = sym c.moved.ensures.moved ∙ memory in absurd cc
 
 pub returns-in-Err-clause-no_memory : goal.returns-in-Err-clause-no_memory
-returns-in-Err-clause-no_memory g c named at memory = let clash = sym (ap Refused c.in-Err.ensures.only_device) ∙ sym c.refuse.ensures.refused ∙ memory in absurd cc
+returns-in-Err-clause-no_memory g c begun memory = let clash = sym (ap Refused c.in-Err.ensures.only_device) ∙ sym c.refuse.ensures.refused ∙ memory in absurd cc

@@ -16,7 +16,7 @@ use Rattle.shore_core.specs.Cores.{told_of, waiting_of}
 use Rattle.shore_core.proofs.LearningRoom.{in_learned, over_learned}
 use Rattle.shore_world.specs.declared.event.Event.TheVariants.{ForceOpen}
 use Rattle.shore_world.specs.Worlds.{before_in}
-use Rattle.shore_world.proofs.KnownRooms.{knows_as}
+use Rattle.shore_world.proofs.KnownRooms.{keeps_as, knows_as}
 use Rattle.shore_world.proofs.LogParts.{in_same, log_long}
 use Rattle.shore_world.proofs.RunLemmas.{open_is_no_flush}
 use Rattle.shore_world.proofs.UnchangedLemmas.{unchanged_parts}
@@ -38,6 +38,7 @@ invariant_of-self-2 g c =
       knows = c.learn_left.ensures.knows
           (knows_as c.open_staged.new.self (told_of old.core) (told_of c.told.new.self) (ap (λ (x : PlainTail). told_in x) t.tail) (o.knows (told_of old.core) old.knows));
       spelled = o.spelled old.spelled;
+      aside = keeps_as old.stage (told_of old.core) (told_of c.learn_left.new.self) (c.learn_left.ensures.aside ∙ ap (λ (x : PlainTail). (told_in x).aside) t.tail) old.aside;
     }
 
 pub returns-then-has_failed-clause-moves : goal.returns-then-has_failed-clause-moves

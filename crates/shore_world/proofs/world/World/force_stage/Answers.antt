@@ -17,6 +17,7 @@ use Rattle.shore_world.specs.declared.world.World.{World}
 use Rattle.shore_world.specs.Worlds.{IsInState, IsOverStore, anchor_in, cut_in, durable_in, failed_in, forced_in, list_in}
 use Rattle.shore_world.proofs.LogParts.{gone_long, in_at, in_same, log_long}
 use Rattle.shore_world.proofs.RunLemmas.{stage_is_no_flush}
+use Rattle.shore_world.proofs.KnownRooms.{keeps_as}
 use Rattle.shore_world.proofs.UnchangedLemmas.{unchanged_itself, unchanged_of}
 use Rattle.shore_world.proofs.WorldLemmas.{LogMoves, SameCheckpoint, failed_runs, force_moves, handed, has_staged, is_some_and, length-stable, none_staged, not_left, nothing_done, ready_settled, staging}
 use Rattle.shore_restart.proofs.Rooms.{cost_append, frame_has_room}
@@ -35,6 +36,7 @@ invariant_of-self g c =
       ring = omega (arith, old.ring, h.ring, ap (λ d. size (g.L.Disk.history d)) h.still.0, st.size);
       knows = st.knows (told_of c.hand_over.new.self) h.knows;
       spelled = st.spelled h.spelled;
+      aside = keeps_as old.stage (told_of old.core) (told_of c.hand_over.new.self) h.aside old.aside;
     }
 
 pub returns-then-has_failed-clause-moves : goal.returns-then-has_failed-clause-moves

@@ -1,4 +1,4 @@
-use Rattle.std.proofs.Common.{◌≡◌, ◌-◌, inl, inr, ℕ, List, Err, arith, IsTrue, length, take, refl, sym, ◌∙◌, ap, subst}
+use Rattle.std.proofs.Common.{◌≡◌, ◌-◌, inl, inr, ℕ, List, Err, Ok, arith, IsTrue, length, take, refl, sym, ◌∙◌, ap, subst}
 use Rattle.shore_types.specs.Layout.{LocksInLimits}
 use Rattle.shore_types.specs.declared.faults.Device.TheVariants.{Log as DeviceLog}
 use Rattle.shore_types.specs.declared.faults.Fault.TheVariants.{Damaged}
@@ -61,6 +61,7 @@ invariant_of-result g c =
       ring = omega (arith, e.ring, log.as_long, ap (λ (t : Control). (room_in (txns_in t)).stream_bytes) same.control);
       knows = c.learn_room.ensures.knows e.waiting (e.spelled c.in-Ok-open.ensures.none_waits.0);
       spelled = e.spelled c.in-Ok-open.ensures.none_waits.0;
+      aside = (omega (arith), omega (arith));
     }
 
 pub returns-in-Ok-restart-clause-fronts : goal.returns-in-Ok-restart-clause-fronts
@@ -481,6 +482,23 @@ returns-clause-refused g c of_log of_volume = elim (outside_or_not c.fault_of-fa
         })),
       ))
 ]
+
+pub returns-in-Ok-restart-clause-cause : goal.returns-in-Ok-restart-clause-cause
+returns-in-Ok-restart-clause-cause g c =
+    let both = pair_still_after c.read_fronts.result c.in-Ok.fronts _ _ _ _ c.in-Ok.is c.read_fronts.ensures.cause in
+    let log_same : g.L.Disk.faults c.in-Ok-open.log.device ≡ g.L.Disk.faults c.args.log =
+    ap (λ r. g.L.Disk.faults (device_of r)) (sym c.in-Ok-open.is) ∙ still_after (fault_of c.open.result) c.in-Ok-open.log _ _ (ap fault_of c.in-Ok-open.is) c.open.ensures.cause ∙ both.0 in
+    let heap_same : heaps.faults_of c.in-Ok-open_volume.heap ≡ g.V.Disk.faults c.args.volume =
+    ap (λ r. g.V.Disk.faults (volumes.volume_of r)) (sym c.in-Ok-open_volume.is) ∙ still_after (volumes.fault_of_volume c.open_volume.result) c.in-Ok-open_volume.heap _ _ (ap volumes.fault_of_volume c.in-Ok-open_volume.is) c.open_volume.ensures.cause ∙ both.1 in
+    let e = c.in-Ok-restart.ensures in
+    let log : g.L.Disk.faults c.restart.new.log.device ≡ g.L.Disk.faults c.args.log = still_after (Ok tt) tt _ _ refl e.log_cause ∙ log_same in
+    let volume : heaps.faults_of c.learn_room.new.self.heap ≡ g.V.Disk.faults c.args.volume = ap heaps.faults_of c.learn_room.ensures.same.heap ∙ still_after (Ok tt) tt _ _ refl e.volume_cause ∙ heap_same in
+    record {
+      log_no_lower = omega (arith, log);
+      volume_no_lower = omega (arith, volume);
+      reported = λ failed. let clash = failed in absurd cc;
+      unreported = λ other. (log, volume);
+    }
 
 pub returns-clause-cause : goal.returns-clause-cause
 returns-clause-cause g c =
