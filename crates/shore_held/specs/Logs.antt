@@ -1,5 +1,5 @@
 -- What is kept of the log device under its lock, and what contracts see of it.
-use Rattle.std.specs.Prelude.{◌≡◌, ◌⊎◌, ◌+◌, ◌-◌, ◌≤◌, ◌<◌, ◌++◌, Bool, List, None, Option, Some, ℕ, drop, false, length, take}
+use Rattle.std.specs.Prelude.{◌≡◌, ◌⊎◌, ◌+◌, ◌-◌, ◌≤◌, ◌<◌, ◌++◌, Bool, List, None, Option, Some, ℕ, drop, false, length, take, true}
 use Rattle.std.specs.Global.{Vec}
 use Rattle.shore_types.specs.declared.layout.Geometry.{Geometry}
 use Rattle.shore_types.specs.declared.layout.TheConstants.{FRAME_SHARE, LOG_FRONT_BYTES}
@@ -15,6 +15,9 @@ use Rattle.laws_checkpoints.specs.Checkpoints.{Anchored}
 use Rattle.laws_images.specs.StandsBehind.{anchored_by}
 use Rattle.shore_log.specs.declared.device.LogDev.{LogDev}
 use Rattle.shore_log.specs.declared.device.Staged.{Staged}
+use Rattle.shore_log.specs.Told.{aside_for}
+use Rattle.shore_log.specs.declared.tail.Aside.{Aside}
+use Rattle.shore_log.specs.declared.tail.Told.{Told}
 use Rattle.shore_log.specs.Settled.{IsAnchored, IsLeftByMove, anchor_of, cut_of_log, next_anchor, records_of_log, stable}
 use Rattle.shore_words.specs.declared.rule.Known.{Known}
 use Rattle.shore_world.specs.Labels.{IsLogFront}
@@ -43,6 +46,8 @@ pub record LogState : Type 0 where
   pub free : ℕ
   -- how many of those that wait for a force have no text there yet: they did not come through the queue
   pub textless : ℕ
+  -- what the log buffer keeps aside that is handed out with the log device
+  pub aside : Aside
   -- how many failures its device has told, and its calls
   pub faults : ℕ
   pub history : DeviceHistory
@@ -60,6 +65,11 @@ free_of log = log.tail.place + log.stream_bytes - log.head
 abbrev pub textless_of : Option (Vec LogRecord) → ℕ → ℕ
 textless_of None waiting = 0
 textless_of (Some read) waiting = waiting
+
+-- what is kept aside, as soon as that log buffer knows the log device
+abbrev pub aside_of : Bool → Told → Aside
+aside_of true told = told.aside
+aside_of false told = aside_for 0 0
 
 -- what it took in and is not durable: the next frames have that
 abbrev pub unforced_in : LogState → List LogRecord

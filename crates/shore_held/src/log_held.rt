@@ -1,23 +1,24 @@
 //! What lies under the log device's lock.
-ghost use Rattle.std.specs.Prelude.{◌≡◌, ◌≢◌, ◌⊎◌, ◌↔◌, ◌≤◌, ◌<◌, ◌+◌, ◌-◌, [], ◌++◌, length, take, ℕ, List, IfErr, IsTrue, OnErr, OnOk, Ok, Err, false, true};
+ghost use Rattle.std.specs.Prelude.{◌≡◌, ◌≢◌, ◌⊎◌, ◌↔◌, ◌≤◌, ◌<◌, ◌+◌, ◌-◌, ◌^◌, [], ◌++◌, length, take, ℕ, List, IfErr, IsTrue, OnErr, OnOk, Ok, Err, false, true};
 ghost use Rattle.std.specs.Arc.{arc_value};
 ghost use Rattle.crossbeam_queue.specs.SegTies.{IsSegPassOf};
 ghost use Rattle.shore_types.specs.declared.faults.Fault.TheVariants as Fault;
 ghost use Rattle.shore_types.specs.declared.layout.TheConstants.{LAST_OPENED};
 ghost use Rattle.shore_disk.specs.Cause.{HasCause};
 ghost use Rattle.shore_disk.specs.Device as devices;
-ghost use Rattle.shore_log.specs.PlainTails.{first_of, waiting_in};
-ghost use Rattle.shore_log.specs.Settled.{IsSpelled, cut_of_log, records_of_log, stable};
+ghost use Rattle.shore_log.specs.PlainTails.{first_of, told_in, waiting_in};
+ghost use Rattle.shore_log.specs.Settled.{IsSpelled, KnowsRoom, cut_of_log, records_of_log, stable};
+ghost use Rattle.shore_log.specs.Told.{KeepsAside, aside_for};
 ghost use Rattle.shore_model.specs.declared.log_records.LogRecord.{LogRecord};
 ghost use Rattle.shore_queue.specs.Queues.{ends};
 ghost use Rattle.shore_words.specs.Words.{known, looker};
 ghost use Rattle.shore_held.specs.Comings.{Beginning};
-ghost use Rattle.shore_held.specs.Logs.{Follows, HasNoPlace, IsKept, LeavesHeld, LeavesStable, LogState, count_of, free_of, textless_of};
+ghost use Rattle.shore_held.specs.Logs.{Follows, HasNoPlace, IsKept, LeavesHeld, LeavesStable, LogState, aside_of, count_of, free_of, textless_of};
 
 use crate::names::Named;
 use crate::seat::Seat;
 use shore_disk::Disk;
-use shore_log::{LogDev, PlainTail};
+use shore_log::{LogDev, PlainTail, Tail};
 use shore_queue::{Channel, Numbers, QueuePass, receive};
 use shore_types::{Fault, Lsn};
 use shore_words::Words;
@@ -33,8 +34,10 @@ pub struct LogHeld<N: Numbers, B: Named, L: Disk> {
     // The queue, and the end that receives.
     pub(crate) channel: Arc<Channel<N>, Global>,
     pub(crate) pass: QueuePass,
-    // What came through the queue and was not taken in yet: an allocation failed.
+    // What came through the queue and was not taken in yet: an allocation failed. At the end it is the log buffer of the log device.
     pub(crate) next: PlainTail,
+    // Whether it knows as that what there is room for.
+    pub(crate) ready: bool,
     // The seat that tells how far the log is durable, and knows the anchor.
     pub(crate) seat: Seat<B>,
     // Whether the device has failed.
@@ -45,7 +48,7 @@ pub struct LogHeld<N: Numbers, B: Named, L: Disk> {
 impl<N: Numbers, B: Named, L: Disk> Model for LogHeld<N, B, L> {
     ghost Value = { LogState };
 
-    ghost view = { λ h. record { anchors = h.log.anchors; cut = cut_of_log h.log; list = records_of_log h.log ++ waiting_in h.next; waits = waiting_in h.next; stable = stable h.log; staged = count_of h.log.staged; got = h.pass.me.view.client.got; met = h.pass.me.view.client.sent; told = h.seat.told; aim = h.seat.anchor.aim; failed = h.failed; free = free_of h.log; textless = textless_of h.log.read (h.log.count - h.log.forced); faults = L.Disk.faults h.log.device; history = L.Disk.history h.log.device } };
+    ghost view = { λ h. record { anchors = h.log.anchors; cut = cut_of_log h.log; list = records_of_log h.log ++ waiting_in h.next; waits = waiting_in h.next; stable = stable h.log; staged = count_of h.log.staged; got = h.pass.me.view.client.got; met = h.pass.me.view.client.sent; told = h.seat.told; aim = h.seat.anchor.aim; failed = h.failed; free = free_of h.log; textless = textless_of h.log.read (h.log.count - h.log.forced); aside = aside_of h.ready (told_in h.next); faults = L.Disk.faults h.log.device; history = L.Disk.history h.log.device } };
 
     ghost invariant = { λ h. ((arc_value h.channel).queue ≡ B.queue) × IsSegPassOf B.queue h.pass × (h.pass.me.view.client ≡ ends false true h.pass.me.view.client.sent h.pass.me.view.client.got)
         × Follows B.cut B.before h.pass.me.view.client.got (cut_of_log h.log) (records_of_log h.log ++ waiting_in h.next)
@@ -53,7 +56,8 @@ impl<N: Numbers, B: Named, L: Disk> Model for LogHeld<N, B, L> {
         × (h.seat.tells ≡ true) × (h.seat.anchor ≡ record { checkpoint = h.log.anchors.anchor.checkpoint; tail = h.log.anchors.anchor.tail; aim = h.seat.anchor.aim }) × (h.seat.told ≤ cut_of_log h.log + length (stable h.log))
         × (devices.size (L.Disk.history h.log.device) ≡ B.log_bytes)
         × ((start : Beginning) → B.honest start → ∥ IsKept B.geometry B.log_bytes h.log h.failed h.seat.anchor.aim ∥₁)
-        × (h.failed ≡ false → h.seat.anchor.aim ≡ (0, 0)) };
+        × (h.failed ≡ false → h.seat.anchor.aim ≡ (0, 0))
+        × (h.ready ≡ true → KnowsRoom h.log (told_in h.next)) };
 }
 
 impl<N: Numbers, B: Named, L: Disk> LogHeld<N, B, L> {
@@ -79,6 +83,7 @@ impl<N: Numbers, B: Named, L: Disk> LogHeld<N, B, L> {
             channel,
             pass,
             next,
+            ready: false,
             seat,
             failed: false,
             of: PhantomData,
@@ -97,6 +102,7 @@ impl<N: Numbers, B: Named, L: Disk> LogHeld<N, B, L> {
         ensures taken { OnOk result (self.new.waits ≡ []) }
         ensures only_memory { IfErr result (λ fault. fault ≡ Fault.Memory) }
     {
+        self.ready = false;
         self.log.take_in(&mut self.next)?;
         match receive(rt, &self.channel.queue, &mut self.pass) {
             Some(records) => {
@@ -286,15 +292,44 @@ impl<N: Numbers, B: Named, L: Disk> LogHeld<N, B, L> {
         self.failed
     }
 
-    /// The log device.
-    pub fn into_log(self) -> LogDev<L>
-        ensures log { (result.anchors ≡ self.anchors) × (cut_of_log result ≡ self.cut) × (stable result ≡ self.stable) × (self.list ≡ records_of_log result ++ self.waits)
-            × (L.Disk.history result.device ≡ self.history) }
-        ensures long { devices.size (L.Disk.history result.device) ≡ B.log_bytes }
-        ensures spelled { self.textless ≡ 0 → IsSpelled result }
-        ensures kept { (start : Beginning) → B.honest start → ∥ IsKept B.geometry B.log_bytes result self.failed self.aim ∥₁ }
+    /// Keeps room aside for so many records with so many bytes of texts in all, in the log buffer that `into_log` hands out. `Memory` if an allocation failed. All else stays.
+    pub fn keep_aside(&mut self, records: usize, bytes: usize) -> Result<(), Fault>
+        requires few { (records < 2 ^ 30) × (bytes < 2 ^ 30) }
+        requires taken { self.old.waits ≡ [] }
+        requires texts { self.old.textless ≡ 0 }
+        ensures kept { OnOk result (self.new.aside ≡ aside_for records bytes) }
+        ensures same { self.new ≡ record self.old { aside = self.new.aside } }
+        ensures refused { IfErr result (λ fault. fault ≡ Fault.Memory) }
     {
-        self.log
+        self.ready = false;
+        self.log.tell_room(&mut self.next);
+        self.next.keep_aside(records, bytes)?;
+        self.ready = true;
+        Ok(())
+    }
+
+    /// The log device, and a log buffer for one caller that goes with it: it has what was not taken in, and keeps room aside as it was told.
+    pub fn into_log(self) -> (LogDev<L>, PlainTail)
+        ensures log { (result.0.anchors ≡ self.anchors) × (cut_of_log result.0 ≡ self.cut) × (stable result.0 ≡ self.stable) × (self.list ≡ records_of_log result.0 ++ self.waits)
+            × (L.Disk.history result.0.device ≡ self.history) }
+        ensures long { devices.size (L.Disk.history result.0.device) ≡ B.log_bytes }
+        ensures spelled { self.textless ≡ 0 → IsSpelled result.0 }
+        ensures kept { (start : Beginning) → B.honest start → ∥ IsKept B.geometry B.log_bytes result.0 self.failed self.aim ∥₁ }
+        ensures waits { (waiting_in result.1 ≡ self.waits) × (first_of result.1 ≡ cut_of_log result.0 + 1 + length (records_of_log result.0)) }
+        ensures knows { self.waits ≡ [] → self.textless ≡ 0 → KnowsRoom result.0 (told_in result.1) }
+        ensures aside { KeepsAside (told_in result.1) self.aside.records self.aside.bytes }
+    {
+        let LogHeld {
+            log,
+            mut next,
+            ready,
+            ..
+        } = self;
+        if ready {
+            return (log, next);
+        }
+        log.tell_room(&mut next);
+        (log, next)
     }
 }
 

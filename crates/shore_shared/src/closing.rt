@@ -1,5 +1,7 @@
 //! The end of a manager for threads: its parts are a world again, or its devices are handed back.
 ghost use Rattle.std.specs.Prelude.{◌≡◌, ◌≢◌, ◌⊎◌, ◌≤◌, ◌<◌, ◌+◌, ◌++◌, ◌∷◌, ℕ, [], All, List, IfErr, IfOk, IsTrue, OnOk, length, map, sum, true, vec_len};
+ghost use Rattle.shore_check.specs.Stages.{bytes_to_log, records_to_log};
+ghost use Rattle.shore_log.specs.Told.{aside_for};
 ghost use Rattle.shore_core.specs.Cores.{durable_of, has_failed, last_of, waiting_of};
 ghost use Rattle.shore_types.specs.declared.faults.Fault.TheVariants as Fault;
 ghost use Rattle.shore_model.specs.declared.log_records.LogRecord.{LogRecord};
@@ -20,7 +22,7 @@ use crate::shared::Shared;
 use crate::turns::take_all;
 use shore_disk::Disk;
 use shore_held::{CoreHeld, LogHeld, Named, meeting};
-use shore_log::{PlainTail, Tail};
+use shore_log::Tail;
 use shore_queue::{Numbers, QueueTail};
 use shore_types::{Fault, Lsn};
 use shore_words::Words;
@@ -41,7 +43,6 @@ impl<N: Numbers, B: Named, R: Wait + Copy, L: Disk, V: Disk> Shared<
     pub fn into_world(
         self,
         rt: &R,
-        alloc: Global,
         sessions: Vec<Session<B>>,
     ) -> Result<World<L, V>, (Fault, Self, Vec<Session<B>>)>
         requires { B.all ≡ B.parts }
@@ -66,9 +67,7 @@ impl<N: Numbers, B: Named, R: Wait + Copy, L: Disk, V: Disk> Shared<
         let none = core.none();
         let calls = gathered(&words, &mut core, &mut held, none, sessions);
         let (core, stage) = core.into_core(calls);
-        let log = held.into_log();
-        let mut tail = PlainTail::new(alloc, Lsn(core.last().0 + 1));
-        log.tell_room(&mut tail);
+        let (log, tail) = held.into_log();
         let (core, _) = core.with_tail(tail);
         Ok(World::from_parts(core, log, stage, report))
     }
@@ -91,7 +90,8 @@ impl<N: Numbers, B: Named, R: Wait + Copy, L: Disk, V: Disk> Shared<
         drop(gathered(&words, &mut core, &mut held, none, sessions));
         // Its contract says what a loss of power leaves of the log device, failed or not.
         held.has_failed();
-        let log = held.into_log().into_device();
+        let (log, _) = held.into_log();
+        let log = log.into_device();
         (log, core.into_volume(alloc))
     }
 }
@@ -172,7 +172,7 @@ fn note_failure<N: Numbers, B: Named, T: Tail, L: Disk, V: Disk>(
     }
 }
 
-// All that is queued is taken in, and the core learns what is durable, and of a failure of the log device. The locks are not needed: nobody shares the two any more.
+// All that is queued is taken in, and the core learns what is durable, and of a failure of the log device; and room is kept aside for what a checkpoint under way has to log still. The locks are not needed: nobody shares the two any more.
 fn end<N: Numbers, B: Named, R: Wait + Copy, L: Disk, V: Disk>(
     rt: &R,
     words: &Words,
@@ -189,6 +189,7 @@ fn end<N: Numbers, B: Named, R: Wait + Copy, L: Disk, V: Disk>(
     ensures durable { IfOk result (λ _. (durable_of core.new.core ≡ held.new.cut + length held.new.stable) × (held.new.told ≡ durable_of core.new.core)) }
     ensures anchor { IfOk result (λ _. core.new.seat.kept ≡ known_in held.new) }
     ensures failed { IfOk result (λ _. IsTrue held.new.failed → IsTrue (has_failed core.new.core)) }
+    ensures aside { IfOk result (λ _. held.new.aside ≡ aside_for (records_to_log core.new.stage) (bytes_to_log core.new.stage)) }
     ensures refused { IfErr result (λ fault. ((fault ≡ Fault.NotQuiet) × (core.old.made ≢ sessions)) ⊎ (fault ≡ Fault.Memory)) }
 {
     if core.sessions() as usize != sessions {
@@ -203,5 +204,6 @@ fn end<N: Numbers, B: Named, R: Wait + Copy, L: Disk, V: Disk>(
     let mut reader = core.seat(words);
     meeting(words, core, held, &mut reader);
     core.learn(told);
+    core.keep_aside(held)?;
     Ok(())
 }

@@ -3,6 +3,7 @@ ghost use Rattle.std.specs.Prelude.{◌≡◌, ◌⊎◌, ◌<◌, ◌+◌, List
 ghost use Rattle.std.specs.Arc.{arc_value};
 ghost use Rattle.crossbeam_queue.specs.SegTies.{IsSegPassOf};
 ghost use Rattle.shore_check.specs.declared.stage.Stage.{Stage};
+ghost use Rattle.shore_core.specs.Checkpointing.{KeepsFor};
 ghost use Rattle.shore_core.specs.Cores.{durable_of, first_of, geometry_of, has_failed, told_of, txns_of, waiting_of};
 ghost use Rattle.shore_disk.specs.Device.{size};
 ghost use Rattle.shore_txn.specs.Transactions.{room_in};
@@ -54,6 +55,7 @@ pub struct Opened<L: Disk, V: Disk> {
     ghost ring: { (room_in (txns_of core)).stream_bytes + LOG_FRONT_BYTES ≡ size (L.Disk.history log.device) },
     ghost knows: { KnowsRoom log (told_of core) },
     ghost spelled: { IsSpelled log },
+    ghost aside: { KeepsFor stage (told_of core) },
     ghost told: { teller.me ≡ (known.teller (cut_of_log log + length (stable log)) (anchored_in log), []) },
     ghost whose: { (teller.table_id ≡ words.table.shared.table_id) × (4 < words.table.shared.table_id.words) },
     ghost parts: { blank.parts ≡ ALL_PARTS },

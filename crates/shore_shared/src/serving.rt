@@ -162,7 +162,7 @@ fn with_names<
 {
     let shared = queued.shared::<B, R>(rt, alloc);
     let (sessions, done) = with_sessions(rt, alloc, &shared, count, jobs);
-    match shared.into_world(&rt, alloc, sessions) {
+    match shared.into_world(&rt, sessions) {
         Ok(world) => (Left::World(world), done),
         Err((fault, shared, sessions)) => {
             let (log, volume) = shared.into_devices(alloc, sessions);

@@ -5,7 +5,7 @@ use Rattle.shore_types.specs.declared.faults.Fault.TheVariants as Fault
 use Rattle.shore_gate.specs.Anchor.{other_of}
 use Rattle.shore_gate.specs.Moves.{moved}
 use Rattle.shore_gate.specs.declared.anchors.Anchors.{Anchors}
-use Rattle.shore_log.specs.PlainTails.{waiting_in}
+use Rattle.shore_log.specs.PlainTails.{told_in, waiting_in}
 use Rattle.shore_log.specs.Settled.{anchor_of, cut_of_log, next_anchor, records_of_log, stable}
 use Rattle.shore_model.specs.declared.step.Step.TheVariants as Step
 use Rattle.shore_world.proofs.MovingAnchors.{ready_settles}
@@ -124,6 +124,7 @@ invariant_of-held g c =
           (c.in-Ok.ensures.anchored (anchor_of old).tail (anchor_of old).tail_place k.front (ready_settles old k.front ready) k.anchored)
           (ready_moved old new (moved old.anchors (anchor_of new) k.front) k.front ready (c.in-Ok.ensures.settled (anchor_of old).tail (anchor_of old).tail_place k.front) (c.in-Ok.ensures.staged (anchor_of old).tail (anchor_of old).tail_place k.front) c.in-Ok.ensures.lost.staged)),
       λ running. ap (λ (k : Known). k.aim) known ∙ i.11 running,
+      λ ready. c.move_anchor.ensures.knows (told_in c.held.inside.next) (i.12 ready),
     )
 
 -- The device has failed in the move. What the core keeps:
@@ -208,6 +209,7 @@ invariant_of-held-in-Err g c =
           (kept_unmoved old new true true≢false k.front k.labelled k.anchored may.2 unmoved.0 unmoved.1 c.in-Err.ensures.index.0 forced
           (c.move_anchor.ensures.any_moment (anchor_of old).tail (anchor_of old).tail_place k.front (ready_settles old k.front ready) k.anchored))),
       λ running. absurd (true≢false running),
+      λ ready. c.move_anchor.ensures.knows (told_in c.held.inside.next) (i.12 ready),
     )
 
 pub returns-in-Ok-clause-lost : goal.returns-in-Ok-clause-lost

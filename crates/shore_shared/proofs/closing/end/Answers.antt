@@ -46,12 +46,14 @@ returns-clause-records g c =
     let waits : waiting_of c.learn.new.self.core ≡ waiting_of c.seat-reader.new.self.core = c.learn.ensures.records.0 ∙ c.meeting-2.ensures.same.0 in
     let sent : waiting_of c.seat-reader.new.self.core ≡ waiting_of c.meeting.new.core.core = search rules in
     let same = c.meeting-2.ensures.same_log in
+    let kept = c.keep_aside.ensures.same in
     let none : b.1 ≡ [] =
     all_came g.B.Named.cut held.cut before (waiting_of c.seat-reader.new.self.core) held.got held.list b.0 f.gone b.1 b.2 b.3
     (ap (λ l. before ++ l) s.6 ∙ f.parts ∙ ap (λ l. f.gone ++ l) (sym s.2)) (s.1 ∙ f.cut_off) (omega (arith, ap length sent, c.in_ok-take_rest.ensures.all, ap length s.6)) in (
       b.0,
-      ap (λ l. before ++ l) waits ∙ b.2 ∙ ap (λ l. b.0 ++ (held.list ++ l)) none ∙ ap (λ l. b.0 ++ l) (append-nil held.list) ∙ ap (λ (x : LogState). b.0 ++ x.list) (sym same),
-      ap (λ (x : LogState). x.cut) same ∙ b.3,
+      ap (λ l. before ++ l) waits ∙ b.2 ∙ ap (λ l. b.0 ++ (held.list ++ l)) none ∙ ap (λ l. b.0 ++ l) (append-nil held.list) ∙ ap (λ (x : LogState). b.0 ++ x.list) (sym same)
+          ∙ ap (λ (x : LogState). b.0 ++ x.list) (sym kept),
+      ap (λ (x : LogState). x.cut) kept ∙ ap (λ (x : LogState). x.cut) same ∙ b.3,
     )
 
 pub returns-clause-last : goal.returns-clause-last
@@ -68,6 +70,6 @@ returns-clause-last g c =
       ap length waits,
       ap length r.1,
       length-append g.B.Named.before (waiting_of c.learn.new.self.core),
-      length-append r.0 c.meeting-2.new.held.list,
+      length-append r.0 c.keep_aside.new.held.list,
       r.2,
     )

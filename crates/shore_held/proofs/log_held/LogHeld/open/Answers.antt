@@ -1,7 +1,7 @@
 use Rattle.std.proofs.Common.{rules, ◌≡◌, true≢false, true, false, ap, subst, ◌∙◌, Ok}
 use Rattle.std.specs.Prelude.{IsSome}
 use Rattle.std.proofs.Math.Logic.{∥∥₁_map}
-use Rattle.shore_log.specs.PlainTails.{waiting_in}
+use Rattle.shore_log.specs.PlainTails.{told_in, waiting_in}
 use Rattle.shore_held.proofs.KeptLogs.{forced_left, kept_left, kept_torn}
 use Rattle.shore_held.proofs.Staging.{kept_opened, none_where, open_leaves}
 use Rattle.shore_held.specs.Logs.{LeavesHeld, LogState}
@@ -28,6 +28,7 @@ invariant_of-self g c =
           kept_opened old new c.self.inside.failed runs k is.tail.1 (λ none. is.nothing (c.in-Ok.is ∙ ap Ok (none_where c.in-Ok.durable old.staged c.in-Ok.ensures.opened none)))
           (λ tail place front group staged. (c.in-Ok.ensures.settled tail place front group staged).0) c.in-Ok.ensures.none_staged),
       λ _. i.11 runs,
+      λ ready. is.knows (told_in c.self.inside.next) (i.12 ready),
     )
 
 pub invariant_of-self-in-Err : goal.invariant_of-self-in-Err
@@ -51,6 +52,7 @@ invariant_of-self-in-Err g c =
           kept_torn old new k.front k.labelled is.tail.1 k.anchored true true≢false c.in-Err.ensures.unforced is.same
           (open_leaves old new k.front (k.ready runs) is.any_moment (λ none. let clash = subst IsSome none c.in-Err.ensures.waited in absurd cc))),
       λ running. absurd (true≢false running),
+      λ ready. is.knows (told_in c.self.inside.next) (i.12 ready),
     )
 
 -- ---- at any moment

@@ -3,7 +3,7 @@ use Rattle.std.specs.Prelude.{IfSome, IsSome}
 use Rattle.std.specs.Result.{is_err}
 use Rattle.std.proofs.lemmas.List.{length-take-le}
 use Rattle.std.proofs.Math.Logic.{∥∥₁_map}
-use Rattle.shore_log.specs.PlainTails.{waiting_in}
+use Rattle.shore_log.specs.PlainTails.{told_in, waiting_in}
 use Rattle.shore_log.specs.Settled.{HasNoFrameRoom, IsSettledFrom, IsStagedFrom, records_of_log, stable, waiting}
 use Rattle.shore_held.proofs.KeptLogs.{forced_left, kept_left, kept_running, kept_torn}
 use Rattle.shore_held.proofs.Rooms.{is_spelled, none_or_full}
@@ -35,6 +35,7 @@ invariant_of-self g c =
           kept_torn old new k.front k.labelled is.tail.1 k.anchored c.is_err-self-inside.result (λ isnt. true≢false (sym fails ∙ isnt)) (on_err answer _ _ c.in_err-opened.was is.unforced) is.same
           (open_leaves old new k.front (k.ready runs) is.any_moment (λ none. let clash = subst IsSome none (on_err answer _ _ c.in_err-opened.was is.waited) in absurd cc))),
       λ running. absurd (true≢false (sym fails ∙ running)),
+      λ ready. is.knows (told_in c.self.inside.next) (i.12 ready),
     )
 
 -- .. or it has not.
@@ -66,6 +67,7 @@ invariant_of-self-2 g c =
           (λ tail place front group s. if_ok answer n (λ _. new.staged ≡ None → IsSettledFrom tail place new front) was (is.alone tail place front group s))
           (λ tail place front group s. if_ok answer n _ was (is.staged tail place front group s))),
       λ _. i.11 runs,
+      λ ready. is.knows (told_in c.self.inside.next) (i.12 ready),
     )
 
 -- ---- at any moment

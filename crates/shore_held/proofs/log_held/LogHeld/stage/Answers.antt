@@ -1,13 +1,13 @@
 use Rattle.std.proofs.Common.{rules, ◌≡◌, ◌⊎◌, ◌+◌, ◌-◌, ◌++◌, true≢false, true, false, length, take, refl, sym, ap, subst, ◌∙◌, ⊎_elim, append-nil, arith, [], inl, inr, Bool, None, Result, Ok, Err, length-append}
 use Rattle.std.proofs.lemmas.List.{length-take-le, take-append-drop}
 use Rattle.std.proofs.Math.Logic.{∥∥₁_map}
-use Rattle.shore_log.specs.PlainTails.{waiting_in}
+use Rattle.shore_log.specs.PlainTails.{told_in, waiting_in}
 use Rattle.shore_log.specs.Settled.{cut_of_log, records_of_log, stable, waiting}
 use Rattle.shore_world.proofs.WorldLemmas.{none_staged}
 use Rattle.shore_held.proofs.KeptLogs.{forced_left, kept_left, kept_longer, kept_running, kept_torn, stable_leaves}
 use Rattle.shore_held.proofs.Rooms.{forced_same, free_same, is_spelled, no_place, same_fault, textless_same}
 use Rattle.shore_held.proofs.Staging.{counted_some, kept_staged, none_counts, none_unless, not_staged, stage_leaves, staged_fits, staged_some}
-use Rattle.shore_held.specs.Logs.{HasNoPlace, LeavesHeld, LeavesStable, LogState, count_of, free_of, textless_of}
+use Rattle.shore_held.specs.Logs.{HasNoPlace, LeavesHeld, LeavesStable, LogState, aside_of, count_of, free_of, textless_of}
 use Rattle.shore_held.proofs.log_held.LogHeld.stage.Goals as goal
 
 abbrev answered : {E : Type 0} → Result Bool E → Bool
@@ -40,6 +40,7 @@ invariant_of-self g c =
           kept_staged old new c.self.inside.failed runs k is.tail.1 c.in-Ok.field-0 (λ last. take (last - (cut_of_log old + old.forced)) (waiting old)) (λ none. is.nothing (c.in-Ok.is ∙ ap Ok none))
           c.in-Ok.ensures.staged (λ some. is.nothing (is.under_way some))),
       λ _. i.11 runs,
+      λ ready. is.knows (told_in c.self.inside.next) (i.12 ready),
     )
 
 pub invariant_of-self-in-Err : goal.invariant_of-self-in-Err
@@ -67,6 +68,7 @@ invariant_of-self-in-Err g c =
           (λ stays. kept_longer old new fails.result (kept_running old c.self.inside.failed fails.result runs k) stays.1 stays.0 [] (is.same.0 ∙ sym (append-nil (records_of_log old))))
           c.in-Err.ensures.refused),
       λ _. i.11 runs,
+      λ ready. is.knows (told_in c.self.inside.next) (i.12 ready),
     )
 
 -- ---- at any moment
@@ -162,6 +164,7 @@ returns-in-Err-clause-refused g c =
       failed = (isnt ∙ sym runs) i;
       free = free_same c.self.inside.log c.stage.new.self stays.0.tail stays.0.head is.size i;
       textless = textless_same c.self.inside.log c.stage.new.self is.same.0 (forced_same c.self.inside.log c.stage.new.self is.same.1) is.list is.spelled i;
+      aside = aside_of c.self.inside.ready (told_in c.self.inside.next);
       faults = g.L.Disk.faults (stays.1 i);
       history = g.L.Disk.history (stays.1 i);
     }) ∙ c.self.view_is)) (one_or_other fails.result)) c.in-Err.ensures.refused
@@ -185,6 +188,7 @@ returns-in-Ok-clause-under_way g c some =
       failed = c.self.inside.failed;
       free = free_of l;
       textless = textless_of l.read (l.count - l.forced);
+      aside = aside_of c.self.inside.ready (told_in c.self.inside.next);
       faults = g.L.Disk.faults l.device;
       history = g.L.Disk.history l.device;
     }) same ∙ c.self.view_is

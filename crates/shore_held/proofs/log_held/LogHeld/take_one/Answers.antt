@@ -1,4 +1,4 @@
-use Rattle.std.proofs.Common.{rules, arith, ◌≡◌, ◌-◌, [], ◌++◌, length, length-append, refl, sym, ap, ◌∙◌, append-nil}
+use Rattle.std.proofs.Common.{true≢false, rules, arith, ◌≡◌, ◌-◌, [], ◌++◌, length, length-append, refl, sym, ap, ◌∙◌, append-nil}
 use Rattle.std.proofs.Math.Logic.{∥∥₁_map}
 use Rattle.shore_disk.specs.Device.{size}
 use Rattle.shore_gate.specs.declared.anchors.Anchors.{Anchors}
@@ -33,6 +33,7 @@ invariant_of-self g c =
       ap (λ d. size (g.L.Disk.history d)) is.device ∙ i.9,
       λ start honest. ∥∥₁_map (i.10 start honest) (λ k. kept_longer old new c.self.inside.failed k is.device is.frames [] (same.0 ∙ sym (append-nil (records_of_log old)))),
       i.11,
+      λ ready. absurd (true≢false (sym ready)),
     )
 
 -- Nothing is received.
@@ -62,6 +63,7 @@ invariant_of-self-in-None g c =
       ap (λ d. size (g.L.Disk.history d)) is.device ∙ i.9,
       λ start honest. ∥∥₁_map (i.10 start honest) (λ k. kept_longer old new c.self.inside.failed k is.device is.frames (waiting_in waits) taken),
       i.11,
+      λ ready. absurd (true≢false (sym ready)),
     )
 
 -- .. so all is received that it knows to be sent.
@@ -117,6 +119,7 @@ invariant_of-self-in_err-take_in-in-Some g c =
           kept_longer mid new c.self.inside.failed (kept_longer old mid c.self.inside.failed k was.device was.frames (waiting_in waits) taken) is.device is.frames []
           (same.0 ∙ sym (append-nil (records_of_log mid)))),
       i.11,
+      λ ready. absurd (true≢false (sym ready)),
     )
 
 pub returns-in_err-take_in-in-Some-clause-more : goal.returns-in_err-take_in-in-Some-clause-more
@@ -168,6 +171,7 @@ invariant_of-self-in-Some g c =
       λ start honest. ∥∥₁_map (i.10 start honest) (λ k.
           kept_longer mid new c.self.inside.failed (kept_longer old mid c.self.inside.failed k was.device was.frames (waiting_in waits) taken) is.device is.frames (waiting_in came) more),
       i.11,
+      λ ready. absurd (true≢false (sym ready)),
     )
 
 pub returns-in_ok-take_in-in-Some-clause-more : goal.returns-in_ok-take_in-in-Some-clause-more

@@ -45,7 +45,7 @@ returns-clause-stand g c =
     } in
     let seen : All (λ n. n ≤ t.cut + length t.stable) (map (λ s. s.seat.seen) c.args.sessions.items) =
     All-map (λ n. n ≤ t.cut + length t.stable) (λ s. s.seat.seen) c.args.sessions.items (subst (λ (n : ℕ). All (λ s. s.seat.seen ≤ n) c.args.sessions.items) (ap (λ (s : LogState). s.told) m.same_log ∙ c.tell-forced.ensures.told.1) c.gathered.ensures.seen) in
-    let log : g.L.Disk.history c.into_device-log.result ≡ t.history = ap g.L.Disk.history c.into_device-log.ensures ∙ c.into_log.ensures.log.4 ∙ ap (λ (s : LogState). s.history) same in
+    let log : g.L.Disk.history c.into_device-log.result ≡ t.history = ap g.L.Disk.history c.into_device-log.ensures ∙ c.into_log-log.ensures.log.4 ∙ ap (λ (s : LogState). s.history) same in
     let volume : g.V.Disk.history c.into_volume.result ≡ history_of i.core = ap g.V.Disk.history c.into_volume.ensures ∙ ap history_of c.gathered.ensures.core.0 in (
       i.asked.items,
       i.stepped.items,
@@ -69,6 +69,6 @@ returns-clause-stand g c =
 
 pub returns-clause-long : goal.returns-clause-long
 returns-clause-long g c = (
-  ap (λ d. size (g.L.Disk.history d)) c.into_device-log.ensures ∙ c.into_log.ensures.long,
+  ap (λ d. size (g.L.Disk.history d)) c.into_device-log.ensures ∙ c.into_log-log.ensures.long,
   ap (λ d. size (g.V.Disk.history d)) c.into_volume.ensures ∙ c.gathered.new.core.core.heap.pool.device.as_long ∙ ap volume_bytes c.gathered.new.core.layout,
 )

@@ -1,4 +1,4 @@
-use Rattle.std.proofs.Common.{◌≡◌, ◌≤◌, ◌+◌, ◌++◌, ℕ, [], All, List, IsTrue, length, append-nil, sym, ap, subst, ◌∙◌}
+use Rattle.std.proofs.Common.{◌≡◌, ◌≤◌, ◌+◌, ◌++◌, ℕ, [], All, List, IsTrue, length, append-nil, length-append, sym, ap, subst, ◌∙◌, arith}
 use Rattle.std.proofs.Math.Logic.{∥∥₁_elim, ∥∥₁_map₂, ∥∥₁_prop}
 use Rattle.shore_check.specs.declared.stage.Stage.{Stage}
 use Rattle.shore_disk.specs.Device.{size}
@@ -7,11 +7,13 @@ use Rattle.shore_heap.specs.Heaps as heaps
 use Rattle.laws_images.specs.StandsBehind.{anchored_by}
 use Rattle.shore_log.specs.PlainTails.{told_in, waiting_in}
 use Rattle.shore_log.specs.Settled.{KnowsRoom, cut_of_log, records_of_log}
+use Rattle.shore_log.specs.declared.tail.Aside.{Aside}
 use Rattle.shore_log.specs.declared.tail.PlainTail.{PlainTail}
 use Rattle.shore_model.specs.declared.log_records.LogRecord.{LogRecord}
 use Rattle.shore_sessions.specs.Controls.{txns_in}
 use Rattle.shore_txn.specs.Transactions.{room_in}
-use Rattle.shore_core.specs.Cores.{IsIn, IsOver, durable_of, geometry_of, has_failed, heap_of, waiting_of}
+use Rattle.shore_core.specs.Checkpointing.{KeepsFor}
+use Rattle.shore_core.specs.Cores.{IsIn, IsOver, durable_of, geometry_of, has_failed, heap_of, last_of, waiting_of}
 use Rattle.shore_world.specs.Worlds.{anchor_in, durable_in, geometry_in, history_in}
 use Rattle.shore_held.proofs.Comings.{ring_of}
 use Rattle.shore_words.specs.declared.rule.Known.{Known}
@@ -29,8 +31,40 @@ from_parts-requires-clause-spelled g c =
 
 pub from_parts-requires-clause-knows : goal.from_parts-requires-clause-knows
 from_parts-requires-clause-knows g c =
-    let spelled = c.into_log-log.ensures.spelled (ap (λ (x : LogState). x.textless) c.gathered-calls.ensures.same ∙ c.in_default.ensures.texts) in
-    subst (λ (t : PlainTail). KnowsRoom c.into_log-log.result (told_in t)) (sym c.with_tail-core.ensures.tail) (c.tell_room.ensures.knows c.new-tail.ensures.waiting spelled)
+    subst (λ (t : PlainTail). KnowsRoom c.into_log-log.result.0 (told_in t)) (sym c.with_tail-core.ensures.tail)
+    (c.into_log-log.ensures.knows (ap (λ (x : LogState). x.waits) c.gathered-calls.ensures.same ∙ c.in_default.ensures.taken) (ap (λ (x : LogState). x.textless) c.gathered-calls.ensures.same ∙ c.in_default.ensures.texts))
+
+-- what its checkpoint still has to log has its room aside
+pub from_parts-requires-clause-aside : goal.from_parts-requires-clause-aside
+from_parts-requires-clause-aside g c =
+    let stage = c.into_core-core.ensures.core.1 ∙ c.gathered-calls.ensures.core.1 ∙ c.none-none.ensures.same.0 in
+    let told = told_in c.into_log-log.result.1 in
+    let aside = ap (λ (x : LogState). x.aside) c.gathered-calls.ensures.same ∙ c.in_default.ensures.aside in
+    subst (λ (t : PlainTail). KeepsFor c.into_core-core.result.1 (told_in t)) (sym c.with_tail-core.ensures.tail)
+    (subst (λ (x : Stage). KeepsFor x told) (sym stage) (subst (λ (a : Aside). (a.records ≤ told.aside.records) × (a.bytes ≤ told.aside.bytes)) aside c.into_log-log.ensures.aside))
+
+pub with_tail-core-requires : goal.with_tail-core-requires
+with_tail-core-requires g c =
+    let l = c.into_log-log.ensures in
+    let same = c.gathered-calls.ensures.same in
+    let core = c.into_core-core.result.0 in
+    let one = c.into_core-core.ensures.core.0 ∙ c.gathered-calls.ensures.core.0 ∙ c.none-none.ensures.core.0 in
+    let held = c.gathered-calls.new.held in
+    let none = ap length (ap (λ (x : LogState). x.waits) same ∙ c.in_default.ensures.taken) in
+    omega (
+      arith,
+      l.waits.1,
+      ap length l.waits.0,
+      none,
+      l.log.1,
+      ap length l.log.3,
+      length-append (records_of_log c.into_log-log.result.0) held.waits,
+      ap (λ (x : LogState). x.cut) same,
+      ap (λ (x : LogState). length x.list) same,
+      c.in_default.ensures.last,
+      ap last_of one,
+      core.some_number,
+    )
 
 pub returns-clause-ended : goal.returns-clause-ended
 returns-clause-ended g c =
@@ -44,7 +78,7 @@ returns-clause-ended g c =
     let held = c.gathered-calls.new.held in
     let same = c.gathered-calls.ensures.same in
     let core = c.into_core-core.result.0 in
-    let log = c.into_log-log.result in
+    let log = c.into_log-log.result.0 in
     let l = c.into_log-log.ensures in
     let trail = moves_of i.asked.items i.stepped.items in
     let q = c.into_core-core.ensures.core.0 ∙ c.gathered-calls.ensures.core.0 in
@@ -78,7 +112,7 @@ returns-clause-ended g c =
           (ap heap_of f.0 ∙ t.heap) (ap ring_of f.0 ∙ ap (λ x. (room_in (txns_in x)).stream_bytes) t.control)
           (λ front disk before after s same is. subst (λ x. IsIn front disk after x s) (sym f.0)
           (t.state front disk before after s (same ∙ ap (λ x. after ++ waiting_of x) f.0 ∙ ap (λ (x : PlainTail). after ++ waiting_in x) t.tail) is))
-          (λ disk s store is. subst (λ x. IsOver disk x s store) (sym f.0) (t.over disk s store is)) (ap waiting_of f.0 ∙ ap waiting_in t.tail ∙ c.tell_room.ensures.same.1 ∙ c.new-tail.ensures.waiting) gone records
+          (λ disk s store is. subst (λ x. IsOver disk x s store) (sym f.0) (t.over disk s store is)) (ap waiting_of f.0 ∙ ap waiting_in t.tail ∙ l.waits.0 ∙ ap (λ (x : LogState). x.waits) same ∙ e.taken) gone records
           (ap cut_of_log f.1 ∙ l.log.1 ∙ ap (λ (x : LogState). x.cut) same ∙ e.records.2) held.failed (λ fails. subst IsTrue (sym failed) (e.failed (subst IsTrue (ap (λ (x : LogState). x.failed) same) fails))) held.aim there
           (subst (λ x. IsKept x (size (history_in w)) w.log held.failed held.aim) (sym geometry)
           (subst (λ x. IsKept g.B.Named.geometry x w.log held.failed held.aim) (sym bytes) (subst (λ x. IsKept g.B.Named.geometry g.B.Named.log_bytes x held.failed held.aim) (sym f.1) k))))),
