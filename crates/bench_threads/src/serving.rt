@@ -49,7 +49,13 @@ fn go_on<R: Threads + Wait + Clock + Sync + Send + Copy>(
     plan: Plan,
     filled: Vec<Vec<Vec<Rid>>>,
 ) -> Result<Took, Fault> {
-    let records = records_of(filled)?;
+    let records = match records_of(filled) {
+        Ok(records) => records,
+        Err(fault) => {
+            let _files = world.into_devices();
+            return Err(fault);
+        }
+    };
     let rounds = [Rounds {
         plan,
         records,
