@@ -22,6 +22,8 @@ torn_page torn_area size_and_count_limits size_and_count_limits_of_sessions log_
 MOST_AMID_THREADS = 100
 # What is asked behind each row, so that what is left is compared whole.
 BEHIND = ["log", "locks", "crash", "dump", "1 indoubt", "log"]
+# What takes no memory: these lines are never refused it.
+TAKES_NONE = ("force", "flush", "checkpoint end")
 COUNTED = re.compile(r"0\.0\.0 ([0-9a-f]{16})")
 
 
@@ -145,6 +147,8 @@ class Talk:
         again = []
         for it in found:
             if it == MEMORY:
+                if line in TAKES_NONE:
+                    raise Wrong(f"'{line}' is refused memory")
                 again = [line]
             elif it in (f"open {MEMORY}", f"open {DEVICE}") and self.is_by_memory(line, it):
                 self.counts["opens"] += 1

@@ -165,9 +165,12 @@ class Copy:
             if not was_read(lines):
                 if len(waiting) == 1 and not as_stated:
                     return {**done, **waiting}
-                done.update(*[self.strengthen({edit: verdict}) for edit, verdict in waiting.items()] if len(waiting) > 1 else [{}])
-                waiting, as_stated = (waiting, False) if len(waiting) == 1 else ({}, as_stated)
-                continue
+                if len(waiting) == 1:
+                    as_stated = False
+                    continue
+                for edit, verdict in waiting.items():
+                    done.update(self.strengthen({edit: verdict}))
+                return done
             for edit, before in [*waiting.items()]:
                 verdict = self.verdict(edit, keys[edit], lines)
                 if verdict.word == PROVED and edit.is_definition and edit not in by_all:
