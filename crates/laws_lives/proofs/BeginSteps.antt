@@ -96,10 +96,10 @@ module _ {o : Opening} {es : List Entry} {s : Sessions} (k : IsSoundAfter o es s
           subst (λ now. Stand s.held now s.records (s.next_txn ∷ txns_of s.active) standing') (sym begin_now)
           (one_begins k.stand s.next_txn standing' (λ u other. standing_others k.standing s.next_txn (written_by o with_begin s.next_txn) u other) holds_none
           (λ id. ap (λ W. get W id) (standing_its k.standing s.next_txn (written_by o with_begin s.next_txn)) ∙ ap (λ W. get W id) (own_writes (writes_given o.in_doubt s.next_txn) (calls_of s.next_txn with_begin) (k.found_below s.next_txn (omega arith))) ∙ ap (λ xs. get (writes_of xs) id) begin_called ∙ get-empty rid_cmp id) not_yet);
-      replies = λ u b. subst (λ now. StayRight s.held u now (calls_of u with_begin)) (sym begin_now)
+      replies = λ u b. subst (λ now. StayRight o.slots s.held u now (calls_of u with_begin)) (sym begin_now)
           (⊎_elim
-          (λ same. subst (λ v. StayRight s.held v now (calls_of v with_begin)) same (subst (StayRight s.held s.next_txn now) (sym begin_called) (λ S agree. ((s.next_txn, refl), tt))))
-          (λ later. subst (StayRight s.held u now) (sym (begin_others u (differs u later))) (k.replies u later))
+          (λ same. subst (λ v. StayRight o.slots s.held v now (calls_of v with_begin)) same (subst (StayRight o.slots s.held s.next_txn now) (sym begin_called) (λ S agree. ((s.next_txn, refl), tt))))
+          (λ later. subst (StayRight o.slots s.held u now) (sym (begin_others u (differs u later))) (k.replies u later))
           b);
       undoes = λ a m. subst (λ now. CanUndo s.held now s.records a.txn a.undo (progress_in o with_begin a.txn)) (sym begin_now)
           (⊎_elim

@@ -108,6 +108,7 @@ module _ (o : Opening) (s : RecoveryState) (f : MayBeFound s) (opening : IsOpeni
 
   abbrev first : Sessions
   first = record {
+    slots = o.slots;
     records = records_told s.log;
     active = map opened_txn o.in_doubt;
     held = restored_locks (doubts_in ready.log);
@@ -122,6 +123,7 @@ module _ (o : Opening) (s : RecoveryState) (f : MayBeFound s) (opening : IsOpeni
 
   opens : OpensOver o ready first
   opens = record {
+    slots = refl;
     records = λ id. sym (restart_shows s.log ready f.lawful come_through.0 come_through.1 redone no_losers id.page id.slot);
     seats = λ n. refl;
     resolving = refl;

@@ -373,6 +373,7 @@ module _ (o : Opening) (log : List LogRecord) (s : Sessions) (h : IsOpenOn o log
 
   pub is_just_opened : IsJustOpened o s
   is_just_opened = record {
+    slots = h.slots;
     seats = h.seats;
     resolving = h.resolving;
     prepared = h.prepared;

@@ -116,8 +116,8 @@ module _ {o : Opening} {es : List Entry} {s : Sessions} (k : IsSoundAfter o es s
             (one_ends k.stand a.txn (txn_among a s.active mem) next_now s.records (txns_of (without_txn a.txn s.active)) k.standing (λ u other. refl)
             (λ u b. txn_without a.txn u s.active b) (λ u b other. txn_stays a.txn u s.active b other) commit_changes commit_sees.view);
         replies = λ u b. let there = txn_without a.txn u s.active b in
-            subst (λ now. StayRight s.held u now (calls_of u with_commit)) (sym commit_now)
-            (subst (StayRight s.held u next_now) (sym (commit_called u))
+            subst (λ now. StayRight o.slots s.held u now (calls_of u with_commit)) (sym commit_now)
+            (subst (StayRight o.slots s.held u next_now) (sym (commit_called u))
             (λ S agree. k.replies u there.0 S (λ id r. agree id r ∙ (commit_elsewhere u there.1 id r).1)));
         undoes = λ b in_rest. let there = among_without a.txn b s.active in_rest in
             subst (λ now. CanUndo s.held now s.records b.txn b.undo (progress_in o with_commit b.txn)) (sym commit_now)

@@ -16,34 +16,34 @@ pub after-push : (p : Progress) (xs : List Exchange) (x : Exchange) → after p 
 after-push p [] x = refl
 after-push p (y ∷ ys) x = after-push (after_reply p y.call y.reply) ys x
 
-pub replies-push : (R : Records) (p : Progress) (xs : List Exchange) (x : Exchange) → MayReplyAll R p xs → MayReply R (after p xs) x.call x.reply
-    → MayReplyAll R p (xs ++ x ∷ [])
-replies-push R p [] x h m = (m, tt)
-replies-push R p (y ∷ ys) x h m = (h.0, replies-push R (after_reply p y.call y.reply) ys x h.1 m)
+pub replies-push : (most : ℕ) (R : Records) (p : Progress) (xs : List Exchange) (x : Exchange) → MayReplyAll most R p xs → MayReply most R (after p xs) x.call x.reply
+    → MayReplyAll most R p (xs ++ x ∷ [])
+replies-push most R p [] x h m = (m, tt)
+replies-push most R p (y ∷ ys) x h m = (h.0, replies-push most R (after_reply p y.call y.reply) ys x h.1 m)
 
 -- it may come on all records, and a transaction that gets it has come no further
-pub record IsQuiet (x : Exchange) : Type 0 where
-  pub may : (R : Records) (p : Progress) → MayReply R p x.call x.reply
+pub record IsQuiet (most : ℕ) (x : Exchange) : Type 0 where
+  pub may : (R : Records) (p : Progress) → MayReply most R p x.call x.reply
   pub leaves : (p : Progress) → after_reply p x.call x.reply ≡ p
 
-tells_nothing : (R : Records) (c : Call) (fault : Fault) → TellsNothing fault → MayRefuse R c fault
-tells_nothing R c NoRecord h = absurd h
-tells_nothing R c _ h = tt
+tells_nothing : (most : ℕ) (R : Records) (c : Call) (fault : Fault) → TellsNothing fault → MayRefuse most R c fault
+tells_nothing most R c NoRecord h = absurd h
+tells_nothing most R c _ h = tt
 
-pub refusal_is_quiet : (c : Call) (fault : Fault) → TellsNothing fault → IsQuiet (exchange c (Err fault))
-refusal_is_quiet c fault h = record { may = λ R p. tells_nothing _ c fault h; leaves = λ p. refl }
+pub refusal_is_quiet : (most : ℕ) (c : Call) (fault : Fault) → TellsNothing fault → IsQuiet most (exchange c (Err fault))
+refusal_is_quiet most c fault h = record { may = λ R p. tells_nothing most _ c fault h; leaves = λ p. refl }
 
-pub commit_is_quiet : (ticket : ℕ) → IsQuiet (exchange call.Commit (Ok (Committed ticket)))
-commit_is_quiet ticket = record { may = λ R p. (ticket, refl); leaves = λ p. refl }
+pub commit_is_quiet : (most : ℕ) (ticket : ℕ) → IsQuiet most (exchange call.Commit (Ok (Committed ticket)))
+commit_is_quiet most ticket = record { may = λ R p. (ticket, refl); leaves = λ p. refl }
 
-pub abort_is_quiet : IsQuiet (exchange call.Abort (Ok Aborted))
-abort_is_quiet = record { may = λ R p. refl; leaves = λ p. refl }
+pub abort_is_quiet : (most : ℕ) → IsQuiet most (exchange call.Abort (Ok Aborted))
+abort_is_quiet most = record { may = λ R p. refl; leaves = λ p. refl }
 
-pub prepare_is_quiet : (global : List ℕ) → IsQuiet (exchange (call.Prepare global) (Ok Prepared))
-prepare_is_quiet global = record { may = λ R p. refl; leaves = λ p. refl }
+pub prepare_is_quiet : (most : ℕ) (global : List ℕ) → IsQuiet most (exchange (call.Prepare global) (Ok Prepared))
+prepare_is_quiet most global = record { may = λ R p. refl; leaves = λ p. refl }
 
-pub resolve_is_quiet : (global : List ℕ) (outcome : Outcome) → IsQuiet (exchange (call.Resolve global outcome) (Ok Resolved))
-resolve_is_quiet global outcome = record { may = λ R p. refl; leaves = λ p. refl }
+pub resolve_is_quiet : (most : ℕ) (global : List ℕ) (outcome : Outcome) → IsQuiet most (exchange (call.Resolve global outcome) (Ok Resolved))
+resolve_is_quiet most global outcome = record { may = λ R p. refl; leaves = λ p. refl }
 
-pub in_doubt_is_quiet : (pairs : List (List ℕ × ℕ)) → IsQuiet (exchange call.InDoubt (Ok (AreInDoubt pairs)))
-in_doubt_is_quiet pairs = record { may = λ R p. (pairs, refl); leaves = λ p. refl }
+pub in_doubt_is_quiet : (most : ℕ) (pairs : List (List ℕ × ℕ)) → IsQuiet most (exchange call.InDoubt (Ok (AreInDoubt pairs)))
+in_doubt_is_quiet most pairs = record { may = λ R p. (pairs, refl); leaves = λ p. refl }

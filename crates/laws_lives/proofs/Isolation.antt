@@ -1,5 +1,5 @@
 -- What one transaction may read, no other changes under its hands.
-use Rattle.std.proofs.Common.{◌≡◌, ◌≢◌, ℕ, List, None, Result, sym, ap, subst, ◌∙◌}
+use Rattle.std.proofs.Common.{Ok, Err, ◌≡◌, ◌≢◌, ℕ, List, None, Result, sym, ap, subst, ◌∙◌}
 use Rattle.std.specs.FinMap.{get}
 use Rattle.std.specs.Prelude.{IsSome}
 use Rattle.shore_types.specs.Images.{Image}
@@ -34,10 +34,12 @@ module _ {o : Opening} {es : List Entry} {s : Sessions} (k : IsSoundAfter o es s
 
   pub reply_is_elsewhere : (new : Sessions) (a : SessionTxn) (c : Call) (reply : Result Answer Fault) (t : ℕ) (id : Rid)
       → StepsTo s (GiveReply a c reply) new → t ≢ a.txn → MayRead s.held t id → get new.records id ≡ get s.records id
-  reply_is_elsewhere new a c reply t id moves other reads =
+  reply_is_elsewhere new a c (Ok answer) t id moves other reads =
       let mem = moves.0.0 in
+      let reply : Result Answer Fault = Ok answer in
       ap (λ (s : Sessions). get s.records id) moves.4
       ∙ others_see k a mem moves.0.2 (exchange c reply) (in_place_after s.records a.undo c reply) (reply_leaves_all k a mem moves.0.2 c reply moves.2 moves.3).changes t other id reads
+  reply_is_elsewhere new a c (Err fault) t id moves other reads = ap (λ (s : Sessions). get s.records id) moves.4
 
   pub put_back_is_elsewhere : (new : Sessions) (a : SessionTxn) (kept : List (Rid × Image)) (e : Rid × Image) (r : Rollback) (t : ℕ) (id : Rid)
       → StepsTo s (PutBack a kept e r) new → t ≢ a.txn → MayRead s.held t id → get new.records id ≡ get s.records id

@@ -101,8 +101,8 @@ format_may_be_found = record {
   durable = omega arith;
 }
 
-pub format_opens : IsOpeningOf [] (opening_with empty)
-format_opens = record { records = refl; in_doubt = refl; written = λ d among. absurd among }
+pub format_opens : (slots : ℕ) → IsOpeningOf [] (opening_with slots empty)
+format_opens slots = record { records = refl; in_doubt = refl; written = λ d among. absurd among }
 
 -- after a crash those return in doubt whom the kept decisions leave so
 pub doubts_come_back : (o : Opening) (s : RecoveryState) (f : MayBeFound s) (opening : IsOpeningOf s.log o) (l : Stretch) (h : IsStretch o s l) (next : Stretch)

@@ -119,7 +119,7 @@ module _ {base : ℕ} {o : Opening} {es : List Entry} {s : Sessions} {log : List
     prefixes = d.prefixes;
   }
 
-  pub quiet_decides : {more : List LogRecord} → LogDecides base o es more → (session t : ℕ) (x : Exchange) → IsQuiet x → LogDecides base o (es ++ Exchanged session t x ∷ []) more
+  pub quiet_decides : {more : List LogRecord} → LogDecides base o es more → (session t : ℕ) (x : Exchange) → IsQuiet o.slots x → LogDecides base o (es ++ Exchanged session t x ∷ []) more
   quiet_decides {more} g session t x quiet =
       exchange_decides more session t x
       (recursion-each (λ d. KeepsTurn o es (es ++ Exchanged session t x ∷ []) (decided_txn d)) (λ d. all_kept k session t x quiet (decided_txn d)) (decisions es)) g
@@ -178,7 +178,7 @@ more_decides {base} {o} {es} more log same kept g = record {
   prefixes = prefixes_kept base o es more (decisions es) log (recursion-each (λ d. KeepsTurn o es more (decided_txn d)) (λ d. kept (decided_txn d)) (decisions es)) g.all g.prefixes;
 }
 
-answer_decides : {base : ℕ} {o : Opening} {es : List Entry} {s : Sessions} → IsSoundAfter o es s → (log : List LogRecord) (session t : ℕ) (x : Exchange) → IsQuiet x
+answer_decides : {base : ℕ} {o : Opening} {es : List Entry} {s : Sessions} → IsSoundAfter o es s → (log : List LogRecord) (session t : ℕ) (x : Exchange) → IsQuiet o.slots x
     → LogDecides base o es log → LogDecides base o (es ++ Exchanged session t x ∷ []) log
 answer_decides {es = es} k log session t x quiet g =
     more_decides (es ++ Exchanged session t x ∷ []) log (decisions-exchanged es t session x) (all_kept k session t x quiet) g
@@ -201,22 +201,22 @@ event_decides base o es old new (AppendCommit a ticket) log k agree l t d moves 
     (record { tells_serial = left.tells_serial; undo_logged = left.undo_logged; below = left.below })
     (own_commit_tracks k l t a moves.0.2 mid refl refl (λ u b. others_keep a.txn old.held u (λ same. moves.0.2.0 (subst (λ v. IsAmong v (in_doubt_of old)) same b))) (λ u b. txn_without a.txn u old.active b)) in
     subst (λ es. LogDecides base o es (and_record a.txn log Commit)) (append_assoc es (Decided (decision.Commit a.txn) ∷ []) (Exchanged a.session a.txn x ∷ []))
-    (answer_decides freed (and_record a.txn log Commit) a.session a.txn x (commit_is_quiet ticket) decided)
+    (answer_decides freed (and_record a.txn log Commit) a.session a.txn x (commit_is_quiet o.slots ticket) decided)
 event_decides base o es old new (PutBack a kept e r) log k agree l t d moves =
     subst (λ es. LogDecides base o es (log_after log old (PutBack a kept e r))) (sym (append-nil es)) (put_back_midst k agree l t d a moves.0.0 moves.0.1 kept e r)
 event_decides base o es old new (Doom a) log k agree l t d moves = subst (λ es. LogDecides base o es log) (sym (append-nil es)) d
 event_decides base o es old new (AnswerAbort a) log k agree l t d moves =
-    quiet_decides k agree l t d (abort_midst k agree l t d a moves.0.0 moves.0.2.0) a.session a.txn (exchange call.Abort (Ok Aborted)) abort_is_quiet
+    quiet_decides k agree l t d (abort_midst k agree l t d a moves.0.0 moves.0.2.0) a.session a.txn (exchange call.Abort (Ok Aborted)) (abort_is_quiet o.slots)
 event_decides base o es old new (Ask ticket durable) log k agree l t d moves =
     more_decides (es ++ Asked ticket durable ∷ []) log (decisions-asked es ticket durable) (λ u. kept_by_asked o es u ticket durable) d
 event_decides base o es old new (RefuseCall session u c fault) log k agree l t d moves =
-    quiet_decides k agree l t d d session u (exchange c (Err fault)) (refusal_is_quiet c fault moves.1)
+    quiet_decides k agree l t d d session u (exchange c (Err fault)) (refusal_is_quiet o.slots c fault moves.1)
 event_decides base o es old new (AppendPrepare a global granules) log k agree l t d moves =
     let e : SessionEvent = AppendPrepare a global granules in
     decision_decides k agree l t d a.txn (Prepare global granules) (decision.Prepare a.txn global) refl (event_stays_sound o es old new e k agree moves) (event_agrees o es old new e k agree moves)
     (event_keeps_log o es old new e log k l moves) (event_tracks_doubts o es old new e log k agree l t moves)
 event_decides base o es old new (AnswerPrepare session u global) log k agree l t d moves =
-    quiet_decides k agree l t d d session u (exchange (call.Prepare global) (Ok Prepared)) (prepare_is_quiet global)
+    quiet_decides k agree l t d d session u (exchange (call.Prepare global) (Ok Prepared)) (prepare_is_quiet o.slots global)
 event_decides base o es old new (AppendResolve a global) log k agree l t d moves =
     let e : SessionEvent = AppendResolve a global in
     decision_decides k agree l t d a.txn Commit (decision.Commit a.txn) refl (event_stays_sound o es old new e k agree moves) (event_agrees o es old new e k agree moves)
@@ -228,9 +228,9 @@ event_decides base o es old new (AppendRollback a global) log k agree l t d move
 event_decides base o es old new (EndRollback a) log k agree l t d moves =
     subst (λ es. LogDecides base o es (log_after log old (EndRollback a))) (sym (append-nil es)) (end_midst k agree l t d a moves.0.0 moves.0.1)
 event_decides base o es old new (AnswerResolve session r) log k agree l t d moves =
-    quiet_decides k agree l t d d session r.txn (exchange (call.Resolve r.global r.outcome) (Ok Resolved)) (resolve_is_quiet r.global r.outcome)
+    quiet_decides k agree l t d d session r.txn (exchange (call.Resolve r.global r.outcome) (Ok Resolved)) (resolve_is_quiet o.slots r.global r.outcome)
 event_decides base o es old new (AnswerInDoubt session u pairs) log k agree l t d moves =
-    quiet_decides k agree l t d d session u (exchange call.InDoubt (Ok (AreInDoubt pairs))) (in_doubt_is_quiet pairs)
+    quiet_decides k agree l t d d session u (exchange call.InDoubt (Ok (AreInDoubt pairs))) (in_doubt_is_quiet o.slots pairs)
 
 -- in the midst of an event that appends several records: all are there, and prefixes of them may be what a crash leaves
 pub event_midst : (base : ℕ) (o : Opening) (es : List Entry) (old new : Sessions) (e : SessionEvent) (log : List LogRecord) → IsSoundAfter o es old

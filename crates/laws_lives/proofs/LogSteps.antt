@@ -130,10 +130,10 @@ module _ (held : List Hold) (disjoint : (t u : ℕ) (id : Rid) → t ≢ u → M
   answer_tells call.Savepoint answer w = record { tells_serial = l; still = savepoint_logged }
   answer_tells _ answer w = log_untouched
 
-  pub reply_tells : (n : ℕ) (c : Call) (reply : Result Answer Fault) → MayReplyInPlace held a.txn R n c reply
+  pub reply_tells : (most n : ℕ) (c : Call) (reply : Result Answer Fault) → MayReplyInPlace most held a.txn R n c reply
       → TellsOn (log_after_reply log R a c reply) (in_place_after R a.undo c reply) (after_reply (p a.txn) c reply)
-  reply_tells n c (Ok answer) h = answer_tells c answer h.0
-  reply_tells n c (Err fault) h = log_untouched
+  reply_tells most n c (Ok answer) h = answer_tells c answer h.0
+  reply_tells most n c (Err fault) h = log_untouched
 
 -- ---- a transaction with no record
 
@@ -203,7 +203,7 @@ module _ {o : Opening} {es : List Entry} {s : Sessions} {log : List LogRecord} (
   reply_grown a c (Ok answer) less = answer_grown a c answer less
   reply_grown a c (Err fault) less = l.below
 
-  module _ (a : SessionTxn) (mem : IsAmong a s.active) (is_free : IsFree s a.txn) (c : Call) (reply : Result Answer Fault) (served : MayReplyInPlace s.held a.txn s.records (length a.undo.marks) c reply) where
+  module _ (a : SessionTxn) (mem : IsAmong a s.active) (is_free : IsFree s a.txn) (c : Call) (reply : Result Answer Fault) (served : MayReplyInPlace s.slots s.held a.txn s.records (length a.undo.marks) c reply) where
     abbrev more : List Entry
     more = es ++ Exchanged a.session a.txn (exchange c reply) ∷ []
 
@@ -217,7 +217,7 @@ module _ {o : Opening} {es : List Entry} {s : Sessions} {log : List LogRecord} (
         l.tells_serial log' R' (after_reply (progress_in o es a.txn) c reply)
     reply_on =
         reply_tells s.held disjoint now s.records log (txns_of s.active) (progress_in o es) a (txn_among a s.active mem) (k.undoes a mem)
-        l.tells_serial (length a.undo.marks) c reply served
+        l.tells_serial s.slots (length a.undo.marks) c reply served
 
     own_progress : progress_in o more a.txn ≡ after_reply (progress_in o es a.txn) c reply
     own_progress =
@@ -420,7 +420,7 @@ module _ {o : Opening} {es : List Entry} {s : Sessions} {log : List LogRecord} (
           below = l.below;
         }
 
-  pub quiet_keeps_log : (session u : ℕ) (x : Exchange) → IsQuiet x → IsLogAfter o (es ++ Exchanged session u x ∷ []) s log
+  pub quiet_keeps_log : (session u : ℕ) (x : Exchange) → IsQuiet o.slots x → IsLogAfter o (es ++ Exchanged session u x ∷ []) s log
   quiet_keeps_log session u x quiet =
       more_keeps_log (es ++ Exchanged session u x ∷ []) (decisions-exchanged es u session x) (all_kept k session u x quiet)
 
@@ -504,7 +504,7 @@ event_keeps_log o es old new (AppendCommit a ticket) log k l moves =
     at_new o _ _ _ new moves.2
     (log_seated k l (entries_by old (AppendCommit a ticket))
     (subst (λ es. IsLogAfter o es (commit_appended old a) (and_record a.txn log Commit)) (append_assoc es (Decided (decision.Commit a.txn) ∷ []) (Exchanged a.session a.txn x ∷ []))
-    (quiet_keeps_log (without_its_locks a.txn left gone) freed a.session a.txn x (commit_is_quiet ticket))))
+    (quiet_keeps_log (without_its_locks a.txn left gone) freed a.session a.txn x (commit_is_quiet o.slots ticket))))
 event_keeps_log o es old new (PutBack a kept e r) log k l moves =
     at_new o _ _ _ new moves.4
     (subst (λ es. IsLogAfter o es (image_put_back old a kept e r) (log_after log old (PutBack a kept e r))) (sym (append-nil es)) (put_back_keeps_log k l a moves.0.0 kept e r moves.1))
@@ -515,17 +515,17 @@ event_keeps_log o es old new (AnswerAbort a) log k l moves =
     (log_seated k l (entries_by old (AnswerAbort a))
     (quiet_keeps_log (without_its_locks a.txn (rollback_stays_sound k a moves.0.0) (λ u b. (txn_without a.txn u old.active b).1))
     (locks_go (rollback_keeps_log k l a moves.0.0) a.txn (λ u b. (txn_without a.txn u old.active b).1))
-    a.session a.txn (exchange call.Abort (Ok Aborted)) abort_is_quiet))
+    a.session a.txn (exchange call.Abort (Ok Aborted)) (abort_is_quiet o.slots)))
 event_keeps_log o es old new (Ask ticket durable) log k l moves = at_new o _ _ _ new moves (asked_keeps_log k l ticket durable)
 event_keeps_log o es old new (RefuseCall session t c fault) log k l moves =
     at_new o _ _ _ new moves.2
-    (log_seated k l (entries_by old (RefuseCall session t c fault)) (quiet_keeps_log k l session t (exchange c (Err fault)) (refusal_is_quiet c fault moves.1)))
+    (log_seated k l (entries_by old (RefuseCall session t c fault)) (quiet_keeps_log k l session t (exchange c (Err fault)) (refusal_is_quiet o.slots c fault moves.1)))
 event_keeps_log o es old new (AppendPrepare a global granules) log k l moves =
     let t_in = txn_among a old.active moves.0.0 in
     let h = decision_keeps_log k l (decision.Prepare a.txn global) (Prepare global granules) refl refl (k.below a.txn t_in) (λ R. refl) t_in in
     at_new o _ _ _ new moves.4 (record { tells_serial = h.tells_serial; undo_logged = h.undo_logged; below = h.below })
 event_keeps_log o es old new (AnswerPrepare session t global) log k l moves =
-    let h = quiet_keeps_log k l session t (exchange (call.Prepare global) (Ok Prepared)) (prepare_is_quiet global) in
+    let h = quiet_keeps_log k l session t (exchange (call.Prepare global) (Ok Prepared)) (prepare_is_quiet o.slots global) in
     at_new o _ _ _ new moves.2 (record { tells_serial = h.tells_serial; undo_logged = h.undo_logged; below = h.below })
 event_keeps_log o es old new (AppendResolve a global) log k l moves =
     let h = locks_go (commit_keeps_log k l a moves.0 moves.1) a.txn (λ u b. (txn_without a.txn u old.active b).1) in
@@ -539,8 +539,8 @@ event_keeps_log o es old new (EndRollback a) log k l moves =
     at_new o _ _ _ new moves.2 (subst (λ es. IsLogAfter o es (rollback_ended old a) (log_after log old (EndRollback a))) (sym (append-nil es))
     (locks_go (end_keeps k l a moves.0.0) a.txn (λ u b. (txn_without a.txn u old.active b).1)))
 event_keeps_log o es old new (AnswerResolve session r) log k l moves =
-    let h = quiet_keeps_log k l session r.txn (exchange (call.Resolve r.global r.outcome) (Ok Resolved)) (resolve_is_quiet r.global r.outcome) in
+    let h = quiet_keeps_log k l session r.txn (exchange (call.Resolve r.global r.outcome) (Ok Resolved)) (resolve_is_quiet o.slots r.global r.outcome) in
     at_new o _ _ _ new moves.2 (record { tells_serial = h.tells_serial; undo_logged = h.undo_logged; below = h.below })
 event_keeps_log o es old new (AnswerInDoubt session t pairs) log k l moves =
     at_new o _ _ _ new moves.2
-    (log_seated k l (entries_by old (AnswerInDoubt session t pairs)) (quiet_keeps_log k l session t (exchange call.InDoubt (Ok (AreInDoubt pairs))) (in_doubt_is_quiet pairs)))
+    (log_seated k l (entries_by old (AnswerInDoubt session t pairs)) (quiet_keeps_log k l session t (exchange call.InDoubt (Ok (AreInDoubt pairs))) (in_doubt_is_quiet o.slots pairs)))

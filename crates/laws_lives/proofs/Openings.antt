@@ -119,6 +119,7 @@ module _ (o : Opening) (s : RecoveryState) (works : List RecoveryEvent) (ready :
 
   is_open : IsOpenOn o ready.log first
   is_open = record {
+    slots = opens.slots;
     records = λ id. opens.records id ∙ redone_whole ready come_through.0 redone id.page id.slot;
     seats = opens.seats;
     resolving = opens.resolving;

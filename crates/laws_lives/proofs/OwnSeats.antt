@@ -291,7 +291,7 @@ module _ (o : Opening) (es : List Entry) (s : Sessions) (agree : SessionsAgree o
   event_seats (MoveLocks held) new h = by h.3 k
   event_seats (BeginTxn session) new h = by h.1 (begun k session s.next_txn h.0 agree.some agree.below new_doubt new_resolved)
   event_seats (GiveReply a c reply) new h =
-      by h.4 (with_pairs _ a.txn _ (reseated k _ (seat_stays s a.session _ (reply_leaves s.held a.txn s.records _ c reply h.1 h.2).stays)))
+      by h.4 (with_pairs _ a.txn _ (reseated k _ (seat_stays s a.session _ (reply_leaves s.slots s.held a.txn s.records _ c reply h.1 h.2).stays)))
   event_seats (AppendCommit a ticket) new h =
       by h.2 (ends a h.0.0 h.0.2 _ (λ n. ap (λ p. cond (a.session == n) free p) (unprepared a.txn h.0.2.0 n)))
   event_seats (PutBack a kept e r) new h = by h.4 (with_pairs s.seats a.txn _ k)

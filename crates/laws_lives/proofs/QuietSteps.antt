@@ -60,7 +60,7 @@ module _ {o : Opening} {es : List Entry} {s : Sessions} (k : IsSoundAfter o es s
     }
 
   -- a quiet reply
-  module _ (session u : ℕ) (x : Exchange) (quiet : IsQuiet x) where
+  module _ (session u : ℕ) (x : Exchange) (quiet : IsQuiet o.slots x) where
     abbrev pub with_quiet : List Entry
     with_quiet = es ++ Exchanged session u x ∷ []
 
@@ -87,7 +87,7 @@ module _ {o : Opening} {es : List Entry} {s : Sessions} (k : IsSoundAfter o es s
         stand = subst (λ xs. Stand new.held now new.records (txns_of xs) k.standing) (sym active)
             (subst (λ R. Stand new.held now R (txns_of s.active) k.standing) (sym records)
             (subst (λ held. Stand held now s.records (txns_of s.active) k.standing) (sym held) k.stand));
-        replies = λ t b. subst (λ held. StayRight held t now (calls_of t es)) (sym held) (k.replies t (at t b));
+        replies = λ t b. subst (λ held. StayRight o.slots held t now (calls_of t es)) (sym held) (k.replies t (at t b));
         undoes = λ a m. subst (λ R. CanUndo new.held now R a.txn a.undo (progress_in o es a.txn)) (sym records)
             (subst (λ held. CanUndo held now s.records a.txn a.undo (progress_in o es a.txn)) (sym held) (k.undoes a (member a m)));
         undecided = λ t b is_free. k.undecided t (at t b) (free t (at t b) is_free);

@@ -31,7 +31,7 @@ if_some None P Q f h = h
 if_some (Some x) P Q f h = f x h
 
 -- What is right on the records in place is so on each map V that has the same at each id that the transaction may read.
-module _ (held : List Hold) (t : ℕ) (R V : Records) (agree : (id : Rid) → MayRead held t id → get V id ≡ get R id) where
+module _ (most : ℕ) (held : List Hold) (t : ℕ) (R V : Records) (agree : (id : Rid) → MayRead held t id → get V id ≡ get R id) where
   there : (id : Rid) (P : Image → Type 0) → MayRead held t id → P (get R id) → P (get V id)
   there id P r h = subst P (sym (agree id r)) h
 
@@ -60,12 +60,12 @@ module _ (held : List Hold) (t : ℕ) (R V : Records) (agree : (id : Rid) → Ma
   right_there n (call.Resolve global outcome) answer permits h = h
   right_there n call.InDoubt answer permits h = h
 
-  absent_there : (id : Rid) → IsKnownAbsent held t R id → IsAbsent V id
+  absent_there : (id : Rid) → IsKnownAbsent most held t R id → IsAbsent most V id
   absent_there id (inl h) = inl (agree id h.0 ∙ h.1)
   absent_there id (inr h) = inr h
 
-  refused_there : (c : Call) (fault : Fault) → MayRefuseInPlace held t R c fault → MayRefuse V c fault
-  refused_there c NoRecord h = if_some (record_named_by c) (IsKnownAbsent held t R) (IsAbsent V) absent_there h
+  refused_there : (c : Call) (fault : Fault) → MayRefuseInPlace most held t R c fault → MayRefuse most V c fault
+  refused_there c NoRecord h = if_some (record_named_by c) (IsKnownAbsent most held t R) (IsAbsent most V) absent_there h
   refused_there c _ h = tt
 
 -- ---- what a call writes
@@ -103,13 +103,13 @@ module _ {held : List Hold} {now R : Records} {t : ℕ} (es : List Exchange) (m 
   seen : (S : Records) → AgreeWhere (MayRead held t) now S → (id : Rid) → MayRead held t id → get (overlay S (writes_of es)) id ≡ get R id
   seen S agree id r = overlays_agree now S (writes_of es) id (agree id r) ∙ sym (m.view id r)
 
-  may_reply : (c : Call) (reply : Result Answer Fault) → MayReplyInPlace held t R (length progress.saved) c reply → (S : Records)
-      → AgreeWhere (MayRead held t) now S → MayReply S progress c reply
-  may_reply c (Ok answer) h S agree = right_there held t R (overlay S progress.writes) (seen S agree) (length progress.saved) c answer h.0 h.1
-  may_reply c (Err fault) h S agree = refused_there held t R (overlay S progress.writes) (seen S agree) c fault h
+  may_reply : (most : ℕ) (c : Call) (reply : Result Answer Fault) → MayReplyInPlace most held t R (length progress.saved) c reply → (S : Records)
+      → AgreeWhere (MayRead held t) now S → MayReply most S progress c reply
+  may_reply most c (Ok answer) h S agree = right_there most held t R (overlay S progress.writes) (seen S agree) (length progress.saved) c answer h.0 h.1
+  may_reply most c (Err fault) h S agree = refused_there most held t R (overlay S progress.writes) (seen S agree) c fault h
 
   -- no rollback of it is under way
-  module _ (undo : UndoList) (k : CanUndo held now R t undo progress) (none : undo.rolling ≡ None) where
+  module _ (most : ℕ) (undo : UndoList) (k : CanUndo held now R t undo progress) (none : undo.rolling ≡ None) where
     marked : (n : ℕ) → n < length progress.saved → n < length undo.marks
     marked n less = let same = k.complete none in omega arith
 
@@ -141,18 +141,18 @@ module _ {held : List Hold} {now R : Records} {t : ℕ} (es : List Exchange) (m 
     answer_undoes call.Savepoint answer permits h = savepoint_undoes k none m
     answer_undoes _ answer permits h = k
 
-    pub reply_sees : (c : Call) (reply : Result Answer Fault) → MayReplyInPlace held t R (length progress.saved) c reply
+    pub reply_sees : (c : Call) (reply : Result Answer Fault) → MayReplyInPlace most held t R (length progress.saved) c reply
         → StillSees progress.writes m (in_place_after R undo c reply) (after_reply progress c reply).writes
     reply_sees c (Ok answer) h = answer_sees c answer h.0 h.1
     reply_sees c (Err fault) h = nothing_written progress.writes m
 
-    reply_undoes : (c : Call) (reply : Result Answer Fault) → MayReplyInPlace held t R (length progress.saved) c reply
+    reply_undoes : (c : Call) (reply : Result Answer Fault) → MayReplyInPlace most held t R (length progress.saved) c reply
         → CanUndo held now (in_place_after R undo c reply) t (undo_after R undo c reply) (after_reply progress c reply)
     reply_undoes c (Ok answer) h = answer_undoes c answer h.0 h.1
     reply_undoes c (Err fault) h = k
 
     -- with the reply among its calls it sees as it must ..
-    pub sees_after : (c : Call) (reply : Result Answer Fault) → MayReplyInPlace held t R (length progress.saved) c reply
+    pub sees_after : (c : Call) (reply : Result Answer Fault) → MayReplyInPlace most held t R (length progress.saved) c reply
         → Sees held now (in_place_after R undo c reply) t (writes_of (es ++ exchange c reply ∷ []))
     sees_after c reply h =
         let moved = reply_sees c reply h in
@@ -163,30 +163,30 @@ module _ {held : List Hold} {now R : Records} {t : ℕ} (es : List Exchange) (m 
         }
 
     -- .. it can still be undone ..
-    pub undoes_after : (c : Call) (reply : Result Answer Fault) → MayReplyInPlace held t R (length progress.saved) c reply
+    pub undoes_after : (c : Call) (reply : Result Answer Fault) → MayReplyInPlace most held t R (length progress.saved) c reply
         → CanUndo held now (in_place_after R undo c reply) t (undo_after R undo c reply) (after start (es ++ exchange c reply ∷ []))
     undoes_after c reply h =
         subst (CanUndo held now (in_place_after R undo c reply) t (undo_after R undo c reply)) (sym (after-push start es (exchange c reply)))
         (reply_undoes c reply h)
 
   -- .. and all its replies stay right.
-  pub right_after : (c : Call) (reply : Result Answer Fault) → MayReplyInPlace held t R (length progress.saved) c reply → StayRight held t now es
-      → StayRight held t now (es ++ exchange c reply ∷ [])
-  right_after c reply h right S agree = replies-push S start es (exchange c reply) (right S agree) (may_reply c reply h S agree)
+  pub right_after : (most : ℕ) (c : Call) (reply : Result Answer Fault) → MayReplyInPlace most held t R (length progress.saved) c reply → StayRight most held t now es
+      → StayRight most held t now (es ++ exchange c reply ∷ [])
+  right_after most c reply h right S agree = replies-push most S start es (exchange c reply) (right S agree) (may_reply most c reply h S agree)
 
 -- ---- a reply that may be given to a transaction that has made the calls es, whether a rollback of it is under way or none
 
-module _ (held : List Hold) (now R : Records) (t : ℕ) (es : List Exchange) (undo : UndoList) where
+module _ (most : ℕ) (held : List Hold) (now R : Records) (t : ℕ) (es : List Exchange) (undo : UndoList) where
   -- it sees as it must, it can still be undone, all its replies stay right, and only ids that it may write have changed
   pub record LeavesAll (c : Call) (reply : Result Answer Fault) : Type 0 where
     pub changes : (id : Rid) → (get (in_place_after R undo c reply) id ≡ get R id) ⊎ MayWrite held t id
     pub sees : Sees held now (in_place_after R undo c reply) t (writes_of (es ++ exchange c reply ∷ []))
     pub undoes : CanUndo held now (in_place_after R undo c reply) t (undo_after R undo c reply) (after start (es ++ exchange c reply ∷ []))
-    pub right : StayRight held t now (es ++ exchange c reply ∷ [])
+    pub right : StayRight most held t now (es ++ exchange c reply ∷ [])
 
-  module _ (k : CanUndo held now R t undo (after start es)) (right : StayRight held t now es) where
+  module _ (k : CanUndo held now R t undo (after start es)) (right : StayRight most held t now es) where
     -- a rollback to a savepoint leaves what was saved there, whatever of it was done before
-    back_leaves : (n : ℕ) (answer : Answer) → MayReplyInPlace held t R (length undo.marks) (call.BackTo n) (Ok answer)
+    back_leaves : (n : ℕ) (answer : Answer) → MayReplyInPlace most held t R (length undo.marks) (call.BackTo n) (Ok answer)
         → LeavesAll (call.BackTo n) (Ok answer)
     back_leaves n answer h =
         let x : Exchange = exchange (call.BackTo n) (Ok answer) in
@@ -197,23 +197,23 @@ module _ (held : List Hold) (now R : Records) (t : ℕ) (es : List Exchange) (un
           changes = back_changes k n less;
           sees = subst (λ p. Sees held now R' t p.writes) come (back_sees k n less);
           undoes = subst (CanUndo held now R' t (undo_after R undo (call.BackTo n) (Ok answer))) come (back_undoes k n less);
-          right = λ S agree. replies-push S start es x (right S agree) (let most = marks_saved k in omega arith, h.1.1);
+          right = λ S agree. replies-push most S start es x (right S agree) (let saved = marks_saved k in omega arith, h.1.1);
         }
 
     pub leaves_all : (L : WriteSet) → Sees held now R t L → (undo.rolling ≡ None → L ≡ writes_of es) → (c : Call) (reply : Result Answer Fault)
-        → MayGiveReply undo c reply → MayReplyInPlace held t R (length undo.marks) c reply → LeavesAll c reply
+        → MayGiveReply undo c reply → MayReplyInPlace most held t R (length undo.marks) c reply → LeavesAll c reply
     leaves_all L m is c reply (inl none) h =
         let own : Sees held now R t (writes_of es) = subst (Sees held now R t) (is none) m in
-        let judged : MayReplyInPlace held t R (length (after start es).saved) c reply = subst (λ n. MayReplyInPlace held t R n c reply) (k.complete none) h in
+        let judged : MayReplyInPlace most held t R (length (after start es).saved) c reply = subst (λ n. MayReplyInPlace most held t R n c reply) (k.complete none) h in
         record {
-          changes = (reply_sees es own undo k none c reply judged).changes;
-          sees = sees_after es own undo k none c reply judged;
-          undoes = undoes_after es own undo k none c reply judged;
-          right = right_after es own c reply judged right;
+          changes = (reply_sees es own most undo k none c reply judged).changes;
+          sees = sees_after es own most undo k none c reply judged;
+          undoes = undoes_after es own most undo k none c reply judged;
+          right = right_after es own most c reply judged right;
         }
     leaves_all L m is c reply (inr goes) h =
-        let it : MayReplyInPlace held t R (length undo.marks) (call.BackTo goes.0) (Ok goes.1) =
-        subst (λ c. MayReplyInPlace held t R (length undo.marks) c (Ok goes.1)) goes.3 (subst (MayReplyInPlace held t R (length undo.marks) c) goes.4 h) in
+        let it : MayReplyInPlace most held t R (length undo.marks) (call.BackTo goes.0) (Ok goes.1) =
+        subst (λ c. MayReplyInPlace most held t R (length undo.marks) c (Ok goes.1)) goes.3 (subst (MayReplyInPlace most held t R (length undo.marks) c) goes.4 h) in
         subst (LeavesAll c) (sym goes.4) (subst (λ c. LeavesAll c (Ok goes.1)) (sym goes.3) (back_leaves goes.0 goes.1 it))
 
   -- after it no rollback is under way

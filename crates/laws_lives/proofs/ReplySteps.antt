@@ -82,7 +82,7 @@ module _ {o : Opening} {es : List Entry} {s : Sessions} (k : IsSoundAfter o es s
     others_see R' changes u other id r = ⊎_elim (λ kept. kept) (λ w. absurd (writer_excludes k.stand t u id (λ same. other (sym same)) w r)) (changes id)
 
   -- a reply, judged on the records in place
-  module _ (a : SessionTxn) (mem : IsAmong a s.active) (is_free : IsFree s a.txn) (c : Call) (reply : Result Answer Fault) (served : MayReplyInPlace s.held a.txn s.records (length a.undo.marks) c reply) (may : MayGiveReply a.undo c reply) where
+  module _ (a : SessionTxn) (mem : IsAmong a s.active) (is_free : IsFree s a.txn) (c : Call) (reply : Result Answer Fault) (served : MayReplyInPlace o.slots s.held a.txn s.records (length a.undo.marks) c reply) (may : MayGiveReply a.undo c reply) where
     abbrev pub x : Exchange
     x = exchange c reply
 
@@ -109,9 +109,9 @@ module _ {o : Opening} {es : List Entry} {s : Sessions} (k : IsSoundAfter o es s
     own_written none = (k.stands_for a mem).written none ∙ own_writes (writes_given o.in_doubt a.txn) own not_found
 
     -- what it leaves of its own transaction
-    pub reply_leaves_all : LeavesAll s.held now s.records a.txn own a.undo c reply
+    pub reply_leaves_all : LeavesAll o.slots s.held now s.records a.txn own a.undo c reply
     reply_leaves_all =
-        leaves_all s.held now s.records a.txn own a.undo own_can (k.replies a.txn (txn_in a mem is_free x))
+        leaves_all o.slots s.held now s.records a.txn own a.undo own_can (k.replies a.txn (txn_in a mem is_free x))
         (k.standing a.txn) (k.stand.each a.txn (txn_in a mem is_free x)) own_written c reply may served
 
     -- what stands for each then
@@ -122,7 +122,7 @@ module _ {o : Opening} {es : List Entry} {s : Sessions} (k : IsSoundAfter o es s
     moved_stands b one =
         ⊎_elim
         (λ it.
-        stands_whole o more b (standing' b.txn) (ap (λ (undo : UndoList). undo.rolling) it.1 ∙ none_rolls s.held now s.records a.txn own a.undo c reply may)
+        stands_whole o more b (standing' b.txn) (ap (λ (undo : UndoList). undo.rolling) it.1 ∙ none_rolls o.slots s.held now s.records a.txn own a.undo c reply may)
         (subst (λ u. standing' u ≡ written_by o more u) (sym it.0) (standing_its k.standing a.txn (written_by o more a.txn))))
         (λ other.
         subst (IsWriteSetOf o more b) (sym (standing_others k.standing a.txn (written_by o more a.txn) b.txn other.0))
@@ -153,11 +153,11 @@ module _ {o : Opening} {es : List Entry} {s : Sessions} (k : IsSoundAfter o es s
           reply_leaves_all.changes
           (subst (Sees s.held now R' a.txn) (sym (standing_its k.standing a.txn (written_by o more a.txn)))
           (subst (Sees s.held now R' a.txn) (sym (own_writes (writes_given o.in_doubt a.txn) (calls_of a.txn more) not_found ∙ ap writes_of (own_called a mem is_free x))) reply_leaves_all.sees))));
-      replies = λ u b. subst (λ now. StayRight s.held u now (calls_of u more)) (sym (reply_now a mem is_free x))
-          (elim (u == a.txn) as (λ b. (u == a.txn) ≡ b → StayRight s.held u now (calls_of u more)) [
-            | true ↦ λ e. subst (λ v. StayRight s.held v now (calls_of v more)) (sym (eqb-true u a.txn e))
-                (subst (StayRight s.held a.txn now) (sym (own_called a mem is_free x)) reply_leaves_all.right)
-            | false ↦ λ e. subst (StayRight s.held u now) (sym (others_called a mem is_free x u (eqb-false u a.txn e)))
+      replies = λ u b. subst (λ now. StayRight o.slots s.held u now (calls_of u more)) (sym (reply_now a mem is_free x))
+          (elim (u == a.txn) as (λ b. (u == a.txn) ≡ b → StayRight o.slots s.held u now (calls_of u more)) [
+            | true ↦ λ e. subst (λ v. StayRight o.slots s.held v now (calls_of v more)) (sym (eqb-true u a.txn e))
+                (subst (StayRight o.slots s.held a.txn now) (sym (own_called a mem is_free x)) reply_leaves_all.right)
+            | false ↦ λ e. subst (StayRight o.slots s.held u now) (sym (others_called a mem is_free x u (eqb-false u a.txn e)))
                 (k.replies u (subst (IsAmong u) (txns_with a.txn undo' s.active) b))
           ] refl);
       undoes = λ b in_with. subst (λ now. CanUndo s.held now R' b.txn b.undo (progress_in o more b.txn)) (sym (reply_now a mem is_free x)) (moved_undoes b (among_with a.txn undo' b s.active in_with));

@@ -67,10 +67,10 @@ answer_leaves R n _ answer own h = absurd own
 pub refusal_leaves : (fault : Fault) → LeavesSession (Err fault)
 refusal_leaves fault = record { stays = λ p. refl; begins_none = refl }
 
-pub reply_leaves : (held : List Hold) (t : ℕ) (R : Records) (n : ℕ) (c : Call) (reply : Result Answer Fault) → IsInnerCall c
-    → MayReplyInPlace held t R n c reply → LeavesSession reply
-reply_leaves held t R n c (Ok answer) own h = answer_leaves R n c answer own h.1
-reply_leaves held t R n c (Err fault) own h = refusal_leaves fault
+pub reply_leaves : (most : ℕ) (held : List Hold) (t : ℕ) (R : Records) (n : ℕ) (c : Call) (reply : Result Answer Fault) → IsInnerCall c
+    → MayReplyInPlace most held t R n c reply → LeavesSession reply
+reply_leaves most held t R n c (Ok answer) own h = answer_leaves R n c answer own h.1
+reply_leaves most held t R n c (Err fault) own h = refusal_leaves fault
 
 if_begun : (o : Option ℕ) (P : ℕ → Type 0) → o ≡ None → IfSome o P
 if_begun o P e = subst (λ o. IfSome o P) (sym e) tt
@@ -163,6 +163,7 @@ module _ {o : Opening} {es : List Entry} {s : Sessions} (k : SessionsAgree o es 
 
   -- the transactions under way, and those in doubt among them
   pub record Lists (new : Sessions) : Type 0 where
+    pub slots : new.slots ≡ s.slots
     pub once : EachOnce (txns_of new.active)
     pub under_way : (t : ℕ) → IsAmong t (in_doubt_of new) → IsAmong t (txns_of new.active)
     pub unrolled : (a : SessionTxn) → IsAmong a new.active → IsAmong a.txn (in_doubt_of new) → a.undo.rolling ≡ None
@@ -183,6 +184,7 @@ module _ {o : Opening} {es : List Entry} {s : Sessions} (k : SessionsAgree o es 
       let le : s.next_txn ≤ new.next_txn = h.next in
       let some : 0 < new.next_txn = let old : 0 < s.next_txn = k.some in omega arith in
       record {
+        slots = h.lists.slots ∙ k.slots;
         history = history-push es o (Exchanged session t x) k.history h.may;
         seats = λ n. session_state-push n free es (Exchanged session t x) ∙ ap (λ p. after_entry n p (Exchanged session t x)) (k.seats n) ∙ h.seats n;
         once = h.lists.once;
@@ -219,6 +221,7 @@ module _ {o : Opening} {es : List Entry} {s : Sessions} (k : SessionsAgree o es 
   decided_agrees d new h =
       let same : decisions (es ++ Decided d ∷ []) ≡ decisions es ++ d ∷ [] = decisions-decided es d in
       record {
+        slots = h.lists.slots ∙ k.slots;
         history = history-push es o (Decided d) k.history h.may;
         seats = λ n. session_state-push n free es (Decided d) ∙ ap (λ p. after_decision p d) (k.seats n) ∙ h.seats n;
         once = h.lists.once;
@@ -241,6 +244,7 @@ module _ {o : Opening} {es : List Entry} {s : Sessions} (k : SessionsAgree o es 
       λ p. subst (λ ps. IsAmong p (pairs_of ps ++ map pair_resolved new.resolving) → IsAmong p (in_use s)) (sym prepared)
       (subst (λ rs. IsAmong p (pairs_of s.prepared ++ map pair_resolved rs) → IsAmong p (in_use s)) (sym resolving) (λ h. h)) in
       record {
+        slots = lists.slots ∙ k.slots;
         history = k.history;
         seats = λ n. k.seats n ∙ ap (λ f. f n) (sym seats);
         once = lists.once;
@@ -259,19 +263,21 @@ module _ {o : Opening} {es : List Entry} {s : Sessions} (k : SessionsAgree o es 
   -- ---- lists of transactions
 
   unchanged : Lists s
-  unchanged = record { once = k.once; under_way = k.under_way; unrolled = k.unrolled }
+  unchanged = record { slots = refl; once = k.once; under_way = k.under_way; unrolled = k.unrolled }
 
   -- one that is not in doubt is taken out, or has another undo list, or is new
-  without_one : (t : ℕ) → (IsAmong t (in_doubt_of s) → ⊥) → (new : Sessions) → new.active ≡ without_txn t s.active → in_doubt_of new ≡ in_doubt_of s → Lists new
-  without_one t none new active doubts = record {
+  without_one : (t : ℕ) → (IsAmong t (in_doubt_of s) → ⊥) → (new : Sessions) → new.active ≡ without_txn t s.active → in_doubt_of new ≡ in_doubt_of s → new.slots ≡ s.slots → Lists new
+  without_one t none new active doubts slots = record {
+    slots = slots;
     once = subst (λ xs. EachOnce (txns_of xs)) (sym active) (once_without t s.active k.once);
     under_way = λ u b. let was = subst (IsAmong u) doubts b in
         subst (λ xs. IsAmong u (txns_of xs)) (sym active) (txn_stays t u s.active (k.under_way u was) (λ same. none (subst (λ v. IsAmong v (in_doubt_of s)) same was)));
     unrolled = λ a m b. k.unrolled a (among_without t a s.active (subst (IsAmong a) active m)).0 (subst (IsAmong a.txn) doubts b);
   }
 
-  undo_of_one : (t : ℕ) (undo : UndoList) → (IsAmong t (in_doubt_of s) → ⊥) → (new : Sessions) → new.active ≡ with_undo t undo s.active → in_doubt_of new ≡ in_doubt_of s → Lists new
-  undo_of_one t undo none new active doubts = record {
+  undo_of_one : (t : ℕ) (undo : UndoList) → (IsAmong t (in_doubt_of s) → ⊥) → (new : Sessions) → new.active ≡ with_undo t undo s.active → in_doubt_of new ≡ in_doubt_of s → new.slots ≡ s.slots → Lists new
+  undo_of_one t undo none new active doubts slots = record {
+    slots = slots;
     once = subst (λ xs. EachOnce (txns_of xs)) (sym active) (subst EachOnce (sym (txns_with t undo s.active)) k.once);
     under_way = λ u b. subst (λ xs. IsAmong u (txns_of xs)) (sym active) (subst (IsAmong u) (sym (txns_with t undo s.active)) (k.under_way u (subst (IsAmong u) doubts b)));
     unrolled = λ a m b.
@@ -328,6 +334,7 @@ module _ {o : Opening} {es : List Entry} {s : Sessions} (k : SessionsAgree o es 
       let e : Entry = Asked ticket durable in
       let same : decisions (es ++ e ∷ []) ≡ decisions es = decisions-asked es ticket durable in
       record {
+        slots = k.slots;
         history = history-push es o e k.history tt;
         seats = λ n. session_state-push n free es e ∙ k.seats n;
         once = k.once;
@@ -356,34 +363,35 @@ module _ {o : Opening} {es : List Entry} {s : Sessions} (k : SessionsAgree o es 
           doubts = λ u b. b;
           used = λ p a. a;
           lists = record {
+            slots = refl;
             once = (λ among. let less : s.next_txn < s.next_txn = sound.below s.next_txn among in omega arith, k.once);
             under_way = λ u b. inr (k.under_way u b);
             unrolled = λ a m b. ⊎_elim (λ same. ap (λ (a : SessionTxn). a.undo.rolling) (sym same)) (λ later. k.unrolled a later b) m;
           };
         })
 
-    reply_agrees : (a : SessionTxn) (c : Call) (reply : Result Answer Fault) → IsOwn s a → IsInnerCall c → MayReplyInPlace s.held a.txn s.records (length a.undo.marks) c reply
+    reply_agrees : (a : SessionTxn) (c : Call) (reply : Result Answer Fault) → IsOwn s a → IsInnerCall c → MayReplyInPlace s.slots s.held a.txn s.records (length a.undo.marks) c reply
         → SessionsAgree o (es ++ entries_by s (GiveReply a c reply)) (seated s (entries_by s (GiveReply a c reply)) (reply_given s a c reply))
     reply_agrees a c reply own inner served =
-        left_alone a.session a.txn (exchange c reply) (reply_leaves s.held a.txn s.records (length a.undo.marks) c reply inner served)
+        left_alone a.session a.txn (exchange c reply) (reply_leaves s.slots s.held a.txn s.records (length a.undo.marks) c reply inner served)
         (own_of_txn (s.seats a.session) pairs a.txn c reply inner (own_txn a own.1)) _ refl refl refl refl (λ p b. b)
-        (undo_of_one a.txn (undo_after s.records a.undo c reply) own.2.0 _ refl refl)
+        (undo_of_one a.txn (undo_after s.records a.undo c reply) own.2.0 _ refl refl refl)
 
     refusal_agrees : (session t : ℕ) (c : Call) (fault : Fault) → IsTxnOf s session t
         → SessionsAgree o (es ++ entries_by s (RefuseCall session t c fault)) (seated s (entries_by s (RefuseCall session t c fault)) s)
     refusal_agrees session t c fault of =
         left_alone session t (exchange c (Err fault)) (refusal_leaves fault) (refused_of_txn (s.seats session) pairs t c fault (sym of)) _ refl refl refl refl (λ p b. b)
-        (record { once = k.once; under_way = k.under_way; unrolled = k.unrolled })
+        (record { slots = refl; once = k.once; under_way = k.under_way; unrolled = k.unrolled })
 
     in_doubt_agrees : (session t : ℕ) (qs : List (List ℕ × ℕ)) → IsTxnOf s session t
         → SessionsAgree o (es ++ entries_by s (AnswerInDoubt session t qs)) (seated s (entries_by s (AnswerInDoubt session t qs)) s)
     in_doubt_agrees session t qs of =
         left_alone session t (exchange call.InDoubt (Ok (AreInDoubt qs))) (record { stays = λ p. refl; begins_none = refl }) (sym of) _ refl refl refl refl (λ p b. b)
-        (record { once = k.once; under_way = k.under_way; unrolled = k.unrolled })
+        (record { slots = refl; once = k.once; under_way = k.under_way; unrolled = k.unrolled })
 
     abort_agrees : (a : SessionTxn) → IsOwn s a → SessionsAgree o (es ++ entries_by s (AnswerAbort a)) (seated s (entries_by s (AnswerAbort a)) (abort_answered s a))
     abort_agrees a own =
-        freed a own.1 (exchange call.Abort (Ok Aborted)) refl (own_txn a own.1) _ refl refl refl refl (λ p b. b) (without_one a.txn own.2.0 _ refl refl)
+        freed a own.1 (exchange call.Abort (Ok Aborted)) refl (own_txn a own.1) _ refl refl refl refl (λ p b. b) (without_one a.txn own.2.0 _ refl refl refl)
 
     pub decision_agrees : (a : SessionTxn) → IsOwn s a → SessionsAgree o (es ++ Decided (Commit a.txn) ∷ []) (seated s (Decided (Commit a.txn) ∷ []) (commit_appended s a))
     decision_agrees a own = decided_agrees (Commit a.txn) _ (record {
@@ -395,7 +403,7 @@ module _ {o : Opening} {es : List Entry} {s : Sessions} (k : SessionsAgree o es 
       turned = λ t b. prepared_push o.in_doubt (decisions es) (Commit a.txn) t (k.turned t b);
       under = λ p b. under_commit o.in_doubt (decisions es) a.txn p.1 ∙ k.under p b;
       used_below = k.used_below;
-      lists = without_one a.txn own.2.0 _ refl refl;
+      lists = without_one a.txn own.2.0 _ refl refl refl;
     })
 
     prepare_agrees : (a : SessionTxn) (global : List ℕ) (granules : List Granule) → IsOwn s a → a.undo.rolling ≡ None → IsUnused s global
@@ -428,6 +436,7 @@ module _ {o : Opening} {es : List Entry} {s : Sessions} (k : SessionsAgree o es 
               (used p b);
           used_below = λ p b. ⊎_elim (λ old. k.used_below p old) (λ same. subst (λ (p : ℕ × List ℕ). p.0 < s.next_txn) same (sound.below a.txn t_in)) (used p b);
           lists = record {
+            slots = refl;
             once = k.once;
             under_way = λ t b. ⊎_elim (λ old. k.under_way t old) (λ same. subst (λ t. IsAmong t (txns_of s.active)) same t_in) (was t b);
             unrolled = λ c m b. ⊎_elim (λ old. k.unrolled c m old) (λ same. subst (λ (c : SessionTxn). c.undo.rolling ≡ None) (same_member a c s.active k.once own.0 m same) none) (was c.txn b);
@@ -441,7 +450,7 @@ module _ {o : Opening} {es : List Entry} {s : Sessions} (k : SessionsAgree o es 
         left_alone session t (exchange (call.Prepare global) (Ok Prepared)) (record { stays = λ p. refl; begins_none = refl }) (ap (λ (p : SessionState). p.txn) (sym seat)) _ refl refl
         (sym (answered_pairs t s.prepared)) same
         (λ p b. subst (λ ps. IsAmong p (ps ++ map pair_resolved s.resolving)) (answered_pairs t s.prepared) b)
-        (record { once = k.once; under_way = λ u b. k.under_way u (subst (IsAmong u) same b); unrolled = λ a m b. k.unrolled a m (subst (IsAmong a.txn) same b) })
+        (record { slots = refl; once = k.once; under_way = λ u b. k.under_way u (subst (IsAmong u) same b); unrolled = λ a m b. k.unrolled a m (subst (IsAmong a.txn) same b) })
 
     -- what a resolve decides
     module _ (a : SessionTxn) (mem : IsAmong a s.active) (global : List ℕ) (of : IsAmong (record { txn = a.txn; global = global; answered = true }) s.prepared) where
@@ -473,6 +482,7 @@ module _ {o : Opening} {es : List Entry} {s : Sessions} (k : SessionsAgree o es 
         under = λ p b. under_commit o.in_doubt (decisions es) a.txn p.1 ∙ k.under p (left_used p b);
         used_below = λ p b. k.used_below p (left_used p b);
         lists = record {
+          slots = refl;
           once = once_without a.txn s.active k.once;
           under_way = λ t b. let was = was_prepared a.txn t s.prepared b in txn_stays a.txn t s.active (k.under_way t was.0) was.1;
           unrolled = λ c m b. k.unrolled c (among_without a.txn c s.active m).0 (was_prepared a.txn c.txn s.prepared b).0;
@@ -492,6 +502,7 @@ module _ {o : Opening} {es : List Entry} {s : Sessions} (k : SessionsAgree o es 
             under = λ p b. under_rollback o.in_doubt (decisions es) a.txn p.1 ∙ k.under p (left_used p b);
             used_below = λ p b. k.used_below p (left_used p b);
             lists = record {
+              slots = refl;
               once = subst EachOnce (sym (txns_with a.txn undo s.active)) k.once;
               under_way = λ t b. subst (IsAmong t) (sym (txns_with a.txn undo s.active)) (k.under_way t (was_prepared a.txn t s.prepared b).0);
               unrolled = λ c m b.
@@ -509,7 +520,7 @@ module _ {o : Opening} {es : List Entry} {s : Sessions} (k : SessionsAgree o es 
         (λ p b. ⊎_elim (λ doubt. among_left p (pairs_of s.prepared) (map pair_resolved s.resolving) doubt)
         (λ later. among_right p (pairs_of s.prepared) (map pair_resolved s.resolving) (resolved_without r.txn p s.resolving later))
         (among_append p (pairs_of s.prepared) (map pair_resolved (without_resolved r.txn s.resolving)) b))
-        (record { once = k.once; under_way = k.under_way; unrolled = k.unrolled })
+        (record { slots = refl; once = k.once; under_way = k.under_way; unrolled = k.unrolled })
 
 -- ---- a commit, and its answer
 
@@ -523,7 +534,7 @@ commit_agrees {o} {es} {s} k sound a own ticket =
     let mid = decision_agrees k sound a own in
     let seat : once_decided (s.seats a.session) a.txn ≡ in_txn a.txn = ap (λ p. once_decided p a.txn) own.1 ∙ own_seat a.txn in
     subst (λ es. SessionsAgree o es (seated s (entries_by s (AppendCommit a ticket)) (commit_appended s a))) (append_assoc es (Decided (Commit a.txn) ∷ []) (Exchanged a.session a.txn x ∷ []))
-    (freed mid a seat x refl (own_txn mid a seat) _ refl refl refl refl (λ p b. b) (record { once = mid.once; under_way = mid.under_way; unrolled = mid.unrolled }))
+    (freed mid a seat x refl (own_txn mid a seat) _ refl refl refl refl (λ p b. b) (record { slots = refl; once = mid.once; under_way = mid.under_way; unrolled = mid.unrolled }))
 
 -- ---- all of them
 
@@ -531,18 +542,18 @@ pub event_agrees : (o : Opening) (es : List Entry) (old new : Sessions) (e : Ses
     → SessionsAgree o (es ++ entries_by old e) new
 event_agrees o es old new (MoveLocks held) sound k moves =
     subst (SessionsAgree o (es ++ [])) (sym moves.3) (subst (λ es. SessionsAgree o es (locks_moved old held)) (sym (append-nil es))
-    (still_agrees k _ refl refl refl refl (record { once = k.once; under_way = k.under_way; unrolled = k.unrolled })))
+    (still_agrees k _ refl refl refl refl (record { slots = refl; once = k.once; under_way = k.under_way; unrolled = k.unrolled })))
 event_agrees o es old new (BeginTxn session) sound k moves = subst (SessionsAgree o _) (sym moves.1) (begin_agrees k sound session moves.0)
 event_agrees o es old new (GiveReply a c reply) sound k moves = subst (SessionsAgree o _) (sym moves.4) (reply_agrees k sound a c reply moves.0 moves.1 moves.2)
 event_agrees o es old new (AppendCommit a ticket) sound k moves = subst (SessionsAgree o _) (sym moves.2) (commit_agrees k sound a moves.0 ticket)
 event_agrees o es old new (PutBack a kept e r) sound k moves =
     subst (SessionsAgree o (es ++ [])) (sym moves.4)
     (subst (λ es. SessionsAgree o es (image_put_back old a kept e r)) (sym (append-nil es))
-    (still_agrees k _ refl refl refl refl (undo_of_one k a.txn (undo_rolled a.undo kept r) moves.0.1 _ refl refl)))
+    (still_agrees k _ refl refl refl refl (undo_of_one k a.txn (undo_rolled a.undo kept r) moves.0.1 _ refl refl refl)))
 event_agrees o es old new (Doom a) sound k moves =
     subst (SessionsAgree o (es ++ [])) (sym moves.1)
     (subst (λ es. SessionsAgree o es (doomed old a)) (sym (append-nil es))
-    (still_agrees k _ refl refl refl refl (undo_of_one k a.txn (undo_rolled a.undo a.undo.images Whole) moves.0.1 _ refl refl)))
+    (still_agrees k _ refl refl refl refl (undo_of_one k a.txn (undo_rolled a.undo a.undo.images Whole) moves.0.1 _ refl refl refl)))
 event_agrees o es old new (AnswerAbort a) sound k moves = subst (SessionsAgree o _) (sym moves.1) (abort_agrees k sound a moves.0)
 event_agrees o es old new (Ask ticket durable) sound k moves = subst (SessionsAgree o _) (sym moves) (asked_agrees k ticket durable)
 event_agrees o es old new (RefuseCall session t c fault) sound k moves = subst (SessionsAgree o _) (sym moves.2) (refusal_agrees k sound session t c fault moves.0)
@@ -553,7 +564,7 @@ event_agrees o es old new (AppendResolve a global) sound k moves = subst (Sessio
 event_agrees o es old new (AppendRollback a global) sound k moves = subst (SessionsAgree o _) (sym moves.2) (rollback_agrees k sound a moves.0 global moves.1)
 event_agrees o es old new (EndRollback a) sound k moves =
     subst (SessionsAgree o (es ++ [])) (sym moves.2)
-    (subst (λ es. SessionsAgree o es (rollback_ended old a)) (sym (append-nil es)) (still_agrees k _ refl refl refl refl (without_one k a.txn moves.0.1 _ refl refl)))
+    (subst (λ es. SessionsAgree o es (rollback_ended old a)) (sym (append-nil es)) (still_agrees k _ refl refl refl refl (without_one k a.txn moves.0.1 _ refl refl refl)))
 event_agrees o es old new (AnswerResolve session r) sound k moves = subst (SessionsAgree o _) (sym moves.2) (resolved_agrees k sound session r moves.0)
 event_agrees o es old new (AnswerInDoubt session t qs) sound k moves = subst (SessionsAgree o _) (sym moves.2) (in_doubt_agrees k sound session t qs moves.0)
 
@@ -568,6 +579,7 @@ open_agrees o s h =
     let used : (p : ℕ × List ℕ) → IsAmong p (in_use s) → IsAmong p (pairs_of s.prepared) =
     λ p b. subst (IsAmong p) (append-nil (pairs_of s.prepared)) (subst (λ rs. IsAmong p (pairs_of s.prepared ++ map pair_resolved rs)) h.resolving b) in
     record {
+      slots = h.slots;
       history = no_history o;
       seats = λ n. sym (h.seats n);
       once = h.once;

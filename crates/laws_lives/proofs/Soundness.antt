@@ -28,7 +28,7 @@ module _ (o : Opening) (es more : List Entry) where
   runs_kept : (before : List Decision) (t : ℕ) → AreKept o es more before → KeepsTurn o es more t → RunsAloneAfter (history_from o es) before t
       → RunsAloneAfter (history_from o more) before t
   runs_kept before t kept own runs = (
-    subst (λ R. MayReplyAll R start (calls_of t more)) (sym (serial-kept o es more before kept)) (own.replies _ runs.0),
+    subst (λ R. MayReplyAll o.slots R start (calls_of t more)) (sym (serial-kept o es more before kept)) (own.replies _ runs.0),
     ap (λ (p : Progress). p.writes) own.progress ∙ runs.1 ∙ sym own.writes,
   )
 
@@ -69,25 +69,25 @@ sound_decided o es d sound turn n e at =
     (slice_get-push ds d n e (sym (ap (λ ds. slice_get ds n) same) ∙ at)))
 
 -- a transaction that was not found in doubt, and could have run alone just now, does so with one decision more
-pub runs_alone_now : (o : Opening) (es : List Entry) (t : ℕ) (d : Decision) → writes_given o.in_doubt t ≡ None → MayReplyAll (serial_after o es) start (calls_of t es)
+pub runs_alone_now : (o : Opening) (es : List Entry) (t : ℕ) (d : Decision) → writes_given o.in_doubt t ≡ None → MayReplyAll o.slots (serial_after o es) start (calls_of t es)
     → RunsAloneAfter (history_from o (es ++ Decided d ∷ [])) (decisions es) t
 runs_alone_now o es t d own replies =
     let more = es ++ Decided d ∷ [] in
     let ds = decisions es in
     let kept : AreKept o es more ds = recursion-each (λ d. KeepsTurn o es more (decided_txn d)) (λ c. kept_by_decided o es (decided_txn c) d) ds in (
-      subst (λ R. MayReplyAll R start (calls_of t more)) (sym (serial-kept o es more ds kept)) ((kept_by_decided o es t d).replies _ replies),
+      subst (λ R. MayReplyAll o.slots R start (calls_of t more)) (sym (serial-kept o es more ds kept)) ((kept_by_decided o es t d).replies _ replies),
       own_writes (writes_given o.in_doubt t) (calls_of t more) own,
     )
 
 -- a commit, if its transaction could have run alone just now
-pub sound_commit : (o : Opening) (es : List Entry) (t : ℕ) → Sound (history_from o es) → writes_given o.in_doubt t ≡ None → MayReplyAll (serial_after o es) start (calls_of t es)
+pub sound_commit : (o : Opening) (es : List Entry) (t : ℕ) → Sound (history_from o es) → writes_given o.in_doubt t ≡ None → MayReplyAll o.slots (serial_after o es) start (calls_of t es)
     → Sound (history_from o (es ++ Decided (Commit t) ∷ []))
 sound_commit o es t sound own replies =
     sound_decided o es (Commit t) sound
     (if_none_or (has_prepared o.in_doubt (decisions es) t) t (RunsAloneAfter (history_from o (es ++ Decided (Commit t) ∷ [])) (decisions es)) (runs_alone_now o es t (Commit t) own replies))
 
 -- a prepare likewise
-pub sound_prepare : (o : Opening) (es : List Entry) (t : ℕ) (g : List ℕ) → Sound (history_from o es) → writes_given o.in_doubt t ≡ None → MayReplyAll (serial_after o es) start (calls_of t es)
+pub sound_prepare : (o : Opening) (es : List Entry) (t : ℕ) (g : List ℕ) → Sound (history_from o es) → writes_given o.in_doubt t ≡ None → MayReplyAll o.slots (serial_after o es) start (calls_of t es)
     → Sound (history_from o (es ++ Decided (Prepare t g) ∷ []))
 sound_prepare o es t g sound own replies =
     sound_decided o es (Prepare t g) sound

@@ -1,5 +1,5 @@
 -- Each event, and an open, leave the history sound.
-use Rattle.std.proofs.Common.{◌≡◌, ◌≢◌, inl, inr, ⊎_elim, ◌++◌, ◌<◌, ◌≤◌, ℕ, List, [], ◌∷◌, true, false, cond, Some, None, Ok, Err, refl, sym, ap, subst, ◌∙◌, map, arith, append-nil, append_assoc}
+use Rattle.std.proofs.Common.{◌≡◌, ◌≢◌, inl, inr, ⊎_elim, ◌++◌, ◌<◌, ◌≤◌, ℕ, List, [], ◌∷◌, true, false, cond, Some, None, Ok, Err, refl, sym, ap, subst, ◌∙◌, map, length, arith, append-nil, append_assoc}
 use Rattle.std.specs.Prelude.{◌==◌, All, not, slice_get}
 use Rattle.std.specs.List.{AllByRecursion}
 use Rattle.std.proofs.lemmas.Bool.{eqb-true, eqb-false, ne_eqb}
@@ -21,6 +21,7 @@ use Rattle.laws_lives.proofs.Lists.{among_map, among_right, map-push}
 use Rattle.laws_lives.proofs.Members.{txn_among, txn_without}
 use Rattle.laws_lives.proofs.Soundness.{sound_prepare, sound_resolve, sound_rollback}
 use Rattle.laws_lives.proofs.Standing.{stands_whole}
+use Rattle.laws_lives.specs.RepliesInPlace.{MayReplyInPlace}
 use Rattle.laws_lives.specs.SessionSteps.{AnswerAbort, AnswerInDoubt, AnswerPrepare, AnswerResolve, AppendCommit, AppendPrepare, AppendResolve, AppendRollback, Ask, BeginTxn, Doom, EndRollback, GiveReply, MoveLocks, PutBack, RefuseCall, SessionEvent, StepsTo, entries_by, exchange}
 use Rattle.laws_lives.specs.Sessions.{IsFree, IsTxnOf, PreparedTxn, ResolvedTxn, SessionTxn, Sessions, abort_answered, commit_appended, doomed, image_put_back, in_doubt_of, locks_moved, pair_of, pair_resolved, pairs_of, prepare_appended, resolve_appended, rollback_appended, rollback_ended, seated, txns_of, with_answered, without_prepared, without_resolved}
 use Rattle.laws_lives.specs.Soundness.{IsJustOpened, IsSoundAfter, SessionsAgree, found_in_doubt, serial_after, written_by}
@@ -148,11 +149,11 @@ module _ {o : Opening} {es : List Entry} {s : Sessions} (k : IsSoundAfter o es s
       let x : Exchange = exchange call.Commit (Ok (Committed ticket)) in
       subst (λ es. IsSoundAfter o es (commit_appended s a)) (append_assoc es (Decided (decision.Commit a.txn) ∷ []) (Exchanged a.session a.txn x ∷ []))
       (quiet_stays_sound (without_its_locks a.txn (commit_stays_sound k a mem none (commit_turn k a mem none is_free)) (λ u b. (txn_without a.txn u s.active b).1))
-      a.session a.txn x (commit_is_quiet ticket) (k.below a.txn (txn_among a s.active mem)))
+      a.session a.txn x (commit_is_quiet o.slots ticket) (k.below a.txn (txn_among a s.active mem)))
 
   abort_stays_sound : (a : SessionTxn) → IsAmong a s.active → IsSoundAfter o (es ++ entries_by s (AnswerAbort a)) (abort_answered s a)
   abort_stays_sound a mem =
-      quiet_stays_sound (end_stays_sound a mem) a.session a.txn (exchange call.Abort (Ok Aborted)) abort_is_quiet (k.below a.txn (txn_among a s.active mem))
+      quiet_stays_sound (end_stays_sound a mem) a.session a.txn (exchange call.Abort (Ok Aborted)) (abort_is_quiet o.slots) (k.below a.txn (txn_among a s.active mem))
 
   prepare_stays_sound : (a : SessionTxn) → IsAmong a s.active → IsFree s a.txn → (global : List ℕ) (granules : List Granule)
       → IsSoundAfter o (es ++ entries_by s (AppendPrepare a global granules)) (prepare_appended s a global)
@@ -190,7 +191,8 @@ event_stays_sound o es old new (MoveLocks held) k agree moves =
 event_stays_sound o es old new (BeginTxn session) k agree moves =
     subst (IsSoundAfter o _) (sym moves.1) (sound_seated old (entries_by old (BeginTxn session)) (begin_stays_sound k session))
 event_stays_sound o es old new (GiveReply a c reply) k agree moves =
-    subst (IsSoundAfter o _) (sym moves.4) (sound_seated old (entries_by old (GiveReply a c reply)) (reply_stays_sound k a moves.0.0 moves.0.2 c reply moves.2 moves.3))
+    subst (IsSoundAfter o _) (sym moves.4) (sound_seated old (entries_by old (GiveReply a c reply)) (reply_stays_sound k a moves.0.0 moves.0.2 c reply
+    (subst (λ most. MayReplyInPlace most old.held a.txn old.records (length a.undo.marks) c reply) agree.slots moves.2) moves.3))
 event_stays_sound o es old new (AppendCommit a ticket) k agree moves =
     subst (IsSoundAfter o _) (sym moves.2) (sound_seated old (entries_by old (AppendCommit a ticket)) (own_commit_stays_sound k agree a moves.0.0 moves.1 moves.0.2 ticket))
 event_stays_sound o es old new (PutBack a kept e r) k agree moves =
@@ -203,13 +205,13 @@ event_stays_sound o es old new (AnswerAbort a) k agree moves =
 event_stays_sound o es old new (Ask ticket durable) k agree moves = subst (IsSoundAfter o _) (sym moves) (asked_stays_sound k ticket durable)
 event_stays_sound o es old new (RefuseCall session t c fault) k agree moves =
     subst (IsSoundAfter o _) (sym moves.2)
-    (sound_seated old (entries_by old (RefuseCall session t c fault)) (quiet_stays_sound k session t (exchange c (Err fault)) (refusal_is_quiet c fault moves.1) (txn_below session t agree moves.0)))
+    (sound_seated old (entries_by old (RefuseCall session t c fault)) (quiet_stays_sound k session t (exchange c (Err fault)) (refusal_is_quiet o.slots c fault moves.1) (txn_below session t agree moves.0)))
 event_stays_sound o es old new (AppendPrepare a global granules) k agree moves =
     subst (IsSoundAfter o _) (sym moves.4)
     (sound_seated old (entries_by old (AppendPrepare a global granules)) (prepare_stays_sound k agree a moves.0.0 moves.0.2 global granules))
 event_stays_sound o es old new (AnswerPrepare session t global) k agree moves =
     subst (IsSoundAfter o _) (sym moves.2)
-    (sound_beside (quiet_stays_sound k session t (exchange (call.Prepare global) (Ok Prepared)) (prepare_is_quiet global)
+    (sound_beside (quiet_stays_sound k session t (exchange (call.Prepare global) (Ok Prepared)) (prepare_is_quiet o.slots global)
     (txn_below session t agree (ap (λ (p : SessionState). p.txn) moves.1))) _ refl refl refl refl
     (λ u b is. (λ h. is.0 (subst (IsAmong u) (sym (answered_txns t old.prepared)) h), is.1)))
 event_stays_sound o es old new (AppendResolve a global) k agree moves =
@@ -223,12 +225,12 @@ event_stays_sound o es old new (EndRollback a) k agree moves =
     subst (IsSoundAfter o (es ++ [])) (sym moves.2) (subst (λ es. IsSoundAfter o es (rollback_ended old a)) (sym (append-nil es)) (end_stays_sound k agree a moves.0.0))
 event_stays_sound o es old new (AnswerResolve session r) k agree moves =
     subst (IsSoundAfter o _) (sym moves.2)
-    (sound_beside (quiet_stays_sound k session r.txn (exchange (call.Resolve r.global r.outcome) (Ok Resolved)) (resolve_is_quiet r.global r.outcome) (resolved_below r agree moves.0))
+    (sound_beside (quiet_stays_sound k session r.txn (exchange (call.Resolve r.global r.outcome) (Ok Resolved)) (resolve_is_quiet o.slots r.global r.outcome) (resolved_below r agree moves.0))
     _ refl refl refl refl
     (λ u b is. (is.0, λ h. is.1 (still_resolved r.txn u old.resolving h (λ same. moves.1 (subst (λ v. IsAmong v (txns_of old.active)) same b))))))
 event_stays_sound o es old new (AnswerInDoubt session t pairs) k agree moves =
     subst (IsSoundAfter o _) (sym moves.2)
-    (sound_seated old (entries_by old (AnswerInDoubt session t pairs)) (quiet_stays_sound k session t (exchange call.InDoubt (Ok (AreInDoubt pairs))) (in_doubt_is_quiet pairs) (txn_below session t agree moves.0)))
+    (sound_seated old (entries_by old (AnswerInDoubt session t pairs)) (quiet_stays_sound k session t (exchange call.InDoubt (Ok (AreInDoubt pairs))) (in_doubt_is_quiet o.slots pairs) (txn_below session t agree moves.0)))
 
 -- nothing has happened yet
 pub open_is_sound : (o : Opening) (s : Sessions) → IsJustOpened o s → IsSoundAfter o [] s

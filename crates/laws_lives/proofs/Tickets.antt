@@ -81,7 +81,7 @@ event_tickets base durable log es old new e long steps answers h =
         → AreTickets base (log_after log old e) (es ++ entries_by old e)
     of_event (MoveLocks held) m a k = no_entry base _ es k
     of_event (BeginTxn session) m a k = none_more base _ es k _ refl
-    of_event (GiveReply b c reply) m a k = none_more base _ es k _ (no_ticket b.txn reply (reply_leaves old.held b.txn old.records _ c reply m.1 m.2))
+    of_event (GiveReply b c reply) m a k = none_more base _ es k _ (no_ticket b.txn reply (reply_leaves old.slots old.held b.txn old.records _ c reply m.1 m.2))
     of_event (AppendCommit b n) m a k =
         let d : Entry = Decided (decision.Commit b.txn) in
         let mid = none_more base _ es k d refl in

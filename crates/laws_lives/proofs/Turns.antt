@@ -21,13 +21,13 @@ use Rattle.laws_lives.specs.Soundness.{decided_txn, progress_from, progress_in, 
 pub record KeepsTurn (o : Opening) (es more : List Entry) (t : ℕ) : Type 0 where
   pub progress : progress_in o more t ≡ progress_in o es t
   pub writes : writes_of (calls_of t more) ≡ writes_of (calls_of t es)
-  pub replies : (R : Records) → MayReplyAll R start (calls_of t es) → MayReplyAll R start (calls_of t more)
+  pub replies : (R : Records) → MayReplyAll o.slots R start (calls_of t es) → MayReplyAll o.slots R start (calls_of t more)
 
 kept_if_same : (o : Opening) (es more : List Entry) (t : ℕ) → calls_of t more ≡ calls_of t es → KeepsTurn o es more t
 kept_if_same o es more t e = record {
   progress = ap (progress_from (writes_given o.in_doubt t)) e;
   writes = ap writes_of e;
-  replies = λ R h. subst (MayReplyAll R start) (sym e) h;
+  replies = λ R h. subst (MayReplyAll o.slots R start) (sym e) h;
 }
 
 pub kept_by_other : (o : Opening) (es : List Entry) (t u s : ℕ) (x : Exchange) → u ≢ t → KeepsTurn o es (es ++ Exchanged s u x ∷ []) t
@@ -40,19 +40,19 @@ pub kept_by_asked : (o : Opening) (es : List Entry) (t n : ℕ) (b : Bool) → K
 kept_by_asked o es t n b = kept_if_same o es _ t (calls-asked es t n b)
 
 -- a quiet reply leaves the progress
-pub quiet_progress : (given : Option WriteSet) (xs : List Exchange) (x : Exchange) → IsQuiet x → progress_from given (xs ++ x ∷ []) ≡ progress_from given xs
-quiet_progress None xs x quiet = ap (λ (p : Progress). record { writes = p.writes; saved = p.saved }) (after-push start xs x ∙ quiet.leaves (after start xs))
-quiet_progress (Some W) xs x quiet = refl
+pub quiet_progress : (most : ℕ) (given : Option WriteSet) (xs : List Exchange) (x : Exchange) → IsQuiet most x → progress_from given (xs ++ x ∷ []) ≡ progress_from given xs
+quiet_progress most None xs x quiet = ap (λ (p : Progress). record { writes = p.writes; saved = p.saved }) (after-push start xs x ∙ quiet.leaves (after start xs))
+quiet_progress most (Some W) xs x quiet = refl
 
-kept_by_push : (o : Opening) (es more : List Entry) (t : ℕ) (x : Exchange) → IsQuiet x → calls_of t more ≡ calls_of t es ++ x ∷ [] → KeepsTurn o es more t
+kept_by_push : (o : Opening) (es more : List Entry) (t : ℕ) (x : Exchange) → IsQuiet o.slots x → calls_of t more ≡ calls_of t es ++ x ∷ [] → KeepsTurn o es more t
 kept_by_push o es more t x quiet e = record {
-  progress = ap (progress_from (writes_given o.in_doubt t)) e ∙ quiet_progress (writes_given o.in_doubt t) (calls_of t es) x quiet;
+  progress = ap (progress_from (writes_given o.in_doubt t)) e ∙ quiet_progress o.slots (writes_given o.in_doubt t) (calls_of t es) x quiet;
   writes = ap writes_of e ∙ ap (λ (p : Progress). p.writes) (after-push start (calls_of t es) x ∙ quiet.leaves (after start (calls_of t es)));
-  replies = λ R h. subst (MayReplyAll R start) (sym e) (replies-push R start (calls_of t es) x h (quiet.may R (after start (calls_of t es))));
+  replies = λ R h. subst (MayReplyAll o.slots R start) (sym e) (replies-push o.slots R start (calls_of t es) x h (quiet.may R (after start (calls_of t es))));
 }
 
 -- a quiet reply leaves its own transaction too
-pub kept_by_quiet : (o : Opening) (es : List Entry) (t u s : ℕ) (x : Exchange) → IsQuiet x → KeepsTurn o es (es ++ Exchanged s u x ∷ []) t
+pub kept_by_quiet : (o : Opening) (es : List Entry) (t u s : ℕ) (x : Exchange) → IsQuiet o.slots x → KeepsTurn o es (es ++ Exchanged s u x ∷ []) t
 kept_by_quiet o es t u s x quiet =
     elim (u == t) as (λ b. (u == t) ≡ b → KeepsTurn o es (es ++ Exchanged s u x ∷ []) t) [
       | true ↦ λ e. kept_by_push o es _ t x quiet (calls-exchanged es t u s x true e)

@@ -223,7 +223,7 @@ module _ {o : Opening} {es : List Entry} {s : Sessions} {log : List LogRecord} (
     by_answer is_free call.Savepoint answer may = unmoved
     by_answer is_free _ answer may = unmoved
 
-    by_reply : IsFree s a.txn → (n : ℕ) (c : Call) (reply : Result Answer Fault) → MayReplyInPlace s.held a.txn s.records n c reply
+    by_reply : IsFree s a.txn → (n : ℕ) (c : Call) (reply : Result Answer Fault) → MayReplyInPlace s.slots s.held a.txn s.records n c reply
         → HasGone (log_after_reply log s.records a c reply) (undo_after s.records a.undo c reply).images
     by_reply is_free n c (Ok answer) h = by_answer is_free c answer h.0
     by_reply is_free n c (Err fault) h = unmoved
@@ -253,7 +253,7 @@ module _ {o : Opening} {es : List Entry} {s : Sessions} {log : List LogRecord} (
           some = w.some;
         }
 
-    pub reply_stays_whole : IsFree s a.txn → (c : Call) (reply : Result Answer Fault) → MayReplyInPlace s.held a.txn s.records (length a.undo.marks) c reply
+    pub reply_stays_whole : IsFree s a.txn → (c : Call) (reply : Result Answer Fault) → MayReplyInPlace s.slots s.held a.txn s.records (length a.undo.marks) c reply
         → IsWholeLog (log_after_reply log s.records a c reply) (reply_given s a c reply)
     reply_stays_whole is_free c reply served =
         gone_stays_whole (in_place_after s.records a.undo c reply) (undo_after s.records a.undo c reply) (log_after_reply log s.records a c reply)

@@ -35,7 +35,7 @@ two_below_0 le = omega (arith, le)
 
 module _ (a : Rid) (o : Records) (x z : List ℕ) (at_a : get o a ≡ Some x) where
   abbrev s1 : Sessions
-  s1 = seated (just_opened o) (entries_by (just_opened o) (BeginTxn 1)) (txn_begun (just_opened o) 1)
+  s1 = seated (just_opened 2042 o) (entries_by (just_opened 2042 o) (BeginTxn 1)) (txn_begun (just_opened 2042 o) 1)
 
   abbrev s2 : Sessions
   s2 = locks_moved s1 (write_lock 1 a ∷ [])
@@ -68,7 +68,7 @@ module _ (a : Rid) (o : Records) (x z : List ℕ) (at_a : get o a ≡ Some x) wh
   z_there = put_here o a (Some z)
 
   -- the events, with `forced` records durable before the ticket is asked for
-  runs : (forced : ℕ) (durable : Bool) → forced ≤ 3 → (durable ≡ true) ↔ (2 ≤ forced) → (made : List Entry) × RunsOver (just_opened o) [] 0 (lazily_committed o a z durable) [] s8 made
+  runs : (forced : ℕ) (durable : Bool) → forced ≤ 3 → (durable ≡ true) ↔ (2 ≤ forced) → (made : List Entry) × RunsOver (just_opened 2042 o) [] 0 (lazily_committed o a z durable) [] s8 made
   runs forced durable most answers = (
     _,
     (
@@ -138,14 +138,14 @@ module _ (a : Rid) (o : Records) (x z : List ℕ) (at_a : get o a ≡ Some x) wh
     ),
   )
 
-  pub not_yet : (last : Sessions) × (made : List Entry) × RunsOver (just_opened o) [] 0 (lazily_committed o a z false) [] last made
+  pub not_yet : (last : Sessions) × (made : List Entry) × RunsOver (just_opened 2042 o) [] 0 (lazily_committed o a z false) [] last made
       × (decisions made ≡ Commit 1 ∷ Commit 2 ∷ []) × (acknowledged made ≡ []) × Kept made []
   unfolding runs
   not_yet =
       let run = runs 0 false (omega arith) ((λ e. absurd (true≢false (sym e))), (λ le. absurd (two_below_0 le))) in
       (s8, run.0, run.1, refl, refl, record { beginning = (0, refl); acknowledged_kept = All-nil (Contains []) })
 
-  pub then : (last : Sessions) × (made : List Entry) × RunsOver (just_opened o) [] 0 (lazily_committed o a z true) [] last made
+  pub then : (last : Sessions) × (made : List Entry) × RunsOver (just_opened 2042 o) [] 0 (lazily_committed o a z true) [] last made
       × (acknowledged made ≡ Commit 1 ∷ []) × (Kept made [] → ⊥) × Kept made (Commit 1 ∷ [])
   unfolding runs
   then =
@@ -160,7 +160,7 @@ module _ (a : Rid) (o : Records) (x z : List ℕ) (at_a : get o a ≡ Some x) wh
 
 -- ---- commits that go wrong
 
-pub early_is_unsound : (o : Records) (a : Rid) (x z : List ℕ) → get o a ≡ Some x → x ≢ z → Sound (history_from (opening_with o) (read_too_early a z)) → ⊥
+pub early_is_unsound : (o : Records) (a : Rid) (x z : List ℕ) → get o a ≡ Some x → x ≢ z → Sound (history_from (opening_with 2042 o) (read_too_early a z)) → ⊥
 early_is_unsound o a x z at_a other sound =
     let got : IsSomeAnd (get (overlay o empty) a) (λ bytes. Got z ≡ Got bytes) = (sound 0 (Commit 2) refl).0.1.0 in
     let its : IsSomeAnd (Some x) (λ bytes. Got z ≡ Got bytes) = subst (λ image. IsSomeAnd image (λ bytes. Got z ≡ Got bytes)) (overlay_none o empty a (get-empty rid_cmp a) ∙ at_a) got in

@@ -61,7 +61,7 @@ module _ (a : Rid) where
 
   module _ (o : Records) (x z global : List ℕ) (at_a : get o a ≡ Some x) where
     abbrev s1 : Sessions
-    s1 = seated (just_opened o) (entries_by (just_opened o) (BeginTxn 1)) (txn_begun (just_opened o) 1)
+    s1 = seated (just_opened 2042 o) (entries_by (just_opened 2042 o) (BeginTxn 1)) (txn_begun (just_opened 2042 o) 1)
 
     abbrev s2 : Sessions
     s2 = locks_moved s1 (lock ∷ [])
@@ -76,10 +76,10 @@ module _ (a : Rid) where
     s5 = seated s4 (entries_by s4 (AnswerPrepare 1 1 global)) (prepare_answered s4 1)
 
     -- to the Prepare
-    pub prepare_once : (last : Sessions) × (made : List Entry) × RunsTo (just_opened o) (prepared_once o a z global) [] last made
+    pub prepare_once : (last : Sessions) × (made : List Entry) × RunsTo (just_opened 2042 o) (prepared_once o a z global) [] last made
         × (decisions made ≡ decision.Prepare 1 global ∷ []) × (in_doubt [] (decisions made) ≡ (1, global) ∷ [])
     prepare_once =
-        let run : (made : List Entry) × RunsTo (just_opened o) (prepared_once o a z global) [] s4 made = (
+        let run : (made : List Entry) × RunsTo (just_opened 2042 o) (prepared_once o a z global) [] s4 made = (
           _,
           (
             s1,
@@ -117,10 +117,10 @@ module _ (a : Rid) where
     abbrev t11 : Sessions
     t11 = seated t10 (entries_by t10 (AnswerResolve 3 (to_abort global))) (resolve_answered t10 1)
 
-    pub resolve_to_abort : (last : Sessions) × (made : List Entry) × RunsTo (just_opened o) (resolved_to_abort o a z global) [] last made
+    pub resolve_to_abort : (last : Sessions) × (made : List Entry) × RunsTo (just_opened 2042 o) (resolved_to_abort o a z global) [] last made
         × (get last.records a ≡ Some x) × (in_doubt [] (decisions made) ≡ [])
     resolve_to_abort =
-        let run : (made : List Entry) × RunsTo (just_opened o) (resolved_to_abort o a z global) [] t11 made = (
+        let run : (made : List Entry) × RunsTo (just_opened 2042 o) (resolved_to_abort o a z global) [] t11 made = (
           _,
           (
             s1,
@@ -195,10 +195,10 @@ module _ (a : Rid) where
     z_there : get (put_image o a (Some z)) a ≡ Some z
     z_there = put_here o a (Some z)
 
-    pub resolve_to_commit : (last : Sessions) × (made : List Entry) × RunsTo (just_opened o) (resolved_to_commit o a z global) [] last made
+    pub resolve_to_commit : (last : Sessions) × (made : List Entry) × RunsTo (just_opened 2042 o) (resolved_to_commit o a z global) [] last made
         × (get last.records a ≡ Some z) × (decisions made ≡ decision.Prepare 1 global ∷ decision.Commit 1 ∷ []) × (in_doubt [] (decisions made) ≡ [])
     resolve_to_commit =
-        let run : (made : List Entry) × RunsTo (just_opened o) (resolved_to_commit o a z global) [] u11 made = (
+        let run : (made : List Entry) × RunsTo (just_opened 2042 o) (resolved_to_commit o a z global) [] u11 made = (
           _,
           (
             s1,
@@ -324,7 +324,7 @@ module _ (a : Rid) (o : Records) (x z global : List ℕ) (at_a : get o a ≡ Som
 -- ---- a prepare that is answered after a resolve
 
 -- it would be an answer to a session in no transaction
-pub late_answer_is_nobodys : (R : Records) (n : ℕ) (global : List ℕ) → IsHistory (history_from (opening_with R) (resolved_first global ++ late_answer n global ∷ [])) → n ≡ 0
+pub late_answer_is_nobodys : (R : Records) (n : ℕ) (global : List ℕ) → IsHistory (history_from (opening_with 2042 R) (resolved_first global ++ late_answer n global ∷ [])) → n ≡ 0
 late_answer_is_nobodys R n global h = (h 3 (late_answer n global) refl).1
 
 -- and then acknowledge a decision that nobody made

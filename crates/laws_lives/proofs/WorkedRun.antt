@@ -127,7 +127,7 @@ module _ (a b : Rid) (differ : a ≢ b) where
     after_undo = put_image after_delete b (get after_change b)
 
     abbrev s1 : Sessions
-    s1 = seated (just_opened o) (entries_by (just_opened o) (BeginTxn 1)) (txn_begun (just_opened o) 1)
+    s1 = seated (just_opened 2042 o) (entries_by (just_opened 2042 o) (BeginTxn 1)) (txn_begun (just_opened 2042 o) 1)
 
     abbrev s2 : Sessions
     s2 = seated s1 (entries_by s1 (BeginTxn 2)) (txn_begun s1 2)
@@ -184,9 +184,9 @@ module _ (a b : Rid) (differ : a ≢ b) where
     abbrev t9 : Sessions
     t9 = seated t8 (entries_by t8 (AnswerAbort reader)) (abort_answered t8 reader)
 
-    pub interrupt_abort : (last : Sessions) × (made : List Entry) × RunsTo (just_opened o) (abort_interrupted o a b x z) [] last made × (get last.records b ≡ Some y)
+    pub interrupt_abort : (last : Sessions) × (made : List Entry) × RunsTo (just_opened 2042 o) (abort_interrupted o a b x z) [] last made × (get last.records b ≡ Some y)
     interrupt_abort =
-        let run : (made : List Entry) × RunsTo (just_opened o) (abort_interrupted o a b x z) [] t9 made = (
+        let run : (made : List Entry) × RunsTo (just_opened 2042 o) (abort_interrupted o a b x z) [] t9 made = (
           _,
           (
             s1,
@@ -253,9 +253,9 @@ module _ (a b : Rid) (differ : a ≢ b) where
     abbrev u12 : Sessions
     u12 = seated u10 (entries_by u10 (AnswerAbort reader)) (abort_answered u10 reader)
 
-    pub interrupt_way_back : (last : Sessions) × (made : List Entry) × RunsTo (just_opened o) (way_back_interrupted o a b x z ticket) [] last made × (get last.records b ≡ Some y)
+    pub interrupt_way_back : (last : Sessions) × (made : List Entry) × RunsTo (just_opened 2042 o) (way_back_interrupted o a b x z ticket) [] last made × (get last.records b ≡ Some y)
     interrupt_way_back =
-        let run : (made : List Entry) × RunsTo (just_opened o) (way_back_interrupted o a b x z ticket) [] u12 made = (
+        let run : (made : List Entry) × RunsTo (just_opened 2042 o) (way_back_interrupted o a b x z ticket) [] u12 made = (
           _,
           (
             s1,
@@ -305,9 +305,9 @@ module _ (a b : Rid) (differ : a ≢ b) where
         ) in
         (u12, run.0, run.1, put_here after_undo b (get o b) ∙ at_b)
 
-    pub interleave : (last : Sessions) × (made : List Entry) × RunsTo (just_opened o) (interleaved o a b x z ticket) [] last made × (get last.records b ≡ Some z)
+    pub interleave : (last : Sessions) × (made : List Entry) × RunsTo (just_opened 2042 o) (interleaved o a b x z ticket) [] last made × (get last.records b ≡ Some z)
     interleave =
-        let run : (made : List Entry) × RunsTo (just_opened o) (interleaved o a b x z ticket) [] s12 made = (
+        let run : (made : List Entry) × RunsTo (just_opened 2042 o) (interleaved o a b x z ticket) [] s12 made = (
           _,
           (
             s1,

@@ -11,7 +11,6 @@ use Rattle.shore_types.specs.Images.{Image}
 use Rattle.shore_types.specs.declared.faults.Fault.{Fault}
 use Rattle.shore_types.specs.declared.faults.Fault.TheVariants.{NoRecord}
 use Rattle.shore_types.specs.declared.ids.Rid.{Rid}
-use Rattle.shore_types.specs.declared.layout.TheConstants.{MAX_SLOTS}
 use Rattle.shore_types.specs.declared.locking.Granule.{Granule}
 use Rattle.shore_types.specs.declared.locking.Granule.TheVariants.{Record}
 use Rattle.shore_types.specs.declared.locking.Mode.{Mode}
@@ -32,26 +31,26 @@ use Rattle.laws_lives.specs.UndoLists.{mark_of}
 use Rattle.laws_lives.specs.Views.{IsAmong}
 use Rattle.laws_lives.specs.WorkedRun.{read_lock}
 
-module _ (t : ℕ) (R : Records) (n : ℕ) where
+module _ (most : ℕ) (t : ℕ) (R : Records) (n : ℕ) where
   no_lock_reads : (id : Rid) → MayRead [] t id → ⊥
   no_lock_reads id r = omega (arith, r.2)
 
-  pub get_unlocked : (id : Rid) (answer : Answer) → MayReplyInPlace [] t R n (call.Get id) (Ok answer) → ⊥
+  pub get_unlocked : (id : Rid) (answer : Answer) → MayReplyInPlace most [] t R n (call.Get id) (Ok answer) → ⊥
   get_unlocked id answer h = no_lock_reads id h.0
 
-  pub absent_unlocked : (id : Rid) → id.slot < MAX_SLOTS → MayReplyInPlace [] t R n (call.Get id) (Err NoRecord) → ⊥
+  pub absent_unlocked : (id : Rid) → id.slot < most → MayReplyInPlace most [] t R n (call.Get id) (Err NoRecord) → ⊥
   absent_unlocked id less (inl h) = no_lock_reads id h.0
   absent_unlocked id less (inr beyond) = omega arith
 
   pub insert_under_read_lock : (id : Rid) (s : ℕ) (bytes : List ℕ)
-      → MayReplyInPlace (read_lock t id ∷ []) t R n (call.Insert s bytes) (Ok (Inserted id)) → ⊥
+      → MayReplyInPlace most (read_lock t id ∷ []) t R n (call.Insert s bytes) (Ok (Inserted id)) → ⊥
   insert_under_read_lock id s bytes h =
       let w = h.0 in
       let same = only_one (read_lock t id) w.1 (w.0, w.2, w.3) in
       let no : IsTrue false = subst (λ (h : Hold). IsTrue (is_write h.mode)) (sym same) w.4.2 in
       cc
 
-  pub scan_under_record_lock : (a b : Rid) (answer : Answer) → a ≢ b → MayReplyInPlace (read_lock t a ∷ []) t R n (call.Scan b.page.store) (Ok answer)
+  pub scan_under_record_lock : (a b : Rid) (answer : Answer) → a ≢ b → MayReplyInPlace most (read_lock t a ∷ []) t R n (call.Scan b.page.store) (Ok answer)
       → ⊥
   scan_under_record_lock a b answer differ h =
       let r = h.0 b (λ i. b.page.store) in

@@ -121,6 +121,7 @@ RunsOver s log durable (e ∷ events) es last made =
 -- Sessions open on what a restart has left: the records that the pages show, no session in a transaction, and numbers that no record has. Those in
 -- doubt are under way, with the undo lists and locks that the log gives them.
 pub record OpensOver (o : Opening) (ready : RecoveryState) (first : Sessions) : Type 0 where
+  pub slots : first.slots ≡ o.slots
   pub records : (id : Rid) → get first.records id ≡ (ready.in_place id.page).slots id.slot
   pub seats : (n : ℕ) → first.seats n ≡ free
   pub resolving : first.resolving ≡ []

@@ -5,7 +5,6 @@ use Rattle.std.specs.FinMap.{get}
 use Rattle.shore_types.specs.declared.faults.Fault.{Fault}
 use Rattle.shore_types.specs.declared.faults.Fault.TheVariants.{NoRecord}
 use Rattle.shore_types.specs.declared.ids.Rid.{Rid}
-use Rattle.shore_types.specs.declared.layout.TheConstants.{MAX_SLOTS}
 use Rattle.shore_model.specs.declared.calls.Answer.{Answer}
 use Rattle.shore_model.specs.declared.calls.Answer.TheVariants.{Inserted}
 use Rattle.shore_model.specs.declared.calls.Call.{Call}
@@ -36,16 +35,16 @@ Permit held t (call.Prepare global) answer = Unit {0}
 Permit held t (call.Resolve global outcome) answer = Unit {0}
 Permit held t call.InDoubt answer = Unit {0}
 
--- the transaction may know that the id has no record: it may read the id and finds none, or the slot is beyond those of a page
-abbrev pub IsKnownAbsent : List Hold → ℕ → Records → Rid → Type 0
-IsKnownAbsent held t R id = (MayRead held t id × (get R id ≡ None)) ⊎ (MAX_SLOTS ≤ id.slot)
+-- the transaction may know that the id has no record: it may read the id and finds none, or the slot is beyond the most that a page has
+abbrev pub IsKnownAbsent : ℕ → List Hold → ℕ → Records → Rid → Type 0
+IsKnownAbsent most held t R id = (MayRead held t id × (get R id ≡ None)) ⊎ (most ≤ id.slot)
 
 -- `NoRecord` comes only if the transaction may know it of the record that the call names; other refusals tell nothing of records
-abbrev pub MayRefuseInPlace : List Hold → ℕ → Records → Call → Fault → Type 0
-MayRefuseInPlace held t R c NoRecord = IsSomeAnd (record_named_by c) (IsKnownAbsent held t R)
-MayRefuseInPlace held t R c _ = Unit {0}
+abbrev pub MayRefuseInPlace : ℕ → List Hold → ℕ → Records → Call → Fault → Type 0
+MayRefuseInPlace most held t R c NoRecord = IsSomeAnd (record_named_by c) (IsKnownAbsent most held t R)
+MayRefuseInPlace most held t R c _ = Unit {0}
 
 -- the reply may be given to a transaction with n savepoints: its locks permit it, and it is right on the records in place
-abbrev pub MayReplyInPlace : List Hold → ℕ → Records → ℕ → Call → Result Answer Fault → Type 0
-MayReplyInPlace held t R n c (Ok answer) = Permit held t c answer × IsRight R n c answer
-MayReplyInPlace held t R n c (Err fault) = MayRefuseInPlace held t R c fault
+abbrev pub MayReplyInPlace : ℕ → List Hold → ℕ → Records → ℕ → Call → Result Answer Fault → Type 0
+MayReplyInPlace most held t R n c (Ok answer) = Permit held t c answer × IsRight R n c answer
+MayReplyInPlace most held t R n c (Err fault) = MayRefuseInPlace most held t R c fault

@@ -134,7 +134,7 @@ StepsTo s (MoveLocks held) new =
     × All (λ h. h.txn < s.next_txn) held × (new ≡ locks_moved s held)
 StepsTo s (BeginTxn session) new = IsInNoTxn s session × (new ≡ seated s (entries_by s (BeginTxn session)) (txn_begun s session))
 StepsTo s (GiveReply a c reply) new =
-    IsOwn s a × IsInnerCall c × MayReplyInPlace s.held a.txn s.records (length a.undo.marks) c reply
+    IsOwn s a × IsInnerCall c × MayReplyInPlace s.slots s.held a.txn s.records (length a.undo.marks) c reply
     × MayGiveReply a.undo c reply × (new ≡ seated s (entries_by s (GiveReply a c reply)) (reply_given s a c reply))
 StepsTo s (AppendCommit a ticket) new = IsOwn s a × (a.undo.rolling ≡ None) × (new ≡ seated s (entries_by s (AppendCommit a ticket)) (commit_appended s a))
 StepsTo s (PutBack a kept e r) new =

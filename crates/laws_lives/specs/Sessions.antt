@@ -38,6 +38,8 @@ pub record ResolvedTxn : Type 0 where
   pub outcome : Outcome
 
 pub record Sessions : Type 0 where
+  -- the most slots of a page
+  pub slots : ℕ
   -- the records in place, committed or not
   pub records : Records
   -- the transactions under way, those in doubt and those that a resolve has decided to roll back among them

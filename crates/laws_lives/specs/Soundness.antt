@@ -22,8 +22,8 @@ use Rattle.laws_lives.specs.Views.{IsAmong, Stand, StayRight}
 -- ---- what a history says
 
 -- an open that found these records, and none in doubt
-abbrev pub opening_with : Records → Opening
-opening_with R = record { records = R; in_doubt = [] }
+abbrev pub opening_with : ℕ → Records → Opening
+opening_with slots R = record { slots = slots; records = R; in_doubt = [] }
 
 abbrev pub history_from : Opening → List Entry → History
 history_from o es = record { opening = o; entries = es }
@@ -69,7 +69,7 @@ pub record IsSoundAfter (o : Opening) (es : List Entry) (s : Sessions) : Type 0 
   pub standing : ℕ → WriteSet
   pub stands_for : (a : SessionTxn) → IsAmong a s.active → IsWriteSetOf o es a (standing a.txn)
   pub stand : Stand s.held (serial_after o es) s.records (txns_of s.active) standing
-  pub replies : (t : ℕ) → IsAmong t (txns_of s.active) → StayRight s.held t (serial_after o es) (calls_of t es)
+  pub replies : (t : ℕ) → IsAmong t (txns_of s.active) → StayRight o.slots s.held t (serial_after o es) (calls_of t es)
   pub undoes : (a : SessionTxn) → IsAmong a s.active → CanUndo s.held (serial_after o es) s.records a.txn a.undo (progress_in o es a.txn)
   -- a transaction under way is not decided, if it is not prepared
   pub undecided : (t : ℕ) → IsAmong t (txns_of s.active) → IsFree s t → AllByRecursion (λ d. decided_txn d ≢ t) (decisions es)
@@ -84,6 +84,7 @@ pub record IsSoundAfter (o : Opening) (es : List Entry) (s : Sessions) : Type 0 
 
 -- The entries are a history, and by it each session is in its transaction, and those are in doubt that the state has as such.
 pub record SessionsAgree (o : Opening) (es : List Entry) (s : Sessions) : Type 0 where
+  pub slots : s.slots ≡ o.slots
   pub history : IsHistory (history_from o es)
   pub seats : (n : ℕ) → session_state n free es ≡ s.seats n
   -- a transaction comes once among those under way
@@ -111,6 +112,7 @@ found_in_doubt d = record { txn = d.txn; global = d.global; answered = true }
 -- A manager that was opened just now: no session is in a transaction, under way are those found in doubt, under their locks, with their changes in
 -- place, and with undo lists that undo these.
 pub record IsJustOpened (o : Opening) (s : Sessions) : Type 0 where
+  pub slots : s.slots ≡ o.slots
   pub seats : (n : ℕ) → s.seats n ≡ free
   pub resolving : s.resolving ≡ []
   pub prepared : s.prepared ≡ map found_in_doubt o.in_doubt

@@ -22,8 +22,8 @@ AgreeWhere P R S = (id : Rid) → P id → get S id ≡ get R id
 -- The replies stay right: a transaction that runs alone may have them on every map that agrees with the serial records at each id that
 -- the transaction may read. By harmony no other transaction changes anything there, so its commit leaves them right. What the calls have
 -- read need not be listed for this.
-abbrev pub StayRight : List Hold → ℕ → Records → List Exchange → Type 0
-StayRight held t now es = (S : Records) → AgreeWhere (MayRead held t) now S → MayReplyAll S start es
+abbrev pub StayRight : ℕ → List Hold → ℕ → Records → List Exchange → Type 0
+StayRight most held t now es = (S : Records) → AgreeWhere (MayRead held t) now S → MayReplyAll most S start es
 
 -- How a transaction that has written W sees the records in place, R: at each id that it may read they are the serial records overlaid
 -- by W. It holds a lock to write on each id of its write set.

@@ -32,6 +32,7 @@ pub record IsWholeLog (log : List LogRecord) (s : Sessions) : Type 0 where
 -- The sessions are just opened on the log: nothing in it is to be undone but by those in doubt, who are as the log has them. What it tells is in
 -- place, and no number comes again.
 pub record IsOpenOn (o : Opening) (log : List LogRecord) (s : Sessions) : Type 0 where
+  pub slots : s.slots ≡ o.slots
   pub records : (id : Rid) → get s.records id ≡ image_of_record log id
   pub seats : (n : ℕ) → s.seats n ≡ free
   pub resolving : s.resolving ≡ []

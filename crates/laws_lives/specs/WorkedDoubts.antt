@@ -83,6 +83,7 @@ found_again undo = record { session = 0; txn = 1; undo = undo }
 
 abbrev pub doubtful_open : Records → Rid → List ℕ → List ℕ → Sessions
 doubtful_open o a z global = record {
+  slots = 2042;
   records = put_image o a (Some z);
   active = found_again (undo_in (doubtful_log o a z global) 1) ∷ [];
   held = restored_locks (doubts_in (doubtful_log o a z global));

@@ -17,8 +17,8 @@ use Rattle.laws_lives.specs.SessionSteps.{AnswerAbort, AppendCommit, BeginTxn, G
 use Rattle.laws_lives.specs.Sessions.{SessionTxn, Sessions}
 use Rattle.laws_lives.specs.UndoLists.{UndoList, nothing_to_undo}
 
-abbrev pub just_opened : Records → Sessions
-just_opened o = record { records = o; active = []; held = []; next_txn = 1; seats = λ n. free; prepared = []; resolving = [] }
+abbrev pub just_opened : ℕ → Records → Sessions
+just_opened slots o = record { slots = slots; records = o; active = []; held = []; next_txn = 1; seats = λ n. free; prepared = []; resolving = [] }
 
 -- session 1 has transaction 1, and session 2 transaction 2, each with this undo list
 abbrev pub reader : SessionTxn

@@ -79,17 +79,17 @@ pub fn waits_end_with_a_force()
 /// is durable, its ticket is, and the commit is acknowledged.
 pub fn lazy_commits_are_acknowledged_later()
     ensures not_yet { (o : Records) (a : Rid) (x z : List ℕ) → get o a ≡ Some x →
-        (last : Sessions) × (made : List Entry) × RunsOver (just_opened o) [] 0 (lazily_committed o a z false) [] last made
+        (last : Sessions) × (made : List Entry) × RunsOver (just_opened 2042 o) [] 0 (lazily_committed o a z false) [] last made
         × (decisions made ≡ Commit 1 ∷ Commit 2 ∷ []) × (acknowledged made ≡ []) × Kept made [] }
     ensures then { (o : Records) (a : Rid) (x z : List ℕ) → get o a ≡ Some x →
-        (last : Sessions) × (made : List Entry) × RunsOver (just_opened o) [] 0 (lazily_committed o a z true) [] last made
+        (last : Sessions) × (made : List Entry) × RunsOver (just_opened 2042 o) [] 0 (lazily_committed o a z true) [] last made
         × (acknowledged made ≡ Commit 1 ∷ []) × (Kept made [] → ⊥) × Kept made (Commit 1 ∷ []) }
 {}
 
 /// What goes wrong otherwise. If the locks of a commit went before its record is appended, who reads what it wrote could come first, and the history is not sound. If a ticket
 /// were below its Commit, it would be told durable while a crash may still lose the commit. And if a reader committed with no record, it would be acknowledged with no decision.
 pub fn wrong_commits_are_not_kept()
-    ensures early { (o : Records) (a : Rid) (x z : List ℕ) → get o a ≡ Some x → x ≢ z → Sound (history_from (opening_with o) (read_too_early a z)) → ⊥ }
+    ensures early { (o : Records) (a : Rid) (x z : List ℕ) → get o a ≡ Some x → x ≢ z → Sound (history_from (opening_with 2042 o) (read_too_early a z)) → ⊥ }
     ensures below { (a : Rid) (z : List ℕ) → Kept (asked_too_low a z) [] → ⊥ }
     ensures unrecorded { (a : Rid) (z : List ℕ) (ds : List Decision) → Kept (unrecorded a z) ds → ⊥ }
 {}

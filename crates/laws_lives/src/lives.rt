@@ -63,7 +63,7 @@ pub fn lives_go_on()
     ensures doubts { (o : Opening) (s : RecoveryState) (ls : List Stretch) → AreStretches o s ls → OpensGiveBack o s ls }
     ensures left { (o : Opening) (s : RecoveryState) (ls : List Stretch) → MayBeFound s → IsOpeningOf s.log o → AreStretches o s ls →
         MayBeFound (left_at_last s ls) × IsOpeningOf (left_at_last s ls).log (opening_after o (spans_of s ls)) }
-    ensures first { MayBeFound just_formatted × IsOpeningOf just_formatted.log (opening_with empty) }
+    ensures first { (slots : ℕ) → MayBeFound just_formatted × IsOpeningOf just_formatted.log (opening_with slots empty) }
 {}
 
 /// Exactly those return in doubt after a crash whom the kept decisions leave so, under way, with undo lists that undo them, with EX on the granules of their Prepares and

@@ -6,7 +6,6 @@ ghost use Rattle.shore_types.specs.Images.{Image};
 ghost use Rattle.shore_types.specs.declared.faults.Fault.{Fault};
 ghost use Rattle.shore_types.specs.declared.faults.Fault.TheVariants.{NoRecord};
 ghost use Rattle.shore_types.specs.declared.ids.Rid.{Rid};
-ghost use Rattle.shore_types.specs.declared.layout.TheConstants.{MAX_SLOTS};
 ghost use Rattle.shore_types.specs.declared.locking.Granule.{Granule};
 ghost use Rattle.shore_types.specs.declared.locking.Granule.TheVariants.{Page, Record, Store, Volume};
 ghost use Rattle.shore_types.specs.declared.locking.Mode.{Mode};
@@ -62,11 +61,11 @@ pub fn moved_locks_keep_views()
 /// right for its own transaction, which can still be undone. A reply that completes a rollback, which has begun, does so too, whatever stands
 /// in place for its transaction before it.
 pub fn replies_keep_views()
-    ensures { (held : List Hold) (now R : Records) (ts : List ℕ) (before later : ℕ → WriteSet) (t : ℕ) (es : List Exchange) (undo : UndoList) (c : Call) (reply : Result Answer Fault) →
-        Stand held now R ts before → IsAmong t ts → (undo.rolling ≡ None → before t ≡ writes_of es) → StayRight held t now es
-        → CanUndo held now R t undo (after start es) → MayGiveReply undo c reply → MayReplyInPlace held t R (length undo.marks) c reply
+    ensures { (most : ℕ) (held : List Hold) (now R : Records) (ts : List ℕ) (before later : ℕ → WriteSet) (t : ℕ) (es : List Exchange) (undo : UndoList) (c : Call) (reply : Result Answer Fault) →
+        Stand held now R ts before → IsAmong t ts → (undo.rolling ≡ None → before t ≡ writes_of es) → StayRight most held t now es
+        → CanUndo held now R t undo (after start es) → MayGiveReply undo c reply → MayReplyInPlace most held t R (length undo.marks) c reply
         → ((u : ℕ) → u ≢ t → later u ≡ before u) → later t ≡ writes_of (es ++ exchange c reply ∷ [])
-        → Stand held now (in_place_after R undo c reply) ts later × StayRight held t now (es ++ exchange c reply ∷ [])
+        → Stand held now (in_place_after R undo c reply) ts later × StayRight most held t now (es ++ exchange c reply ∷ [])
         × CanUndo held now (in_place_after R undo c reply) t (undo_after R undo c reply) (after start (es ++ exchange c reply ∷ [])) }
 {}
 
@@ -220,29 +219,29 @@ pub fn unanswered_changes_match_undo()
 /// reads, and what it has committed is in place.
 pub fn two_sessions_interleave()
     ensures { (o : Records) (a b : Rid) (x y z : List ℕ) (ticket : ℕ) → a ≢ b → get o a ≡ Some x → get o b ≡ Some y →
-        (last : Sessions) × (made : List Entry) × RunsTo (just_opened o) (interleaved o a b x z ticket) [] last made × (get last.records b ≡ Some z) }
+        (last : Sessions) × (made : List Entry) × RunsTo (just_opened 2042 o) (interleaved o a b x z ticket) [] last made × (get last.records b ≡ Some z) }
 {}
 
 /// So may they in the midst of a rollback: one session changes a record twice, and its abort, or its way back to a savepoint, puts one image
 /// back; the other reads; then the rollback puts back what is left, and in place is what was there before.
 pub fn rollbacks_are_interrupted()
     ensures abort { (o : Records) (a b : Rid) (x y z : List ℕ) → a ≢ b → get o a ≡ Some x → get o b ≡ Some y →
-        (last : Sessions) × (made : List Entry) × RunsTo (just_opened o) (abort_interrupted o a b x z) [] last made × (get last.records b ≡ Some y) }
+        (last : Sessions) × (made : List Entry) × RunsTo (just_opened 2042 o) (abort_interrupted o a b x z) [] last made × (get last.records b ≡ Some y) }
     ensures back_to { (o : Records) (a b : Rid) (x y z : List ℕ) (ticket : ℕ) → a ≢ b → get o a ≡ Some x → get o b ≡ Some y →
-        (last : Sessions) × (made : List Entry) × RunsTo (just_opened o) (way_back_interrupted o a b x z ticket) [] last made × (get last.records b ≡ Some y) }
+        (last : Sessions) × (made : List Entry) × RunsTo (just_opened 2042 o) (way_back_interrupted o a b x z ticket) [] last made × (get last.records b ≡ Some y) }
 {}
 
 /// A session changes a record and prepares; its transaction is in doubt. Resolved to abort by another session, it leaves what was there before, though the
 /// first session begins anew before that; resolved to commit, its locks may go before the answer, and another session reads what it wrote.
 pub fn prepared_transactions_are_resolved()
     ensures prepare { (o : Records) (a : Rid) (x z global : List ℕ) → get o a ≡ Some x →
-        (last : Sessions) × (made : List Entry) × RunsTo (just_opened o) (prepared_once o a z global) [] last made
+        (last : Sessions) × (made : List Entry) × RunsTo (just_opened 2042 o) (prepared_once o a z global) [] last made
         × (decisions made ≡ Prepare 1 global ∷ []) × (in_doubt [] (decisions made) ≡ (1, global) ∷ []) }
     ensures abort { (o : Records) (a : Rid) (x z global : List ℕ) → get o a ≡ Some x →
-        (last : Sessions) × (made : List Entry) × RunsTo (just_opened o) (resolved_to_abort o a z global) [] last made
+        (last : Sessions) × (made : List Entry) × RunsTo (just_opened 2042 o) (resolved_to_abort o a z global) [] last made
         × (get last.records a ≡ Some x) × (in_doubt [] (decisions made) ≡ []) }
     ensures commit { (o : Records) (a : Rid) (x z global : List ℕ) → get o a ≡ Some x →
-        (last : Sessions) × (made : List Entry) × RunsTo (just_opened o) (resolved_to_commit o a z global) [] last made
+        (last : Sessions) × (made : List Entry) × RunsTo (just_opened 2042 o) (resolved_to_commit o a z global) [] last made
         × (get last.records a ≡ Some z) × (decisions made ≡ Prepare 1 global ∷ Commit 1 ∷ []) × (in_doubt [] (decisions made) ≡ []) }
     ensures returned { (o : Records) (a : Rid) (x z global : List ℕ) → get o a ≡ Some x →
         (last : Sessions) × (made : List Entry) × RunsTo (doubtful_open o a z global) (resolved_after_open o a global) [] last made
@@ -262,7 +261,7 @@ pub fn sessions_are_in_their_transactions()
 /// A prepare cannot be answered any more once a resolve has decided its transaction: the answer would be of a session in no transaction, and acknowledge a
 /// decision that is not among those made. So a resolve has to wait for the answer.
 pub fn prepares_are_answered_before_resolves()
-    ensures nobodys { (R : Records) (n : ℕ) (global : List ℕ) → IsHistory (history_from (opening_with R) (resolved_first global ++ late_answer n global ∷ [])) → n ≡ 0 }
+    ensures nobodys { (R : Records) (n : ℕ) (global : List ℕ) → IsHistory (history_from (opening_with 2042 R) (resolved_first global ++ late_answer n global ∷ [])) → n ≡ 0 }
     ensures not_kept { (global : List ℕ) (ds : List Decision) → Kept (resolved_first global ++ late_answer 0 global ∷ []) ds → ⊥ }
 {}
 
@@ -285,12 +284,12 @@ pub fn doomed_transactions_can_only_roll_back()
 /// than that of the rollback under way; an image put back out of turn, or from before the savepoint; a commit of one that is doomed; the doom
 /// of one that is not under way.
 pub fn wrong_events_do_not_come()
-    ensures get_unlocked { (t n : ℕ) (R : Records) (id : Rid) (answer : Answer) → MayReplyInPlace [] t R n (Get id) (Ok answer) → ⊥ }
-    ensures absent_unlocked { (t n : ℕ) (R : Records) (id : Rid) → id.slot < MAX_SLOTS → MayReplyInPlace [] t R n (Get id) (Err NoRecord) → ⊥ }
-    ensures insert_under_read_lock { (t n : ℕ) (R : Records) (id : Rid) (s : ℕ) (bytes : List ℕ) →
-        MayReplyInPlace (read_lock t id ∷ []) t R n (Insert s bytes) (Ok (Inserted id)) → ⊥ }
-    ensures scan_under_record_lock { (t n : ℕ) (R : Records) (a b : Rid) (answer : Answer) → a ≢ b →
-        MayReplyInPlace (read_lock t a ∷ []) t R n (Scan b.page.store) (Ok answer) → ⊥ }
+    ensures get_unlocked { (most : ℕ) (t n : ℕ) (R : Records) (id : Rid) (answer : Answer) → MayReplyInPlace most [] t R n (Get id) (Ok answer) → ⊥ }
+    ensures absent_unlocked { (most : ℕ) (t n : ℕ) (R : Records) (id : Rid) → id.slot < most → MayReplyInPlace most [] t R n (Get id) (Err NoRecord) → ⊥ }
+    ensures insert_under_read_lock { (most : ℕ) (t n : ℕ) (R : Records) (id : Rid) (s : ℕ) (bytes : List ℕ) →
+        MayReplyInPlace most (read_lock t id ∷ []) t R n (Insert s bytes) (Ok (Inserted id)) → ⊥ }
+    ensures scan_under_record_lock { (most : ℕ) (t n : ℕ) (R : Records) (a b : Rid) (answer : Answer) → a ≢ b →
+        MayReplyInPlace most (read_lock t a ∷ []) t R n (Scan b.page.store) (Ok answer) → ⊥ }
     ensures second_txn { (s new : Sessions) (session : ℕ) → 0 < (s.seats session).txn → StepsTo s (BeginTxn session) new → ⊥ }
     ensures lock_lost { (s new : Sessions) (t : ℕ) (m : Mode) (g : Granule) →
         IsAmong t (txns_of s.active) → HoldsAtLeast s.held t m g → StepsTo s (MoveLocks []) new → ⊥ }

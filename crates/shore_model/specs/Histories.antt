@@ -295,7 +295,7 @@ turn_of doubts before (RollBack t) = None
 
 -- a transaction, with its own answers and its write set, runs alone on the serial records that these decisions leave
 abbrev pub RunsAloneAfter : History → List Decision → ℕ → Type 0
-RunsAloneAfter h before t = Alone (serial (writes_in h) h.opening.records before) (calls_of t h.entries) (writes_in h t)
+RunsAloneAfter h before t = Alone h.opening.slots (serial (writes_in h) h.opening.records before) (calls_of t h.entries) (writes_in h t)
 
 -- if the decision is a turn, its transaction runs alone on the serial records just before it
 abbrev pub TakesTurn : History → List Decision → Decision → Type 0

@@ -5,7 +5,7 @@ use Rattle.shore_types.specs.Ids.{rid_cmp}
 use Rattle.shore_types.specs.Layout.{HasSlot}
 use Rattle.shore_types.specs.declared.ids.Rid.{Rid}
 use Rattle.shore_types.specs.declared.layout.Geometry.{Geometry}
-use Rattle.shore_types.specs.declared.layout.TheConstants.{MAX_RECORD_BYTES}
+use Rattle.shore_types.specs.Versions.{record_limit}
 use Rattle.shore_types.specs.Images.{Image}
 
 -- a finite map from record ids to bytes
@@ -16,9 +16,9 @@ Records = FinMap rid_cmp (List ℕ)
 abbrev pub WriteSet : Type 0
 WriteSet = FinMap rid_cmp Image
 
--- an id inside the geometry, and at most 4,000 bytes
+-- an id inside the geometry, and no more bytes than the version allows
 abbrev pub IsRecord : Geometry → Rid → List ℕ → Type 0
-IsRecord g id bytes = HasSlot g id × (length bytes ≤ MAX_RECORD_BYTES)
+IsRecord g id bytes = HasSlot g id × (length bytes ≤ record_limit g.version)
 
 -- each id lies inside the geometry, and no record is too long
 abbrev pub AreRecords : Geometry → Records → Type 0

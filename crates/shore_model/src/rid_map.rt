@@ -4,7 +4,6 @@ ghost use Rattle.std.specs.Option.{option_copied};
 ghost use Rattle.std.specs.FinMap as map;
 ghost use Rattle.shore_model.specs.Records.{AreRecords, IsRecord, overlay, put_image, scan_of};
 
-use shore_types::layout::MAX_RECORD_BYTES;
 use shore_types::{Bytes, Geometry, Pairs, Rid, StoreId, images};
 use std::alloc::{AllocError, Global};
 use std::collections::BTreeMap;
@@ -153,7 +152,7 @@ impl RidMap<Bytes> {
 fn is_record(geometry: &Geometry, id: Rid, bytes: &Bytes) -> bool
     ensures { IsTrue result ↔ IsRecord geometry.now id bytes.now }
 {
-    geometry.has_slot(id) && bytes.as_slice().len() <= MAX_RECORD_BYTES
+    geometry.has_slot(id) && bytes.as_slice().len() <= geometry.version.record_limit()
 }
 
 // Adds a record that lies in the store.

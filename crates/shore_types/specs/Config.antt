@@ -17,6 +17,7 @@ key_of setting.LogBytes = codes "log_bytes"
 key_of setting.Stores = codes "stores"
 key_of setting.MaxLocks = codes "max_locks"
 key_of setting.Pool = codes "pool"
+key_of setting.Version = codes "version"
 key_of setting.WrongLines = codes "wrong_lines"
 key_of setting.VolumeBytes = codes "volume_bytes"
 

@@ -5,7 +5,8 @@ use Rattle.shore_types.specs.declared.ids.PageId.{PageId}
 use Rattle.shore_types.specs.declared.ids.Rid.{Rid}
 use Rattle.shore_types.specs.declared.locking.Granule.{Granule}
 use Rattle.shore_types.specs.declared.locking.Granule.TheVariants.{Volume, Store, Page, Record}
-use Rattle.shore_types.specs.declared.layout.TheConstants.{MAX_SLOTS, MAX_STORES, MAX_PAGES, LEAST_MAX_LOCKS, MOST_MAX_LOCKS}
+use Rattle.shore_types.specs.Versions.{slot_limit}
+use Rattle.shore_types.specs.declared.layout.TheConstants.{MAX_STORES, MAX_PAGES, LEAST_MAX_LOCKS, MOST_MAX_LOCKS}
 
 -- the store is there
 abbrev pub HasStore : Geometry → ℕ → Type 0
@@ -17,7 +18,7 @@ HasPage g p = IsSomeAnd (slice_get g.stores p.store) (λ pages. p.page < pages)
 
 -- the page is there, and may have the slot
 abbrev pub HasSlot : Geometry → Rid → Type 0
-HasSlot g r = HasPage g r.page × (r.slot < MAX_SLOTS)
+HasSlot g r = HasPage g r.page × (r.slot < slot_limit g.version)
 
 -- the granule is there
 abbrev pub HasGranule : Geometry → Granule → Type 0

@@ -7,3 +7,4 @@ pub mod Locking
 pub mod Names
 pub mod Pairs
 pub mod Runs
+pub mod Versions

@@ -28,6 +28,8 @@ pub enum Setting {
     MaxLocks,
     /// The frames of the pool.
     Pool,
+    /// The version of the formats.
+    Version,
     /// Whether a wrong line of the script ends the run.
     WrongLines,
     /// The length of the volume device, which follows from the stores. No settings text has this key.
@@ -49,6 +51,7 @@ impl Setting {
             Setting::Stores => "stores",
             Setting::MaxLocks => "max_locks",
             Setting::Pool => "pool",
+            Setting::Version => "version",
             Setting::WrongLines => "wrong_lines",
             Setting::VolumeBytes => "volume_bytes",
         }

@@ -42,7 +42,7 @@ pub enum Fault {
     NoPage,
     /// No record is at the id.
     NoRecord,
-    /// A record is longer than `MAX_RECORD_BYTES`.
+    /// A record is longer than the version allows.
     TooLong,
     /// No slot of the store has room for the record and can be locked now.
     StoreFull,
@@ -65,7 +65,7 @@ pub enum Fault {
     TooManySavepoints,
     /// The transaction is prepared, and waits for its decision.
     IsPrepared,
-    /// The global id is empty, or longer than `MAX_GLOBAL_ID_BYTES`.
+    /// The global id is empty, or longer than the version allows.
     BadGlobalId,
     /// A transaction of the table has this global id.
     GlobalIdInUse,

@@ -1,25 +1,20 @@
-//! The limits of version 1, and the layout of a volume.
+//! The limits that every version has, and the layout of a volume.
 ghost use Rattle.std.specs.Prelude.{◌≡◌, ◌↔◌, ◌+◌, ◌^◌, Some, None, IsTrue};
 ghost use Rattle.shore_types.specs.Layout.{HasStore, HasPage, HasSlot, StoresInLimits, LocksInLimits, IsInLimits};
 ghost use Rattle.shore_types.specs.declared.config.Setting.TheVariants.{Stores, MaxLocks};
 
-use crate::{PageId, Rid, Sequence, Setting, StoreId};
+use crate::{PageId, Rid, Sequence, Setting, StoreId, Version};
 
-/// The version of all formats.
-pub const VERSION: u16 = 1;
-
-/// The bytes of a page.
-pub const PAGE_BYTES: usize = 8192;
+/// The most bytes of a page, in any version.
+pub const MAX_PAGE_BYTES: usize = 16_384;
 /// The bytes of a page's header, at its front.
 pub const PAGE_HEADER_BYTES: usize = 24;
-/// The bytes of a page that its records and its slot table share.
-pub const PAGE_ROOM: usize = PAGE_BYTES - PAGE_HEADER_BYTES;
 /// The bytes of a slot's entry in the slot table, at the page's end.
 pub const SLOT_ENTRY_BYTES: usize = 4;
-/// The most bytes of a record, which may have none.
-pub const MAX_RECORD_BYTES: usize = 4000;
-/// The most slots of a page: as many entries as the header leaves room for.
-pub const MAX_SLOTS: u16 = 2042;
+/// The most bytes of a record in any version.
+pub const MAX_RECORD_BYTES: usize = 12_000;
+/// The most slots of a page in any version.
+pub const MAX_SLOTS: u16 = 4090;
 
 /// The most stores of a volume, which has at least one.
 pub const MAX_STORES: usize = 64;
@@ -34,8 +29,8 @@ pub const MOST_MAX_LOCKS: u32 = 4096;
 pub const MAX_TRANSACTIONS: usize = 256;
 /// The most savepoints of a transaction at once.
 pub const MAX_SAVEPOINTS: usize = 64;
-/// The most bytes of a global id, which has at least one.
-pub const MAX_GLOBAL_ID_BYTES: usize = 64;
+/// The most bytes of a global id in any version.
+pub const MAX_GLOBAL_ID_BYTES: usize = 255;
 
 /// The fewest frames of a pool.
 pub const MIN_POOL_FRAMES: usize = 8;
@@ -66,31 +61,29 @@ pub const LOG_FRONT_BYTES: u64 = 4096;
 pub const ANCHOR_A_AT: u64 = 1024;
 /// The offset of the second anchor on a log device.
 pub const ANCHOR_B_AT: u64 = 2048;
-/// The fewest bytes of a log device.
-pub const MIN_LOG_BYTES: u64 = 135_168;
 /// The most bytes of a log device.
 pub const MAX_LOG_BYTES: u64 = 1_073_741_824;
-/// The offset at which the pages of the stores begin on a volume, behind the label, the gate of the double write, its table and its area.
-pub const PAGES_AT: u64 = 270_336;
 /// The offset of a device's length in its label.
 pub const LENGTH_AT: u64 = 16;
 
-/// Each limit has the number that version 1 gives it; a definition cites it by its name.
-pub fn limits_are_those_of_version_1()
-    ensures page { (PAGE_BYTES ≡ 8192) × (PAGE_HEADER_BYTES ≡ 24) × (PAGE_ROOM ≡ 8168) × (SLOT_ENTRY_BYTES ≡ 4)
-        × (MAX_RECORD_BYTES ≡ 4000) × (MAX_SLOTS ≡ 2042) }
+/// Each limit has its number; a definition cites it by its name.
+pub fn limits_have_their_numbers()
+    ensures page { (MAX_PAGE_BYTES ≡ 16384) × (PAGE_HEADER_BYTES ≡ 24) × (SLOT_ENTRY_BYTES ≡ 4)
+        × (MAX_RECORD_BYTES ≡ 12000) × (MAX_SLOTS ≡ 4090) }
     ensures volume { (MAX_STORES ≡ 64) × (MAX_PAGES ≡ 65536) × (MAX_BATCH_PAGES ≡ 32) × (MIN_POOL_FRAMES ≡ 8) × (MAX_POOL_FRAMES ≡ 1024) }
     ensures table { (LEAST_MAX_LOCKS ≡ 16) × (MOST_MAX_LOCKS ≡ 4096) × (MAX_TRANSACTIONS ≡ 256) × (MAX_SAVEPOINTS ≡ 64)
-        × (MAX_GLOBAL_ID_BYTES ≡ 64) }
+        × (MAX_GLOBAL_ID_BYTES ≡ 255) }
     ensures log { (MAX_FRAME_BYTES ≡ 65536) × (FRAME_SHARE ≡ 13) × (LONGEST_FRAME ≡ 65549) × (GREATEST_CHECKPOINT ≡ 27018) × (ENDING_COST ≡ 34)
-        × (LOG_FRONT_BYTES ≡ 4096) × (MIN_LOG_BYTES ≡ 135168) × (MAX_LOG_BYTES ≡ 2 ^ 30) }
-    ensures offsets { (ANCHOR_A_AT ≡ 1024) × (ANCHOR_B_AT ≡ 2048) × (LENGTH_AT ≡ 16) × (PAGES_AT ≡ 270336) }
-    ensures numbers { (VERSION ≡ 1) × (LAST_LSN ≡ 2 ^ 46) × (LAST_OPENED ≡ 2 ^ 46 + 2 ^ 32) × (LAST_TXN ≡ 2 ^ 62) }
+        × (LOG_FRONT_BYTES ≡ 4096) × (MAX_LOG_BYTES ≡ 2 ^ 30) }
+    ensures offsets { (ANCHOR_A_AT ≡ 1024) × (ANCHOR_B_AT ≡ 2048) × (LENGTH_AT ≡ 16) }
+    ensures numbers { (LAST_LSN ≡ 2 ^ 46) × (LAST_OPENED ≡ 2 ^ 46 + 2 ^ 32) × (LAST_TXN ≡ 2 ^ 62) }
 {}
 
 /// How a pair of devices is laid out.
 #[derive(Drop)]
 pub struct Geometry {
+    /// The version of the formats.
+    pub version: Version,
     /// The number of the pair, on both labels.
     pub pair: u64,
     /// The most lock nodes.
@@ -119,10 +112,10 @@ impl Geometry {
     pub fn has_slot(&self, id: Rid) -> bool
         ensures { IsTrue result ↔ HasSlot self.now id }
     {
-        self.has_page(id.page) && id.slot < MAX_SLOTS
+        self.has_page(id.page) && id.slot < self.version.slot_limit()
     }
 
-    /// The first setting, stores before lock nodes, that breaks the limits of version 1.
+    /// The first setting, stores before lock nodes, that breaks the limits.
     pub fn outside_limits(&self) -> Option<Setting>
         ensures none { (result ≡ None) ↔ IsInLimits self.now }
         ensures stores { (result ≡ Some Stores) ↔ ¬ StoresInLimits self.now }

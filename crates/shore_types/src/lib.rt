@@ -12,6 +12,7 @@ pub mod log_ends;
 pub mod pairs;
 pub mod sequences;
 pub mod slotted;
+pub mod versions;
 
 pub use config::{ConfigPlace, Setting, Text};
 pub use faults::{Device, Fault};
@@ -22,3 +23,4 @@ pub use log_ends::LogEnds;
 pub use pairs::Pairs;
 pub use sequences::{Bytes, Sequence};
 pub use slotted::Slotted;
+pub use versions::Version;

@@ -10,7 +10,6 @@ ghost use Rattle.shore_model.specs.Alone.{Alone, IsAbsent, IsRight, MayRefuse, M
 
 use shore_model::rid_map::{copy_writes, overlaid};
 use shore_model::{Answer, Call, Entry, Exchange, Progress, RidMap};
-use shore_types::layout::MAX_SLOTS;
 use shore_types::{Bytes, Fault, Granule, Pairs, Rid, Sequence, StoreId, TxnId};
 use std::alloc::{AllocError, Global};
 
@@ -154,24 +153,24 @@ fn is_saved(index: usize, answer: &Answer) -> bool
     }
 }
 
-// A refusal may come to the call if the transaction finds these records.
-fn may_refuse(found: &RidMap<Bytes>, call: &Call, fault: &Fault) -> bool
-    ensures { IsTrue result ↔ MayRefuse found.now call.now fault.now }
+// A refusal may come to the call if the transaction finds these records, of pages of so many slots.
+fn may_refuse(slots: u16, found: &RidMap<Bytes>, call: &Call, fault: &Fault) -> bool
+    ensures { IsTrue result ↔ MayRefuse slots found.now call.now fault.now }
 {
     match fault {
         Fault::NoRecord => match named_by(call) {
-            Some(id) => is_absent(found, id),
+            Some(id) => is_absent(slots, found, id),
             None => false,
         },
         _ => true,
     }
 }
 
-fn is_absent(found: &RidMap<Bytes>, id: Rid) -> bool
-    ensures { IsTrue result ↔ IsAbsent found.now id }
+fn is_absent(slots: u16, found: &RidMap<Bytes>, id: Rid) -> bool
+    ensures { IsTrue result ↔ IsAbsent slots found.now id }
 {
     let slot = id.slot;
-    found.get(id).is_none() || slot >= MAX_SLOTS
+    found.get(id).is_none() || slot >= slots
 }
 
 fn named_by(call: &Call) -> Option<Rid>
@@ -191,11 +190,12 @@ fn named_by(call: &Call) -> Option<Rid>
 // The reply may come to a transaction that has come so far.
 fn may_reply(
     alloc: Global,
+    slots: u16,
     records: &RidMap<Bytes>,
     progress: &Progress,
     exchange: &Exchange,
 ) -> Result<bool, AllocError>
-    ensures { IfOk result (λ yes. IsTrue yes ↔ MayReply records.now progress.now exchange.now.call exchange.now.reply) }
+    ensures { IfOk result (λ yes. IsTrue yes ↔ MayReply slots records.now progress.now exchange.now.call exchange.now.reply) }
 {
     let found = overlaid(alloc, records, &progress.writes)?;
     match &exchange.reply {
@@ -206,22 +206,23 @@ fn may_reply(
             &exchange.call,
             answer,
         ),
-        Err(fault) => Ok(may_refuse(&found, &exchange.call, fault)),
+        Err(fault) => Ok(may_refuse(slots, &found, &exchange.call, fault)),
     }
 }
 
 // The entry, if it is a call of the transaction, may have its reply when the transaction has come so far.
 fn may_enter(
     alloc: Global,
+    slots: u16,
     records: &RidMap<Bytes>,
     progress: &Progress,
     txn: TxnId,
     entry: &Entry,
 ) -> Result<bool, AllocError>
-    ensures { IfOk result (λ yes. IsTrue yes ↔ MayReplyAll records.now progress.now (calls_of txn (entry.now ∷ []))) }
+    ensures { IfOk result (λ yes. IsTrue yes ↔ MayReplyAll slots records.now progress.now (calls_of txn (entry.now ∷ []))) }
 {
     match call_of(txn, entry) {
-        Some(exchange) => may_reply(alloc, records, progress, exchange),
+        Some(exchange) => may_reply(alloc, slots, records, progress, exchange),
         None => Ok(true),
     }
 }
@@ -240,20 +241,21 @@ fn call_of(txn: TxnId, entry: &Entry) -> Option<&Exchange>
     }
 }
 
-/// What a transaction writes that runs alone on the records and has its calls answered as in the history. There is
+/// What a transaction writes that runs alone on the records, of pages of so many slots, and has its calls answered as in the history. There is
 /// nothing if no such run has these answers.
 pub fn alone(
     alloc: Global,
+    slots: u16,
     records: &RidMap<Bytes>,
     entries: &[Entry],
     txn: TxnId,
 ) -> Result<Option<RidMap<Option<Bytes>>>, AllocError>
-    ensures found { IfOk result (λ found. IfSome found (λ writes. Alone records.now (calls_of txn entries.now) writes)) }
-    ensures none { IfOk result (λ found. IfNone found ((writes : WriteSet) → Alone records.now (calls_of txn entries.now) writes → ⊥)) }
+    ensures found { IfOk result (λ found. IfSome found (λ writes. Alone slots records.now (calls_of txn entries.now) writes)) }
+    ensures none { IfOk result (λ found. IfNone found ((writes : WriteSet) → Alone slots records.now (calls_of txn entries.now) writes → ⊥)) }
 {
     let mut progress = start(alloc);
     for entry in entries {
-        if !may_enter(alloc, records, &progress, txn, entry)? {
+        if !may_enter(alloc, slots, records, &progress, txn, entry)? {
             return Ok(None);
         }
         enter(alloc, &mut progress, txn, entry)?;

@@ -84,6 +84,6 @@ fn runs_alone_after(
     ensures { IfOk result (λ yes. IsTrue yes ↔ RunsAloneAfter (record { opening = opening.now; entries = entries.now }) before.now txn) }
 {
     let records = serial_records(alloc, opening, entries, before)?;
-    let writes = alone(alloc, &records, entries, txn)?;
+    let writes = alone(alloc, opening.slots, &records, entries, txn)?;
     Ok(writes.is_some())
 }

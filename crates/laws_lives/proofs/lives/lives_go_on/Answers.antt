@@ -11,7 +11,7 @@ pub returns-clause-left : goal.returns-clause-left
 returns-clause-left c o s ls f opening h = let r = stretches_are_a_life o s ls f opening h in (r.2, r.3)
 
 pub returns-clause-first : goal.returns-clause-first
-returns-clause-first c = (format_may_be_found, format_opens)
+returns-clause-first c slots = (format_may_be_found, format_opens slots)
 
 pub returns-clause-doubts : goal.returns-clause-doubts
 returns-clause-doubts c o s ls h = opens_give_back o s ls h

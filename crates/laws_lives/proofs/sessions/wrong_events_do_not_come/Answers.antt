@@ -3,16 +3,16 @@ use Rattle.laws_lives.proofs.WrongEvents.{absent_unlocked, before_savepoint, com
 use Rattle.laws_lives.proofs.sessions.wrong_events_do_not_come.Goals as goal
 
 pub returns-clause-get_unlocked : goal.returns-clause-get_unlocked
-returns-clause-get_unlocked c t n R id answer h = get_unlocked t R n id answer h
+returns-clause-get_unlocked c most t n R id answer h = get_unlocked most t R n id answer h
 
 pub returns-clause-absent_unlocked : goal.returns-clause-absent_unlocked
-returns-clause-absent_unlocked c t n R id less h = absent_unlocked t R n id less h
+returns-clause-absent_unlocked c most t n R id less h = absent_unlocked most t R n id less h
 
 pub returns-clause-insert_under_read_lock : goal.returns-clause-insert_under_read_lock
-returns-clause-insert_under_read_lock c t n R id s bytes h = insert_under_read_lock t R n id s bytes h
+returns-clause-insert_under_read_lock c most t n R id s bytes h = insert_under_read_lock most t R n id s bytes h
 
 pub returns-clause-scan_under_record_lock : goal.returns-clause-scan_under_record_lock
-returns-clause-scan_under_record_lock c t n R a b answer differ h = scan_under_record_lock t R n a b answer differ h
+returns-clause-scan_under_record_lock c most t n R a b answer differ h = scan_under_record_lock most t R n a b answer differ h
 
 pub returns-clause-second_txn : goal.returns-clause-second_txn
 returns-clause-second_txn c s new session some step = second_txn s new session some step
