@@ -1,14 +1,17 @@
 -- What a device in memory keeps, and the image that a crash picks.
-use Rattle.std.proofs.Common.{◌≡◌, ◌⊎◌, inl, inr, ℕ, ◌+◌, ◌-◌, ◌<◌, ◌≤◌, List, [], ◌∷◌, ◌++◌, length, get_or, take, drop, replicate, All, Option, None, Some, refl, sym, ◌∙◌, ap, subst, arith, append_assoc, length-append}
+use Rattle.std.proofs.Common.{◌≡◌, ◌⊎◌, inl, inr, ℕ, ◌+◌, ◌-◌, ◌<◌, ◌≤◌, Bool, true, false, List, [], ◌∷◌, ◌++◌, length, get_or, take, drop, replicate, All, Option, None, Some, refl, sym, ◌∙◌, ap, subst, arith, append_assoc, length-append, add-zero, add-one, drop-cons}
+use Rattle.std.specs.Prelude.{if◌then◌else◌}
+use Rattle.std.specs.List.{sum_by}
+use Rattle.std.proofs.lemmas.List.Sums.{sum_by-cons}
 use Rattle.std.specs.Global.{Vec}
-use Rattle.std.proofs.lemmas.List.{length-replicate, take_more, ext_get_or, get_or-drop, get_or-take, get_or-append_right, get_or_append_left, length-take-le, length-drop, take_at, drop_at}
+use Rattle.std.proofs.lemmas.List.{length-replicate, take_all, take-append-le, drop-append-le, drop-drop, take_more, ext_get_or, get_or-drop, get_or-take, get_or-append_right, get_or_append_left, length-take-le, length-drop, take_at, drop_at}
 use Rattle.std.proofs.lemmas.List.Elements.{All-head, All-tail}
 use Rattle.std.proofs.lemmas.Bool.{cases_lt}
 use Rattle.shore_disk.specs.Device.{Call, wrote, synced, DeviceHistory, Torn, overwritten, seen_after, seen, noted, LeftAfter}
 use Rattle.shore_disk.specs.declared.memory.Place.{Place}
 use Rattle.shore_disk.specs.declared.memory.Pick.{Pick}
-use Rattle.shore_disk.specs.declared.memory.Pick.TheVariants.{Old, New, Noise}
-use Rattle.shore_disk.specs.Memory.{call_of, calls_onto, history_in, copied, laid, with_noise, picked_write, picked_after, picked_from, end_of}
+use Rattle.shore_disk.specs.declared.memory.Pick.TheVariants.{Old, New, Noise, Mixed}
+use Rattle.shore_disk.specs.Memory.{call_of, calls_onto, history_in, copied, laid, with_noise, is_bit_set, mixed, picked_write, picked_after, picked_from, place_len, unsynced_in, end_of}
 
 -- a call that is noted
 calls_onto-push : (older : List Call) (notes : List (Option Place × Vec ℕ)) (note : Option Place × Vec ℕ) → calls_onto older (notes ++ note ∷ []) ≡ call_of note.0 note.1.items ∷ calls_onto older notes
@@ -29,14 +32,19 @@ with_noise-push image [] p = refl
 with_noise-push image (q ∷ places) p = with_noise-push (overwritten image q.at (replicate q.len 90)) places p
 
 -- whichever image is picked, a crash may leave it
-picked_torn : (pick : Pick) (image : List ℕ) (at : ℕ) (bytes : List ℕ) → Torn at (length bytes) image (picked_write pick image at bytes)
-picked_torn Old image at bytes = inl refl
-picked_torn New image at bytes = inr (bytes, refl, refl)
-picked_torn Noise image at bytes = inr (replicate (length bytes) 90, length-replicate (length bytes) 90, refl)
+torn_if : (set : Bool) (image : List ℕ) (at : ℕ) (bytes : List ℕ) → Torn at (length bytes) image (if set then overwritten image at bytes else image)
+torn_if true image at bytes = inr (bytes, refl, refl)
+torn_if false image at bytes = inl refl
+
+picked_torn : (pick : Pick) (index : ℕ) (image : List ℕ) (at : ℕ) (bytes : List ℕ) → Torn at (length bytes) image (picked_write pick index image at bytes)
+picked_torn Old index image at bytes = inl refl
+picked_torn New index image at bytes = inr (bytes, refl, refl)
+picked_torn Noise index image at bytes = inr (replicate (length bytes) 90, length-replicate (length bytes) 90, refl)
+picked_torn (Mixed bits) index image at bytes = torn_if (is_bit_set bits index) image at bytes
 
 pub picked_left : (pick : Pick) (first : List ℕ) (calls : List Call) → LeftAfter first calls (picked_after pick first calls)
 picked_left pick first [] = refl
-picked_left pick first (wrote at bytes ∷ older) = (picked_after pick first older, picked_left pick first older, picked_torn pick (picked_after pick first older) at bytes)
+picked_left pick first (wrote at bytes ∷ older) = (picked_after pick first older, picked_left pick first older, picked_torn pick (unsynced_in older) (picked_after pick first older) at bytes)
 picked_left pick first (synced ∷ older) = refl
 
 -- with the writes standing, the image is what a read gives
@@ -46,11 +54,42 @@ picked_new first (wrote at bytes ∷ older) = ap (λ (image : List ℕ). overwri
 picked_new first (synced ∷ older) = refl
 
 -- the image that is picked from what is kept
-pub picked_is : (pick : Pick) (stable bytes : List ℕ) (places : List Place) (h : DeviceHistory) → bytes ≡ seen h → stable ≡ picked_after Old h.first h.calls
-    → with_noise stable places ≡ picked_after Noise h.first h.calls → laid bytes stable places ≡ bytes → picked_from pick stable bytes places ≡ picked_after pick h.first h.calls
-picked_is Old stable bytes places h seen lost noise differ = lost
-picked_is New stable bytes places h seen lost noise differ = differ ∙ seen ∙ sym (picked_new h.first h.calls)
-picked_is Noise stable bytes places h seen lost noise differ = noise
+pub picked_is : (pick : Pick) (stable bytes written : List ℕ) (places : List Place) (h : DeviceHistory) → bytes ≡ seen h → stable ≡ picked_after Old h.first h.calls
+    → with_noise stable places ≡ picked_after Noise h.first h.calls → ((bits : ℕ) → mixed bits 0 stable written places ≡ picked_after (Mixed bits) h.first h.calls)
+    → laid bytes stable places ≡ bytes → picked_from pick stable bytes written places ≡ picked_after pick h.first h.calls
+picked_is Old stable bytes written places h seen lost noise mix differ = lost
+picked_is New stable bytes written places h seen lost noise mix differ = differ ∙ seen ∙ sym (picked_new h.first h.calls)
+picked_is Noise stable bytes written places h seen lost noise mix differ = noise
+picked_is (Mixed bits) stable bytes written places h seen lost noise mix differ = mix bits
+
+-- one write more, the last
+pub mixed-push : (bits index : ℕ) (image written new : List ℕ) (places : List Place) (at : ℕ) → sum_by place_len places ≡ length written
+    → mixed bits index image (written ++ new) (places ++ record { at = at; len = length new } ∷ []) ≡ picked_write (Mixed bits) (index + length places) (mixed bits index image written places) at new
+mixed-push bits index image [] new [] at kept =
+    ap (λ (l : List ℕ). if is_bit_set bits index then overwritten image at l else image) (take_all (length new) new (omega arith))
+    ∙ ap (λ (n : ℕ). picked_write (Mixed bits) n image at new) (sym (add-zero index))
+mixed-push bits index image (b ∷ written) new [] at kept = absurd (omega (arith, kept))
+mixed-push bits index image written new (p ∷ places) at kept =
+    let parts : p.len + sum_by place_len places ≡ length written = sym (sum_by-cons place_len p places) ∙ kept in
+    let fits : p.len ≤ length written = omega (arith, parts) in
+    let next = λ (l : List ℕ). if is_bit_set bits index then overwritten image p.at l else image in
+    let rest : sum_by place_len places ≡ length (drop p.len written) = omega (arith, parts, length-drop p.len written) in
+    let count : index + 1 + length places ≡ index + length (p ∷ places) = omega arith in
+    ap (λ (l : List ℕ). mixed bits (index + 1) (next l) (drop p.len (written ++ new)) (places ++ record { at = at; len = length new } ∷ [])) (take-append-le p.len written new fits)
+    ∙ ap (λ (l : List ℕ). mixed bits (index + 1) (next (take p.len written)) l (places ++ record { at = at; len = length new } ∷ [])) (drop-append-le p.len written new fits)
+    ∙ mixed-push bits (index + 1) (next (take p.len written)) (drop p.len written) new places at rest
+    ∙ ap (λ (n : ℕ). picked_write (Mixed bits) n (mixed bits (index + 1) (next (take p.len written)) (drop p.len written) places) at new) count
+
+-- what is left from a place on, the first of it taken
+pub mixed-next : (bits index from : ℕ) (image written : List ℕ) (places : List Place) (d : Place) → index < length places
+    → mixed bits index image (drop from written) (drop index places)
+    ≡ mixed bits (index + 1) (if is_bit_set bits index then overwritten image (get_or places index d).at (take (get_or places index d).len (drop from written)) else image)
+    (drop (from + (get_or places index d).len) written) (drop (index + 1) places)
+mixed-next bits index from image written places d lt =
+    let p = get_or places index d in
+    ap (λ (l : List Place). mixed bits index image (drop from written) l) (drop-cons places index d lt ∙ ap (λ (n : ℕ). p ∷ drop n places) (sym (add-one index)))
+    ∙ ap (λ (l : List ℕ). mixed bits (index + 1) (if is_bit_set bits index then overwritten image p.at (take p.len (drop from written)) else image) l (drop (index + 1) places))
+    (drop-drop p.len from written)
 
 -- a byte of an image after a write
 at_in : (image bytes : List ℕ) (at i : ℕ) → at ≤ length image → at ≤ i → i < at + length bytes → get_or (overwritten image at bytes) i 0 ≡ get_or bytes (i - at) 0

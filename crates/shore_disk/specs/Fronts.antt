@@ -3,18 +3,22 @@ use Rattle.std.specs.Prelude.{◌≡◌, ◌⊎◌, ◌≤◌, ℕ, ◌+◌, ◌
 use Rattle.std.specs.List.{list_all}
 use Rattle.shore_types.specs.declared.faults.Device.{Device}
 use Rattle.shore_types.specs.declared.faults.Device.TheVariants.{Log, Volume}
-use Rattle.shore_disk.specs.declared.fronts.TheConstants.{LOG_HEAD, MOST_STORES, STORES_AT, VOLUME_HEAD}
+use Rattle.shore_types.specs.declared.versions.Version.{Version}
+use Rattle.shore_types.specs.declared.versions.Version.TheVariants.{One, Two}
+use Rattle.shore_disk.specs.declared.fronts.TheConstants.{LOG_HEAD_ONE, LOG_HEAD_TWO, MOST_STORES, STORES_AT, VOLUME_HEAD_ONE, VOLUME_HEAD_TWO}
 
 unfoldable pub are_zero : List ℕ → Bool
 are_zero bytes = list_all (λ byte. byte == 0) bytes
 
--- the kind of a device, with the version and the length of a page
-abbrev pub label_head_of : Device → List ℕ
-label_head_of Log = LOG_HEAD
-label_head_of Volume = VOLUME_HEAD
+-- the kind of a device, with a version and the length of its page
+abbrev pub label_head_of : Device → Version → List ℕ
+label_head_of Log One = LOG_HEAD_ONE
+label_head_of Log Two = LOG_HEAD_TWO
+label_head_of Volume One = VOLUME_HEAD_ONE
+label_head_of Volume Two = VOLUME_HEAD_TWO
 
 abbrev pub IsLabelHead : List ℕ → Type 0
-IsLabelHead head = (device : Device) × (head ≡ label_head_of device)
+IsLabelHead head = (device : Device) × (version : Version) × (head ≡ label_head_of device version)
 
 -- there may be so many stores, and nothing is behind them
 pub record EndsInZeros (stores : ℕ) (front : List ℕ) : Type 0 where

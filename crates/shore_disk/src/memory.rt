@@ -1,12 +1,16 @@
 //! A device in memory. It keeps the bytes at the last sync beside those now, so that a crash may leave all that the model allows.
-ghost use Rattle.std.specs.Prelude.{◌≡◌, ◌+◌, ◌<◌, ◌≤◌, [], ◌∷◌, All, true, length, replicate, IfOk};
+ghost use Rattle.std.specs.Prelude.{◌≡◌, ◌+◌, ◌<◌, ◌≤◌, ℕ, [], ◌∷◌, ◌++◌, All, true, length, replicate, IfOk, OnOk, OnErr};
 ghost use Rattle.shore_disk.specs.Device.{overwritten, seen, seen_after, may_leave, size};
-ghost use Rattle.shore_disk.specs.declared.memory.Pick.TheVariants.{Old, Noise};
-ghost use Rattle.shore_disk.specs.Memory.{copied, end_of, history_in, laid, picked_after, picked_from, with_noise};
+ghost use Rattle.std.specs.List.{sum_by};
+ghost use Rattle.shore_disk.specs.declared.memory.Pick.TheVariants.{Old, Noise, Mixed};
+ghost use Rattle.shore_disk.specs.Memory.{copied, end_of, history_in, is_bit_set, laid, mixed, picked_after, picked_from, place_len, unsynced_in, with_noise};
 
 use crate::{Disk, DiskFault};
 use http_server::Log as GhostLog;
 use std::alloc::{AllocError, Global};
+
+// The room that a device has at first for the bytes of writes which no sync has covered: more than a frame of the log, and as much as the longest batch of pages takes twice.
+const KEPT_AT_FIRST: usize = 1 << 20;
 
 // Where bytes were written.
 #[derive(Clone, Copy)]
@@ -26,6 +30,8 @@ pub enum Pick {
     New,
     /// Their ranges hold 0x5A.
     Noise,
+    /// The write number i of them, from 0 in the order made, stands where the bit i mod 64 is set, and is lost otherwise.
+    Mixed(u64),
 }
 
 /// A device in memory. An allocation that fails inside it is a failure of the device.
@@ -37,6 +43,8 @@ pub struct MemDisk {
     bytes: Vec<u8>,
     /// Where they were written since that sync, the oldest first.
     unsynced: Vec<Place>,
+    /// The bytes of those writes, one write behind another.
+    written: Vec<u8>,
     // How many calls have failed, since an allocation did.
     failures: u64,
     // The bytes at first, and then each call with the bytes that it left. It takes no memory: only clauses read it.
@@ -45,6 +53,9 @@ pub struct MemDisk {
     ghost seen: { bytes.items ≡ seen (history_in past.items) },
     ghost lost: { stable.items ≡ picked_after Old (history_in past.items).first (history_in past.items).calls },
     ghost noise: { with_noise stable.items unsynced.items ≡ picked_after Noise (history_in past.items).first (history_in past.items).calls },
+    ghost mixed: { (bits : ℕ) → mixed bits 0 stable.items written.items unsynced.items ≡ picked_after (Mixed bits) (history_in past.items).first (history_in past.items).calls },
+    ghost count: { length unsynced.items ≡ unsynced_in (history_in past.items).calls },
+    ghost kept: { sum_by place_len unsynced.items ≡ length written.items },
     // Stable bytes and those of now differ in the places alone.
     ghost differ: { laid bytes.items stable.items unsynced.items ≡ bytes.items },
     ghost as_long: { length bytes.items ≡ size (history_in past.items) },
@@ -61,11 +72,13 @@ impl MemDisk {
         ensures failures { IfOk result (λ d. failures_of d ≡ 0) }
     {
         let stable = bytes.to_vec(alloc)?;
+        let written = Vec::with_capacity(alloc, bytes.len().min(KEPT_AT_FIRST))?;
         let past = GhostLog::new().and(&None, &bytes);
         Ok(MemDisk {
             stable,
             bytes,
             unsynced: Vec::new(alloc),
+            written,
             failures: 0,
             past,
         })
@@ -85,9 +98,16 @@ impl MemDisk {
         ensures size { size (history_of self.new) ≡ size (history_of self.old) }
         ensures failures { failures_of self.new ≡ failures_of self.old }
     {
-        pick_image(&mut self.stable, &self.bytes, &self.unsynced, pick);
+        pick_image(
+            &mut self.stable,
+            &self.bytes,
+            &self.written,
+            &self.unsynced,
+            pick,
+        );
         self.bytes.copy_from_slice(&self.stable);
         self.unsynced.clear();
+        self.written.clear();
         self.past = GhostLog::new().and(&None, &self.bytes);
     }
 }
@@ -122,7 +142,7 @@ impl Disk for MemDisk {
             at,
             len: bytes.len(),
         };
-        if self.unsynced.push(place).is_err() {
+        if keep(&mut self.unsynced, &mut self.written, &place, bytes).is_err() {
             self.failures = self.failures.saturating_add(1);
             return Err(DiskFault);
         }
@@ -132,13 +152,38 @@ impl Disk for MemDisk {
     }
 
     fn sync(&mut self) -> Result<(), DiskFault> {
-        pick_image(&mut self.stable, &self.bytes, &self.unsynced, Pick::New);
+        pick_image(
+            &mut self.stable,
+            &self.bytes,
+            &self.written,
+            &self.unsynced,
+            Pick::New,
+        );
         self.unsynced.clear();
+        self.written.clear();
         self.past = self.past.and(&None, &self.bytes);
         Ok(())
     }
 
     ghost keeps_length = { λ d _. ap length (sym d.seen) ∙ d.as_long };
+}
+
+// Keeps a write until the next sync. Nothing is changed if an allocation fails.
+fn keep(
+    unsynced: &mut Vec<Place>,
+    written: &mut Vec<u8>,
+    place: &Place,
+    bytes: &[u8],
+) -> Result<(), AllocError>
+    ensures place { OnOk result (unsynced.new.items ≡ unsynced.old.items ++ place.now ∷ []) }
+    ensures bytes { OnOk result (written.new.items ≡ written.old.items ++ bytes.now) }
+    ensures no_place { OnErr result (unsynced.new.items ≡ unsynced.old.items) }
+    ensures no_bytes { OnErr result (written.new.items ≡ written.old.items) }
+{
+    unsynced.reserve(1)?;
+    written.extend_from_slice(bytes)?;
+    unsynced.push_reserved(*place);
+    Ok(())
 }
 
 fn overwrite(image: &mut Vec<u8>, at: usize, bytes: &[u8])
@@ -187,16 +232,54 @@ fn spoil_place(image: &mut [u8], place: &Place)
     image[place.at..place.at + place.len].fill(0x5A);
 }
 
+// Lays the bytes of those writes whose bits are set, which lie one write behind another.
+fn mix(bits: u64, image: &mut [u8], written: &[u8], places: &[Place])
+    requires within { All (λ p. end_of p ≤ length image.old) places.now }
+    requires kept { sum_by place_len places.now ≡ length written.now }
+    ensures { image.new ≡ mixed bits 0 image.old written.now places.now }
+{
+    let mut from = 0;
+    for (index, place) in places.iter().enumerate() {
+        let end = from + place.len;
+        if is_set(bits, index) {
+            lay_part(image, place.at, &written[from..end]);
+        }
+        from = end;
+    }
+}
+
+fn lay_part(image: &mut [u8], at: usize, bytes: &[u8])
+    requires { at + length bytes.now ≤ length image.old }
+    ensures { image.new ≡ overwritten image.old at bytes.now }
+{
+    image[at..at + bytes.len()].copy_from_slice(bytes);
+}
+
+// Whether the bit of a write is set.
+fn is_set(bits: u64, index: usize) -> bool
+    ensures { result ≡ is_bit_set bits index }
+{
+    (bits >> (index % 64)) % 2 == 1
+}
+
 // Makes the stable bytes the image that a crash picks. With all writes standing that is what a sync leaves.
-fn pick_image(stable: &mut Vec<u8>, bytes: &Vec<u8>, unsynced: &Vec<Place>, pick: Pick)
+fn pick_image(
+    stable: &mut Vec<u8>,
+    bytes: &Vec<u8>,
+    written: &Vec<u8>,
+    unsynced: &Vec<Place>,
+    pick: Pick,
+)
+    requires kept { sum_by place_len unsynced.now.items ≡ length written.now.items }
     requires room { length stable.old.items ≡ length bytes.now.items }
     requires within { All (λ p. end_of p ≤ length bytes.now.items) unsynced.now.items }
-    ensures picked { stable.new.items ≡ picked_from pick stable.old.items bytes.now.items unsynced.now.items }
+    ensures picked { stable.new.items ≡ picked_from pick stable.old.items bytes.now.items written.now.items unsynced.now.items }
     ensures room { length stable.new.items ≡ length stable.old.items }
 {
     match pick {
         Pick::Old => {}
         Pick::New => lay(bytes, stable, unsynced),
         Pick::Noise => spoil(stable, unsynced),
+        Pick::Mixed(bits) => mix(bits, stable, written, unsynced),
     }
 }

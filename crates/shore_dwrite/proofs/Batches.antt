@@ -1,9 +1,11 @@
 -- What a volume shows while a batch is written.
-use Rattle.std.proofs.Common.{◌≡◌, ◌≢◌, ◌⊎◌, inl, inr, ℕ, ◌*◌, ◌<◌, ◌≤◌, List, [], ◌∷◌, Contains, length, take, drop, refl, sym, ap, subst, ◌∙◌, arith}
+use Rattle.std.proofs.Common.{◌≡◌, ◌≢◌, ◌⊎◌, inl, inr, ℕ, ◌+◌, ◌*◌, ◌<◌, ◌≤◌, List, [], ◌∷◌, Contains, length, take, drop, refl, sym, ap, subst, ◌∙◌, arith}
+use Rattle.std.proofs.Math.Nat.{mul-le-mul_left}
 use Rattle.std.proofs.lemmas.Bool.{cases_eq}
 use Rattle.shore_disk.specs.Device.{overwritten, Torn}
 use Rattle.shore_gate.specs.declared.gates.TheConstants.{OPEN}
 use Rattle.shore_types.specs.declared.layout.Geometry.{Geometry}
+use Rattle.shore_types.specs.Versions.{page_bytes, pages_begin, pages_begin-is}
 use Rattle.shore_dwrite.specs.Differences.{DiffersInArea, DiffersInPages, HasImages, HasPages}
 use Rattle.shore_dwrite.specs.Shown.{AreInPlace, IsBatch, IsShut, ShowsBehind, ShowsEither, overlaid}
 use Rattle.shore_dwrite.specs.Tables.{IsTable}
@@ -28,14 +30,23 @@ any_gate bytes one = elim (cases_eq (one_byte bytes one).0 OPEN) [
     head [] = 0
     head (b ∷ rest) = b
 
-module _ (g : Geometry) (front : List ℕ) (pages : ℕ → List ℕ) (numbers texts : List ℕ) (batch : IsBatch g numbers texts) (long : length texts ≡ 8192 * length numbers) where
+module _ (g : Geometry) (front : List ℕ) (pages : ℕ → List ℕ) (numbers texts : List ℕ) (batch : IsBatch g numbers texts) (long : length texts ≡ page_bytes g.version * length numbers) where
   abbrev pub laid : ℕ → List ℕ
-  laid = overlaid numbers texts pages
+  laid = overlaid g.version numbers texts pages
 
   abbrev pub IsLaid : List ℕ → Type 0
   IsLaid = under_way.IsLaid g front pages numbers texts
 
-  texts_long : (image : List ℕ) → part 8192 (length texts) image ≡ texts → take (8192 * length numbers) (drop 8192 image) ≡ texts
+  begins : pages_begin g.version ≡ 8192 + 32 * page_bytes g.version
+  begins = pages_begin-is g.version
+
+  -- the texts end before the first page in place
+  texts_short : 8192 + length texts ≤ pages_begin g.version
+  texts_short =
+      let most : page_bytes g.version * length numbers ≤ page_bytes g.version * 32 = mul-le-mul_left (page_bytes g.version) batch.most in
+      omega (arith, begins, most, long)
+
+  texts_long : (image : List ℕ) → part 8192 (length texts) image ≡ texts → take (page_bytes g.version * length numbers) (drop 8192 image) ≡ texts
   texts_long image is = ap (λ (n : ℕ). take n (drop 8192 image)) (sym long) ∙ is
 
   pub laid_shows : (image : List ℕ) → IsLaid image → part 4096 1 image ≡ OPEN ∷ [] → ShowsBehind g front laid image
@@ -54,23 +65,23 @@ module _ (g : Geometry) (front : List ℕ) (pages : ℕ → List ℕ) (numbers t
           images = images_alike g numbers (drop 8192 image) texts (texts_long image is.texts_are) batch.images;
         };
       },
-      λ k within. laid_alike numbers (drop 8192 image) texts (page_at image) pages k (texts_long image is.texts_are) (is.others k within),
+      λ k within. laid_alike g.version numbers (drop 8192 image) texts (page_at g.version image) pages k (texts_long image is.texts_are) (is.others k within),
     ),
   )
 
   module _ (base : List ℕ) (front_is : take 4096 base ≡ front) (shut : IsShut base) (in_place : AreInPlace g base pages) where
-    pub area_in_place : (image : List ℕ) → DiffersInArea base image → AreInPlace g image pages
-    area_in_place image differs k within = part_rest image base 270336 (page_offset k) 8192 differs.pages (omega arith) ∙ in_place k within
+    pub area_in_place : (image : List ℕ) → DiffersInArea g.version base image → AreInPlace g image pages
+    area_in_place image differs k within = part_rest image base (pages_begin g.version) (page_offset g.version k) (page_bytes g.version) differs.pages (omega arith) ∙ in_place k within
 
     -- while the area is written
-    pub area_shows : (image : List ℕ) → DiffersInArea base image → ShowsBehind g front pages image
+    pub area_shows : (image : List ℕ) → DiffersInArea g.version base image → ShowsBehind g front pages image
     area_shows image differs = (
       take_less image base 4096 4100 differs.front (omega arith) ∙ front_is,
       inl (λ opened. shut (sym (part_front image base 4100 4096 1 differs.front (omega arith)) ∙ opened), area_in_place image differs),
     )
 
     -- with its images, before the gate is opened and after
-    pub area_laid : (image : List ℕ) → HasImages base image numbers texts → IsLaid image
+    pub area_laid : (image : List ℕ) → HasImages g.version base image numbers texts → IsLaid image
     area_laid image has = record {
       front_is = (area_shows image has.differs).0;
       table = has.table;
@@ -92,8 +103,8 @@ module _ (g : Geometry) (front : List ℕ) (pages : ℕ → List ℕ) (numbers t
     rest_stays : drop 4097 gated ≡ drop 4097 image
     rest_stays = drop_above image 4096 bytes 4097 (omega arith) (omega arith)
 
-    pub page_stays : (k : ℕ) → page_at gated k ≡ page_at image k
-    page_stays k = part_rest gated image 4097 (page_offset k) 8192 rest_stays (omega arith)
+    pub page_stays : (k : ℕ) → page_at g.version gated k ≡ page_at g.version image k
+    page_stays k = part_rest gated image 4097 (page_offset g.version k) (page_bytes g.version) rest_stays (omega (arith, begins))
 
     pub gated_laid : IsLaid image → IsLaid gated
     gated_laid is = record {
@@ -116,16 +127,16 @@ module _ (g : Geometry) (front : List ℕ) (pages : ℕ → List ℕ) (numbers t
   ])
 
   -- while the pages are written in place, and after
-  pub pages_laid : (image c : List ℕ) → IsLaid image → DiffersInPages numbers image c → IsLaid c
+  pub pages_laid : (image c : List ℕ) → IsLaid image → DiffersInPages g.version numbers image c → IsLaid c
   pages_laid image c is differs = record {
-    front_is = take_less c image 4096 270336 differs.front (omega arith) ∙ is.front_is;
-    table = subst (λ (t : List ℕ). IsTable t numbers) (sym (part_front c image 270336 4100 132 differs.front (omega arith))) is.table;
-    texts_are = part_front c image 270336 8192 (length texts) differs.front (omega (arith, batch.most)) ∙ is.texts_are;
+    front_is = take_less c image 4096 (pages_begin g.version) differs.front (omega (arith, begins)) ∙ is.front_is;
+    table = subst (λ (t : List ℕ). IsTable t numbers) (sym (part_front c image (pages_begin g.version) 4100 132 differs.front (omega (arith, begins)))) is.table;
+    texts_are = part_front c image (pages_begin g.version) 8192 (length texts) differs.front (omega (arith, texts_short)) ∙ is.texts_are;
     others = λ k within none. differs.others k none ∙ is.others k within none;
   }
 
-  pub gate_of_pages : (image c : List ℕ) → DiffersInPages numbers image c → part 4096 1 c ≡ part 4096 1 image
-  gate_of_pages image c differs = part_front c image 270336 4096 1 differs.front (omega arith)
+  pub gate_of_pages : (image c : List ℕ) → DiffersInPages g.version numbers image c → part 4096 1 c ≡ part 4096 1 image
+  gate_of_pages image c differs = part_front c image (pages_begin g.version) 4096 1 differs.front (omega (arith, begins))
 
-  pub pages_in_place : (image c : List ℕ) → IsLaid image → HasPages image c numbers texts → AreInPlace g c laid
-  pages_in_place image c is has k within = laid_in_place numbers texts (page_at c) pages k has.each (λ none. has.differs.others k none ∙ is.others k within none)
+  pub pages_in_place : (image c : List ℕ) → IsLaid image → HasPages g.version image c numbers texts → AreInPlace g c laid
+  pages_in_place image c is has k within = laid_in_place g.version numbers texts (page_at g.version c) pages k has.each (λ none. has.differs.others k none ∙ is.others k within none)

@@ -1,6 +1,7 @@
 pub mod Overwrites
 pub mod TableLemmas
 pub mod Moves
+pub mod Products
 pub mod SyncLemmas
 pub mod ReadLemmas
 pub mod ImageLemmas

@@ -64,9 +64,9 @@ one_page g a b has_a has_b same = elim (cases_order a.store b.store) [
   | inr (inr more) ↦ absurd (omega (arith, lower_store g b a has_b more, same))
 ]
 
-pub image_is : (g : Geometry) (k : ℕ) (id : PageId) (bytes : List ℕ) (number : ℕ) (images : List Image) → HasPage g id → page_number g id ≡ k → IsPageText bytes id number images → IsImageOf g k bytes
+pub image_is : (g : Geometry) (k : ℕ) (id : PageId) (bytes : List ℕ) (number : ℕ) (images : List Image) → HasPage g id → page_number g id ≡ k → IsPageText g.version bytes id number images → IsImageOf g k bytes
 image_is g k id bytes number images has number_is text = record { id = id; there = has; number = number_is; lsn = number; images = images; text = text }
 
 -- the text of a page's number is that of the page
-pub text_is_of : (g : Geometry) (k : ℕ) (id : PageId) (bytes : List ℕ) → HasPage g id → page_number g id ≡ k → (is : IsImageOf g k bytes) → IsPageText bytes id is.lsn is.images
-text_is_of g k id bytes has number_is is = subst (λ (p : PageId). IsPageText bytes p is.lsn is.images) (one_page g is.id id is.there has (is.number ∙ sym number_is)) is.text
+pub text_is_of : (g : Geometry) (k : ℕ) (id : PageId) (bytes : List ℕ) → HasPage g id → page_number g id ≡ k → (is : IsImageOf g k bytes) → IsPageText g.version bytes id is.lsn is.images
+text_is_of g k id bytes has number_is is = subst (λ (p : PageId). IsPageText g.version bytes p is.lsn is.images) (one_page g is.id id is.there has (is.number ∙ sym number_is)) is.text

@@ -5,6 +5,7 @@ use Rattle.shore_disk.specs.Device.{DeviceHistory, overwritten, TornFrom, Leaves
 use Rattle.shore_disk.proofs.Moments.{joined, widened}
 use Rattle.shore_gate.specs.declared.gates.TheConstants.{OPEN, CLOSED}
 use Rattle.shore_types.specs.declared.layout.Geometry.{Geometry}
+use Rattle.shore_types.specs.Versions.{page_bytes, pages_begin, pages_begin-is}
 use Rattle.shore_dwrite.specs.Checks.{HasRead}
 use Rattle.shore_dwrite.specs.Differences.{DiffersInPages, HasPages}
 use Rattle.shore_dwrite.specs.Shown.{AreInPlace, HasArea, IsBatch, IsShut, Shows, ShowsBehind, ShowsEither, overlaid}
@@ -36,40 +37,40 @@ shows_same : (g : Geometry) (front : List ℕ) (a b : ℕ → List ℕ) (image :
 shows_same g front a b image same (is, inl shut) = (is, inl (shut.0, λ k within. shut.1 k within ∙ same k within))
 shows_same g front a b image same (is, inr opened) = (is, inr (opened.0, opened.1, λ k within. opened.2 k within ∙ same k within))
 
-module _ (g : Geometry) (front : List ℕ) (pages : ℕ → List ℕ) (numbers texts : List ℕ) (batch : IsBatch g numbers texts) (long : length texts ≡ 8192 * length numbers) (start : DeviceHistory)
-    (image : List ℕ) (front_is : take 4096 image ≡ front) (fits : 270336 ≤ length image) (read : HasRead image numbers texts) (named : List ℕ) (area : HasArea g image named)
-    (shown : (k : ℕ) → k < page_count g → overlaid named (drop 8192 image) (page_at image) k ≡ pages k) where
-  is_laid : IsLaid g front (page_at image) numbers texts batch long image
+module _ (g : Geometry) (front : List ℕ) (pages : ℕ → List ℕ) (numbers texts : List ℕ) (batch : IsBatch g numbers texts) (long : length texts ≡ page_bytes g.version * length numbers) (start : DeviceHistory)
+    (image : List ℕ) (front_is : take 4096 image ≡ front) (fits : pages_begin g.version ≤ length image) (read : HasRead image numbers texts) (named : List ℕ) (area : HasArea g image named)
+    (shown : (k : ℕ) → k < page_count g → overlaid g.version named (drop 8192 image) (page_at g.version image) k ≡ pages k) where
+  is_laid : IsLaid g front (page_at g.version image) numbers texts batch long image
   is_laid = record { front_is = front_is; table = read.table; texts_are = read.texts_are; others = λ k within none. refl }
 
   abbrev laid : ℕ → List ℕ
-  laid = overlaid numbers texts (page_at image)
+  laid = overlaid g.version numbers texts (page_at g.version image)
 
   -- what was read is what is shown
   same : (k : ℕ) → k < page_count g → laid k ≡ pages k
   same k within =
       let one : named ≡ numbers = one_table (part 4100 132 image) named numbers area.table read.table in
-      let all : take (8192 * length numbers) (drop 8192 image) ≡ texts = ap (λ (n : ℕ). take n (drop 8192 image)) (sym long) ∙ read.texts_are in
-      sym (laid_alike numbers (drop 8192 image) texts (page_at image) (page_at image) k all (λ none. refl)) ∙ ap (λ (ns : List ℕ). overlaid ns (drop 8192 image) (page_at image) k) (sym one) ∙ shown k within
+      let all : take (page_bytes g.version * length numbers) (drop 8192 image) ≡ texts = ap (λ (n : ℕ). take n (drop 8192 image)) (sym long) ∙ read.texts_are in
+      sym (laid_alike g.version numbers (drop 8192 image) texts (page_at g.version image) (page_at g.version image) k all (λ none. refl)) ∙ ap (λ (ns : List ℕ). overlaid g.version ns (drop 8192 image) (page_at g.version image) k) (sym one) ∙ shown k within
 
-  laid_by : (c : List ℕ) → DiffersInPages numbers image c → ShowsBehind g front laid c
-  laid_by c differs = laid_shows g front (page_at image) numbers texts batch long c (pages_laid g front (page_at image) numbers texts batch long image c is_laid differs) (gate_of_pages g front (page_at image) numbers texts batch long image c differs ∙ area.is_open)
+  laid_by : (c : List ℕ) → DiffersInPages g.version numbers image c → ShowsBehind g front laid c
+  laid_by c differs = laid_shows g front (page_at g.version image) numbers texts batch long c (pages_laid g front (page_at g.version image) numbers texts batch long image c is_laid differs) (gate_of_pages g front (page_at g.version image) numbers texts batch long image c differs ∙ area.is_open)
 
-  shows_by : (c : List ℕ) → DiffersInPages numbers image c → ShowsBehind g front pages c
+  shows_by : (c : List ℕ) → DiffersInPages g.version numbers image c → ShowsBehind g front pages c
   shows_by c differs = shows_same g front laid pages c same (laid_by c differs)
 
-  pub while_replayed : (now : DeviceHistory) → LeavesOnly start now (DiffersInPages numbers image) → LeavesOnly start now (ShowsBehind g front pages)
-  while_replayed now moments = widened start now (DiffersInPages numbers image) (ShowsBehind g front pages) moments shows_by
+  pub while_replayed : (now : DeviceHistory) → LeavesOnly start now (DiffersInPages g.version numbers image) → LeavesOnly start now (ShowsBehind g front pages)
+  while_replayed now moments = widened start now (DiffersInPages g.version numbers image) (ShowsBehind g front pages) moments shows_by
 
-  module _ (placed : List ℕ) (has : HasPages image placed numbers texts) where
+  module _ (placed : List ℕ) (has : HasPages g.version image placed numbers texts) where
     placed_fits : 8192 ≤ length placed
-    placed_fits = omega (arith, has.differs.len)
+    placed_fits = omega (arith, has.differs.len, pages_begin-is g.version)
 
-    placed_is_laid : IsLaid g front (page_at image) numbers texts batch long placed
-    placed_is_laid = pages_laid g front (page_at image) numbers texts batch long image placed is_laid has.differs
+    placed_is_laid : IsLaid g front (page_at g.version image) numbers texts batch long placed
+    placed_is_laid = pages_laid g front (page_at g.version image) numbers texts batch long image placed is_laid has.differs
 
     are_placed : AreInPlace g placed laid
-    are_placed = pages_in_place g front (page_at image) numbers texts batch long image placed is_laid has
+    are_placed = pages_in_place g front (page_at g.version image) numbers texts batch long image placed is_laid has
 
     either_way : (c : List ℕ) → ShowsEither g front laid laid c → ShowsBehind g front pages c
     either_way c (inl shows) = shows_same g front laid pages c same shows
@@ -77,14 +78,14 @@ module _ (g : Geometry) (front : List ℕ) (pages : ℕ → List ℕ) (numbers t
 
     pub while_shut : (three four : DeviceHistory) → LeavesOnly start three (ShowsBehind g front pages) → Stands three placed → LeavesOnly three four (TornFrom 4096 1 three) → LeavesOnly start four (ShowsBehind g front pages)
     while_shut three four before stands moments = joined start three four (ShowsBehind g front pages) before (widened three four (TornFrom 4096 1 three) (ShowsBehind g front pages) moments (λ c torn.
-        either_way c (gate_shows g front (page_at image) numbers texts batch long laid placed c placed_fits placed_is_laid are_placed (inr (laid_by placed has.differs)) (torn_from_stands three placed 4096 1 c stands torn))))
+        either_way c (gate_shows g front (page_at g.version image) numbers texts batch long laid placed c placed_fits placed_is_laid are_placed (inr (laid_by placed has.differs)) (torn_from_stands three placed 4096 1 c stands torn))))
 
     abbrev pub closed : List ℕ
     closed = overwritten placed 4096 (CLOSED ∷ [])
 
     pub replayed : (take 4096 closed ≡ front) × IsShut closed × AreInPlace g closed pages
     replayed =
-        let has = shut_has g front (page_at image) numbers texts batch long placed (CLOSED ∷ []) refl placed_fits laid placed_is_laid.front_is (λ is. absurd (omega (arith, ap head is))) are_placed in
+        let has = shut_has g front (page_at g.version image) numbers texts batch long placed (CLOSED ∷ []) refl placed_fits laid placed_is_laid.front_is (λ is. absurd (omega (arith, ap head is))) are_placed in
         (has.0, has.1, λ k within. has.2 k within ∙ same k within)
       where
         head : List ℕ → ℕ
@@ -98,15 +99,15 @@ shut_in_place g image pages (inr shows) shut = absurd (shut shows.1.is_open)
 
 -- behind an open one there is an area
 pub area_of : (g : Geometry) (image : List ℕ) (pages : ℕ → List ℕ) → Shows g image pages → part 4096 1 image ≡ OPEN ∷ []
-    → (named : List ℕ) × HasArea g image named × ((k : ℕ) → k < page_count g → overlaid named (drop 8192 image) (page_at image) k ≡ pages k)
+    → (named : List ℕ) × HasArea g image named × ((k : ℕ) → k < page_count g → overlaid g.version named (drop 8192 image) (page_at g.version image) k ≡ pages k)
 area_of g image pages (inl shows) opened = absurd (shows.0 opened)
 area_of g image pages (inr shows) opened = shows
 
 -- what was read of an open area is in order
-pub area_read : (g : Geometry) (numbers texts image : List ℕ) → IsBatch g numbers texts → length texts ≡ 8192 * length numbers → HasRead image numbers texts
+pub area_read : (g : Geometry) (numbers texts image : List ℕ) → IsBatch g numbers texts → length texts ≡ page_bytes g.version * length numbers → HasRead image numbers texts
     → part 4096 1 image ≡ OPEN ∷ [] → HasArea g image numbers
 area_read g numbers texts image batch long read opened =
-    let all : take (8192 * length numbers) (drop 8192 image) ≡ texts = ap (λ (n : ℕ). take n (drop 8192 image)) (sym long) ∙ read.texts_are in
+    let all : take (page_bytes g.version * length numbers) (drop 8192 image) ≡ texts = ap (λ (n : ℕ). take n (drop 8192 image)) (sym long) ∙ read.texts_are in
     record {
       is_open = opened;
       table = read.table;

@@ -1,5 +1,6 @@
 -- What amid a batch holds of one device, and of another with the same calls.
-use Rattle.std.proofs.Common.{◌≡◌, inl, inr, ℕ, List, [], ◌∷◌, Bool, IsTrue, sym, subst}
+use Rattle.std.proofs.Common.{◌≡◌, inl, inr, ℕ, List, [], ◌∷◌, Bool, IsTrue, sym, subst, ◌*◌, length}
+use Rattle.shore_types.specs.Versions.{page_bytes}
 use Rattle.shore_disk.specs.Device.{DeviceHistory, Stands}
 use Rattle.shore_disk.specs.declared.device.Disk.{Ghosts}
 use Rattle.shore_types.specs.declared.layout.Geometry.{Geometry}
@@ -42,7 +43,7 @@ module _ {D : Type 0} {G : Ghosts D} (old new : PageDev D G) (history : G.histor
     written_stays is = record {
       honest = honest_now is.honest;
       batch = subst (λ (g : Geometry). IsBatch g numbers texts) (sym geometry) is.batch;
-      long = is.long;
+      long = subst (λ (g : Geometry). length texts ≡ page_bytes g.version * length numbers) (sym geometry) is.long;
       image = is.image;
       stands = stands_now is.image is.stands;
       laid = subst (λ (g : Geometry). IsLaid g front pages numbers texts is.image) (sym geometry) is.laid;
@@ -54,7 +55,7 @@ module _ {D : Type 0} {G : Ghosts D} (old new : PageDev D G) (history : G.histor
     opened_stays is = record {
       honest = honest_now is.honest;
       batch = subst (λ (g : Geometry). IsBatch g numbers texts) (sym geometry) is.batch;
-      long = is.long;
+      long = subst (λ (g : Geometry). length texts ≡ page_bytes g.version * length numbers) (sym geometry) is.long;
       image = is.image;
       stands = stands_now is.image is.stands;
       laid = subst (λ (g : Geometry). IsLaid g front pages numbers texts is.image) (sym geometry) is.laid;
@@ -65,5 +66,5 @@ module _ {D : Type 0} {G : Ghosts D} (old new : PageDev D G) (history : G.histor
     unfolding opened_stays
     placed_stays is = record {
       opened = opened_stays is.opened;
-      in_place = subst (λ (g : Geometry). AreInPlace g is.opened.image (overlaid numbers texts pages)) (sym geometry) is.in_place;
+      in_place = subst (λ (g : Geometry). AreInPlace g is.opened.image (overlaid g.version numbers texts pages)) (sym geometry) is.in_place;
     }

@@ -6,7 +6,8 @@ use Rattle.shore_types.specs.declared.faults.Device.TheVariants.{Volume}
 use Rattle.shore_types.specs.declared.faults.Fault.{Fault}
 use Rattle.shore_types.specs.declared.faults.Fault.TheVariants.{Damaged}
 use Rattle.shore_types.specs.declared.layout.Geometry.{Geometry}
-use Rattle.shore_types.specs.declared.layout.TheConstants.{PAGE_BYTES, MAX_BATCH_PAGES}
+use Rattle.shore_types.specs.declared.layout.TheConstants.{MAX_BATCH_PAGES}
+use Rattle.shore_types.specs.Versions.{page_bytes}
 use Rattle.shore_dwrite.specs.declared.places.TheConstants.{TABLE_AT, TABLE_BYTES, AREA_AT}
 use Rattle.shore_dwrite.specs.Shown.{RiseFrom}
 use Rattle.shore_dwrite.specs.Tables.{IsTable, cell}
@@ -47,15 +48,15 @@ table_verdict pages table = if is_within 1 MAX_BATCH_PAGES (cell 0 table)
 -- of these pages' images the one at an index is the first that is none
 abbrev pub IsFirstBad : Geometry → List ℕ → List ℕ → ℕ → Type 0
 IsFirstBad g [] bytes i = ⊥
-IsFirstBad g (k ∷ ks) bytes zero = IsImageOf g k (take PAGE_BYTES bytes) → ⊥
-IsFirstBad g (k ∷ ks) bytes (suc i) = IsImageOf g k (take PAGE_BYTES bytes) × IsFirstBad g ks (drop PAGE_BYTES bytes) i
+IsFirstBad g (k ∷ ks) bytes zero = IsImageOf g k (take (page_bytes g.version) bytes) → ⊥
+IsFirstBad g (k ∷ ks) bytes (suc i) = IsImageOf g k (take (page_bytes g.version) bytes) × IsFirstBad g ks (drop (page_bytes g.version) bytes) i
 
 -- the area of an image of a volume is refused with this
 abbrev pub RefusesArea : Geometry → List ℕ → Fault → Type 0
 RefusesArea g image fault =
     (table_verdict (page_count g) (part TABLE_AT TABLE_BYTES image) ≡ Err fault)
     ⊎ ((numbers : List ℕ) × (i : ℕ) × IsTable (part TABLE_AT TABLE_BYTES image) numbers × (table_verdict (page_count g) (part TABLE_AT TABLE_BYTES image) ≡ Ok tt)
-    × IsFirstBad g numbers (drop AREA_AT image) i × (fault ≡ Damaged Volume (AREA_AT + PAGE_BYTES * i)))
+    × IsFirstBad g numbers (drop AREA_AT image) i × (fault ≡ Damaged Volume (AREA_AT + page_bytes g.version * i)))
 
 -- what the area of an image of a volume holds: the table of these pages, and their texts
 pub record HasRead (image numbers texts : List ℕ) : Type 0 where

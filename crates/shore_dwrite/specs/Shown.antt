@@ -4,7 +4,9 @@ use Rattle.std.specs.Coded.{×_prop, Unit-prop}
 use denote.Struct.Props as logic
 use Rattle.shore_gate.specs.declared.gates.TheConstants.{OPEN}
 use Rattle.shore_types.specs.declared.layout.Geometry.{Geometry}
-use Rattle.shore_types.specs.declared.layout.TheConstants.{PAGE_BYTES, MAX_BATCH_PAGES}
+use Rattle.shore_types.specs.declared.layout.TheConstants.{MAX_BATCH_PAGES}
+use Rattle.shore_types.specs.declared.versions.Version.{Version}
+use Rattle.shore_types.specs.Versions.{page_bytes}
 use Rattle.shore_dwrite.specs.declared.places.TheConstants.{GATE_AT, TABLE_AT, TABLE_BYTES, AREA_AT}
 use Rattle.shore_dwrite.specs.Tables.{IsTable}
 use Rattle.shore_dwrite.specs.Volumes.{part, page_at, page_count, IsImageOf}
@@ -19,13 +21,13 @@ RiseFrom-prop low [] = Unit-prop
 RiseFrom-prop low (k ∷ ks) = ×_prop (Prim.hlevel logic.props) (RiseFrom-prop (k + 1) ks)
 
 -- the bytes begin with a text for each of these pages, one behind another, of which something holds
-abbrev pub AreTexts : (ℕ → List ℕ → Type 0) → List ℕ → List ℕ → Type 0
-AreTexts P [] bytes = Unit {0}
-AreTexts P (k ∷ ks) bytes = P k (take PAGE_BYTES bytes) × AreTexts P ks (drop PAGE_BYTES bytes)
+abbrev pub AreTexts : Version → (ℕ → List ℕ → Type 0) → List ℕ → List ℕ → Type 0
+AreTexts v P [] bytes = Unit {0}
+AreTexts v P (k ∷ ks) bytes = P k (take (page_bytes v) bytes) × AreTexts v P ks (drop (page_bytes v) bytes)
 
 -- .. a text of each of them
 abbrev pub AreImages : Geometry → List ℕ → List ℕ → Type 0
-AreImages g = AreTexts (IsImageOf g)
+AreImages g = AreTexts g.version (IsImageOf g)
 
 -- pages of the volume, rising, and a text of each: what a batch is while it grows
 pub record IsBatchSoFar (g : Geometry) (numbers bytes : List ℕ) : Type 0 where
@@ -49,9 +51,9 @@ pub record AreBatchNumbers (g : Geometry) (numbers : List ℕ) : Type 0 where
   pub on_volume : All (λ k. k < page_count g) numbers
 
 -- pages, with the images of some of them laid over
-abbrev pub overlaid : List ℕ → List ℕ → (ℕ → List ℕ) → ℕ → List ℕ
-overlaid [] bytes pages k = pages k
-overlaid (n ∷ ns) bytes pages k = if n == k then take PAGE_BYTES bytes else overlaid ns (drop PAGE_BYTES bytes) pages k
+abbrev pub overlaid : Version → List ℕ → List ℕ → (ℕ → List ℕ) → ℕ → List ℕ
+overlaid v [] bytes pages k = pages k
+overlaid v (n ∷ ns) bytes pages k = if n == k then take (page_bytes v) bytes else overlaid v ns (drop (page_bytes v) bytes) pages k
 
 -- the double-write area has the images of a batch, behind an open gate
 pub record HasArea (g : Geometry) (image numbers : List ℕ) : Type 0 where
@@ -61,7 +63,7 @@ pub record HasArea (g : Geometry) (image numbers : List ℕ) : Type 0 where
 
 -- these pages are in place
 abbrev pub AreInPlace : Geometry → List ℕ → (ℕ → List ℕ) → Type 0
-AreInPlace g image pages = (k : ℕ) → k < page_count g → page_at image k ≡ pages k
+AreInPlace g image pages = (k : ℕ) → k < page_count g → page_at g.version image k ≡ pages k
 
 abbrev pub IsShut : List ℕ → Type 0
 IsShut image = part GATE_AT 1 image ≢ OPEN ∷ []
@@ -70,7 +72,7 @@ IsShut image = part GATE_AT 1 image ≢ OPEN ∷ []
 abbrev pub Shows : Geometry → List ℕ → (ℕ → List ℕ) → Type 0
 Shows g image pages =
     (IsShut image × AreInPlace g image pages)
-    ⊎ ((numbers : List ℕ) × HasArea g image numbers × ((k : ℕ) → k < page_count g → overlaid numbers (drop AREA_AT image) (page_at image) k ≡ pages k))
+    ⊎ ((numbers : List ℕ) × HasArea g image numbers × ((k : ℕ) → k < page_count g → overlaid g.version numbers (drop AREA_AT image) (page_at g.version image) k ≡ pages k))
 
 -- .. behind these first 4,096 bytes, the label among them
 abbrev pub ShowsBehind : Geometry → List ℕ → (ℕ → List ℕ) → List ℕ → Type 0

@@ -4,7 +4,7 @@ use Rattle.shore_disk.specs.Device.{Stands}
 use Rattle.shore_disk.specs.declared.device.Disk.{Ghosts}
 use Rattle.shore_gate.specs.declared.gates.TheConstants.{OPEN}
 use Rattle.shore_types.specs.declared.layout.Geometry.{Geometry}
-use Rattle.shore_types.specs.declared.layout.TheConstants.{PAGE_BYTES}
+use Rattle.shore_types.specs.Versions.{page_bytes}
 use Rattle.shore_dwrite.specs.declared.places.TheConstants.{AREA_AT, GATE_AT, TABLE_AT, TABLE_BYTES}
 use Rattle.shore_dwrite.specs.declared.device.PageDev.{PageDev}
 use Rattle.shore_dwrite.specs.Shown.{AreInPlace, IsBatch, IsShut, overlaid}
@@ -16,13 +16,13 @@ pub record IsLaid (g : Geometry) (front : List ℕ) (pages : ℕ → List ℕ) (
   pub front_is : take GATE_AT image ≡ front
   pub table : IsTable (part TABLE_AT TABLE_BYTES image) numbers
   pub texts_are : part AREA_AT (length texts) image ≡ texts
-  pub others : (k : ℕ) → k < page_count g → (Contains numbers k → ⊥) → page_at image k ≡ pages k
+  pub others : (k : ℕ) → k < page_count g → (Contains numbers k → ⊥) → page_at g.version image k ≡ pages k
 
 -- After the first sync: the area has the batch, its gate is shut, and each page is in place as it was.
 pub record IsWritten {D : Type 0} {G : Ghosts D} (dev : PageDev D G) (front : List ℕ) (pages : ℕ → List ℕ) (numbers texts : List ℕ) : Type 0 where
   pub honest : IsTrue (G.is_honest dev.device)
   pub batch : IsBatch dev.geometry numbers texts
-  pub long : length texts ≡ PAGE_BYTES * length numbers
+  pub long : length texts ≡ page_bytes dev.geometry.version * length numbers
   pub image : List ℕ
   pub stands : Stands (G.history dev.device) image
   pub laid : IsLaid dev.geometry front pages numbers texts image
@@ -33,7 +33,7 @@ pub record IsWritten {D : Type 0} {G : Ghosts D} (dev : PageDev D G) (front : Li
 pub record IsOpened {D : Type 0} {G : Ghosts D} (dev : PageDev D G) (front : List ℕ) (pages : ℕ → List ℕ) (numbers texts : List ℕ) : Type 0 where
   pub honest : IsTrue (G.is_honest dev.device)
   pub batch : IsBatch dev.geometry numbers texts
-  pub long : length texts ≡ PAGE_BYTES * length numbers
+  pub long : length texts ≡ page_bytes dev.geometry.version * length numbers
   pub image : List ℕ
   pub stands : Stands (G.history dev.device) image
   pub laid : IsLaid dev.geometry front pages numbers texts image
@@ -42,4 +42,4 @@ pub record IsOpened {D : Type 0} {G : Ghosts D} (dev : PageDev D G) (front : Lis
 -- After the third: the batch's pages are in place, and the gate is open still.
 pub record IsPlaced {D : Type 0} {G : Ghosts D} (dev : PageDev D G) (front : List ℕ) (pages : ℕ → List ℕ) (numbers texts : List ℕ) : Type 0 where
   pub opened : IsOpened dev front pages numbers texts
-  pub in_place : AreInPlace dev.geometry opened.image (overlaid numbers texts pages)
+  pub in_place : AreInPlace dev.geometry opened.image (overlaid dev.geometry.version numbers texts pages)

@@ -2,9 +2,10 @@
 use Rattle.std.specs.Prelude.{◌≡◌, ◌<◌, ℕ, ◌+◌, ◌*◌, List, [], drop, length, slice_index, sum, take}
 use Rattle.shore_types.specs.declared.ids.PageId.{PageId}
 use Rattle.shore_types.specs.declared.layout.Geometry.{Geometry}
-use Rattle.shore_types.specs.declared.layout.TheConstants.{PAGE_BYTES, PAGES_AT}
 use Rattle.shore_types.specs.Images.{Image}
 use Rattle.shore_types.specs.Layout.{HasPage}
+use Rattle.shore_types.specs.declared.versions.Version.{Version}
+use Rattle.shore_types.specs.Versions.{page_bytes, pages_begin}
 use Rattle.shore_page.specs.Text.{IsPageText}
 
 -- so many bytes at an offset
@@ -12,12 +13,12 @@ abbrev pub part : ℕ → ℕ → List ℕ → List ℕ
 part offset bytes image = take bytes (drop offset image)
 
 -- where the page of a number is
-abbrev pub page_offset : ℕ → ℕ
-page_offset k = PAGES_AT + PAGE_BYTES * k
+abbrev pub page_offset : Version → ℕ → ℕ
+page_offset v k = pages_begin v + page_bytes v * k
 
 -- what is there
-abbrev pub page_at : List ℕ → ℕ → List ℕ
-page_at image k = part (page_offset k) PAGE_BYTES image
+abbrev pub page_at : Version → List ℕ → ℕ → List ℕ
+page_at v image k = part (page_offset v k) (page_bytes v) image
 
 -- the number of a page on the volume: the pages of all stores below its own come before it
 abbrev pub page_number : Geometry → PageId → ℕ
@@ -38,12 +39,12 @@ pub record IsImageOf (g : Geometry) (k : ℕ) (bytes : List ℕ) : Type 0 where
   pub number : page_number g id ≡ k
   pub lsn : ℕ
   pub images : List Image
-  pub text : IsPageText bytes id lsn images
+  pub text : IsPageText g.version bytes id lsn images
 
 -- the bytes are no text of the page with a number up to this one
-abbrev pub HasNoPage : List ℕ → PageId → ℕ → Type 0
-HasNoPage bytes id last = (number : ℕ) (images : List Image) → IsPageText bytes id number images → last < number
+abbrev pub HasNoPage : Version → List ℕ → PageId → ℕ → Type 0
+HasNoPage v bytes id last = (number : ℕ) (images : List Image) → IsPageText v bytes id number images → last < number
 
 -- each page has number 0 and no slot
 abbrev pub AreEmpty : Geometry → (ℕ → List ℕ) → Type 0
-AreEmpty g pages = (id : PageId) → HasPage g id → IsPageText (pages (page_number g id)) id 0 []
+AreEmpty g pages = (id : PageId) → HasPage g id → IsPageText g.version (pages (page_number g id)) id 0 []

@@ -1,14 +1,15 @@
 //! The pages of a volume on its device.
 ghost use Rattle.std.specs.Prelude.{◌≡◌, [], ◌∷◌, ◌⊎◌, ◌+◌, ◌*◌, ◌<◌, ◌≤◌, ℕ, List, length, All, Contains, IsTrue, IfErr, IfOk, OnOk, slice_get, Some};
 ghost use Rattle.std.proofs.Props.{props};
-ghost use Rattle.shore_types.specs.declared.layout.TheConstants.{PAGE_BYTES, MAX_PAGES, MAX_STORES, PAGES_AT};
+ghost use Rattle.shore_types.specs.declared.layout.TheConstants.{MAX_PAGES, MAX_STORES};
+ghost use Rattle.shore_types.specs.Versions.{page_bytes, pages_begin};
 ghost use Rattle.shore_disk.specs.Device.{DeviceHistory, size, seen, may_leave, overwritten, CountsFault, LeavesOnly, Stands, TornFrom};
 ghost use Rattle.shore_gate.specs.declared.gates.TheConstants.{OPEN};
 ghost use Rattle.shore_dwrite.specs.Syncs.{SyncsOnce};
 ghost use Rattle.shore_dwrite.specs.Checks.{HasRead, RefusesArea};
 ghost use Rattle.shore_dwrite.specs.Differences.{DiffersInArea, DiffersInPages, HasImages, HasPages};
 ghost use Rattle.shore_dwrite.specs.declared.places.TheConstants.{GATE_AT};
-ghost use Rattle.shore_dwrite.specs.Images.{numbers_of, texts_of};
+ghost use Rattle.shore_dwrite.specs.Images.{numbers_of, texts_of, version_of};
 ghost use Rattle.shore_dwrite.specs.Shown.{AreBatchNumbers, IsBatch, IsShut, RiseFrom, overlaid, Shows, ShowsBehind, ShowsEither};
 ghost use Rattle.shore_disk.specs.Cause.{HasCause};
 ghost use Rattle.shore_gate.specs.Checks.{IsFromOutside};
@@ -27,18 +28,25 @@ use crate::table::table_of;
 use shore_disk::{Disk, DiskFault, FuseDisk};
 use shore_gate::{CLOSED, OPEN, close_gate, is_open};
 use shore_page::Page;
-use shore_types::layout::{MAX_STORES, PAGE_BYTES};
-use shore_types::{Device, Fault, Geometry, Lsn, PageId};
+use shore_types::layout::{MAX_PAGE_BYTES, MAX_STORES};
+use shore_types::{Device, Fault, Geometry, Lsn, PageId, Version};
 use std::alloc::Global;
 
 // The page whose text the bytes at an offset are, if its number is not above the last one of the log.
-fn find_page(alloc: Global, id: &PageId, bytes: &[u8], last: Lsn, at: u64) -> Result<Page, Fault>
-    ensures found { IfOk result (λ page. IsPageText bytes.now id.now page.number (images_of page.slots)
-        × (page ≡ settled_page id.now page.number (images_of page.slots)) × (page.number ≤ last)) }
+fn find_page(
+    alloc: Global,
+    version: Version,
+    id: &PageId,
+    bytes: &[u8],
+    last: Lsn,
+    at: u64,
+) -> Result<Page, Fault>
+    ensures found { IfOk result (λ page. IsPageText version bytes.now id.now page.number (images_of page.slots)
+        × (page ≡ settled_page version id.now page.number (images_of page.slots)) × (page.number ≤ last)) }
     ensures refused { IfErr result (λ fault. (fault ≡ Fault.Memory)
-        ⊎ ((fault ≡ Fault.Damaged Device.Volume at) × HasNoPage bytes.now id.now last)) }
+        ⊎ ((fault ≡ Fault.Damaged Device.Volume at) × HasNoPage version bytes.now id.now last)) }
 {
-    let Some(page) = Page::from_bytes(alloc, *id, bytes)? else {
+    let Some(page) = Page::from_bytes(alloc, version, *id, bytes)? else {
         return Err(Fault::damaged(Device::Volume, at));
     };
     if page.number().0 > last.0 {
@@ -57,7 +65,7 @@ pub struct PageDev<D: Disk> {
     // For each store the number of its first page, made once from the geometry.
     firsts: [u32; MAX_STORES],
     ghost firsts_are: { AreFirsts geometry.stores firsts } by { Prim.hlevel props },
-    ghost as_long: { size (D.Disk.history device) ≡ PAGES_AT + PAGE_BYTES * page_count geometry },
+    ghost as_long: { size (D.Disk.history device) ≡ pages_begin geometry.version + page_bytes geometry.version * page_count geometry },
     ghost few: { page_count geometry ≤ MAX_PAGES },
     ghost few_stores: { length geometry.stores ≤ MAX_STORES },
 }
@@ -68,7 +76,7 @@ impl<D: Disk> PageDev<D> {
 
     /// The pages on a device that is as long as its geometry asks.
     pub fn new(device: D, geometry: Geometry) -> PageDev<D>
-        requires long { size (D.history device) ≡ PAGES_AT + PAGE_BYTES * page_count geometry }
+        requires long { size (D.history device) ≡ pages_begin geometry.version + page_bytes geometry.version * page_count geometry }
         requires few { page_count geometry ≤ MAX_PAGES }
         requires few_stores { length geometry.stores ≤ MAX_STORES }
         ensures device { device_of result ≡ device }
@@ -117,20 +125,20 @@ impl<D: Disk> PageDev<D> {
     pub fn read_page(&mut self, alloc: Global, id: PageId, last: Lsn) -> Result<Page, Fault>
         requires { HasPage (geometry_of self.old) id }
         ensures found { (front : List ℕ) (pages : ℕ → List ℕ) → IsSettled self.old front pages → IfOk result (λ page.
-            IsPageText (pages (page_number (geometry_of self.old) id)) id page.number (images_of page.slots)
-            × (page ≡ settled_page id page.number (images_of page.slots))) }
+            IsPageText (geometry_of self.old).version (pages (page_number (geometry_of self.old) id)) id page.number (images_of page.slots)
+            × (page ≡ settled_page (geometry_of self.old).version id page.number (images_of page.slots))) }
         ensures found_at { (image : List ℕ) → IsTrue (D.is_honest self.old.device) → Stands (D.history self.old.device) image → IfOk result (λ page.
-            IsPageText (page_at image (page_number (geometry_of self.old) id)) id page.number (images_of page.slots)) }
-        ensures page { IfOk result (λ page. page ≡ settled_page id page.number (images_of page.slots)) }
+            IsPageText (geometry_of self.old).version (page_at (geometry_of self.old).version image (page_number (geometry_of self.old) id)) id page.number (images_of page.slots)) }
+        ensures page { IfOk result (λ page. page ≡ settled_page (geometry_of self.old).version id page.number (images_of page.slots)) }
         ensures behind { IfOk result (λ page. page.number ≤ last) }
         ensures refused { (front : List ℕ) (pages : ℕ → List ℕ) → IsSettled self.old front pages → IfErr result (λ fault.
             IsFromOutside fault
-            ⊎ ((fault ≡ Fault.Damaged Device.Volume (page_offset (page_number (geometry_of self.old) id)))
-            × HasNoPage (pages (page_number (geometry_of self.old) id)) id last)) }
+            ⊎ ((fault ≡ Fault.Damaged Device.Volume (page_offset (geometry_of self.old).version (page_number (geometry_of self.old) id)))
+            × HasNoPage (geometry_of self.old).version (pages (page_number (geometry_of self.old) id)) id last)) }
         ensures refused_at { (image : List ℕ) → IsTrue (D.is_honest self.old.device) → Stands (D.history self.old.device) image → IfErr result (λ fault.
             IsFromOutside fault
-            ⊎ ((fault ≡ Fault.Damaged Device.Volume (page_offset (page_number (geometry_of self.old) id)))
-            × HasNoPage (page_at image (page_number (geometry_of self.old) id)) id last)) }
+            ⊎ ((fault ≡ Fault.Damaged Device.Volume (page_offset (geometry_of self.old).version (page_number (geometry_of self.old) id)))
+            × HasNoPage (geometry_of self.old).version (page_at (geometry_of self.old).version image (page_number (geometry_of self.old) id)) id last)) }
         ensures settled { (front : List ℕ) (pages : ℕ → List ℕ) → IsSettled self.old front pages → IsSettled self.new front pages }
         ensures same { IsTrue (D.is_honest self.old.device) → D.history self.new.device ≡ D.history self.old.device }
         ensures honest { D.is_honest self.new.device ≡ D.is_honest self.old.device }
@@ -138,23 +146,26 @@ impl<D: Disk> PageDev<D> {
         ensures geometry { geometry_of self.new ≡ geometry_of self.old }
         ensures cause { HasCause result (D.faults self.old.device) (D.faults self.new.device) }
     {
-        let at = page_offset(self.number(id));
-        let mut bytes = [0; PAGE_BYTES];
-        self.device.read_at(at, &mut bytes)?;
-        find_page(alloc, &id, &bytes, last, at)
+        let version = self.geometry.version;
+        let at = page_offset(version, self.number(id));
+        let mut bytes = [0; MAX_PAGE_BYTES];
+        let bytes = &mut bytes[..version.page_bytes()];
+        self.device.read_at(at, bytes)?;
+        find_page(alloc, version, &id, bytes, last, at)
     }
 
     /// Writes a batch of pages: all of them, or none after a loss of power and a replay. At an error the device failed, and any part of it
     /// may be done.
     pub fn write_batch(&mut self, images: &PageImages) -> Result<(), DiskFault>
-        requires { IsBatch (geometry_of self.old) (numbers_of images.now) (texts_of images.now) }
+        requires batch { IsBatch (geometry_of self.old) (numbers_of images.now) (texts_of images.now) }
+        requires version { version_of images.now ≡ (geometry_of self.old).version }
         ensures settled { (front : List ℕ) (pages : ℕ → List ℕ) → IsSettled self.old front pages
-            → OnOk result (IsSettled self.new front (overlaid (numbers_of images.now) (texts_of images.now) pages)) }
+            → OnOk result (IsSettled self.new front (overlaid (geometry_of self.old).version (numbers_of images.now) (texts_of images.now) pages)) }
 
         // A crash at any moment of the call leaves all pages of the batch old or all new, and each other page as it was.
         ensures any_moment { (front : List ℕ) (pages : ℕ → List ℕ) → IsSettled self.old front pages
             → LeavesOnly (D.history self.old.device) (D.history self.new.device)
-            (ShowsEither (geometry_of self.old) front pages (overlaid (numbers_of images.now) (texts_of images.now) pages)) }
+            (ShowsEither (geometry_of self.old) front pages (overlaid (geometry_of self.old).version (numbers_of images.now) (texts_of images.now) pages)) }
 
         ensures honest { D.is_honest self.new.device ≡ D.is_honest self.old.device }
         ensures size { size (D.history self.new.device) ≡ size (D.history self.old.device) }
@@ -170,7 +181,8 @@ impl<D: Disk> PageDev<D> {
     /// The first of a batch's four syncs: its table and its images go into the area, behind the shut gate. All pages stay as they were. At an error, as at
     /// that of each other step, the device failed, and any part of it may be done.
     pub fn begin_batch(&mut self, images: &PageImages) -> Result<(), DiskFault>
-        requires { IsBatch (geometry_of self.old) (numbers_of images.now) (texts_of images.now) }
+        requires batch { IsBatch (geometry_of self.old) (numbers_of images.now) (texts_of images.now) }
+        requires version { version_of images.now ≡ (geometry_of self.old).version }
         ensures written { (front : List ℕ) (pages : ℕ → List ℕ) → IsSettled self.old front pages
             → OnOk result (IsWritten self.new front pages (numbers_of images.now) (texts_of images.now)) }
         ensures settled { (front : List ℕ) (pages : ℕ → List ℕ) → IsSettled self.old front pages → OnOk result (IsSettled self.new front pages) }
@@ -195,7 +207,7 @@ impl<D: Disk> PageDev<D> {
 
         // A crash at any moment of the call leaves all pages of the batch old or all new, and each other page as it was.
         ensures any_moment { (front : List ℕ) (pages : ℕ → List ℕ) (numbers texts : List ℕ) → IsWritten self.old front pages numbers texts
-            → LeavesOnly (D.history self.old.device) (D.history self.new.device) (ShowsEither (geometry_of self.old) front pages (overlaid numbers texts pages)) }
+            → LeavesOnly (D.history self.old.device) (D.history self.new.device) (ShowsEither (geometry_of self.old) front pages (overlaid (geometry_of self.old).version numbers texts pages)) }
 
         ensures syncs { IsTrue (D.is_honest self.old.device) → SyncsOnce result (D.history self.old.device) (D.history self.new.device) }
         ensures honest { D.is_honest self.new.device ≡ D.is_honest self.old.device }
@@ -208,14 +220,15 @@ impl<D: Disk> PageDev<D> {
 
     /// The third: each page of the batch is written in place.
     pub fn place_batch(&mut self, images: &PageImages) -> Result<(), DiskFault>
-        requires { AreBatchNumbers (geometry_of self.old) (numbers_of images.now) }
+        requires numbers { AreBatchNumbers (geometry_of self.old) (numbers_of images.now) }
+        requires version { version_of images.now ≡ (geometry_of self.old).version }
         ensures placed { (front : List ℕ) (pages : ℕ → List ℕ) → IsOpened self.old front pages (numbers_of images.now) (texts_of images.now)
             → OnOk result (IsPlaced self.new front pages (numbers_of images.now) (texts_of images.now)) }
 
         // A crash at any moment of the call leaves all pages of the batch new.
         ensures any_moment { (front : List ℕ) (pages : ℕ → List ℕ) → IsOpened self.old front pages (numbers_of images.now) (texts_of images.now)
             → LeavesOnly (D.history self.old.device) (D.history self.new.device)
-            (ShowsBehind (geometry_of self.old) front (overlaid (numbers_of images.now) (texts_of images.now) pages)) }
+            (ShowsBehind (geometry_of self.old) front (overlaid (geometry_of self.old).version (numbers_of images.now) (texts_of images.now) pages)) }
 
         ensures syncs { IsTrue (D.is_honest self.old.device) → SyncsOnce result (D.history self.old.device) (D.history self.new.device) }
         ensures honest { D.is_honest self.new.device ≡ D.is_honest self.old.device }
@@ -229,11 +242,11 @@ impl<D: Disk> PageDev<D> {
     /// The fourth: the gate is shut, and the area may be written anew.
     pub fn end_batch(&mut self) -> Result<(), DiskFault>
         ensures settled { (front : List ℕ) (pages : ℕ → List ℕ) (numbers texts : List ℕ) → IsPlaced self.old front pages numbers texts
-            → OnOk result (IsSettled self.new front (overlaid numbers texts pages)) }
+            → OnOk result (IsSettled self.new front (overlaid (geometry_of self.old).version numbers texts pages)) }
 
         // A crash at any moment of the call leaves all pages of the batch new.
         ensures any_moment { (front : List ℕ) (pages : ℕ → List ℕ) (numbers texts : List ℕ) → IsPlaced self.old front pages numbers texts
-            → LeavesOnly (D.history self.old.device) (D.history self.new.device) (ShowsBehind (geometry_of self.old) front (overlaid numbers texts pages)) }
+            → LeavesOnly (D.history self.old.device) (D.history self.new.device) (ShowsBehind (geometry_of self.old) front (overlaid (geometry_of self.old).version numbers texts pages)) }
 
         ensures syncs { IsTrue (D.is_honest self.old.device) → SyncsOnce result (D.history self.old.device) (D.history self.new.device) }
         ensures honest { D.is_honest self.new.device ≡ D.is_honest self.old.device }
@@ -285,6 +298,7 @@ impl<D: Disk> PageDev<D> {
     // steps than others.
     fn read_area(&mut self, alloc: Global) -> Result<PageImages, Fault>
         ensures batch { IfOk result (λ images. IsBatch (geometry_of self.old) (numbers_of images) (texts_of images)) }
+        ensures version { IfOk result (λ images. version_of images ≡ (geometry_of self.old).version) }
         ensures found { (image : List ℕ) → IsTrue (D.is_honest self.old.device) → Stands (D.history self.old.device) image
             → IfOk result (λ images. HasRead image (numbers_of images) (texts_of images)) }
         ensures refused { (image : List ℕ) → IsTrue (D.is_honest self.old.device) → Stands (D.history self.old.device) image
@@ -298,10 +312,11 @@ impl<D: Disk> PageDev<D> {
         let mut table = [0; TABLE_BYTES];
         self.device.read_at(TABLE_AT, &mut table)?;
         let numbers = read_table(alloc, &table, page_count(&self.geometry))?;
-        let mut bytes = Vec::from_elem(alloc, 0, PAGE_BYTES * numbers.len())?;
+        let version = self.geometry.version;
+        let mut bytes = Vec::from_elem(alloc, 0, version.page_bytes() * numbers.len())?;
         self.device.read_at(AREA_AT, &mut bytes)?;
         check_images(alloc, &self.geometry, &numbers, &bytes)?;
-        Ok(PageImages::of(numbers, bytes))
+        Ok(PageImages::of(version, numbers, bytes))
     }
 
     // Writes the gate, and syncs.
@@ -321,11 +336,12 @@ impl<D: Disk> PageDev<D> {
 
     // Writes the table and the images behind the gate, and syncs.
     fn write_area(&mut self, images: &PageImages) -> Result<(), DiskFault>
-        requires { IsBatch (geometry_of self.old) (numbers_of images.now) (texts_of images.now) }
+        requires batch { IsBatch (geometry_of self.old) (numbers_of images.now) (texts_of images.now) }
+        requires version { version_of images.now ≡ (geometry_of self.old).version }
         ensures done { (base : List ℕ) → IsTrue (D.is_honest self.old.device) → Stands (D.history self.old.device) base
-            → OnOk result ((new : List ℕ) × Stands (D.history self.new.device) new × HasImages base new (numbers_of images.now) (texts_of images.now)) }
+            → OnOk result ((new : List ℕ) × Stands (D.history self.new.device) new × HasImages (geometry_of self.old).version base new (numbers_of images.now) (texts_of images.now)) }
         ensures any_moment { (base : List ℕ) → IsTrue (D.is_honest self.old.device) → Stands (D.history self.old.device) base
-            → LeavesOnly (D.history self.old.device) (D.history self.new.device) (DiffersInArea base) }
+            → LeavesOnly (D.history self.old.device) (D.history self.new.device) (DiffersInArea (geometry_of self.old).version base) }
         ensures syncs { IsTrue (D.is_honest self.old.device) → SyncsOnce result (D.history self.old.device) (D.history self.new.device) }
         ensures honest { D.is_honest self.new.device ≡ D.is_honest self.old.device }
         ensures size { size (D.history self.new.device) ≡ size (D.history self.old.device) }
@@ -339,11 +355,12 @@ impl<D: Disk> PageDev<D> {
 
     // Writes each page in place, and syncs.
     fn write_in_place(&mut self, images: &PageImages) -> Result<(), DiskFault>
-        requires { AreBatchNumbers (geometry_of self.old) (numbers_of images.now) }
+        requires numbers { AreBatchNumbers (geometry_of self.old) (numbers_of images.now) }
+        requires version { version_of images.now ≡ (geometry_of self.old).version }
         ensures done { (base : List ℕ) → IsTrue (D.is_honest self.old.device) → Stands (D.history self.old.device) base
-            → OnOk result ((new : List ℕ) × Stands (D.history self.new.device) new × HasPages base new (numbers_of images.now) (texts_of images.now)) }
+            → OnOk result ((new : List ℕ) × Stands (D.history self.new.device) new × HasPages (geometry_of self.old).version base new (numbers_of images.now) (texts_of images.now)) }
         ensures any_moment { (base : List ℕ) → IsTrue (D.is_honest self.old.device) → Stands (D.history self.old.device) base
-            → LeavesOnly (D.history self.old.device) (D.history self.new.device) (DiffersInPages (numbers_of images.now) base) }
+            → LeavesOnly (D.history self.old.device) (D.history self.new.device) (DiffersInPages (geometry_of self.old).version (numbers_of images.now) base) }
         ensures syncs { IsTrue (D.is_honest self.old.device) → SyncsOnce result (D.history self.old.device) (D.history self.new.device) }
         ensures honest { D.is_honest self.new.device ≡ D.is_honest self.old.device }
         ensures size { size (D.history self.new.device) ≡ size (D.history self.old.device) }
@@ -352,9 +369,12 @@ impl<D: Disk> PageDev<D> {
     {
         let bytes = images.bytes();
         let numbers = images.numbers();
+        let version = self.geometry.version;
+        let size = version.page_bytes();
         for i in 0..numbers.len() {
-            let text = &bytes[PAGE_BYTES * i..PAGE_BYTES * (i + 1)];
-            self.device.write_at(page_offset(numbers[i]), text)?;
+            let text = &bytes[size * i..size * (i + 1)];
+            self.device
+                .write_at(page_offset(version, numbers[i]), text)?;
         }
         self.device.sync()
     }

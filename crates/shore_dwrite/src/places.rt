@@ -4,8 +4,8 @@ ghost use Rattle.shore_types.specs.Layout.{HasPage};
 ghost use Rattle.shore_types.specs.declared.layout.TheConstants.{MAX_PAGES, MAX_STORES};
 ghost use Rattle.shore_dwrite.specs.Volumes.{AreFirsts, page_count, page_number, page_offset};
 
-use shore_types::layout::{MAX_STORES, PAGE_BYTES, PAGES_AT};
-use shore_types::{Geometry, PageId, StoreId};
+use shore_types::layout::MAX_STORES;
+use shore_types::{Geometry, PageId, StoreId, Version};
 
 /// The offset of the gate of the double-write area.
 pub const GATE_AT: u64 = 4096;
@@ -17,10 +17,10 @@ pub const TABLE_BYTES: usize = 132;
 pub const AREA_AT: u64 = 8192;
 
 /// The offset of the page of a number.
-pub fn page_offset(number: u32) -> u64
-    ensures { result ≡ page_offset number }
+pub fn page_offset(version: Version, number: u32) -> u64
+    ensures { result ≡ page_offset version number }
 {
-    PAGES_AT + PAGE_BYTES as u64 * u64::from(number)
+    version.pages_begin() + version.page_bytes() as u64 * u64::from(number)
 }
 
 /// For each store the number of its first page on the volume: the pages of all stores before it come before that.

@@ -2,7 +2,8 @@
 ghost use Rattle.std.specs.Prelude.{◌≡◌, ◌⊎◌, ◌+◌, ◌-◌, ◌*◌, ◌<◌, ◌≤◌, ℕ, All, length, IfErr, IfOk, OnOk, Ok, Err, IsTrue, false};
 ghost use Rattle.shore_types.specs.declared.faults.Device.TheVariants as Device;
 ghost use Rattle.shore_types.specs.declared.faults.Fault.TheVariants as Fault;
-ghost use Rattle.shore_types.specs.declared.layout.TheConstants.{MAX_BATCH_PAGES, MAX_STORES, PAGE_BYTES};
+ghost use Rattle.shore_types.specs.declared.layout.TheConstants.{MAX_BATCH_PAGES, MAX_STORES};
+ghost use Rattle.shore_types.specs.Versions.{page_bytes};
 ghost use Rattle.shore_dwrite.specs.declared.places.TheConstants.{AREA_AT, TABLE_AT, TABLE_BYTES};
 ghost use Rattle.shore_dwrite.specs.Checks.{HasEntries, IsFirstBad, page_verdict, zero_verdict, table_verdict};
 ghost use Rattle.shore_dwrite.specs.Shown.{AreImages, RiseFrom};
@@ -12,7 +13,7 @@ ghost use Rattle.shore_dwrite.specs.Tables.{IsTable, cell};
 use crate::places::{AREA_AT, TABLE_AT, TABLE_BYTES, page_of};
 use byteorder::{ByteOrder, LittleEndian};
 use shore_page::Page;
-use shore_types::layout::{MAX_BATCH_PAGES, PAGE_BYTES};
+use shore_types::layout::MAX_BATCH_PAGES;
 use shore_types::{Device, Fault, Geometry};
 use std::alloc::{AllocError, Global};
 
@@ -99,18 +100,19 @@ pub fn check_images(
     numbers: &[u32],
     bytes: &[u8],
 ) -> Result<(), Fault>
-    requires whole { length bytes.now ≡ PAGE_BYTES * length numbers.now }
+    requires whole { length bytes.now ≡ page_bytes geometry.now.version * length numbers.now }
     requires most { length numbers.now ≤ MAX_BATCH_PAGES }
     requires on_volume { All (λ k. k < page_count geometry.now) numbers.now }
     requires few { length geometry.now.stores ≤ MAX_STORES }
     ensures passed { OnOk result (AreImages geometry.now numbers.now bytes.now) }
     ensures refused { IfErr result (λ fault. (fault ≡ Fault.Memory)
-        ⊎ ((i : ℕ) × IsFirstBad geometry.now numbers.now bytes.now i × (fault ≡ Fault.Damaged Device.Volume (AREA_AT + PAGE_BYTES * i)))) }
+        ⊎ ((i : ℕ) × IsFirstBad geometry.now numbers.now bytes.now i × (fault ≡ Fault.Damaged Device.Volume (AREA_AT + page_bytes geometry.now.version * i)))) }
 {
+    let size = geometry.version.page_bytes();
     for i in 0..numbers.len() {
-        let text = &bytes[PAGE_BYTES * i..PAGE_BYTES * (i + 1)];
+        let text = &bytes[size * i..size * (i + 1)];
         if !is_image(alloc, geometry, numbers[i], text)? {
-            return Err(Fault::damaged(Device::Volume, AREA_AT + PAGE_BYTES as u64 * i as u64));
+            return Err(Fault::damaged(Device::Volume, AREA_AT + size as u64 * i as u64));
         }
     }
     Ok(())
@@ -129,5 +131,5 @@ fn is_image(
     ensures no { IfOk result (λ is. is ≡ false → IsImageOf geometry.now number bytes.now → ⊥) }
 {
     let id = page_of(geometry, number);
-    Ok(Page::from_bytes(alloc, id, bytes)?.is_some())
+    Ok(Page::from_bytes(alloc, geometry.version, id, bytes)?.is_some())
 }

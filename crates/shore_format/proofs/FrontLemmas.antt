@@ -92,7 +92,7 @@ module _ (L Z1 N Z2 Z3 tail : List ℕ) (l : length L ≡ 511) (z1 : length Z1 �
       (omega (arith, length-append L (Z1 ++ (N ++ (Z2 ++ (CLOSED ∷ Z3)))), length-append Z1 (N ++ (Z2 ++ (CLOSED ∷ Z3))), length-append N (Z2 ++ (CLOSED ∷ Z3)), length-append Z2 (CLOSED ∷ Z3), l, z1, n, z2, z3))
 
 -- the log of no record stands behind an open gate
-pub formatted : (g : Geometry) (device_bytes : ℕ) (tail : List ℕ) → g.pair < 2 ^ 64 → IsLogLength device_bytes → IsInLimits g
+pub formatted : (g : Geometry) (device_bytes : ℕ) (tail : List ℕ) → g.pair < 2 ^ 64 → IsLogLength g.version device_bytes → IsInLimits g
     → LogStandsFor g device_bytes [] (OPEN ∷ (label_bytes Log (log_label g device_bytes) ++ (behind_label ++ tail)))
 unfolding behind_label
 formatted g device_bytes tail pair fits limits =
@@ -137,7 +137,7 @@ formatted g device_bytes tail pair fits limits =
       long = fits;
     }
 
-pub made : (g : Geometry) (device_bytes : ℕ) (label : Label) (tail : List ℕ) → label ≡ log_label g device_bytes → label.pair < 2 ^ 64 → IsLogLength device_bytes → IsInLimits g
+pub made : (g : Geometry) (device_bytes : ℕ) (label : Label) (tail : List ℕ) → label ≡ log_label g device_bytes → label.pair < 2 ^ 64 → IsLogLength g.version device_bytes → IsInLimits g
     → LogStandsFor g device_bytes [] (OPEN ∷ (label_bytes Log label ++ (behind_label ++ tail)))
 made g device_bytes label tail is pair fits limits =
     subst (λ (l : Label). LogStandsFor g device_bytes [] (OPEN ∷ (label_bytes Log l ++ (behind_label ++ tail)))) (sym is)

@@ -1,5 +1,6 @@
 -- An empty volume, in parts.
-use Rattle.std.proofs.Common.{◌≡◌, inl, inr, ℕ, suc, ◌+◌, ◌*◌, ◌^◌, ◌<◌, ◌≤◌, List, [], ◌∷◌, ◌++◌, length, take, drop, Result, Ok, refl, sym, ◌∙◌, ap, subst, arith}
+use Rattle.std.proofs.Common.{◌≡◌, inl, inr, ℕ, suc, ◌+◌, ◌-◌, ◌*◌, ◌^◌, ◌<◌, ◌≤◌, List, [], ◌∷◌, ◌++◌, length, take, drop, Result, Ok, refl, sym, ◌∙◌, ap, subst, arith}
+use Rattle.shore_types.specs.Versions.{page_bytes, pages_begin, pages_begin-is}
 use Rattle.std.proofs.lemmas.Bool.{cases_lt}
 use Rattle.std.proofs.lemmas.List.{take_at, drop-drop}
 use Rattle.shore_types.specs.declared.faults.Device.TheVariants.{Volume}
@@ -43,37 +44,37 @@ paged_moments label gate rest r s old labelled gated paged long stands one two p
 pub record WroteFirst (g : Geometry) (old now : DeviceHistory) (written : ℕ) : Type 0 where
   pub moments : ((c : List ℕ) → may_leave old c → IsShut c) → LeavesOnly old now IsShut
   pub long : length (seen now) ≡ length (seen old)
-  pub front : take 270336 (seen now) ≡ take 270336 (seen old)
-  pub empty : (id : PageId) → HasPage g id → page_number g id < written → IsPageText (page_at (seen now) (page_number g id)) id 0 []
+  pub front : take (pages_begin g.version) (seen now) ≡ take (pages_begin g.version) (seen old)
+  pub empty : (id : PageId) → HasPage g id → page_number g id < written → IsPageText g.version (page_at g.version (seen now) (page_number g id)) id 0 []
 
 pub wrote_none : (g : Geometry) (h : DeviceHistory) → WroteFirst g h h 0
 wrote_none g h = record { moments = λ shut. started h IsShut shut; long = refl; front = refl; empty = λ id there below. absurd (omega (arith, below)) }
 
-pub wrote_torn : {E : Type 0} (g : Geometry) (old now new : DeviceHistory) (written k at : ℕ) (bytes : List ℕ) (r : Result Unit E) → WroteFirst g old now written → at ≡ page_offset k
+pub wrote_torn : {E : Type 0} (g : Geometry) (old now new : DeviceHistory) (written k at : ℕ) (bytes : List ℕ) (r : Result Unit E) → WroteFirst g old now written → at ≡ page_offset g.version k
     → Writes at bytes r now new → ((c : List ℕ) → may_leave old c → IsShut c) → LeavesOnly old new IsShut
 wrote_torn g old now new written k at bytes r so_far is writes shut =
-    write_more old now new IsShut at bytes r (so_far.moments shut) writes (λ c d s torn. shut_torn at (length bytes) d c (omega (arith, is)) s torn)
+    write_more old now new IsShut at bytes r (so_far.moments shut) writes (λ c d s torn. shut_torn at (length bytes) d c (omega (arith, is, pages_begin-is g.version)) s torn)
 
-pub wrote_more : (g : Geometry) (old now new : DeviceHistory) (k at : ℕ) (id : PageId) (bytes : List ℕ) → WroteFirst g old now k → HasPage g id → page_number g id ≡ k → at ≡ page_offset k
-    → page_offset k + 8192 ≤ length (seen old) → IsPageText bytes id 0 [] → new ≡ noted now (wrote at bytes) → WroteFirst g old new (k + 1)
+pub wrote_more : (g : Geometry) (old now new : DeviceHistory) (k at : ℕ) (id : PageId) (bytes : List ℕ) → WroteFirst g old now k → HasPage g id → page_number g id ≡ k → at ≡ page_offset g.version k
+    → page_offset g.version k + page_bytes g.version ≤ length (seen old) → IsPageText g.version bytes id 0 [] → new ≡ noted now (wrote at bytes) → WroteFirst g old new (k + 1)
 wrote_more g old now new k at id bytes so_far there number is fits text writes =
-    let long : length bytes ≡ 8192 = text.whole in
-    let within : page_offset k + 8192 ≤ length (seen now) = omega (arith, fits, so_far.long) in
-    let seen_is : seen new ≡ overwritten (seen now) (page_offset k) bytes = ap (λ (h : DeviceHistory). seen h) writes ∙ ap (λ n. overwritten (seen now) n bytes) is in
+    let long : length bytes ≡ page_bytes g.version = text.whole in
+    let within : page_offset g.version k + page_bytes g.version ≤ length (seen now) = omega (arith, fits, so_far.long) in
+    let seen_is : seen new ≡ overwritten (seen now) (page_offset g.version k) bytes = ap (λ (h : DeviceHistory). seen h) writes ∙ ap (λ n. overwritten (seen now) n bytes) is in
     record {
       moments = λ shut. wrote_torn {E = Unit {0}} g old now new k k at bytes (Ok tt) so_far is writes shut;
-      long = ap (λ (l : List ℕ). length l) seen_is ∙ length-overwritten (seen now) (page_offset k) bytes (omega (arith, within, long)) ∙ so_far.long;
-      front = ap (take 270336) seen_is ∙ take_below (seen now) (page_offset k) bytes 270336 (omega arith) (omega (arith, within)) ∙ so_far.front;
-      empty = λ other other_there below. subst (λ (l : List ℕ). IsPageText (page_at l (page_number g other)) other 0 []) (sym seen_is) (elim (cases_lt (page_number g other) k) [
+      long = ap (λ (l : List ℕ). length l) seen_is ∙ length-overwritten (seen now) (page_offset g.version k) bytes (omega (arith, within, long)) ∙ so_far.long;
+      front = ap (take (pages_begin g.version)) seen_is ∙ take_below (seen now) (page_offset g.version k) bytes (pages_begin g.version) (omega arith) (omega (arith, within)) ∙ so_far.front;
+      empty = λ other other_there below. subst (λ (l : List ℕ). IsPageText g.version (page_at g.version l (page_number g other)) other 0 []) (sym seen_is) (elim (cases_lt (page_number g other) k) [
         | inl before ↦
-            let beside = page_beside (seen now) bytes k long within (page_number g other) (λ same. omega (arith, same, before)) in
-            subst (λ (l : List ℕ). IsPageText l other 0 []) (sym beside) (so_far.empty other other_there before)
+            let beside = page_beside g.version (seen now) bytes k long within (page_number g other) (λ same. omega (arith, same, before)) in
+            subst (λ (l : List ℕ). IsPageText g.version l other 0 []) (sym beside) (so_far.empty other other_there before)
         | inr behind ↦
             let same : page_number g other ≡ k = omega (arith, below, behind) in
             let one : id ≡ other = one_page g id other there other_there (number ∙ sym same) in
-            let here : page_at (overwritten (seen now) (page_offset k) bytes) (page_number g other) ≡ bytes =
-            ap (λ n. page_at (overwritten (seen now) (page_offset k) bytes) n) same ∙ page_here (seen now) bytes k long within in
-            subst (λ (l : List ℕ). IsPageText l other 0 []) (sym here) (subst (λ (p : PageId). IsPageText bytes p 0 []) one text)
+            let here : page_at g.version (overwritten (seen now) (page_offset g.version k) bytes) (page_number g other) ≡ bytes =
+            ap (λ n. page_at g.version (overwritten (seen now) (page_offset g.version k) bytes) n) same ∙ page_here g.version (seen now) bytes k long within in
+            subst (λ (l : List ℕ). IsPageText g.version l other 0 []) (sym here) (subst (λ (p : PageId). IsPageText g.version bytes p 0 []) one text)
       ]);
     }
 
@@ -98,25 +99,28 @@ module _ (g : Geometry) (rest gated image : List ℕ) (limits : IsInLimits g) (l
   label_long : length label ≡ 511
   label_long = length-label_bytes Volume (volume_label g) limits.0.count
 
+  begins : 8192 ≤ pages_begin g.version
+  begins = omega (arith, pages_begin-is g.version)
+
   labelled_is : overwritten (CLOSED ∷ rest) 1 label ≡ CLOSED ∷ (label ++ drop (length label) rest)
   labelled_is = overwritten-append (CLOSED ∷ []) rest 1 label refl
 
   labelled_long : length (overwritten (CLOSED ∷ rest) 1 label) ≡ volume_bytes g
-  labelled_long = length-overwritten (CLOSED ∷ rest) 1 label (omega (arith, label_long, long)) ∙ omega (arith, long)
+  labelled_long = length-overwritten (CLOSED ∷ rest) 1 label (omega (arith, begins, label_long, long)) ∙ omega (arith, long)
 
   gated_long : length gated ≡ volume_bytes g
-  gated_long = ap (λ (l : List ℕ). length l) gated_is ∙ length-overwritten (overwritten (CLOSED ∷ rest) 1 label) 4096 (CLOSED ∷ []) (omega (arith, labelled_long)) ∙ labelled_long
+  gated_long = ap (λ (l : List ℕ). length l) gated_is ∙ length-overwritten (overwritten (CLOSED ∷ rest) 1 label) 4096 (CLOSED ∷ []) (omega (arith, begins, labelled_long)) ∙ labelled_long
 
   gated_front : take 4096 gated ≡ take 4096 (overwritten (CLOSED ∷ rest) 1 label)
-  gated_front = ap (take 4096) gated_is ∙ take_below (overwritten (CLOSED ∷ rest) 1 label) 4096 (CLOSED ∷ []) 4096 (omega arith) (omega (arith, labelled_long))
+  gated_front = ap (take 4096) gated_is ∙ take_below (overwritten (CLOSED ∷ rest) 1 label) 4096 (CLOSED ∷ []) 4096 (omega arith) (omega (arith, begins, labelled_long))
 
   front_is : take 512 image ≡ CLOSED ∷ label
   front_is =
-      take_less image gated 512 270336 pages.front (omega arith) ∙ take_less gated (overwritten (CLOSED ∷ rest) 1 label) 512 4096 gated_front (omega arith) ∙ ap (take 512) labelled_is
+      take_less image gated 512 (pages_begin g.version) pages.front (omega (arith, begins)) ∙ take_less gated (overwritten (CLOSED ∷ rest) 1 label) 512 4096 gated_front (omega arith) ∙ ap (take 512) labelled_is
       ∙ take_at (CLOSED ∷ label) (drop (length label) rest) 512 (omega (arith, label_long))
 
   gate_is : part 4096 1 image ≡ CLOSED ∷ []
-  gate_is = part_front image gated 270336 4096 1 pages.front (omega arith) ∙ ap (part 4096 1) gated_is ∙ part_here (overwritten (CLOSED ∷ rest) 1 label) 4096 (CLOSED ∷ []) (omega (arith, labelled_long))
+  gate_is = part_front image gated (pages_begin g.version) 4096 1 pages.front (omega (arith, begins)) ∙ ap (part 4096 1) gated_is ∙ part_here (overwritten (CLOSED ∷ rest) 1 label) 4096 (CLOSED ∷ []) (omega (arith, begins, labelled_long))
 
   pub closed_is : image ≡ CLOSED ∷ drop 1 image
   closed_is = first_is image CLOSED (sym (take_again 1 512 image (omega arith)) ∙ ap (take 1) front_is)
@@ -128,8 +132,8 @@ module _ (g : Geometry) (rest gated image : List ℕ) (limits : IsInLimits g) (l
     shut = ap (take 1) (drop-drop 4095 1 image) ∙ gate_is;
     empty = λ gate id there.
         let k = page_number g id in
-        let same : page_at (gate ∷ drop 1 image) k ≡ page_at image k = ap (take 8192) (drop_behind (page_offset k) (270335 + 8192 * k) gate CLOSED (drop 1 image) (omega arith)) ∙ sym (ap (λ (l : List ℕ). page_at l k) closed_is) in
-        subst (λ (l : List ℕ). IsPageText l id 0 []) (sym same) (pages.empty id there);
+        let same : page_at g.version (gate ∷ drop 1 image) k ≡ page_at g.version image k = ap (take (page_bytes g.version)) (drop_behind (page_offset g.version k) (pages_begin g.version - 1 + page_bytes g.version * k) gate CLOSED (drop 1 image) (omega (arith, begins))) ∙ sym (ap (λ (l : List ℕ). page_at g.version l k) closed_is) in
+        subst (λ (l : List ℕ). IsPageText g.version l id 0 []) (sym same) (pages.empty id there);
   }
 
 -- and once the gate is opened

@@ -12,7 +12,7 @@ use Rattle.shore_fronts.specs.Fronts.{HasFront, IsLogLength, first_anchor}
 pub record LogStandsFor (g : Geometry) (device_bytes : ℕ) (rs : List LogRecord) (image : List ℕ) : Type 0 where
   pub front : HasFront g device_bytes image
   pub log : Gives rs image
-  pub long : IsLogLength device_bytes
+  pub long : IsLogLength g.version device_bytes
 
 -- ---- what a format writes and leaves
 

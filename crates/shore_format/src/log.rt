@@ -10,8 +10,8 @@ ghost use Rattle.shore_format.specs.Fronts.{IsShut, behind_label};
 
 use shore_disk::{Disk, write_synced};
 use shore_gate::{Anchor, CLOSED, LABEL_BYTES, Label, OPEN, write_label};
-use shore_types::layout::{LOG_FRONT_BYTES, MAX_LOG_BYTES, MIN_LOG_BYTES};
-use shore_types::{Device, Fault, Geometry, Lsn};
+use shore_types::layout::{LOG_FRONT_BYTES, MAX_LOG_BYTES};
+use shore_types::{Device, Fault, Geometry, Lsn, Version};
 use std::alloc::{AllocError, Global};
 
 // Places of the anchors and of the stream behind the label.
@@ -28,6 +28,7 @@ pub fn log_label(alloc: Global, geometry: &Geometry, length: u64) -> Result<Labe
 {
     let pair = geometry.pair;
     Ok(Label {
+        version: geometry.version,
         pair,
         length,
         max_locks: geometry.max_locks,
@@ -35,11 +36,11 @@ pub fn log_label(alloc: Global, geometry: &Geometry, length: u64) -> Result<Labe
     })
 }
 
-/// Whether a log device may be so long.
-pub fn is_log_length(length: u64) -> bool
-    ensures { IsTrue result ↔ IsLogLength length }
+/// Whether a log device of this version may be so long.
+pub fn is_log_length(version: Version, length: u64) -> bool
+    ensures { IsTrue result ↔ IsLogLength version length }
 {
-    (MIN_LOG_BYTES..=MAX_LOG_BYTES).contains(&length)
+    (version.least_log()..=MAX_LOG_BYTES).contains(&length)
 }
 
 /// Writes what stands behind the closed gate of the label, and syncs.

@@ -32,13 +32,13 @@ pub fn format<L: Disk, V: Disk>(
     geometry: &Geometry,
 ) -> Result<(), Fault>
     // Devices of other lengths, and a geometry outside the limits, are refused with the setting.
-    ensures log_length { ¬ IsLogLength (size (L.history log.old)) → result ≡ Err (bad_setting Setting.LogBytes) }
-    ensures stores { IsLogLength (size (L.history log.old)) → ¬ StoresInLimits geometry.now → result ≡ Err (bad_setting Setting.Stores) }
-    ensures locks { IsLogLength (size (L.history log.old)) → StoresInLimits geometry.now → ¬ LocksInLimits geometry.now
+    ensures log_length { ¬ IsLogLength geometry.now.version (size (L.history log.old)) → result ≡ Err (bad_setting Setting.LogBytes) }
+    ensures stores { IsLogLength geometry.now.version (size (L.history log.old)) → ¬ StoresInLimits geometry.now → result ≡ Err (bad_setting Setting.Stores) }
+    ensures locks { IsLogLength geometry.now.version (size (L.history log.old)) → StoresInLimits geometry.now → ¬ LocksInLimits geometry.now
         → result ≡ Err (bad_setting Setting.MaxLocks) }
-    ensures volume_length { IsLogLength (size (L.history log.old)) → IsInLimits geometry.now → size (V.history volume.old) ≢ volume_bytes geometry.now
+    ensures volume_length { IsLogLength geometry.now.version (size (L.history log.old)) → IsInLimits geometry.now → size (V.history volume.old) ≢ volume_bytes geometry.now
         → result ≡ Err (bad_setting Setting.VolumeBytes) }
-    ensures others { IsLogLength (size (L.history log.old)) → IsInLimits geometry.now → size (V.history volume.old) ≡ volume_bytes geometry.now
+    ensures others { IsLogLength geometry.now.version (size (L.history log.old)) → IsInLimits geometry.now → size (V.history volume.old) ≡ volume_bytes geometry.now
         → IfErr result IsFromOutside }
     ensures untouched { (setting : Setting) → result ≡ Err (bad_setting setting) → (log.new ≡ log.old) × (volume.new ≡ volume.old) }
 
@@ -72,14 +72,14 @@ pub fn format<L: Disk, V: Disk>(
 
 // The first setting that devices of these lengths may not be formatted with.
 fn refused_setting(log_length: u64, volume_length: u64, geometry: &Geometry) -> Option<Setting>
-    ensures none { (result ≡ None) ↔ (IsLogLength log_length × IsInLimits geometry.now × (volume_length ≡ volume_bytes geometry.now)) }
-    ensures log_length { ¬ IsLogLength log_length → result ≡ Some Setting.LogBytes }
-    ensures stores { IsLogLength log_length → ¬ StoresInLimits geometry.now → result ≡ Some Setting.Stores }
-    ensures locks { IsLogLength log_length → StoresInLimits geometry.now → ¬ LocksInLimits geometry.now → result ≡ Some Setting.MaxLocks }
-    ensures volume_length { IsLogLength log_length → IsInLimits geometry.now → volume_length ≢ volume_bytes geometry.now
+    ensures none { (result ≡ None) ↔ (IsLogLength geometry.now.version log_length × IsInLimits geometry.now × (volume_length ≡ volume_bytes geometry.now)) }
+    ensures log_length { ¬ IsLogLength geometry.now.version log_length → result ≡ Some Setting.LogBytes }
+    ensures stores { IsLogLength geometry.now.version log_length → ¬ StoresInLimits geometry.now → result ≡ Some Setting.Stores }
+    ensures locks { IsLogLength geometry.now.version log_length → StoresInLimits geometry.now → ¬ LocksInLimits geometry.now → result ≡ Some Setting.MaxLocks }
+    ensures volume_length { IsLogLength geometry.now.version log_length → IsInLimits geometry.now → volume_length ≢ volume_bytes geometry.now
         → result ≡ Some Setting.VolumeBytes }
 {
-    if !is_log_length(log_length) {
+    if !is_log_length(geometry.version, log_length) {
         return Some(Setting::LogBytes);
     }
     if let Some(setting) = geometry.outside_limits() {
@@ -100,7 +100,7 @@ fn write_pair<L: Disk, V: Disk>(
     of_log: &Label,
     of_volume: &Label,
 ) -> Result<(), Fault>
-    requires log_length { IsLogLength (size (L.history log.old)) }
+    requires log_length { IsLogLength geometry.now.version (size (L.history log.old)) }
     requires limits { IsInLimits geometry.now }
     requires pair { geometry.now.pair < 2 ^ 64 }
     requires volume_length { size (V.history volume.old) ≡ volume_bytes geometry.now }

@@ -21,7 +21,7 @@ pub fn volume_bytes(geometry: &Geometry) -> u64
     requires { IsInLimits geometry.now }
     ensures { result ≡ volume_bytes geometry.now }
 {
-    page_offset(page_count(geometry))
+    page_offset(geometry.version, page_count(geometry))
 }
 
 /// Its label.
@@ -32,6 +32,7 @@ pub fn volume_label(alloc: Global, geometry: &Geometry) -> Result<Label, AllocEr
 {
     let pair = geometry.pair;
     Ok(Label {
+        version: geometry.version,
         pair,
         length: volume_bytes(geometry),
         max_locks: geometry.max_locks,
@@ -78,8 +79,8 @@ fn write_pages<D: Disk>(alloc: Global, volume: &mut D, geometry: &Geometry) -> R
     ensures cause { HasCause result (D.faults volume.old) (D.faults volume.new) }
 {
     for number in 0..page_count(geometry) {
-        let page = Page::new(alloc, page_of(geometry, number))?;
-        volume.write_at(page_offset(number), page.text())?;
+        let page = Page::new(alloc, geometry.version, page_of(geometry, number))?;
+        volume.write_at(page_offset(geometry.version, number), page.text())?;
     }
     Ok(())
 }

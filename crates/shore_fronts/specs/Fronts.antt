@@ -2,20 +2,22 @@
 use Rattle.std.specs.Prelude.{◌≤◌, ℕ, List, take}
 use Rattle.shore_types.specs.declared.faults.Device.TheVariants.{Log}
 use Rattle.shore_types.specs.declared.layout.Geometry.{Geometry}
-use Rattle.shore_types.specs.declared.layout.TheConstants.{MAX_LOG_BYTES, MIN_LOG_BYTES}
+use Rattle.shore_types.specs.declared.layout.TheConstants.{MAX_LOG_BYTES}
+use Rattle.shore_types.specs.declared.versions.Version.{Version}
+use Rattle.shore_types.specs.Versions.{least_log}
 use Rattle.shore_gate.specs.declared.anchors.Anchor.{Anchor}
 use Rattle.shore_gate.specs.declared.anchors.Slot.{Slot}
 use Rattle.shore_gate.specs.declared.labels.Label.{Label}
 use Rattle.shore_gate.specs.Label.{HoldsLabel}
 use Rattle.shore_gate.specs.Anchor.{Counts}
 
--- a log device may be so long
-abbrev pub IsLogLength : ℕ → Type 0
-IsLogLength device_bytes = (MIN_LOG_BYTES ≤ device_bytes) × (device_bytes ≤ MAX_LOG_BYTES)
+-- a log device of this version may be so long
+abbrev pub IsLogLength : Version → ℕ → Type 0
+IsLogLength v device_bytes = (least_log v ≤ device_bytes) × (device_bytes ≤ MAX_LOG_BYTES)
 
 -- the label of a log device of this length
 abbrev pub log_label : Geometry → ℕ → Label
-log_label g device_bytes = record { pair = g.pair; length = device_bytes; max_locks = g.max_locks; stores = g.stores }
+log_label g device_bytes = record { version = g.version; pair = g.pair; length = device_bytes; max_locks = g.max_locks; stores = g.stores }
 
 -- the anchor of a log that is read from its first record on, and has no checkpoint
 abbrev pub first_anchor : Anchor

@@ -21,7 +21,7 @@ use std::alloc::Global;
 /// What the fronts of a pair say.
 #[derive(Drop)]
 pub struct Fronts {
-    /// The pair's number, stores and lock nodes, as both labels have them.
+    /// The pair's version, number, stores and lock nodes, as both labels have them.
     pub geometry: Geometry,
     /// The same, as the volume's label has it, for those who keep the pages.
     pub of_pages: Geometry,
@@ -30,7 +30,7 @@ pub struct Fronts {
 }
 
 /// Reads the fronts of a pair: a barrier on both devices, the log's first; the labels, the log's first; that they are of one pair; and the
-/// anchor that counts. `WrongPair` if the labels are laid out differently.
+/// anchor that counts. `WrongPair` if the labels are of two versions, or laid out differently.
 pub fn read_fronts<L: Disk, V: Disk>(
     alloc: Global,
     log: &mut L,
@@ -54,7 +54,7 @@ pub fn read_fronts<L: Disk, V: Disk>(
     ensures log_before { IsTrue (L.is_honest log.old) → IsBeforeBarrier (L.history log.old) (L.history log.new) }
     ensures volume_before { IsTrue (V.is_honest volume.old) → IsBeforeBarrier (V.history volume.old) (V.history volume.new) }
 
-    ensures long { IfOk result (λ fronts. IsLogLength (size (L.history log.old)) × (size (V.history volume.old) ≡ volume_bytes fronts.geometry)) }
+    ensures long { IfOk result (λ fronts. IsLogLength fronts.geometry.version (size (L.history log.old)) × (size (V.history volume.old) ≡ volume_bytes fronts.geometry)) }
     ensures limits { IfOk result (λ fronts. IsInLimits fronts.geometry × (fronts.of_pages ≡ fronts.geometry)) }
     ensures honest { (L.is_honest log.new ≡ L.is_honest log.old) × (V.is_honest volume.new ≡ V.is_honest volume.old) }
     ensures size { (size (L.history log.new) ≡ size (L.history log.old)) × (size (V.history volume.new) ≡ size (V.history volume.old)) }
@@ -82,7 +82,7 @@ fn read_labels<L: Disk, V: Disk>(
         → MatchResult result (λ found. found.0 ≡ g) IsFromOutside }
     ensures refused { IsTrue (L.is_honest log.old) → IsTrue (V.is_honest volume.old)
         → IfErr result (λ fault. IsFromOutside fault ⊎ RefusesLabels (L.history log.old) (V.history volume.old) fault) }
-    ensures long { IfOk result (λ found. IsLogLength (size (L.history log.old)) × (size (V.history volume.old) ≡ volume_bytes found.0)) }
+    ensures long { IfOk result (λ found. IsLogLength found.0.version (size (L.history log.old)) × (size (V.history volume.old) ≡ volume_bytes found.0)) }
     ensures limits { IfOk result (λ found. IsInLimits found.0 × (found.1 ≡ found.0)) }
     ensures log_same { IsTrue (L.is_honest log.old) → L.history log.new ≡ L.history log.old }
     ensures volume_same { IsTrue (V.is_honest volume.old) → V.history volume.new ≡ V.history volume.old }
@@ -101,9 +101,10 @@ fn read_labels<L: Disk, V: Disk>(
 }
 
 fn geometry_of(label: Label) -> Geometry
-    ensures { result ≡ record { pair = label.pair; max_locks = label.max_locks; stores = label.stores } }
+    ensures { result ≡ record { version = label.version; pair = label.pair; max_locks = label.max_locks; stores = label.stores } }
 {
     Geometry {
+        version: label.version,
         pair: label.pair,
         max_locks: label.max_locks,
         stores: label.stores,
@@ -113,5 +114,8 @@ fn geometry_of(label: Label) -> Geometry
 fn are_same(one: &Geometry, other: &Geometry) -> bool
     ensures { IsTrue result ↔ (other.now ≡ one.now) }
 {
-    one.pair == other.pair && one.max_locks == other.max_locks && one.stores == other.stores
+    one.version == other.version
+        && one.pair == other.pair
+        && one.max_locks == other.max_locks
+        && one.stores == other.stores
 }

@@ -1,5 +1,5 @@
 -- The label at the front of a device (its superblock): its bytes, its limits, and the checks that refuse it.
-use Rattle.std.specs.Prelude.{◌≡◌, ℕ, ◌+◌, ◌-◌, ◌*◌, ◌^◌, ◌<◌, ◌≤◌, Bool, true, ◌&&◌, nat_le, ◌==◌, List, [], ◌∷◌, ◌++◌, length, take, drop, replicate, slice_index, sum, All, Result}
+use Rattle.std.specs.Prelude.{◌≡◌, ℕ, ◌+◌, ◌-◌, ◌*◌, ◌^◌, ◌<◌, ◌≤◌, Bool, true, ◌&&◌, nat_le, ◌==◌, List, [], ◌∷◌, ◌++◌, length, take, drop, replicate, slice_index, sum, All, Result, is_some, unwrap_or}
 use Rattle.std.specs.List.{flat_map}
 use Rattle.byteorder.specs.Endian.{little_bytes}
 use Rattle.shore_disk.specs.Device.{DeviceHistory, size, seen}
@@ -7,7 +7,10 @@ use Rattle.shore_types.specs.declared.faults.Device.{Device}
 use Rattle.shore_types.specs.declared.faults.Device.TheVariants.{Log, Volume}
 use Rattle.shore_types.specs.declared.faults.Fault.{Fault}
 use Rattle.shore_types.specs.declared.faults.Fault.TheVariants.{NotFormatted, WrongVersion, Damaged}
-use Rattle.shore_types.specs.declared.layout.TheConstants.{LEAST_MAX_LOCKS, MAX_LOG_BYTES, MAX_PAGES, MAX_STORES, MIN_LOG_BYTES, MOST_MAX_LOCKS, PAGE_BYTES, VERSION, LENGTH_AT, PAGES_AT}
+use Rattle.shore_types.specs.declared.layout.TheConstants.{LEAST_MAX_LOCKS, MAX_LOG_BYTES, MAX_PAGES, MAX_STORES, MOST_MAX_LOCKS, LENGTH_AT}
+use Rattle.shore_types.specs.declared.versions.Version.{Version}
+use Rattle.shore_types.specs.declared.versions.Version.TheVariants.{One}
+use Rattle.shore_types.specs.Versions.{version_of, number_of, page_bytes, least_log, pages_begin}
 use Rattle.shore_gate.specs.declared.gates.TheConstants.{OPEN}
 use Rattle.shore_gate.specs.declared.labels.Label.{Label}
 use Rattle.shore_gate.specs.declared.labels.TheConstants.{LEAST_DEVICE_BYTES}
@@ -21,23 +24,23 @@ kind_of Volume = 0x56
 
 -- the fields before the pages of the stores
 unfoldable pub label_head : Device → Label → List ℕ
-label_head device label = (kind_of device ∷ []) ++ little_bytes 2 VERSION ++ little_bytes 4 PAGE_BYTES ++ little_bytes 8 label.pair ++ little_bytes 8 label.length
+label_head device label = (kind_of device ∷ []) ++ little_bytes 2 (number_of label.version) ++ little_bytes 4 (page_bytes label.version) ++ little_bytes 8 label.pair ++ little_bytes 8 label.length
     ++ little_bytes 4 label.max_locks ++ little_bytes 4 (length label.stores)
 
 -- the 511 bytes behind the gate
 unfoldable pub label_bytes : Device → Label → List ℕ
 label_bytes device label = label_head device label ++ flat_map (little_bytes 4) label.stores ++ replicate (480 - 4 * length label.stores) 0
 
--- the lengths that a device with so many pages may have
-abbrev pub HasLength : Device → ℕ → ℕ → Type 0
-HasLength Log pages bytes = (MIN_LOG_BYTES ≤ bytes) × (bytes ≤ MAX_LOG_BYTES)
-HasLength Volume pages bytes = bytes ≡ PAGES_AT + PAGE_BYTES * pages
+-- the lengths that a device of a version with so many pages may have
+abbrev pub HasLength : Version → Device → ℕ → ℕ → Type 0
+HasLength v Log pages bytes = (least_log v ≤ bytes) × (bytes ≤ MAX_LOG_BYTES)
+HasLength v Volume pages bytes = bytes ≡ pages_begin v + page_bytes v * pages
 
 -- within the limits, on a device of this length
 pub record IsLabel (device : Device) (bytes : ℕ) (label : Label) : Type 0 where
   pub pair : label.pair < 2 ^ 64
   pub of_device : label.length ≡ bytes
-  pub as_long : HasLength device (sum label.stores) bytes
+  pub as_long : HasLength label.version device (sum label.stores) bytes
   pub least_locks : LEAST_MAX_LOCKS ≤ label.max_locks
   pub most_locks : label.max_locks ≤ MOST_MAX_LOCKS
   pub some_store : 1 ≤ length label.stores
@@ -51,29 +54,33 @@ pub record HoldsLabel (device : Device) (size : ℕ) (bytes : List ℕ) (label :
   pub text : bytes ≡ OPEN ∷ label_bytes device label
 
 -- whether a label may name this length, before its stores are known
-abbrev pub may_be_long : Device → ℕ → Bool
-may_be_long Log bytes = is_within MIN_LOG_BYTES MAX_LOG_BYTES bytes
-may_be_long Volume bytes = true
+abbrev pub may_be_long : Version → Device → ℕ → Bool
+may_be_long v Log bytes = is_within (least_log v) MAX_LOG_BYTES bytes
+may_be_long v Volume bytes = true
 
 -- whether a device of so many pages has this length
-abbrev pub is_filled : Device → ℕ → ℕ → Bool
-is_filled Log pages bytes = true
-is_filled Volume pages bytes = bytes == PAGES_AT + PAGE_BYTES * pages
+abbrev pub is_filled : Version → Device → ℕ → ℕ → Bool
+is_filled v Log pages bytes = true
+is_filled v Volume pages bytes = bytes == pages_begin v + page_bytes v * pages
 
--- what tells that it is a label of this version, and of this device
+-- the version that a label names; the first where it names none
+abbrev pub version_in : List ℕ → Version
+version_in bytes = unwrap_or (version_of (number_at bytes 2 2)) One
+
+-- what tells that it is a label of a version, and of this device
 abbrev pub kind_checks : Device → ℕ → List ℕ → List Check
 kind_checks device size bytes =
     check (nat_le LEAST_DEVICE_BYTES size) NotFormatted
     ∷ check (slice_index bytes 0 == OPEN) NotFormatted
     ∷ check (slice_index bytes 1 == kind_of device) NotFormatted
-    ∷ check (number_at bytes 2 2 == VERSION) WrongVersion
+    ∷ check (is_some (version_of (number_at bytes 2 2))) WrongVersion
     ∷ []
 
 -- the fields before the pages of the stores, by their offsets
-abbrev pub field_checks : Device → ℕ → List ℕ → List Check
-field_checks device size bytes =
-    check (number_at bytes 4 4 == PAGE_BYTES) (Damaged device 4)
-    ∷ check (number_at bytes LENGTH_AT 8 == size && may_be_long device size) (Damaged device LENGTH_AT)
+abbrev pub field_checks : Version → Device → ℕ → List ℕ → List Check
+field_checks v device size bytes =
+    check (number_at bytes 4 4 == page_bytes v) (Damaged device 4)
+    ∷ check (number_at bytes LENGTH_AT 8 == size && may_be_long v device size) (Damaged device LENGTH_AT)
     ∷ check (is_within LEAST_MAX_LOCKS MOST_MAX_LOCKS (number_at bytes 24 4)) (Damaged device 24)
     ∷ check (is_within 1 MAX_STORES (number_at bytes 28 4)) (Damaged device 28)
     ∷ []
@@ -89,16 +96,16 @@ abbrev pub stores_of : List ℕ → List ℕ
 stores_of bytes = numbers_at bytes 32 (number_at bytes 28 4)
 
 -- behind so many stores, of so many pages
-abbrev pub end_checks : Device → ℕ → List ℕ → ℕ → ℕ → List Check
-end_checks device size bytes count pages =
+abbrev pub end_checks : Version → Device → ℕ → List ℕ → ℕ → ℕ → List Check
+end_checks v device size bytes count pages =
     check (are_zero (drop (32 + 4 * count) bytes)) (Damaged device (32 + 4 * count))
-    ∷ check (is_filled device pages size) (Damaged device LENGTH_AT)
+    ∷ check (is_filled v device pages size) (Damaged device LENGTH_AT)
     ∷ []
 
 -- what the first 512 bytes of a device of this length are refused with
 unfoldable pub label_verdict : Device → ℕ → List ℕ → Result Unit Fault
-label_verdict device size bytes = judged (kind_checks device size bytes ++ (field_checks device size bytes
-    ++ (store_checks device 32 0 (stores_of bytes) ++ end_checks device size bytes (number_at bytes 28 4) (sum (stores_of bytes)))))
+label_verdict device size bytes = judged (kind_checks device size bytes ++ (field_checks (version_in bytes) device size bytes
+    ++ (store_checks device 32 0 (stores_of bytes) ++ end_checks (version_in bytes) device size bytes (number_at bytes 28 4) (sum (stores_of bytes)))))
 
 -- the label's bytes as read, and what they are refused with, on a device of this history
 abbrev pub HasLabel : Device → DeviceHistory → Label → Type 0

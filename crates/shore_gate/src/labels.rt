@@ -6,16 +6,15 @@ ghost use Rattle.shore_disk.specs.Device.{size, Writes};
 ghost use Rattle.shore_disk.specs.Cause.{HasCause};
 ghost use Rattle.shore_gate.specs.Checks.{judged, IsFromOutside};
 ghost use Rattle.shore_gate.specs.Numbers.{number_at};
-ghost use Rattle.shore_gate.specs.Label.{kind_of, label_bytes, label_head, HoldsLabel, IsLabel, kind_checks, field_checks, store_checks, end_checks, may_be_long, is_filled, label_verdict, stores_of, HasLabel, verdict_of};
+ghost use Rattle.shore_gate.specs.Label.{kind_of, label_bytes, label_head, HoldsLabel, IsLabel, kind_checks, field_checks, store_checks, end_checks, may_be_long, is_filled, label_verdict, stores_of, version_in, HasLabel, verdict_of};
 
 use crate::is_open;
 use crate::numbers::{are_zero, u16_at, u32_at, u32s_at, u64_at};
 use shore_disk::Disk;
 use shore_types::layout::{
-    LEAST_MAX_LOCKS, LENGTH_AT, MAX_LOG_BYTES, MAX_PAGES, MAX_STORES, MIN_LOG_BYTES,
-    MOST_MAX_LOCKS, PAGE_BYTES, PAGES_AT, VERSION,
+    LEAST_MAX_LOCKS, LENGTH_AT, MAX_LOG_BYTES, MAX_PAGES, MAX_STORES, MOST_MAX_LOCKS,
 };
-use shore_types::{Device, Fault, Sequence};
+use shore_types::{Device, Fault, Sequence, Version};
 use std::alloc::{AllocError, Global};
 
 /// The bytes of a label, its gate among them.
@@ -27,9 +26,11 @@ const LEAST_DEVICE_BYTES: u64 = 4096;
 /// Where the pages of the stores begin.
 const STORES_AT: usize = 32;
 
-/// What the label of a device says, in version 1.
+/// What the label of a device says.
 #[derive(Drop, PartialEq)]
 pub struct Label {
+    /// The version of the formats.
+    pub version: Version,
     /// The number of the pair that the device belongs to.
     pub pair: u64,
     /// The length of this device in bytes.
@@ -122,8 +123,8 @@ fn encode_head(alloc: Global, device: Device, label: &Label) -> Result<Vec<u8>, 
 {
     let mut bytes = Vec::with_capacity(alloc, LABEL_BYTES)?;
     bytes.push(kind_byte(device))?;
-    bytes.extend_from_slice(&VERSION.to_le_bytes())?;
-    bytes.extend_from_slice(&(PAGE_BYTES as u32).to_le_bytes())?;
+    bytes.extend_from_slice(&label.version.number().to_le_bytes())?;
+    bytes.extend_from_slice(&(label.version.page_bytes() as u32).to_le_bytes())?;
     bytes.extend_from_slice(&label.pair.to_le_bytes())?;
     bytes.extend_from_slice(&label.length.to_le_bytes())?;
     bytes.extend_from_slice(&label.max_locks.to_le_bytes())?;
@@ -151,8 +152,9 @@ fn decode_label(alloc: Global, device: Device, len: u64, bytes: &[u8]) -> Result
     ensures passed { OnOk result (label_verdict device len bytes.now ≡ Ok tt) }
     ensures refused { IfErr result (λ fault. (fault ≡ Fault.Memory) ⊎ (label_verdict device len bytes.now ≡ Err fault)) }
 {
-    let stores = check_label(alloc, device, len, bytes)?;
+    let (version, stores) = check_label(alloc, device, len, bytes)?;
     Ok(Label {
+        version,
         pair: u64_at(bytes, 8),
         length: len,
         max_locks: u32_at(bytes, 24),
@@ -160,44 +162,51 @@ fn decode_label(alloc: Global, device: Device, len: u64, bytes: &[u8]) -> Result
     })
 }
 
-// Makes each check, and answers the pages of the stores.
-fn check_label(alloc: Global, device: Device, len: u64, bytes: &[u8]) -> Result<Vec<u32>, Fault>
+// Makes each check, and answers the version and the pages of the stores.
+fn check_label(
+    alloc: Global,
+    device: Device,
+    len: u64,
+    bytes: &[u8],
+) -> Result<(Version, Vec<u32>), Fault>
     requires long { LEAST_DEVICE_BYTES ≤ len }
     requires whole { length bytes.now ≡ 512 }
-    ensures passed { IfOk result (λ stores. (label_verdict device len bytes.now ≡ Ok tt) × (stores.items ≡ stores_of bytes.now)) }
+    ensures passed { IfOk result (λ read. (label_verdict device len bytes.now ≡ Ok tt) × (read.0 ≡ version_in bytes.now) × (read.1.items ≡ stores_of bytes.now)) }
     ensures refused { IfErr result (λ fault. (fault ≡ Fault.Memory) ⊎ (label_verdict device len bytes.now ≡ Err fault)) }
 {
-    check_kind(device, bytes)?;
-    let count = check_fields(device, len, bytes)?;
+    let version = check_kind(device, bytes)?;
+    let count = check_fields(version, device, len, bytes)?;
     let stores = u32s_at(alloc, bytes, STORES_AT, count)?;
     let pages = check_stores(device, &stores)?;
-    check_end(device, len, bytes, count, pages)?;
-    Ok(stores)
+    check_end(version, device, len, bytes, count, pages)?;
+    Ok((version, stores))
 }
 
-fn check_kind(device: Device, bytes: &[u8]) -> Result<(), Fault>
+// Checks that it is a label of this device, and answers its version.
+fn check_kind(device: Device, bytes: &[u8]) -> Result<Version, Fault>
     requires { length bytes.now ≡ 512 }
-    ensures { (len : ℕ) → LEAST_DEVICE_BYTES ≤ len → result ≡ judged (kind_checks device len bytes.now) }
+    ensures passed { (len : ℕ) → LEAST_DEVICE_BYTES ≤ len → IfOk result (λ version. (judged (kind_checks device len bytes.now) ≡ Ok tt) × (version ≡ version_in bytes.now)) }
+    ensures refused { (len : ℕ) → LEAST_DEVICE_BYTES ≤ len → IfErr result (λ fault. judged (kind_checks device len bytes.now) ≡ Err fault) }
 {
     if !is_open(bytes[0]) || bytes[1] != kind_byte(device) {
         return Err(Fault::NotFormatted);
     }
-    if u16_at(bytes, 2) != VERSION {
-        return Err(Fault::WrongVersion);
+    match Version::of(u16_at(bytes, 2)) {
+        Some(version) => Ok(version),
+        None => Err(Fault::WrongVersion),
     }
-    Ok(())
 }
 
 // Checks the fields before the stores, and answers how many stores there are.
-fn check_fields(device: Device, len: u64, bytes: &[u8]) -> Result<usize, Fault>
+fn check_fields(version: Version, device: Device, len: u64, bytes: &[u8]) -> Result<usize, Fault>
     requires { length bytes.now ≡ 512 }
-    ensures passed { IfOk result (λ count. (judged (field_checks device len bytes.now) ≡ Ok tt) × (count ≡ number_at bytes.now 28 4) × (count ≤ 64)) }
-    ensures refused { IfErr result (λ fault. judged (field_checks device len bytes.now) ≡ Err fault) }
+    ensures passed { IfOk result (λ count. (judged (field_checks version device len bytes.now) ≡ Ok tt) × (count ≡ number_at bytes.now 28 4) × (count ≤ 64)) }
+    ensures refused { IfErr result (λ fault. judged (field_checks version device len bytes.now) ≡ Err fault) }
 {
-    if u32_at(bytes, 4) != PAGE_BYTES as u32 {
+    if u32_at(bytes, 4) != version.page_bytes() as u32 {
         return Err(Fault::damaged(device, 4));
     }
-    if u64_at(bytes, LENGTH_AT as usize) != len || !has_limits(device, len) {
+    if u64_at(bytes, LENGTH_AT as usize) != len || !has_limits(version, device, len) {
         return Err(Fault::damaged(device, LENGTH_AT));
     }
     if !(LEAST_MAX_LOCKS..=MOST_MAX_LOCKS).contains(&u32_at(bytes, 24)) {
@@ -211,11 +220,11 @@ fn check_fields(device: Device, len: u64, bytes: &[u8]) -> Result<usize, Fault>
 }
 
 // Whether a device of any stores may have this length.
-fn has_limits(device: Device, len: u64) -> bool
-    ensures { result ≡ may_be_long device len }
+fn has_limits(version: Version, device: Device, len: u64) -> bool
+    ensures { result ≡ may_be_long version device len }
 {
     match device {
-        Device::Log => (MIN_LOG_BYTES..=MAX_LOG_BYTES).contains(&len),
+        Device::Log => (version.least_log()..=MAX_LOG_BYTES).contains(&len),
         Device::Volume => true,
     }
 }
@@ -239,29 +248,36 @@ fn check_stores(device: Device, stores: &[u32]) -> Result<u64, Fault>
 }
 
 // Checks what comes behind so many stores, and the length of a volume of so many pages.
-fn check_end(device: Device, len: u64, bytes: &[u8], count: usize, pages: u64) -> Result<(), Fault>
+fn check_end(
+    version: Version,
+    device: Device,
+    len: u64,
+    bytes: &[u8],
+    count: usize,
+    pages: u64,
+) -> Result<(), Fault>
     requires whole { length bytes.now ≡ 512 }
     requires few { count ≤ 64 }
     requires small { pages ≤ 65536 }
-    ensures { result ≡ judged (end_checks device len bytes.now count pages) }
+    ensures { result ≡ judged (end_checks version device len bytes.now count pages) }
 {
     let end = STORES_AT + 4 * count;
     if !are_zero(&bytes[end..]) {
         return Err(Fault::damaged(device, end as u64));
     }
-    if !is_filled(device, pages, len) {
+    if !is_filled(version, device, pages, len) {
         return Err(Fault::damaged(device, LENGTH_AT));
     }
     Ok(())
 }
 
 // Whether a device of so many pages has this length.
-fn is_filled(device: Device, pages: u64, len: u64) -> bool
+fn is_filled(version: Version, device: Device, pages: u64, len: u64) -> bool
     requires { pages ≤ 65536 }
-    ensures { result ≡ is_filled device pages len }
+    ensures { result ≡ is_filled version device pages len }
 {
     match device {
         Device::Log => true,
-        Device::Volume => len == PAGES_AT + PAGE_BYTES as u64 * pages,
+        Device::Volume => len == version.pages_begin() + version.page_bytes() as u64 * pages,
     }
 }

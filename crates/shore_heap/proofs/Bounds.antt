@@ -8,6 +8,7 @@ use Rattle.shore_types.specs.Images.{Image, image_len}
 use Rattle.shore_page.specs.Room.{Fits}
 use Rattle.shore_page.specs.Slots.{Slot, with_image}
 use Rattle.shore_heap.specs.Contents.{AreBounds, TakesNone, bound_of, same_page, with_slots}
+use Rattle.shore_types.specs.Versions.{record_limit-most}
 use Rattle.shore_heap.proofs.Rooms.{put_refuses, refuses_longest, refuses_more}
 
 abbrev the_page : ℕ → ℕ → PageId
@@ -121,30 +122,30 @@ sets_least stores free x y id n was bounds are same has there is =
 
 module _ (g : Geometry) (free : List (List ℕ)) (S : PageId → List Slot) (are : AreBounds g free S) (id : PageId) where
   -- a record more
-  pub bounds_put : (i : ℕ) (image : List ℕ) → Fits (S id) i (length image) → AreBounds g free (with_slots S id (λ slots. with_image slots i (Some image)))
+  pub bounds_put : (i : ℕ) (image : List ℕ) → Fits g.version (S id) i (length image) → AreBounds g free (with_slots S id (λ slots. with_image slots i (Some image)))
   bounds_put i image fits p bytes has up_to =
       let put : List Slot → List Slot = λ slots. with_image slots i (Some image) in
       elim (cases_page p id) [
-        | inl same ↦ subst (λ (l : List Slot). TakesNone l bytes) (sym (ap (with_slots S id put) same ∙ slots_here S id put)) (put_refuses (S id) i bytes image fits (subst (λ (q : PageId). TakesNone (S q) bytes) same (are p bytes has up_to)))
-        | inr other ↦ subst (λ (l : List Slot). TakesNone l bytes) (sym (slots_other S id put p other)) (are p bytes has up_to)
+        | inl same ↦ subst (λ (l : List Slot). TakesNone g.version l bytes) (sym (ap (with_slots S id put) same ∙ slots_here S id put)) (put_refuses g.version (S id) i bytes image fits (subst (λ (q : PageId). TakesNone g.version (S q) bytes) same (are p bytes has up_to)))
+        | inr other ↦ subst (λ (l : List Slot). TakesNone g.version l bytes) (sym (slots_other S id put p other)) (are p bytes has up_to)
       ]
 
-  pub bounds_put_image : (i : ℕ) (image : Image) → is_some image ≡ true → Fits (S id) i (image_len image) → AreBounds g free (with_slots S id (λ slots. with_image slots i image))
+  pub bounds_put_image : (i : ℕ) (image : Image) → is_some image ≡ true → Fits g.version (S id) i (image_len image) → AreBounds g free (with_slots S id (λ slots. with_image slots i image))
   bounds_put_image i None is fits = let clash : false ≡ true = is in absurd cc
   bounds_put_image i (Some image) is fits = bounds_put i image fits
 
   -- nothing is known of the page any more
-  pub bounds_forgot : (now : List (List ℕ)) (change : List Slot → List Slot) → bound_of now id ≡ 4001 → ((p : PageId) → p ≢ id → bound_of now p ≡ bound_of free p) → AreBounds g now (with_slots S id change)
+  pub bounds_forgot : (now : List (List ℕ)) (change : List Slot → List Slot) → bound_of now id ≡ 12001 → ((p : PageId) → p ≢ id → bound_of now p ≡ bound_of free p) → AreBounds g now (with_slots S id change)
   bounds_forgot now change here others p bytes has up_to = elim (cases_page p id) [
-    | inl same ↦ refuses_longest (with_slots S id change p) bytes (omega (arith, up_to, here, ap (bound_of now) same))
-    | inr other ↦ subst (λ (l : List Slot). TakesNone l bytes) (sym (slots_other S id change p other)) (are p bytes has (omega (arith, up_to, others p other)))
+    | inl same ↦ refuses_longest g.version (with_slots S id change p) bytes (omega (arith, up_to, here, record_limit-most g.version, ap (bound_of now) same))
+    | inr other ↦ subst (λ (l : List Slot). TakesNone g.version l bytes) (sym (slots_other S id change p other)) (are p bytes has (omega (arith, up_to, others p other)))
   ]
 
   -- the page refused a length
-  pub bounds_refused : (now : List (List ℕ)) (least : ℕ) → bound_of now id ≡ min (bound_of free id) least → ((p : PageId) → p ≢ id → bound_of now p ≡ bound_of free p) → TakesNone (S id) least → AreBounds g now S
+  pub bounds_refused : (now : List (List ℕ)) (least : ℕ) → bound_of now id ≡ min (bound_of free id) least → ((p : PageId) → p ≢ id → bound_of now p ≡ bound_of free p) → TakesNone g.version (S id) least → AreBounds g now S
   bounds_refused now least here others none p bytes has up_to = elim (cases_page p id) [
     | inl same ↦ elim (cases_lt bytes (bound_of free p)) [
-      | inl below ↦ refuses_more (S p) least bytes (omega (arith, up_to, here, below, ap (bound_of now) same, ap (bound_of free) same)) (subst (λ (q : PageId). TakesNone (S q) least) (sym same) none)
+      | inl below ↦ refuses_more g.version (S p) least bytes (omega (arith, up_to, here, below, ap (bound_of now) same, ap (bound_of free) same)) (subst (λ (q : PageId). TakesNone g.version (S q) least) (sym same) none)
       | inr from ↦ are p bytes has from
     ]
     | inr other ↦ are p bytes has (omega (arith, up_to, others p other))
@@ -152,21 +153,21 @@ module _ (g : Geometry) (free : List (List ℕ)) (S : PageId → List Slot) (are
 
 -- at first nothing is known of any page
 abbrev pub unknown : ℕ → List ℕ
-unknown pages = replicate pages 4001
+unknown pages = replicate pages 12001
 
 pub bounds_unknown : (g : Geometry) (S : PageId → List Slot) → AreBounds g (map unknown g.stores) S
-bounds_unknown g S id bytes has up_to = refuses_longest (S id) bytes (omega (arith, up_to, is g.stores id.store has))
+bounds_unknown g S id bytes has up_to = refuses_longest g.version (S id) bytes (omega (arith, up_to, record_limit-most g.version, is g.stores id.store has))
   where
-    in_page : (pages page : ℕ) → page < pages → get_or (unknown pages) page 0 ≡ 4001
+    in_page : (pages page : ℕ) → page < pages → get_or (unknown pages) page 0 ≡ 12001
     in_page zero page inside = absurd (omega arith)
     in_page (suc pages) zero inside = refl
     in_page (suc pages) (suc page) inside = in_page pages page (omega arith)
 
-    is : (stores : List ℕ) (store : ℕ) → IsSomeAnd (slice_get stores store) (λ pages. id.page < pages) → get_or (slice_index_or (map unknown stores) store []) id.page 0 ≡ 4001
+    is : (stores : List ℕ) (store : ℕ) → IsSomeAnd (slice_get stores store) (λ pages. id.page < pages) → get_or (slice_index_or (map unknown stores) store []) id.page 0 ≡ 12001
     is [] store has = absurd has
     is (x ∷ stores) zero has = in_page x id.page has
     is (x ∷ stores) (suc store) has = is stores store has
 
 pub lengths_unknown : (stores : List ℕ) → map length (map unknown stores) ≡ stores
 lengths_unknown [] = refl
-lengths_unknown (x ∷ stores) = ap (λ (n : ℕ). n ∷ map length (map unknown stores)) (length-replicate x 4001) ∙ ap (λ (l : List ℕ). x ∷ l) (lengths_unknown stores)
+lengths_unknown (x ∷ stores) = ap (λ (n : ℕ). n ∷ map length (map unknown stores)) (length-replicate x 12001) ∙ ap (λ (l : List ℕ). x ∷ l) (lengths_unknown stores)

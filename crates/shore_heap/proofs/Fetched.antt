@@ -7,6 +7,7 @@ use Rattle.shore_disk.proofs.Moments.{widened}
 use Rattle.shore_types.specs.declared.ids.PageId.{PageId}
 use Rattle.shore_types.specs.declared.layout.Geometry.{Geometry}
 use Rattle.shore_types.specs.Layout.{HasPage}
+use Rattle.shore_types.specs.declared.versions.Version.{Version}
 use Rattle.shore_dwrite.specs.Settled as settled_device
 use Rattle.shore_dwrite.specs.declared.device.PageDev.{PageDev}
 use Rattle.shore_dwrite.specs.Volumes.{page_number}
@@ -46,33 +47,33 @@ module _ {D : Type 0} {G : Ghosts D} (new : Heap D G) (mid : Pool D G) (device :
 pub number_is : {D : Type 0} {G : Ghosts D} {g : Geometry} (mid : Pool D G) (id : PageId) → pools.geometry_of mid ≡ g → page_number (pools.geometry_of mid) id ≡ page_number g id
 number_is mid id geometry = ap (λ (it : Geometry). page_number it id) geometry
 
-module _ {D : Type 0} {G : Ghosts D} (old : Heap D G) (mid : Pool D G) (id : PageId) (last : ℕ) (number : page_number (pools.geometry_of mid) id ≡ page_number (geometry_of old) id)
-    (read : (frame_of old id ≡ None) × IsSomeAnd (pools.frame_of mid id) (IsRead id last)) where
-  read_at : IsSomeAnd (pools.frame_at mid (page_number (geometry_of old) id)) (IsRead id last)
-  read_at = subst (λ (k : ℕ). IsSomeAnd (pools.frame_at mid k) (IsRead id last)) number read.1
+module _ (v : Version) {D : Type 0} {G : Ghosts D} (old : Heap D G) (mid : Pool D G) (id : PageId) (last : ℕ) (number : page_number (pools.geometry_of mid) id ≡ page_number (geometry_of old) id)
+    (read : (frame_of old id ≡ None) × IsSomeAnd (pools.frame_of mid id) (IsRead v id last)) where
+  read_at : IsSomeAnd (pools.frame_at mid (page_number (geometry_of old) id)) (IsRead v id last)
+  read_at = subst (λ (k : ℕ). IsSomeAnd (pools.frame_at mid k) (IsRead v id last)) number read.1
 
   pub clean_by : IsSomeAnd (pools.frame_at mid (page_number (geometry_of old) id)) (λ f. f.recovery ≡ None)
   clean_by = each (pools.frame_at mid (page_number (geometry_of old) id)) read_at
     where
-      each : (o : Option Frame) → IsSomeAnd o (IsRead id last) → IsSomeAnd o (λ f. f.recovery ≡ None)
+      each : (o : Option Frame) → IsSomeAnd o (IsRead v id last) → IsSomeAnd o (λ f. f.recovery ≡ None)
       each None is = is
       each (Some f) is = is.2
 
 -- the page is there as it was read
-pub as_read : (id : PageId) (last : ℕ) (kept : List (ℕ × ℕ)) (o now : Option Frame) → IsSomeAnd o (IsRead id last)
-    → ((f : Frame) → o ≡ Some f → (slots : List Slot) × KeepWhatFits kept f.page.slots slots × (now ≡ Some (with_page_slots slots f))) → IsSomeAnd now (IsFreshFrame kept last)
-as_read id last kept None now read fitting = absurd read
-as_read id last kept (Some f) now read fitting =
+pub as_read : (v : Version) (id : PageId) (last : ℕ) (kept : List (ℕ × ℕ)) (o now : Option Frame) → IsSomeAnd o (IsRead v id last)
+    → ((f : Frame) → o ≡ Some f → (slots : List Slot) × KeepWhatFits v kept f.page.slots slots × (now ≡ Some (with_page_slots slots f))) → IsSomeAnd now (IsFreshFrame kept last)
+as_read v id last kept None now read fitting = absurd read
+as_read v id last kept (Some f) now read fitting =
     let (slots, keeps, is) = fitting f refl in
-    let bare : f.page.slots ≡ map settled (images_of slots) = ap (λ (p : PageState). p.slots) read.0 ∙ ap (map settled) (sym (images_kept kept f.page.slots slots keeps)) in
-    subst (λ (o : Option Frame). IsSomeAnd o (IsFreshFrame kept last)) (sym is) (record { clean = read.2; number = read.1; slots = subst (λ (l : List Slot). KeepWhatFits kept l slots) bare keeps })
+    let bare : f.page.slots ≡ map settled (images_of slots) = ap (λ (p : PageState). p.slots) read.0 ∙ ap (map settled) (sym (images_kept v kept f.page.slots slots keeps)) in
+    subst (λ (o : Option Frame). IsSomeAnd o (IsFreshFrame kept last)) (sym is) (record { clean = read.2; number = read.1; slots = subst (λ (w : Version). KeepWhatFits w kept (map settled (images_of slots)) slots) (sym (ap (λ (p : PageState). p.version) read.0)) (subst (λ (l : List Slot). KeepWhatFits v kept l slots) bare keeps) })
 
-pub came_by : {D : Type 0} {G : Ghosts D} (old : Heap D G) (mid : Pool D G) (new : Heap D G) (id : PageId) (K : ClaimsOfPages) (last : ℕ) (number : page_number (pools.geometry_of mid) id ≡ page_number (geometry_of old) id)
-    → (frame_of old id ≡ None) × IsSomeAnd (pools.frame_of mid id) (IsRead id last) → ((f : Frame) → pools.frame_of mid id ≡ Some f → FitIn (K id) f.page.slots → frame_of new id ≡ Some (claimed_frame (K id) f))
-    → geometry_of new ≡ pools.geometry_of mid → Came (frame_at old) (pools.frame_at mid) (frame_at new) (page_number (geometry_of old) id) id (K id) last
-came_by old mid new id K last number read here geometry = record {
+pub came_by : (v : Version) → {D : Type 0} {G : Ghosts D} (old : Heap D G) (mid : Pool D G) (new : Heap D G) (id : PageId) (K : ClaimsOfPages) (last : ℕ) (number : page_number (pools.geometry_of mid) id ≡ page_number (geometry_of old) id)
+    → (frame_of old id ≡ None) × IsSomeAnd (pools.frame_of mid id) (IsRead v id last) → ((f : Frame) → pools.frame_of mid id ≡ Some f → FitIn v (K id) f.page.slots → frame_of new id ≡ Some (claimed_frame (K id) f))
+    → geometry_of new ≡ pools.geometry_of mid → Came v (frame_at old) (pools.frame_at mid) (frame_at new) (page_number (geometry_of old) id) id (K id) last
+came_by v old mid new id K last number read here geometry = record {
   none = read.0;
-  read = read_at old mid id last number read;
+  read = read_at v old mid id last number read;
   then_kept = λ f is fit. ap (frame_at new) (sym number ∙ ap (λ (g : Geometry). page_number g id) (sym geometry)) ∙ here f (ap (pools.frame_at mid) number ∙ is) fit;
 }
 
@@ -94,12 +95,12 @@ there_before was now f (inr (inl clean)) is dirty = absurd (dirty (each was (sym
 there_before was now f (inr (inr gone)) is dirty = let clash : None ≡ Some f = sym gone ∙ is in absurd cc
 
 -- the page that came is clean, and what is dirty in another frame was so before
-pub were_kept : {D : Type 0} {G : Ghosts D} (old : Heap D G) (mid : Pool D G) (new : Heap D G) (id : PageId) → page_number (pools.geometry_of mid) id ≡ page_number (geometry_of old) id
+pub were_kept : (v : Version) → {D : Type 0} {G : Ghosts D} (old : Heap D G) (mid : Pool D G) (new : Heap D G) (id : PageId) → page_number (pools.geometry_of mid) id ≡ page_number (geometry_of old) id
     → ((k : ℕ) → k ≢ page_number (pools.geometry_of mid) id → frame_at new k ≡ pools.frame_at mid k) → IsSomeAnd (pools.frame_at mid (page_number (geometry_of old) id)) (λ f. f.recovery ≡ None)
     → option_map (λ f. f.recovery) (frame_at new (page_number (geometry_of old) id)) ≡ option_map (λ f. f.recovery) (pools.frame_at mid (page_number (geometry_of old) id)) → WereDirty (pools.frame_at mid) (frame_at new)
-were_kept old mid new id number others clean dirt =
+were_kept v old mid new id number others clean dirt =
     let n = page_number (geometry_of old) id in
-    were_but (pools.frame_at mid) (frame_at new) n (λ k apart. others k (λ is. apart (is ∙ number))) (λ f is. each f (pools.frame_at mid n) (frame_at new n) is clean dirt)
+    were_but v (pools.frame_at mid) (frame_at new) n (λ k apart. others k (λ is. apart (is ∙ number))) (λ f is. each f (pools.frame_at mid n) (frame_at new n) is clean dirt)
   where
     each : (f : Frame) (o e : Option Frame) → e ≡ Some f → IsSomeAnd o (λ f. f.recovery ≡ None) → option_map (λ f. f.recovery) e ≡ option_map (λ f. f.recovery) o → f.recovery ≡ None
     each f None e is clean dirt = absurd clean
@@ -109,16 +110,16 @@ were_kept old mid new id number others clean dirt =
 -- ---- a call
 
 module _ {D : Type 0} {G : Ghosts D} (old : Heap D G) (mid : Pool D G) (durable : ℕ) where
-  stay_of : (new : Heap D G) (front : List ℕ) (disk : ℕ → List ℕ) (w : pools.WroteBack old.pool mid durable front disk) → SamePages (pools.frame_at mid) w.left (frame_at new) w.left → WereDirty (pools.frame_at mid) (frame_at new)
+  stay_of : (new : Heap D G) (front : List ℕ) (disk : ℕ → List ℕ) (w : pools.WroteBack old.pool mid durable front disk) → SamePages (geometry_of old).version (pools.frame_at mid) w.left (frame_at new) w.left → WereDirty (pools.frame_at mid) (frame_at new)
       → StayInPlace old new durable disk w.left
   stay_of new front disk w more were = record {
     may = may_be (geometry_of old) (frame_at old) durable disk old.pool.in_order w.left w.may;
-    same = pages_on (frame_at old) (pools.frame_at mid) (frame_at new) disk w.left w.left w.same more;
-    unwritten = unwritten_on (frame_at old) (pools.frame_at mid) (frame_at new) disk w.left w.left w.unwritten (none_written (pools.frame_at mid) (frame_at new) w.left were);
+    same = pages_on (geometry_of old).version (frame_at old) (pools.frame_at mid) (frame_at new) disk w.left w.left w.same more;
+    unwritten = unwritten_on (frame_at old) (pools.frame_at mid) (frame_at new) disk w.left w.left w.unwritten (none_written (geometry_of old).version (pools.frame_at mid) (frame_at new) w.left were);
   }
 
   -- the volume, and what is in place
-  pub wrote_of : (new : Heap D G) (front : List ℕ) (disk : ℕ → List ℕ) (w : pools.WroteBack old.pool mid durable front disk) → PoolHolds new.pool front w.left × SamePages (pools.frame_at mid) w.left (frame_at new) w.left
+  pub wrote_of : (new : Heap D G) (front : List ℕ) (disk : ℕ → List ℕ) (w : pools.WroteBack old.pool mid durable front disk) → PoolHolds new.pool front w.left × SamePages (geometry_of old).version (pools.frame_at mid) w.left (frame_at new) w.left
       → WereDirty (pools.frame_at mid) (frame_at new) → WroteBack old new durable front disk
   wrote_of new front disk w more were = (w.left, more.0, stay_of new front disk w more.1 were)
 
@@ -135,9 +136,9 @@ module _ {D : Type 0} {G : Ghosts D} (old : Heap D G) (mid : Pool D G) (durable 
 
     -- .. and the slots
     pub kept_of : ((k : ℕ) → k ≢ page_number (geometry_of old) id → pools.StaysOrGoes (frame_at old k) (frame_at new k))
-        → pools.StaysOrGoes (frame_at old (page_number (geometry_of old) id)) (frame_at new (page_number (geometry_of old) id)) ⊎ Came (frame_at old) (pools.frame_at mid) (frame_at new) (page_number (geometry_of old) id) id (K id) last
+        → pools.StaysOrGoes (frame_at old (page_number (geometry_of old) id)) (frame_at new (page_number (geometry_of old) id)) ⊎ Came (geometry_of old).version (frame_at old) (pools.frame_at mid) (frame_at new) (page_number (geometry_of old) id) id (K id) last
         → (front : List ℕ) (disk : ℕ → List ℕ) (S : PageId → List Slot) → Shows K old front disk S → AreKept (geometry_of old) K S
-        → (w : pools.WroteBack old.pool mid durable front disk) → PoolHolds new.pool front w.left × SamePages (pools.frame_at mid) w.left (frame_at new) w.left → WereDirty (pools.frame_at mid) (frame_at new)
+        → (w : pools.WroteBack old.pool mid durable front disk) → PoolHolds new.pool front w.left × SamePages (geometry_of old).version (pools.frame_at mid) w.left (frame_at new) w.left → WereDirty (pools.frame_at mid) (frame_at new)
         → KeepsSlots K old new durable front disk S
     kept_of others come front disk S shows are w more were =
         let stay = stay_of new front disk w more.1 were in

@@ -28,19 +28,19 @@ if_none_at P (Some y) is p = let clash : Some y ≡ None = is in absurd cc
 module _ (g : Geometry) (S : PageId → List Slot) (store bytes : ℕ) (MayTake : Rid → Type 0) where
   -- no slot of a page takes so many bytes and may be taken
   abbrev pub NoneOn : ℕ → Type 0
-  NoneOn page = HasPage g (the_page store page) → HasNoSlot (S (the_page store page)) bytes (slots_of MayTake (the_page store page))
+  NoneOn page = HasPage g (the_page store page) → HasNoSlot g.version (S (the_page store page)) bytes (slots_of MayTake (the_page store page))
 
   page_is : (id : PageId) → id.store ≡ store → the_page store id.page ≡ id
   page_is id of_store = ap (λ (n : ℕ). the_page n id.page) (sym of_store)
 
   refused : (id : Rid) → Takes g S store bytes MayTake id → NoneOn id.page.page → ⊥
   refused id takes none =
-      subst (λ (p : PageId). HasPage g p → HasNoSlot (S p) bytes (slots_of MayTake p)) (page_is id.page takes.of_store) none takes.there id.slot takes.candidate takes.allowed
+      subst (λ (p : PageId). HasPage g p → HasNoSlot g.version (S p) bytes (slots_of MayTake p)) (page_is id.page takes.of_store) none takes.there id.slot takes.candidate takes.allowed
 
   pub no_place : ((page : ℕ) → NoneOn page) → HasNoPlace g S store bytes MayTake
   no_place each id takes = refused id takes (each id.page.page)
 
-  pub is_place : (page slot : ℕ) → ((j : ℕ) → j < page → NoneOn j) → HasPage g (the_page store page) → IsFirstSlot (S (the_page store page)) bytes (slots_of MayTake (the_page store page)) slot
+  pub is_place : (page slot : ℕ) → ((j : ℕ) → j < page → NoneOn j) → HasPage g (the_page store page) → IsFirstSlot g.version (S (the_page store page)) bytes (slots_of MayTake (the_page store page)) slot
       → IsPlace g S store bytes MayTake (the_id store page slot)
   is_place page slot below there first = record {
     takes = record { there = there; of_store = refl; candidate = first.candidate; allowed = first.allowed };
@@ -48,7 +48,7 @@ module _ (g : Geometry) (S : PageId → List Slot) (store bytes : ℕ) (MayTake 
       elim (cases_lt other.page.page page) [ inl less ↦ absurd (refused other takes (below other.page.page less)) | inr more ↦ more ],
       λ same.
           let here : other.page ≡ the_page store page = sym (page_is other.page takes.of_store) ∙ ap (λ (n : ℕ). the_page store n) same in
-          first.first other.slot (subst (λ (p : PageId). IsCandidate (S p) other.slot bytes) here takes.candidate) (subst (λ (p : PageId). slots_of MayTake p other.slot) here takes.allowed),
+          first.first other.slot (subst (λ (p : PageId). IsCandidate g.version (S p) other.slot bytes) here takes.candidate) (subst (λ (p : PageId). slots_of MayTake p other.slot) here takes.allowed),
     );
   }
 
@@ -68,6 +68,6 @@ module _ (g : Geometry) (S : PageId → List Slot) (store bytes : ℕ) (MayTake 
   ]
 
 -- a slot that takes bytes in a frame is one that a record may have
-pub slot_there : (g : Geometry) (id : Rid) (o : Option Frame) (bytes : ℕ) → HasPage g id.page → IsSomeAnd o (λ f. IsCandidate f.page.slots id.slot bytes) → HasSlot g id
+pub slot_there : (g : Geometry) (id : Rid) (o : Option Frame) (bytes : ℕ) → HasPage g id.page → IsSomeAnd o (λ f. IsCandidate g.version f.page.slots id.slot bytes) → HasSlot g id
 slot_there g id (Some f) bytes there free = (there, free.fits.there)
 slot_there g id None bytes there free = absurd free

@@ -6,6 +6,7 @@ use Rattle.shore_types.specs.declared.faults.Fault.{Fault}
 use Rattle.shore_types.specs.declared.faults.Fault.TheVariants as fault
 use Rattle.shore_types.specs.declared.ids.PageId.{PageId}
 use Rattle.shore_types.specs.declared.layout.Geometry.{Geometry}
+use Rattle.shore_types.specs.declared.versions.Version.{Version}
 use Rattle.shore_dwrite.specs.Volumes.{page_number}
 use Rattle.shore_page.specs.Slots.{Slot}
 use Rattle.shore_page.specs.Text.{IsPageText}
@@ -48,26 +49,26 @@ module _ (at now : ℕ → Option Frame) where
   may_settle pages clean others k = elim (is_among pages k) [ inl among ↦ inr (clean k among) | inr none ↦ inl (others k none) ]
 
   -- so each page has the slots that it had
-  have_settled : (g : Geometry) (disk left : ℕ → List ℕ) (K : ClaimsOfPages) (S : PageId → List Slot) → MaySettle → SamePages at disk now left → Have g at disk K S → Have g now left K S
+  have_settled : (g : Geometry) (disk left : ℕ → List ℕ) (K : ClaimsOfPages) (S : PageId → List Slot) → MaySettle → SamePages g.version at disk now left → Have g at disk K S → Have g now left K S
   have_settled g disk left K S may same have id there = each (at (page_number g id)) refl (have id there)
     where
-      each : (o : Option Frame) → at (page_number g id) ≡ o → HasSlots o (disk (page_number g id)) id (K id) (S id) → HasSlots (now (page_number g id)) (left (page_number g id)) id (K id) (S id)
+      each : (o : Option Frame) → at (page_number g id) ≡ o → HasSlots g.version o (disk (page_number g id)) id (K id) (S id) → HasSlots g.version (now (page_number g id)) (left (page_number g id)) id (K id) (S id)
       each None was has =
           let n = page_number g id in
           let gone : now n ≡ None = elim (may n) [ inl stay ↦ stay ∙ was | inr its ↦ its ∙ ap (option_map settled) was ] in
-          let before : IsPage (at n) (disk n) id has.0 has.1 = subst (λ (o : Option Frame). IsPage o (disk n) id has.0 has.1) (sym was) has.2 in
-          let text : IsPageText (left n) id has.0 has.1 = subst (λ (o : Option Frame). IsPage o (left n) id has.0 has.1) gone ((same n id has.0 has.1).0 before) in
-          subst (λ (o : Option Frame). HasSlots o (left n) id (K id) (S id)) (sym gone) (has.0, has.1, text, has.3, has.4)
+          let before : IsPage g.version (at n) (disk n) id has.0 has.1 = subst (λ (o : Option Frame). IsPage g.version o (disk n) id has.0 has.1) (sym was) has.2 in
+          let text : IsPageText g.version (left n) id has.0 has.1 = subst (λ (o : Option Frame). IsPage g.version o (left n) id has.0 has.1) gone ((same n id has.0 has.1).0 before) in
+          subst (λ (o : Option Frame). HasSlots g.version o (left n) id (K id) (S id)) (sym gone) (has.0, has.1, text, has.3, has.4)
       each (Some f) was has = elim (may (page_number g id)) [
-        | inl stay ↦ subst (λ (o : Option Frame). HasSlots o (left (page_number g id)) id (K id) (S id)) (sym (stay ∙ was)) has
-        | inr its ↦ subst (λ (o : Option Frame). HasSlots o (left (page_number g id)) id (K id) (S id)) (sym (its ∙ ap (option_map settled) was)) has
+        | inl stay ↦ subst (λ (o : Option Frame). HasSlots g.version o (left (page_number g id)) id (K id) (S id)) (sym (stay ∙ was)) has
+        | inr its ↦ subst (λ (o : Option Frame). HasSlots g.version o (left (page_number g id)) id (K id) (S id)) (sym (its ∙ ap (option_map settled) was)) has
       ]
 
 -- ---- the call
 
 module _ {D : Type 0} {G : Ghosts D} (old new : Heap D G) (durable : ℕ) where
   wrote_by : (front : List ℕ) (disk : ℕ → List ℕ) → pools.WroteBack old.pool new.pool durable front disk → WroteBack old new durable front disk
-  wrote_by front disk w = wrote_of old new.pool durable new front disk w (w.holds, pages_stay (frame_at new) (frame_at new) w.left (λ k. refl)) (λ k f is dirty. is)
+  wrote_by front disk w = wrote_of old new.pool durable new front disk w (w.holds, pages_stay (geometry_of old).version (frame_at new) (frame_at new) w.left (λ k. refl)) (λ k f is dirty. is)
 
   -- the volume, and what is in place
   pub flush_wrote : (r : Result ℕ Fault) (front : List ℕ) (disk : ℕ → List ℕ)

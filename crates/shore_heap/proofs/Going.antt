@@ -10,6 +10,7 @@ use Rattle.shore_types.specs.declared.ids.PageId.{PageId}
 use Rattle.shore_types.specs.declared.layout.Geometry.{Geometry}
 use Rattle.shore_types.specs.Images.{Image}
 use Rattle.shore_types.specs.Layout.{HasPage}
+use Rattle.shore_types.specs.declared.versions.Version.{Version}
 use Rattle.shore_dwrite.specs.Shown.{ShowsBehind}
 use Rattle.shore_dwrite.specs.Volumes.{HasNoPage, page_number, page_offset}
 use Rattle.shore_dwrite.proofs.Moves.{stands_still}
@@ -36,7 +37,7 @@ use Rattle.shore_heap.proofs.Showing.{shows_by}
 module _ (g : Geometry) (at : ℕ → Option Frame) (durable : ℕ) (disk : ℕ → List ℕ) where
   abbrev pub MayBe : (ℕ → List ℕ) → Type 0
   MayBe left = (id : PageId) → HasPage g id → (left (page_number g id) ≡ disk (page_number g id))
-      ⊎ ((number : ℕ) × (images : List Image) × IsPage (at (page_number g id)) (disk (page_number g id)) id number images × (number ≤ durable) × IsPageText (left (page_number g id)) id number images)
+      ⊎ ((number : ℕ) × (images : List Image) × IsPage g.version (at (page_number g id)) (disk (page_number g id)) id number images × (number ≤ durable) × IsPageText g.version (left (page_number g id)) id number images)
 
   -- what the pool says of frames
   pub may_be : AreInOrder at g → (left : ℕ → List ℕ) → pages.MayBeLeft at durable disk left → MayBe left
@@ -45,28 +46,34 @@ module _ (g : Geometry) (at : ℕ → Option Frame) (durable : ℕ) (disk : ℕ 
     | inr written ↦ inr (each (at (page_number g id)) (λ f is. order (page_number g id) f is) written)
   ]
     where
-      each : (o : Option Frame) → ((f : Frame) → o ≡ Some f → HasPage g f.page.id × (page_number g f.page.id ≡ page_number g id)) → IsSomeAnd o (λ f. (f.page.number ≤ durable) × IsTextOf f (left (page_number g id)))
-          → (number : ℕ) × (images : List Image) × IsPage o (disk (page_number g id)) id number images × (number ≤ durable) × IsPageText (left (page_number g id)) id number images
+      each : (o : Option Frame) → ((f : Frame) → o ≡ Some f → HasPage g f.page.id × (page_number g f.page.id ≡ page_number g id) × (f.page.version ≡ g.version)) → IsSomeAnd o (λ f. (f.page.number ≤ durable) × IsTextOf f (left (page_number g id)))
+          → (number : ℕ) × (images : List Image) × IsPage g.version o (disk (page_number g id)) id number images × (number ≤ durable) × IsPageText g.version (left (page_number g id)) id number images
       each None its is = absurd is
       each (Some f) its is =
-          let one : f.page.id ≡ id = one_page g f.page.id id (its f refl).0 has (its f refl).1 in
-          (f.page.number, images_of f.page.slots, (one, refl, refl), is.0, subst (λ (p : PageId). IsPageText (left (page_number g id)) p f.page.number (images_of f.page.slots)) one is.1)
+          let one : f.page.id ≡ id = one_page g f.page.id id (its f refl).0 has (its f refl).1 in (
+            f.page.number,
+            images_of f.page.slots,
+            (one, refl, refl),
+            is.0,
+            subst (λ (p : PageId). IsPageText g.version (left (page_number g id)) p f.page.number (images_of f.page.slots)) one
+                (subst (λ (v : Version). IsPageText v (left (page_number g id)) f.page.id f.page.number (images_of f.page.slots)) (its f refl).2 is.1),
+          )
 
-  pub may_then : (mid : ℕ → Option Frame) (between left : ℕ → List ℕ) → MayBe between → SamePages at disk mid between
-      → ((id : PageId) → HasPage g id → (left (page_number g id) ≡ between (page_number g id)) ⊎ ((number : ℕ) × (images : List Image) × IsPage (mid (page_number g id)) (between (page_number g id)) id number images × (number ≤ durable) × IsPageText (left (page_number g id)) id number images))
+  pub may_then : (mid : ℕ → Option Frame) (between left : ℕ → List ℕ) → MayBe between → SamePages g.version at disk mid between
+      → ((id : PageId) → HasPage g id → (left (page_number g id) ≡ between (page_number g id)) ⊎ ((number : ℕ) × (images : List Image) × IsPage g.version (mid (page_number g id)) (between (page_number g id)) id number images × (number ≤ durable) × IsPageText g.version (left (page_number g id)) id number images))
       → MayBe left
   may_then mid between left one same two id has = elim (two id has) [
     | inl stays ↦ elim (one id has) [
       | inl old ↦ inl (stays ∙ old)
-      | inr w ↦ inr (w.0, w.1, w.2, w.3, subst (λ (text : List ℕ). IsPageText text id w.0 w.1) (sym stays) w.4)
+      | inr w ↦ inr (w.0, w.1, w.2, w.3, subst (λ (text : List ℕ). IsPageText g.version text id w.0 w.1) (sym stays) w.4)
     ]
     | inr w ↦ inr (w.0, w.1, (same (page_number g id) id w.0 w.1).1 w.2, w.3, w.4)
   ]
 
   -- a text that is refused for its number was there before
-  pub none_there : (left : ℕ → List ℕ) (id : PageId) (last : ℕ) → HasPage g id → durable ≤ last → MayBe left → HasNoPage (left (page_number g id)) id last → HasNoPage (disk (page_number g id)) id last
+  pub none_there : (left : ℕ → List ℕ) (id : PageId) (last : ℕ) → HasPage g id → durable ≤ last → MayBe left → HasNoPage g.version (left (page_number g id)) id last → HasNoPage g.version (disk (page_number g id)) id last
   none_there left id last has up_to may none = elim (may id has) [
-    | inl same ↦ subst (λ (text : List ℕ). HasNoPage text id last) same none
+    | inl same ↦ subst (λ (text : List ℕ). HasNoPage g.version text id last) same none
     | inr w ↦ let above = none w.0 w.1 w.4 in absurd (omega (arith, above, w.3, up_to))
   ]
 
@@ -90,8 +97,8 @@ module _ {D : Type 0} {G : Ghosts D} (K : ClaimsOfPages) (durable : ℕ) where
   -- nothing was called
   pub goes_nowhere : (heap : Heap D G) → Goes heap heap
   goes_nowhere heap = record {
-    kept = λ front disk S shows are. (disk, shows, record { may = λ id has. inl refl; same = pages_stay (frame_at heap) (frame_at heap) disk (λ k. refl); unwritten = λ k f is dirty. (is, refl) });
-    wrote = λ front disk holds. (disk, holds, record { may = λ id has. inl refl; same = pages_stay (frame_at heap) (frame_at heap) disk (λ k. refl); unwritten = λ k f is dirty. (is, refl) });
+    kept = λ front disk S shows are. (disk, shows, record { may = λ id has. inl refl; same = pages_stay (geometry_of heap).version (frame_at heap) (frame_at heap) disk (λ k. refl); unwritten = λ k f is dirty. (is, refl) });
+    wrote = λ front disk holds. (disk, holds, record { may = λ id has. inl refl; same = pages_stay (geometry_of heap).version (frame_at heap) (frame_at heap) disk (λ k. refl); unwritten = λ k f is dirty. (is, refl) });
     any_moment = λ front disk holds.
         let s = is_shown heap.pool.device front disk (pools.batch_of heap.pool) (pools.batch_texts_of heap.pool) heap.pool.amid holds.settled in
         stands_still (history_of heap) s.image (LeavesPages heap durable front disk) s.stands (disk, s.shows, λ id has. inl refl);
@@ -168,7 +175,7 @@ module _ {D : Type 0} {G : Ghosts D} (K : ClaimsOfPages) (durable : ℕ) where
   -- the same pool, of which the maps have learned
   module _ {T : Type 0} (x : T) (old mid new : Heap D G) (same : new.pool ≡ mid.pool) where
     stay_on : (disk left : ℕ → List ℕ) → StayInPlace old mid durable disk left → StayInPlace old new durable disk left
-    stay_on disk left stay = record { may = stay.may; same = subst (λ (p : Pool D G). SamePages (frame_at old) disk (pools.frame_at p) left) (sym same) stay.same; unwritten = subst (λ (p : Pool D G). StayUnwritten (frame_at old) disk (pools.frame_at p) left) (sym same) stay.unwritten }
+    stay_on disk left stay = record { may = stay.may; same = subst (λ (p : Pool D G). SamePages (geometry_of old).version (frame_at old) disk (pools.frame_at p) left) (sym same) stay.same; unwritten = subst (λ (p : Pool D G). StayUnwritten (frame_at old) disk (pools.frame_at p) left) (sym same) stay.unwritten }
 
     pub learns : {U : Type 0} (y : U) → ReadsPages K old mid durable (Ok x)
         → ((front : List ℕ) (disk : ℕ → List ℕ) (S : PageId → List Slot) → Shows K mid front disk S → AreBounds (geometry_of mid) new.free.items S) → ReadsPages K old new durable (Ok y)
@@ -204,7 +211,8 @@ module _ {D : Type 0} {G : Ghosts D} (K : ClaimsOfPages) (durable : ℕ) where
     stay_then : (disk between left : ℕ → List ℕ) → StayInPlace old mid durable disk between → StayInPlace mid new durable between left → StayInPlace old new durable disk left
     stay_then disk between left first second = record {
       may = may_then (geometry_of old) (frame_at old) durable disk (frame_at mid) between left first.may first.same (may_mid between left second.may);
-      same = pages_on (frame_at old) (frame_at mid) (frame_at new) disk between left first.same second.same;
+      same = pages_on (geometry_of old).version (frame_at old) (frame_at mid) (frame_at new) disk between left first.same
+          (subst (λ (g : Geometry). SamePages g.version (frame_at mid) between (frame_at new) left) one.geometry second.same);
       unwritten = unwritten_on (frame_at old) (frame_at mid) (frame_at new) disk between left first.unwritten second.unwritten;
     }
 
@@ -254,11 +262,11 @@ module _ {D : Type 0} {G : Ghosts D} (K : ClaimsOfPages) (durable : ℕ) where
       cause = subst (λ (n : ℕ). HasCause r n (faults_of new)) (ok_same x (faults_of old) (faults_of mid) one.cause) two.cause;
     }
 
-    damaged_then : (it : Fault) (disk left : ℕ → List ℕ) (id : PageId) (last : ℕ) → (HasNoPage (left (page_number (geometry_of old) id)) id last → HasNoPage (disk (page_number (geometry_of old) id)) id last)
-        → (it ≡ Fault.Damaged Device.Volume (page_offset (page_number (geometry_of mid) id))) × HasNoPage (left (page_number (geometry_of mid) id)) id last
-        → (it ≡ Fault.Damaged Device.Volume (page_offset (page_number (geometry_of old) id))) × HasNoPage (disk (page_number (geometry_of old) id)) id last
+    damaged_then : (it : Fault) (disk left : ℕ → List ℕ) (id : PageId) (last : ℕ) → (HasNoPage (geometry_of old).version (left (page_number (geometry_of old) id)) id last → HasNoPage (geometry_of old).version (disk (page_number (geometry_of old) id)) id last)
+        → (it ≡ Fault.Damaged Device.Volume (page_offset (geometry_of mid).version (page_number (geometry_of mid) id))) × HasNoPage (geometry_of mid).version (left (page_number (geometry_of mid) id)) id last
+        → (it ≡ Fault.Damaged Device.Volume (page_offset (geometry_of old).version (page_number (geometry_of old) id))) × HasNoPage (geometry_of old).version (disk (page_number (geometry_of old) id)) id last
     damaged_then it disk left id last there damaged =
-        let at = subst (λ (g : Geometry). (it ≡ Fault.Damaged Device.Volume (page_offset (page_number g id))) × HasNoPage (left (page_number g id)) id last) one.geometry damaged in
+        let at = subst (λ (g : Geometry). (it ≡ Fault.Damaged Device.Volume (page_offset g.version (page_number g id))) × HasNoPage g.version (left (page_number g id)) id last) one.geometry damaged in
         (at.0, there at.1)
 
     -- a page is refused

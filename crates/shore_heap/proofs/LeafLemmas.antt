@@ -35,7 +35,7 @@ leaves-set old new pages page number whole whole_new there here others =
           ∙ sym (get_or-set_other (leaves_of old pages) page i number 0 differ))
     ])
 
-pub kept-set : (old new : List ℕ) (pages page number : ℕ) → IsGuarded old pages → IsMaxima new (pages + 1) → page < pages → number ≤ 4001 → get_or new (pages + 1 + page) 0 ≡ number
+pub kept-set : (old new : List ℕ) (pages page number : ℕ) → IsGuarded old pages → IsMaxima new (pages + 1) → page < pages → number ≤ 12001 → get_or new (pages + 1 + page) 0 ≡ number
     → ((other : ℕ) → pages + 1 ≤ other → other ≢ pages + 1 + page → get_or new other 0 ≡ get_or old other 0) → IsGuarded new pages
 kept-set old new pages page number kept maxima there small here others = record {
   maxima = maxima;

@@ -12,3 +12,4 @@ pub mod Rooms
 pub mod Scanned
 pub mod Showing
 pub mod TreeLemmas
+pub mod OwnVersions

@@ -4,6 +4,7 @@ use Rattle.shore_types.specs.declared.ids.PageId.{PageId}
 use Rattle.shore_types.specs.declared.layout.Geometry.{Geometry}
 use Rattle.shore_types.specs.Images.{Image, image_len}
 use Rattle.shore_types.specs.Layout.{HasPage}
+use Rattle.shore_types.specs.declared.versions.Version.{Version}
 use Rattle.shore_dwrite.specs.Volumes.{page_number}
 use Rattle.shore_page.specs.Room.{lowered, raised}
 use Rattle.shore_page.specs.Slots.{Slot, settled, with_change}
@@ -26,12 +27,12 @@ behind_last change (s ∷ slots) zero behind = absurd (omega (arith, behind))
 behind_last change (s ∷ slots) (suc slot) behind = ap (λ l. s ∷ l) (behind_last change slots slot (omega (arith, behind)))
 
 -- a page without a frame that nothing comes back to, or one without such a slot, has nothing to let go
-pub nothing_kept : (o : Option Frame) (text : List ℕ) (id : PageId) (kept : List (ℕ × ℕ)) (slots : List Slot) (slot : ℕ) → HasSlots o text id kept slots → (o ≡ None → kept ≡ []) → IfSome o (λ f. length f.page.slots ≤ slot)
+pub nothing_kept : (v : Version) (o : Option Frame) (text : List ℕ) (id : PageId) (kept : List (ℕ × ℕ)) (slots : List Slot) (slot : ℕ) → HasSlots v o text id kept slots → (o ≡ None → kept ≡ []) → IfSome o (λ f. length f.page.slots ≤ slot)
     → with_change (lowered 0) slots slot ≡ slots
-nothing_kept None text id kept slots slot has none behind =
+nothing_kept v None text id kept slots slot has none behind =
     let is : slots ≡ map settled has.1 = has.3 ∙ ap (λ (l : List (ℕ × ℕ)). claimed_by l (map settled has.1)) (none refl) in
     ap (λ l. with_change (lowered 0) l slot) is ∙ settled_lowered has.1 slot ∙ sym is
-nothing_kept (Some f) text id kept slots slot has none behind = behind_last (lowered 0) slots slot (subst (λ l. length l ≤ slot) has behind)
+nothing_kept v (Some f) text id kept slots slot has none behind = behind_last (lowered 0) slots slot (subst (λ l. length l ≤ slot) has behind)
 
 -- claims rise, and no image changes
 pub images_raised : (bytes : ℕ) (slots : List Slot) (slot : ℕ) → images_of (with_change (raised bytes) slots slot) ≡ images_of slots
@@ -48,19 +49,19 @@ images_claimed [] images = images_settled images
 images_claimed (c ∷ kept) images = images_raised c.1 (claimed_by kept (map settled images)) c.0 ∙ images_claimed kept images
 
 -- of a page without a frame other claims are told
-pub told_slots : (o : Option Frame) (text : List ℕ) (id : PageId) (kept later : List (ℕ × ℕ)) (slots : List Slot) → o ≡ None → HasSlots o text id kept slots → FitIn later (map settled (images_of slots))
-    → HasSlots o text id later (claimed_by later (map settled (images_of slots)))
-told_slots None text id kept later slots none has fit =
+pub told_slots : (v : Version) (o : Option Frame) (text : List ℕ) (id : PageId) (kept later : List (ℕ × ℕ)) (slots : List Slot) → o ≡ None → HasSlots v o text id kept slots → FitIn v later (map settled (images_of slots))
+    → HasSlots v o text id later (claimed_by later (map settled (images_of slots)))
+told_slots v None text id kept later slots none has fit =
     let images : images_of slots ≡ has.1 = ap images_of has.3 ∙ images_claimed kept has.1 in
-    (has.0, images_of slots, subst (λ (l : List Image). IsPageText text id has.0 l) (sym images) has.2, refl, fit)
-told_slots (Some f) text id kept later slots none has fit = let clash : Some f ≡ None = none in absurd cc
+    (has.0, images_of slots, subst (λ (l : List Image). IsPageText v text id has.0 l) (sym images) has.2, refl, fit)
+told_slots v (Some f) text id kept later slots none has fit = let clash : Some f ≡ None = none in absurd cc
 
 -- no frame changes, and of one page other claims are told
 pub have_told : (g : Geometry) (at : ℕ → Option Frame) (disk : ℕ → List ℕ) (K L : ClaimsOfPages) (S : PageId → List Slot) (id : PageId) (change : List Slot → List Slot) → Have g at disk K S → ((p : PageId) → p ≢ id → L p ≡ K p)
-    → (HasPage g id → HasSlots (at (page_number g id)) (disk (page_number g id)) id (L id) (change (S id))) → Have g at disk L (with_slots S id change)
+    → (HasPage g id → HasSlots g.version (at (page_number g id)) (disk (page_number g id)) id (L id) (change (S id))) → Have g at disk L (with_slots S id change)
 have_told g at disk K L S id change have others here p has = elim (cases_page p id) [
-  | inl same ↦ subst (λ (q : PageId). HasSlots (at (page_number g q)) (disk (page_number g q)) q (L q) (with_slots S id change q)) (sym same)
-      (subst (HasSlots (at (page_number g id)) (disk (page_number g id)) id (L id)) (sym (slots_here S id change)) (here (subst (HasPage g) same has)))
-  | inr other ↦ subst (λ (l : List (ℕ × ℕ)). HasSlots (at (page_number g p)) (disk (page_number g p)) p l (with_slots S id change p)) (sym (others p other))
-      (subst (HasSlots (at (page_number g p)) (disk (page_number g p)) p (K p)) (sym (slots_other S id change p other)) (have p has))
+  | inl same ↦ subst (λ (q : PageId). HasSlots g.version (at (page_number g q)) (disk (page_number g q)) q (L q) (with_slots S id change q)) (sym same)
+      (subst (HasSlots g.version (at (page_number g id)) (disk (page_number g id)) id (L id)) (sym (slots_here S id change)) (here (subst (HasPage g) same has)))
+  | inr other ↦ subst (λ (l : List (ℕ × ℕ)). HasSlots g.version (at (page_number g p)) (disk (page_number g p)) p l (with_slots S id change p)) (sym (others p other))
+      (subst (HasSlots g.version (at (page_number g p)) (disk (page_number g p)) p (K p)) (sym (slots_other S id change p other)) (have p has))
 ]

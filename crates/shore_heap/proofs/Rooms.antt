@@ -2,6 +2,8 @@
 use Rattle.std.proofs.Common.{◌≡◌, ◌≢◌, ℕ, zero, suc, ◌+◌, ◌-◌, ◌<◌, ◌≤◌, max, List, [], ◌∷◌, ◌++◌, length, replicate, Some, None, refl, sym, ap, ◌∙◌, inl, inr, arith}
 use Rattle.std.proofs.lemmas.Bool.{cases_lt}
 use Rattle.shore_types.specs.Images.{Image, image_len}
+use Rattle.shore_types.specs.declared.versions.Version.{Version}
+use Rattle.shore_types.specs.Versions.{record_limit}
 use Rattle.shore_page.specs.Slots.{Slot, image_at_slot, with_change, with_slot, with_image, holding, settled}
 use Rattle.shore_page.specs.Room.{claims, claim_at, Fits, IsCandidate}
 use Rattle.shore_page.proofs.Fitting.{IsSame, claims_changed, others_changed}
@@ -35,7 +37,7 @@ append_at (s ∷ slots) n (suc other) = append_at slots n other
 
 -- ---- a record put into a slot
 
-module _ (slots : List Slot) (i : ℕ) (image : Image) where
+module _ (v : Version) (slots : List Slot) (i : ℕ) (image : Image) where
   abbrev more : List Slot
   more = with_slot slots i
 
@@ -56,7 +58,7 @@ module _ (slots : List Slot) (i : ℕ) (image : Image) where
       (one.0 ∙ two.0, one.1 ∙ two.1)
 
   -- what still fits fitted before
-  pub fitted : Fits slots i (image_len image) → (other bytes : ℕ) → other ≢ i → Fits now other bytes → Fits slots other bytes
+  pub fitted : Fits v slots i (image_len image) → (other bytes : ℕ) → other ≢ i → Fits v now other bytes → Fits v slots other bytes
   fitted fits other bytes apart later = record {
     there = later.there;
     most = later.most;
@@ -71,22 +73,22 @@ module _ (slots : List Slot) (i : ℕ) (image : Image) where
   }
 
 -- a page that refused a length refuses it with one record more
-pub put_refuses : (slots : List Slot) (i bytes : ℕ) (image : List ℕ) → Fits slots i (length image) → TakesNone slots bytes → TakesNone (with_image slots i (Some image)) bytes
-put_refuses slots i bytes image fits none other empty later =
-    let apart : other ≢ i = λ same. let clash : None ≡ Some image = sym empty ∙ ap (image_at_slot (with_image slots i (Some image))) same ∙ put_here slots i (Some image) in cc in
-    none other (sym (put_others slots i (Some image) other apart).0 ∙ empty) (fitted slots i (Some image) fits other bytes apart later)
+pub put_refuses : (v : Version) (slots : List Slot) (i bytes : ℕ) (image : List ℕ) → Fits v slots i (length image) → TakesNone v slots bytes → TakesNone v (with_image slots i (Some image)) bytes
+put_refuses v slots i bytes image fits none other empty later =
+    let apart : other ≢ i = λ same. let clash : None ≡ Some image = sym empty ∙ ap (image_at_slot (with_image slots i (Some image))) same ∙ put_here v slots i (Some image) in cc in
+    none other (sym (put_others v slots i (Some image) other apart).0 ∙ empty) (fitted v slots i (Some image) fits other bytes apart later)
 
 -- a page that refused a length refuses a greater one
-pub refuses_more : (slots : List Slot) (least bytes : ℕ) → least ≤ bytes → TakesNone slots least → TakesNone slots bytes
-refuses_more slots least bytes le none slot empty fits = none slot empty (record { there = fits.there; most = omega (arith, fits.most); room = omega (arith, fits.room) })
+pub refuses_more : (v : Version) (slots : List Slot) (least bytes : ℕ) → least ≤ bytes → TakesNone v slots least → TakesNone v slots bytes
+refuses_more v slots least bytes le none slot empty fits = none slot empty (record { there = fits.there; most = omega (arith, fits.most); room = omega (arith, fits.room) })
 
 -- no page takes more than the longest record
-pub refuses_longest : (slots : List Slot) (bytes : ℕ) → 4000 < bytes → TakesNone slots bytes
-refuses_longest slots bytes over slot empty fits = absurd (omega (arith, fits.most))
+pub refuses_longest : (v : Version) (slots : List Slot) (bytes : ℕ) → record_limit v < bytes → TakesNone v slots bytes
+refuses_longest v slots bytes over slot empty fits = absurd (omega (arith, fits.most))
 
 -- what fits a slot behind the last fits each one before it that is behind the last
-fits_nearer : (slots : List Slot) (near far bytes : ℕ) → length slots ≤ near → near ≤ far → Fits slots far bytes → Fits slots near bytes
-fits_nearer slots near far bytes behind before fits =
+fits_nearer : (v : Version) (slots : List Slot) (near far bytes : ℕ) → length slots ≤ near → near ≤ far → Fits v slots far bytes → Fits v slots near bytes
+fits_nearer v slots near far bytes behind before fits =
     let none = past slots far (omega (arith, behind, before)) in
     let here = past slots near behind in
     record { there = omega (arith, fits.there, before); most = fits.most; room = omega (arith, fits.room, behind, before) }
@@ -103,8 +105,8 @@ past (s ∷ slots) zero behind = absurd (omega arith)
 past (s ∷ slots) (suc slot) behind = past slots slot (omega arith)
 
 -- a page with no candidate refuses the length
-pub no_candidate : (slots : List Slot) (bytes : ℕ) → ((slot : ℕ) → 0 ≤ slot → IsCandidate slots slot bytes → ⊥) → TakesNone slots bytes
-no_candidate slots bytes none slot empty fits = elim (cases_lt (length slots) slot) [
-  | inl far ↦ none (length slots) (omega arith) (record { there = omega arith; empty = past slots (length slots) (omega arith); fits = fits_nearer slots (length slots) slot bytes (omega arith) (omega (arith, far)) fits })
+pub no_candidate : (v : Version) (slots : List Slot) (bytes : ℕ) → ((slot : ℕ) → 0 ≤ slot → IsCandidate v slots slot bytes → ⊥) → TakesNone v slots bytes
+no_candidate v slots bytes none slot empty fits = elim (cases_lt (length slots) slot) [
+  | inl far ↦ none (length slots) (omega arith) (record { there = omega arith; empty = past slots (length slots) (omega arith); fits = fits_nearer v slots (length slots) slot bytes (omega arith) (omega (arith, far)) fits })
   | inr there ↦ none slot (omega arith) (record { there = there; empty = empty; fits = fits })
 ]

@@ -6,6 +6,7 @@ use Rattle.shore_disk.specs.declared.device.Disk.{Ghosts}
 use Rattle.shore_types.specs.declared.ids.PageId.{PageId}
 use Rattle.shore_types.specs.declared.layout.Geometry.{Geometry}
 use Rattle.shore_types.specs.Layout.{HasPage}
+use Rattle.shore_types.specs.declared.versions.Version.{Version}
 use Rattle.shore_dwrite.specs.Volumes.{page_number}
 use Rattle.shore_page.specs.Slots.{Slot}
 use Rattle.shore_pool.specs.declared.frame.Frame.{Frame}
@@ -37,8 +38,8 @@ module _ {D : Type 0} {G : Ghosts D} where
   pub shows_same : (heap : Heap D G) (K : ClaimsOfPages) (front : List ℕ) (disk : ℕ → List ℕ) (S T : PageId → List Slot) → ((id : PageId) → HasPage (geometry_of heap) id → T id ≡ S id) → Shows K heap front disk S → Shows K heap front disk T
   shows_same heap K front disk S T same shows = record {
     holds = shows.holds;
-    pages = λ id has. subst (HasSlots (frame_of heap id) (disk (page_number (geometry_of heap) id)) id (K id)) (sym (same id has)) (shows.pages id has);
-    bounds = λ id bytes has up_to. subst (λ (slots : List Slot). TakesNone slots bytes) (sym (same id has)) (shows.bounds id bytes has up_to);
+    pages = λ id has. subst (HasSlots (geometry_of heap).version (frame_of heap id) (disk (page_number (geometry_of heap) id)) id (K id)) (sym (same id has)) (shows.pages id has);
+    bounds = λ id bytes has up_to. subst (λ (slots : List Slot). TakesNone (geometry_of heap).version slots bytes) (sym (same id has)) (shows.bounds id bytes has up_to);
   }
 
   -- other claims are told of pages in frames
@@ -50,8 +51,8 @@ module _ {D : Type 0} {G : Ghosts D} where
     bounds = shows.bounds;
   }
     where
-      each : (id : PageId) (o : Option Frame) → (o ≡ None → L id ≡ K id) → HasSlots o (disk (page_number (geometry_of heap) id)) id (K id) (S id) → HasSlots o (disk (page_number (geometry_of heap) id)) id (L id) (S id)
-      each id None is has = subst (λ (kept : List (ℕ × ℕ)). HasSlots None (disk (page_number (geometry_of heap) id)) id kept (S id)) (sym (is refl)) has
+      each : (id : PageId) (o : Option Frame) → (o ≡ None → L id ≡ K id) → HasSlots (geometry_of heap).version o (disk (page_number (geometry_of heap) id)) id (K id) (S id) → HasSlots (geometry_of heap).version o (disk (page_number (geometry_of heap) id)) id (L id) (S id)
+      each id None is has = subst (λ (kept : List (ℕ × ℕ)). HasSlots (geometry_of heap).version None (disk (page_number (geometry_of heap) id)) id kept (S id)) (sym (is refl)) has
       each id (Some f) is has = has
 
 -- a page whose claims fall stays dirty, or clean

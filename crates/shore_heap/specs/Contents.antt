@@ -4,6 +4,7 @@ use Rattle.shore_types.specs.declared.ids.PageId.{PageId}
 use Rattle.shore_types.specs.declared.layout.Geometry.{Geometry}
 use Rattle.shore_types.specs.Images.{Image}
 use Rattle.shore_types.specs.Layout.{HasPage}
+use Rattle.shore_types.specs.declared.versions.Version.{Version}
 pub use Rattle.shore_page.specs.Claims.{FitIn, ClaimsOfPages, claimed_by, unclaimed}
 use Rattle.shore_page.specs.Room.{Fits, raised}
 use Rattle.shore_page.specs.Slots.{Slot, image_at_slot, settled, with_change}
@@ -20,23 +21,23 @@ abbrev pub with_page_slots : List Slot → Frame → Frame
 with_page_slots slots f = record f { page = record f.page { slots = slots } }
 
 -- a slot is there, and can keep so many bytes
-abbrev pub CanKeep : List Slot → ℕ → ℕ → Type 0
-CanKeep slots slot bytes = (slot < length slots) × Fits slots slot bytes
+abbrev pub CanKeep : Version → List Slot → ℕ → ℕ → Type 0
+CanKeep v slots slot bytes = (slot < length slots) × Fits v slots slot bytes
 
 -- The slots keep what they can of these pairs, of which the last is reserved first: one for which there is no room when its turn comes is passed over.
-abbrev pub KeepWhatFits : List (ℕ × ℕ) → List Slot → List Slot → Type 0
-KeepWhatFits [] slots new = new ≡ slots
-KeepWhatFits (c ∷ rest) slots new = (so_far : List Slot) × KeepWhatFits rest slots so_far
-    × ((CanKeep so_far c.0 c.1 × (new ≡ with_change (raised c.1) so_far c.0)) ⊎ ((CanKeep so_far c.0 c.1 → ⊥) × (new ≡ so_far)))
+abbrev pub KeepWhatFits : Version → List (ℕ × ℕ) → List Slot → List Slot → Type 0
+KeepWhatFits v [] slots new = new ≡ slots
+KeepWhatFits v (c ∷ rest) slots new = (so_far : List Slot) × KeepWhatFits v rest slots so_far
+    × ((CanKeep v so_far c.0 c.1 × (new ≡ with_change (raised c.1) so_far c.0)) ⊎ ((CanKeep v so_far c.0 c.1 → ⊥) × (new ≡ so_far)))
 
 -- A page in a frame has the slots of its frame. One that the volume alone has claims what its records take, and what may come back to it.
-abbrev pub HasSlots : Option Frame → List ℕ → PageId → List (ℕ × ℕ) → List Slot → Type 0
-HasSlots (Some f) text id kept slots = f.page.slots ≡ slots
-HasSlots None text id kept slots = (number : ℕ) × (images : List Image) × IsPageText text id number images × (slots ≡ claimed_by kept (map settled images)) × FitIn kept (map settled images)
+abbrev pub HasSlots : Version → Option Frame → List ℕ → PageId → List (ℕ × ℕ) → List Slot → Type 0
+HasSlots v (Some f) text id kept slots = f.page.slots ≡ slots
+HasSlots v None text id kept slots = (number : ℕ) × (images : List Image) × IsPageText v text id number images × (slots ≡ claimed_by kept (map settled images)) × FitIn v kept (map settled images)
 
 -- Each page claims what its records take, and what may come back to it, and no more: so it may leave its frame.
 abbrev pub AreKept : Geometry → ClaimsOfPages → (PageId → List Slot) → Type 0
-AreKept g K S = (id : PageId) → HasPage g id → (S id ≡ claimed_by (K id) (map settled (images_of (S id)))) × FitIn (K id) (map settled (images_of (S id)))
+AreKept g K S = (id : PageId) → HasPage g id → (S id ≡ claimed_by (K id) (map settled (images_of (S id)))) × FitIn g.version (K id) (map settled (images_of (S id)))
 
 abbrev pub same_page : PageId → PageId → Bool
 same_page p q = (p.store == q.store) && (p.page == q.page)
@@ -50,9 +51,9 @@ abbrev pub bound_of : List (List ℕ) → PageId → ℕ
 bound_of free id = bound_at (slice_index_or free id.store []) id.page
 
 -- no empty slot of a page takes a record of so many bytes
-abbrev pub TakesNone : List Slot → ℕ → Type 0
-TakesNone slots bytes = (slot : ℕ) → image_at_slot slots slot ≡ None → Fits slots slot bytes → ⊥
+abbrev pub TakesNone : Version → List Slot → ℕ → Type 0
+TakesNone v slots bytes = (slot : ℕ) → image_at_slot slots slot ≡ None → Fits v slots slot bytes → ⊥
 
 -- what the bounds refuse finds no room
 abbrev pub AreBounds : Geometry → List (List ℕ) → (PageId → List Slot) → Type 0
-AreBounds g free S = (id : PageId) (bytes : ℕ) → HasPage g id → bound_of free id ≤ bytes → TakesNone (S id) bytes
+AreBounds g free S = (id : PageId) (bytes : ℕ) → HasPage g id → bound_of free id ≤ bytes → TakesNone g.version (S id) bytes

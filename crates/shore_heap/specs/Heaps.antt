@@ -80,7 +80,7 @@ allowed_by G places = G.MayTake places
 -- back to it.
 pub record Shows {D : Type 0} {G : Ghosts D} (K : ClaimsOfPages) (heap : Heap D G) (front : List ℕ) (disk : ℕ → List ℕ) (S : PageId → List Slot) : Type 0 where
   pub holds : PoolHolds heap.pool front disk
-  pub pages : (id : PageId) → HasPage (geometry_of heap) id → HasSlots (frame_of heap id) (disk (page_number (geometry_of heap) id)) id (K id) (S id)
+  pub pages : (id : PageId) → HasPage (geometry_of heap) id → HasSlots (geometry_of heap).version (frame_of heap id) (disk (page_number (geometry_of heap) id)) id (K id) (S id)
   pub bounds : AreBounds (geometry_of heap) heap.free.items S
 
 -- ---- what a call leaves
@@ -92,12 +92,12 @@ KeepsVolume old new = (front : List ℕ) (disk : ℕ → List ℕ) → PoolHolds
 -- Each page of the volume is as it was, or as it was in place, with a number up to this one.
 abbrev pub MayBeLeft : {D : Type 0} {G : Ghosts D} → Heap D G → ℕ → (ℕ → List ℕ) → (ℕ → List ℕ) → Type 0
 MayBeLeft heap durable disk left = (id : PageId) → HasPage (geometry_of heap) id → (left (page_number (geometry_of heap) id) ≡ disk (page_number (geometry_of heap) id))
-    ⊎ ((number : ℕ) × (images : List Image) × HasInPlace heap.pool disk id number images × (number ≤ durable) × IsPageText (left (page_number (geometry_of heap) id)) id number images)
+    ⊎ ((number : ℕ) × (images : List Image) × HasInPlace heap.pool disk id number images × (number ≤ durable) × IsPageText (geometry_of heap).version (left (page_number (geometry_of heap) id)) id number images)
 
 -- Pages may have been written back, one after another, and all are in place as they were. A page that is still dirty was not written.
 pub record StayInPlace {D : Type 0} {G : Ghosts D} (old new : Heap D G) (durable : ℕ) (disk left : ℕ → List ℕ) : Type 0 where
   pub may : MayBeLeft old durable disk left
-  pub same : SamePages (frame_at old) disk (frame_at new) left
+  pub same : SamePages (geometry_of old).version (frame_at old) disk (frame_at new) left
   pub unwritten : StayUnwritten (frame_at old) disk (frame_at new) left
 
 -- .. over a volume that is settled with the texts that this leaves
@@ -120,13 +120,13 @@ AsksForForce heap durable it = (number : ℕ) × (it ≡ fault.NeedForce number)
 -- force is needed
 abbrev pub RefusesPage : {D : Type 0} {G : Ghosts D} → Heap D G → (ℕ → List ℕ) → PageId → LogEnds → Fault → Type 0
 RefusesPage heap disk id ends it = (it ≡ fault.Device) ⊎ (it ≡ fault.Memory)
-    ⊎ ((it ≡ fault.Damaged device.Volume (page_offset (page_number (geometry_of heap) id))) × HasNoPage (disk (page_number (geometry_of heap) id)) id ends.last) ⊎ AsksForForce heap ends.durable it
+    ⊎ ((it ≡ fault.Damaged device.Volume (page_offset (geometry_of heap).version (page_number (geometry_of heap) id))) × HasNoPage (geometry_of heap).version (disk (page_number (geometry_of heap) id)) id ends.last) ⊎ AsksForForce heap ends.durable it
 
 -- A frame of a page that was read: clean, with a number up to this one, and each slot keeps what its record takes, and of what is told what finds room.
 pub record IsFreshFrame (kept : List (ℕ × ℕ)) (last : ℕ) (f : Frame) : Type 0 where
   pub clean : f.recovery ≡ None
   pub number : f.page.number ≤ last
-  pub slots : KeepWhatFits kept (map settled (images_of f.page.slots)) f.page.slots
+  pub slots : KeepWhatFits f.page.version kept (map settled (images_of f.page.slots)) f.page.slots
 
 -- Each frame was there, though it may have become clean, or the page of this id was read into it.
 abbrev pub FramesWere : {D : Type 0} {G : Ghosts D} → ClaimsOfPages → Heap D G → Heap D G → PageId → ℕ → Type 0

@@ -10,10 +10,11 @@ ghost use Rattle.shore_types.specs.Layout.{HasPage};
 ghost use Rattle.shore_types.specs.declared.faults.Fault.TheVariants as Fault;
 ghost use Rattle.shore_types.specs.declared.ids.PageId.{PageId};
 ghost use Rattle.shore_heap.specs.Contents.{CanKeep, ClaimsOfPages, FitIn, KeepWhatFits, claimed_frame, with_page_slots, with_slots};
+ghost use Rattle.shore_types.specs.declared.versions.Version.{Version};
 
 use crate::heap::Heap;
 use shore_disk::Disk;
-use shore_page::{ChainPlace, Claims};
+use shore_page::{ChainPlace, Claims, Page};
 use shore_pool::Fetched;
 use shore_types::{Fault, LogEnds, PageId, Rid};
 use std::alloc::Global;
@@ -58,13 +59,13 @@ impl<D: Disk> Heap<D> {
     /// there, or if it has no room; then nothing has changed.
     pub fn keep_claim(&mut self, id: &Rid, bytes: usize) -> bool
         requires there { HasPage (geometry_of self.old) id.now.page }
-        ensures kept { IsTrue result ↔ IsSomeAnd (frame_of self.old id.now.page) (λ f. CanKeep f.page.slots id.now.slot bytes) }
+        ensures kept { IsTrue result ↔ IsSomeAnd (frame_of self.old id.now.page) (λ f. CanKeep (geometry_of self.old).version f.page.slots id.now.slot bytes) }
         ensures shows { IsTrue result → (K : ClaimsOfPages) (front : List ℕ) (disk : ℕ → List ℕ) (S : PageId → List Slot) → Shows K self.old front disk S
             → Shows K self.new front disk (with_slots S id.now.page (λ slots. with_change (raised bytes) slots id.now.slot)) }
         ensures here { IsTrue result → frame_of self.new id.now.page ≡ option_map (reclaimed (raised bytes) id.now.slot) (frame_of self.old id.now.page) }
         ensures others { (k : ℕ) → k ≢ page_number (geometry_of self.old) id.now.page → frame_at self.new k ≡ frame_at self.old k }
         ensures unchanged { IsFalse result → self.new ≡ self.old }
-        ensures same { (disk : ℕ → List ℕ) → SamePages (frame_at self.old) disk (frame_at self.new) disk }
+        ensures same { (disk : ℕ → List ℕ) → SamePages (geometry_of self.old).version (frame_at self.old) disk (frame_at self.new) disk }
         ensures dirt { SameDirt self.old self.new }
         ensures untouched { KeepsVolume self.old self.new }
         ensures bounds { bounds_of self.new ≡ bounds_of self.old }
@@ -82,13 +83,13 @@ impl<D: Disk> Heap<D> {
     fn keep_claims<C: Claims>(&mut self, id: &PageId, claims: &C)
         requires there { HasPage (geometry_of self.old) id.now }
         ensures fitting { (f : Frame) → frame_of self.old id.now ≡ Some f
-            → (slots : List Slot) × KeepWhatFits (claims_in C.Claims claims.now id.now) f.page.slots slots × (frame_of self.new id.now ≡ Some (with_page_slots slots f)) }
-        ensures here { (f : Frame) → frame_of self.old id.now ≡ Some f → FitIn (claims_in C.Claims claims.now id.now) f.page.slots
+            → (slots : List Slot) × KeepWhatFits (geometry_of self.old).version (claims_in C.Claims claims.now id.now) f.page.slots slots × (frame_of self.new id.now ≡ Some (with_page_slots slots f)) }
+        ensures here { (f : Frame) → frame_of self.old id.now ≡ Some f → FitIn (geometry_of self.old).version (claims_in C.Claims claims.now id.now) f.page.slots
             → frame_of self.new id.now ≡ Some (claimed_frame (claims_in C.Claims claims.now id.now) f) }
         ensures dirt { SameDirt self.old self.new }
         ensures others { (k : ℕ) → k ≢ page_number (geometry_of self.old) id.now → frame_at self.new k ≡ frame_at self.old k }
         ensures kept { (front : List ℕ) (disk : ℕ → List ℕ) → PoolHolds (pool_of self.old) front disk
-            → PoolHolds (pool_of self.new) front disk × SamePages (frame_at self.old) disk (frame_at self.new) disk }
+            → PoolHolds (pool_of self.new) front disk × SamePages (geometry_of self.old).version (frame_at self.old) disk (frame_at self.new) disk }
         ensures bounds { bounds_of self.new ≡ bounds_of self.old }
         ensures limit { limit_of self.new ≡ limit_of self.old }
         ensures device { device_of self.new ≡ device_of self.old }
@@ -106,14 +107,14 @@ impl<D: Disk> Heap<D> {
     // A slot keeps so many bytes, if it is there and has room.
     fn keep(&mut self, id: &PageId, slot: u16, bytes: usize)
         requires there { HasPage (geometry_of self.old) id.now }
-        ensures here { (f : Frame) → frame_of self.old id.now ≡ Some f → slot < length f.page.slots → Fits f.page.slots slot bytes
+        ensures here { (f : Frame) → frame_of self.old id.now ≡ Some f → slot < length f.page.slots → Fits (geometry_of self.old).version f.page.slots slot bytes
             → frame_of self.new id.now ≡ Some (reclaimed (raised bytes) slot f) }
-        ensures either { (f : Frame) → frame_of self.old id.now ≡ Some f → (CanKeep f.page.slots slot bytes × (frame_of self.new id.now ≡ Some (reclaimed (raised bytes) slot f)))
-            ⊎ ((CanKeep f.page.slots slot bytes → ⊥) × (frame_of self.new id.now ≡ Some f)) }
+        ensures either { (f : Frame) → frame_of self.old id.now ≡ Some f → (CanKeep (geometry_of self.old).version f.page.slots slot bytes × (frame_of self.new id.now ≡ Some (reclaimed (raised bytes) slot f)))
+            ⊎ ((CanKeep (geometry_of self.old).version f.page.slots slot bytes → ⊥) × (frame_of self.new id.now ≡ Some f)) }
         ensures dirt { SameDirt self.old self.new }
         ensures others { (k : ℕ) → k ≢ page_number (geometry_of self.old) id.now → frame_at self.new k ≡ frame_at self.old k }
         ensures kept { (front : List ℕ) (disk : ℕ → List ℕ) → PoolHolds (pool_of self.old) front disk
-            → PoolHolds (pool_of self.new) front disk × SamePages (frame_at self.old) disk (frame_at self.new) disk }
+            → PoolHolds (pool_of self.new) front disk × SamePages (geometry_of self.old).version (frame_at self.old) disk (frame_at self.new) disk }
         ensures bounds { bounds_of self.new ≡ bounds_of self.old }
         ensures limit { limit_of self.new ≡ limit_of self.old }
         ensures device { device_of self.new ≡ device_of self.old }
@@ -126,11 +127,18 @@ impl<D: Disk> Heap<D> {
     // Whether a page is in a frame, with such a slot and room for so many bytes there.
     fn has_room(&self, id: &PageId, slot: u16, bytes: usize) -> bool
         requires { HasPage (geometry_of self.now) id.now }
-        ensures { IsTrue result ↔ IsSomeAnd (frame_of self.now id.now) (λ f. (slot < length f.page.slots) × Fits f.page.slots slot bytes) }
+        ensures { IsTrue result ↔ IsSomeAnd (frame_of self.now id.now) (λ f. CanKeep (geometry_of self.now).version f.page.slots slot bytes) }
     {
         match self.pool.page(*id) {
-            Some(page) => slot < page.slot_count() && page.fits(slot, bytes),
+            Some(page) => can_keep(page, slot, bytes),
             None => false,
         }
     }
+}
+
+// Whether a slot of a page is there, and has room for so many bytes.
+fn can_keep(page: &Page, slot: u16, bytes: usize) -> bool
+    ensures { IsTrue result ↔ CanKeep page.now.version page.now.slots slot bytes }
+{
+    slot < page.slot_count() && page.fits(slot, bytes)
 }

@@ -14,6 +14,7 @@ ghost use Rattle.shore_types.specs.Layout.{HasPage};
 ghost use Rattle.shore_types.specs.declared.ids.PageId.{PageId};
 ghost use Rattle.shore_types.specs.declared.layout.TheConstants.{MAX_POOL_FRAMES, MAX_RECORD_BYTES, MIN_POOL_FRAMES};
 ghost use Rattle.shore_heap.specs.Contents.{FitIn, ClaimsOfPages, bound_of, claimed_by, unclaimed, with_slots};
+ghost use Rattle.shore_types.specs.declared.versions.Version.{Version};
 
 use crate::free_map::FreeMap;
 use crate::maps::unknown_maps;
@@ -48,7 +49,7 @@ impl<D: Disk> Heap<D> {
         ensures none { IfOk result (λ heap. (k : ℕ) → frame_at heap k ≡ None) }
         ensures shows { (front : List ℕ) (disk : ℕ → List ℕ) (number : PageId → ℕ) (images : PageId → List Image) → settled_device.IsSettled device front disk
             → ((id : PageId) → HasPage (settled_device.geometry_of device) id
-            → IsPageText (disk (page_number (settled_device.geometry_of device) id)) id (number id) (images id))
+            → IsPageText (settled_device.geometry_of device).version (disk (page_number (settled_device.geometry_of device) id)) id (number id) (images id))
             → IfOk result (λ heap. Shows unclaimed heap front disk (λ id. map settled (images id))) }
         ensures limit { IfOk result (λ heap. limit_of heap ≡ frames) }
         ensures rests { IfOk result (λ heap. amid_of heap ≡ Amid.Rest) }
@@ -76,6 +77,7 @@ impl<D: Disk> Heap<D> {
     }
 
     /// The record of an id whose page is in a frame.
+    #[tactic(auto, using(shore_types::specs::Versions::sizes))]
     pub fn record(&self, id: Rid) -> Option<&[u8]>
         requires there { HasPage (geometry_of self.now) id.page }
         requires held { IsTrue (is_some (frame_of self.now id.page)) }
@@ -106,8 +108,8 @@ impl<D: Disk> Heap<D> {
     pub fn fits(&self, id: Rid, bytes: usize) -> bool
         requires there { HasPage (geometry_of self.now) id.page }
         requires held { IsTrue (is_some (frame_of self.now id.page)) }
-        ensures shown { (K : ClaimsOfPages) (front : List ℕ) (disk : ℕ → List ℕ) (S : PageId → List Slot) → Shows K self.now front disk S → IsTrue result ↔ Fits (S id.page) id.slot bytes }
-        ensures framed { IsTrue result ↔ IsSomeAnd (frame_of self.now id.page) (λ f. Fits f.page.slots id.slot bytes) }
+        ensures shown { (K : ClaimsOfPages) (front : List ℕ) (disk : ℕ → List ℕ) (S : PageId → List Slot) → Shows K self.now front disk S → IsTrue result ↔ Fits (geometry_of self.now).version (S id.page) id.slot bytes }
+        ensures framed { IsTrue result ↔ IsSomeAnd (frame_of self.now id.page) (λ f. Fits (geometry_of self.now).version f.page.slots id.slot bytes) }
     {
         match self.pool.page(id.page) {
             Some(page) => page.fits(id.slot, bytes),
@@ -130,7 +132,7 @@ impl<D: Disk> Heap<D> {
     /// Makes a change that was logged under this number, on a page in a frame. What was kept for the slot stays so.
     pub fn change(&mut self, id: Rid, lsn: Lsn, after: Option<&[u8]>)
         requires there { HasPage (geometry_of self.old) id.page }
-        requires fits { IsSomeAnd (frame_of self.old id.page) (λ f. Fits f.page.slots id.slot (image_len (option_map (λ bytes. bytes.now) after))) }
+        requires fits { IsSomeAnd (frame_of self.old id.page) (λ f. Fits (geometry_of self.old).version f.page.slots id.slot (image_len (option_map (λ bytes. bytes.now) after))) }
         ensures shows { (K : ClaimsOfPages) (front : List ℕ) (disk : ℕ → List ℕ) (S : PageId → List Slot) → Shows K self.old front disk S
             → Shows K self.new front disk (with_slots S id.page (λ slots. with_image slots id.slot (option_map (λ bytes. bytes.now) after.entry))) }
         ensures frames { (frame_at self.new (page_number (geometry_of self.old) id.page) ≡ option_map (changed lsn id.slot (option_map (λ bytes. bytes.now) after.entry)) (frame_of self.old id.page))
@@ -152,9 +154,9 @@ impl<D: Disk> Heap<D> {
         ensures shows { (K : ClaimsOfPages) (front : List ℕ) (disk : ℕ → List ℕ) (S : PageId → List Slot) → Shows K self.old front disk S
             → (frame_of self.old id.page ≡ None → K id.page ≡ []) → Shows K self.new front disk (with_slots S id.page (λ slots. with_change (lowered 0) slots id.slot)) }
         ensures told { (K L : ClaimsOfPages) (front : List ℕ) (disk : ℕ → List ℕ) (S : PageId → List Slot) → Shows K self.old front disk S
-            → frame_of self.old id.page ≡ None → ((p : PageId) → p ≢ id.page → L p ≡ K p) → FitIn (L id.page) (map settled (images_of (S id.page)))
+            → frame_of self.old id.page ≡ None → ((p : PageId) → p ≢ id.page → L p ≡ K p) → FitIn (geometry_of self.old).version (L id.page) (map settled (images_of (S id.page)))
             → Shows L self.new front disk (with_slots S id.page (λ slots. claimed_by (L id.page) (map settled (images_of slots)))) }
-        ensures same { (disk : ℕ → List ℕ) → SamePages (frame_at self.old) disk (frame_at self.new) disk }
+        ensures same { (disk : ℕ → List ℕ) → SamePages (geometry_of self.old).version (frame_at self.old) disk (frame_at self.new) disk }
         ensures dirt { SameDirt self.old self.new }
         ensures untouched { KeepsVolume self.old self.new }
         ensures held { (k : ℕ) → is_some (frame_at self.new k) ≡ is_some (frame_at self.old k) }
@@ -179,7 +181,7 @@ impl<D: Disk> Heap<D> {
             → Shows K self.new front disk (with_slots S id.page (λ slots. with_change (lowered bytes) slots id.slot)) }
         ensures frames { (frame_at self.new (page_number (geometry_of self.old) id.page) ≡ option_map (reclaimed (lowered bytes) id.slot) (frame_of self.old id.page))
             × ((k : ℕ) → k ≢ page_number (geometry_of self.old) id.page → frame_at self.new k ≡ frame_at self.old k) }
-        ensures same { (disk : ℕ → List ℕ) → SamePages (frame_at self.old) disk (frame_at self.new) disk }
+        ensures same { (disk : ℕ → List ℕ) → SamePages (geometry_of self.old).version (frame_at self.old) disk (frame_at self.new) disk }
         ensures dirt { SameDirt self.old self.new }
         ensures untouched { KeepsVolume self.old self.new }
         ensures held { (k : ℕ) → is_some (frame_at self.new k) ≡ is_some (frame_at self.old k) }

@@ -39,7 +39,7 @@ impl<D: Disk> Heap<D> {
         ensures there { IfOk result (λ found. IfSome found (HasSlot (geometry_of self.old))) }
         ensures of_store { IfOk result (λ found. IfSome found (λ id. id.page.store ≡ store)) }
         ensures held { IfOk result (λ found. IfSome found (λ id. IsTrue (is_some (frame_of self.new id.page)))) }
-        ensures framed { IfOk result (λ found. IfSome found (λ id. IsSomeAnd (frame_of self.new id.page) (λ f. IsCandidate f.page.slots id.slot bytes))) }
+        ensures framed { IfOk result (λ found. IfSome found (λ id. IsSomeAnd (frame_of self.new id.page) (λ f. IsCandidate (geometry_of self.old).version f.page.slots id.slot bytes))) }
         ensures allowed { IfOk result (λ found. IfSome found (allowed_by P.Places places.now)) }
         ensures reads { ReadsPages (claims_in C.Claims claims.now) self.old self.new ends.now.durable result }
         ensures refused { (front : List ℕ) (disk : ℕ → List ℕ) → PoolHolds (pool_of self.old) front disk
@@ -96,11 +96,11 @@ impl<D: Disk> Heap<D> {
         requires there { HasPage (geometry_of self.old) id }
         requires usable { P.Places.MayUse places.now id }
         ensures found { (front : List ℕ) (disk : ℕ → List ℕ) (S : PageId → List Slot) → Shows (claims_in C.Claims claims.now) self.old front disk S
-            → AreKept (geometry_of self.old) (claims_in C.Claims claims.now) S → IfOk result (λ found. IfSome found (IsFirstSlot (S id) bytes (slots_of (allowed_by P.Places places.now) id))) }
+            → AreKept (geometry_of self.old) (claims_in C.Claims claims.now) S → IfOk result (λ found. IfSome found (IsFirstSlot (geometry_of self.old).version (S id) bytes (slots_of (allowed_by P.Places places.now) id))) }
         ensures none { (front : List ℕ) (disk : ℕ → List ℕ) (S : PageId → List Slot) → Shows (claims_in C.Claims claims.now) self.old front disk S
-            → AreKept (geometry_of self.old) (claims_in C.Claims claims.now) S → IfOk result (λ found. IfNone found (HasNoSlot (S id) bytes (slots_of (allowed_by P.Places places.now) id))) }
+            → AreKept (geometry_of self.old) (claims_in C.Claims claims.now) S → IfOk result (λ found. IfNone found (HasNoSlot (geometry_of self.old).version (S id) bytes (slots_of (allowed_by P.Places places.now) id))) }
         ensures held { IfOk result (λ found. IsTrue (is_some (frame_of self.new id))) }
-        ensures framed { IfOk result (λ found. IfSome found (λ slot. IsSomeAnd (frame_of self.new id) (λ f. IsCandidate f.page.slots slot bytes))) }
+        ensures framed { IfOk result (λ found. IfSome found (λ slot. IsSomeAnd (frame_of self.new id) (λ f. IsCandidate (geometry_of self.old).version f.page.slots slot bytes))) }
         ensures allowed { IfOk result (λ found. IfSome found (slots_of (allowed_by P.Places places.now) id)) }
         ensures reads { ReadsPages (claims_in C.Claims claims.now) self.old self.new ends.now.durable result }
         ensures refused { (front : List ℕ) (disk : ℕ → List ℕ) → PoolHolds (pool_of self.old) front disk
@@ -121,8 +121,8 @@ impl<D: Disk> Heap<D> {
         requires there { HasPage (geometry_of self.now) id.now }
         requires held { IsTrue (is_some (frame_of self.now id.now)) }
         requires usable { P.Places.MayUse places.now id.now }
-        ensures { IsSomeAnd (frame_of self.now id.now) (λ f. MatchOption result (HasNoSlot f.page.slots bytes (slots_of (allowed_by P.Places places.now) id.now))
-            (IsFirstSlot f.page.slots bytes (slots_of (allowed_by P.Places places.now) id.now))) }
+        ensures { IsSomeAnd (frame_of self.now id.now) (λ f. MatchOption result (HasNoSlot (geometry_of self.now).version f.page.slots bytes (slots_of (allowed_by P.Places places.now) id.now))
+            (IsFirstSlot (geometry_of self.now).version f.page.slots bytes (slots_of (allowed_by P.Places places.now) id.now))) }
     {
         match self.pool.page(*id) {
             Some(page) => first_allowed(page, id, bytes, places),
@@ -133,7 +133,7 @@ impl<D: Disk> Heap<D> {
     // Whether no slot of a page in a frame takes so many bytes.
     fn takes_none(&self, id: &PageId, bytes: usize) -> bool
         requires { HasPage (geometry_of self.now) id.now }
-        ensures { IsTrue result → IsSomeAnd (frame_of self.now id.now) (λ f. TakesNone f.page.slots bytes) }
+        ensures { IsTrue result → IsSomeAnd (frame_of self.now id.now) (λ f. TakesNone (geometry_of self.now).version f.page.slots bytes) }
     {
         match self.pool.page(*id) {
             Some(page) => page.candidate(0, bytes).is_none(),

@@ -11,7 +11,7 @@ ghost use Rattle.shore_heap.specs.Scans.{HasBefore, IsScan};
 use crate::heap::Heap;
 use shore_disk::Disk;
 use shore_page::{Claims, Page};
-use shore_types::layout::PAGE_ROOM;
+use shore_types::layout::PAGE_HEADER_BYTES;
 use shore_types::{Fault, LogEnds, PageId, Pairs, Rid, StoreId};
 use std::alloc::{AllocError, Global};
 
@@ -44,12 +44,13 @@ impl<D: Disk> Heap<D> {
         ensures { result ≡ [] }
     {
         let pages = self.pages_in(store);
+        let room = self.pool.geometry().version.page_bytes() - PAGE_HEADER_BYTES;
         let mut slots = 0usize;
         let mut bytes = 0usize;
         for page in 0..pages {
             if let Some(page) = self.pool.page(PageId { store, page }) {
                 slots = slots.saturating_add(page.slot_count() as usize);
-                bytes = bytes.saturating_add(PAGE_ROOM - page.free_bytes());
+                bytes = bytes.saturating_add(room.saturating_sub(page.free_bytes()));
             }
         }
         match Pairs::with_capacity(alloc, slots, bytes) {

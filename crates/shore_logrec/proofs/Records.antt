@@ -236,12 +236,12 @@ payload_again CheckpointBegin fits = refl
 payload_again (CheckpointEnd begin next txns dirty) fits = end_again begin next txns dirty fits
 payload_again (Anchor checkpoint tail) fits = anchor_again checkpoint tail fits.0 fits.1
 
-image_most : (image : Image) → ImageFits image → length (image_text image) ≤ 4003
+image_most : (image : Image) → ImageFits image → length (image_text image) ≤ 12003
 image_most None fits = omega arith
 image_most (Some bytes) fits = omega (arith, length-image_text (Some bytes))
 
 -- a payload has at most 45,125 bytes
-pub length-payload_text-le : (p : Payload) → PayloadFits p → length (payload_text p) ≤ 45125
+pub length-payload_text-le : (p : Payload) → PayloadFits p → length (payload_text p) ≤ 45316
 length-payload_text-le (Change id before after) fits =
     omega (arith, length-change_text id before after, image_most before fits.old, image_most after fits.new)
 length-payload_text-le (Compensation id after undo_next) fits = omega (arith, length-compensation_text id after undo_next, image_most after fits.image)

@@ -9,7 +9,7 @@ use shore_model::{LogRecord, Payload};
 use shore_types::images;
 
 /// The longest text, that of a Prepare with a global id and a list of granules that are as long as may be.
-pub const MAX_TEXT_BYTES: usize = 45_146;
+pub const MAX_TEXT_BYTES: usize = 45_337;
 /// The bytes of a head.
 pub(crate) const HEAD_BYTES: usize = 21;
 /// The bytes of a record id.
@@ -29,7 +29,7 @@ pub(crate) const ANCHOR_TEXT_BYTES: usize = 2 * LSN_BYTES;
 pub(crate) fn image_text_len(length: Option<usize>) -> usize
     requires { ForSome length (λ n. n ≤ MAX_RECORD_BYTES) }
     ensures len { result ≡ spec.image_text_len length }
-    ensures most { result ≤ 4003 }
+    ensures most { result ≤ 12003 }
 {
     match length {
         None => 1,
@@ -42,7 +42,7 @@ pub(crate) fn prepare_text_len(global: usize, granules: usize) -> usize
     requires global { global ≤ MAX_GLOBAL_ID_BYTES }
     requires granules { granules ≤ MOST_MAX_LOCKS }
     ensures len { result ≡ 5 + global + 11 * granules }
-    ensures most { result ≤ 45125 }
+    ensures most { result ≤ 45316 }
 {
     1 + global + 4 + GRANULE_BYTES * granules
 }
@@ -52,7 +52,7 @@ pub(crate) fn end_text_len(txns: usize, pages: usize) -> usize
     requires txns { txns ≤ MAX_TRANSACTIONS }
     requires pages { pages ≤ MAX_POOL_FRAMES }
     ensures len { result ≡ 20 + 41 * txns + 16 * pages }
-    ensures most { result ≤ 45125 }
+    ensures most { result ≤ 45316 }
 {
     8 + 8 + 2 + TXN_BYTES * txns + 2 + DIRTY_BYTES * pages
 }
@@ -61,7 +61,7 @@ pub(crate) fn end_text_len(txns: usize, pages: usize) -> usize
 pub(crate) fn payload_len(payload: &Payload) -> usize
     requires { PayloadFits payload.now }
     ensures len { result ≡ length (payload_text payload.now) }
-    ensures most { result ≤ 45125 }
+    ensures most { result ≤ 45316 }
 {
     match payload {
         Payload::Change { before, after, .. } => {

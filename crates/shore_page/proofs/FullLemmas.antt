@@ -5,6 +5,7 @@ use Rattle.std.proofs.lemmas.Bool.{cases_lt}
 use Rattle.std.proofs.lemmas.List.{get_or-append_right, get_or-set_other, get_or-set_same, get_or_append_left, length-append, length-set}
 use Rattle.std.proofs.lemmas.Option.{none-some}
 use Rattle.shore_types.specs.Images.{Image}
+use Rattle.shore_types.specs.declared.versions.Version.{Version}
 use Rattle.shore_page.specs.Layout.{AreFull}
 use Rattle.shore_page.specs.Reading.{images_in, slot_image}
 use Rattle.shore_page.specs.Text.{offset_at}
@@ -74,8 +75,8 @@ full_cleared images full slot h = record {
 }
 
 -- slots that were looked at
-pub full_seen : (bytes : List ℕ) (slots i : ℕ) → i ≤ slots → ((slot : ℕ) → slot < i → offset_at bytes slot ≢ 0) → AreFull (images_in bytes slots) i
-full_seen bytes slots i inside seen = record {
-  there = omega (arith, inside, length-images bytes slots);
-  each = λ slot before none. seen slot before (offset_none bytes slot (sym (get-images bytes slots slot (omega (arith, before, inside))) ∙ none));
+pub full_seen : (v : Version) (bytes : List ℕ) (slots i : ℕ) → i ≤ slots → ((slot : ℕ) → slot < i → offset_at v bytes slot ≢ 0) → AreFull (images_in v bytes slots) i
+full_seen v bytes slots i inside seen = record {
+  there = omega (arith, inside, length-images v bytes slots);
+  each = λ slot before none. seen slot before (offset_none v bytes slot (sym (get-images v bytes slots slot (omega (arith, before, inside))) ∙ none));
 }

@@ -10,6 +10,8 @@ use Rattle.std.specs.Option.{option_and_then}
 use Rattle.std.specs.List.{slice_get, All}
 use Rattle.shore_types.specs.declared.ids.PageId.{PageId}
 use Rattle.shore_types.specs.Images.{Image, image_len}
+use Rattle.shore_types.specs.declared.versions.Version.{Version}
+use Rattle.shore_types.specs.Versions.{page_room, record_limit, slot_limit, sizes}
 use Rattle.shore_page.specs.Slots.{Slot, PageState, image_at_slot, with_change, with_slot, with_image, holding, settled}
 use Rattle.shore_page.specs.Room.{claims, claim_at, free_bytes, need, Fits, HasRoom, HoldsItsImage, KeepsClaims, ChangesOne, raised, lowered}
 use Rattle.std.proofs.lemmas.Option.{slice_get-get_or}
@@ -72,18 +74,18 @@ slots_settled [] = refl
 slots_settled (x ∷ images) = ap (λ (l : List Slot). settled x ∷ l) (slots_settled images)
 
 -- records have no more bytes than the claims of their slots
-records_claims : (images : List Image) (cs : List ℕ) → length cs ≡ length images → All HoldsItsImage (slots_of images cs) → record_bytes images ≤ claims (slots_of images cs)
-records_claims [] cs same each = omega arith
-records_claims (x ∷ images) [] same each = absurd (omega arith)
-records_claims (x ∷ images) (c ∷ cs) same each =
+records_claims : (v : Version) (images : List Image) (cs : List ℕ) → length cs ≡ length images → All (HoldsItsImage v) (slots_of images cs) → record_bytes images ≤ claims (slots_of images cs)
+records_claims v [] cs same each = omega arith
+records_claims v (x ∷ images) [] same each = absurd (omega arith)
+records_claims v (x ∷ images) (c ∷ cs) same each =
     let s : Slot = record { image = x; claim = c } in
-    let here = All-head HoldsItsImage s (slots_of images cs) each in
-    let later = records_claims images cs (omega arith) (All-tail HoldsItsImage s (slots_of images cs) each) in
+    let here = All-head (HoldsItsImage v) s (slots_of images cs) each in
+    let later = records_claims v images cs (omega arith) (All-tail (HoldsItsImage v) s (slots_of images cs) each) in
     omega (arith, here.0, later, sum_by-cons image_len x images, sum_by-cons (λ (s : Slot). s.claim) s (slots_of images cs))
 
-pub records_room : (images : List Image) (cs : List ℕ) (capacity claimed : ℕ) → HasClaims images cs capacity claimed → 4 * length images + record_bytes images + free_bytes (slots_of images cs) ≤ 8168
-records_room images cs capacity claimed has =
-    omega (arith, records_claims images cs has.same has.kept.room.each, has.kept.room.room, length-slots images cs has.same)
+pub records_room : (v : Version) (images : List Image) (cs : List ℕ) (capacity claimed : ℕ) → HasClaims v images cs capacity claimed → 4 * length images + record_bytes images + free_bytes v (slots_of images cs) ≤ page_room v
+records_room v images cs capacity claimed has =
+    omega (arith, records_claims v images cs has.same has.kept.room.each, has.kept.room.room, length-slots images cs has.same)
 
 -- ---- what a page keeps when one slot changes
 
@@ -101,27 +103,27 @@ change_same f g images cs i same inside agree =
     sym (with_change_set f (slots_of images cs) i (slot_at images cs i) (f (slot_at images cs i)) within here refl)
     ∙ with_change_set g (slots_of images cs) i (slot_at images cs i) (f (slot_at images cs i)) within here agree
 
-holds_here : (images : List Image) (cs : List ℕ) (capacity claimed i : ℕ) → HasClaims images cs capacity claimed → i < length images → HoldsItsImage (slot_at images cs i)
-holds_here images cs capacity claimed i has inside =
-    subst HoldsItsImage (sym (slot_here images cs i has.same inside)) (All-get_or HoldsItsImage (slots_of images cs) i (slot_at images cs i) (omega (arith, length-slots images cs has.same)) has.kept.room.each)
+holds_here : (v : Version) (images : List Image) (cs : List ℕ) (capacity claimed i : ℕ) → HasClaims v images cs capacity claimed → i < length images → HoldsItsImage v (slot_at images cs i)
+holds_here v images cs capacity claimed i has inside =
+    subst (HoldsItsImage v) (sym (slot_here images cs i has.same inside)) (All-get_or (HoldsItsImage v) (slots_of images cs) i (slot_at images cs i) (omega (arith, length-slots images cs has.same)) has.kept.room.each)
 
 -- another claim
-pub claim_raised : (images : List Image) (cs : List ℕ) (capacity claimed i bytes : ℕ) → HasClaims images cs capacity claimed → i < length images → Fits (slots_of images cs) i bytes
-    → HasClaims images (set cs i (max (get_or cs i 0) bytes)) capacity (claimed + (max (get_or cs i 0) bytes - get_or cs i 0))
-claim_raised images cs capacity claimed i bytes has inside fits =
+pub claim_raised : (v : Version) (images : List Image) (cs : List ℕ) (capacity claimed i bytes : ℕ) → HasClaims v images cs capacity claimed → i < length images → Fits v (slots_of images cs) i bytes
+    → HasClaims v images (set cs i (max (get_or cs i 0) bytes)) capacity (claimed + (max (get_or cs i 0) bytes - get_or cs i 0))
+claim_raised v images cs capacity claimed i bytes has inside fits =
     let claim = max (get_or cs i 0) bytes in
     let slots = slots_of images cs in
     let x = slot_at images cs i in
     let within : i < length slots = omega (arith, length-slots images cs has.same) in
     let here = slot_here images cs i has.same inside in
-    let holds = holds_here images cs capacity claimed i has inside in
-    let room : bytes - get_or cs i 0 ≤ free_bytes slots = omega (arith, need_inside slots i bytes x within here, fits.room) in
+    let holds = holds_here v images cs capacity claimed i has inside in
+    let room : bytes - get_or cs i 0 ≤ free_bytes v slots = omega (arith, need_inside slots i bytes x within here, fits.room) in
     let set_is : set slots i (reclaimed claim x) ≡ slots_of images (set cs i claim) =
     with_change_set (reclaimed claim) slots i x (reclaimed claim x) within here refl ∙ sym (slots_set_claim images cs i claim) in
     record {
       same = length-set cs i claim ∙ has.same;
-      kept = subst (λ (l : List Slot). KeepsClaims l (claimed + (claim - get_or cs i 0))) set_is
-          (set_kept slots claimed i x (reclaimed claim x) has.kept within here (omega (arith, holds.0), omega (arith, holds.1, fits.most)) (omega arith) (omega arith));
+      kept = subst (λ (l : List Slot). KeepsClaims v l (claimed + (claim - get_or cs i 0))) set_is
+          (set_kept v slots claimed i x (reclaimed claim x) has.kept within here (omega (arith, holds.0), omega (arith, holds.1, fits.most)) (omega arith) (omega arith));
       reserved = has.reserved;
     }
 
@@ -129,21 +131,21 @@ pub slots_raised : (images : List Image) (cs : List ℕ) (i bytes : ℕ) → len
 slots_raised images cs i bytes same inside =
     slots_set_claim images cs i (max (get_or cs i 0) bytes) ∙ change_same (reclaimed (max (get_or cs i 0) bytes)) (raised bytes) images cs i same inside refl
 
-pub claim_lowered : (images : List Image) (cs : List ℕ) (capacity claimed i bytes : ℕ) → HasClaims images cs capacity claimed → i < length images
-    → HasClaims images (set cs i (min (get_or cs i 0) (max bytes (image_len (get_or images i None))))) capacity (claimed - (get_or cs i 0 - min (get_or cs i 0) (max bytes (image_len (get_or images i None)))))
-claim_lowered images cs capacity claimed i bytes has inside =
+pub claim_lowered : (v : Version) (images : List Image) (cs : List ℕ) (capacity claimed i bytes : ℕ) → HasClaims v images cs capacity claimed → i < length images
+    → HasClaims v images (set cs i (min (get_or cs i 0) (max bytes (image_len (get_or images i None))))) capacity (claimed - (get_or cs i 0 - min (get_or cs i 0) (max bytes (image_len (get_or images i None)))))
+claim_lowered v images cs capacity claimed i bytes has inside =
     let claim = min (get_or cs i 0) (max bytes (image_len (get_or images i None))) in
     let slots = slots_of images cs in
     let x = slot_at images cs i in
     let within : i < length slots = omega (arith, length-slots images cs has.same) in
     let here = slot_here images cs i has.same inside in
-    let holds = holds_here images cs capacity claimed i has inside in
+    let holds = holds_here v images cs capacity claimed i has inside in
     let set_is : set slots i (reclaimed claim x) ≡ slots_of images (set cs i claim) =
     with_change_set (reclaimed claim) slots i x (reclaimed claim x) within here refl ∙ sym (slots_set_claim images cs i claim) in
     record {
       same = length-set cs i claim ∙ has.same;
-      kept = subst (λ (l : List Slot). KeepsClaims l (claimed - (get_or cs i 0 - claim))) set_is
-          (set_kept_less slots claimed i x (reclaimed claim x) has.kept within here (omega (arith, holds.0), omega (arith, holds.1)) (omega arith));
+      kept = subst (λ (l : List Slot). KeepsClaims v l (claimed - (get_or cs i 0 - claim))) set_is
+          (set_kept_less v slots claimed i x (reclaimed claim x) has.kept within here (omega (arith, holds.0), omega (arith, holds.1)) (omega arith));
       reserved = has.reserved;
     }
 
@@ -161,20 +163,20 @@ slots_lowered images cs i bytes same inside =
     swapped a b c = omega arith
 
 -- another image, in a slot that claims its bytes
-pub image_kept : (images : List Image) (cs : List ℕ) (capacity claimed i : ℕ) (image : Image) → HasClaims images cs capacity claimed → i < length images → image_len image ≤ get_or cs i 0
-    → HasClaims (set images i image) cs capacity claimed
-image_kept images cs capacity claimed i image has inside short =
+pub image_kept : (v : Version) (images : List Image) (cs : List ℕ) (capacity claimed i : ℕ) (image : Image) → HasClaims v images cs capacity claimed → i < length images → image_len image ≤ get_or cs i 0
+    → HasClaims v (set images i image) cs capacity claimed
+image_kept v images cs capacity claimed i image has inside short =
     let slots = slots_of images cs in
     let x = slot_at images cs i in
     let within : i < length slots = omega (arith, length-slots images cs has.same) in
     let here = slot_here images cs i has.same inside in
-    let holds = holds_here images cs capacity claimed i has inside in
+    let holds = holds_here v images cs capacity claimed i has inside in
     let set_is : set slots i (imaged image x) ≡ slots_of (set images i image) cs =
     with_change_set (imaged image) slots i x (imaged image x) within here refl ∙ sym (slots_set_image images cs i image) in
-    let kept = set_kept slots claimed i x (imaged image x) has.kept within here (short, holds.1) (omega arith) (omega arith) in
+    let kept = set_kept v slots claimed i x (imaged image x) has.kept within here (short, holds.1) (omega arith) (omega arith) in
     record {
       same = has.same ∙ sym (length-set images i image);
-      kept = subst (λ (n : ℕ). KeepsClaims (slots_of (set images i image) cs) n) (none claimed (get_or cs i 0)) (subst (λ (l : List Slot). KeepsClaims l (claimed + (get_or cs i 0 - get_or cs i 0))) set_is kept);
+      kept = subst (λ (n : ℕ). KeepsClaims v (slots_of (set images i image) cs) n) (none claimed (get_or cs i 0)) (subst (λ (l : List Slot). KeepsClaims v l (claimed + (get_or cs i 0 - get_or cs i 0))) set_is kept);
       reserved = has.reserved;
     }
   where
@@ -182,18 +184,18 @@ image_kept images cs capacity claimed i image has inside short =
     none a b = omega arith
 
 -- the bytes of a record have room in place of what was in its slot
-pub image_room : (images : List Image) (cs : List ℕ) (capacity claimed i : ℕ) (bytes : List ℕ) → HasClaims images cs capacity claimed → i < length images → length bytes ≤ get_or cs i 0
-    → 4 * length images + record_bytes (set images i None) + length bytes ≤ 8168
-image_room images cs capacity claimed i bytes has inside short =
-    let put = records_room (set images i (Some bytes)) cs capacity claimed (image_kept images cs capacity claimed i (Some bytes) has inside short) in
+pub image_room : (v : Version) (images : List Image) (cs : List ℕ) (capacity claimed i : ℕ) (bytes : List ℕ) → HasClaims v images cs capacity claimed → i < length images → length bytes ≤ get_or cs i 0
+    → 4 * length images + record_bytes (set images i None) + length bytes ≤ page_room v
+image_room v images cs capacity claimed i bytes has inside short =
+    let put = records_room v (set images i (Some bytes)) cs capacity claimed (image_kept v images cs capacity claimed i (Some bytes) has inside short) in
     let some = sum_by-set image_len images i (Some bytes) None inside in
     let none = sum_by-set image_len images i None None inside in
     omega (arith, put, some, none, length-set images i (Some bytes))
 
 -- slots up to one
-pub reached : (images : List Image) (cs : List ℕ) (capacity claimed i : ℕ) → HasClaims images cs capacity claimed → length images ≤ i → 4 * (i + 1 - length images) ≤ free_bytes (slots_of images cs)
-    → HasClaims (images ++ replicate (i + 1 - length images) None) (cs ++ replicate (i + 1 - length images) 0) capacity claimed
-reached images cs capacity claimed i has behind fits =
+pub reached : (v : Version) (images : List Image) (cs : List ℕ) (capacity claimed i : ℕ) → HasClaims v images cs capacity claimed → length images ≤ i → 4 * (i + 1 - length images) ≤ free_bytes v (slots_of images cs)
+    → HasClaims v (images ++ replicate (i + 1 - length images) None) (cs ++ replicate (i + 1 - length images) 0) capacity claimed
+reached v images cs capacity claimed i has behind fits =
     let slots = slots_of images cs in
     let n = i + 1 - length images in
     let len = length-slots images cs has.same in
@@ -203,7 +205,7 @@ reached images cs capacity claimed i has behind fits =
       same = omega (arith, has.same, length-append images (replicate n None), length-append cs (replicate n 0), length-replicate {A = ℕ} n 0, length-replicate {A = Image} n None);
       kept = record {
         sum = has.kept.sum ∙ sym (claims-with_slot slots i) ∙ ap claims (is ∙ sym more);
-        room = subst HasRoom (is ∙ sym more) (with_slot_room slots i has.kept.room (omega arith));
+        room = subst (HasRoom v) (is ∙ sym more) (with_slot_room v slots i has.kept.room (omega arith));
       };
       reserved = has.reserved;
     }
@@ -214,7 +216,7 @@ slots_reached images cs i same =
 
 -- a page with other slots
 abbrev pub with_slots : PageState → List Slot → PageState
-with_slots p l = record { id = p.id; number = p.number; slots = l }
+with_slots p l = record { version = p.version; id = p.id; number = p.number; slots = l }
 
 -- pages that are alike but for their slots
 pub same_but_slots : (p q : PageState) (l m : List Slot) → p ≡ q → l ≡ m → with_slots p l ≡ with_slots q m
@@ -222,7 +224,7 @@ same_but_slots p q l m same slots = ap (λ (p : PageState). with_slots p l) same
 
 -- a page of a text and its claims
 abbrev pub page_of : PageImages → List ℕ → PageState
-page_of t cs = record { id = t.id; number = t.number; slots = slots_of t.images cs }
+page_of t cs = record { version = t.version; id = t.id; number = t.number; slots = slots_of t.images cs }
 
 pub claim_at-slots : (images : List Image) (cs : List ℕ) (i : ℕ) → length cs ≡ length images → claim_at (slots_of images cs) i ≡ get_or cs i 0
 claim_at-slots [] [] i same = refl
@@ -273,13 +275,13 @@ raised_put images cs old i image same is =
     twice a b = omega arith
 
 -- no record fits a slot that is there
-pub nothing_fits : (slots : List Slot) (i : ℕ) → HasRoom slots → i < length slots → Fits slots i 0
-nothing_fits slots i room inside = record { there = omega (arith, room.room); most = omega arith; room = omega arith }
+pub nothing_fits : (v : Version) (slots : List Slot) (i : ℕ) → HasRoom v slots → i < length slots → Fits v slots i 0
+nothing_fits v slots i room inside = record { there = omega (arith, sizes, room.room); most = omega arith; room = omega arith }
 
 -- ---- what a page's calls leave, over its text and its claims
 
-pub fits_is : (slots : List Slot) (slot bytes n free : ℕ) → slot < 2042 → bytes ≤ 4000 → n ≡ need slots slot bytes → free ≡ free_bytes slots → IsTrue (leb n free) ↔ Fits slots slot bytes
-fits_is slots slot bytes n free there most is room = (
+pub fits_is : (v : Version) (slots : List Slot) (slot bytes n free : ℕ) → slot < slot_limit v → bytes ≤ record_limit v → n ≡ need slots slot bytes → free ≡ free_bytes v slots → IsTrue (leb n free) ↔ Fits v slots slot bytes
+fits_is v slots slot bytes n free there most is room = (
   λ test. record { there = there; most = most; room = omega (arith, leb-true n free test) },
   λ fits. le-leb n free (omega (arith, fits.room)),
 )
@@ -289,39 +291,39 @@ pub slot_inside : (images : List Image) (cs : List ℕ) (now : List Slot) (i : �
 slot_inside images cs now i same is there = omega (arith, length-slots images cs same, ap (λ (l : List Slot). length l) is)
 
 -- an image in a slot that was raised for it
-pub raised_kept : (images : List Image) (cs : List ℕ) (capacity claimed : ℕ) (old : List Slot) (i : ℕ) (image : Image) → HasClaims images cs capacity claimed → slots_of images cs ≡ with_change (raised (image_len image)) (with_slot old i) i
-    → HasClaims (set images i image) cs capacity claimed
-raised_kept images cs capacity claimed old i image has is =
+pub raised_kept : (v : Version) (images : List Image) (cs : List ℕ) (capacity claimed : ℕ) (old : List Slot) (i : ℕ) (image : Image) → HasClaims v images cs capacity claimed → slots_of images cs ≡ with_change (raised (image_len image)) (with_slot old i) i
+    → HasClaims v (set images i image) cs capacity claimed
+raised_kept v images cs capacity claimed old i image has is =
     let facts = raised_facts images cs old i (image_len image) has.same is in
-    image_kept images cs capacity claimed i image has facts.0 facts.1
+    image_kept v images cs capacity claimed i image has facts.0 facts.1
 
-pub raised_room : (images : List Image) (cs : List ℕ) (capacity claimed : ℕ) (old : List Slot) (i : ℕ) (bytes : List ℕ) → HasClaims images cs capacity claimed → slots_of images cs ≡ with_change (raised (length bytes)) (with_slot old i) i
-    → 4 * length images + record_bytes (set images i None) + length bytes ≤ 8168
-raised_room images cs capacity claimed old i bytes has is =
+pub raised_room : (v : Version) (images : List Image) (cs : List ℕ) (capacity claimed : ℕ) (old : List Slot) (i : ℕ) (bytes : List ℕ) → HasClaims v images cs capacity claimed → slots_of images cs ≡ with_change (raised (length bytes)) (with_slot old i) i
+    → 4 * length images + record_bytes (set images i None) + length bytes ≤ page_room v
+raised_room v images cs capacity claimed old i bytes has is =
     let facts = raised_facts images cs old i (length bytes) has.same is in
-    image_room images cs capacity claimed i bytes has facts.0 facts.1
+    image_room v images cs capacity claimed i bytes has facts.0 facts.1
 
-pub raised_one : (images : List Image) (cs : List ℕ) (old : List Slot) (i : ℕ) (image : Image) → length cs ≡ length images → slots_of images cs ≡ with_change (raised (image_len image)) (with_slot old i) i → HasRoom old → Fits old i (image_len image)
-    → ChangesOne old (slots_of (set images i image) cs) i image
-raised_one images cs old i image same is room fits = subst (λ (l : List Slot). ChangesOne old l i image) (sym (raised_put images cs old i image same is)) (changes_one old i image room fits)
+pub raised_one : (v : Version) (images : List Image) (cs : List ℕ) (old : List Slot) (i : ℕ) (image : Image) → length cs ≡ length images → slots_of images cs ≡ with_change (raised (image_len image)) (with_slot old i) i → HasRoom v old → Fits v old i (image_len image)
+    → ChangesOne v old (slots_of (set images i image) cs) i image
+raised_one v images cs old i image same is room fits = subst (λ (l : List Slot). ChangesOne v old l i image) (sym (raised_put images cs old i image same is)) (changes_one v old i image room fits)
 
 -- the slots of a page's text are settled
-pub settled_kept : (images : List Image) (cs : List ℕ) (capacity claimed : ℕ) → cs ≡ map image_len images → claimed ≡ record_bytes images → capacity ≡ 2042 → 4 * length images + record_bytes images ≤ 8168 → ((i : ℕ) → i < length images → image_len (get_or images i None) ≤ 4000)
-    → HasClaims images cs capacity claimed
-settled_kept images cs capacity claimed is sum reserved room short =
+pub settled_kept : (v : Version) (images : List Image) (cs : List ℕ) (capacity claimed : ℕ) → cs ≡ map image_len images → claimed ≡ record_bytes images → capacity ≡ slot_limit v → 4 * length images + record_bytes images ≤ page_room v → ((i : ℕ) → i < length images → image_len (get_or images i None) ≤ record_limit v)
+    → HasClaims v images cs capacity claimed
+settled_kept v images cs capacity claimed is sum reserved room short =
     let same : length cs ≡ length images = ap (λ (l : List ℕ). length l) is ∙ length-map images image_len in
     let slots : slots_of images cs ≡ map settled images = ap (λ (l : List ℕ). slots_of images l) is ∙ slots_settled images in
     let total = claims-settled images in
     let len : length (map settled images) ≡ length images = length-map images settled in
     record {
       same = same;
-      kept = subst (λ (l : List Slot). KeepsClaims l claimed) (sym slots) record { sum = omega arith; room = record { room = omega arith; each = each images short } };
+      kept = subst (λ (l : List Slot). KeepsClaims v l claimed) (sym slots) record { sum = omega arith; room = record { room = omega arith; each = each images short } };
       reserved = reserved;
     }
   where
-    each : (images : List Image) → ((i : ℕ) → i < length images → image_len (get_or images i None) ≤ 4000) → All HoldsItsImage (map settled images)
-    each [] short = All-nil HoldsItsImage
-    each (image ∷ images) short = All-cons HoldsItsImage (settled image) (map settled images) (omega arith, short 0 (omega arith)) (each images (λ i inside. short (suc i) (omega arith)))
+    each : (images : List Image) → ((i : ℕ) → i < length images → image_len (get_or images i None) ≤ record_limit v) → All (HoldsItsImage v) (map settled images)
+    each [] short = All-nil (HoldsItsImage v)
+    each (image ∷ images) short = All-cons (HoldsItsImage v) (settled image) (map settled images) (omega arith, short 0 (omega arith)) (each images (λ i inside. short (suc i) (omega arith)))
 
     claims-settled : (images : List Image) → claims (map settled images) ≡ record_bytes images
     claims-settled [] = refl
@@ -333,9 +335,9 @@ claim_at-most (s ∷ slots) zero = omega (arith, sum_by-cons (λ (s : Slot). s.c
 claim_at-most (s ∷ slots) (suc i) = omega (arith, claim_at-most slots i, sum_by-cons (λ (s : Slot). s.claim) s slots)
 
 -- no record of a text is longer than one may be
-pub text_short : (bytes : List ℕ) (id : PageId) (number : ℕ) (images : List Image) → IsPageText bytes id number images → (i : ℕ) → i < length images → image_len (get_or images i None) ≤ 4000
-text_short bytes id number images text i inside = short (get_or images i None) (text.slots i (get_or images i None) (slice_get-get_or images i None inside))
+pub text_short : (v : Version) (bytes : List ℕ) (id : PageId) (number : ℕ) (images : List Image) → IsPageText v bytes id number images → (i : ℕ) → i < length images → image_len (get_or images i None) ≤ record_limit v
+text_short v bytes id number images text i inside = short (get_or images i None) (text.slots i (get_or images i None) (slice_get-get_or images i None inside))
   where
-    short : (image : Image) → HasSlot bytes (table_of (length images)) i image → image_len image ≤ 4000
+    short : (image : Image) → HasSlot v bytes (table_of v (length images)) i image → image_len image ≤ record_limit v
     short None has = omega arith
     short (Some record_is) has = has.0.most

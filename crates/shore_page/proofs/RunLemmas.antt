@@ -6,6 +6,7 @@ use Rattle.std.proofs.Math.Seq.{take-add}
 use Rattle.std.proofs.lemmas.List.FromFn.{map-range_with_len_more}
 use Rattle.shore_types.specs.Images.{Image}
 use Rattle.shore_types.specs.Runs.{IsRun}
+use Rattle.shore_types.specs.declared.versions.Version.{Version}
 use Rattle.shore_page.specs.Reading.{images_in, slot_image}
 
 -- a record behind a run
@@ -37,15 +38,15 @@ parts_joined bytes a b c first second =
     ∙ ap (λ (l : List ℕ). between a b bytes ++ take (c - b) l) (drop-drop (b - a) a bytes ∙ ap (λ (n : ℕ). drop n bytes) from)
 
 -- nothing is a run of nothing
-pub nothing_run : (bytes : List ℕ) → IsRun (between 24 24 bytes) (images_in bytes 0)
-nothing_run bytes = subst (λ (l : List ℕ). IsRun l (images_in bytes 0)) (sym (none_taken (drop 24 bytes))) refl
+pub nothing_run : (v : Version) (bytes : List ℕ) → IsRun (between 24 24 bytes) (images_in v bytes 0)
+nothing_run v bytes = subst (λ (l : List ℕ). IsRun l (images_in v bytes 0)) (sym (none_taken (drop 24 bytes))) refl
 
 -- one slot more, of which the record begins where the run ends
-pub slot_more : (bytes : List ℕ) (slot end next : ℕ) → 24 ≤ end → end ≤ next → slot_image bytes slot ≡ Some (between end next bytes)
-    → IsRun (between 24 end bytes) (images_in bytes slot) → IsRun (between 24 next bytes) (images_in bytes (slot + 1))
-slot_more bytes slot end next front order is run =
-    let images : images_in bytes (slot + 1) ≡ images_in bytes slot ++ Some (between end next bytes) ∷ [] =
-    map-range_with_len_more (slot_image bytes) 0 slot slot (omega arith) ∙ ap (λ (i : Image). images_in bytes slot ++ i ∷ []) is in
+pub slot_more : (v : Version) (bytes : List ℕ) (slot end next : ℕ) → 24 ≤ end → end ≤ next → slot_image v bytes slot ≡ Some (between end next bytes)
+    → IsRun (between 24 end bytes) (images_in v bytes slot) → IsRun (between 24 next bytes) (images_in v bytes (slot + 1))
+slot_more v bytes slot end next front order is run =
+    let images : images_in v bytes (slot + 1) ≡ images_in v bytes slot ++ Some (between end next bytes) ∷ [] =
+    map-range_with_len_more (slot_image v bytes) 0 slot slot (omega arith) ∙ ap (λ (i : Image). images_in v bytes slot ++ i ∷ []) is in
     subst (λ (l : List Image). IsRun (between 24 next bytes) l) (sym images)
-    (subst (λ (b : List ℕ). IsRun b (images_in bytes slot ++ Some (between end next bytes) ∷ [])) (sym (parts_joined bytes 24 end next front order))
-    (run_more (between 24 end bytes) (between end next bytes) (images_in bytes slot) run))
+    (subst (λ (b : List ℕ). IsRun b (images_in v bytes slot ++ Some (between end next bytes) ∷ [])) (sym (parts_joined bytes 24 end next front order))
+    (run_more (between 24 end bytes) (between end next bytes) (images_in v bytes slot) run))

@@ -1,5 +1,6 @@
 -- Claims of slots with undecided changes, and the room for undoing these.
 use Rattle.std.proofs.Common.{◌≡◌, ℕ, zero, suc, ◌+◌, ◌-◌, ◌<◌, ◌≤◌, max, min, List, [], ◌∷◌, ◌++◌, length, map, replicate, get_or, Option, Some, None, refl, sym, ap, subst, ◌∙◌, arith}
+use Rattle.shore_types.specs.Versions.{sizes}
 use Rattle.std.specs.Prelude.{IfSome, option_map}
 use Rattle.std.specs.Option.{option_and_then}
 use Rattle.std.specs.List.{slice_get, All}
@@ -7,6 +8,7 @@ use Rattle.std.proofs.lemmas.List.{length-map, map-append}
 use Rattle.std.proofs.lemmas.List.Sums.{sum_by-cons}
 use Rattle.std.proofs.lemmas.List.Elements.{All-cons, All-head, All-tail, All-nil, All-get_or}
 use Rattle.std.proofs.lemmas.Option.{slice_get-map, slice_get_within, get_or_from_slice_get}
+use Rattle.shore_types.specs.declared.versions.Version.{Version}
 use Rattle.shore_page.specs.Slots.{Slot, with_change, with_slot, with_image, holding, settled}
 use Rattle.shore_types.specs.Images.{image_len, Image}
 use Rattle.shore_page.specs.Room.{claims, Fits, HasRoom, HoldsItsImage, lowered}
@@ -86,49 +88,49 @@ decision_claims slots slot = sym (map-with_change claiming deciding (lowered 0) 
 -- ---- each undo fits
 
 -- an undo raises no claim
-undo_less : (image : Image) (befores : List Image) → HoldsItsImage (claiming (record { image = image; befores = befores }))
-    → ((claiming (undone image befores)).claim ≤ max (image_len image) (longest befores)) × HoldsItsImage (claiming (undone image befores))
-undo_less image [] holds = (omega arith, (omega arith, omega (arith, holds.1)))
-undo_less image (before ∷ rest) holds = (omega arith, (omega arith, omega (arith, holds.1)))
+undo_less : (v : Version) (image : Image) (befores : List Image) → HoldsItsImage v (claiming (record { image = image; befores = befores }))
+    → ((claiming (undone image befores)).claim ≤ max (image_len image) (longest befores)) × HoldsItsImage v (claiming (undone image befores))
+undo_less v image [] holds = (omega arith, (omega arith, omega (arith, holds.1)))
+undo_less v image (before ∷ rest) holds = (omega arith, (omega arith, omega (arith, holds.1)))
 
-pub undo_room : (slots : List Undecided) (slot : ℕ) → All HoldsItsImage (claiming_all slots)
-    → (claims (claiming_all (with_change undoing slots slot)) ≤ claims (claiming_all slots)) × All HoldsItsImage (claiming_all (with_change undoing slots slot))
-undo_room [] slot each = (omega arith, All-nil HoldsItsImage)
-undo_room (s ∷ slots) zero each =
-    let less = undo_less s.image s.befores (All-head HoldsItsImage (claiming s) (claiming_all slots) each) in (
+pub undo_room : (v : Version) (slots : List Undecided) (slot : ℕ) → All (HoldsItsImage v) (claiming_all slots)
+    → (claims (claiming_all (with_change undoing slots slot)) ≤ claims (claiming_all slots)) × All (HoldsItsImage v) (claiming_all (with_change undoing slots slot))
+undo_room v [] slot each = (omega arith, All-nil (HoldsItsImage v))
+undo_room v (s ∷ slots) zero each =
+    let less = undo_less v s.image s.befores (All-head (HoldsItsImage v) (claiming s) (claiming_all slots) each) in (
       omega (arith, less.0, sum_by-cons (λ (s : Slot). s.claim) (claiming s) (claiming_all slots), sum_by-cons (λ (s : Slot). s.claim) (claiming (undoing s)) (claiming_all slots)),
-      All-cons HoldsItsImage (claiming (undoing s)) (claiming_all slots) less.1 (All-tail HoldsItsImage (claiming s) (claiming_all slots) each),
+      All-cons (HoldsItsImage v) (claiming (undoing s)) (claiming_all slots) less.1 (All-tail (HoldsItsImage v) (claiming s) (claiming_all slots) each),
     )
-undo_room (s ∷ slots) (suc slot) each =
-    let later = undo_room slots slot (All-tail HoldsItsImage (claiming s) (claiming_all slots) each) in (
+undo_room v (s ∷ slots) (suc slot) each =
+    let later = undo_room v slots slot (All-tail (HoldsItsImage v) (claiming s) (claiming_all slots) each) in (
       omega (arith, later.0, sum_by-cons (λ (s : Slot). s.claim) (claiming s) (claiming_all slots), sum_by-cons (λ (s : Slot). s.claim) (claiming s) (claiming_all (with_change undoing slots slot))),
-      All-cons HoldsItsImage (claiming s) (claiming_all (with_change undoing slots slot)) (All-head HoldsItsImage (claiming s) (claiming_all slots) each) later.1,
+      All-cons (HoldsItsImage v) (claiming s) (claiming_all (with_change undoing slots slot)) (All-head (HoldsItsImage v) (claiming s) (claiming_all slots) each) later.1,
     )
 
-undo_fits : (slots : List Undecided) (slot : ℕ) → HasRoom (claiming_all slots) → IfSome (undo_image slots slot) (λ before. Fits (claiming_all slots) slot (image_len before))
-undo_fits slots slot room = found (slice_get slots slot) refl
+undo_fits : (v : Version) (slots : List Undecided) (slot : ℕ) → HasRoom v (claiming_all slots) → IfSome (undo_image slots slot) (λ before. Fits v (claiming_all slots) slot (image_len before))
+undo_fits v slots slot room = found (slice_get slots slot) refl
   where
-    put_back : (image : Image) (befores : List Image) → slice_get slots slot ≡ Some record { image = image; befores = befores } → IfSome (slice_get befores 0) (λ before. Fits (claiming_all slots) slot (image_len before))
+    put_back : (image : Image) (befores : List Image) → slice_get slots slot ≡ Some record { image = image; befores = befores } → IfSome (slice_get befores 0) (λ before. Fits v (claiming_all slots) slot (image_len before))
     put_back image [] here = tt
     put_back image (before ∷ rest) here =
         let x : Slot = claiming record { image = image; befores = before ∷ rest } in
         let inside : slot < length (claiming_all slots) = omega (arith, length-map slots claiming, slice_get_within slots slot _ here) in
         let got : slice_get (claiming_all slots) slot ≡ Some x = slice_get-map claiming slots slot ∙ ap (option_map claiming) here in
         let read : x ≡ get_or (claiming_all slots) slot x = sym (get_or_from_slice_get (claiming_all slots) slot x x got) in
-        let holds : HoldsItsImage x = subst HoldsItsImage (sym read) (All-get_or HoldsItsImage (claiming_all slots) slot x inside room.each) in
-        record { there = omega (arith, room.room); most = omega (arith, holds.1); room = omega (arith, need_inside (claiming_all slots) slot (image_len before) x inside read) }
+        let holds : HoldsItsImage v x = subst (HoldsItsImage v) (sym read) (All-get_or (HoldsItsImage v) (claiming_all slots) slot x inside room.each) in
+        record { there = omega (arith, sizes, room.room, inside); most = omega (arith, holds.1); room = omega (arith, need_inside (claiming_all slots) slot (image_len before) x inside read) }
 
-    found : (o : Option Undecided) → slice_get slots slot ≡ o → IfSome (option_and_then (λ s. slice_get s.befores 0) o) (λ before. Fits (claiming_all slots) slot (image_len before))
+    found : (o : Option Undecided) → slice_get slots slot ≡ o → IfSome (option_and_then (λ s. slice_get s.befores 0) o) (λ before. Fits v (claiming_all slots) slot (image_len before))
     found None none = tt
     found (Some s) here = put_back s.image s.befores here
 
-pub undos_fit : (slots : List Undecided) (turns : List ℕ) → HasRoom (claiming_all slots) → UndoFits slots turns
-undos_fit slots [] room = tt
-undos_fit slots (slot ∷ later) room =
-    let less = undo_room slots slot room.each in
+pub undos_fit : (v : Version) (slots : List Undecided) (turns : List ℕ) → HasRoom v (claiming_all slots) → UndoFits v slots turns
+undos_fit v slots [] room = tt
+undos_fit v slots (slot ∷ later) room =
+    let less = undo_room v slots slot room.each in
     let len : length (claiming_all (with_change undoing slots slot)) ≡ length (claiming_all slots) =
     length-map (with_change undoing slots slot) claiming ∙ length-with_change undoing slots slot ∙ sym (length-map slots claiming) in
-    (undo_fits slots slot room, undos_fit (with_change undoing slots slot) later record { room = omega (arith, room.room, less.0); each = less.1 })
+    (undo_fits v slots slot room, undos_fit v (with_change undoing slots slot) later record { room = omega (arith, room.room, less.0); each = less.1 })
 
-pub every_undo : (slots : List Undecided) (slot : ℕ) (after : Image) (turns : List ℕ) → HasRoom (claiming_all slots) → Fits (claiming_all slots) slot (image_len after) → UndoFits (with_undecided slots slot after) turns
-every_undo slots slot after turns room fits = undos_fit (with_undecided slots slot after) turns (subst HasRoom (change_claims slots slot after) (with_image_room (claiming_all slots) slot after room fits))
+pub every_undo : (v : Version) (slots : List Undecided) (slot : ℕ) (after : Image) (turns : List ℕ) → HasRoom v (claiming_all slots) → Fits v (claiming_all slots) slot (image_len after) → UndoFits v (with_undecided slots slot after) turns
+every_undo v slots slot after turns room fits = undos_fit v (with_undecided slots slot after) turns (subst (HasRoom v) (change_claims slots slot after) (with_image_room v (claiming_all slots) slot after room fits))

@@ -1,5 +1,5 @@
 -- What is in bytes after a write to a part of them.
-use Rattle.std.proofs.Common.{◌≡◌, ◌≢◌, ℕ, ◌+◌, ◌-◌, ◌^◌, ◌<◌, ◌≤◌, ◌⊎◌, inl, inr, List, [], ◌++◌, length, get_or, take, drop, replicate, refl, sym, ap, subst, ◌∙◌, arith}
+use Rattle.std.proofs.Common.{◌≡◌, ◌≢◌, ℕ, ◌+◌, ◌*◌, ◌-◌, ◌^◌, ◌<◌, ◌≤◌, ◌⊎◌, inl, inr, List, [], ◌++◌, length, get_or, take, drop, replicate, refl, sym, ap, subst, ◌∙◌, arith}
 use Rattle.std.proofs.lemmas.List.{length-append, length-take-le, length-drop, append-nil, ext_get_or, get_or-take, get_or-drop, get_or_append_left, get_or-append_right, get_or-replicate, length-replicate}
 use Rattle.std.proofs.lemmas.List.Edits.{length-between, get_or-between}
 use Rattle.std.proofs.lemmas.Slice.{between-put_mid}
@@ -9,7 +9,8 @@ use borrow.Rule.Slice.PartMut.{put_mid}
 use Rattle.byteorder.specs.Endian.{little_bytes, little_number}
 use Rattle.byteorder.specs.Numbers.{little_number-reads_back, length-bytes_low_first}
 use Rattle.shore_types.specs.declared.ids.PageId.{PageId}
-use Rattle.shore_types.specs.declared.layout.TheConstants.{MAX_SLOTS}
+use Rattle.shore_types.specs.declared.versions.Version.{Version}
+use Rattle.shore_types.specs.Versions.{page_bytes}
 use Rattle.shore_page.specs.Text.{number_at, table_of, offset_at, length_at, HasHeader}
 use Rattle.shore_page.specs.Writing.{KeepsBeside, KeepsHeader, Writes, PutsRecord}
 
@@ -83,11 +84,11 @@ KeepsBeside-then a b c from to from' to' low high first second low_first low_sec
 }
 
 -- the six fields of a header, written one behind another
-pub header_written : (b0 b1 b2 b3 b4 b5 b6 : List ℕ) (id : PageId) (number slots : ℕ) → length b0 ≡ 8192
+pub header_written : (v : Version) → (b0 b1 b2 b3 b4 b5 b6 : List ℕ) (id : PageId) (number slots : ℕ) → length b0 ≡ page_bytes v
     → number_at b1 0 4 ≡ id.store → KeepsBeside b0 b1 0 4 → number_at b2 4 4 ≡ id.page → KeepsBeside b1 b2 4 8 → number_at b3 8 8 ≡ number → KeepsBeside b2 b3 8 16
-    → number_at b4 16 2 ≡ slots → KeepsBeside b3 b4 16 18 → number_at b5 18 2 ≡ table_of slots → KeepsBeside b4 b5 18 20 → number_at b6 20 4 ≡ 0 → KeepsBeside b5 b6 20 24
-    → slots ≤ MAX_SLOTS → HasHeader b6 id number slots
-header_written b0 b1 b2 b3 b4 b5 b6 id number slots whole store k1 page k2 last k3 count k4 table k5 none k6 few =
+    → number_at b4 16 2 ≡ slots → KeepsBeside b3 b4 16 18 → number_at b5 18 2 ≡ table_of v slots → KeepsBeside b4 b5 18 20 → number_at b6 20 4 ≡ 0 → KeepsBeside b5 b6 20 24
+    → 24 + 4 * slots ≤ page_bytes v → HasHeader v b6 id number slots
+header_written v b0 b1 b2 b3 b4 b5 b6 id number slots whole store k1 page k2 last k3 count k4 table k5 none k6 few =
     let past6 = λ (position n : ℕ) (h : position + n ≤ 20). number_below b5 b6 20 24 position n k6 (omega (arith, k1.len, k2.len, k3.len, k4.len, k5.len)) h in
     let past5 = λ (position n : ℕ) (h : position + n ≤ 18). past6 position n (omega arith) ∙ number_below b4 b5 18 20 position n k5 (omega (arith, k1.len, k2.len, k3.len, k4.len)) h in
     let past4 = λ (position n : ℕ) (h : position + n ≤ 16). past5 position n (omega arith) ∙ number_below b3 b4 16 18 position n k4 (omega (arith, k1.len, k2.len, k3.len)) h in
@@ -104,8 +105,9 @@ header_written b0 b1 b2 b3 b4 b5 b6 id number slots whole store k1 page k2 last 
     }
 
 -- a header of which each byte stayed
-pub header_same : (old new : List ℕ) (id : PageId) (number slots : ℕ) → length old ≡ 8192 → KeepsHeader old new → HasHeader old id number slots → HasHeader new id number slots
-header_same old new id number slots whole kept header =
+pub header_same : (v : Version) (old new : List ℕ) (id : PageId) (number slots : ℕ) → length old ≡ page_bytes v → KeepsHeader old new → HasHeader v old id number slots → HasHeader v new id number slots
+header_same v old new id number slots whole kept header =
+    let most = header.most in
     let same = λ (position n : ℕ) (h : position + n ≤ 24). number_same old new position n kept.len (omega arith) (λ i low high. kept.same i (omega arith)) in
     record {
       store = same 0 4 (omega arith) ∙ header.store;
@@ -118,8 +120,8 @@ header_same old new id number slots whole kept header =
     }
 
 -- a header with another number
-pub header_number : (old new : List ℕ) (id : PageId) (before number slots : ℕ) → length old ≡ 8192 → KeepsBeside old new 8 16 → number_at new 8 8 ≡ number → HasHeader old id before slots → HasHeader new id number slots
-header_number old new id before number slots whole kept here header = record {
+pub header_number : (v : Version) (old new : List ℕ) (id : PageId) (before number slots : ℕ) → length old ≡ page_bytes v → KeepsBeside old new 8 16 → number_at new 8 8 ≡ number → HasHeader v old id before slots → HasHeader v new id number slots
+header_number v old new id before number slots whole kept here header = let most = header.most in record {
   store = number_below old new 8 16 0 4 kept (omega arith) (omega arith) ∙ header.store;
   page = number_below old new 8 16 4 4 kept (omega arith) (omega arith) ∙ header.page;
   last = here;
@@ -130,9 +132,10 @@ header_number old new id before number slots whole kept here header = record {
 }
 
 -- a header with other slots
-pub header_slots : (b0 b1 b2 b3 : List ℕ) (id : PageId) (number slots more low high : ℕ) → length b0 ≡ 8192 → KeepsBeside b0 b1 low high → 24 ≤ low → number_at b2 16 2 ≡ more → KeepsBeside b1 b2 16 18
-    → number_at b3 18 2 ≡ table_of more → KeepsBeside b2 b3 18 20 → more ≤ MAX_SLOTS → HasHeader b0 id number slots → HasHeader b3 id number more
-header_slots b0 b1 b2 b3 id number slots more low high whole k1 behind count k2 table k3 few header =
+pub header_slots : (v : Version) → (b0 b1 b2 b3 : List ℕ) (id : PageId) (number slots more low high : ℕ) → length b0 ≡ page_bytes v → KeepsBeside b0 b1 low high → 24 ≤ low → number_at b2 16 2 ≡ more → KeepsBeside b1 b2 16 18
+    → number_at b3 18 2 ≡ table_of v more → KeepsBeside b2 b3 18 20 → 24 + 4 * more ≤ page_bytes v → HasHeader v b0 id number slots → HasHeader v b3 id number more
+header_slots v b0 b1 b2 b3 id number slots more low high whole k1 behind count k2 table k3 few header =
+    let most = header.most in
     let front = λ (position n : ℕ) (h : position + n ≤ 16).
     number_below b2 b3 18 20 position n k3 (omega (arith, k1.len, k2.len)) (omega arith) ∙ number_below b1 b2 16 18 position n k2 (omega (arith, k1.len)) (omega arith) ∙ number_below b0 b1 low high position n k1 (omega arith) (omega arith) in
     record {
@@ -147,46 +150,46 @@ header_slots b0 b1 b2 b3 id number slots more low high whole k1 behind count k2 
 
 -- ---- entries
 
-entry_apart : (slot other : ℕ) → slot < MAX_SLOTS → other < MAX_SLOTS → other ≢ slot → (table_of (other + 1) + 4 ≤ table_of (slot + 1)) ⊎ (table_of slot ≤ table_of (other + 1))
-entry_apart slot other few_slot few_other apart = elim (cases_lt other slot) [
+entry_apart : (v : Version) (slot other : ℕ) → 28 + 4 * slot ≤ page_bytes v → 28 + 4 * other ≤ page_bytes v → other ≢ slot → (table_of v (other + 1) + 4 ≤ table_of v (slot + 1)) ⊎ (table_of v slot ≤ table_of v (other + 1))
+entry_apart v slot other few_slot few_other apart = elim (cases_lt other slot) [
   | inl earlier ↦ inr (omega arith)
   | inr later ↦ inl (omega arith)
 ]
 
 -- another entry, where nothing but one entry changed
-pub entry_beside : (old new : List ℕ) (slot other : ℕ) → length old ≡ 8192 → slot < MAX_SLOTS → other < MAX_SLOTS → KeepsBeside old new (table_of (slot + 1)) (table_of slot) → other ≢ slot
-    → (offset_at new other ≡ offset_at old other) × (length_at new other ≡ length_at old other)
-entry_beside old new slot other whole few_slot few_other kept apart = elim (entry_apart slot other few_slot few_other apart) [
+pub entry_beside : (v : Version) (old new : List ℕ) (slot other : ℕ) → length old ≡ page_bytes v → 28 + 4 * slot ≤ page_bytes v → 28 + 4 * other ≤ page_bytes v → KeepsBeside old new (table_of v (slot + 1)) (table_of v slot) → other ≢ slot
+    → (offset_at v new other ≡ offset_at v old other) × (length_at v new other ≡ length_at v old other)
+entry_beside v old new slot other whole few_slot few_other kept apart = elim (entry_apart v slot other few_slot few_other apart) [
   | inl below ↦ (
-    number_below old new (table_of (slot + 1)) (table_of slot) (table_of (other + 1)) 2 kept (omega arith) (omega arith),
-    number_below old new (table_of (slot + 1)) (table_of slot) (table_of (other + 1) + 2) 2 kept (omega arith) (omega arith),
+    number_below old new (table_of v (slot + 1)) (table_of v slot) (table_of v (other + 1)) 2 kept (omega arith) (omega arith),
+    number_below old new (table_of v (slot + 1)) (table_of v slot) (table_of v (other + 1) + 2) 2 kept (omega arith) (omega arith),
   )
   | inr above ↦ (
-    number_above old new (table_of (slot + 1)) (table_of slot) (table_of (other + 1)) 2 kept (omega arith) (omega arith),
-    number_above old new (table_of (slot + 1)) (table_of slot) (table_of (other + 1) + 2) 2 kept (omega arith) (omega arith),
+    number_above old new (table_of v (slot + 1)) (table_of v slot) (table_of v (other + 1)) 2 kept (omega arith) (omega arith),
+    number_above old new (table_of v (slot + 1)) (table_of v slot) (table_of v (other + 1) + 2) 2 kept (omega arith) (omega arith),
   )
 ]
 
 -- an entry, where nothing but bytes below the slot table changed
-pub entry_above : (old new : List ℕ) (slots from to other : ℕ) → length old ≡ 8192 → slots ≤ MAX_SLOTS → KeepsBeside old new from to → to ≤ table_of slots → other < slots
-    → (offset_at new other ≡ offset_at old other) × (length_at new other ≡ length_at old other)
-entry_above old new slots from to other whole few kept below inside = (
-  number_above old new from to (table_of (other + 1)) 2 kept (omega arith) (omega arith),
-  number_above old new from to (table_of (other + 1) + 2) 2 kept (omega arith) (omega arith),
+pub entry_above : (v : Version) (old new : List ℕ) (slots from to other : ℕ) → length old ≡ page_bytes v → 24 + 4 * slots ≤ page_bytes v → KeepsBeside old new from to → to ≤ table_of v slots → other < slots
+    → (offset_at v new other ≡ offset_at v old other) × (length_at v new other ≡ length_at v old other)
+entry_above v old new slots from to other whole few kept below inside = (
+  number_above old new from to (table_of v (other + 1)) 2 kept (omega arith) (omega arith),
+  number_above old new from to (table_of v (other + 1) + 2) 2 kept (omega arith) (omega arith),
 )
 
 -- an entry and then a record
-pub puts_record : (old mid new : List ℕ) (slots slot offset : ℕ) (bytes : List ℕ) → length old ≡ 8192 → slots ≤ MAX_SLOTS → slot < slots → offset + length bytes ≤ table_of slots
-    → offset_at mid slot ≡ offset → length_at mid slot ≡ length bytes → KeepsBeside old mid (table_of (slot + 1)) (table_of slot) → Writes mid new offset bytes → PutsRecord old new slots slot offset bytes
-puts_record old mid new slots slot offset bytes whole few there room is_offset is_length entry wrote =
-    let same = λ (other : ℕ) (h : other < slots). entry_above mid new slots offset (offset + length bytes) other (entry.len ∙ whole) few wrote.beside room h in
+pub puts_record : (v : Version) (old mid new : List ℕ) (slots slot offset : ℕ) (bytes : List ℕ) → length old ≡ page_bytes v → 24 + 4 * slots ≤ page_bytes v → slot < slots → offset + length bytes ≤ table_of v slots
+    → offset_at v mid slot ≡ offset → length_at v mid slot ≡ length bytes → KeepsBeside old mid (table_of v (slot + 1)) (table_of v slot) → Writes mid new offset bytes → PutsRecord v old new slots slot offset bytes
+puts_record v old mid new slots slot offset bytes whole few there room is_offset is_length entry wrote =
+    let same = λ (other : ℕ) (h : other < slots). entry_above v mid new slots offset (offset + length bytes) other (entry.len ∙ whole) few wrote.beside room h in
     record {
       len = wrote.beside.len ∙ entry.len;
       begins = (same slot there).0 ∙ is_offset;
       lasts = (same slot there).1 ∙ is_length;
       here = wrote.here;
       entries = λ other before apart.
-          let kept = entry_beside old mid slot other whole (omega arith) (omega arith) entry apart in
+          let kept = entry_beside v old mid slot other whole (omega arith) (omega arith) entry apart in
           ((same other before).0 ∙ kept.0, (same other before).1 ∙ kept.1);
       beside = λ position low side. elim side [
         | inl before ↦ wrote.beside.below position before ∙ entry.below position (omega arith)
@@ -195,14 +198,14 @@ puts_record old mid new slots slot offset bytes whole few there room is_offset i
     }
 
 -- an entry that is zeros
-pub puts_nothing : (old new : List ℕ) (slots slot : ℕ) → length old ≡ 8192 → slots ≤ MAX_SLOTS → slot < slots → offset_at new slot ≡ 0 → length_at new slot ≡ 0
-    → KeepsBeside old new (table_of (slot + 1)) (table_of slot) → PutsRecord old new slots slot 0 []
-puts_nothing old new slots slot whole few there is_offset is_length entry = record {
+pub puts_nothing : (v : Version) (old new : List ℕ) (slots slot : ℕ) → length old ≡ page_bytes v → 24 + 4 * slots ≤ page_bytes v → slot < slots → offset_at v new slot ≡ 0 → length_at v new slot ≡ 0
+    → KeepsBeside old new (table_of v (slot + 1)) (table_of v slot) → PutsRecord v old new slots slot 0 []
+puts_nothing v old new slots slot whole few there is_offset is_length entry = record {
   len = entry.len;
   begins = is_offset;
   lasts = is_length;
   here = refl;
-  entries = λ other before apart. entry_beside old new slot other whole (omega arith) (omega arith) entry apart;
+  entries = λ other before apart. entry_beside v old new slot other whole (omega arith) (omega arith) entry apart;
   beside = λ position low side. entry.below position (omega arith);
 }
 

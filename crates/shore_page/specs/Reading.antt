@@ -2,42 +2,43 @@
 use Rattle.std.specs.Prelude.{◌≡◌, ◌⊎◌, ◌==◌, ℕ, ◌+◌, ◌-◌, ◌/◌, ◌%◌, ◌<◌, ◌≤◌, Bool, false, true, List, length, map, get_or, slice_index, None, Some, if◌then◌else◌}
 use Rattle.std.specs.List.{between, count_by, range_with_len}
 use Rattle.std.specs.Int.{bit_at}
-use Rattle.shore_types.specs.declared.layout.TheConstants.{MAX_RECORD_BYTES}
+use Rattle.shore_types.specs.declared.versions.Version.{Version}
 use Rattle.shore_types.specs.Images.{Image}
+use Rattle.shore_types.specs.Versions.{record_limit}
 use Rattle.shore_page.specs.Text.{table_of, offset_at, length_at, Covers}
 
 -- so many bytes at an offset lie between the header and the slot table, and may be a record
-pub record Lies (table offset bytes : ℕ) : Type 0 where
+pub record Lies (v : Version) (table offset bytes : ℕ) : Type 0 where
   pub behind_header : 24 ≤ offset
   pub before_table : offset + bytes ≤ table
-  pub most : bytes ≤ MAX_RECORD_BYTES
+  pub most : bytes ≤ record_limit v
 
 -- the entry of a slot: zeros, or that of a record
-abbrev pub IsEntry : ℕ → ℕ → ℕ → Type 0
-IsEntry table offset bytes = ((offset ≡ 0) × (bytes ≡ 0)) ⊎ Lies table offset bytes
+abbrev pub IsEntry : Version → ℕ → ℕ → ℕ → Type 0
+IsEntry v table offset bytes = ((offset ≡ 0) × (bytes ≡ 0)) ⊎ Lies v table offset bytes
 
 -- an entry whose record begins at an end of records or behind it, and where the records end with it
-pub record Follows (table end offset bytes new : ℕ) : Type 0 where
-  pub entry : IsEntry table offset bytes
+pub record Follows (v : Version) (table end offset bytes new : ℕ) : Type 0 where
+  pub entry : IsEntry v table offset bytes
   pub behind : (position : ℕ) → offset ≤ position → position < offset + bytes → end ≤ position
   pub room : end + bytes ≤ new
   pub ends : offset + bytes ≤ new
   pub back : end ≤ table → new ≤ table
 
 -- each entry of the slot table is one, and no byte belongs to two records
-pub record IsTable (bytes : List ℕ) (slots : ℕ) : Type 0 where
-  pub each : (slot : ℕ) → slot < slots → IsEntry (table_of slots) (offset_at bytes slot) (length_at bytes slot)
-  pub apart : (a b position : ℕ) → a < slots → b < slots → Covers bytes a position → Covers bytes b position → a ≡ b
+pub record IsTable (v : Version) (bytes : List ℕ) (slots : ℕ) : Type 0 where
+  pub each : (slot : ℕ) → slot < slots → IsEntry v (table_of v slots) (offset_at v bytes slot) (length_at v bytes slot)
+  pub apart : (a b position : ℕ) → a < slots → b < slots → Covers v bytes a position → Covers v bytes b position → a ≡ b
 
 -- what the entry of a slot names
-unfoldable pub slot_image : List ℕ → ℕ → Image
-slot_image bytes slot = if offset_at bytes slot == 0
+unfoldable pub slot_image : Version → List ℕ → ℕ → Image
+slot_image v bytes slot = if offset_at v bytes slot == 0
     then None
-    else Some (between (offset_at bytes slot) (offset_at bytes slot + length_at bytes slot) bytes)
+    else Some (between (offset_at v bytes slot) (offset_at v bytes slot + length_at v bytes slot) bytes)
 
 -- what is in the first slots
-abbrev pub images_in : List ℕ → ℕ → List Image
-images_in bytes slots = map (slot_image bytes) (range_with_len 0 slots)
+abbrev pub images_in : Version → List ℕ → ℕ → List Image
+images_in v bytes slots = map (slot_image v bytes) (range_with_len 0 slots)
 
 -- how many are marked
 abbrev pub marked : List Bool → ℕ

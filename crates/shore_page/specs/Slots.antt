@@ -1,7 +1,8 @@
--- What a page is: its id, the number of its last change (page_LSN), and its slots. A slot has an image and a claim.
+-- What a page is: the version of its text, its id, the number of its last change (page_LSN), and its slots. A slot has an image and a claim.
 use Rattle.std.specs.Prelude.{ℕ, zero, suc, ◌+◌, ◌-◌, max, List, [], ◌∷◌, ◌++◌, length, replicate, slice_get, Option, Some, None}
 use Rattle.std.specs.Option.{option_and_then}
 use Rattle.shore_types.specs.declared.ids.PageId.{PageId}
+use Rattle.shore_types.specs.declared.versions.Version.{Version}
 use Rattle.shore_types.specs.Images.{Image, image_len}
 
 -- what is in a slot, and how many bytes of the page are kept for it
@@ -11,6 +12,7 @@ pub record Slot : Type 0 where
 
 -- a page as data
 pub record PageState : Type 0 where
+  pub version : Version
   pub id : PageId
   pub number : ℕ
   pub slots : List Slot

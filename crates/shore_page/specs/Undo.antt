@@ -3,6 +3,7 @@ use Rattle.std.specs.Prelude.{ℕ, ◌+◌, ◌-◌, max, List, [], ◌∷◌, �
 use Rattle.std.specs.Option.{option_and_then}
 use Rattle.shore_page.specs.Slots.{Slot, with_change}
 use Rattle.shore_types.specs.Images.{image_len, Image}
+use Rattle.shore_types.specs.declared.versions.Version.{Version}
 use Rattle.shore_page.specs.Room.{Fits}
 
 -- a slot, and the images before its undecided changes, the newest first: its transaction could still put each back
@@ -52,6 +53,6 @@ abbrev pub undo_image : List Undecided → ℕ → Option Image
 undo_image slots slot = option_and_then (λ s. slice_get s.befores 0) (slice_get slots slot)
 
 -- Each undo fits when it is made, if the slots are taken in this order: each turn undoes the newest change of its slot that is left.
-abbrev pub UndoFits : List Undecided → List ℕ → Type 0
-UndoFits slots [] = Unit {0}
-UndoFits slots (slot ∷ later) = IfSome (undo_image slots slot) (λ before. Fits (claiming_all slots) slot (image_len before)) × UndoFits (with_change undoing slots slot) later
+abbrev pub UndoFits : Version → List Undecided → List ℕ → Type 0
+UndoFits v slots [] = Unit {0}
+UndoFits v slots (slot ∷ later) = IfSome (undo_image slots slot) (λ before. Fits v (claiming_all slots) slot (image_len before)) × UndoFits v (with_change undoing slots slot) later

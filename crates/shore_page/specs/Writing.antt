@@ -1,6 +1,7 @@
 -- What a write to a part of some bytes leaves as it was.
 use Rattle.std.specs.Prelude.{◌≡◌, ◌≢◌, ◌⊎◌, ℕ, ◌+◌, ◌<◌, ◌≤◌, List, length, slice_index}
 use Rattle.std.specs.List.{between}
+use Rattle.shore_types.specs.declared.versions.Version.{Version}
 use Rattle.shore_page.specs.Text.{table_of, offset_at, length_at}
 
 -- no byte changed but those between two places
@@ -15,13 +16,13 @@ pub record Writes (old new : List ℕ) (position : ℕ) (written : List ℕ) : T
   pub beside : KeepsBeside old new position (position + length written)
 
 -- a record was put at an offset, and into the entry of its slot; no other entry changed, and no other byte below the slot table
-pub record PutsRecord (old new : List ℕ) (slots slot offset : ℕ) (bytes : List ℕ) : Type 0 where
+pub record PutsRecord (v : Version) (old new : List ℕ) (slots slot offset : ℕ) (bytes : List ℕ) : Type 0 where
   pub len : length new ≡ length old
-  pub begins : offset_at new slot ≡ offset
-  pub lasts : length_at new slot ≡ length bytes
+  pub begins : offset_at v new slot ≡ offset
+  pub lasts : length_at v new slot ≡ length bytes
   pub here : between offset (offset + length bytes) new ≡ bytes
-  pub entries : (other : ℕ) → other < slots → other ≢ slot → (offset_at new other ≡ offset_at old other) × (length_at new other ≡ length_at old other)
-  pub beside : (position : ℕ) → position < table_of slots → (position < offset) ⊎ (offset + length bytes ≤ position) → slice_index new position ≡ slice_index old position
+  pub entries : (other : ℕ) → other < slots → other ≢ slot → (offset_at v new other ≡ offset_at v old other) × (length_at v new other ≡ length_at v old other)
+  pub beside : (position : ℕ) → position < table_of v slots → (position < offset) ⊎ (offset + length bytes ≤ position) → slice_index new position ≡ slice_index old position
 
 -- the bytes of the header stayed as they were
 pub record KeepsHeader (old new : List ℕ) : Type 0 where
@@ -29,7 +30,7 @@ pub record KeepsHeader (old new : List ℕ) : Type 0 where
   pub same : (position : ℕ) → position < 24 → slice_index new position ≡ slice_index old position
 
 -- a slot's entry was written, and bytes from an offset up to the slot table: no other entry changed
-pub record KeepsSlots (old new : List ℕ) (slots slot offset : ℕ) : Type 0 where
+pub record KeepsSlots (v : Version) (old new : List ℕ) (slots slot offset : ℕ) : Type 0 where
   pub len : length new ≡ length old
-  pub entries : (other : ℕ) → other < slots → other ≢ slot → (offset_at new other ≡ offset_at old other) × (length_at new other ≡ length_at old other)
+  pub entries : (other : ℕ) → other < slots → other ≢ slot → (offset_at v new other ≡ offset_at v old other) × (length_at v new other ≡ length_at v old other)
   pub below : (position : ℕ) → position < offset → slice_index new position ≡ slice_index old position

@@ -1,6 +1,6 @@
 //! The claims of a page's slots, one beside another.
 ghost use Rattle.std.specs.Prelude.{◌≡◌, ◌+◌, ◌-◌, ◌*◌, ◌≤◌, ◌++◌, [], length, map, replicate, vec_capacity};
-ghost use Rattle.shore_types.specs.declared.layout.TheConstants.{MAX_SLOTS};
+ghost use Rattle.shore_types.specs.Versions.{page_room, slot_limit};
 ghost use Rattle.shore_types.specs.Images.{image_len};
 ghost use Rattle.shore_page.specs.Layout.{record_bytes};
 
@@ -19,12 +19,13 @@ pub fn add_claims(claims: &mut Vec<u16>, slots: usize)
 }
 
 /// The claim of each slot is what its record has. Answers their sum.
+#[tactic(auto, using(shore_types::specs::Versions::sizes))]
 pub fn claim_records(text: &PageBytes, claims: &mut Vec<u16>) -> usize
-    requires room { 4 * length text.now.images + record_bytes text.now.images ≤ 8168 }
-    requires capacity { vec_capacity claims.old ≡ MAX_SLOTS }
+    requires room { 4 * length text.now.images + record_bytes text.now.images ≤ page_room text.now.version }
+    requires capacity { vec_capacity claims.old ≡ slot_limit text.now.version }
     requires empty { claims.old.items ≡ [] }
     ensures claims { claims.new.items ≡ map image_len text.now.images }
-    ensures capacity { vec_capacity claims.new ≡ MAX_SLOTS }
+    ensures capacity { vec_capacity claims.new ≡ slot_limit text.now.version }
     ensures sum { result ≡ record_bytes text.now.images }
 {
     let mut claimed = 0;

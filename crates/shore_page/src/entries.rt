@@ -1,11 +1,12 @@
 //! The slot table of a page's bytes: its entries, and the records that they name.
-ghost use Rattle.std.specs.Prelude.{◌≡◌, ◌+◌, ◌<◌, ◌≤◌, length, option_map};
-ghost use Rattle.shore_types.specs.declared.layout.TheConstants.{MAX_SLOTS};
+ghost use Rattle.std.specs.Prelude.{◌≡◌, ◌+◌, ◌*◌, ◌<◌, ◌≤◌, length, option_map};
+ghost use Rattle.shore_types.specs.Versions.{page_bytes};
 ghost use Rattle.shore_page.specs.Text.{number_at, offset_at, length_at};
 ghost use Rattle.shore_page.specs.Reading.{slot_image};
 
 use byteorder::{ByteOrder, LittleEndian};
-use shore_types::layout::{PAGE_BYTES, SLOT_ENTRY_BYTES};
+use shore_types::Version;
+use shore_types::layout::SLOT_ENTRY_BYTES;
 
 pub fn u16_at(bytes: &[u8], position: usize) -> u16
     requires { position + 2 ≤ length bytes.now }
@@ -37,14 +38,14 @@ pub struct Entry {
     pub bytes: usize,
 }
 
-pub fn entry_at(bytes: &[u8], slot: usize) -> Entry
-    requires whole { length bytes.now ≡ 8192 }
-    requires few { slot < MAX_SLOTS }
-    ensures offset { result.offset ≡ offset_at bytes.now slot }
-    ensures bytes { result.bytes ≡ length_at bytes.now slot }
+pub fn entry_at(bytes: &[u8], version: Version, slot: usize) -> Entry
+    requires whole { length bytes.now ≡ page_bytes version }
+    requires few { 28 + 4 * slot ≤ page_bytes version }
+    ensures offset { result.offset ≡ offset_at version bytes.now slot }
+    ensures bytes { result.bytes ≡ length_at version bytes.now slot }
     ensures small { (result.offset < 65536) × (result.bytes < 65536) }
 {
-    let position = PAGE_BYTES - SLOT_ENTRY_BYTES * (slot + 1);
+    let position = version.page_bytes() - SLOT_ENTRY_BYTES * (slot + 1);
     Entry {
         offset: u16_at(bytes, position) as usize,
         bytes: u16_at(bytes, position + 2) as usize,
@@ -53,13 +54,13 @@ pub fn entry_at(bytes: &[u8], slot: usize) -> Entry
 
 /// The record that the entry of a slot names; None if the slot is empty.
 #[tactic(auto, unfolding(crate::specs::Reading::slot_image))]
-pub fn image_at(bytes: &[u8], slot: usize) -> Option<&[u8]>
-    requires whole { length bytes.now ≡ 8192 }
-    requires few { slot < MAX_SLOTS }
-    requires within { offset_at bytes.now slot + length_at bytes.now slot ≤ 8192 }
-    ensures { option_map (λ image. image.now) result ≡ slot_image bytes.now slot }
+pub fn image_at(bytes: &[u8], version: Version, slot: usize) -> Option<&[u8]>
+    requires whole { length bytes.now ≡ page_bytes version }
+    requires few { 28 + 4 * slot ≤ page_bytes version }
+    requires within { offset_at version bytes.now slot + length_at version bytes.now slot ≤ page_bytes version }
+    ensures { option_map (λ image. image.now) result ≡ slot_image version bytes.now slot }
 {
-    let entry = entry_at(bytes, slot);
+    let entry = entry_at(bytes, version, slot);
     if entry.offset == 0 {
         return None;
     }

@@ -5,15 +5,16 @@ ghost use Rattle.shore_page.specs.Slots.{settled, with_change, with_image};
 ghost use Rattle.shore_types.specs.Images.{image_len, Image};
 ghost use Rattle.shore_page.specs.Room.{Fits, HasRoom, lowered};
 ghost use Rattle.shore_types.specs.declared.ids.PageId.{PageId};
-ghost use Rattle.shore_types.specs.declared.layout.TheConstants.{MAX_SLOTS};
+ghost use Rattle.shore_types.specs.declared.versions.Version.{Version};
+ghost use Rattle.shore_types.specs.Versions.{slot_limit};
 ghost use Rattle.shore_page.specs.Text.{IsPageText};
 ghost use Rattle.shore_page.specs.Undo.{Undecided, longest, claiming_all, with_undecided, undoing, deciding, UndoFits};
 
 /// If a change fits, every undo of undecided changes fits after it, in whatever order the slots are taken.
 pub fn every_undo_fits()
-    ensures { (slots : List Undecided) (slot : ℕ) (after : Image) (turns : List ℕ)
-        → HasRoom (claiming_all slots) → Fits (claiming_all slots) slot (image_len after)
-        → UndoFits (with_undecided slots slot after) turns }
+    ensures { (v : Version) (slots : List Undecided) (slot : ℕ) (after : Image) (turns : List ℕ)
+        → HasRoom v (claiming_all slots) → Fits v (claiming_all slots) slot (image_len after)
+        → UndoFits v (with_undecided slots slot after) turns }
 {}
 
 /// Claims of undecided slots stay so when `Page::put`, `Page::remove` or `Page::apply` makes an undecided change.
@@ -39,12 +40,12 @@ pub fn decision_keeps_claims()
 
 /// If a page has room for all that is told of it, each claim fits when its turn comes.
 pub fn claims_with_room_fit()
-    ensures { (kept : List (ℕ × ℕ)) (images : List Image) → length images ≤ MAX_SLOTS → AreThere (length (map settled images)) kept
-        → HasRoom (claimed_by kept (map settled images)) → FitIn kept (map settled images) }
+    ensures { (v : Version) (kept : List (ℕ × ℕ)) (images : List Image) → length images ≤ slot_limit v → AreThere (length (map settled images)) kept
+        → HasRoom v (claimed_by kept (map settled images)) → FitIn v kept (map settled images) }
 {}
 
 /// Bytes are the text of one page at most.
 pub fn page_encoding_is_unique()
-    ensures { (bytes : List ℕ) (a b : PageId) (m n : ℕ) (images others : List Image)
-        → IsPageText bytes a m images → IsPageText bytes b n others → (a ≡ b) × (m ≡ n) × (images ≡ others) }
+    ensures { (v : Version) (bytes : List ℕ) (a b : PageId) (m n : ℕ) (images others : List Image)
+        → IsPageText v bytes a m images → IsPageText v bytes b n others → (a ≡ b) × (m ≡ n) × (images ≡ others) }
 {}

@@ -3,13 +3,13 @@ ghost use Rattle.std.specs.Prelude.{◌≡◌, ◌+◌, ◌-◌, ◌*◌, ◌^�
 ghost use Rattle.std.specs.Int.{bit_at};
 ghost use Rattle.shore_page.specs.Reading.{marks_of, Marks, IsTaken, MarksBits, mark_at};
 
-use shore_types::layout::PAGE_BYTES;
+use shore_types::layout::MAX_PAGE_BYTES;
 
 /// The bits of a word.
 const WORD: usize = 64;
 
-/// The words with a mark for each byte of a page.
-pub const MARK_WORDS: usize = PAGE_BYTES / WORD;
+/// The words with a mark for each byte of a page of any version.
+pub const MARK_WORDS: usize = MAX_PAGE_BYTES / WORD;
 
 // The bits of a word from one on, up to another.
 fn bits(from: usize, to: usize) -> u64

@@ -1,16 +1,14 @@
 //! Which bytes are a page's: the check of a header, and of a slot table.
 ghost use Rattle.std.specs.Prelude.{◌≡◌, ◌+◌, ◌-◌, ◌*◌, ◌<◌, ◌≤◌, ◌↔◌, ℕ, false, length, Some, None, IsTrue, IsSome, IfSome};
-ghost use Rattle.shore_types.specs.declared.layout.TheConstants.{MAX_SLOTS};
+ghost use Rattle.shore_types.specs.Versions.{page_bytes, page_room};
 ghost use Rattle.shore_page.specs.Layout.{AreFull, IsLaidOut, record_bytes};
 ghost use Rattle.shore_page.specs.Text.{HasHeader};
 ghost use Rattle.shore_page.specs.Reading.{Lies, Follows, IsEntry, IsTable, images_in, marks_of, Marks, IsTaken};
 
 use crate::entries::{Entry, entry_at, u16_at, u32_at, u64_at};
 use crate::marks::{MARK_WORDS, mark};
-use shore_types::layout::{
-    MAX_RECORD_BYTES, MAX_SLOTS, PAGE_BYTES, PAGE_HEADER_BYTES, SLOT_ENTRY_BYTES,
-};
-use shore_types::{Lsn, PageId};
+use shore_types::layout::{PAGE_HEADER_BYTES, SLOT_ENTRY_BYTES};
+use shore_types::{Lsn, PageId, Version};
 
 /// What the front of a page says.
 #[derive(Clone, Copy)]
@@ -22,21 +20,22 @@ pub struct Header {
 }
 
 /// The header of a page of this id; None if the front of the bytes is none.
-pub fn read_header(id: &PageId, bytes: &[u8]) -> Option<Header>
-    requires { length bytes.now ≡ 8192 }
-    ensures found { IfSome result (λ header. HasHeader bytes.now id.now header.number header.slots) }
-    ensures only { (number slots : ℕ) → HasHeader bytes.now id.now number slots
+#[tactic(auto, using(shore_types::specs::Versions::sizes))]
+pub fn read_header(version: Version, id: &PageId, bytes: &[u8]) -> Option<Header>
+    requires { length bytes.now ≡ page_bytes version }
+    ensures found { IfSome result (λ header. HasHeader version bytes.now id.now header.number header.slots) }
+    ensures only { (number slots : ℕ) → HasHeader version bytes.now id.now number slots
         → result ≡ Some record { number = number; slots = slots } }
 {
     if u32_at(bytes, 0) != id.store.0 || u32_at(bytes, 4) != id.page || u32_at(bytes, 20) != 0 {
         return None;
     }
     let slots = u16_at(bytes, 16);
-    if slots > MAX_SLOTS {
+    if slots > version.slot_limit() {
         return None;
     }
     let slots = slots as usize;
-    if u16_at(bytes, 18) as usize != PAGE_BYTES - SLOT_ENTRY_BYTES * slots {
+    if u16_at(bytes, 18) as usize != version.page_bytes() - SLOT_ENTRY_BYTES * slots {
         return None;
     }
     let number = Lsn(u64_at(bytes, 8));
@@ -44,32 +43,32 @@ pub fn read_header(id: &PageId, bytes: &[u8]) -> Option<Header>
 }
 
 // Whether a record may be where an entry says.
-fn lies(entry: Entry, table: usize) -> bool
+fn lies(version: Version, entry: Entry, table: usize) -> bool
     requires { (entry.offset < 65536) × (entry.bytes < 65536) }
-    ensures { IsTrue result ↔ Lies table entry.offset entry.bytes }
+    ensures { IsTrue result ↔ Lies version table entry.offset entry.bytes }
 {
     entry.offset >= PAGE_HEADER_BYTES
         && entry.offset + entry.bytes <= table
-        && entry.bytes <= MAX_RECORD_BYTES
+        && entry.bytes <= version.record_limit()
 }
 
 // Marks the bytes of a slot's record, counted from behind the header. False if its entry is none, or if a byte belongs
 // to another record.
-fn take_entry(entry: Entry, table: usize, marks: &mut [u64]) -> bool
+fn take_entry(version: Version, entry: Entry, table: usize, marks: &mut [u64]) -> bool
     requires small { (entry.offset < 65536) × (entry.bytes < 65536) }
-    requires words { length marks.old ≡ 128 }
-    requires table { (24 ≤ table) × (table ≤ 8192) }
-    ensures entry { IsTrue result → IsEntry table entry.offset entry.bytes }
+    requires words { length marks.old ≡ 256 }
+    requires table { (24 ≤ table) × (table ≤ 16384) }
+    ensures entry { IsTrue result → IsEntry version table entry.offset entry.bytes }
     ensures free { let from = entry.offset - 24 in
         IsTrue result → Marks (marks_of marks.old (table - 24)) (marks_of marks.new (table - 24)) from (from + entry.bytes) }
     ensures taken { let from = entry.offset - 24 in result ≡ false
-        → IsEntry table entry.offset entry.bytes → IsTaken (marks_of marks.old (table - 24)) from (from + entry.bytes) }
-    ensures len { length marks.new ≡ 128 }
+        → IsEntry version table entry.offset entry.bytes → IsTaken (marks_of marks.old (table - 24)) from (from + entry.bytes) }
+    ensures len { length marks.new ≡ 256 }
 {
     if entry.offset == 0 && entry.bytes == 0 {
         return true;
     }
-    if !lies(entry, table) {
+    if !lies(version, entry, table) {
         return false;
     }
     let from = entry.offset - PAGE_HEADER_BYTES;
@@ -77,14 +76,14 @@ fn take_entry(entry: Entry, table: usize, marks: &mut [u64]) -> bool
 }
 
 // Where the records end with that of an entry, if it begins where they end or behind; None if it does not, or if the entry is none.
-fn end_behind(entry: Entry, table: usize, end: usize) -> Option<usize>
+fn end_behind(version: Version, entry: Entry, table: usize, end: usize) -> Option<usize>
     requires { (entry.offset < 65536) × (entry.bytes < 65536) }
-    ensures { IfSome result (λ new. Follows table end entry.offset entry.bytes new) }
+    ensures { IfSome result (λ new. Follows version table end entry.offset entry.bytes new) }
 {
     if entry.offset == 0 && entry.bytes == 0 {
         return Some(end);
     }
-    if entry.offset < end || !lies(entry, table) {
+    if entry.offset < end || !lies(version, entry, table) {
         return None;
     }
     Some(entry.offset + entry.bytes)
@@ -92,16 +91,16 @@ fn end_behind(entry: Entry, table: usize, end: usize) -> Option<usize>
 
 // Where the last record ends, if the records lie in the order of their slots, as they do in a page that was filled or compacted; None if they
 // do not. No byte needs a mark then.
-fn rising_end(bytes: &[u8], slots: usize) -> Option<usize>
-    requires whole { length bytes.now ≡ 8192 }
-    requires few { slots ≤ MAX_SLOTS }
-    ensures laid_out { IfSome result (λ end. IsLaidOut bytes.now slots end) }
-    ensures room { IfSome result (λ _. 4 * slots + record_bytes (images_in bytes.now slots) ≤ 8168) }
+fn rising_end(bytes: &[u8], version: Version, slots: usize) -> Option<usize>
+    requires whole { length bytes.now ≡ page_bytes version }
+    requires few { 24 + 4 * slots ≤ page_bytes version }
+    ensures laid_out { IfSome result (λ end. IsLaidOut version bytes.now slots end) }
+    ensures room { IfSome result (λ _. 4 * slots + record_bytes (images_in version bytes.now slots) ≤ page_room version) }
 {
-    let table = PAGE_BYTES - SLOT_ENTRY_BYTES * slots;
+    let table = version.page_bytes() - SLOT_ENTRY_BYTES * slots;
     let mut end = PAGE_HEADER_BYTES;
     for slot in 0..slots {
-        let Some(behind) = end_behind(entry_at(bytes, slot), table, end) else {
+        let Some(behind) = end_behind(version, entry_at(bytes, version, slot), table, end) else {
             return None;
         };
         end = behind;
@@ -110,19 +109,19 @@ fn rising_end(bytes: &[u8], slots: usize) -> Option<usize>
 }
 
 // Where the last record ends, if no two records overlap: a byte that belongs to a record is marked by a bit.
-fn marked_end(bytes: &[u8], slots: usize) -> Option<usize>
-    requires whole { length bytes.now ≡ 8192 }
-    requires few { slots ≤ MAX_SLOTS }
-    ensures laid_out { IfSome result (λ end. IsLaidOut bytes.now slots end) }
-    ensures room { IfSome result (λ _. 4 * slots + record_bytes (images_in bytes.now slots) ≤ 8168) }
-    ensures only { IsTable bytes.now slots → IsSome result }
+fn marked_end(bytes: &[u8], version: Version, slots: usize) -> Option<usize>
+    requires whole { length bytes.now ≡ page_bytes version }
+    requires few { 24 + 4 * slots ≤ page_bytes version }
+    ensures laid_out { IfSome result (λ end. IsLaidOut version bytes.now slots end) }
+    ensures room { IfSome result (λ _. 4 * slots + record_bytes (images_in version bytes.now slots) ≤ page_room version) }
+    ensures only { IsTable version bytes.now slots → IsSome result }
 {
-    let table = PAGE_BYTES - SLOT_ENTRY_BYTES * slots;
+    let table = version.page_bytes() - SLOT_ENTRY_BYTES * slots;
     let mut marks = [0u64; MARK_WORDS];
     let mut end = PAGE_HEADER_BYTES;
     for slot in 0..slots {
-        let entry = entry_at(bytes, slot);
-        if !take_entry(entry, table, &mut marks) {
+        let entry = entry_at(bytes, version, slot);
+        if !take_entry(version, entry, table, &mut marks) {
             return None;
         }
         end = end.max(entry.offset + entry.bytes);
@@ -131,28 +130,28 @@ fn marked_end(bytes: &[u8], slots: usize) -> Option<usize>
 }
 
 /// Where the last record ends; None if the slot table has an entry that is none, or if two records overlap.
-pub fn check_slots(bytes: &[u8], slots: usize) -> Option<usize>
-    requires whole { length bytes.now ≡ 8192 }
-    requires few { slots ≤ MAX_SLOTS }
-    ensures laid_out { IfSome result (λ end. IsLaidOut bytes.now slots end) }
-    ensures room { IfSome result (λ _. 4 * slots + record_bytes (images_in bytes.now slots) ≤ 8168) }
-    ensures only { IsTable bytes.now slots → IsSome result }
+pub fn check_slots(bytes: &[u8], version: Version, slots: usize) -> Option<usize>
+    requires whole { length bytes.now ≡ page_bytes version }
+    requires few { 24 + 4 * slots ≤ page_bytes version }
+    ensures laid_out { IfSome result (λ end. IsLaidOut version bytes.now slots end) }
+    ensures room { IfSome result (λ _. 4 * slots + record_bytes (images_in version bytes.now slots) ≤ page_room version) }
+    ensures only { IsTable version bytes.now slots → IsSome result }
 {
-    let rising = rising_end(bytes, slots);
+    let rising = rising_end(bytes, version, slots);
     if rising.is_some() {
         return rising;
     }
-    marked_end(bytes, slots)
+    marked_end(bytes, version, slots)
 }
 
 /// So many slots have a record, from the first on.
-pub fn full_slots(bytes: &[u8], slots: usize) -> usize
-    requires whole { length bytes.now ≡ 8192 }
-    requires few { slots ≤ MAX_SLOTS }
-    ensures { AreFull (images_in bytes.now slots) result }
+pub fn full_slots(bytes: &[u8], version: Version, slots: usize) -> usize
+    requires whole { length bytes.now ≡ page_bytes version }
+    requires few { 24 + 4 * slots ≤ page_bytes version }
+    ensures { AreFull (images_in version bytes.now slots) result }
 {
     for slot in 0..slots {
-        if entry_at(bytes, slot).offset == 0 {
+        if entry_at(bytes, version, slot).offset == 0 {
             return slot;
         }
     }

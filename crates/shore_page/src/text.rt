@@ -3,7 +3,8 @@ ghost use Rattle.std.specs.Prelude.{◌≡◌, ◌≢◌, ◌↔◌, ◌⊎◌, 
 ghost use Rattle.std.specs.Option.{option_and_then};
 ghost use Rattle.shore_types.specs.Images.{Image, image_len};
 ghost use Rattle.shore_types.specs.Runs.{IsRun};
-ghost use Rattle.shore_types.specs.declared.layout.TheConstants.{PAGE_BYTES, MAX_RECORD_BYTES, MAX_SLOTS};
+ghost use Rattle.shore_types.specs.declared.layout.TheConstants.{MAX_SLOTS};
+ghost use Rattle.shore_types.specs.Versions.{page_bytes, page_room, record_limit};
 ghost use Rattle.shore_page.specs.Text.{IsPageText};
 ghost use Rattle.shore_page.specs.Layout.{record_bytes};
 
@@ -11,14 +12,16 @@ use crate::entries::{entry_at, image_at};
 use crate::placing::{append_image, clear_slot, grow_table, put_image};
 use crate::reading::{check_slots, full_slots, read_header};
 use crate::writing::{put_header, put_number};
-use shore_types::layout::{PAGE_BYTES, PAGE_HEADER_BYTES, SLOT_ENTRY_BYTES};
-use shore_types::{Lsn, PageId};
+use shore_types::layout::PAGE_HEADER_BYTES;
+use shore_types::{Lsn, PageId, Version};
 use std::alloc::{AllocError, Global};
 use std::marker::Model;
 
 /// The text of a page.
 #[derive(Drop)]
 pub struct PageBytes {
+    // The version that says how long the page is.
+    version: Version,
     // The id, as the header has it.
     id: PageId,
     // The number of the last logged change (page_LSN), as the header has it.
@@ -40,19 +43,20 @@ impl Model for PageBytes {
 
     ghost Value = { PageImages };
 
-    ghost view = { λ p. record { id = p.id; number = p.number; images = images_in p.bytes.items p.slots } };
+    ghost view = { λ p. record { version = p.version; id = p.id; number = p.number; images = images_in p.version p.bytes.items p.slots } };
 
-    ghost invariant = { λ p. IsPageBytes p.bytes.items p.id p.number p.slots p.end p.full };
+    ghost invariant = { λ p. IsPageBytes p.version p.bytes.items p.id p.number p.slots p.end p.full };
 }
 
 impl PageBytes {
     /// The text of a page with no slot, which no change has reached.
-    pub fn new(alloc: Global, id: PageId) -> Result<PageBytes, AllocError>
-        ensures { IfOk result (λ text. text ≡ record { id = id; number = 0; images = [] }) }
+    pub fn new(alloc: Global, version: Version, id: PageId) -> Result<PageBytes, AllocError>
+        ensures { IfOk result (λ text. text ≡ record { version = version; id = id; number = 0; images = [] }) }
     {
-        let mut bytes = Vec::from_elem(alloc, 0u8, PAGE_BYTES)?;
-        put_header(&mut bytes, &id);
+        let mut bytes = Vec::from_elem(alloc, 0u8, version.page_bytes())?;
+        put_header(&mut bytes, version, &id);
         Ok(PageBytes {
+            version,
             id,
             number: Lsn(0),
             bytes,
@@ -60,6 +64,13 @@ impl PageBytes {
             end: PAGE_HEADER_BYTES,
             full: 0,
         })
+    }
+
+    /// The version of the text.
+    pub fn version(&self) -> Version
+        ensures { result ≡ self.now.version }
+    {
+        self.version
     }
 
     pub fn id(&self) -> PageId
@@ -78,13 +89,13 @@ impl PageBytes {
     pub fn set_number(&mut self, number: Lsn)
         ensures { self.new ≡ record self.old { number = number } }
     {
-        put_number(&mut self.bytes, number);
+        put_number(&mut self.bytes, self.version, number);
         self.number = number;
     }
 
     pub fn slot_count(&self) -> usize
         ensures count { result ≡ length self.now.images }
-        ensures most { result ≤ MAX_SLOTS }
+        ensures most { 24 + 4 * result ≤ page_bytes self.now.version }
     {
         self.slots
     }
@@ -94,7 +105,7 @@ impl PageBytes {
         requires { slot < length self.now.images }
         ensures { option_map (λ bytes. bytes.now) result ≡ slice_index_or self.now.images slot None }
     {
-        image_at(&self.bytes, slot)
+        image_at(&self.bytes, self.version, slot)
     }
 
     /// The bytes of all records, if they lie one behind another from the header on, in the order of their slots, and each slot has one. None only
@@ -104,7 +115,7 @@ impl PageBytes {
     {
         let mut end = PAGE_HEADER_BYTES;
         for slot in 0..self.slots {
-            let entry = entry_at(&self.bytes, slot);
+            let entry = entry_at(&self.bytes, self.version, slot);
             if entry.offset != end {
                 return None;
             }
@@ -118,7 +129,7 @@ impl PageBytes {
         requires { slot < length self.now.images }
         ensures { IsTrue result ↔ (slice_index_or self.now.images slot None ≡ None) }
     {
-        entry_at(&self.bytes, slot).offset == 0
+        entry_at(&self.bytes, self.version, slot).offset == 0
     }
 
     /// A slot so that all from one on up to it have a record: the first that has none, or one shortly before it. Slots are looked at
@@ -138,9 +149,10 @@ impl PageBytes {
     }
 
     // Whether four slots have a record.
+    #[tactic(auto, using(shore_types::specs::Versions::sizes))]
     fn are_full(&self, first: usize) -> bool
         requires there { first + 4 ≤ length self.now.images }
-        requires few { first < MAX_SLOTS }
+        requires few { 28 + 4 * first ≤ page_bytes self.now.version }
         ensures { IsTrue result → (slot : ℕ) → first ≤ slot → slot < first + 4 → slice_index_or self.now.images slot None ≢ None }
     {
         if self.is_empty(first) || self.is_empty(first + 1) {
@@ -153,43 +165,50 @@ impl PageBytes {
     pub fn record_len(&self, slot: usize) -> usize
         requires { slot < length self.now.images }
         ensures len { result ≡ image_len (slice_index_or self.now.images slot None) }
-        ensures most { result ≤ MAX_RECORD_BYTES }
+        ensures most { result ≤ record_limit self.now.version }
     {
-        entry_at(&self.bytes, slot).bytes
+        entry_at(&self.bytes, self.version, slot).bytes
     }
 
     /// Makes so many slots, of which those that are new are empty.
     pub fn grow(&mut self, slots: usize)
         requires order { length self.old.images ≤ slots }
-        requires room { 4 * slots + record_bytes self.old.images ≤ 8168 }
+        requires room { 4 * slots + record_bytes self.old.images ≤ page_room self.old.version }
         ensures { self.new ≡ record self.old { images = self.old.images ++ replicate (slots - length self.old.images) None } }
     {
-        self.end = grow_table(&mut self.bytes, self.slots, self.end, slots);
+        self.end = grow_table(&mut self.bytes, self.version, self.slots, self.end, slots);
         self.slots = slots;
     }
 
     /// Puts a record into a slot that is there.
     pub fn put(&mut self, slot: usize, bytes: &[u8])
         requires there { slot < length self.old.images }
-        requires most { length bytes.now ≤ MAX_RECORD_BYTES }
-        requires room { 4 * length self.old.images + record_bytes (set self.old.images slot None) + length bytes.now ≤ 8168 }
+        requires most { length bytes.now ≤ record_limit self.old.version }
+        requires room { 4 * length self.old.images + record_bytes (set self.old.images slot None) + length bytes.now ≤ page_room self.old.version }
         ensures { self.new ≡ record self.old { images = set self.old.images slot (Some bytes.now) } }
     {
-        self.end = put_image(&mut self.bytes, self.slots, self.end, slot, bytes);
+        self.end = put_image(
+            &mut self.bytes,
+            self.version,
+            self.slots,
+            self.end,
+            slot,
+            bytes,
+        );
         // Those behind it may have been full all the while.
         if slot == self.full {
-            self.full = full_slots(&self.bytes, self.slots);
+            self.full = full_slots(&self.bytes, self.version, self.slots);
         }
     }
 
     /// Puts a record into the slot behind the last one.
     pub fn append(&mut self, bytes: &[u8])
-        requires few { length self.old.images < MAX_SLOTS }
-        requires most { length bytes.now ≤ MAX_RECORD_BYTES }
-        requires room { 4 * (length self.old.images + 1) + record_bytes self.old.images + length bytes.now ≤ 8168 }
+        requires few { 28 + 4 * length self.old.images ≤ page_bytes self.old.version }
+        requires most { length bytes.now ≤ record_limit self.old.version }
+        requires room { 4 * (length self.old.images + 1) + record_bytes self.old.images + length bytes.now ≤ page_room self.old.version }
         ensures { self.new ≡ record self.old { images = self.old.images ++ Some bytes.now ∷ [] } }
     {
-        self.end = append_image(&mut self.bytes, self.slots, self.end, bytes);
+        self.end = append_image(&mut self.bytes, self.version, self.slots, self.end, bytes);
         self.full = full_with(self.full, self.slots);
         self.slots += 1;
     }
@@ -199,21 +218,21 @@ impl PageBytes {
         requires { slot < length self.old.images }
         ensures { self.new ≡ record self.old { images = set self.old.images slot None } }
     {
-        clear_slot(&mut self.bytes, self.slots, slot);
+        clear_slot(&mut self.bytes, self.version, self.slots, slot);
         self.full = self.full.min(slot);
     }
 
     /// The text itself.
     pub fn text(&self) -> &[u8]
-        ensures { IsPageText result.now self.now.id self.now.number self.now.images }
+        ensures { IsPageText self.now.version result.now self.now.id self.now.number self.now.images }
     {
         &self.bytes
     }
 
     /// Fills bytes with the text.
     pub fn to_bytes(&self, out: &mut [u8])
-        requires { length out.old ≡ PAGE_BYTES }
-        ensures { IsPageText out.new self.now.id self.now.number self.now.images }
+        requires { length out.old ≡ page_bytes self.now.version }
+        ensures { IsPageText self.now.version out.new self.now.id self.now.number self.now.images }
     {
         out.copy_from_slice(&self.bytes);
     }
@@ -221,27 +240,29 @@ impl PageBytes {
     /// The page of this id whose text the bytes are; None if they are no text of it.
     pub fn from_bytes(
         alloc: Global,
+        version: Version,
         id: PageId,
         bytes: &[u8],
     ) -> Result<Option<PageBytes>, AllocError>
         ensures found { IfOk result (λ found. IfSome found (λ page.
-            (page.id ≡ id) × IsPageText bytes.now id page.number page.images)) }
-        ensures room { IfOk result (λ found. IfSome found (λ page. 4 * length page.images + record_bytes page.images ≤ 8168)) }
-        ensures only { (number : ℕ) (images : List Image) → IsPageText bytes.now id number images
-            → IfOk result (λ found. found ≡ Some record { id = id; number = number; images = images }) }
+            (page.version ≡ version) × (page.id ≡ id) × IsPageText version bytes.now id page.number page.images)) }
+        ensures room { IfOk result (λ found. IfSome found (λ page. 4 * length page.images + record_bytes page.images ≤ page_room version)) }
+        ensures only { (number : ℕ) (images : List Image) → IsPageText version bytes.now id number images
+            → IfOk result (λ found. found ≡ Some record { version = version; id = id; number = number; images = images }) }
     {
-        if bytes.len() != PAGE_BYTES {
+        if bytes.len() != version.page_bytes() {
             return Ok(None);
         }
-        let Some(header) = read_header(&id, bytes) else {
+        let Some(header) = read_header(version, &id, bytes) else {
             return Ok(None);
         };
-        let Some(end) = check_slots(bytes, header.slots) else {
+        let Some(end) = check_slots(bytes, version, header.slots) else {
             return Ok(None);
         };
-        let full = full_slots(bytes, header.slots);
+        let full = full_slots(bytes, version, header.slots);
         let bytes = Vec::from_slice(alloc, bytes)?;
         Ok(Some(PageBytes {
+            version,
             id,
             number: header.number,
             bytes,

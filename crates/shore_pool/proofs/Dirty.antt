@@ -107,7 +107,7 @@ each_listed at (suc n) k f recovery less is dirty = elim (cases_lt k n) [
 module _ (at : ℕ → Option Frame) (g : Geometry) (order : AreInOrder at g) where
   has_page : (slot : Option Frame) (k : ℕ) (entry : DirtyPage) → at k ≡ slot → IsSomeAnd slot (λ f. (f.page.id ≡ entry.page) × (f.recovery ≡ Some entry.recovery)) → HasPage g entry.page × (page_number g entry.page ≡ k)
   has_page None k entry is has = absurd has
-  has_page (Some f) k entry is has = subst (λ (p : PageId). HasPage g p × (page_number g p ≡ k)) has.0 (order k f is)
+  has_page (Some f) k entry is has = subst (λ (p : PageId). HasPage g p × (page_number g p ≡ k)) has.0 (let o = order k f is in (o.0, o.1))
 
   lower : (n : ℕ) (entry : DirtyPage) (es : List DirtyPage) → HasPage g entry.page → page_number g entry.page ≡ n → AllByRecursion (IsFound at n) es → AllByRecursion (λ (d : DirtyPage). page_cmp d.page entry.page ≡ Less) es
   lower n entry [] has number h = tt

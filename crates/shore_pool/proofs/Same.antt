@@ -3,6 +3,7 @@ use Rattle.std.proofs.Common.{◌≡◌, ◌≢◌, ◌⊎◌, ◌↔◌, ◌<�
 use Rattle.std.proofs.lemmas.Bool.{cases_eq, cases_lt}
 use Rattle.shore_types.specs.declared.ids.PageId.{PageId}
 use Rattle.shore_types.specs.Images.{Image}
+use Rattle.shore_types.specs.declared.versions.Version.{Version}
 use Rattle.shore_page.specs.Reading.{images_in}
 use Rattle.shore_page.specs.Text.{IsPageText, images_of}
 use Rattle.shore_page.proofs.SlotsRead.{images_are}
@@ -16,24 +17,25 @@ page_id : ℕ → ℕ → PageId
 page_id store page = record { store = store; page = page }
 
 -- bytes are the text of one page at most
-pub one_text : (bytes : List ℕ) (a b : PageId) (m n : ℕ) (images others : List Image) → IsPageText bytes a m images → IsPageText bytes b n others → (a ≡ b) × (m ≡ n) × (images ≡ others)
-one_text bytes a b m n images others first second =
+pub one_text : (v : Version) (bytes : List ℕ) (a b : PageId) (m n : ℕ) (images others : List Image) → IsPageText v bytes a m images → IsPageText v bytes b n others → (a ≡ b) × (m ≡ n) × (images ≡ others)
+one_text v bytes a b m n images others first second =
     let count : length images ≡ length others = sym first.header.count ∙ second.header.count in
     let id : a ≡ b = ap (λ (store : ℕ). record { store = store; page = a.page }) (sym first.header.store ∙ second.header.store) ∙ ap (λ (page : ℕ). record { store = b.store; page = page }) (sym first.header.page ∙ second.header.page) in
-    (id, sym first.header.last ∙ second.header.last, sym (images_are bytes a m images first) ∙ ap (images_in bytes) count ∙ images_are bytes b n others second)
+    (id, sym first.header.last ∙ second.header.last, sym (images_are v bytes a m images first) ∙ ap (images_in v bytes) count ∙ images_are v bytes b n others second)
 
 -- a clean frame and the volume have one page
-pub one_page : (f : Frame) (text : List ℕ) → IsTextOf f text → (id : PageId) (number : ℕ) (images : List Image) → IsPage (Some f) text id number images ↔ IsPage None text id number images
-one_page f text is id number images = (
-  (λ p. subst (λ (a : PageId). IsPageText text a number images) p.0 (subst (λ (n : ℕ). IsPageText text f.page.id n images) p.1 (subst (λ (l : List Image). IsPageText text f.page.id f.page.number l) p.2 is))),
-  (λ p. one_text text f.page.id id f.page.number number (images_of f.page.slots) images is p),
-)
+pub one_page : (v : Version) (f : Frame) (text : List ℕ) → f.page.version ≡ v → IsTextOf f text → (id : PageId) (number : ℕ) (images : List Image) → IsPage v (Some f) text id number images ↔ IsPage v None text id number images
+one_page v f text same its id number images =
+    let is = subst (λ (w : Version). IsPageText w text f.page.id f.page.number (images_of f.page.slots)) same its in (
+      (λ p. subst (λ (a : PageId). IsPageText v text a number images) p.0 (subst (λ (n : ℕ). IsPageText v text f.page.id n images) p.1 (subst (λ (l : List Image). IsPageText v text f.page.id f.page.number l) p.2 is))),
+      (λ p. one_text v text f.page.id id f.page.number number (images_of f.page.slots) images is p),
+    )
 
-pub pages_stay : (at now : ℕ → Option Frame) (disk : ℕ → List ℕ) → ((k : ℕ) → now k ≡ at k) → SamePages at disk now disk
-pages_stay at now disk same k id number images = subst (λ (o : Option Frame). IsPage (at k) (disk k) id number images ↔ IsPage o (disk k) id number images) (sym (same k)) ((λ p. p), (λ p. p))
+pub pages_stay : (v : Version) (at now : ℕ → Option Frame) (disk : ℕ → List ℕ) → ((k : ℕ) → now k ≡ at k) → SamePages v at disk now disk
+pages_stay v at now disk same k id number images = subst (λ (o : Option Frame). IsPage v (at k) (disk k) id number images ↔ IsPage v o (disk k) id number images) (sym (same k)) ((λ p. p), (λ p. p))
 
-pub pages_on : (at mid now : ℕ → Option Frame) (disk between left : ℕ → List ℕ) → SamePages at disk mid between → SamePages mid between now left → SamePages at disk now left
-pages_on at mid now disk between left one two k id number images = (
+pub pages_on : (v : Version) (at mid now : ℕ → Option Frame) (disk between left : ℕ → List ℕ) → SamePages v at disk mid between → SamePages v mid between now left → SamePages v at disk now left
+pages_on v at mid now disk between left one two k id number images = (
   (λ p. (two k id number images).0 ((one k id number images).0 p)),
   (λ p. (one k id number images).1 ((two k id number images).1 p)),
 )
@@ -44,29 +46,29 @@ written_stay at now disk each written k f is clean = elim (each k) [
   | inr gone ↦ let clash : None ≡ Some f = sym gone ∙ is in absurd (cc)
 ]
 
-module _ (at now : ℕ → Option Frame) (disk : ℕ → List ℕ) (n : ℕ) (others : (k : ℕ) → k ≢ n → now k ≡ at k) where
-  by_page : ((id : PageId) (number : ℕ) (images : List Image) → IsPage (at n) (disk n) id number images ↔ IsPage (now n) (disk n) id number images) → SamePages at disk now disk
+module _ (v : Version) (at now : ℕ → Option Frame) (disk : ℕ → List ℕ) (n : ℕ) (others : (k : ℕ) → k ≢ n → now k ≡ at k) where
+  by_page : ((id : PageId) (number : ℕ) (images : List Image) → IsPage v (at n) (disk n) id number images ↔ IsPage v (now n) (disk n) id number images) → SamePages v at disk now disk
   by_page here k id number images = elim (cases_eq k n) [
-    | inl same ↦ subst (λ (i : ℕ). IsPage (at i) (disk i) id number images ↔ IsPage (now i) (disk i) id number images) (sym same) (here id number images)
-    | inr other ↦ subst (λ (o : Option Frame). IsPage (at k) (disk k) id number images ↔ IsPage o (disk k) id number images) (sym (others k other)) ((λ p. p), (λ p. p))
+    | inl same ↦ subst (λ (i : ℕ). IsPage v (at i) (disk i) id number images ↔ IsPage v (now i) (disk i) id number images) (sym same) (here id number images)
+    | inr other ↦ subst (λ (o : Option Frame). IsPage v (at k) (disk k) id number images ↔ IsPage v o (disk k) id number images) (sym (others k other)) ((λ p. p), (λ p. p))
   ]
 
   turned : {A B : Type 0} → A ↔ B → B ↔ A
   turned e = (e.1, e.0)
 
   -- a clean frame goes
-  pub page_goes : AreWritten at disk → IsSomeAnd (at n) (λ f. f.recovery ≡ None) → now n ≡ None → SamePages at disk now disk
-  page_goes written clean gone = by_page (λ id number images. each (at n) (written n) clean id number images)
+  pub page_goes : AreWritten at disk → ((f : Frame) → at n ≡ Some f → f.page.version ≡ v) → IsSomeAnd (at n) (λ f. f.recovery ≡ None) → now n ≡ None → SamePages v at disk now disk
+  page_goes written own clean gone = by_page (λ id number images. each (at n) (written n) own clean id number images)
     where
-      each : (slot : Option Frame) → ((f : Frame) → slot ≡ Some f → f.recovery ≡ None → IsTextOf f (disk n)) → IsSomeAnd slot (λ f. f.recovery ≡ None) → (id : PageId) (number : ℕ) (images : List Image) → IsPage slot (disk n) id number images ↔ IsPage (now n) (disk n) id number images
-      each None is clean id number images = absurd clean
-      each (Some f) is clean id number images = subst (λ (o : Option Frame). IsPage (Some f) (disk n) id number images ↔ IsPage o (disk n) id number images) (sym gone) (one_page f (disk n) (is f refl clean) id number images)
+      each : (slot : Option Frame) → ((f : Frame) → slot ≡ Some f → f.recovery ≡ None → IsTextOf f (disk n)) → ((f : Frame) → slot ≡ Some f → f.page.version ≡ v) → IsSomeAnd slot (λ f. f.recovery ≡ None) → (id : PageId) (number : ℕ) (images : List Image) → IsPage v slot (disk n) id number images ↔ IsPage v (now n) (disk n) id number images
+      each None is own clean id number images = absurd clean
+      each (Some f) is own clean id number images = subst (λ (o : Option Frame). IsPage v (Some f) (disk n) id number images ↔ IsPage v o (disk n) id number images) (sym gone) (one_page v f (disk n) (own f refl) (is f refl clean) id number images)
 
   -- a page that was read comes
-  pub page_comes : (f : Frame) → IsTextOf f (disk n) → at n ≡ None → now n ≡ Some f → SamePages at disk now disk
-  page_comes f text none here = by_page (λ id number images.
-      subst (λ (o : Option Frame). IsPage o (disk n) id number images ↔ IsPage (now n) (disk n) id number images) (sym none)
-      (subst (λ (o : Option Frame). IsPage None (disk n) id number images ↔ IsPage o (disk n) id number images) (sym here) (turned (one_page f (disk n) text id number images))))
+  pub page_comes : (f : Frame) → f.page.version ≡ v → IsTextOf f (disk n) → at n ≡ None → now n ≡ Some f → SamePages v at disk now disk
+  page_comes f own text none here = by_page (λ id number images.
+      subst (λ (o : Option Frame). IsPage v o (disk n) id number images ↔ IsPage v (now n) (disk n) id number images) (sym none)
+      (subst (λ (o : Option Frame). IsPage v None (disk n) id number images ↔ IsPage v o (disk n) id number images) (sym here) (turned (one_page v f (disk n) own text id number images))))
 
   pub written_comes : (f : Frame) → IsTextOf f (disk n) → now n ≡ Some f → AreWritten at disk → AreWritten now disk
   written_comes f text here written k e is clean = elim (cases_eq k n) [
@@ -118,11 +120,11 @@ images_stay claim keeps [] slot = refl
 images_stay claim keeps (s ∷ slots) zero = ap (λ (i : Image). i ∷ images_of slots) (keeps s)
 images_stay claim keeps (s ∷ slots) (suc slot) = ap (λ (l : List Image). s.image ∷ l) (images_stay claim keeps slots slot)
 
-module _ (at now : ℕ → Option Frame) (disk : ℕ → List ℕ) (n slot : ℕ) (claim : Slot → Slot) (keeps : (s : Slot) → (claim s).image ≡ s.image) (here : now n ≡ option_map (reclaimed claim slot) (at n)) (others : (k : ℕ) → k ≢ n → now k ≡ at k) where
-  pub claims_stay : SamePages at disk now disk
-  claims_stay = by_page at now disk n others (λ id number images. subst (λ (o : Option Frame). IsPage (at n) (disk n) id number images ↔ IsPage o (disk n) id number images) (sym here) (each (at n) id number images))
+module _ (v : Version) (at now : ℕ → Option Frame) (disk : ℕ → List ℕ) (n slot : ℕ) (claim : Slot → Slot) (keeps : (s : Slot) → (claim s).image ≡ s.image) (here : now n ≡ option_map (reclaimed claim slot) (at n)) (others : (k : ℕ) → k ≢ n → now k ≡ at k) where
+  pub claims_stay : SamePages v at disk now disk
+  claims_stay = by_page v at now disk n others (λ id number images. subst (λ (o : Option Frame). IsPage v (at n) (disk n) id number images ↔ IsPage v o (disk n) id number images) (sym here) (each (at n) id number images))
     where
-      each : (o : Option Frame) (id : PageId) (number : ℕ) (images : List Image) → IsPage o (disk n) id number images ↔ IsPage (option_map (reclaimed claim slot) o) (disk n) id number images
+      each : (o : Option Frame) (id : PageId) (number : ℕ) (images : List Image) → IsPage v o (disk n) id number images ↔ IsPage v (option_map (reclaimed claim slot) o) (disk n) id number images
       each None id number images = ((λ p. p), (λ p. p))
       each (Some f) id number images = (
         (λ p. (p.0, p.1, images_stay claim keeps f.page.slots slot ∙ p.2)),
@@ -140,7 +142,7 @@ module _ (at now : ℕ → Option Frame) (disk : ℕ → List ℕ) (n slot : ℕ
       each (Some e) text there =
           let both : reclaimed claim slot e ≡ f = cc in
           let dirty : e.recovery ≡ None = ap (λ (x : Frame). x.recovery) both ∙ clean in
-          subst (λ (x : Frame). IsTextOf x (disk k)) both (subst (λ (l : List Image). IsPageText (disk k) e.page.id e.page.number l) (sym (images_stay claim keeps e.page.slots slot)) (text e refl dirty))
+          subst (λ (x : Frame). IsTextOf x (disk k)) both (subst (λ (l : List Image). IsPageText e.page.version (disk k) e.page.id e.page.number l) (sym (images_stay claim keeps e.page.slots slot)) (text e refl dirty))
 
   -- the text of its page is no other, and it stays
   pub claims_text : (k : ℕ) (text : List ℕ) → HasText at k text → HasText now k text
@@ -151,7 +153,7 @@ module _ (at now : ℕ → Option Frame) (disk : ℕ → List ℕ) (n slot : ℕ
     where
       each : (o : Option Frame) → IsSomeAnd o (λ f. IsTextOf f text) → IsSomeAnd (option_map (reclaimed claim slot) o) (λ f. IsTextOf f text)
       each None has = has
-      each (Some e) has = subst (λ (l : List Image). IsPageText text e.page.id e.page.number l) (sym (images_stay claim keeps e.page.slots slot)) has
+      each (Some e) has = subst (λ (l : List Image). IsPageText e.page.version text e.page.id e.page.number l) (sym (images_stay claim keeps e.page.slots slot)) has
 
   pub claims_some : (k : ℕ) → is_some (at k) ≡ true → is_some (now k) ≡ true
   claims_some k is = elim (cases_eq k n) [

@@ -3,10 +3,11 @@ use Rattle.std.proofs.Common.{◌≡◌, ◌⊎◌, ◌≢◌, ◌<◌, ◌≤�
 use Rattle.shore_disk.specs.declared.device.Disk.{Ghosts}
 use Rattle.shore_types.specs.declared.faults.Device.TheVariants as Device
 use Rattle.shore_types.specs.declared.faults.Fault.{Fault}
+use Rattle.shore_types.specs.declared.layout.Geometry.{Geometry}
 use Rattle.shore_pool.specs.declared.frame.Frame.{Frame}
 use Rattle.shore_pool.specs.declared.pool.Pool.{Pool}
 use Rattle.shore_pool.specs.Pages.{IsTextOf, MayBeLeft, SamePages, StayUnwritten, WereDirty}
-use Rattle.shore_pool.specs.Pools.{PoolHolds, NeedsForce, WroteBack, frame_at}
+use Rattle.shore_pool.specs.Pools.{PoolHolds, NeedsForce, WroteBack, frame_at, geometry_of}
 use Rattle.shore_pool.proofs.Same.{pages_on, pages_stay}
 use Rattle.shore_pool.proofs.Unwritten.{none_written, unwritten_on, were_same}
 
@@ -14,14 +15,14 @@ use Rattle.shore_pool.proofs.Unwritten.{none_written, unwritten_on, were_same}
 pub alike : (at now : ℕ → Option Frame) → ((k : ℕ) → now k ≡ at k) → now ≡ at
 alike at now same = λ i k. same k i
 
-module _ {D : Type 0} {G : Ghosts D} (old mid new : Pool D G) (same : frame_at mid ≡ frame_at old) (durable : ℕ) (front : List ℕ) (disk : ℕ → List ℕ) where
+module _ {D : Type 0} {G : Ghosts D} (old mid new : Pool D G) (geometry : geometry_of mid ≡ geometry_of old) (same : frame_at mid ≡ frame_at old) (durable : ℕ) (front : List ℕ) (disk : ℕ → List ℕ) where
   -- a call that writes back after one that only looks
   pub wrote_from : WroteBack mid new durable front disk → WroteBack old new durable front disk
   wrote_from w = record {
     left = w.left;
     holds = w.holds;
     may = subst (λ at. MayBeLeft at durable disk w.left) same w.may;
-    same = subst (λ at. SamePages at disk (frame_at new) w.left) same w.same;
+    same = subst (λ at. SamePages (geometry_of old).version at disk (frame_at new) w.left) same (subst (λ (g : Geometry). SamePages g.version (frame_at mid) disk (frame_at new) w.left) geometry w.same);
     unwritten = subst (λ at. StayUnwritten at disk (frame_at new) w.left) same w.unwritten;
   }
 
@@ -52,8 +53,8 @@ wrote_still old new durable front disk same holds = record {
   left = disk;
   holds = holds;
   may = λ k. inl refl;
-  same = pages_stay (frame_at old) (frame_at new) disk same;
-  unwritten = none_written (frame_at old) (frame_at new) disk (were_same (frame_at old) (frame_at new) same);
+  same = pages_stay (geometry_of old).version (frame_at old) (frame_at new) disk same;
+  unwritten = none_written (geometry_of old).version (frame_at old) (frame_at new) disk (were_same (geometry_of old).version (frame_at old) (frame_at new) same);
 }
 
 -- a call that wrote back, and one more that changes no frame
@@ -63,19 +64,19 @@ wrote_on old mid new durable front disk is w holds = record {
   left = w.left;
   holds = holds;
   may = w.may;
-  same = subst (λ (now : ℕ → Option Frame). SamePages (frame_at old) disk now w.left) (sym is) w.same;
+  same = subst (λ (now : ℕ → Option Frame). SamePages (geometry_of old).version (frame_at old) disk now w.left) (sym is) w.same;
   unwritten = subst (λ (now : ℕ → Option Frame). StayUnwritten (frame_at old) disk now w.left) (sym is) w.unwritten;
 }
 
 -- one more page comes behind a call that wrote back
 pub wrote_then : {D : Type 0} {G : Ghosts D} (old mid new : Pool D G) (durable : ℕ) (front : List ℕ) (disk : ℕ → List ℕ) (w : WroteBack old mid durable front disk)
-    → WereDirty (frame_at mid) (frame_at new) → PoolHolds new front w.left × SamePages (frame_at mid) w.left (frame_at new) w.left → WroteBack old new durable front disk
+    → WereDirty (frame_at mid) (frame_at new) → PoolHolds new front w.left × SamePages (geometry_of old).version (frame_at mid) w.left (frame_at new) w.left → WroteBack old new durable front disk
 wrote_then old mid new durable front disk w were more = record {
   left = w.left;
   holds = more.0;
   may = w.may;
-  same = pages_on (frame_at old) (frame_at mid) (frame_at new) disk w.left w.left w.same more.1;
-  unwritten = unwritten_on (frame_at old) (frame_at mid) (frame_at new) disk w.left w.left w.unwritten (none_written (frame_at mid) (frame_at new) w.left were);
+  same = pages_on (geometry_of old).version (frame_at old) (frame_at mid) (frame_at new) disk w.left w.left w.same more.1;
+  unwritten = unwritten_on (frame_at old) (frame_at mid) (frame_at new) disk w.left w.left w.unwritten (none_written (geometry_of old).version (frame_at mid) (frame_at new) w.left were);
 }
 
 pub match_err : {T E : Type 0} {B P : E → Type 0} (C : Type 0) (r : Result T E) → IsErrAnd r P → ((e : E) → P e → B e) → MatchResult r (λ _. C) B

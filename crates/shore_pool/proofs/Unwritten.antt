@@ -1,13 +1,14 @@
 -- Pages that are dirty still, and were not written.
 use Rattle.std.proofs.Common.{◌≡◌, ◌≢◌, ℕ, List, Option, Some, None, option_map, refl, sym, ap, ◌∙◌, inl, inr}
 use Rattle.std.proofs.lemmas.Bool.{cases_eq}
+use Rattle.shore_types.specs.declared.versions.Version.{Version}
 use Rattle.shore_dwrite.specs.Shown.{AreTexts, overlaid}
 use Rattle.shore_pool.specs.declared.frame.Frame.{Frame}
 use Rattle.shore_pool.specs.Changes.{settled, settled_at}
 use Rattle.shore_pool.specs.Pages.{HasText, StayUnwritten, WereDirty}
 use Rattle.shore_pool.proofs.Written.{each_page}
 
-module _ (at now : ℕ → Option Frame) where
+module _ (v : Version) (at now : ℕ → Option Frame) where
   pub were_same : ((k : ℕ) → now k ≡ at k) → WereDirty at now
   were_same same k f is dirty = sym (same k) ∙ is
 
@@ -29,8 +30,8 @@ module _ (at now : ℕ → Option Frame) where
   none_written disk were k f is dirty = (were k f is dirty, refl)
 
   -- a batch was
-  pub others_unwritten : (ns texts : List ℕ) (disk : ℕ → List ℕ) → AreTexts (HasText at) ns texts → ((k : ℕ) → now k ≡ settled_at ns at k) → StayUnwritten at disk now (overlaid ns texts disk)
-  others_unwritten ns texts disk are settles k f is dirty = elim (each_page at ns texts disk are k) [
+  pub others_unwritten : (ns texts : List ℕ) (disk : ℕ → List ℕ) → AreTexts v (HasText at) ns texts → ((k : ℕ) → now k ≡ settled_at ns at k) → StayUnwritten at disk now (overlaid v ns texts disk)
+  others_unwritten ns texts disk are settles k f is dirty = elim (each_page v at ns texts disk are k) [
     | inl old ↦ (sym (settles k ∙ old.same) ∙ is, old.text)
     | inr new ↦ absurd (dirty (clean (at k) (sym (settles k ∙ new.clean) ∙ is)))
   ]

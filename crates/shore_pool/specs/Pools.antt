@@ -65,13 +65,13 @@ batch_texts_of pool = texts_of pool.batch
 pub record PoolHolds {D : Type 0} {G : Ghosts D} (pool : Pool D G) (front : List ℕ) (disk : ℕ → List ℕ) : Type 0 where
   pub settled : HoldsAmid pool.amid pool.device front disk (batch_of pool) (batch_texts_of pool)
   pub written : AreWritten (frame_at pool) disk
-  pub held : AreHeld pool.amid (frame_at pool) (batch_of pool) (batch_texts_of pool)
+  pub held : AreHeld (geometry_of pool).version pool.amid (frame_at pool) (batch_of pool) (batch_texts_of pool)
 
 -- a page in place, over these texts: its number and what is in its slots
 abbrev pub HasInPlace : {D : Type 0} {G : Ghosts D} → Pool D G → (ℕ → List ℕ) → PageId → ℕ → List Image → Type 0
 HasInPlace pool disk id number images =
     let k = page_number (geometry_of pool) id in
-    IsPage (frame_at pool k) (disk k) id number images
+    IsPage (geometry_of pool).version (frame_at pool k) (disk k) id number images
 
 -- What a call leaves that may have written pages back: all pages in place are what they were, and on the volume each is as it was, or
 -- as it was in its frame, with a number up to this one. A page that is still dirty was not written: so what was written is dirty no more.
@@ -79,7 +79,7 @@ pub record WroteBack {D : Type 0} {G : Ghosts D} (old new : Pool D G) (durable :
   pub left : ℕ → List ℕ
   pub holds : PoolHolds new front left
   pub may : MayBeLeft (frame_at old) durable disk left
-  pub same : SamePages (frame_at old) disk (frame_at new) left
+  pub same : SamePages (geometry_of old).version (frame_at old) disk (frame_at new) left
   pub unwritten : StayUnwritten (frame_at old) disk (frame_at new) left
 
 -- .. and an image of the volume that a crash leaves in the midst of it: it shows such pages behind the same front

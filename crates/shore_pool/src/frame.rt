@@ -22,7 +22,7 @@ pub struct Frame {
 impl Frame {
     /// Makes a change that was logged under this number.
     pub fn change(&mut self, lsn: Lsn, slot: u16, after: Option<&[u8]>)
-        requires { Fits self.old.page.slots slot (image_len (option_map (λ bytes. bytes.now) after)) }
+        requires { Fits self.old.page.version self.old.page.slots slot (image_len (option_map (λ bytes. bytes.now) after)) }
         ensures { self.new ≡ changed lsn slot (option_map (λ bytes. bytes.now) after.entry) self.old }
     {
         self.page.apply(lsn, slot, after);
@@ -41,7 +41,7 @@ impl Frame {
     /// Keeps at least this many bytes for a slot, as `Page::reserve`.
     pub fn reserve(&mut self, slot: u16, bytes: usize)
         requires there { slot < length self.old.page.slots }
-        requires fits { Fits self.old.page.slots slot bytes }
+        requires fits { Fits self.old.page.version self.old.page.slots slot bytes }
         ensures { self.new ≡ reclaimed (raised bytes) slot self.old }
     {
         self.page.reserve(slot, bytes);

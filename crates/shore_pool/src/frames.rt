@@ -180,7 +180,7 @@ impl Frames {
 
     /// Makes a change that was logged under this number on a page in a frame.
     pub fn change(&mut self, number: u32, lsn: Lsn, slot: u16, after: Option<&[u8]>)
-        requires { IsSomeAnd (frame_at self.old number) (λ f. Fits f.page.slots slot (image_len (option_map (λ bytes. bytes.now) after))) }
+        requires { IsSomeAnd (frame_at self.old number) (λ f. Fits f.page.version f.page.slots slot (image_len (option_map (λ bytes. bytes.now) after))) }
         ensures here { frame_at self.new number ≡ option_map (changed lsn slot (option_map (λ bytes. bytes.now) after.entry)) (frame_at self.old number) }
         ensures others { (k : ℕ) → k ≢ number → frame_at self.new k ≡ frame_at self.old k }
         ensures shape { KeepsShape self.old self.new }
@@ -194,7 +194,7 @@ impl Frames {
 
     /// Keeps at least this many bytes for a slot of a page in a frame, as `Page::reserve`.
     pub fn reserve(&mut self, number: u32, slot: u16, bytes: usize)
-        requires { IsSomeAnd (frame_at self.old number) (λ f. (slot < length f.page.slots) × Fits f.page.slots slot bytes) }
+        requires { IsSomeAnd (frame_at self.old number) (λ f. (slot < length f.page.slots) × Fits f.page.version f.page.slots slot bytes) }
         ensures here { frame_at self.new number ≡ option_map (reclaimed (raised bytes) slot) (frame_at self.old number) }
         ensures others { (k : ℕ) → k ≢ number → frame_at self.new k ≡ frame_at self.old k }
         ensures shape { KeepsShape self.old self.new }

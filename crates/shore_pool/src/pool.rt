@@ -6,7 +6,7 @@ ghost use Rattle.shore_types.specs.Ids.{page_cmp};
 ghost use Rattle.shore_disk.specs.Cause.{HasCause};
 ghost use Rattle.shore_disk.specs.Device.{CountsFault, LeavesOnly, size};
 ghost use Rattle.shore_dwrite.specs.Settled as settled_device;
-ghost use Rattle.shore_dwrite.specs.Images.{HasRoomFor, numbers_of};
+ghost use Rattle.shore_dwrite.specs.Images.{HasRoomFor, numbers_of, version_of};
 ghost use Rattle.shore_dwrite.specs.Shown.{AreBatchNumbers, RiseFrom, RiseFrom-prop, ShowsBehind};
 ghost use Rattle.shore_dwrite.specs.Volumes.{HasNoPage, page_count, page_number, page_offset};
 ghost use Rattle.shore_page.specs.Room.{Fits, lowered, raised};
@@ -68,6 +68,7 @@ pub struct Pool<D: Disk> {
     ghost some: { MIN_POOL_FRAMES ≤ maps.limit_of frames },
     ghost few: { maps.limit_of frames ≤ MAX_POOL_FRAMES },
     ghost pages: { maps.pages_of frames ≡ page_count (settled_device.geometry_of device) },
+    ghost batch_version: { version_of batch ≡ (settled_device.geometry_of device).version },
     ghost batch_room: { HasRoomFor batch MAX_BATCH_PAGES },
     ghost batch_is: { amid ≢ Amid.Rest → AreBatchNumbers (settled_device.geometry_of device) (numbers_of batch) } by { Prim.hlevel (RiseFrom-prop, props) },
 }
@@ -91,7 +92,8 @@ impl<D: Disk> Pool<D> {
         let Ok(frames) = Frames::new(alloc, pages, frames) else {
             return Err(device);
         };
-        let Ok(batch) = PageImages::new(alloc) else {
+        let version = device.geometry().version;
+        let Ok(batch) = PageImages::new(alloc, version) else {
             return Err(device);
         };
         Ok(Pool {
@@ -132,7 +134,7 @@ impl<D: Disk> Pool<D> {
         ensures there { OnOk result (IsTrue (is_some (frame_of self.new id))) }
         ensures held { IfOk result (λ how. how ≡ Fetched.Held → (frame_of self.new id ≡ frame_of self.old id) × IsTrue (is_some (frame_of self.old id))) }
         ensures read { (front : List ℕ) (disk : ℕ → List ℕ) → PoolHolds self.old front disk → IfOk result (λ how. how ≡ Fetched.Read → (frame_of self.old id ≡ None)
-            × IsSomeAnd (frame_of self.new id) (λ f. (f.page ≡ settled_page id f.page.number (images_of f.page.slots)) × (f.page.number ≤ ends.now.last) × (f.recovery ≡ None))) }
+            × IsSomeAnd (frame_of self.new id) (λ f. (f.page ≡ settled_page (geometry_of self.old).version id f.page.number (images_of f.page.slots)) × (f.page.number ≤ ends.now.last) × (f.recovery ≡ None))) }
         ensures others { (k : ℕ) → k ≢ page_number (geometry_of self.old) id → StaysOrGoes (frame_at self.old k) (frame_at self.new k) }
         ensures all { IfOk result (λ how. how ≡ Fetched.Held → (k : ℕ) → frame_at self.new k ≡ frame_at self.old k) }
         ensures stay { OnErr result (StayOrGo self.old self.new) }
@@ -141,9 +143,11 @@ impl<D: Disk> Pool<D> {
 
         // What it is refused with.
         ensures refused { (front : List ℕ) (disk : ℕ → List ℕ) → PoolHolds self.old front disk → IfErr result (λ fault. (fault ≡ Fault.Device) ⊎ (fault ≡ Fault.Memory)
-            ⊎ ((fault ≡ Fault.Damaged Device.Volume (page_offset (page_number (geometry_of self.old) id)))
-            × HasNoPage (disk (page_number (geometry_of self.old) id)) id ends.now.last × (frame_of self.old id ≡ None))
+            ⊎ ((fault ≡ Fault.Damaged Device.Volume (page_offset (geometry_of self.old).version (page_number (geometry_of self.old) id)))
+            × HasNoPage (geometry_of self.old).version (disk (page_number (geometry_of self.old) id)) id ends.now.last × (frame_of self.old id ≡ None))
             ⊎ ((number : ℕ) × (fault ≡ Fault.NeedForce number) × NeedsForce self.old ends.now.durable number)) }
+        // Room is made before any memory is asked for.
+        ensures roomy { IfErr result (λ fault. fault ≡ Fault.Memory → count_of self.new < limit_of self.new) }
 
         // Where a force is needed nothing has changed: each frame is as it was.
         ensures unmoved { (front : List ℕ) (disk : ℕ → List ℕ) → PoolHolds self.old front disk
@@ -210,13 +214,14 @@ impl<D: Disk> Pool<D> {
         requires room { count_of self.old < limit_of self.old }
         ensures there { OnOk result (IsTrue (is_some (frame_of self.new id))) }
         ensures read { (front : List ℕ) (disk : ℕ → List ℕ) → PoolHolds self.old front disk → OnOk result (IsSomeAnd (frame_of self.new id)
-            (λ f. (f.page ≡ settled_page id f.page.number (images_of f.page.slots)) × (f.page.number ≤ last) × (f.recovery ≡ None))) }
+            (λ f. (f.page ≡ settled_page (geometry_of self.old).version id f.page.number (images_of f.page.slots)) × (f.page.number ≤ last) × (f.recovery ≡ None))) }
         ensures others { (k : ℕ) → k ≢ page_number (geometry_of self.old) id → frame_at self.new k ≡ frame_at self.old k }
         ensures dirty { WereDirty (frame_at self.old) (frame_at self.new) }
-        ensures kept { (front : List ℕ) (disk : ℕ → List ℕ) → PoolHolds self.old front disk → PoolHolds self.new front disk × SamePages (frame_at self.old) disk (frame_at self.new) disk }
+        ensures kept { (front : List ℕ) (disk : ℕ → List ℕ) → PoolHolds self.old front disk → PoolHolds self.new front disk × SamePages (geometry_of self.old).version (frame_at self.old) disk (frame_at self.new) disk }
         ensures refused { (front : List ℕ) (disk : ℕ → List ℕ) → PoolHolds self.old front disk → IfErr result (λ fault. (fault ≡ Fault.Device) ⊎ (fault ≡ Fault.Memory)
-            ⊎ ((fault ≡ Fault.Damaged Device.Volume (page_offset (page_number (geometry_of self.old) id))) × HasNoPage (disk (page_number (geometry_of self.old) id)) id last)) }
+            ⊎ ((fault ≡ Fault.Damaged Device.Volume (page_offset (geometry_of self.old).version (page_number (geometry_of self.old) id))) × HasNoPage (geometry_of self.old).version (disk (page_number (geometry_of self.old) id)) id last)) }
         ensures none_came { OnErr result ((k : ℕ) → frame_at self.new k ≡ frame_at self.old k) }
+        ensures count { OnErr result (count_of self.new ≡ count_of self.old) }
         ensures history { (front : List ℕ) (disk : ℕ → List ℕ) → PoolHolds self.old front disk → history_of self.new ≡ history_of self.old }
         ensures honest { honesty_of self.new ≡ honesty_of self.old }
         ensures size { size (history_of self.new) ≡ size (history_of self.old) }
@@ -236,7 +241,7 @@ impl<D: Disk> Pool<D> {
     /// Makes a change that was logged under this number on a page in a frame, which is dirty then.
     pub fn change(&mut self, id: PageId, lsn: Lsn, slot: u16, after: Option<&[u8]>)
         requires there { HasPage (geometry_of self.old) id }
-        requires fits { IsSomeAnd (frame_of self.old id) (λ f. Fits f.page.slots slot (image_len (option_map (λ bytes. bytes.now) after))) }
+        requires fits { IsSomeAnd (frame_of self.old id) (λ f. Fits f.page.version f.page.slots slot (image_len (option_map (λ bytes. bytes.now) after))) }
         ensures here { frame_of self.new id ≡ option_map (changed lsn slot (option_map (λ bytes. bytes.now) after.entry)) (frame_of self.old id) }
         ensures others { (k : ℕ) → k ≢ page_number (geometry_of self.old) id → frame_at self.new k ≡ frame_at self.old k }
         ensures kept { (front : List ℕ) (disk : ℕ → List ℕ) → PoolHolds self.old front disk → PoolHolds self.new front disk }
@@ -256,11 +261,11 @@ impl<D: Disk> Pool<D> {
     /// a page its undecided changes are told so; no page is another by it.
     pub fn reserve(&mut self, id: PageId, slot: u16, bytes: usize)
         requires there { HasPage (geometry_of self.old) id }
-        requires fits { IsSomeAnd (frame_of self.old id) (λ f. (slot < length f.page.slots) × Fits f.page.slots slot bytes) }
+        requires fits { IsSomeAnd (frame_of self.old id) (λ f. (slot < length f.page.slots) × Fits f.page.version f.page.slots slot bytes) }
         ensures here { frame_of self.new id ≡ option_map (reclaimed (raised bytes) slot) (frame_of self.old id) }
         ensures others { (k : ℕ) → k ≢ page_number (geometry_of self.old) id → frame_at self.new k ≡ frame_at self.old k }
         ensures kept { (front : List ℕ) (disk : ℕ → List ℕ) → PoolHolds self.old front disk
-            → PoolHolds self.new front disk × SamePages (frame_at self.old) disk (frame_at self.new) disk }
+            → PoolHolds self.new front disk × SamePages (geometry_of self.old).version (frame_at self.old) disk (frame_at self.new) disk }
         ensures count { count_of self.new ≡ count_of self.old }
         ensures limit { limit_of self.new ≡ limit_of self.old }
         ensures device { device_of self.new ≡ device_of self.old }
@@ -277,7 +282,7 @@ impl<D: Disk> Pool<D> {
         ensures here { frame_of self.new id ≡ option_map (reclaimed (lowered bytes) slot) (frame_of self.old id) }
         ensures others { (k : ℕ) → k ≢ page_number (geometry_of self.old) id → frame_at self.new k ≡ frame_at self.old k }
         ensures kept { (front : List ℕ) (disk : ℕ → List ℕ) → PoolHolds self.old front disk
-            → PoolHolds self.new front disk × SamePages (frame_at self.old) disk (frame_at self.new) disk }
+            → PoolHolds self.new front disk × SamePages (geometry_of self.old).version (frame_at self.old) disk (frame_at self.new) disk }
         ensures count { count_of self.new ≡ count_of self.old }
         ensures limit { limit_of self.new ≡ limit_of self.old }
         ensures device { device_of self.new ≡ device_of self.old }
@@ -406,7 +411,7 @@ impl<D: Disk> Pool<D> {
         ensures gone { frame_at self.new number ≡ None }
         ensures others { (k : ℕ) → k ≢ number → frame_at self.new k ≡ frame_at self.old k }
         ensures kept { (front : List ℕ) (disk : ℕ → List ℕ) → PoolHolds self.old front disk
-            → PoolHolds self.new front disk × SamePages (frame_at self.old) disk (frame_at self.new) disk }
+            → PoolHolds self.new front disk × SamePages (geometry_of self.old).version (frame_at self.old) disk (frame_at self.new) disk }
         ensures count { count_of self.new + 1 ≡ count_of self.old }
         ensures limit { limit_of self.new ≡ limit_of self.old }
         ensures device { device_of self.new ≡ device_of self.old }

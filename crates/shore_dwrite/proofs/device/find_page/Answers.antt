@@ -5,8 +5,8 @@ use Rattle.shore_dwrite.proofs.device.find_page.Goals as goal
 pub returns-clause-found : goal.returns-clause-found
 returns-clause-found c =
     let page = c.in-Some.page in
-    let text : IsPageText c.args.bytes.now c.args.id.now page.number (images_of page.slots) =
-    subst (λ found. IfSome found (λ page. IsPageText c.args.bytes.now c.args.id.now page.number (images_of page.slots))) c.in-Some.is c.in_ok-page.ensures.found in
+    let text : IsPageText c.args.version c.args.bytes.now c.args.id.now page.number (images_of page.slots) =
+    (subst (λ found. IfSome found (λ page. (page.version ≡ c.args.version) × IsPageText c.args.version c.args.bytes.now c.args.id.now page.number (images_of page.slots))) c.in-Some.is c.in_ok-page.ensures.found).1 in
     let only = sym c.in-Some.is ∙ c.in_ok-page.ensures.only page.number (images_of page.slots) text in
     (text, subst (λ found. IfSome found (λ other. page ≡ other)) only refl, omega (arith, c.number-2.view_is, c.last.view_is, c.number.ensures, c.if-number-last.false))
 

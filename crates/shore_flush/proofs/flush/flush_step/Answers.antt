@@ -72,7 +72,7 @@ returns-clause-kept g c front disk holds =
     let is : frame_at mid ≡ frame_at pool = ap (λ (it : Frames). maps.frame_at it) c.finish.ensures.frames in
     let up : AreUpTo (frame_at mid) c.args.durable c.pages-pages.result.now = subst (λ (at : ℕ → Option Frame). AreUpTo at c.args.durable c.pages-pages.result.now) (sym is)
     (subst (AreUpTo (frame_at pool) c.args.durable) (sym c.pages-pages.ensures) (up_to pool c.args.durable (pages_of c.choose-batch.result) c.choose-batch.ensures.due)) in
-    wrote_from pool mid c.write.new.self is c.args.durable front disk (c.in_ok-write.ensures.kept front disk c.args.durable (c.in_ok-finish.ensures.kept front disk holds) up)
+    wrote_from pool mid c.write.new.self c.finish.ensures.geometry is c.args.durable front disk (c.in_ok-write.ensures.kept front disk c.args.durable (c.in_ok-finish.ensures.kept front disk holds) up)
 
 pub returns-in_err-write-clause-kept : goal.returns-in_err-write-clause-kept
 returns-in_err-write-clause-kept g c front disk holds =
@@ -83,7 +83,7 @@ returns-in_err-write-clause-kept g c front disk holds =
     (subst (AreUpTo (frame_at pool) c.args.durable) (sym c.pages-pages.ensures) (up_to pool c.args.durable (pages_of c.choose-batch.result) c.choose-batch.ensures.due)) in
     match_err _ c.from_residual-in_err-write.result c.from_residual-in_err-write.ensures.1 (λ fault said. elim (c.in_err-write.ensures.kept front disk c.args.durable (c.in_ok-finish.ensures.kept front disk holds) up) [
       | inl device ↦ inl (said ∙ device)
-      | inr w ↦ inr (wrote_from pool mid c.write.new.self is c.args.durable front disk w)
+      | inr w ↦ inr (wrote_from pool mid c.write.new.self c.finish.ensures.geometry is c.args.durable front disk w)
     ])
 
 pub returns-clause-flushed : goal.returns-clause-flushed

@@ -1,4 +1,5 @@
-use Rattle.std.proofs.Common.{◌<◌, ◌^◌, ℕ, List, [], ◌∙◌, ap, ◌∷◌, IsTrue, subst, sym}
+use Rattle.std.proofs.Common.{◌<◌, ◌^◌, ℕ, List, [], ◌∙◌, ap, ◌∷◌, IsTrue, subst, sym, arith}
+use Rattle.shore_types.specs.Versions.{least_log-least, pages_begin-is}
 use Rattle.shore_disk.specs.Device.{size, overwritten}
 use Rattle.shore_gate.specs.declared.gates.TheConstants.{OPEN}
 use Rattle.shore_gate.specs.declared.labels.Label.{Label}
@@ -8,6 +9,21 @@ use Rattle.shore_format.proofs.FrontLemmas.{untouched, closing, opening, made}
 use Rattle.shore_format.proofs.PairLemmas.{both, closing_pair, log_on, opening_pair, shut_way, volume_on}
 use Rattle.shore_format.proofs.VolumeLemmas.{made_volume}
 use Rattle.shore_format.proofs.pairs.write_pair.Goals as goal
+
+pub close_gate-requires : goal.close_gate-requires
+close_gate-requires g c = omega (arith, c.requires.log_length.0, least_log-least c.args.geometry.now.version)
+
+pub close_gate-requires-2 : goal.close_gate-requires-2
+close_gate-requires-2 g c = omega (arith, c.requires.volume_length, pages_begin-is c.args.geometry.now.version)
+
+pub write_log-requires-clause-size : goal.write_log-requires-clause-size
+write_log-requires-clause-size g c = omega (arith, c.requires.log_length.0, c.close_gate.ensures.size, least_log-least c.args.geometry.now.version)
+
+pub open_gate-requires : goal.open_gate-requires
+open_gate-requires g c = omega (arith, c.requires.volume_length, c.close_gate-2.ensures.size, c.write_volume.ensures.size, pages_begin-is c.args.geometry.now.version)
+
+pub open_gate-requires-2 : goal.open_gate-requires-2
+open_gate-requires-2 g c = omega (arith, c.requires.log_length.0, c.close_gate.ensures.size, c.write_log.ensures.size, least_log-least c.args.geometry.now.version)
 
 pub returns-in_err-close_gate-clause-any_volume : goal.returns-in_err-close_gate-clause-any_volume
 returns-in_err-close_gate-clause-any_volume g c honest = untouched (IsEmptyVolume c.args.geometry.now (size (g.V.Disk.history c.args.volume.now))) (g.V.Disk.history c.args.volume.now)

@@ -1,4 +1,5 @@
-use Rattle.std.proofs.Common.{◌≡◌, ◌≤◌, ◌+◌, ◌*◌, ◌∷◌, [], ℕ, List, IsTrue, length, drop, sym, ◌∙◌, ap, subst, arith}
+use Rattle.std.proofs.Common.{◌≡◌, ◌≤◌, ◌+◌, ◌∷◌, [], ℕ, List, IsTrue, length, drop, sym, ◌∙◌, ap, subst, arith}
+use Rattle.shore_types.specs.Versions.{pages_begin-is}
 use Rattle.shore_types.specs.declared.faults.Device.TheVariants.{Volume}
 use Rattle.shore_disk.specs.Device.{DeviceHistory, Stands, overwritten, seen}
 use Rattle.shore_dwrite.proofs.Moves.{sync_more, synced_stands}
@@ -7,10 +8,16 @@ use Rattle.shore_gate.specs.declared.labels.Label.{Label}
 use Rattle.shore_gate.specs.Label.{label_bytes}
 use Rattle.shore_gate.proofs.WidthLemmas.{length-label_bytes}
 use Rattle.shore_format.specs.Fronts.{IsShut}
-use Rattle.shore_fronts.specs.Volumes.{volume_label}
+use Rattle.shore_fronts.specs.Volumes.{volume_bytes, volume_label}
 use Rattle.shore_format.proofs.FrontLemmas.{label_leaves}
 use Rattle.shore_format.proofs.VolumeLemmas.{closed_is, empty_behind, gated_moments, paged_moments}
 use Rattle.shore_format.proofs.volume.write_volume.Goals as goal
+
+pub write_label-requires-clause-fits : goal.write_label-requires-clause-fits
+write_label-requires-clause-fits g c = omega (arith, c.requires.size, pages_begin-is c.args.geometry.now.version)
+
+pub write_at-requires : goal.write_at-requires
+write_at-requires g c = omega (arith, c.requires.size, c.write_label.ensures.size, pages_begin-is c.args.geometry.now.version)
 
 pub returns-in_err-write_label-clause-any_moment : goal.returns-in_err-write_label-clause-any_moment
 returns-in_err-write_label-clause-any_moment g c honest rest stands =
@@ -53,7 +60,7 @@ returns-clause-stands g c honest rest stands =
     let two = subst IsTrue (sym c.write_label.ensures.honest) honest in
     let three = subst IsTrue (sym c.write_at.ensures.honest) two in
     let four = subst IsTrue (sym c.write_pages.ensures.honest) three in
-    let long : 1 + length rest ≡ 270336 + 8192 * _ = omega (arith, ap (λ (l : List ℕ). length l) stands.read, g.met.D.Disk.keeps_length c.args.volume.now honest, c.requires.size) in
+    let long : 1 + length rest ≡ volume_bytes geometry = omega (arith, ap (λ (l : List ℕ). length l) stands.read, g.met.D.Disk.keeps_length c.args.volume.now honest, c.requires.size) in
     let labelled : seen (g.D.Disk.history c.write_label.new.disk) ≡ overwritten (CLOSED ∷ rest) 1 label =
     ap (λ (h : DeviceHistory). seen h) (c.in_ok-write_label.ensures.written honest) ∙ ap (λ (i : List ℕ). overwritten i 1 (label_bytes Volume c.args.label.now)) stands.read ∙ ap (λ (l : Label). overwritten (CLOSED ∷ rest) 1 (label_bytes Volume l)) c.requires.label in
     let gated : seen (g.D.Disk.history c.write_at.new.self) ≡ overwritten (overwritten (CLOSED ∷ rest) 1 label) 4096 (CLOSED ∷ []) = ap (λ (h : DeviceHistory). seen h) (c.in_ok-write_at.ensures.written two) ∙ ap (λ (i : List ℕ). overwritten i 4096 (CLOSED ∷ [])) labelled in

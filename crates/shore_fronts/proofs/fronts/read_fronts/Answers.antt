@@ -1,10 +1,14 @@
-use Rattle.std.proofs.Common.{◌≡◌, ℕ, List, IsTrue, inl, refl, subst, sym, ap, ◌∙◌}
+use Rattle.std.proofs.Common.{◌≡◌, ℕ, List, IsTrue, inl, refl, subst, sym, ap, ◌∙◌, arith}
 use Rattle.std.proofs.lemmas.Result.{err_from_is_err_and}
+use Rattle.shore_types.specs.Versions.{least_log-least}
 use Rattle.shore_disk.specs.Device.{DeviceHistory, noted, seen, synced}
 use Rattle.shore_gate.specs.Anchor.{Counts}
 use Rattle.shore_fronts.specs.Pairs.{ArePaired}
 use Rattle.shore_fronts.proofs.BarrierLemmas.{behind, not_called, once_synced}
 use Rattle.shore_fronts.proofs.fronts.read_fronts.Goals as goal
+
+pub read-requires : goal.read-requires
+read-requires g c = omega (arith, c.in_ok-geometry.ensures.long.0.0, least_log-least c.in_ok-geometry.geometry.version, c.read_labels.ensures.size.0)
 
 pub returns-in_err-anchors-clause-only : goal.returns-in_err-anchors-clause-only
 returns-in_err-anchors-clause-only g c of_log of_volume geometry counting have =

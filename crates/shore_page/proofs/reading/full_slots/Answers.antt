@@ -9,11 +9,11 @@ loop-slot-preserved c slot before = elim (cases_lt slot c.loop-slot.slot) [
   | inl earlier ↦ c.loop-slot.invariant slot earlier
   | inr late ↦ (
       let same : slot ≡ c.loop-slot.slot = omega (arith, before, late) in
-      λ zero. c.if-entry_at-eq0.false (c.entry_at.ensures.offset ∙ sym (ap (offset_at c.args.bytes.now) same) ∙ zero))
+      λ zero. c.if-entry_at-eq0.false (c.entry_at.ensures.offset ∙ sym (ap (offset_at c.args.version c.args.bytes.now) same) ∙ zero))
 ]
 
 pub returns-then-entry_at-eq0 : goal.returns-then-entry_at-eq0
-returns-then-entry_at-eq0 c = full_seen c.args.bytes.now c.args.slots c.loop-slot.slot (omega (arith, c.loop-slot-test.true)) c.loop-slot.invariant
+returns-then-entry_at-eq0 c = full_seen c.args.version c.args.bytes.now c.args.slots c.loop-slot.slot (omega (arith, c.loop-slot-test.true)) c.loop-slot.invariant
 
 pub returns : goal.returns
-returns c = full_seen c.args.bytes.now c.args.slots c.args.slots (omega arith) (λ slot before. c.loop-slot.invariant slot (omega (arith, before, c.loop-slot-test.false)))
+returns c = full_seen c.args.version c.args.bytes.now c.args.slots c.args.slots (omega arith) (λ slot before. c.loop-slot.invariant slot (omega (arith, before, c.loop-slot-test.false)))

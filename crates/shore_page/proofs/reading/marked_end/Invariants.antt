@@ -5,6 +5,6 @@ use Rattle.shore_page.proofs.reading.marked_end.Given as goal
 
 abbrev pub invariant-loop-slot : goal.invariant-loop-slot
 invariant-loop-slot l = record {
-  checked : Checked l.bytes l.slots (marks_of l.marks (l.table - 24)) l.slot l.end;
-  words : length l.marks ≡ 128;
+  checked : Checked l.version l.bytes l.slots (marks_of l.marks (l.table - 24)) l.slot l.end;
+  words : length l.marks ≡ 256;
 }

@@ -18,16 +18,16 @@ loop-slot-preserved c =
     let put = c.put_entry.ensures in
     record {
       empty = λ other low high. elim (cases_lt other slot) [
-        | inl earlier ↦ (let kept = entry_beside c.loop-slot.out c.put_entry.new.out slot other (so_far.beside.len ∙ c.requires.whole) (omega (arith, c.requires.few)) (omega (arith, c.requires.few)) put.beside (λ (e : other ≡ slot). omega arith) in
+        | inl earlier ↦ (let kept = entry_beside c.args.version c.loop-slot.out c.put_entry.new.out slot other (so_far.beside.len ∙ c.requires.whole) (omega (arith, c.requires.few)) (omega (arith, c.requires.few)) put.beside (λ (e : other ≡ slot). omega arith) in
             (kept.0 ∙ (so_far.empty other low earlier).0, kept.1 ∙ (so_far.empty other low earlier).1))
         | inr late ↦ (let same : other ≡ slot = omega arith in
-            subst (λ (k : ℕ). (offset_at c.put_entry.new.out k ≡ 0) × (length_at c.put_entry.new.out k ≡ 0)) (sym same) (put.offset, put.length))
+            subst (λ (k : ℕ). (offset_at c.args.version c.put_entry.new.out k ≡ 0) × (length_at c.args.version c.put_entry.new.out k ≡ 0)) (sym same) (put.offset, put.length))
       ];
-      beside = KeepsBeside-then c.args.out.now c.loop-slot.out c.put_entry.new.out (table_of slot) (table_of c.args.slots) (table_of (slot + 1)) (table_of slot) (table_of (slot + 1)) (table_of c.args.slots) so_far.beside put.beside
+      beside = KeepsBeside-then c.args.out.now c.loop-slot.out c.put_entry.new.out (table_of c.args.version slot) (table_of c.args.version c.args.slots) (table_of c.args.version (slot + 1)) (table_of c.args.version slot) (table_of c.args.version (slot + 1)) (table_of c.args.version c.args.slots) so_far.beside put.beside
           (omega arith) (omega arith) (omega arith) (omega (arith, c.loop-slot.auto.slot));
     }
 
 pub returns-clause-beside : goal.returns-clause-beside
 returns-clause-beside c =
     let same : c.loop-slot.slot ≡ c.args.more = omega (arith, c.requires.order) in
-    subst (λ (k : ℕ). KeepsBeside c.args.out.now c.loop-slot.out (table_of k) (table_of c.args.slots)) same c.loop-slot.invariant.beside
+    subst (λ (k : ℕ). KeepsBeside c.args.out.now c.loop-slot.out (table_of c.args.version k) (table_of c.args.version c.args.slots)) same c.loop-slot.invariant.beside

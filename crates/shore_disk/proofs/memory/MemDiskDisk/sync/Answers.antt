@@ -1,8 +1,9 @@
-use Rattle.std.proofs.Common.{◌≡◌, None, sym, ◌∙◌, ap, subst, length, length-append, All, ◌∷◌, [], ◌≤◌, arith, List}
+use Rattle.std.proofs.Common.{◌≡◌, None, sym, ◌∙◌, ap, subst, length, length-append, All, ◌∷◌, [], ◌≤◌, arith, List, ℕ}
 use Rattle.shore_disk.specs.Device.{DeviceHistory, seen, synced, noted, size}
-use Rattle.shore_disk.specs.declared.memory.Pick.TheVariants.{Old, Noise}
+use Rattle.shore_disk.specs.declared.memory.Pick.TheVariants.{Old, Noise, Mixed}
 use Rattle.shore_disk.specs.declared.memory.Place.{Place}
-use Rattle.shore_disk.specs.Memory.{history_in, picked_after, laid, with_noise, end_of}
+use Rattle.std.specs.List.{sum_by}
+use Rattle.shore_disk.specs.Memory.{history_in, picked_after, laid, mixed, place_len, unsynced_in, with_noise, end_of}
 use Rattle.shore_disk.proofs.MemoryLemmas.{history_in-push}
 use Rattle.shore_disk.proofs.memory.MemDiskDisk.sync.Goals as goal
 
@@ -18,6 +19,9 @@ invariant_of-self c =
       seen = d.seen ∙ ap seen (sym is);
       lost = stable ∙ d.seen ∙ ap (λ (h : DeviceHistory). picked_after Old h.first h.calls) (sym is);
       noise = ap (with_noise c.pick_image.new.stable.items) nothing ∙ stable ∙ d.seen ∙ ap (λ (h : DeviceHistory). picked_after Noise h.first h.calls) (sym is);
+      mixed = λ bits. ap (mixed bits 0 c.pick_image.new.stable.items c.clear-2.new.self.items) nothing ∙ stable ∙ d.seen ∙ ap (λ (h : DeviceHistory). picked_after (Mixed bits) h.first h.calls) (sym is);
+      count = ap (λ (l : List Place). length l) nothing ∙ ap (λ (h : DeviceHistory). unsynced_in h.calls) (sym is);
+      kept = ap (sum_by place_len) nothing ∙ sym (ap (λ (l : List ℕ). length l) c.clear-2.ensures.items);
       differ = ap (laid d.bytes.items c.pick_image.new.stable.items) nothing ∙ stable;
       as_long = d.as_long ∙ ap size (sym is);
       room = ap length stable;

@@ -2,9 +2,11 @@ use Rattle.std.proofs.Common.{◌≡◌, ◌+◌, ◌*◌, inl, inr, [], ◌∷�
 use Rattle.shore_disk.specs.Device.{DeviceHistory, overwritten, LeavesOnly, Stands}
 use Rattle.shore_gate.specs.declared.gates.TheConstants.{OPEN, CLOSED}
 use Rattle.shore_types.specs.declared.layout.Geometry.{Geometry}
+use Rattle.shore_types.specs.declared.versions.Version.{Version}
+use Rattle.shore_types.specs.Versions.{page_bytes, pages_begin, pages_begin-is}
 use Rattle.shore_gate.specs.Checks.{IsFromOutside}
 use Rattle.shore_dwrite.specs.Checks.{RefusesArea}
-use Rattle.shore_dwrite.specs.Differences.{DiffersInPages}
+use Rattle.shore_dwrite.specs.Differences.{DiffersInPages, HasPages}
 use Rattle.shore_dwrite.specs.Shown.{AreInPlace, IsShut, ShowsBehind, overlaid}
 use Rattle.shore_dwrite.specs.Volumes.{page_at, page_count, part}
 use Rattle.shore_dwrite.proofs.Moves.{if_err, stands_still}
@@ -54,13 +56,15 @@ returns-in_err-write_in_place-clause-any_moment g c front pages s =
     let numbers = images.numbers.items in
     let texts = images.bytes.items in
     let batch = c.in_ok-images.ensures.batch in
+    let many : length texts ≡ page_bytes c.args.self.now.geometry.version * length numbers = images.as_many ∙ ap (λ (v : Version). page_bytes v * length numbers) c.in_ok-images.ensures.version in
     let read = c.in_ok-images.ensures.found s.image honest_one stands_one in
     let honest_two : IsTrue (g.D.Disk.is_honest c.read_area.new.self.device) = subst IsTrue (sym c.read_area.ensures.honest) honest_one in
     let stands_two : Stands (g.D.Disk.history c.read_area.new.self.device) s.image = subst (λ (h : DeviceHistory). Stands h s.image) (sym two) s.stands in
-    let length_is : length s.image ≡ 270336 + 8192 * page_count old.geometry = sym (ap length s.stands.read) ∙ g.met.D.Disk.keeps_length old.device s.honest ∙ old.as_long in
-    let moments : LeavesOnly start (g.D.Disk.history c.write_in_place.new.self.device) (DiffersInPages numbers s.image) =
-    subst (λ (h : DeviceHistory). LeavesOnly h (g.D.Disk.history c.write_in_place.new.self.device) (DiffersInPages numbers s.image)) two (c.write_in_place.ensures.any_moment s.image honest_two stands_two) in
-    let three = while_replayed old.geometry front pages numbers texts batch images.as_many start s.image s.front_is (omega arith) read area.0 area.1 area.2 _ moments in
+    let length_is : length s.image ≡ pages_begin c.args.self.now.geometry.version + page_bytes c.args.self.now.geometry.version * page_count old.geometry = sym (ap length s.stands.read) ∙ g.met.D.Disk.keeps_length old.device s.honest ∙ old.as_long in
+    let moments : LeavesOnly start (g.D.Disk.history c.write_in_place.new.self.device) (DiffersInPages c.args.self.now.geometry.version numbers s.image) =
+    subst (λ (h : DeviceHistory). LeavesOnly h (g.D.Disk.history c.write_in_place.new.self.device) (DiffersInPages c.args.self.now.geometry.version numbers s.image)) two (subst (λ (it : Geometry). LeavesOnly (g.D.Disk.history c.read_area.new.self.device) (g.D.Disk.history c.write_in_place.new.self.device) (DiffersInPages it.version numbers s.image)) c.read_area.ensures.geometry
+    (c.write_in_place.ensures.any_moment s.image honest_two stands_two)) in
+    let three = while_replayed old.geometry front pages numbers texts batch many start s.image s.front_is (omega arith) read area.0 area.1 area.2 _ moments in
     three
 
 pub returns-in_err-close_gate-clause-any_moment : goal.returns-in_err-close_gate-clause-any_moment
@@ -79,16 +83,19 @@ returns-in_err-close_gate-clause-any_moment g c front pages s =
     let numbers = images.numbers.items in
     let texts = images.bytes.items in
     let batch = c.in_ok-images.ensures.batch in
+    let many : length texts ≡ page_bytes c.args.self.now.geometry.version * length numbers = images.as_many ∙ ap (λ (v : Version). page_bytes v * length numbers) c.in_ok-images.ensures.version in
     let read = c.in_ok-images.ensures.found s.image honest_one stands_one in
     let honest_two : IsTrue (g.D.Disk.is_honest c.read_area.new.self.device) = subst IsTrue (sym c.read_area.ensures.honest) honest_one in
     let stands_two : Stands (g.D.Disk.history c.read_area.new.self.device) s.image = subst (λ (h : DeviceHistory). Stands h s.image) (sym two) s.stands in
-    let length_is : length s.image ≡ 270336 + 8192 * page_count old.geometry = sym (ap length s.stands.read) ∙ g.met.D.Disk.keeps_length old.device s.honest ∙ old.as_long in
-    let moments : LeavesOnly start (g.D.Disk.history c.write_in_place.new.self.device) (DiffersInPages numbers s.image) =
-    subst (λ (h : DeviceHistory). LeavesOnly h (g.D.Disk.history c.write_in_place.new.self.device) (DiffersInPages numbers s.image)) two (c.write_in_place.ensures.any_moment s.image honest_two stands_two) in
-    let three = while_replayed old.geometry front pages numbers texts batch images.as_many start s.image s.front_is (omega arith) read area.0 area.1 area.2 _ moments in
-    let placed = c.in_ok-write_in_place.ensures.done s.image honest_two stands_two in
+    let length_is : length s.image ≡ pages_begin c.args.self.now.geometry.version + page_bytes c.args.self.now.geometry.version * page_count old.geometry = sym (ap length s.stands.read) ∙ g.met.D.Disk.keeps_length old.device s.honest ∙ old.as_long in
+    let moments : LeavesOnly start (g.D.Disk.history c.write_in_place.new.self.device) (DiffersInPages c.args.self.now.geometry.version numbers s.image) =
+    subst (λ (h : DeviceHistory). LeavesOnly h (g.D.Disk.history c.write_in_place.new.self.device) (DiffersInPages c.args.self.now.geometry.version numbers s.image)) two (subst (λ (it : Geometry). LeavesOnly (g.D.Disk.history c.read_area.new.self.device) (g.D.Disk.history c.write_in_place.new.self.device) (DiffersInPages it.version numbers s.image)) c.read_area.ensures.geometry
+    (c.write_in_place.ensures.any_moment s.image honest_two stands_two)) in
+    let three = while_replayed old.geometry front pages numbers texts batch many start s.image s.front_is (omega arith) read area.0 area.1 area.2 _ moments in
+    let placed = subst (λ (it : Geometry). (new : List ℕ) × Stands (g.D.Disk.history c.write_in_place.new.self.device) new × HasPages it.version s.image new numbers texts) c.read_area.ensures.geometry
+    (c.in_ok-write_in_place.ensures.done s.image honest_two stands_two) in
     let honest_three : IsTrue (g.D.Disk.is_honest c.write_in_place.new.self.device) = subst IsTrue (sym c.write_in_place.ensures.honest) honest_two in
-    let four = while_shut old.geometry front pages numbers texts batch images.as_many start s.image s.front_is (omega arith) read area.0 area.1 area.2 placed.0 placed.2 _ _ three placed.1 (c.close_gate.ensures.any_moment honest_three) in
+    let four = while_shut old.geometry front pages numbers texts batch many start s.image s.front_is (omega arith) read area.0 area.1 area.2 placed.0 placed.2 _ _ three placed.1 (c.close_gate.ensures.any_moment honest_three) in
     four
 
 pub returns-clause-any_moment : goal.returns-clause-any_moment
@@ -107,16 +114,19 @@ returns-clause-any_moment g c front pages s =
     let numbers = images.numbers.items in
     let texts = images.bytes.items in
     let batch = c.in_ok-images.ensures.batch in
+    let many : length texts ≡ page_bytes c.args.self.now.geometry.version * length numbers = images.as_many ∙ ap (λ (v : Version). page_bytes v * length numbers) c.in_ok-images.ensures.version in
     let read = c.in_ok-images.ensures.found s.image honest_one stands_one in
     let honest_two : IsTrue (g.D.Disk.is_honest c.read_area.new.self.device) = subst IsTrue (sym c.read_area.ensures.honest) honest_one in
     let stands_two : Stands (g.D.Disk.history c.read_area.new.self.device) s.image = subst (λ (h : DeviceHistory). Stands h s.image) (sym two) s.stands in
-    let length_is : length s.image ≡ 270336 + 8192 * page_count old.geometry = sym (ap length s.stands.read) ∙ g.met.D.Disk.keeps_length old.device s.honest ∙ old.as_long in
-    let moments : LeavesOnly start (g.D.Disk.history c.write_in_place.new.self.device) (DiffersInPages numbers s.image) =
-    subst (λ (h : DeviceHistory). LeavesOnly h (g.D.Disk.history c.write_in_place.new.self.device) (DiffersInPages numbers s.image)) two (c.write_in_place.ensures.any_moment s.image honest_two stands_two) in
-    let three = while_replayed old.geometry front pages numbers texts batch images.as_many start s.image s.front_is (omega arith) read area.0 area.1 area.2 _ moments in
-    let placed = c.in_ok-write_in_place.ensures.done s.image honest_two stands_two in
+    let length_is : length s.image ≡ pages_begin c.args.self.now.geometry.version + page_bytes c.args.self.now.geometry.version * page_count old.geometry = sym (ap length s.stands.read) ∙ g.met.D.Disk.keeps_length old.device s.honest ∙ old.as_long in
+    let moments : LeavesOnly start (g.D.Disk.history c.write_in_place.new.self.device) (DiffersInPages c.args.self.now.geometry.version numbers s.image) =
+    subst (λ (h : DeviceHistory). LeavesOnly h (g.D.Disk.history c.write_in_place.new.self.device) (DiffersInPages c.args.self.now.geometry.version numbers s.image)) two (subst (λ (it : Geometry). LeavesOnly (g.D.Disk.history c.read_area.new.self.device) (g.D.Disk.history c.write_in_place.new.self.device) (DiffersInPages it.version numbers s.image)) c.read_area.ensures.geometry
+    (c.write_in_place.ensures.any_moment s.image honest_two stands_two)) in
+    let three = while_replayed old.geometry front pages numbers texts batch many start s.image s.front_is (omega arith) read area.0 area.1 area.2 _ moments in
+    let placed = subst (λ (it : Geometry). (new : List ℕ) × Stands (g.D.Disk.history c.write_in_place.new.self.device) new × HasPages it.version s.image new numbers texts) c.read_area.ensures.geometry
+    (c.in_ok-write_in_place.ensures.done s.image honest_two stands_two) in
     let honest_three : IsTrue (g.D.Disk.is_honest c.write_in_place.new.self.device) = subst IsTrue (sym c.write_in_place.ensures.honest) honest_two in
-    let four = while_shut old.geometry front pages numbers texts batch images.as_many start s.image s.front_is (omega arith) read area.0 area.1 area.2 placed.0 placed.2 _ _ three placed.1 (c.close_gate.ensures.any_moment honest_three) in
+    let four = while_shut old.geometry front pages numbers texts batch many start s.image s.front_is (omega arith) read area.0 area.1 area.2 placed.0 placed.2 _ _ three placed.1 (c.close_gate.ensures.any_moment honest_three) in
     four
 
 pub returns-then-not-is_open-clause-replayed : goal.returns-then-not-is_open-clause-replayed
@@ -152,17 +162,20 @@ returns-clause-replayed g c front pages s =
     let numbers = images.numbers.items in
     let texts = images.bytes.items in
     let batch = c.in_ok-images.ensures.batch in
+    let many : length texts ≡ page_bytes c.args.self.now.geometry.version * length numbers = images.as_many ∙ ap (λ (v : Version). page_bytes v * length numbers) c.in_ok-images.ensures.version in
     let read = c.in_ok-images.ensures.found s.image honest_one stands_one in
     let honest_two : IsTrue (g.D.Disk.is_honest c.read_area.new.self.device) = subst IsTrue (sym c.read_area.ensures.honest) honest_one in
     let stands_two : Stands (g.D.Disk.history c.read_area.new.self.device) s.image = subst (λ (h : DeviceHistory). Stands h s.image) (sym two) s.stands in
-    let length_is : length s.image ≡ 270336 + 8192 * page_count old.geometry = sym (ap length s.stands.read) ∙ g.met.D.Disk.keeps_length old.device s.honest ∙ old.as_long in
-    let moments : LeavesOnly start (g.D.Disk.history c.write_in_place.new.self.device) (DiffersInPages numbers s.image) =
-    subst (λ (h : DeviceHistory). LeavesOnly h (g.D.Disk.history c.write_in_place.new.self.device) (DiffersInPages numbers s.image)) two (c.write_in_place.ensures.any_moment s.image honest_two stands_two) in
-    let three = while_replayed old.geometry front pages numbers texts batch images.as_many start s.image s.front_is (omega arith) read area.0 area.1 area.2 _ moments in
-    let placed = c.in_ok-write_in_place.ensures.done s.image honest_two stands_two in
+    let length_is : length s.image ≡ pages_begin c.args.self.now.geometry.version + page_bytes c.args.self.now.geometry.version * page_count old.geometry = sym (ap length s.stands.read) ∙ g.met.D.Disk.keeps_length old.device s.honest ∙ old.as_long in
+    let moments : LeavesOnly start (g.D.Disk.history c.write_in_place.new.self.device) (DiffersInPages c.args.self.now.geometry.version numbers s.image) =
+    subst (λ (h : DeviceHistory). LeavesOnly h (g.D.Disk.history c.write_in_place.new.self.device) (DiffersInPages c.args.self.now.geometry.version numbers s.image)) two (subst (λ (it : Geometry). LeavesOnly (g.D.Disk.history c.read_area.new.self.device) (g.D.Disk.history c.write_in_place.new.self.device) (DiffersInPages it.version numbers s.image)) c.read_area.ensures.geometry
+    (c.write_in_place.ensures.any_moment s.image honest_two stands_two)) in
+    let three = while_replayed old.geometry front pages numbers texts batch many start s.image s.front_is (omega arith) read area.0 area.1 area.2 _ moments in
+    let placed = subst (λ (it : Geometry). (new : List ℕ) × Stands (g.D.Disk.history c.write_in_place.new.self.device) new × HasPages it.version s.image new numbers texts) c.read_area.ensures.geometry
+    (c.in_ok-write_in_place.ensures.done s.image honest_two stands_two) in
     let honest_three : IsTrue (g.D.Disk.is_honest c.write_in_place.new.self.device) = subst IsTrue (sym c.write_in_place.ensures.honest) honest_two in
     let closed = overwritten placed.0 4096 (CLOSED ∷ []) in
-    let has = replayed old.geometry front pages numbers texts batch images.as_many start s.image s.front_is (omega arith) read area.0 area.1 area.2 placed.0 placed.2 in
+    let has = replayed old.geometry front pages numbers texts batch many start s.image s.front_is (omega arith) read area.0 area.1 area.2 placed.0 placed.2 in
     let same : c.write_in_place.new.self.geometry ≡ old.geometry = c.write_in_place.ensures.geometry ∙ c.read_area.ensures.geometry in
     record {
       honest = subst IsTrue (sym c.close_gate.ensures.honest) honest_three;
@@ -177,7 +190,7 @@ pub returns-then-not-is_open-clause-in_order : goal.returns-then-not-is_open-cla
 returns-then-not-is_open-clause-in_order g c image honest stands =
     let gate : part 4096 1 image ≡ c.read_at.new.out = sym (c.in_ok-read_at.ensures.read honest ∙ ap (λ (l : List ℕ). take 1 (drop 4096 l)) stands.read) in
     let shut : IsShut image = λ is. gate_shut c.read_at.new.out (λ opened. let clash : true ≡ false = sym (c.is_open.ensures.1 opened) ∙ c.if-not-is_open.true in absurd cc) (sym gate ∙ is) in
-    (page_at image, inl (shut, λ k within. refl))
+    (page_at c.args.self.now.geometry.version image, inl (shut, λ k within. refl))
 
 pub returns-clause-in_order : goal.returns-clause-in_order
 returns-clause-in_order g c image honest stands =
@@ -189,8 +202,9 @@ returns-clause-in_order g c image honest stands =
     let numbers = images.numbers.items in
     let texts = images.bytes.items in
     let read = c.in_ok-images.ensures.found image honest_one stands_one in
-    let area = area_read c.args.self.now.geometry numbers texts image c.in_ok-images.ensures.batch images.as_many read opened in
-    (overlaid numbers (drop 8192 image) (page_at image), inr (numbers, area, λ k within. refl))
+    let many : length texts ≡ page_bytes c.args.self.now.geometry.version * length numbers = images.as_many ∙ ap (λ (v : Version). page_bytes v * length numbers) c.in_ok-images.ensures.version in
+    let area = area_read c.args.self.now.geometry numbers texts image c.in_ok-images.ensures.batch many read opened in
+    (overlaid c.args.self.now.geometry.version numbers (drop 8192 image) (page_at c.args.self.now.geometry.version image), inr (numbers, area, λ k within. refl))
 
 pub returns-in_err-images-clause-refused : goal.returns-in_err-images-clause-refused
 returns-in_err-images-clause-refused g c image honest stands =
@@ -202,3 +216,9 @@ returns-in_err-images-clause-refused g c image honest stands =
       | inl outside ↦ inl (subst IsFromOutside (sym is) outside)
       | inr refuses ↦ inr (opened, subst (RefusesArea c.args.self.now.geometry image) (sym is) refuses)
     ])
+
+pub read_at-requires : goal.read_at-requires
+read_at-requires g c = omega (arith, c.args.self.now.as_long, pages_begin-is c.args.self.now.geometry.version)
+
+pub close_gate-requires : goal.close_gate-requires
+close_gate-requires g c = omega (arith, c.args.self.now.as_long, pages_begin-is c.args.self.now.geometry.version, c.read_at.ensures.size, c.read_area.ensures.size, c.write_in_place.ensures.size)

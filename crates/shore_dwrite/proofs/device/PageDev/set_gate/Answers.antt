@@ -1,4 +1,5 @@
-use Rattle.std.proofs.Common.{ℕ, [], ◌∷◌, IsTrue, sym, subst}
+use Rattle.std.proofs.Common.{ℕ, [], ◌∷◌, IsTrue, sym, subst, arith}
+use Rattle.shore_types.specs.Versions.{pages_begin-is}
 use Rattle.shore_disk.specs.Device.{TornFrom}
 use Rattle.shore_disk.proofs.Moments.{joined, write_leaves, sync_leaves, at_end}
 use Rattle.shore_dwrite.proofs.SyncLemmas.{failed_before, sync_once, write_none}
@@ -29,3 +30,6 @@ returns-clause-syncs g c honest =
     let before = g.D.Disk.history c.args.self.now.device in
     let wrote = g.D.Disk.history c.write_at.new.self in
     sync_once c.sync.result before wrote (g.D.Disk.history c.sync.new.self) (write_none 4096 (c.args.gate ∷ []) c.write_at.result before wrote (c.write_at.ensures.written honest)) (c.sync.ensures.synced still)
+
+pub write_at-requires : goal.write_at-requires
+write_at-requires g c = omega (arith, c.args.self.now.as_long, pages_begin-is c.args.self.now.geometry.version)

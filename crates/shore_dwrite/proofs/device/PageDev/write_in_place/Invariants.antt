@@ -12,5 +12,5 @@ invariant-loop-i g l = record {
   geometry : l.self.geometry ≡ l.initial.self.geometry;
   none : IsTrue (g.D.Disk.is_honest l.initial.self.device) → syncs_of (g.D.Disk.history l.self.device) ≡ syncs_of (g.D.Disk.history l.initial.self.device);
   wrote : IsTrue (g.D.Disk.is_honest l.initial.self.device) → (base : List ℕ) → Stands (g.D.Disk.history l.initial.self.device) base
-      → WroteFirst (g.D.Disk.history l.initial.self.device) (g.D.Disk.history l.self.device) l.numbers l.bytes base l.i;
+      → WroteFirst l.initial.self.geometry.version (g.D.Disk.history l.initial.self.device) (g.D.Disk.history l.self.device) l.numbers l.bytes base l.i;
 }

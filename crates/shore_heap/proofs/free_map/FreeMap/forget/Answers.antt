@@ -13,7 +13,7 @@ invariant_of-self c =
     let there : c.args.page < pages = omega (arith, length-leaves c.self.inside.tree.items pages whole, ap (λ (l : List ℕ). length l) c.self.view_is, c.requires) in
     let after = with_items_is c.self.inside.tree c.put.new.tree (omega (arith, old, c.put.ensures.tree.whole, c.deref_mut.ensures.len)) in
     let kept = subst (λ (l : List ℕ). IsGuarded l pages) (sym c.deref_mut.ensures.value) c.self.invariant in
-    subst (λ (l : List ℕ). IsGuarded l pages) (sym after) (kept-set c.deref_mut.result.now c.put.new.tree pages c.args.page 4001 kept c.put.ensures.tree there (omega arith) c.put.ensures.here c.put.ensures.others)
+    subst (λ (l : List ℕ). IsGuarded l pages) (sym after) (kept-set c.deref_mut.result.now c.put.new.tree pages c.args.page 12001 kept c.put.ensures.tree there (omega arith) c.put.ensures.here c.put.ensures.others)
 
 pub returns : goal.returns
 returns c =
@@ -22,5 +22,5 @@ returns c =
     let old : length c.deref_mut.result.now ≡ 2 * (pages + 1) = omega (arith, whole, ap (λ (l : List ℕ). length l) c.deref_mut.ensures.value) in
     let there : c.args.page < pages = omega (arith, length-leaves c.self.inside.tree.items pages whole, ap (λ (l : List ℕ). length l) c.self.view_is, c.requires) in
     let after = with_items_is c.self.inside.tree c.put.new.tree (omega (arith, old, c.put.ensures.tree.whole, c.deref_mut.ensures.len)) in
-    ap (λ (l : List ℕ). leaves_of l pages) after ∙ leaves-set c.deref_mut.result.now c.put.new.tree pages c.args.page 4001 old c.put.ensures.tree.whole there c.put.ensures.here c.put.ensures.others
-    ∙ ap (λ (l : List ℕ). set (leaves_of l pages) c.args.page 4001) c.deref_mut.ensures.value ∙ ap (λ (l : List ℕ). set l c.args.page 4001) c.self.view_is
+    ap (λ (l : List ℕ). leaves_of l pages) after ∙ leaves-set c.deref_mut.result.now c.put.new.tree pages c.args.page 12001 old c.put.ensures.tree.whole there c.put.ensures.here c.put.ensures.others
+    ∙ ap (λ (l : List ℕ). set (leaves_of l pages) c.args.page 12001) c.deref_mut.ensures.value ∙ ap (λ (l : List ℕ). set l c.args.page 12001) c.self.view_is

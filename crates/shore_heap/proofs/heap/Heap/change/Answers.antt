@@ -14,7 +14,12 @@ use Rattle.shore_heap.specs.Contents.{with_slots}
 use Rattle.shore_heap.proofs.Bounds.{bounds_forgot, bounds_put_image}
 use Rattle.shore_heap.proofs.Frames.{have_changed, of_shown, some_mapped}
 use Rattle.shore_heap.proofs.Showing.{frame_is, shows_by}
+use Rattle.shore_heap.specs.Heaps.{geometry_of}
+use Rattle.shore_heap.proofs.OwnVersions.{by_own}
 use Rattle.shore_heap.proofs.heap.Heap.change.Goals as goal
+
+pub change-requires-clause-fits : goal.change-requires-clause-fits
+change-requires-clause-fits g c = by_own c.args.self.now.pool c.args.id.page (λ v slots. Fits v slots c.args.id.slot (image_len (option_map (λ bytes. bytes.now) c.args.after))) c.requires.fits
 
 pub returns-then-gone-clause-shows : goal.returns-then-gone-clause-shows
 returns-then-gone-clause-shows g c K front disk S shows =
@@ -41,7 +46,7 @@ returns-else-gone-clause-shows g c K front disk S shows =
     let here = frame_is c.change.new.self g id _ geometry c.change.ensures.here in
     let held = there_is _ (pools.frame_of old.pool id) c.requires.fits in
     let have = have_changed g (pools.frame_at old.pool) (pools.frame_at c.change.new.self) disk K S id c.requires.there c.change.ensures.others shows.pages (changed c.args.lsn c.args.id.slot image) put (λ e. refl) here held in
-    let fits = of_shown (λ slots. Fits slots c.args.id.slot (image_len image)) (pools.frame_of old.pool id) (disk (page_number g id)) id (K id) (S id) (shows.pages id c.requires.there) c.requires.fits in
+    let fits = of_shown (geometry_of c.args.self.now).version (λ slots. Fits (geometry_of c.args.self.now).version slots c.args.id.slot (image_len image)) (pools.frame_of old.pool id) (disk (page_number g id)) id (K id) (S id) (shows.pages id c.requires.there) c.requires.fits in
     shows_by c.change.new.self _ g K front disk (with_slots S id put) refl geometry (c.change.ensures.kept front disk shows.holds) have
     (bounds_put_image g old.free.items S shows.bounds id c.args.id.slot image (some_mapped _ c.args.after (c.is_none-gone.ensures ∙ ap not c.if-gone.false)) fits)
 

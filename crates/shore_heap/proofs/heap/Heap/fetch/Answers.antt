@@ -1,4 +1,4 @@
-use Rattle.std.proofs.Common.{◌≡◌, Option, inl, inr, refl, sym, ap, subst, ◌∙◌}
+use Rattle.std.proofs.Common.{◌≡◌, Option, inl, inr, refl, sym, ap, subst, ◌∙◌, List, Some}
 use Rattle.std.specs.Prelude.{IsSomeAnd}
 use Rattle.shore_types.specs.declared.layout.Geometry.{Geometry}
 use Rattle.shore_pool.specs.declared.frame.Frame.{Frame}
@@ -8,10 +8,13 @@ use Rattle.shore_dwrite.proofs.Moves.{if_err}
 use Rattle.shore_pool.specs.Pools as pools
 use Rattle.shore_pool.proofs.Same.{pages_stay}
 use Rattle.shore_pool.proofs.Steps.{alike, force_from}
-use Rattle.shore_heap.specs.Heaps.{IsFreshFrame, LeavesPages, claims_in, faults_of, frame_at, geometry_of, history_of}
+use Rattle.shore_heap.specs.Heaps.{IsFreshFrame, LeavesPages, claims_in, faults_of, frame_at, geometry_of, history_of, frame_of}
 use Rattle.shore_heap.proofs.Fetched.{as_read, came_by, clean_by, dirty_of, faults_by, forced_of, geometry_by, history_by, honest_by, kept_of, moment_of, number_is, others_by, there_before, was_there, were_kept, wrote_of}
 use Rattle.shore_dwrite.specs.Volumes.{page_number}
 use Rattle.shore_heap.proofs.Going.{hands_on, ok_cause, ok_same}
+use Rattle.shore_heap.specs.Contents.{FitIn, KeepWhatFits, claimed_frame, with_page_slots}
+use Rattle.shore_page.specs.Slots.{Slot}
+use Rattle.shore_pool.specs.Pages.{SamePages}
 use Rattle.shore_heap.proofs.heap.Heap.fetch.Goals as goal
 
 pub returns-in_err-fetch-clause-reads : goal.returns-in_err-fetch-clause-reads
@@ -22,11 +25,11 @@ returns-in_err-fetch-clause-reads g c =
     hands_on K c.args.ends.now.durable old _ c.from_residual.result _ c.from_residual.ensures.1 (record {
       kept = λ front disk S shows are. elim (c.in_err-fetch.ensures.kept front disk shows.holds) [
         | inl device ↦ inl device
-        | inr w ↦ inr (kept_of old mid c.args.ends.now.durable c.args.page K c.args.ends.now.last c.requires _ c.fetch.ensures.geometry refl (λ k apart. c.in_err-fetch.ensures.stay k) (inl (c.in_err-fetch.ensures.stay _)) front disk S shows are w (w.holds, pages_stay _ _ _ (λ k. refl)) (λ k f is dirty. is))
+        | inr w ↦ inr (kept_of old mid c.args.ends.now.durable c.args.page K c.args.ends.now.last c.requires _ c.fetch.ensures.geometry refl (λ k apart. c.in_err-fetch.ensures.stay k) (inl (c.in_err-fetch.ensures.stay _)) front disk S shows are w (w.holds, pages_stay (geometry_of c.args.self.now).version _ _ _ (λ k. refl)) (λ k f is dirty. is))
       ];
       wrote = λ front disk holds. elim (c.in_err-fetch.ensures.kept front disk holds) [
         | inl device ↦ inl device
-        | inr w ↦ inr (wrote_of old mid c.args.ends.now.durable _ front disk w (w.holds, pages_stay _ _ _ (λ k. refl)) (λ k f is dirty. is))
+        | inr w ↦ inr (wrote_of old mid c.args.ends.now.durable _ front disk w (w.holds, pages_stay (geometry_of c.args.self.now).version _ _ _ (λ k. refl)) (λ k f is dirty. is))
       ];
       any_moment = λ front disk holds. moment_of old mid c.args.ends.now.durable _ front disk (c.fetch.ensures.any_moment front disk holds);
       dirty = λ front disk holds k f is dirty. there_before _ _ f (c.in_err-fetch.ensures.stay k) is dirty;
@@ -63,10 +66,10 @@ returns-in-Held-clause-reads g c =
     record {
       kept = λ front disk S shows are.
           let w = c.in_ok-fetch.ensures.kept front disk shows.holds in
-          kept_of old mid c.args.ends.now.durable c.args.page K c.args.ends.now.last c.requires _ c.fetch.ensures.geometry refl (λ k apart. inl (all k)) (inl (inl (all _))) front disk S shows are w (w.holds, pages_stay _ _ _ (λ k. refl)) (λ k f is dirty. is);
+          kept_of old mid c.args.ends.now.durable c.args.page K c.args.ends.now.last c.requires _ c.fetch.ensures.geometry refl (λ k apart. inl (all k)) (inl (inl (all _))) front disk S shows are w (w.holds, pages_stay (geometry_of c.args.self.now).version _ _ _ (λ k. refl)) (λ k f is dirty. is);
       wrote = λ front disk holds.
           let w = c.in_ok-fetch.ensures.kept front disk holds in
-          wrote_of old mid c.args.ends.now.durable _ front disk w (w.holds, pages_stay _ _ _ (λ k. refl)) (λ k f is dirty. is);
+          wrote_of old mid c.args.ends.now.durable _ front disk w (w.holds, pages_stay (geometry_of c.args.self.now).version _ _ _ (λ k. refl)) (λ k f is dirty. is);
       any_moment = λ front disk holds. moment_of old mid c.args.ends.now.durable _ front disk (c.fetch.ensures.any_moment front disk holds);
       dirty = λ front disk holds k f is dirty. there_before _ _ f (inl (all k)) is dirty;
       forced = λ front disk holds number needs. force_from old.pool mid (alike (pools.frame_at old.pool) (pools.frame_at mid) all) c.args.ends.now.durable number needs;
@@ -92,23 +95,26 @@ returns-in-Read-clause-reads g c =
       kept = λ front disk S shows are.
           let w = c.in_ok-fetch.ensures.kept front disk shows.holds in
           let read = c.in_ok-fetch.ensures.read front disk shows.holds c.in-Read.is in
-          let come = came_by old mid new id K c.args.ends.now.last number read c.keep_claims.ensures.here (geometry_by new mid device) in
-          let were = were_kept old mid new id number c.keep_claims.ensures.others (clean_by old mid id c.args.ends.now.last number read) (c.keep_claims.ensures.dirt _) in
-          kept_of old mid c.args.ends.now.durable id K c.args.ends.now.last c.requires new geometry c.keep_claims.ensures.bounds others (inr come) front disk S shows are w (c.keep_claims.ensures.kept front w.left w.holds) were;
+          let come = came_by (geometry_of c.args.self.now).version old mid new id K c.args.ends.now.last number read
+          (subst (λ (it : Geometry). (f : Frame) → pools.frame_of mid id ≡ Some f → FitIn it.version (K id) f.page.slots → frame_of new id ≡ Some (claimed_frame (K id) f)) c.fetch.ensures.geometry c.keep_claims.ensures.here) (geometry_by new mid device) in
+          let were = were_kept (geometry_of c.args.self.now).version old mid new id number c.keep_claims.ensures.others (clean_by (geometry_of c.args.self.now).version old mid id c.args.ends.now.last number read) (c.keep_claims.ensures.dirt _) in
+          kept_of old mid c.args.ends.now.durable id K c.args.ends.now.last c.requires new geometry c.keep_claims.ensures.bounds others (inr come) front disk S shows are w
+          (let more = c.keep_claims.ensures.kept front w.left w.holds in (more.0, subst (λ (it : Geometry). SamePages it.version (pools.frame_at mid) w.left (frame_at new) w.left) c.fetch.ensures.geometry more.1)) were;
       wrote = λ front disk holds.
           let w = c.in_ok-fetch.ensures.kept front disk holds in
           let read = c.in_ok-fetch.ensures.read front disk holds c.in-Read.is in
-          let were = were_kept old mid new id number c.keep_claims.ensures.others (clean_by old mid id c.args.ends.now.last number read) (c.keep_claims.ensures.dirt _) in
-          wrote_of old mid c.args.ends.now.durable new front disk w (c.keep_claims.ensures.kept front w.left w.holds) were;
+          let were = were_kept (geometry_of c.args.self.now).version old mid new id number c.keep_claims.ensures.others (clean_by (geometry_of c.args.self.now).version old mid id c.args.ends.now.last number read) (c.keep_claims.ensures.dirt _) in
+          wrote_of old mid c.args.ends.now.durable new front disk w
+          (let more = c.keep_claims.ensures.kept front w.left w.holds in (more.0, subst (λ (it : Geometry). SamePages it.version (pools.frame_at mid) w.left (frame_at new) w.left) c.fetch.ensures.geometry more.1)) were;
       any_moment = λ front disk holds. subst (λ (h : DeviceHistory). LeavesOnly (history_of old) h (LeavesPages old c.args.ends.now.durable front disk)) (sym (history_by new mid device))
           (moment_of old mid c.args.ends.now.durable (pools.history_of mid) front disk (c.fetch.ensures.any_moment front disk holds));
       dirty = λ front disk holds.
           let read = c.in_ok-fetch.ensures.read front disk holds c.in-Read.is in
-          let clean = clean_by old mid id c.args.ends.now.last number read in
+          let clean = clean_by (geometry_of c.args.self.now).version old mid id c.args.ends.now.last number read in
           dirty_of old mid c.args.ends.now.durable id K c.args.ends.now.last c.requires new geometry c.keep_claims.ensures.bounds others clean (c.keep_claims.ensures.dirt _);
       forced = λ front disk holds number needs.
           let read = c.in_ok-fetch.ensures.read front disk holds c.in-Read.is in
-          let clean = clean_by old mid id c.args.ends.now.last (number_is mid id c.fetch.ensures.geometry) read in
+          let clean = clean_by (geometry_of c.args.self.now).version old mid id c.args.ends.now.last (number_is mid id c.fetch.ensures.geometry) read in
           absurd (forced_of old mid c.args.ends.now.durable id K c.args.ends.now.last c.requires new geometry c.keep_claims.ensures.bounds clean (c.keep_claims.ensures.dirt _) number needs);
       honest = honest_by new mid device ∙ c.fetch.ensures.honest;
       size = ap size (history_by new mid device) ∙ c.fetch.ensures.size;
@@ -138,7 +144,9 @@ returns-in-Read-clause-framed g c front disk holds k f is =
         ap (frame_at old) same ∙ read.0,
         subst (λ (o : Option Frame). IsSomeAnd o (IsFreshFrame (claims_in g.C.Claims c.args.claims.now id) c.args.ends.now.last))
             (ap (λ (x : Geometry). frame_at new (page_number x id)) geometry ∙ ap (frame_at new) (sym same) ∙ is)
-            (as_read id c.args.ends.now.last (claims_in g.C.Claims c.args.claims.now id) _ _ read.1 c.keep_claims.ensures.fitting),
+            (as_read (geometry_of c.args.self.now).version id c.args.ends.now.last (claims_in g.C.Claims c.args.claims.now id) _ _ read.1
+            (subst (λ (it : Geometry). (f : Frame) → pools.frame_of mid id ≡ Some f → (slots : List Slot) × KeepWhatFits it.version (claims_in g.C.Claims c.args.claims.now id) f.page.slots slots × (frame_of new id ≡ Some (with_page_slots slots f)))
+            c.fetch.ensures.geometry c.keep_claims.ensures.fitting)),
       )
       | inr apart ↦ inl (was_there _ _ f (others_by old mid new id number c.fetch.ensures.others c.keep_claims.ensures.others k apart) is)
     ]

@@ -7,11 +7,17 @@ use Rattle.shore_page.specs.Slots.{Slot, with_change}
 use Rattle.shore_pool.specs.Changes.{reclaimed}
 use Rattle.shore_pool.specs.Pools as pools
 use Rattle.shore_pool.proofs.Same.{claims_stay, there_is}
-use Rattle.shore_heap.specs.Contents.{with_slots}
+use Rattle.shore_heap.specs.Contents.{with_slots, CanKeep}
 use Rattle.shore_heap.proofs.Claimed.{bounds_kept}
 use Rattle.shore_heap.proofs.Frames.{have_changed}
 use Rattle.shore_heap.proofs.Showing.{frame_is, shows_by}
+use Rattle.shore_heap.specs.Heaps.{geometry_of}
+use Rattle.shore_heap.proofs.OwnVersions.{by_own}
 use Rattle.shore_heap.proofs.heap.Heap.keep_claim.Goals as goal
+
+pub reserve-requires-clause-fits : goal.reserve-requires-clause-fits
+reserve-requires-clause-fits g c =
+    by_own c.args.self.now.pool c.args.id.now.page (λ v slots. CanKeep v slots c.args.id.now.slot c.args.bytes) (c.has_room.ensures.0 c.if-not-has_room.false)
 
 pub returns-clause-shows : goal.returns-clause-shows
 returns-clause-shows g c kept K front disk S shows =
@@ -34,7 +40,7 @@ returns-clause-same g c disk =
     let volume = pools.geometry_of old.pool in
     let id = c.args.id.now.page in
     let here = frame_is c.reserve.new.self volume id _ (ap settled_device.geometry_of c.reserve.ensures.device) c.reserve.ensures.here in
-    claims_stay (pools.frame_at old.pool) (pools.frame_at c.reserve.new.self) disk (page_number volume id) c.args.id.now.slot (raised c.args.bytes) (λ s. refl) here c.reserve.ensures.others
+    claims_stay (geometry_of c.args.self.now).version (pools.frame_at old.pool) (pools.frame_at c.reserve.new.self) disk (page_number volume id) c.args.id.now.slot (raised c.args.bytes) (λ s. refl) here c.reserve.ensures.others
 
 pub returns-clause-untouched : goal.returns-clause-untouched
 returns-clause-untouched g c front disk holds = (

@@ -1,6 +1,7 @@
 use Rattle.std.proofs.Common.{◌++◌, ◌∷◌, [], None, Some, option_to_list, ap, ◌∙◌}
 use Rattle.std.proofs.lemmas.List.{append-nil}
 use Rattle.shore_heap.proofs.Keeping.{keeps_none, keeps_one, told_on}
+use Rattle.shore_heap.specs.Heaps.{geometry_of}
 use Rattle.shore_heap.proofs.heap.Heap.keep_claims.Goals as goal
 
 pub loop-place-init : goal.loop-place-init

@@ -23,13 +23,13 @@ returns-clause-shows g c front disk number images is_settled texts =
     let geometry : pools.geometry_of pool ≡ settled_device.geometry_of c.args.device = ap settled_device.geometry_of c.in_ok-pool.ensures.device in
     let S : PageId → List Slot = λ id. map settled (images id) in
     let have : Have (settled_device.geometry_of c.args.device) (pools.frame_at pool) disk unclaimed S =
-    λ id has. subst (λ (o : Option Frame). HasSlots o (disk (page_number (settled_device.geometry_of c.args.device) id)) id [] (S id)) (sym (c.in_ok-pool.ensures.empty (page_number (settled_device.geometry_of c.args.device) id)))
+    λ id has. subst (λ (o : Option Frame). HasSlots (settled_device.geometry_of c.args.device).version o (disk (page_number (settled_device.geometry_of c.args.device) id)) id [] (S id)) (sym (c.in_ok-pool.ensures.empty (page_number (settled_device.geometry_of c.args.device) id)))
     (number id, images id, texts id has, refl, tt) in
     let bounds : AreBounds c.geometry.result.now c.in-Ok.free.items S = subst (λ (l : List (List ℕ)). AreBounds c.geometry.result.now l S) (sym c.in-Ok.ensures) (bounds_unknown c.geometry.result.now S) in
     record {
       holds = record {
         settled = rests_at pool.amid pool.device front disk (pools.batch_of pool) (pools.batch_texts_of pool) c.in_ok-pool.ensures.rests (subst (λ d. settled_device.IsSettled d front disk) (sym c.in_ok-pool.ensures.device) is_settled);
-        held = held_none pool.amid (pools.frame_at pool) (pools.batch_of pool) (pools.batch_texts_of pool) c.in_ok-pool.ensures.rests;
+        held = held_none _ pool.amid (pools.frame_at pool) (pools.batch_of pool) (pools.batch_texts_of pool) c.in_ok-pool.ensures.rests;
         written = λ k f there clean. let clash : None ≡ Some f = sym (c.in_ok-pool.ensures.empty k) ∙ there in absurd cc;
       };
       pages = subst (λ (it : Geometry). Have it (pools.frame_at pool) disk unclaimed S) (sym geometry) have;

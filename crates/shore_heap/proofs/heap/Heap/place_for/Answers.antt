@@ -80,7 +80,8 @@ returns-in-Some-tried-clause-found g c front disk S shows are =
     let shown = shown_mid (claims_in g.C.Claims c.args.claims.now) c.args.ends.now.durable tt old mid mid inv.goes front disk S shows are in
     let bounds = subst (λ (it : Geometry). AreBounds it mid.free.items S) inv.goes.geometry shown.1.bounds in
     let first =
-    if_some_at (IsFirstSlot (S id) c.args.bytes (slots_of allowed id)) c.in_ok-tried.tried c.in-Some-tried.slot c.in-Some-tried.is (c.in_ok-tried.ensures.found front shown.0 S shown.1 shown.2) in
+    subst (λ (it : Geometry). IsFirstSlot it.version (S id) c.args.bytes (slots_of allowed id) c.in-Some-tried.slot) inv.goes.geometry
+    (if_some_at (IsFirstSlot (geometry_of mid).version (S id) c.args.bytes (slots_of allowed id)) c.in_ok-tried.tried c.in-Some-tried.slot c.in-Some-tried.is (c.in_ok-tried.ensures.found front shown.0 S shown.1 shown.2)) in
     is_place (geometry_of old) S c.args.store c.args.bytes allowed page c.in-Some-tried.slot (λ j less. elim (cases_lt j c.loop-from.from) [
       | inl low ↦ inv.none front disk S shows are j low
       | inr high ↦ none_by_bound (geometry_of old) S c.args.store c.args.bytes allowed mid.free.items bounds j (c.in-Some.ensures.passed j high less)
@@ -89,13 +90,15 @@ returns-in-Some-tried-clause-found g c front disk S shows are =
 pub returns-in-Some-tried-clause-framed : goal.returns-in-Some-tried-clause-framed
 returns-in-Some-tried-clause-framed g c =
     let id = the_page c.args.store c.in-Some.page in
-    if_some_at (λ (slot : ℕ). IsSomeAnd (frame_of c.try_page.new.self id) (λ f. IsCandidate f.page.slots slot c.args.bytes)) c.in_ok-tried.tried c.in-Some-tried.slot c.in-Some-tried.is c.in_ok-tried.ensures.framed
+    let mid = c.loop-from.self in
+    subst (λ (it : Geometry). IsSomeAnd (frame_of c.try_page.new.self id) (λ f. IsCandidate it.version f.page.slots c.in-Some-tried.slot c.args.bytes)) c.loop-from.invariant.goes.geometry
+    (if_some_at (λ (slot : ℕ). IsSomeAnd (frame_of c.try_page.new.self id) (λ f. IsCandidate (geometry_of mid).version f.page.slots slot c.args.bytes)) c.in_ok-tried.tried c.in-Some-tried.slot c.in-Some-tried.is c.in_ok-tried.ensures.framed)
 
 pub returns-in-Some-tried-clause-there : goal.returns-in-Some-tried-clause-there
 returns-in-Some-tried-clause-there g c =
     let mid = c.loop-from.self in
     let id = the_page c.args.store c.in-Some.page in
-    let framed = if_some_at (λ (slot : ℕ). IsSomeAnd (frame_of c.try_page.new.self id) (λ f. IsCandidate f.page.slots slot c.args.bytes)) c.in_ok-tried.tried c.in-Some-tried.slot c.in-Some-tried.is c.in_ok-tried.ensures.framed in
+    let framed = if_some_at (λ (slot : ℕ). IsSomeAnd (frame_of c.try_page.new.self id) (λ f. IsCandidate (geometry_of mid).version f.page.slots slot c.args.bytes)) c.in_ok-tried.tried c.in-Some-tried.slot c.in-Some-tried.is c.in_ok-tried.ensures.framed in
     subst (λ (it : Geometry). HasSlot it (record { page = id; slot = c.in-Some-tried.slot })) c.loop-from.invariant.goes.geometry
     (slot_there (geometry_of mid) (record { page = id; slot = c.in-Some-tried.slot }) (frame_of c.try_page.new.self id) c.args.bytes c.in-Some.ensures.there framed)
 
@@ -121,7 +124,8 @@ loop-from-preserved g c =
             goes = subst (λ h. Goes K c.args.ends.now.durable old h) (sym w.self-is) (answers K c.args.ends.now.durable _ tt old new (reads_then K c.args.ends.now.durable tt old mid new inv.goes _ e.reads));
             none = λ front disk S shows are.
                 let shown = shown_mid K c.args.ends.now.durable tt old mid mid inv.goes front disk S shows are in
-                let none = if_none_at (HasNoSlot (S (the_page store page)) bytes (slots_of allowed (the_page store page))) w.in_ok-tried.tried w.in_default-tried.is (e.none front shown.0 S shown.1 shown.2) in
+                let none = subst (λ (it : Geometry). HasNoSlot it.version (S (the_page store page)) bytes (slots_of allowed (the_page store page))) inv.goes.geometry
+                (if_none_at (HasNoSlot (geometry_of mid).version (S (the_page store page)) bytes (slots_of allowed (the_page store page))) w.in_ok-tried.tried w.in_default-tried.is (e.none front shown.0 S shown.1 shown.2)) in
                 below front disk S shows are (λ has. none);
           }
       | else-may_use w ↦ record {

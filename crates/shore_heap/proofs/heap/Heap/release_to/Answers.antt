@@ -14,6 +14,7 @@ use Rattle.shore_heap.specs.Contents.{with_slots}
 use Rattle.shore_heap.proofs.Bounds.{bounds_forgot}
 use Rattle.shore_heap.proofs.Frames.{have_changed}
 use Rattle.shore_heap.proofs.Showing.{frame_is, same_dirt, shows_by}
+use Rattle.shore_heap.specs.Heaps.{geometry_of}
 use Rattle.shore_heap.proofs.heap.Heap.release_to.Goals as goal
 
 pub returns-clause-shows : goal.returns-clause-shows
@@ -41,8 +42,8 @@ returns-clause-same g c disk =
     let volume = pools.geometry_of old.pool in
     let id = c.args.id.page in
     let here = frame_is c.unreserve.new.self volume id _ (ap settled_device.geometry_of c.unreserve.ensures.device) c.unreserve.ensures.here in
-    subst (λ (p : Pool _ g.D.Disk). SamePages (pools.frame_at old.pool) disk (pools.frame_at p) disk) (sym c.forget.ensures.pool)
-    (claims_stay (pools.frame_at old.pool) (pools.frame_at c.unreserve.new.self) disk (page_number volume id) c.args.id.slot (lowered c.args.bytes) (λ s. refl) here c.unreserve.ensures.others)
+    subst (λ (p : Pool _ g.D.Disk). SamePages (geometry_of c.args.self.now).version (pools.frame_at old.pool) disk (pools.frame_at p) disk) (sym c.forget.ensures.pool)
+    (claims_stay (geometry_of c.args.self.now).version (pools.frame_at old.pool) (pools.frame_at c.unreserve.new.self) disk (page_number volume id) c.args.id.slot (lowered c.args.bytes) (λ s. refl) here c.unreserve.ensures.others)
 
 pub returns-clause-dirt : goal.returns-clause-dirt
 returns-clause-dirt g c k =

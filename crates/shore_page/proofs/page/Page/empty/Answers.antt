@@ -12,8 +12,8 @@ clear-requires c =
 pub invariant_of-self : goal.invariant_of-self
 invariant_of-self c =
     let is = ap (λ (p : PageState). p.slots) (c.self.view_is ∙ c.raise.ensures.raised) in
-    subst (λ (t : PageImages). HasClaims t.images c.self.inside.claims.items (vec_capacity c.self.inside.claims) c.self.inside.claimed) (sym c.clear.ensures)
-    (raised_kept c.self.inside.text.images c.self.inside.claims.items (vec_capacity c.self.inside.claims) c.self.inside.claimed c.args.self.now.slots c.args.slot None c.self.invariant is)
+    subst (λ (t : PageImages). HasClaims t.version t.images c.self.inside.claims.items (vec_capacity c.self.inside.claims) c.self.inside.claimed) (sym c.clear.ensures)
+    (raised_kept c.self.inside.text.version c.self.inside.text.images c.self.inside.claims.items (vec_capacity c.self.inside.claims) c.self.inside.claimed c.args.self.now.slots c.args.slot None c.self.invariant is)
 
 pub returns-clause-emptied : goal.returns-clause-emptied
 returns-clause-emptied c =
@@ -24,5 +24,5 @@ returns-clause-emptied c =
 pub returns-clause-one : goal.returns-clause-one
 returns-clause-one c =
     let is = ap (λ (p : PageState). p.slots) (c.self.view_is ∙ c.raise.ensures.raised) in
-    subst (λ (t : PageImages). ChangesOne c.args.self.now.slots (slots_of t.images c.self.inside.claims.items) c.args.slot None) (sym c.clear.ensures)
-    (raised_one c.self.inside.text.images c.self.inside.claims.items c.args.self.now.slots c.args.slot None c.self.invariant.same is c.raise.ensures.room c.requires)
+    subst (λ (t : PageImages). ChangesOne c.args.self.now.version c.args.self.now.slots (slots_of t.images c.self.inside.claims.items) c.args.slot None) (sym c.clear.ensures)
+    (raised_one c.args.self.now.version c.self.inside.text.images c.self.inside.claims.items c.args.self.now.slots c.args.slot None c.self.invariant.same is c.raise.ensures.room c.requires)

@@ -1,4 +1,5 @@
 use Rattle.std.proofs.Common.{◌≡◌, List, get_or, ap, ◌∙◌, arith}
+use Rattle.shore_types.specs.Versions.{record_limit, slot_limit}
 use Rattle.std.proofs.Math.ListN.{get_or-eq_default}
 use Rattle.std.proofs.lemmas.List.{get_or_default}
 use Rattle.shore_page.specs.Slots.{Slot, PageState}
@@ -23,4 +24,5 @@ returns c =
       | else-slot-slots w ↦ (let none : get_or cs c.args.slot 0 ≡ 0 = get_or-eq_default cs 0 (omega (arith, has.same, c.slot_count-slots.ensures.count)) in
           omega (arith, w.need-is, c.slot_count-slots.ensures.count))
     ] in
-    fits_is c.args.self.now.slots c.args.slot c.args.bytes c.if-slot-slots.need c.free_bytes.result (omega arith) (omega arith) (is ∙ ap (λ (l : List Slot). need l c.args.slot c.args.bytes) slots) c.free_bytes.ensures.free
+    let version : c.version-version.result ≡ c.args.self.now.version = c.version-version.ensures ∙ ap (λ (p : PageState). p.version) c.self.view_is in
+    fits_is c.args.self.now.version c.args.self.now.slots c.args.slot c.args.bytes c.if-slot-slots.need c.free_bytes.result (omega (arith, ap slot_limit version)) (omega (arith, ap record_limit version)) (is ∙ ap (λ (l : List Slot). need l c.args.slot c.args.bytes) slots) c.free_bytes.ensures.free

@@ -1,10 +1,10 @@
 use Rattle.std.proofs.Common.{◌≡◌, ◌<◌, ◌≤◌, ℕ, List, None, Some, IfSome, Option, Bor, length, option_map, subst, sym, ap, ◌∙◌, arith}
-use Rattle.shore_types.specs.declared.layout.TheConstants.{MAX_RECORD_BYTES}
 use Rattle.shore_page.specs.Room.{HasRoom}
 use Rattle.shore_page.proofs.RoomLemmas.{record_short}
 use Rattle.std.specs.Option.{option_and_then}
 use Rattle.std.proofs.lemmas.Option.{slice_get_past, slice_get-get_or}
 use Rattle.shore_types.specs.Images.{Image}
+use Rattle.shore_types.specs.Versions.{record_limit}
 use Rattle.shore_page.specs.Slots.{PageState, Slot, image_at_slot}
 use Rattle.shore_page.proofs.PageLemmas.{image_at-slots, length-slots}
 use Rattle.shore_page.proofs.page.Page.get.Goals as goal
@@ -27,9 +27,9 @@ returns-clause-image c =
 pub returns-clause-short : goal.returns-clause-short
 returns-clause-short c = short c.image.result (returns-clause-image c)
   where
-    room : HasRoom c.args.self.now.slots
-    room = subst (λ (p : PageState). HasRoom p.slots) c.self.view_is c.self.invariant.kept.room
+    room : HasRoom c.args.self.now.version c.args.self.now.slots
+    room = subst (λ (p : PageState). HasRoom p.version p.slots) c.self.view_is c.self.invariant.kept.room
 
-    short : (o : Option (Bor (List ℕ))) → option_map (λ (b : Bor (List ℕ)). b.now) o ≡ image_at_slot c.args.self.now.slots c.args.slot → IfSome o (λ b. length b.now ≤ MAX_RECORD_BYTES)
+    short : (o : Option (Bor (List ℕ))) → option_map (λ (b : Bor (List ℕ)). b.now) o ≡ image_at_slot c.args.self.now.slots c.args.slot → IfSome o (λ b. length b.now ≤ record_limit c.args.self.now.version)
     short None is = tt
-    short (Some b) is = record_short c.args.self.now.slots c.args.slot b.now room (sym is)
+    short (Some b) is = record_short c.args.self.now.version c.args.self.now.slots c.args.slot b.now room (sym is)

@@ -32,8 +32,8 @@ invariant_of-self c =
     let is : slots_of images cs ≡ with_slot old c.args.slot = ap (λ (p : PageState). p.slots) (c.self.view_is ∙ c.reach.ensures.reached) in
     let inside = here images cs old c.args.slot has.same is in
     let claim : c.index.result.now ≡ get_or cs c.args.slot 0 = c.index.ensures ∙ get_or_default cs c.args.slot c.index.result.now 0 (omega (arith, has.same)) in
-    let fits = subst (λ (l : List Slot). Fits l c.args.slot c.args.bytes) (sym is) (with_slot_fits old c.args.slot c.args.bytes c.reach.ensures.room c.requires) in
-    rw (c.max-raised.ensures, claim) (claim_raised images cs (vec_capacity c.self.inside.claims) c.self.inside.claimed c.args.slot c.args.bytes has inside fits)
+    let fits = subst (λ (p : PageState). Fits p.version p.slots c.args.slot c.args.bytes) (sym (c.self.view_is ∙ c.reach.ensures.reached)) (with_slot_fits c.args.self.now.version old c.args.slot c.args.bytes c.reach.ensures.room c.requires) in
+    rw (c.max-raised.ensures, claim) (claim_raised c.self.inside.text.version images cs (vec_capacity c.self.inside.claims) c.self.inside.claimed c.args.slot c.args.bytes has inside fits)
 
 pub returns : goal.returns
 returns c =

@@ -14,8 +14,8 @@ clear-requires c = slot_inside c.self.inside.text.images c.self.inside.claims.it
 pub invariant_of-self : goal.invariant_of-self
 invariant_of-self c =
     let there = slot_inside c.self.inside.text.images c.self.inside.claims.items c.args.self.now.slots c.args.slot c.self.invariant.same (ap (λ (p : PageState). p.slots) c.self.view_is) c.requires in
-    subst (λ (t : PageImages). HasClaims t.images c.self.inside.claims.items (vec_capacity c.self.inside.claims) c.self.inside.claimed) (sym c.clear.ensures)
-    (image_kept c.self.inside.text.images c.self.inside.claims.items (vec_capacity c.self.inside.claims) c.self.inside.claimed c.args.slot None c.self.invariant there (omega arith))
+    subst (λ (t : PageImages). HasClaims t.version t.images c.self.inside.claims.items (vec_capacity c.self.inside.claims) c.self.inside.claimed) (sym c.clear.ensures)
+    (image_kept c.self.inside.text.version c.self.inside.text.images c.self.inside.claims.items (vec_capacity c.self.inside.claims) c.self.inside.claimed c.args.slot None c.self.invariant there (omega arith))
 
 -- the slots that are left
 left : (images : List Image) (cs : List ℕ) (now : List Slot) (i : ℕ) → length cs ≡ length images → slots_of images cs ≡ now → i < length now → slots_of (set images i None) cs ≡ with_image now i None
@@ -30,8 +30,8 @@ returns-clause-removed c =
 
 pub returns-clause-one : goal.returns-clause-one
 returns-clause-one c =
-    let room : HasRoom c.args.self.now.slots = subst (λ (p : PageState). HasRoom p.slots) c.self.view_is c.self.invariant.kept.room in
+    let room : HasRoom c.args.self.now.version c.args.self.now.slots = subst (λ (p : PageState). HasRoom p.version p.slots) c.self.view_is c.self.invariant.kept.room in
     let is : slots_of c.clear.new.self.images c.self.inside.claims.items ≡ with_image c.args.self.now.slots c.args.slot None =
     ap (λ (t : PageImages). slots_of t.images c.self.inside.claims.items) c.clear.ensures
     ∙ left c.self.inside.text.images c.self.inside.claims.items c.args.self.now.slots c.args.slot c.self.invariant.same (ap (λ (p : PageState). p.slots) c.self.view_is) c.requires in
-    subst (λ (l : List Slot). ChangesOne c.args.self.now.slots l c.args.slot None) (sym is) (changes_one c.args.self.now.slots c.args.slot None room (nothing_fits c.args.self.now.slots c.args.slot room c.requires))
+    subst (λ (l : List Slot). ChangesOne c.args.self.now.version c.args.self.now.slots l c.args.slot None) (sym is) (changes_one c.args.self.now.version c.args.self.now.slots c.args.slot None room (nothing_fits c.args.self.now.version c.args.self.now.slots c.args.slot room c.requires))

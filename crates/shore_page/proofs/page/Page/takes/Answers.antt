@@ -1,8 +1,9 @@
-use Rattle.std.proofs.Common.{◌≡◌, ◌≤◌, ◌+◌, List, length, None, sym, ap, ◌∙◌, arith}
+use Rattle.std.proofs.Common.{◌≡◌, ◌≤◌, ◌+◌, List, length, None, sym, ap, subst, ◌∙◌, arith}
 use Rattle.std.proofs.lemmas.List.{get_or_default}
 use Rattle.std.proofs.lemmas.Bool.{leb-true, le-leb}
+use Rattle.shore_types.specs.Versions.{slot_limit, sizes}
 use Rattle.shore_page.specs.Slots.{Slot, PageState, image_at_slot}
-use Rattle.shore_page.specs.Room.{claim_at, IsCandidate}
+use Rattle.shore_page.specs.Room.{claim_at, HasRoom, IsCandidate}
 use Rattle.shore_page.specs.Layout.{slots_of}
 use Rattle.shore_page.proofs.PageLemmas.{claim_at-slots, slot_inside}
 use Rattle.shore_page.proofs.CandidateLemmas.{image_read, candidate_inside}
@@ -27,8 +28,9 @@ returns-then-is_empty c =
     sym (ap (λ (l : List Slot). image_at_slot l c.args.slot) is) ∙ image_read images cs c.args.slot same there ∙ c.is_empty.ensures.0 c.if-is_empty.true in
     let claim : c.index.result.now ≡ claim_at c.args.self.now.slots c.args.slot =
     c.index.ensures ∙ get_or_default cs c.args.slot c.index.result.now 0 (omega (arith, same)) ∙ sym (claim_at-slots images cs c.args.slot same) ∙ ap (λ (l : List Slot). claim_at l c.args.slot) is in
-    let few : length c.args.self.now.slots ≤ 2042 = omega (arith, c.self.invariant.kept.room.room, ap (λ (l : List Slot). length l) is) in (
-      λ test. candidate_inside c.args.self.now.slots c.args.slot c.args.bytes c.args.free c.requires.there few c.requires.most c.requires.free none (omega (arith, claim, leb-true c.args.bytes (c.args.free + c.index.result.now) test)),
+    let held : HasRoom c.args.self.now.version c.args.self.now.slots = subst (λ (p : PageState). HasRoom p.version p.slots) c.self.view_is c.self.invariant.kept.room in
+    let few : length c.args.self.now.slots ≤ slot_limit c.args.self.now.version = omega (arith, sizes, held.room) in (
+      λ test. candidate_inside c.args.self.now.version c.args.self.now.slots c.args.slot c.args.bytes c.args.free c.requires.there few c.requires.most c.requires.free none (omega (arith, claim, leb-true c.args.bytes (c.args.free + c.index.result.now) test)),
       λ fits. le-leb c.args.bytes (c.args.free + c.index.result.now) (omega (arith, claim, fits.fits.room, c.requires.free)),
     )
 
@@ -40,5 +42,5 @@ returns-else-is_empty c =
     let there = slot_inside images cs c.args.self.now.slots c.args.slot c.self.invariant.same is c.requires.there in
     let read = sym (image_read images cs c.args.slot c.self.invariant.same there) ∙ ap (λ (l : List Slot). image_at_slot l c.args.slot) is in (
       λ never. let clash = c.if-is_empty.false in cc,
-      λ (fits : IsCandidate c.args.self.now.slots c.args.slot c.args.bytes). c.is_empty.ensures.1 (read ∙ fits.empty),
+      λ (fits : IsCandidate c.args.self.now.version c.args.self.now.slots c.args.slot c.args.bytes). c.is_empty.ensures.1 (read ∙ fits.empty),
     )

@@ -8,5 +8,5 @@ use Rattle.shore_page.proofs.page.Page.to_bytes.Goals as goal
 pub returns : goal.returns
 returns c =
     let text = c.self.inside.text in
-    subst (λ (p : PageState). IsPageText c.to_bytes.new.out p.id p.number (images_of p.slots)) c.self.view_is
-    (subst (λ (l : List Image). IsPageText c.to_bytes.new.out text.id text.number l) (sym (images_of-slots text.images c.self.inside.claims.items c.self.invariant.same)) c.to_bytes.ensures)
+    subst (λ (p : PageState). IsPageText p.version c.to_bytes.new.out p.id p.number (images_of p.slots)) c.self.view_is
+    (subst (λ (l : List Image). IsPageText c.self.inside.text.version c.to_bytes.new.out text.id text.number l) (sym (images_of-slots text.images c.self.inside.claims.items c.self.invariant.same)) c.to_bytes.ensures)

@@ -37,7 +37,7 @@ invariant_of-self c =
     let cs = c.self.inside.claims.items in
     let there = slot_inside images cs c.args.self.now.slots c.args.slot has.same (ap (λ (p : PageState). p.slots) c.self.view_is) c.requires in
     let claim : c.index.result.now ≡ get_or cs c.args.slot 0 = c.index.ensures ∙ get_or_default cs c.args.slot c.index.result.now 0 (omega (arith, has.same)) in
-    rw (c.min-lowered.ensures, c.max-kept.ensures, c.record_len.ensures.len, claim) (claim_lowered images cs (vec_capacity c.self.inside.claims) c.self.inside.claimed c.args.slot c.args.bytes has there)
+    rw (c.min-lowered.ensures, c.max-kept.ensures, c.record_len.ensures.len, claim) (claim_lowered c.self.inside.text.version images cs (vec_capacity c.self.inside.claims) c.self.inside.claimed c.args.slot c.args.bytes has there)
 
 pub returns : goal.returns
 returns c =

@@ -15,22 +15,22 @@ clear_slot-requires c =
     record {
       whole = ap (λ (l : List ℕ). length l) c.deref_mut.ensures.value ∙ kept.laid_out.whole;
       few = kept.laid_out.few;
-      there = omega (arith, length-images c.self.inside.bytes.items c.self.inside.slots, ap (λ (p : PageImages). length p.images) c.self.view_is);
+      there = omega (arith, length-images c.self.inside.version c.self.inside.bytes.items c.self.inside.slots, ap (λ (p : PageImages). length p.images) c.self.view_is);
     }
 
 pub invariant_of-self : goal.invariant_of-self
 invariant_of-self c =
     let kept = c.self.invariant in
     let new = c.clear_slot.new.bytes in
-    let old = subst (λ (b : List ℕ). IsPageBytes b c.self.inside.id c.self.inside.number c.self.inside.slots c.self.inside.end c.self.inside.full) (sym c.deref_mut.ensures.value) kept in
+    let old = subst (λ (b : List ℕ). IsPageBytes c.self.inside.version b c.self.inside.id c.self.inside.number c.self.inside.slots c.self.inside.end c.self.inside.full) (sym c.deref_mut.ensures.value) kept in
     let laid_out = c.clear_slot.ensures.laid_out c.self.inside.end old.laid_out in
     let after = with_items_is c.self.inside.bytes new (omega (arith, laid_out.whole, old.laid_out.whole, c.deref_mut.ensures.len)) in
-    subst (λ (b : List ℕ). IsPageBytes b c.self.inside.id c.self.inside.number c.self.inside.slots c.self.inside.end c.min-self-inside.result) (sym after) record {
-      header = header_same c.deref_mut.result.now new c.self.inside.id c.self.inside.number c.self.inside.slots old.laid_out.whole c.clear_slot.ensures.header old.header;
+    subst (λ (b : List ℕ). IsPageBytes c.self.inside.version b c.self.inside.id c.self.inside.number c.self.inside.slots c.self.inside.end c.min-self-inside.result) (sym after) record {
+      header = header_same c.self.inside.version c.deref_mut.result.now new c.self.inside.id c.self.inside.number c.self.inside.slots old.laid_out.whole c.clear_slot.ensures.header old.header;
       laid_out = laid_out;
       filled = subst (λ (l : List Image). AreFull l c.min-self-inside.result) (sym (c.clear_slot.ensures.images c.self.inside.end old.laid_out))
-          (subst (AreFull (set (images_in c.deref_mut.result.now c.self.inside.slots) c.args.slot None)) (sym c.min-self-inside.ensures)
-          (full_cleared (images_in c.deref_mut.result.now c.self.inside.slots) c.self.inside.full c.args.slot old.filled));
+          (subst (AreFull (set (images_in c.self.inside.version c.deref_mut.result.now c.self.inside.slots) c.args.slot None)) (sym c.min-self-inside.ensures)
+          (full_cleared (images_in c.self.inside.version c.deref_mut.result.now c.self.inside.slots) c.self.inside.full c.args.slot old.filled));
     }
 
 pub returns : goal.returns
@@ -38,10 +38,10 @@ returns c =
     let kept = c.self.invariant in
     let new = c.clear_slot.new.bytes in
     let slots = c.self.inside.slots in
-    let old = subst (λ (b : List ℕ). IsLaidOut b slots c.self.inside.end) (sym c.deref_mut.ensures.value) kept.laid_out in
+    let old = subst (λ (b : List ℕ). IsLaidOut c.self.inside.version b slots c.self.inside.end) (sym c.deref_mut.ensures.value) kept.laid_out in
     let laid_out = c.clear_slot.ensures.laid_out c.self.inside.end old in
     let after = with_items_is c.self.inside.bytes new (omega (arith, laid_out.whole, old.whole, c.deref_mut.ensures.len)) in
     same_but_images _ c.args.self.now _ _ c.self.view_is
-    (ap (λ (b : List ℕ). images_in b slots) after ∙ c.clear_slot.ensures.images c.self.inside.end old
-    ∙ ap (λ (b : List ℕ). set (images_in b slots) c.args.slot None) c.deref_mut.ensures.value
+    (ap (λ (b : List ℕ). images_in c.self.inside.version b slots) after ∙ c.clear_slot.ensures.images c.self.inside.end old
+    ∙ ap (λ (b : List ℕ). set (images_in c.self.inside.version b slots) c.args.slot None) c.deref_mut.ensures.value
     ∙ ap (λ (p : PageImages). set p.images c.args.slot None) c.self.view_is)

@@ -1,4 +1,5 @@
 use Rattle.std.proofs.Common.{◌<◌, ◌≤◌, ◌+◌, ℕ, List, None, length, get_or, sym, ap, subst, ◌∙◌, arith}
+use Rattle.shore_types.specs.Versions.{page_bytes}
 use Rattle.shore_page.specs.Reading.{slot_image}
 use Rattle.shore_page.specs.Text.{offset_at, length_at}
 use Rattle.shore_page.specs.Layout.{PageImages}
@@ -10,18 +11,18 @@ image_at-requires c =
     let kept = c.self.invariant.laid_out in
     let items = c.self.inside.bytes.items in
     let slots = c.self.inside.slots in
-    let inside : c.args.slot < slots = omega (arith, length-images items slots, ap (λ (p : PageImages). length p.images) c.self.view_is, c.requires) in
-    let within : offset_at items c.args.slot + length_at items c.args.slot ≤ 8192 = omega (arith, kept.ends c.args.slot inside, kept.back) in
+    let inside : c.args.slot < slots = omega (arith, length-images c.self.inside.version items slots, ap (λ (p : PageImages). length p.images) c.self.view_is, c.requires) in
+    let within : offset_at c.self.inside.version items c.args.slot + length_at c.self.inside.version items c.args.slot ≤ page_bytes c.self.inside.version = omega (arith, kept.ends c.args.slot inside, kept.back) in
     record {
       whole = ap (λ (l : List ℕ). length l) c.deref.ensures.value ∙ kept.whole;
       few = omega (arith, kept.few);
-      within = subst (λ (b : List ℕ). offset_at b c.args.slot + length_at b c.args.slot ≤ 8192) (sym c.deref.ensures.value) within;
+      within = subst (λ (b : List ℕ). offset_at c.self.inside.version b c.args.slot + length_at c.self.inside.version b c.args.slot ≤ page_bytes c.self.inside.version) (sym c.deref.ensures.value) within;
     }
 
 pub returns : goal.returns
 returns c =
     let items = c.self.inside.bytes.items in
     let slots = c.self.inside.slots in
-    let inside : c.args.slot < slots = omega (arith, length-images items slots, ap (λ (p : PageImages). length p.images) c.self.view_is, c.requires) in
-    c.image_at.ensures ∙ ap (λ (b : List ℕ). slot_image b c.args.slot) c.deref.ensures.value
-    ∙ sym (get-images items slots c.args.slot inside) ∙ ap (λ (p : PageImages). get_or p.images c.args.slot None) c.self.view_is
+    let inside : c.args.slot < slots = omega (arith, length-images c.self.inside.version items slots, ap (λ (p : PageImages). length p.images) c.self.view_is, c.requires) in
+    c.image_at.ensures ∙ ap (λ (b : List ℕ). slot_image c.self.inside.version b c.args.slot) c.deref.ensures.value
+    ∙ sym (get-images c.self.inside.version items slots c.args.slot inside) ∙ ap (λ (p : PageImages). get_or p.images c.args.slot None) c.self.view_is

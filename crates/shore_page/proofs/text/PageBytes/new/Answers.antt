@@ -10,4 +10,4 @@ pub invariant_of-result : goal.invariant_of-result
 invariant_of-result c =
     let new = c.put_header.new.out in
     let after = with_items_is c.in_ok-bytes.bytes new (omega (arith, c.put_header.ensures.len, c.in_ok-bytes.ensures.len)) in
-    subst (λ (b : List ℕ). IsPageBytes b c.args.id 0 0 24 0) (sym after) record { header = c.put_header.ensures.header; laid_out = nothing_laid_out new c.put_header.ensures.len; filled = full_nothing (images_in new 0) }
+    subst (λ (b : List ℕ). IsPageBytes c.args.version b c.args.id 0 0 24 0) (sym after) record { header = c.put_header.ensures.header; laid_out = nothing_laid_out c.args.version new c.put_header.ensures.len; filled = full_nothing (images_in c.args.version new 0) }

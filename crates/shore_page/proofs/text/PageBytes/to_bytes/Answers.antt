@@ -8,7 +8,7 @@ use Rattle.shore_page.proofs.text.PageBytes.to_bytes.Goals as goal
 pub returns : goal.returns
 returns c =
     let kept = c.self.invariant in
-    let text = text_of_table c.self.inside.bytes.items c.self.inside.id c.self.inside.number c.self.inside.slots kept.laid_out.whole kept.header kept.laid_out.table in
+    let text = text_of_table c.self.inside.version c.self.inside.bytes.items c.self.inside.id c.self.inside.number c.self.inside.slots kept.laid_out.whole kept.header kept.laid_out.table in
     let copied : c.copy_from_slice.new.self ≡ c.self.inside.bytes.items = c.copy_from_slice.ensures.after ∙ c.deref.ensures.value in
-    subst (λ (p : PageImages). IsPageText c.copy_from_slice.new.self p.id p.number p.images) c.self.view_is
-    (subst (λ (b : List ℕ). IsPageText b c.self.inside.id c.self.inside.number (images_in c.self.inside.bytes.items c.self.inside.slots)) (sym copied) text)
+    subst (λ (p : PageImages). IsPageText p.version c.copy_from_slice.new.self p.id p.number p.images) c.self.view_is
+    (subst (λ (b : List ℕ). IsPageText c.self.inside.version b c.self.inside.id c.self.inside.number (images_in c.self.inside.version c.self.inside.bytes.items c.self.inside.slots)) (sym copied) text)

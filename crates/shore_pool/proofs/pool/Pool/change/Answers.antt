@@ -25,7 +25,7 @@ returns-clause-kept g c front disk had =
     record {
       settled = holds.settled;
       written = change_written at now disk c.number-number.result c.args.lsn c.args.slot _ c.change.ensures.here c.change.ensures.others holds.written;
-      held = held_but mid.amid at now (numbers_of mid.batch) (texts_of mid.batch) c.number-number.result c.change.ensures.others c.give_up_with.ensures.gone
+      held = held_but _ mid.amid at now (numbers_of mid.batch) (texts_of mid.batch) c.number-number.result c.change.ensures.others c.give_up_with.ensures.gone
           (λ is has there. subst (λ (o : Option Frame). is_some o ≡ true) (sym c.change.ensures.here) (mapped_there (changed c.args.lsn c.args.slot _) (at c.number-number.result) there)) holds.held;
     }
 

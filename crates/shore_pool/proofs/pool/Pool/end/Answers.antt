@@ -19,6 +19,7 @@ invariant_of-self g c = record {
   few = c.args.self.now.few;
   pages = c.args.self.now.pages ∙ ap page_count (sym c.end_batch.ensures.geometry);
   batch_room = c.args.self.now.batch_room;
+  batch_version = c.args.self.now.batch_version ∙ ap (λ (it : Geometry). it.version) (sym c.end_batch.ensures.geometry);
   batch_is = λ some. subst (λ (it : Geometry). AreBatchNumbers it (numbers_of c.args.self.now.batch)) (sym c.end_batch.ensures.geometry)
       (c.args.self.now.batch_is (λ rests. let clash : amid.Placed ≡ amid.Rest = sym c.requires ∙ rests in cc));
 }
@@ -30,6 +31,7 @@ invariant_of-self-2 g c = record {
   few = c.args.self.now.few;
   pages = c.args.self.now.pages ∙ ap page_count (sym c.end_batch.ensures.geometry);
   batch_room = c.args.self.now.batch_room;
+  batch_version = c.args.self.now.batch_version ∙ ap (λ (it : Geometry). it.version) (sym c.end_batch.ensures.geometry);
   batch_is = λ some. absurd (some refl);
 }
 

@@ -34,11 +34,11 @@ returns-clause-kept g c front disk had =
       record {
         settled = holds.settled;
         written = written_stay at now disk (stay_or_go at now c.args.number c.remove.ensures.here c.remove.ensures.others) holds.written;
-        held = held_but mid.amid at now (numbers_of mid.batch) (texts_of mid.batch) c.args.number c.remove.ensures.others c.give_up_with.ensures.gone
+        held = held_but _ mid.amid at now (numbers_of mid.batch) (texts_of mid.batch) c.args.number c.remove.ensures.others c.give_up_with.ensures.gone
             (λ is has there. absurd (elim c.give_up_with.ensures.batch [
               | inl same ↦ c.requires.apart (sym same ∙ is) (subst (λ (l : List ℕ). Contains l c.args.number) c.give_up_with.ensures.same has)
               | inr given ↦ let clash : amid.Rest ≡ amid.Opened = sym given.1 ∙ is in cc
             ])) holds.held;
       },
-      subst (λ (it : Frames). SamePages (maps.frame_at it) disk now disk) c.give_up_with.ensures.frames (page_goes at now disk c.args.number c.remove.ensures.others holds.written clean c.remove.ensures.here),
+      subst (λ (it : Frames). SamePages (settled_device.geometry_of c.args.self.now.device).version (maps.frame_at it) disk now disk) c.give_up_with.ensures.frames (page_goes (settled_device.geometry_of c.args.self.now.device).version at now disk c.args.number c.remove.ensures.others holds.written (λ f is. (old.in_order c.args.number f (sym (ap (λ (it : Frames). maps.frame_at it c.args.number) c.give_up_with.ensures.frames) ∙ is)).2) clean c.remove.ensures.here),
     )

@@ -26,6 +26,7 @@ invariant_of-self g c = record {
   few = c.args.self.now.few;
   pages = c.args.self.now.pages ∙ ap page_count (sym c.open_batch.ensures.geometry);
   batch_room = c.args.self.now.batch_room;
+  batch_version = c.args.self.now.batch_version ∙ ap (λ (it : Geometry). it.version) (sym c.open_batch.ensures.geometry);
   batch_is = λ some. subst (λ (it : Geometry). AreBatchNumbers it (numbers_of c.args.self.now.batch)) (sym c.open_batch.ensures.geometry)
       (c.args.self.now.batch_is (λ rests. let clash : amid.Written ≡ amid.Rest = sym c.requires ∙ rests in cc));
 }
@@ -37,8 +38,8 @@ returns-in_err-open_batch-clause-any_moment g c front disk durable holds up_to =
     let numbers = numbers_of old.batch in
     let texts = texts_of old.batch in
     let s : IsWritten old.device front disk numbers texts = subst (λ (way : Amid). HoldsAmid way old.device front disk numbers texts) c.requires holds.settled in
-    let are : AreHeld amid.Written at numbers texts = subst (λ (way : Amid). AreHeld way at numbers texts) c.requires holds.held in
-    while_written (settled_device.geometry_of old.device) at durable front disk _ _ (overlaid numbers texts disk) (may_be_left at durable numbers texts disk are up_to)
+    let are : AreHeld (settled_device.geometry_of c.args.self.now.device).version amid.Written at numbers texts = subst (λ (way : Amid). AreHeld (settled_device.geometry_of c.args.self.now.device).version way at numbers texts) c.requires holds.held in
+    while_written (settled_device.geometry_of old.device) at durable front disk _ _ (overlaid (settled_device.geometry_of c.args.self.now.device).version numbers texts disk) (may_be_left (settled_device.geometry_of c.args.self.now.device).version at durable numbers texts disk are up_to)
     (c.open_batch.ensures.any_moment front disk numbers texts s)
 
 pub returns-clause-any_moment : goal.returns-clause-any_moment
@@ -48,8 +49,8 @@ returns-clause-any_moment g c front disk durable holds up_to =
     let numbers = numbers_of old.batch in
     let texts = texts_of old.batch in
     let s : IsWritten old.device front disk numbers texts = subst (λ (way : Amid). HoldsAmid way old.device front disk numbers texts) c.requires holds.settled in
-    let are : AreHeld amid.Written at numbers texts = subst (λ (way : Amid). AreHeld way at numbers texts) c.requires holds.held in
-    while_written (settled_device.geometry_of old.device) at durable front disk _ _ (overlaid numbers texts disk) (may_be_left at durable numbers texts disk are up_to)
+    let are : AreHeld (settled_device.geometry_of c.args.self.now.device).version amid.Written at numbers texts = subst (λ (way : Amid). AreHeld (settled_device.geometry_of c.args.self.now.device).version way at numbers texts) c.requires holds.held in
+    while_written (settled_device.geometry_of old.device) at durable front disk _ _ (overlaid (settled_device.geometry_of c.args.self.now.device).version numbers texts disk) (may_be_left (settled_device.geometry_of c.args.self.now.device).version at durable numbers texts disk are up_to)
     (c.open_batch.ensures.any_moment front disk numbers texts s)
 
 pub invariant_of-self-2-clause-in_order : goal.invariant_of-self-2-clause-in_order
@@ -84,16 +85,16 @@ returns-clause-kept g c front disk durable holds up_to =
     let numbers = numbers_of old.batch in
     let texts = texts_of old.batch in
     let s : IsWritten old.device front disk numbers texts = subst (λ (way : Amid). HoldsAmid way old.device front disk numbers texts) c.requires holds.settled in
-    let are : AreHeld amid.Written at numbers texts = subst (λ (way : Amid). AreHeld way at numbers texts) c.requires holds.held in
+    let are : AreHeld (settled_device.geometry_of c.args.self.now.device).version amid.Written at numbers texts = subst (λ (way : Amid). AreHeld (settled_device.geometry_of c.args.self.now.device).version way at numbers texts) c.requires holds.held in
     let is : (k : ℕ) → now k ≡ settled_at numbers at k = λ k. c.settle_all.ensures.settled k ∙ ap (λ (l : List ℕ). settled_at l at k) c.numbers.ensures in
     record {
-      left = overlaid numbers texts disk;
+      left = overlaid (settled_device.geometry_of c.args.self.now.device).version numbers texts disk;
       holds = record {
-        settled = (disk, c.in_ok-open_batch.ensures.opened front disk numbers texts s, refl);
-        written = all_written at now numbers texts disk are is holds.written;
-        held = held_open at now numbers texts is are;
+        settled = (disk, c.in_ok-open_batch.ensures.opened front disk numbers texts s, ap (λ (it : Geometry). overlaid it.version numbers texts disk) (sym c.open_batch.ensures.geometry));
+        written = all_written (settled_device.geometry_of c.args.self.now.device).version at now numbers texts disk are is holds.written;
+        held = subst (λ (it : Geometry). AreHeld it.version amid.Opened now numbers texts) (sym c.open_batch.ensures.geometry) (held_open _ at now numbers texts is are);
       };
-      may = may_be_left at durable numbers texts disk are up_to;
-      same = same_pages at now numbers texts disk are is;
-      unwritten = others_unwritten at now numbers texts disk are is;
+      may = may_be_left (settled_device.geometry_of c.args.self.now.device).version at durable numbers texts disk are up_to;
+      same = same_pages (settled_device.geometry_of c.args.self.now.device).version at now numbers texts disk are is;
+      unwritten = others_unwritten (settled_device.geometry_of c.args.self.now.device).version at now numbers texts disk are is;
     }

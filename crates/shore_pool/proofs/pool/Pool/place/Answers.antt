@@ -3,7 +3,7 @@ use Rattle.shore_disk.specs.Device.{LeavesOnly}
 use Rattle.shore_types.specs.declared.layout.Geometry.{Geometry}
 use Rattle.shore_dwrite.specs.Images.{numbers_of, texts_of}
 use Rattle.shore_dwrite.specs.Settled as settled_device
-use Rattle.shore_dwrite.specs.Shown.{AreBatchNumbers, ShowsBehind}
+use Rattle.shore_dwrite.specs.Shown.{AreBatchNumbers, ShowsBehind, overlaid}
 use Rattle.shore_dwrite.specs.Volumes.{page_count}
 use Rattle.shore_pool.specs.declared.amid.Amid.{Amid}
 use Rattle.shore_pool.specs.declared.amid.Amid.TheVariants as amid
@@ -19,6 +19,7 @@ invariant_of-self g c = record {
   few = c.args.self.now.few;
   pages = c.args.self.now.pages ∙ ap page_count (sym c.place_batch.ensures.geometry);
   batch_room = c.args.self.now.batch_room;
+  batch_version = c.args.self.now.batch_version ∙ ap (λ (it : Geometry). it.version) (sym c.place_batch.ensures.geometry);
   batch_is = λ some. subst (λ (it : Geometry). AreBatchNumbers it (numbers_of c.args.self.now.batch)) (sym c.place_batch.ensures.geometry)
       (c.args.self.now.batch_is (λ rests. let clash : amid.Opened ≡ amid.Rest = sym c.requires ∙ rests in cc));
 }
@@ -30,12 +31,16 @@ invariant_of-self-2 g c = record {
   few = c.args.self.now.few;
   pages = c.args.self.now.pages ∙ ap page_count (sym c.place_batch.ensures.geometry);
   batch_room = c.args.self.now.batch_room;
+  batch_version = c.args.self.now.batch_version ∙ ap (λ (it : Geometry). it.version) (sym c.place_batch.ensures.geometry);
   batch_is = λ some. subst (λ (it : Geometry). AreBatchNumbers it (numbers_of c.args.self.now.batch)) (sym c.place_batch.ensures.geometry)
       (c.args.self.now.batch_is (λ rests. let clash : amid.Opened ≡ amid.Rest = sym c.requires ∙ rests in cc));
 }
 
 pub place_batch-requires : goal.place_batch-requires
-place_batch-requires g c = c.args.self.now.batch_is (λ rests. let clash : amid.Opened ≡ amid.Rest = sym c.requires ∙ rests in cc)
+place_batch-requires g c = record {
+  numbers = c.args.self.now.batch_is (λ rests. let clash : amid.Opened ≡ amid.Rest = sym c.requires ∙ rests in cc);
+  version = c.args.self.now.batch_version;
+}
 
 pub returns-in_err-place_batch-clause-any_moment : goal.returns-in_err-place_batch-clause-any_moment
 returns-in_err-place_batch-clause-any_moment g c front disk holds =
@@ -59,7 +64,7 @@ returns-clause-kept g c front disk holds =
     let s : HoldsAmid amid.Opened old.device front disk (numbers_of old.batch) (texts_of old.batch) =
     subst (λ (way : Amid). HoldsAmid way old.device front disk (numbers_of old.batch) (texts_of old.batch)) c.requires holds.settled in
     record {
-      settled = (s.0, c.in_ok-place_batch.ensures.placed front s.0 s.1, s.2);
+      settled = (s.0, c.in_ok-place_batch.ensures.placed front s.0 s.1, s.2 ∙ ap (λ (it : Geometry). overlaid it.version (numbers_of old.batch) (texts_of old.batch) s.0) (sym c.place_batch.ensures.geometry));
       written = holds.written;
       held = tt;
     }

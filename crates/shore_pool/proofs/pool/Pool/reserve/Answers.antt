@@ -21,9 +21,9 @@ returns-clause-kept g c front disk holds =
     let now = maps.frame_at c.reserve.new.self in (
       record {
         settled = holds.settled;
-        written = claims_written at now disk c.number-number.result c.args.slot (raised c.args.bytes) (λ s. refl) c.reserve.ensures.here c.reserve.ensures.others holds.written;
-        held = held_stays old.amid at now (numbers_of old.batch) (texts_of old.batch) holds.held
-            (λ k text is has had. claims_text at now disk c.number-number.result c.args.slot (raised c.args.bytes) (λ s. refl) c.reserve.ensures.here c.reserve.ensures.others k text had) (λ k is has there. claims_some at now disk c.number-number.result c.args.slot (raised c.args.bytes) (λ s. refl) c.reserve.ensures.here c.reserve.ensures.others k there);
+        written = claims_written (settled_device.geometry_of c.args.self.now.device).version at now disk c.number-number.result c.args.slot (raised c.args.bytes) (λ s. refl) c.reserve.ensures.here c.reserve.ensures.others holds.written;
+        held = held_stays _ old.amid at now (numbers_of old.batch) (texts_of old.batch) holds.held
+            (λ k text is has had. claims_text (settled_device.geometry_of c.args.self.now.device).version at now disk c.number-number.result c.args.slot (raised c.args.bytes) (λ s. refl) c.reserve.ensures.here c.reserve.ensures.others k text had) (λ k is has there. claims_some (settled_device.geometry_of c.args.self.now.device).version at now disk c.number-number.result c.args.slot (raised c.args.bytes) (λ s. refl) c.reserve.ensures.here c.reserve.ensures.others k there);
       },
-      claims_stay at now disk c.number-number.result c.args.slot (raised c.args.bytes) (λ s. refl) c.reserve.ensures.here c.reserve.ensures.others,
+      claims_stay (settled_device.geometry_of c.args.self.now.device).version at now disk c.number-number.result c.args.slot (raised c.args.bytes) (λ s. refl) c.reserve.ensures.here c.reserve.ensures.others,
     )

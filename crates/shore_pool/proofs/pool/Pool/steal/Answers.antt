@@ -1,4 +1,6 @@
 use Rattle.std.proofs.Common.{inl, inr, refl, sym, ap, subst, ◌∙◌}
+use Rattle.shore_pool.specs.Pages.{SamePages}
+use Rattle.shore_types.specs.declared.layout.Geometry.{Geometry}
 use Rattle.std.proofs.lemmas.Bool.{cases_eq}
 use Rattle.shore_disk.specs.Device.{LeavesOnly}
 use Rattle.shore_dwrite.specs.declared.device.PageDev.{PageDev}
@@ -40,9 +42,10 @@ returns-in-Some-clause-kept g c front disk holds =
       left = wrote.left;
       holds = freed.0;
       may = wrote.may;
-      same = pages_on old now (frame_at c.free.new.self) disk wrote.left wrote.left wrote.same freed.1;
+      same = pages_on (settled_device.geometry_of c.args.self.now.device).version old now (frame_at c.free.new.self) disk wrote.left wrote.left wrote.same
+          (subst (λ (it : Geometry). SamePages it.version now wrote.left (frame_at c.free.new.self) wrote.left) c.write_with.ensures.geometry freed.1);
       unwritten = unwritten_on old now (frame_at c.free.new.self) disk wrote.left wrote.left wrote.unwritten
-          (none_written now (frame_at c.free.new.self) wrote.left (were_gone now (frame_at c.free.new.self) n c.free.ensures.others c.free.ensures.gone));
+          (none_written (settled_device.geometry_of c.args.self.now.device).version now (frame_at c.free.new.self) wrote.left (were_gone (settled_device.geometry_of c.args.self.now.device).version now (frame_at c.free.new.self) n c.free.ensures.others c.free.ensures.gone));
     }
 
 pub returns-in-Some-clause-any_moment : goal.returns-in-Some-clause-any_moment

@@ -130,7 +130,7 @@ returns-in_err-write-clause-kept g c front disk holds =
     let up = up_to mid c.args.durable c.deref.result.now (subst (AreDue mid c.args.durable) (sym c.deref.ensures.0) c.due-pages.ensures.due) in
     match_err _ c.from_residual-in_err-write.result c.from_residual-in_err-write.ensures.1 (λ fault said. elim (c.in_err-write.ensures.kept front disk c.args.durable (c.in_ok-finish.ensures.kept front disk holds) up) [
       | inl device ↦ inl (said ∙ device)
-      | inr w ↦ inr (wrote_from old mid c.write.new.self same c.args.durable front disk w)
+      | inr w ↦ inr (wrote_from old mid c.write.new.self c.finish.ensures.geometry same c.args.durable front disk w)
     ])
 
 pub returns-clause-kept : goal.returns-clause-kept
@@ -139,7 +139,7 @@ returns-clause-kept g c front disk holds =
     let mid = c.finish.new.self in
     let same : frame_at mid ≡ frame_at old = ap (λ (it : Frames). maps.frame_at it) c.finish.ensures.frames in
     let up = up_to mid c.args.durable c.deref.result.now (subst (AreDue mid c.args.durable) (sym c.deref.ensures.0) c.due-pages.ensures.due) in
-    wrote_from old mid c.write.new.self same c.args.durable front disk (c.in_ok-write.ensures.kept front disk c.args.durable (c.in_ok-finish.ensures.kept front disk holds) up)
+    wrote_from old mid c.write.new.self c.finish.ensures.geometry same c.args.durable front disk (c.in_ok-write.ensures.kept front disk c.args.durable (c.in_ok-finish.ensures.kept front disk holds) up)
 
 pub returns-in_err-write-clause-frames : goal.returns-in_err-write-clause-frames
 returns-in_err-write-clause-frames g c k = inl (c.in_err-write.ensures.refused.1 k ∙ ap (λ (it : Frames). maps.frame_at it k) c.finish.ensures.frames)
