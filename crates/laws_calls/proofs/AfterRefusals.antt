@@ -6,9 +6,9 @@ use Rattle.shore_types.specs.declared.faults.Fault.{Fault}
 use Rattle.shore_types.specs.declared.faults.Fault.TheVariants as fault
 use Rattle.shore_types.specs.declared.ids.Rid.{Rid}
 use Rattle.shore_types.specs.declared.layout.Geometry.{Geometry}
-use Rattle.shore_types.specs.declared.layout.TheConstants.{MAX_SLOTS}
 use Rattle.shore_types.specs.declared.locking.Granule.TheVariants as granule
 use Rattle.shore_types.specs.declared.locking.Mode.TheVariants.{EX}
+use Rattle.shore_types.specs.Versions.{slot_limit}
 use Rattle.shore_model.specs.Alone.{record_named_by}
 use Rattle.shore_model.specs.declared.calls.Call.{Call}
 use Rattle.shore_model.specs.declared.calls.Call.TheVariants as call
@@ -201,11 +201,11 @@ module _ (g : Geometry) (o : Opening) (found : List LogRecord) (es : List Entry)
       )
 
   -- who learns that a record is not there, though its slot is one that a page may have, has its lock
-  no_slot : (c : Call) (id : Rid) → record_named_by c ≡ Some id → id.slot < MAX_SLOTS → RefusesEarly g c fault.NoRecord → ⊥
+  no_slot : (c : Call) (id : Rid) → record_named_by c ≡ Some id → id.slot < slot_limit g.version → RefusesEarly g c fault.NoRecord → ⊥
   no_slot c id named within h =
       let t = names_no_slot g o found es s k session c h in
       let same = same_id (record_named_by c) id t.id named t.named in
-      let beyond = subst (λ (x : Rid). MAX_SLOTS ≤ x.slot) (sym same) t.beyond in
+      let beyond = subst (λ (x : Rid). slot_limit g.version ≤ x.slot) (sym same) t.beyond in
       omega arith
     where
       same_id : (o : Option Rid) (x y : Rid) → o ≡ Some x → o ≡ Some y → x ≡ y
@@ -228,7 +228,7 @@ module _ (g : Geometry) (o : Opening) (found : List LogRecord) (es : List Entry)
       by (inr (inl e)) = cc
       by (inr (inr x)) = let clash = x.1 in cc
 
-  pub absence_locked : (c : Call) (id : Rid) (lock : Asked) (a : SessionTxn) → record_named_by c ≡ Some id → id.slot < MAX_SLOTS → lock_asked_by c ≡ Some lock → IsOfSession s session a
+  pub absence_locked : (c : Call) (id : Rid) (lock : Asked) (a : SessionTxn) → record_named_by c ≡ Some id → id.slot < slot_limit g.version → lock_asked_by c ≡ Some lock → IsOfSession s session a
       → CallStep g s session c (Refused fault.NoRecord) new → HasLock new.sessions.held a.txn lock.granule lock.mode
   absence_locked c id lock a named within asks of h =
       let other = asks_needs c lock asks in

@@ -212,7 +212,7 @@ module _ (g : Geometry) (o : Opening) (found : List LogRecord) (es : List Entry)
       commit_changes (Waits wait) x = absurd x
       commit_changes Nothing x = absurd x
   inner_changes session a mem quiet c step new (inr (inl (whole, inr (inr (inr (inl h)))))) = inl (no_change s session c new (savepoint_table s a step new h.1).locks)
-  inner_changes session a mem quiet c step new (inr (inl (whole, inr (inr (inr (inr h)))))) = inl (no_change s session c new (prepare_locks s a h.0 step new h.2))
+  inner_changes session a mem quiet c step new (inr (inl (whole, inr (inr (inr (inr h)))))) = inl (no_change s session c new (prepare_locks g.version s a h.0 step new h.2))
   inner_changes session a mem quiet c step new (inr (inr (inl h))) = inl (no_change s session c new (back_table s a h.0 step new h.3).locks)
   inner_changes session a mem quiet c step new (inr (inr (inr h))) = abort_changes step h.1
     where

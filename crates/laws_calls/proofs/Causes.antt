@@ -94,7 +94,7 @@ module _ (g : Geometry) (s : State) (session : ℕ) (c : Call) where
       (λ none. granule_earns at named its f none.1)
       h
 
-  long_earns : (bytes : List ℕ) → bytes_put_by c ≡ Some bytes → (f : Fault) → IsTooLong bytes f → Earns f
+  long_earns : (bytes : List ℕ) → bytes_put_by c ≡ Some bytes → (f : Fault) → IsTooLong g.version bytes f → Earns f
   long_earns bytes put f h = as_told f fault.TooLong h.0 (bytes, put, h.1)
 
   early_earns : (d : Call) → c ≡ d → (f : Fault) → RefusesEarly g d f → Earns f
@@ -224,7 +224,7 @@ module _ (g : Geometry) (o : Opening) (found : List LogRecord) (es : List Entry)
       full)
       h.0
 
-  prepare_earns : (a : SessionTxn) → IsOfSession s session a → (global : List ℕ) → c ≡ call.Prepare global → (f : Fault) (new : State) → PrepareStep s a global (Refused f) new
+  prepare_earns : (a : SessionTxn) → IsOfSession s session a → (global : List ℕ) → c ≡ call.Prepare global → (f : Fault) (new : State) → PrepareStep g.version s a global (Refused f) new
       → EarnsRefusal g s session c f
   prepare_earns a of global is f new h = ⊎_elim
       (λ bad. as_told g s session c f fault.BadGlobalId bad.0 (global, is, bad.1))

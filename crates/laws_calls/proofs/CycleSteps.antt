@@ -161,7 +161,7 @@ module _ (g : Geometry) (o : Opening) (found : List LogRecord) (es : List Entry)
       goes_closes o found es a g s (record { state = k; active = mem; quiet = quiet; none = none }) c step new h.1
   inner_closes a mem quiet c step new (inr (inl (whole, inr (inr (inl h))))) = no_cycle_at_all a.txn step new (commit_free a step new h.1)
   inner_closes a mem quiet c step new (inr (inl (whole, inr (inr (inr (inl h)))))) = no_cycle_at_all a.txn step new (none_as_before s new (savepoint_table s a step new h.1).locks none)
-  inner_closes a mem quiet c step new (inr (inl (whole, inr (inr (inr (inr h)))))) = no_cycle_at_all a.txn step new (none_as_before s new (prepare_locks s a h.0 step new h.2) none)
+  inner_closes a mem quiet c step new (inr (inl (whole, inr (inr (inr (inr h)))))) = no_cycle_at_all a.txn step new (none_as_before s new (prepare_locks g.version s a h.0 step new h.2) none)
   inner_closes a mem quiet c step new (inr (inr (inl h))) = no_cycle_at_all a.txn step new (none_as_before s new (back_table s a h.0 step new h.3).locks none)
   inner_closes a mem quiet c step new (inr (inr (inr h))) = no_cycle_at_all a.txn step new (abort_free a step new h.1)
 

@@ -5,6 +5,7 @@ use Rattle.shore_types.specs.declared.layout.Geometry.{Geometry}
 use Rattle.shore_types.specs.declared.faults.Fault.TheVariants.{Deadlock}
 use Rattle.shore_types.specs.declared.locking.Granule.TheVariants.{Volume}
 use Rattle.shore_types.specs.declared.locking.Mode.TheVariants.{EX, SH}
+use Rattle.shore_types.specs.Versions.{slot_limit}
 use Rattle.shore_model.specs.Requests.{IsRefusedBy, IsBehind, WaitsFor, WaitsIn, queue_at}
 use Rattle.shore_model.specs.declared.calls.Answer.TheVariants.{Aborted, Began, Locked}
 use Rattle.shore_model.specs.declared.calls.Call.TheVariants as call
@@ -39,7 +40,7 @@ module _ (g : Geometry) (stream_bytes : ℕ) (long : 100000 ≤ stream_bytes) wh
   -- ---- states
 
   abbrev opened : State
-  opened = opened_empty stream_bytes
+  opened = opened_empty (slot_limit g.version) stream_bytes
 
   abbrev begun_one : State
   begun_one = begun opened 1
@@ -145,8 +146,8 @@ module _ (g : Geometry) (stream_bytes : ℕ) (long : 100000 ≤ stream_bytes) wh
 
   -- ---- events
 
-  is_opened : IsOpened (opening_with empty) [] opened
-  is_opened = empty_is_opened stream_bytes
+  is_opened : IsOpened (opening_with (slot_limit g.version) empty) [] opened
+  is_opened = empty_is_opened (slot_limit g.version) stream_bytes
 
   begins_one : EventMoves g opened (Called 1 call.Begin (Done (Began 1))) begun_one
   begins_one = (tt, at_once g opened 1 call.Begin (Done (Began 1)) begun_one (inr (inr (inr (inl (refl, λ w m. absurd m, refl, (refl, omega arith, ((omega arith, omega arith), omega arith), refl, refl)))))) tt)
@@ -217,8 +218,8 @@ module _ (g : Geometry) (stream_bytes : ℕ) (long : 100000 ≤ stream_bytes) wh
       resumed_at_once g two_aborts 1 (Done Locked) one_has
       (inr (lock_waiting one take_all Volume, inl refl, refl, inr (refl, (one, ((inl refl, refl, omega arith), refl), inr (refl, (one_goes_on, (all, refl, refl, refl), (refl, refl)))), refl))) tt
 
-  pub deadlock_comes_through : (last : State) × (made : List Entry) × IsOpened (opening_with empty) [] (opened_empty stream_bytes)
-      × MovesMaking g (opened_empty stream_bytes) a_deadlock last made × (made ≡ told_in_a_deadlock)
+  pub deadlock_comes_through : (last : State) × (made : List Entry) × IsOpened (opening_with (slot_limit g.version) empty) [] (opened_empty (slot_limit g.version) stream_bytes)
+      × MovesMaking g (opened_empty (slot_limit g.version) stream_bytes) a_deadlock last made × (made ≡ told_in_a_deadlock)
       × (last.sessions.held ≡ record { txn = 1; granule = Volume; mode = EX } ∷ [])
   deadlock_comes_through = (
     one_has,

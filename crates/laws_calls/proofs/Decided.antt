@@ -13,7 +13,9 @@ use Rattle.shore_types.specs.declared.faults.Fault.TheVariants as fault
 use Rattle.shore_types.specs.declared.ids.PageId.{PageId}
 use Rattle.shore_types.specs.declared.ids.Rid.{Rid}
 use Rattle.shore_types.specs.declared.layout.Geometry.{Geometry}
-use Rattle.shore_types.specs.declared.layout.TheConstants.{GREATEST_CHECKPOINT, LAST_LSN, LONGEST_FRAME, MAX_RECORD_BYTES, MAX_SLOTS}
+use Rattle.shore_types.specs.declared.layout.TheConstants.{GREATEST_CHECKPOINT, LAST_LSN, LONGEST_FRAME}
+use Rattle.shore_types.specs.declared.versions.Version.{Version}
+use Rattle.shore_types.specs.Versions.{record_limit, slot_limit}
 use Rattle.shore_page.specs.Room.{Fits, free_bytes, need}
 use Rattle.shore_page.specs.Slots.{Slot}
 use Rattle.laws_room.proofs.Leaving.{same_page}
@@ -48,12 +50,12 @@ store_or_not g store = less_than store (length g.stores)
 pub page_or_not : (g : Geometry) (p : PageId) → OrNot (HasPage g p)
 page_or_not g p = some_or_not (slice_get g.stores p.store) p.page
 
-pub fits_or_not : (slots : List Slot) (slot bytes : ℕ) → OrNot (Fits slots slot bytes)
-fits_or_not slots slot bytes =
+pub fits_or_not : (v : Version) (slots : List Slot) (slot bytes : ℕ) → OrNot (Fits v slots slot bytes)
+fits_or_not v slots slot bytes =
     ⊎_elim
     (λ h. inl (record { there = h.0.0; most = h.0.1; room = h.1 }))
     (λ none. inr (λ h. none ((h.there, h.most), h.room)))
-    (both (both (less_than slot MAX_SLOTS) (at_most bytes MAX_RECORD_BYTES)) (at_most (need slots slot bytes) (free_bytes slots)))
+    (both (both (less_than slot (slot_limit v)) (at_most bytes (record_limit v))) (at_most (need slots slot bytes) (free_bytes v slots)))
 
 pub room_or_not : (s : State) (n : ℕ) → OrNot (HasRoomFor s n)
 room_or_not s n =

@@ -5,11 +5,11 @@ use Rattle.std.specs.Prelude.{Option, IsSomeAnd, Result, slice_get}
 use Rattle.shore_types.specs.declared.faults.Fault.{Fault}
 use Rattle.shore_types.specs.declared.ids.Rid.{Rid}
 use Rattle.shore_types.specs.declared.layout.Geometry.{Geometry}
-use Rattle.shore_types.specs.declared.layout.TheConstants.{MAX_SLOTS}
 use Rattle.shore_types.specs.declared.locking.Granule.{Granule}
 use Rattle.shore_types.specs.declared.locking.Granule.TheVariants as granule
 use Rattle.shore_types.specs.declared.locking.Mode.{Mode}
 use Rattle.shore_types.specs.declared.locking.Mode.TheVariants.{EX}
+use Rattle.shore_types.specs.Versions.{slot_limit}
 use Rattle.shore_model.specs.declared.requests.Request.{Request}
 use Rattle.shore_path.specs.Walks.{acquired}
 use Rattle.shore_path.specs.declared.answers.Acquired.{Acquired}
@@ -38,7 +38,7 @@ module _ (g : Geometry) (s : State) (t store : ℕ) (bytes : List ℕ) where
       (λ h. inl (record { of_store = h.0; inside = h.1.0; empty = h.1.1.0; reached = h.1.1.1.0; fits = h.1.1.1.1.0; free = h.1.1.1.1.1 }))
       (λ none. inr (λ h. none (h.of_store, (h.inside, (h.empty, (h.reached, (h.fits, h.free)))))))
       (both (same_number id.page.store store) (both (page_or_not g id.page) (both (none_or_not (get s.sessions.records id))
-      (both (at_most id.slot (s.counts id.page)) (both (fits_or_not (page_slots s id.page) id.slot (length bytes)) (can_lock_or_not s.locks.requests t (granule.Record id) EX))))))
+      (both (at_most id.slot (s.counts id.page)) (both (fits_or_not g.version (page_slots s id.page) id.slot (length bytes)) (can_lock_or_not s.locks.requests t (granule.Record id) EX))))))
 
   abbrev pub PlaceOrNone : Type 0
   PlaceOrNone = ((id : Rid) × IsPlaceOf g s t store bytes id) ⊎ ((id : Rid) → ServesTxn g s t store bytes id → ⊥)
@@ -55,5 +55,5 @@ module _ (g : Geometry) (s : State) (t store : ℕ) (bytes : List ℕ) where
       by : (o : Option ℕ) → slice_get g.stores store ≡ o → PlaceOrNone
       by None none = inr (λ id h. no_page (slice_get g.stores id.page.store) (ap (slice_get g.stores) h.of_store ∙ none) id.page.page h.inside)
       by (Some pages) has =
-          lowest_or_none (ServesTxn g s t store bytes) serves_or_not store pages MAX_SLOTS
+          lowest_or_none (ServesTxn g s t store bytes) serves_or_not store pages (slot_limit g.version)
           (λ id h. (h.of_store, page_inside pages (slice_get g.stores id.page.store) (ap (slice_get g.stores) h.of_store ∙ has) id.page.page h.inside, h.fits.there))

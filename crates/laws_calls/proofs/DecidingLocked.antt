@@ -33,7 +33,7 @@ GoesSomewhere g s a c = (step : Step) × (new : State) × CallGoesOn g s a c ste
 
 -- ---- behind the locks
 
-module _ (g : Geometry) (s : State) (a : SessionTxn) (c : Call) (locked : State) (has : HasLocked s a c locked) (roomy : IsRoomyState locked) where
+module _ (g : Geometry) (s : State) (a : SessionTxn) (c : Call) (locked : State) (has : HasLocked s a c locked) (roomy : IsRoomyState g.version locked) where
   answers : (answer : Answer) (new : State) → AnswersBehind g locked a c answer new → GoesSomewhere g s a c
   answers answer new h = (Done answer, new, (locked, has, h), tt)
 
@@ -41,8 +41,8 @@ module _ (g : Geometry) (s : State) (a : SessionTxn) (c : Call) (locked : State)
   refuses f new h is = (Refused f, new, inr (inr (locked, has, h)), ordinary f is)
 
   -- a change of an id that fits
-  change : (id : Rid) (image : Image) (said : Answer) → FitsAt locked id image
-      → ((counts : SlotCounts) → MayChange locked id image counts → AnswersBehind g locked a c said (answered locked a c said counts))
+  change : (id : Rid) (image : Image) (said : Answer) → FitsAt g.version locked id image
+      → ((counts : SlotCounts) → MayChange g.version locked id image counts → AnswersBehind g locked a c said (answered locked a c said counts))
       → ((CanLog locked id image → ⊥) → RefusesBehind g locked a c fault.LogFull locked) → GoesSomewhere g s a c
   change id image said fits may full =
       ⊎_elim
@@ -53,7 +53,7 @@ module _ (g : Geometry) (s : State) (a : SessionTxn) (c : Call) (locked : State)
 is_some : (o : Image) (x : List ℕ) → o ≡ Some x → IsSome o
 is_some o x e = cc
 
-module _ (g : Geometry) (s : State) (a : SessionTxn) (locked : State) (roomy : IsRoomyState locked) where
+module _ (g : Geometry) (s : State) (a : SessionTxn) (locked : State) (roomy : IsRoomyState g.version locked) where
   module _ (store : ℕ) (bytes : List ℕ) (has : HasLocked s a (call.Insert store bytes) locked) where
     abbrev Inserting : Type 0
     Inserting = GoesSomewhere g s a (call.Insert store bytes)
@@ -103,14 +103,14 @@ module _ (g : Geometry) (s : State) (a : SessionTxn) (locked : State) (roomy : I
       (λ fits. change g s a (call.Update id bytes) locked has roomy id (Some bytes) Updated fits (λ counts may. (found, refl, (counts, may, refl)))
       (λ none. (inr (inr (refl, found, fits, none)), refl)))
       (λ none. refuses g s a (call.Update id bytes) locked has roomy fault.StoreFull locked (inr (inl (refl, found, none)), refl) tt)
-      (fits_or_not (page_slots locked id.page) id.slot (length bytes)))
+      (fits_or_not g.version (page_slots locked id.page) id.slot (length bytes)))
       (λ none. refuses g s a (call.Update id bytes) locked has roomy fault.NoRecord locked (inl none, refl) tt)
       (image_or_none (get locked.sessions.records id))
   behind (call.Delete id) lock asks has =
       ⊎_elim
       (λ there.
       let found = is_some (get locked.sessions.records id) there.0 there.1 in
-      change g s a (call.Delete id) locked has roomy id None Deleted (delete_fits locked.sessions.records locked.sessions.active locked.counts roomy.pages id there.0 there.1).0
+      change g s a (call.Delete id) locked has roomy id None Deleted (delete_fits g.version locked.sessions.records locked.sessions.active locked.counts roomy.pages id there.0 there.1).0
       (λ counts may. (found, refl, (counts, may, refl))) (λ none. (inr (refl, found, none), refl)))
       (λ none. refuses g s a (call.Delete id) locked has roomy fault.NoRecord locked (inl none, refl) tt)
       (image_or_none (get locked.sessions.records id))

@@ -7,10 +7,11 @@ use Rattle.shore_types.specs.declared.faults.Fault.{Fault}
 use Rattle.shore_types.specs.declared.faults.Fault.TheVariants as fault
 use Rattle.shore_types.specs.declared.ids.Rid.{Rid}
 use Rattle.shore_types.specs.declared.layout.Geometry.{Geometry}
-use Rattle.shore_types.specs.declared.layout.TheConstants.{MAX_RECORD_BYTES, MAX_SLOTS, MAX_TRANSACTIONS}
+use Rattle.shore_types.specs.declared.layout.TheConstants.{MAX_TRANSACTIONS}
 use Rattle.shore_types.specs.declared.locking.Granule.{Granule}
 use Rattle.shore_types.specs.declared.locking.Granule.TheVariants as granule
 use Rattle.shore_types.specs.declared.locking.Mode.{Mode}
+use Rattle.shore_types.specs.Versions.{record_limit, slot_limit}
 use Rattle.shore_model.specs.Modes.{is_allowed}
 use Rattle.shore_model.specs.declared.calls.Answer.{Answer}
 use Rattle.shore_model.specs.declared.calls.Call.{Call}
@@ -28,7 +29,7 @@ use Rattle.laws_calls.specs.States.{HasNoTxn, IsInTxn, MayBegin, State}
 
 module _ (g : Geometry) where
   abbrev pub id_tests : Rid → List Test
-  id_tests id = test (HasStore g id.page.store) fault.NoStore ∷ test (HasPage g id.page) fault.NoPage ∷ test (id.slot < MAX_SLOTS) fault.NoRecord ∷ []
+  id_tests id = test (HasStore g id.page.store) fault.NoStore ∷ test (HasPage g id.page) fault.NoPage ∷ test (id.slot < slot_limit g.version) fault.NoRecord ∷ []
 
   abbrev pub granule_tests : Granule → List Test
   granule_tests granule.Volume = []
@@ -42,8 +43,8 @@ module _ (g : Geometry) where
   abbrev pub early_tests : Call → List Test
   early_tests (call.Get id) = id_tests id
   early_tests (call.GetForUpdate id) = id_tests id
-  early_tests (call.Insert store bytes) = test (IsShort bytes) fault.TooLong ∷ test (HasStore g store) fault.NoStore ∷ []
-  early_tests (call.Update id bytes) = test (IsShort bytes) fault.TooLong ∷ id_tests id
+  early_tests (call.Insert store bytes) = test (IsShort g.version bytes) fault.TooLong ∷ test (HasStore g store) fault.NoStore ∷ []
+  early_tests (call.Update id bytes) = test (IsShort g.version bytes) fault.TooLong ∷ id_tests id
   early_tests (call.Delete id) = id_tests id
   early_tests (call.Scan store) = test (HasStore g store) fault.NoStore ∷ []
   early_tests (call.Lock at mode) = lock_tests at mode
@@ -67,7 +68,7 @@ module _ (g : Geometry) where
   lock_fails at mode f (inl h) = inl (λ yes. both_ways (is_allowed (level_of at) mode) yes h.1, h.0)
   lock_fails at mode f (inr h) = inr (h.0, granule_fails at f h.1)
 
-  pub not_short : (bytes : List ℕ) → MAX_RECORD_BYTES < length bytes → IsShort bytes → ⊥
+  pub not_short : (bytes : List ℕ) → record_limit g.version < length bytes → IsShort g.version bytes → ⊥
   not_short bytes long short = omega arith
 
   pub early_fails : (c : Call) (f : Fault) → RefusesEarly g c f → FirstFails (early_tests c) f

@@ -32,9 +32,10 @@ none_granted s held requests = record {
   nobody_waits = λ t. subst (λ rs. is_waiting t rs ≡ false) (sym requests) refl;
 }
 
-pub empty_is_opened : (stream_bytes : ℕ) → IsOpened (opening_with empty) [] (opened_empty stream_bytes)
-empty_is_opened stream_bytes = record {
+pub empty_is_opened : (slots stream_bytes : ℕ) → IsOpened (opening_with slots empty) [] (opened_empty slots stream_bytes)
+empty_is_opened slots stream_bytes = record {
   on = record {
+    slots = refl;
     records = λ id. get-empty rid_cmp id ∙ sym (ap (λ (image : Option Image). unwrap_or image None) (get_id [] id));
     seats = λ n. refl;
     resolving = refl;
@@ -46,7 +47,7 @@ empty_is_opened stream_bytes = record {
     some = omega arith;
     lawful = format_may_be_found.lawful;
     doubts = format_may_be_found.doubts;
-    opening = format_opens;
+    opening = format_opens slots;
     no_losers = λ t loser. let known = loser.known in omega arith;
     below = tt;
   };
@@ -55,6 +56,6 @@ empty_is_opened stream_bytes = record {
   durable = refl;
   waiting = refl;
   running = refl;
-  locks = none_granted (opened_empty stream_bytes) refl refl;
+  locks = none_granted (opened_empty slots stream_bytes) refl refl;
   few = omega arith;
 }

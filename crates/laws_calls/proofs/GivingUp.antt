@@ -4,6 +4,7 @@ use Rattle.std.specs.Prelude.{is_some}
 use Rattle.std.proofs.lemmas.Bool.{cases_Bool}
 use Rattle.shore_types.specs.declared.faults.Fault.TheVariants as fault
 use Rattle.shore_types.specs.declared.locking.Granule.{Granule}
+use Rattle.shore_types.specs.declared.versions.Version.{Version}
 use Rattle.shore_model.specs.declared.histories.Entry.{Entry}
 use Rattle.shore_model.specs.declared.histories.Opening.{Opening}
 use Rattle.shore_model.specs.declared.log_records.LogRecord.{LogRecord}
@@ -33,11 +34,11 @@ use Rattle.laws_calls.specs.SessionWaits.{IsDecisionWait, IsLockWait}
 use Rattle.laws_calls.specs.StateChanges.{wait_refused}
 use Rattle.laws_calls.specs.States.{DoesNotWait, IsOfSession, State, Waiting}
 
-module _ (s new : State) (session : ℕ) (step : Step) where
-  pub give_up_roomy : GiveUpStep s session step new → IsRoomyState s → IsRoomyState new
-  give_up_roomy (inl h) roomy = subst IsRoomyState (sym h.is) (record { pages = roomy.pages; log = roomy.log })
-  give_up_roomy (inr h) roomy = subst IsRoomyState (sym h.is) roomy
+pub give_up_roomy : (v : Version) (s new : State) (session : ℕ) (step : Step) → GiveUpStep s session step new → IsRoomyState v s → IsRoomyState v new
+give_up_roomy v s new session step (inl h) roomy = subst (IsRoomyState v) (sym h.is) (record { slots = roomy.slots; pages = roomy.pages; log = roomy.log })
+give_up_roomy v s new session step (inr h) roomy = subst (IsRoomyState v) (sym h.is) roomy
 
+module _ (s new : State) (session : ℕ) (step : Step) where
   pub given_up_alone : GiveUpStep s session step new → new ≡ but_doomed s [] new
   given_up_alone (inl h) = subst (λ (x : State). x ≡ but_doomed s [] x) (sym h.is) refl
   given_up_alone (inr h) = subst (λ (x : State). x ≡ but_doomed s [] x) (sym h.is) refl

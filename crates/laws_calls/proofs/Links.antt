@@ -126,7 +126,7 @@ pub record Changes (g : Geometry) (s new : State) : Type 0 where
   pub image : Image
   pub log : new.log ≡ and_record txn s.log (payload.Change id (get s.sessions.records id) image)
   pub inside : HasPage g id.page ⊎ IsSome (get s.sessions.records id)
-  pub fits : FitsAt s id image
+  pub fits : FitsAt g.version s id image
   pub grows : Grows s.counts new.counts id
 
 -- .. or by an End
@@ -174,7 +174,7 @@ pub record Goes (g : Geometry) (s : State) (e : SessionEvent) (new : State) : Ty
   pub stream : new.stream_bytes ≡ s.stream_bytes
   pub waiting : new.waiting ≡ s.waiting
   pub failed : new.failed ≡ s.failed
-  pub fits : EventFits s.sessions s.counts e new.counts
+  pub fits : EventFits g.version s.sessions s.counts e new.counts
   pub admits : EventAdmits s.sessions e (log_room s)
   pub room : HasRoomAfter s e new
   pub writes : Writes g s new

@@ -48,7 +48,7 @@ module _ (g : Geometry) (s new : State) (session : ℕ) where
           (λ full. (t.txn, t.of, (x.0, x.1, full.0)))
           (λ b. absurd (behind (refused_behind g (behind_lock s t.txn c x.0) t.txn new c f b.1)))
           x.3)
-          (λ prepare. absurd (prepares (prepare_refuses s t.txn prepare.0 f prepare.2))))
+          (λ prepare. absurd (prepares (prepare_refuses g.version s t.txn prepare.0 f prepare.2))))
           t.from
 
   no_begin_blocks : (holder : ℕ) → Refuses call.Begin (fault.WouldBlock holder) → ⊥
@@ -90,7 +90,7 @@ module _ (g : Geometry) (s new : State) (session : ℕ) where
       allowed_mode s.locks t.0.txn t.2.0.granule t.2.0.mode (on_conflict_of c)
       (subst (λ (l : Asked). is_allowed (level_of l.granule) l.mode ≡ true) (same_lock (lock_asked_by c) lock t.2.0 asks t.2.1) allowed) t.2.2
     where
-      not_long : (bytes : List ℕ) → IsTooLong bytes fault.BadMode → ⊥
+      not_long : (bytes : List ℕ) → IsTooLong g.version bytes fault.BadMode → ⊥
       not_long bytes h = let clash = h.0 in cc
 
       both : (b : Bool) → b ≡ true → IsFalse b → ⊥
@@ -138,7 +138,7 @@ module _ (g : Geometry) (s new : State) (session : ℕ) where
           (λ before. absurd (not_early c before.0))
           (⊎_elim
           (λ x. (t.txn, t.of, (x.0, x.1, ⊎_elim (λ full. inl full.0) (λ b. inr b.1) x.3)))
-          (λ prepare. absurd (prepare_refuses s t.txn prepare.0 fault.LockTableFull prepare.2)))
+          (λ prepare. absurd (prepare_refuses g.version s t.txn prepare.0 fault.LockTableFull prepare.2)))
           t.from
 
   -- behind its lock only an insert comes to a full table
@@ -148,8 +148,8 @@ module _ (g : Geometry) (s new : State) (session : ℕ) where
   only_place l a (call.Insert store bytes) other h = other store bytes refl
   only_place l a (call.Update id bytes) other h = update_full l id bytes h.0
     where
-      update_full : (l : State) (id : Rid) (bytes : List ℕ) → RefusesRead l id fault.LockTableFull ⊎ ((fault.LockTableFull ≡ fault.StoreFull) × Finds l id × (FitsAt l id (Some bytes) → ⊥))
-          ⊎ ((fault.LockTableFull ≡ fault.LogFull) × Finds l id × FitsAt l id (Some bytes) × (CanLog l id (Some bytes) → ⊥)) → ⊥
+      update_full : (l : State) (id : Rid) (bytes : List ℕ) → RefusesRead l id fault.LockTableFull ⊎ ((fault.LockTableFull ≡ fault.StoreFull) × Finds l id × (FitsAt g.version l id (Some bytes) → ⊥))
+          ⊎ ((fault.LockTableFull ≡ fault.LogFull) × Finds l id × FitsAt g.version l id (Some bytes) × (CanLog l id (Some bytes) → ⊥)) → ⊥
       update_full l id bytes (inl x) = table_full l x
       update_full l id bytes (inr (inl x)) = let clash = x.0 in cc
       update_full l id bytes (inr (inr x)) = let clash = x.0 in cc

@@ -106,7 +106,7 @@ module _ (g : Geometry) (P : ℕ → Call → Wait → Type 0) (moves : (session
   commits s new a (Refused f) h = absurd h
   commits s new a Nothing h = absurd h
 
-  prepares : (s new : State) (a : SessionTxn) (global : List ℕ) → ((n : ℕ) → P a.session (call.Prepare global) (Durable n)) → (step : Step) → PrepareStep s a global step new → WaitsHave P s
+  prepares : (s new : State) (a : SessionTxn) (global : List ℕ) → ((n : ℕ) → P a.session (call.Prepare global) (Durable n)) → (step : Step) → PrepareStep g.version s a global step new → WaitsHave P s
       → WaitsHave P new
   prepares s new a global may (Waits wait) h = and_one s new (decision_waiting a.session (call.Prepare global) (next_number s)) (ap (λ (s : State). s.waiting) h.4) (may (next_number s))
   prepares s new a global may (Refused f) h = as_before s new (ap (λ (s : State). s.waiting) h.1)

@@ -60,7 +60,7 @@ module _ (o : Opening) (found : List LogRecord) (es : List Entry) (s : State) (k
         })
 
     -- the record that it names is not there, and its transaction may know that
-    pub absence_told : a.undo.rolling ≡ None → IsSomeAnd (record_named_by c) (IsKnownAbsent s.sessions.held a.txn s.sessions.records)
+    pub absence_told : a.undo.rolling ≡ None → IsSomeAnd (record_named_by c) (IsKnownAbsent s.sessions.slots s.sessions.held a.txn s.sessions.records)
         → IsSessionsState o found (es ++ Exchanged session (txn_of s.sessions session) (exchange c (Err fault.NoRecord)) ∷ []) s
     absence_told whole known =
         let same : s.sessions ≡ reply_given s.sessions a c (Err fault.NoRecord) =

@@ -171,7 +171,7 @@ module _ (g : Geometry) (o : Opening) (found : List LogRecord) (es : List Entry)
   begin_kept (Refused f) h = as_before h.1
   begin_kept Nothing h = absurd h
 
-  prepare_kept : (a : SessionTxn) (global : List ℕ) (step : Step) → PrepareStep s a global step new → NoLockWeaker s new
+  prepare_kept : (a : SessionTxn) (global : List ℕ) (step : Step) → PrepareStep g.version s a global step new → NoLockWeaker s new
   prepare_kept a global (Waits wait) h = still s new s (same_locks new (prepared s a global (granules_in_ex s a)) h.4) (λ u at m enough. enough)
   prepare_kept a global (Refused f) h = as_before h.1
   prepare_kept a global (Done answer) h = absurd h

@@ -4,6 +4,7 @@ use Rattle.shore_types.specs.declared.faults.Fault.{Fault}
 use Rattle.shore_types.specs.declared.faults.Fault.TheVariants as fault
 use Rattle.shore_types.specs.declared.ids.Rid.{Rid}
 use Rattle.shore_types.specs.declared.layout.Geometry.{Geometry}
+use Rattle.shore_types.specs.declared.versions.Version.{Version}
 use Rattle.shore_model.specs.declared.calls.Answer.{Answer}
 use Rattle.shore_model.specs.declared.calls.Call.{Call}
 use Rattle.shore_model.specs.declared.calls.Call.TheVariants as call
@@ -122,11 +123,11 @@ commit_further s a (Waits wait) new h = absurd h
 commit_further s a (Refused f) new h = absurd h
 commit_further s a Nothing new h = absurd h
 
-prepare_further : (s : State) (a : SessionTxn) (global : List ℕ) (step : Step) (new : State) → PrepareStep s a global step new → GoesFurther s new
-prepare_further s a global (Waits wait) new h = subst (GoesFurther s) (sym h.4) (record { durable = refl; on = (_ ∷ [], refl) })
-prepare_further s a global (Refused f) new h = same_further s new h.1
-prepare_further s a global (Done answer) new h = absurd h
-prepare_further s a global Nothing new h = absurd h
+prepare_further : (v : Version) (s : State) (a : SessionTxn) (global : List ℕ) (step : Step) (new : State) → PrepareStep v s a global step new → GoesFurther s new
+prepare_further v s a global (Waits wait) new h = subst (GoesFurther s) (sym h.4) (record { durable = refl; on = (_ ∷ [], refl) })
+prepare_further v s a global (Refused f) new h = same_further s new h.1
+prepare_further v s a global (Done answer) new h = absurd h
+prepare_further v s a global Nothing new h = absurd h
 
 -- ---- rollbacks
 
@@ -164,7 +165,7 @@ open_further g s a c step new (inl h) = same_further s new h.3
 open_further g s a c step new (inr (inl h)) = goes_further g a s c step new h.1
 open_further g s a c step new (inr (inr (inl h))) = commit_further s a step new h.1
 open_further g s a c step new (inr (inr (inr (inl h)))) = savepoint_further s a step new h.1
-open_further g s a c step new (inr (inr (inr (inr h)))) = prepare_further s a h.0 step new h.2
+open_further g s a c step new (inr (inr (inr (inr h)))) = prepare_further g.version s a h.0 step new h.2
 
 inner_further : (g : Geometry) (s : State) (a : SessionTxn) (c : Call) (step : Step) (new : State) → InnerStep g s a c step new → GoesFurther s new
 inner_further g s a c step new (inl h) = same_further s new h.3

@@ -92,7 +92,7 @@ module _ (g : Geometry) (l : State) (a : SessionTxn) where
   behind_tests (call.Get id) = find_tests id []
   behind_tests (call.GetForUpdate id) = find_tests id []
   behind_tests (call.Insert store bytes) = place_tests store bytes
-  behind_tests (call.Update id bytes) = find_tests id (test (FitsAt l id (Some bytes)) fault.StoreFull ∷ test (CanLog l id (Some bytes)) fault.LogFull ∷ [])
+  behind_tests (call.Update id bytes) = find_tests id (test (FitsAt g.version l id (Some bytes)) fault.StoreFull ∷ test (CanLog l id (Some bytes)) fault.LogFull ∷ [])
   behind_tests (call.Delete id) = find_tests id (test (CanLog l id None) fault.LogFull ∷ [])
   behind_tests _ = []
 
@@ -122,9 +122,9 @@ module _ (g : Geometry) (l : State) (a : SessionTxn) where
       → FirstFails (behind_tests (call.Update id bytes)) f
   update_fails id bytes f new c h = by h.0
     where
-      by : RefusesRead l id f ⊎ ((f ≡ fault.StoreFull) × Finds l id × (FitsAt l id (Some bytes) → ⊥))
-          ⊎ ((f ≡ fault.LogFull) × Finds l id × FitsAt l id (Some bytes) × (CanLog l id (Some bytes) → ⊥)) → FirstFails (behind_tests (call.Update id bytes)) f
-      by (inl x) = read_fails id (test (FitsAt l id (Some bytes)) fault.StoreFull ∷ test (CanLog l id (Some bytes)) fault.LogFull ∷ []) f c x
+      by : RefusesRead l id f ⊎ ((f ≡ fault.StoreFull) × Finds l id × (FitsAt g.version l id (Some bytes) → ⊥))
+          ⊎ ((f ≡ fault.LogFull) × Finds l id × FitsAt g.version l id (Some bytes) × (CanLog l id (Some bytes) → ⊥)) → FirstFails (behind_tests (call.Update id bytes)) f
+      by (inl x) = read_fails id (test (FitsAt g.version l id (Some bytes)) fault.StoreFull ∷ test (CanLog l id (Some bytes)) fault.LogFull ∷ []) f c x
       by (inr (inl x)) = inr (x.1, inl (x.2, x.0))
       by (inr (inr x)) = inr (x.1, inr (x.2, inl (x.3, x.0)))
 

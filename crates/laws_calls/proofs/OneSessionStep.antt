@@ -118,7 +118,7 @@ module _ (g : Geometry) (s : State) where
   no_asking x c none e h = none (subst (MayAsk g) e h)
 
   -- a prepare
-  one_refused : (a : SessionTxn) (global : List ℕ) (e f : Fault) → RefusesPrepare s a global e → RefusesPrepare s a global f → e ≡ f
+  one_refused : (a : SessionTxn) (global : List ℕ) (e f : Fault) → RefusesPrepare g.version s a global e → RefusesPrepare g.version s a global f → e ≡ f
   one_refused a global e f (inl h) (inl k) = h.0 ∙ sym k.0
   one_refused a global e f (inl h) (inr (inl k)) = absurd (h.1 k.1)
   one_refused a global e f (inl h) (inr (inr k)) = absurd (h.1 k.1)
@@ -129,12 +129,12 @@ module _ (g : Geometry) (s : State) where
   one_refused a global e f (inr (inr h)) (inr (inl k)) = absurd (k.2 h.2)
   one_refused a global e f (inr (inr h)) (inr (inr k)) = h.0 ∙ sym k.0
 
-  not_refused : (a : SessionTxn) (global : List ℕ) (f : Fault) → IsGlobalId global → IsUnused s.sessions global → MayPrepare s a global → RefusesPrepare s a global f → ⊥
+  not_refused : (a : SessionTxn) (global : List ℕ) (f : Fault) → IsGlobalId g.version global → IsUnused s.sessions global → MayPrepare s a global → RefusesPrepare g.version s a global f → ⊥
   not_refused a global f good unused may (inl h) = h.1 good
   not_refused a global f good unused may (inr (inl h)) = h.2 unused
   not_refused a global f good unused may (inr (inr h)) = h.3 may
 
-  one_prepare : (a : SessionTxn) (global : List ℕ) (x y : Step) (new later : State) → PrepareStep s a global x new → PrepareStep s a global y later → AreOne x y new later
+  one_prepare : (a : SessionTxn) (global : List ℕ) (x y : Step) (new later : State) → PrepareStep g.version s a global x new → PrepareStep g.version s a global y later → AreOne x y new later
   one_prepare a global (Waits v) (Waits w) new later h k = (ap Waits (h.3 ∙ sym k.3), h.4 ∙ sym k.4)
   one_prepare a global (Waits v) (Refused f) new later h k = absurd (not_refused a global f h.0 h.1 h.2 k.0)
   one_prepare a global (Refused f) (Waits w) new later h k = absurd (not_refused a global f k.0 k.1 k.2 h.0)
@@ -173,7 +173,7 @@ module _ (g : Geometry) (s : State) where
   one_open a c x y new later both (inr (inr (inr (inr h)))) (inr (inr (inl k))) = let clash : call.Prepare h.0 ≡ call.Commit = sym h.1 ∙ k.0 in absurd cc
   one_open a c x y new later both (inr (inr (inr (inr h)))) (inr (inr (inr (inl k)))) = let clash : call.Prepare h.0 ≡ call.Savepoint = sym h.1 ∙ k.0 in absurd cc
   one_open a c x y new later both (inr (inr (inr (inr h)))) (inr (inr (inr (inr k)))) =
-      one_prepare a h.0 x y new later h.2 (subst (λ n. PrepareStep s a n y later) (same_global k.0 h.0 (sym k.1 ∙ h.1)) k.2)
+      one_prepare a h.0 x y new later h.2 (subst (λ n. PrepareStep g.version s a n y later) (same_global k.0 h.0 (sym k.1 ∙ h.1)) k.2)
     where
       same_global : (m n : List ℕ) → call.Prepare m ≡ call.Prepare n → m ≡ n
       same_global m n e = cc

@@ -71,7 +71,7 @@ module _ (g : Geometry) (o : Opening) (found : List LogRecord) (es : List Entry)
   module _ (a : SessionTxn) (of : a.session ≡ session) (whole : a.undo.rolling ≡ None) where
     -- the record that a call names is not there
     pub absence_passes : (s : State) → IsSessionsState o found es s → HasSeat s.sessions a → (c : Call) → IsInnerCall c
-        → IsSomeAnd (record_named_by c) (IsKnownAbsent s.sessions.held a.txn s.sessions.records) → Passes s s (refused_entry s c fault.NoRecord ∷ [])
+        → IsSomeAnd (record_named_by c) (IsKnownAbsent s.sessions.slots s.sessions.held a.txn s.sessions.records) → Passes s s (refused_entry s c fault.NoRecord ∷ [])
     absence_passes s k mem c inner known =
         let same : s.sessions ≡ reply_given s.sessions a c (Err fault.NoRecord) =
         sym (ap (λ (xs : List SessionTxn). record s.sessions { active = xs }) (same_undo a s.sessions.active k.agree.once mem.0)) in

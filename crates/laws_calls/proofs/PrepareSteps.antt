@@ -4,6 +4,7 @@ use Rattle.std.specs.Prelude.{◌==◌, Contains}
 use Rattle.std.proofs.lemmas.Bool.{eq-eqb, eqb-true, ne_eqb}
 use Rattle.shore_types.specs.declared.layout.Geometry.{Geometry}
 use Rattle.shore_types.specs.declared.locking.Granule.{Granule}
+use Rattle.shore_types.specs.declared.versions.Version.{Version}
 use Rattle.shore_model.specs.declared.calls.Call.TheVariants as call
 use Rattle.shore_model.specs.declared.histories.Decision.TheVariants as decision
 use Rattle.shore_model.specs.declared.histories.Entry.{Entry}
@@ -41,11 +42,11 @@ use Rattle.laws_calls.specs.States.{DoesNotWait, HasSeat, State, Waiting, next_n
 
 -- ---- the table
 
-pub prepare_locks : (s : State) (a : SessionTxn) (global : List ℕ) (step : Step) (new : State) → PrepareStep s a global step new → new.locks ≡ s.locks
-prepare_locks s a global (Waits wait) new h = ap (λ (x : State). x.locks) h.4
-prepare_locks s a global (Refused f) new h = ap (λ (x : State). x.locks) h.1
-prepare_locks s a global (Done answer) new h = absurd h
-prepare_locks s a global Nothing new h = absurd h
+pub prepare_locks : (v : Version) (s : State) (a : SessionTxn) (global : List ℕ) (step : Step) (new : State) → PrepareStep v s a global step new → new.locks ≡ s.locks
+prepare_locks v s a global (Waits wait) new h = ap (λ (x : State). x.locks) h.4
+prepare_locks v s a global (Refused f) new h = ap (λ (x : State). x.locks) h.1
+prepare_locks v s a global (Done answer) new h = absurd h
+prepare_locks v s a global Nothing new h = absurd h
 
 -- ---- seats
 

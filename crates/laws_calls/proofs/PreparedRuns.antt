@@ -1,9 +1,11 @@
 -- The worked runs with a prepare and its resolve: each event may come.
-use Rattle.std.proofs.Common.{inl, inr, ◌≤◌, ℕ, List, [], ◌∷◌, Some, None, refl, ap, ◌∙◌, length, arith}
+use Rattle.std.proofs.Common.{◌+◌, inl, inr, ◌≤◌, ℕ, List, [], ◌∷◌, Some, None, refl, ap, ◌∙◌, length, arith}
 use Rattle.shore_types.specs.Layout.{HasPage, HasStore}
 use Rattle.shore_types.specs.declared.layout.Geometry.{Geometry}
-use Rattle.shore_types.specs.declared.layout.TheConstants.{MAX_RECORD_BYTES}
 use Rattle.shore_types.specs.declared.locking.Granule.TheVariants.{Record}
+use Rattle.shore_types.specs.declared.versions.Version.{Version}
+use Rattle.shore_types.specs.declared.versions.Version.TheVariants.{One, Two}
+use Rattle.shore_types.specs.Versions.{global_limit, record_limit, record_limit-most}
 use Rattle.shore_model.specs.declared.calls.Answer.TheVariants.{Prepared, Resolved}
 use Rattle.shore_model.specs.declared.calls.Call.TheVariants as call
 use Rattle.shore_model.specs.declared.calls.Outcome.TheVariants as outcome
@@ -28,7 +30,13 @@ use Rattle.laws_calls.specs.States.{State}
 use Rattle.laws_calls.specs.WorkedPrepares.{ResolvesThrough, short_name}
 use Rattle.laws_calls.specs.WorkedRun.{first_id, first_page}
 
-module _ (g : Geometry) (stream_bytes : ℕ) (bytes : List ℕ) (store : HasStore g 0) (page : HasPage g first_page) (short : length bytes ≤ MAX_RECORD_BYTES) (long : 100000 ≤ stream_bytes) where
+-- a short name is no longer than any version allows
+names_fit : (v : Version) → 64 ≤ global_limit v
+unfolding global_limit
+names_fit One = omega arith
+names_fit Two = omega arith
+
+module _ (g : Geometry) (stream_bytes : ℕ) (bytes : List ℕ) (store : HasStore g 0) (page : HasPage g first_page) (short : length bytes ≤ record_limit g.version) (long : 96000 + record_limit g.version ≤ stream_bytes) where
   abbrev its : SessionTxn
   its = one_changed g stream_bytes bytes store page short long
 
@@ -50,7 +58,7 @@ module _ (g : Geometry) (stream_bytes : ℕ) (bytes : List ℕ) (store : HasStor
     at_once g there 1 (call.Prepare short_name) (Waits (Durable 2)) preparing (inr (inr (inr (inr (inr (inl (
       refl,
       λ w m. absurd m,
-      (its, ((inl refl, refl, omega arith), refl), inr (inl (refl, inr (inr (inr (inr (short_name, refl, ((omega arith, omega arith), tt, room, refl, refl)))))))),
+      (its, ((inl refl, refl, omega arith), refl), inr (inl (refl, inr (inr (inr (inr (short_name, refl, ((omega arith, omega (arith, names_fit g.version)), tt, room, refl, refl)))))))),
     ))))))) tt,
   )
     where
@@ -60,6 +68,7 @@ module _ (g : Geometry) (stream_bytes : ℕ) (bytes : List ℕ) (store : HasStor
           let cost = change_bytes first_id (first_image g stream_bytes bytes store page short long) (Some bytes) in
           let count = lists_one there its (Record first_id) refl in
           let more = prepare_bytes short_name (granules_in_ex there its) in
+          let few = record_limit-most g.version in
           (omega arith, omega arith)
 
   forces : EventMoves g preparing (Forced 2) forced

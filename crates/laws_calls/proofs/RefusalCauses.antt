@@ -8,7 +8,7 @@ use Rattle.shore_types.specs.declared.faults.Fault.{Fault}
 use Rattle.shore_types.specs.declared.faults.Fault.TheVariants as fault
 use Rattle.shore_types.specs.declared.ids.Rid.{Rid}
 use Rattle.shore_types.specs.declared.layout.Geometry.{Geometry}
-use Rattle.shore_types.specs.declared.layout.TheConstants.{MAX_RECORD_BYTES, MAX_SLOTS}
+use Rattle.shore_types.specs.Versions.{record_limit, slot_limit}
 use Rattle.shore_model.specs.declared.calls.Call.{Call}
 use Rattle.shore_model.specs.declared.calls.Call.TheVariants as call
 use Rattle.shore_path.specs.declared.answers.Acquired.TheVariants as acquire
@@ -80,7 +80,7 @@ module _ (g : Geometry) (s new : State) (session : ℕ) where
           (λ full. absurd (table t.txn x.0 full.0))
           (λ behind. record { txn = t.txn; of = t.of; lock = x.0; asks = x.1; done = behind.0; refuses = behind.1 })
           x.3)
-          (λ prepare. absurd (prepares prepare.0 prepare.1 (prepare_refuses s t.txn prepare.0 f prepare.2))))
+          (λ prepare. absurd (prepares prepare.0 prepare.1 (prepare_refuses g.version s t.txn prepare.0 f prepare.2))))
           t.from
 
   -- the lock table does not give this refusal, and it is none before the locks
@@ -136,12 +136,12 @@ module _ (g : Geometry) (s new : State) (session : ℕ) where
 
   -- what refuses a change behind its lock, besides pages that were not read
   update_causes : (l : State) (a : SessionTxn) (id : Rid) (bytes : List ℕ) (f : Fault) → RefusesBehind g l a (call.Update id bytes) f new → (RefusesRead l id f → ⊥)
-      → ((f ≡ fault.StoreFull) × (FitsAt l id (Some bytes) → ⊥)) ⊎ ((f ≡ fault.LogFull) × FitsAt l id (Some bytes) × (CanLog l id (Some bytes) → ⊥))
+      → ((f ≡ fault.StoreFull) × (FitsAt g.version l id (Some bytes) → ⊥)) ⊎ ((f ≡ fault.LogFull) × FitsAt g.version l id (Some bytes) × (CanLog l id (Some bytes) → ⊥))
   update_causes l a id bytes f h no_read = by h.0
     where
-      by : RefusesRead l id f ⊎ ((f ≡ fault.StoreFull) × Finds l id × (FitsAt l id (Some bytes) → ⊥))
-          ⊎ ((f ≡ fault.LogFull) × Finds l id × FitsAt l id (Some bytes) × (CanLog l id (Some bytes) → ⊥))
-          → ((f ≡ fault.StoreFull) × (FitsAt l id (Some bytes) → ⊥)) ⊎ ((f ≡ fault.LogFull) × FitsAt l id (Some bytes) × (CanLog l id (Some bytes) → ⊥))
+      by : RefusesRead l id f ⊎ ((f ≡ fault.StoreFull) × Finds l id × (FitsAt g.version l id (Some bytes) → ⊥))
+          ⊎ ((f ≡ fault.LogFull) × Finds l id × FitsAt g.version l id (Some bytes) × (CanLog l id (Some bytes) → ⊥))
+          → ((f ≡ fault.StoreFull) × (FitsAt g.version l id (Some bytes) → ⊥)) ⊎ ((f ≡ fault.LogFull) × FitsAt g.version l id (Some bytes) × (CanLog l id (Some bytes) → ⊥))
       by (inl x) = absurd (no_read x)
       by (inr (inl x)) = inl (x.0, x.2)
       by (inr (inr x)) = inr (x.0, x.2, x.3)
@@ -153,26 +153,26 @@ module _ (g : Geometry) (s new : State) (session : ℕ) where
       by (inl x) = log_full l x
       by (inr x) = x.2 logs
 
-  pub update_full_though_fits : (id : Rid) (bytes : List ℕ) → FitsAt s id (Some bytes) → Refuses (call.Update id bytes) fault.StoreFull → ⊥
+  pub update_full_though_fits : (id : Rid) (bytes : List ℕ) → FitsAt g.version s id (Some bytes) → Refuses (call.Update id bytes) fault.StoreFull → ⊥
   update_full_though_fits id bytes fits h =
       let t = store_full_behind (call.Update id bytes) tt h in by (update_causes (behind_lock s t.txn (call.Update id bytes) t.lock) t.txn id bytes fault.StoreFull t.refuses (store_full s))
     where
-      by : ((fault.StoreFull ≡ fault.StoreFull) × (FitsAt s id (Some bytes) → ⊥)) ⊎ ((fault.StoreFull ≡ fault.LogFull) × FitsAt s id (Some bytes) × (CanLog s id (Some bytes) → ⊥)) → ⊥
+      by : ((fault.StoreFull ≡ fault.StoreFull) × (FitsAt g.version s id (Some bytes) → ⊥)) ⊎ ((fault.StoreFull ≡ fault.LogFull) × FitsAt g.version s id (Some bytes) × (CanLog s id (Some bytes) → ⊥)) → ⊥
       by (inl x) = x.1 fits
       by (inr x) = let clash = x.0 in cc
 
-  update_log_full : (id : Rid) (bytes : List ℕ) → Refuses (call.Update id bytes) fault.LogFull → FitsAt s id (Some bytes) × (CanLog s id (Some bytes) → ⊥)
+  update_log_full : (id : Rid) (bytes : List ℕ) → Refuses (call.Update id bytes) fault.LogFull → FitsAt g.version s id (Some bytes) × (CanLog s id (Some bytes) → ⊥)
   update_log_full id bytes h =
       let t = log_full_behind (call.Update id bytes) tt (λ global e. cc) h in by (update_causes (behind_lock s t.txn (call.Update id bytes) t.lock) t.txn id bytes fault.LogFull t.refuses (log_full s))
     where
-      by : ((fault.LogFull ≡ fault.StoreFull) × (FitsAt s id (Some bytes) → ⊥)) ⊎ ((fault.LogFull ≡ fault.LogFull) × FitsAt s id (Some bytes) × (CanLog s id (Some bytes) → ⊥))
-          → FitsAt s id (Some bytes) × (CanLog s id (Some bytes) → ⊥)
+      by : ((fault.LogFull ≡ fault.StoreFull) × (FitsAt g.version s id (Some bytes) → ⊥)) ⊎ ((fault.LogFull ≡ fault.LogFull) × FitsAt g.version s id (Some bytes) × (CanLog s id (Some bytes) → ⊥))
+          → FitsAt g.version s id (Some bytes) × (CanLog s id (Some bytes) → ⊥)
       by (inl x) = let clash = x.0 in absurd cc
       by (inr x) = (x.1, x.2)
 
   -- ---- full logs
 
-  pub log_before_page : (id : Rid) (bytes : List ℕ) → (FitsAt s id (Some bytes) → ⊥) → Refuses (call.Update id bytes) fault.LogFull → ⊥
+  pub log_before_page : (id : Rid) (bytes : List ℕ) → (FitsAt g.version s id (Some bytes) → ⊥) → Refuses (call.Update id bytes) fault.LogFull → ⊥
   log_before_page id bytes none h = none (update_log_full id bytes h).0
 
   pub update_log_full_though_room : (id : Rid) (bytes : List ℕ) → CanLog s id (Some bytes) → Refuses (call.Update id bytes) fault.LogFull → ⊥
@@ -225,23 +225,23 @@ module _ (g : Geometry) (s new : State) (session : ℕ) where
       (λ a lock is. no_table_fault fault.NoRecord tt (λ e. cc) (acquire_fault s.locks a.txn lock.granule lock.mode (on_conflict_of c) fault.NoRecord is)) early other (λ global e x. x) (λ r is x p. no_page_fault x fault.NoRecord (λ e. cc) (λ offset e. cc) (λ n e. cc) p) h in
       no_record_both (get s.sessions.records id) there (reads (behind_lock s t.txn c t.lock) t.txn t.refuses)
 
-  beyond : (id : Rid) → id.slot < MAX_SLOTS → RefusesId g id fault.NoRecord → ⊥
+  beyond : (id : Rid) → id.slot < slot_limit g.version → RefusesId g id fault.NoRecord → ⊥
   beyond id within h = let le = h.1 in omega arith
 
-  pub get_none_though_there : (id : Rid) → id.slot < MAX_SLOTS → IsSome (get s.sessions.records id) → Refuses (call.Get id) fault.NoRecord → ⊥
+  pub get_none_though_there : (id : Rid) → id.slot < slot_limit g.version → IsSome (get s.sessions.records id) → Refuses (call.Get id) fault.NoRecord → ⊥
   get_none_though_there id within there h = no_record id (call.Get id) tt (beyond id within) (λ l a x. x.0) there h
 
-  pub for_update_none_though_there : (id : Rid) → id.slot < MAX_SLOTS → IsSome (get s.sessions.records id) → Refuses (call.GetForUpdate id) fault.NoRecord → ⊥
+  pub for_update_none_though_there : (id : Rid) → id.slot < slot_limit g.version → IsSome (get s.sessions.records id) → Refuses (call.GetForUpdate id) fault.NoRecord → ⊥
   for_update_none_though_there id within there h = no_record id (call.GetForUpdate id) tt (beyond id within) (λ l a x. x.0) there h
 
-  pub update_none_though_there : (id : Rid) (bytes : List ℕ) → id.slot < MAX_SLOTS → IsSome (get s.sessions.records id) → Refuses (call.Update id bytes) fault.NoRecord → ⊥
+  pub update_none_though_there : (id : Rid) (bytes : List ℕ) → id.slot < slot_limit g.version → IsSome (get s.sessions.records id) → Refuses (call.Update id bytes) fault.NoRecord → ⊥
   update_none_though_there id bytes within there h =
       no_record id (call.Update id bytes) tt
       (λ x. ⊎_elim (λ long. let clash = long.0 in cc) (λ none. beyond id within none.1) x)
       (λ l a x. ⊎_elim (λ none. none) (λ more. ⊎_elim (λ y. let clash = y.0 in absurd cc) (λ y. let clash = y.0 in absurd cc) more) x.0)
       there h
 
-  pub delete_none_though_there : (id : Rid) → id.slot < MAX_SLOTS → IsSome (get s.sessions.records id) → Refuses (call.Delete id) fault.NoRecord → ⊥
+  pub delete_none_though_there : (id : Rid) → id.slot < slot_limit g.version → IsSome (get s.sessions.records id) → Refuses (call.Delete id) fault.NoRecord → ⊥
   delete_none_though_there id within there h =
       no_record id (call.Delete id) tt (beyond id within) (λ l a x. ⊎_elim (λ none. none) (λ y. let clash = y.0 in absurd cc) x.0) there h
 
@@ -257,7 +257,7 @@ module _ (g : Geometry) (s new : State) (session : ℕ) where
           (λ full. absurd (no_table_fault f early mode (acquire_fault s.locks t.txn.txn x.0.granule x.0.mode (on_conflict_of c) f full.0)))
           (λ b. absurd (behind (refused_behind g (behind_lock s t.txn c x.0) t.txn new c f b.1)))
           x.3)
-          (λ prepare. absurd (early_no_prepare f early (prepare_refuses s t.txn prepare.0 f prepare.2))))
+          (λ prepare. absurd (early_no_prepare f early (prepare_refuses g.version s t.txn prepare.0 f prepare.2))))
           t.from
 
   pub no_page_of_no_store : (id : Rid) → (HasStore g id.page.store → ⊥) → Refuses (call.Get id) fault.NoPage → ⊥
@@ -269,7 +269,7 @@ module _ (g : Geometry) (s new : State) (session : ℕ) where
   pub no_store_though_there : (id : Rid) → HasStore g id.page.store → Refuses (call.Get id) fault.NoStore → ⊥
   no_store_though_there id store h = early_of (call.Get id) fault.NoStore tt tt (λ e. cc) (λ x. x) tt h store
 
-  pub too_long_though_short : (store : ℕ) (bytes : List ℕ) → length bytes ≤ MAX_RECORD_BYTES → Refuses (call.Insert store bytes) fault.TooLong → ⊥
+  pub too_long_though_short : (store : ℕ) (bytes : List ℕ) → length bytes ≤ record_limit g.version → Refuses (call.Insert store bytes) fault.TooLong → ⊥
   too_long_though_short store bytes short h =
       ⊎_elim (λ long. let less = long.1 in omega arith) (λ none. let clash = none.1 in cc)
       (early_of (call.Insert store bytes) fault.TooLong tt tt (λ e. cc) (λ x. x) tt h)

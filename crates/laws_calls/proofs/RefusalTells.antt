@@ -5,6 +5,7 @@ use Rattle.std.specs.FinMap.{get}
 use Rattle.shore_types.specs.declared.faults.Fault.{Fault}
 use Rattle.shore_types.specs.declared.faults.Fault.TheVariants as fault
 use Rattle.shore_types.specs.declared.ids.Rid.{Rid}
+use Rattle.shore_types.specs.declared.versions.Version.{Version}
 use Rattle.shore_model.specs.declared.calls.Exchange.{Exchange}
 use Rattle.shore_model.specs.declared.histories.Entry.TheVariants.{Exchanged}
 use Rattle.shore_model.specs.declared.holds.Hold.{Hold}
@@ -22,8 +23,8 @@ tells_or_none fault.NoRecord = inr refl
 tells_or_none _ = inl tt
 
 pub known_absent : (o : Option Rid) (id : Rid) (held : List Hold) (s : State) (t : ℕ) → o ≡ Some id → MayRead held t id → get s.sessions.records id ≡ None
-    → IsSomeAnd o (IsKnownAbsent held t s.sessions.records)
-known_absent o id held s t named may none = subst (λ o. IsSomeAnd o (IsKnownAbsent held t s.sessions.records)) (sym named) (inl (may, none))
+    → IsSomeAnd o (IsKnownAbsent s.sessions.slots held t s.sessions.records)
+known_absent o id held s t named may none = subst (λ o. IsSomeAnd o (IsKnownAbsent s.sessions.slots held t s.sessions.records)) (sym named) (inl (may, none))
 
 -- ---- refusals
 
@@ -31,7 +32,7 @@ pub same_entry : (m n t u : ℕ) (x : Exchange) → m ≡ n → t ≡ u → Exch
 same_entry m n t u x e f = ap (λ m. Exchanged m t x) e ∙ ap (λ t. Exchanged n t x) f
 
 -- what refuses a prepare is no word on records
-pub prepare_tells : (s : State) (a : SessionTxn) (global : List ℕ) (f : Fault) → RefusesPrepare s a global f → TellsNothing f
-prepare_tells s a global f (inl bad) = subst TellsNothing (sym bad.0) tt
-prepare_tells s a global f (inr (inl used)) = subst TellsNothing (sym used.0) tt
-prepare_tells s a global f (inr (inr full)) = subst TellsNothing (sym full.0) tt
+pub prepare_tells : (v : Version) (s : State) (a : SessionTxn) (global : List ℕ) (f : Fault) → RefusesPrepare v s a global f → TellsNothing f
+prepare_tells v s a global f (inl bad) = subst TellsNothing (sym bad.0) tt
+prepare_tells v s a global f (inr (inl used)) = subst TellsNothing (sym used.0) tt
+prepare_tells v s a global f (inr (inr full)) = subst TellsNothing (sym full.0) tt

@@ -39,7 +39,7 @@ as_many t undo xs = length-map xs (λ (a : SessionTxn). cond (a.txn == t) (recor
 module _ (g : Geometry) (s : State) (a : SessionTxn) where
   -- what an answer takes of slots and log
   pub record Takes (c : Call) (answer : Answer) (counts : SlotCounts) : Type 0 where
-    pub fits : EventFits s.sessions s.counts (GiveReply a c (Ok answer)) counts
+    pub fits : EventFits g.version s.sessions s.counts (GiveReply a c (Ok answer)) counts
     pub admits : EventAdmits s.sessions (GiveReply a c (Ok answer)) (log_room s)
     pub room : HasRoomAfter s (GiveReply a c (Ok answer)) (answered s a c answer counts)
     pub writes : Writes g s (answered s a c answer counts)
@@ -98,7 +98,7 @@ module _ (g : Geometry) (s : State) (a : SessionTxn) where
       omega arith
 
   module _ (id : Rid) (counts : SlotCounts) (inside : HasPage g id.page ⊎ IsSome (get s.sessions.records id)) where
-    pub insert_takes : (store : ℕ) (bytes : List ℕ) → MayChange s id (Some bytes) counts → Takes (call.Insert store bytes) (Inserted id) counts
+    pub insert_takes : (store : ℕ) (bytes : List ℕ) → MayChange g.version s id (Some bytes) counts → Takes (call.Insert store bytes) (Inserted id) counts
     insert_takes store bytes may = record {
       fits = (may.fits, may.grows);
       admits = may.logs;
@@ -106,7 +106,7 @@ module _ (g : Geometry) (s : State) (a : SessionTxn) where
       writes = inr (inr (inl (record { txn = a.txn; id = id; image = Some bytes; log = refl; inside = inside; fits = may.fits; grows = may.grows })));
     }
 
-    pub update_takes : (bytes : List ℕ) (answer : Answer) → MayChange s id (Some bytes) counts → Takes (call.Update id bytes) answer counts
+    pub update_takes : (bytes : List ℕ) (answer : Answer) → MayChange g.version s id (Some bytes) counts → Takes (call.Update id bytes) answer counts
     update_takes bytes answer may = record {
       fits = (may.fits, may.grows);
       admits = may.logs;
@@ -114,7 +114,7 @@ module _ (g : Geometry) (s : State) (a : SessionTxn) where
       writes = inr (inr (inl (record { txn = a.txn; id = id; image = Some bytes; log = refl; inside = inside; fits = may.fits; grows = may.grows })));
     }
 
-    pub delete_takes : (answer : Answer) → MayChange s id None counts → Takes (call.Delete id) answer counts
+    pub delete_takes : (answer : Answer) → MayChange g.version s id None counts → Takes (call.Delete id) answer counts
     delete_takes answer may = record {
       fits = (may.fits, may.grows);
       admits = may.logs;

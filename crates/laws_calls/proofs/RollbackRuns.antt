@@ -1,5 +1,5 @@
 -- The worked runs with a way back and with an abort: each event may come.
-use Rattle.std.proofs.Common.{◌≡◌, inl, inr, ⊎_elim, ◌≤◌, ℕ, List, [], ◌∷◌, ◌++◌, Bool, true, false, cond, max, Some, None, refl, sym, ap, subst, ◌∙◌, length, arith}
+use Rattle.std.proofs.Common.{◌+◌, ◌≡◌, inl, inr, ⊎_elim, ◌≤◌, ℕ, List, [], ◌∷◌, ◌++◌, Bool, true, false, cond, max, Some, None, refl, sym, ap, subst, ◌∙◌, length, arith}
 use Rattle.std.specs.FinMap.{empty, get, get-empty}
 use Rattle.std.specs.Prelude.{IsSome}
 use Rattle.std.specs.Ordering.{eq_by_cmp}
@@ -10,9 +10,9 @@ use Rattle.shore_types.specs.Layout.{HasPage, HasStore}
 use Rattle.shore_types.specs.declared.faults.Fault.TheVariants as fault
 use Rattle.shore_types.specs.declared.ids.Rid.{Rid}
 use Rattle.shore_types.specs.declared.layout.Geometry.{Geometry}
-use Rattle.shore_types.specs.declared.layout.TheConstants.{MAX_RECORD_BYTES}
 use Rattle.shore_types.specs.declared.locking.Granule.TheVariants.{Record}
 use Rattle.shore_types.specs.declared.locking.Mode.TheVariants.{EX}
+use Rattle.shore_types.specs.Versions.{page_bytes-least, record_limit, record_limit-fits, record_limit-most, slot_limit, slot_limit-fills}
 use Rattle.shore_model.specs.declared.calls.Answer.TheVariants.{Aborted, Began, Committed, Inserted, Saved, Updated, WentBack}
 use Rattle.shore_model.specs.declared.calls.Call.{Call}
 use Rattle.shore_model.specs.declared.calls.Call.TheVariants as call
@@ -57,11 +57,11 @@ one_slot p = one_if (eq_by_cmp page_cmp p first_page)
 one_there : one_slot first_page ≡ 1
 one_there = ap one_if (same_page first_page)
 
-module _ (g : Geometry) (stream_bytes : ℕ) (bytes : List ℕ) (store : HasStore g 0) (page : HasPage g first_page) (short : length bytes ≤ MAX_RECORD_BYTES) (long : 100000 ≤ stream_bytes) where
+module _ (g : Geometry) (stream_bytes : ℕ) (bytes : List ℕ) (store : HasStore g 0) (page : HasPage g first_page) (short : length bytes ≤ record_limit g.version) (long : 96000 + record_limit g.version ≤ stream_bytes) where
   -- ---- a record is inserted
 
   abbrev opened : State
-  opened = opened_empty stream_bytes
+  opened = opened_empty (slot_limit g.version) stream_bytes
 
   abbrev pub begun_one : State
   begun_one = begun opened 1
@@ -81,14 +81,14 @@ module _ (g : Geometry) (stream_bytes : ℕ) (bytes : List ℕ) (store : HasStor
   abbrev pub one_changed : SessionTxn
   one_changed = with_list one (with_before_image empty nothing_to_undo first_id)
 
-  pub is_opened : IsOpened (opening_with empty) [] opened
-  is_opened = empty_is_opened stream_bytes
+  pub is_opened : IsOpened (opening_with (slot_limit g.version) empty) [] opened
+  is_opened = empty_is_opened (slot_limit g.version) stream_bytes
 
   pub begins : EventMoves g opened (Called 1 call.Begin (Done (Began 1))) begun_one
   begins = (tt, at_once g opened 1 call.Begin (Done (Began 1)) begun_one (inr (inr (inr (inl (refl, λ w m. absurd m, refl, (refl, omega arith, ((omega arith, omega arith), omega arith), refl, refl)))))) tt)
 
-  fits : FitsAt inserting first_id (Some bytes)
-  fits = record { there = omega arith; most = short; room = omega arith }
+  fits : FitsAt g.version inserting first_id (Some bytes)
+  fits = record { there = omega (arith, slot_limit-fills g.version, page_bytes-least g.version); most = short; room = omega (arith, short, record_limit-fits g.version) }
 
   pub nothing_there : get inserting.sessions.records first_id ≡ None
   nothing_there = get-empty rid_cmp first_id
@@ -109,8 +109,8 @@ module _ (g : Geometry) (stream_bytes : ℕ) (bytes : List ℕ) (store : HasStor
         ] refl;
   }
 
-  may : MayChange (behind_place inserting one first_id) first_id (Some bytes) one_slot
-  may = let before = ap image_cost nothing_there in record { fits = fits; logs = (omega arith, omega arith); grows = grows }
+  may : MayChange g.version (behind_place inserting one first_id) first_id (Some bytes) one_slot
+  may = let before = ap image_cost nothing_there in let few = record_limit-most g.version in record { fits = fits; logs = (omega arith, omega arith); grows = grows }
 
   pub inserts : EventMoves g begun_one (Called 1 insert (Done (Inserted first_id))) inserted
   inserts = (
@@ -181,7 +181,7 @@ module _ (g : Geometry) (stream_bytes : ℕ) (bytes : List ℕ) (store : HasStor
   aborts : EventMoves g stopped (Called 1 call.Abort (Done Aborted)) over
   aborts = (tt, at_once g stopped 1 call.Abort (Done Aborted) over (inr (inr (inr (inr (inr (inl (refl, λ w m. absurd m, (one_stopped, ((inl refl, refl, omega arith), refl), inr (inr (inr (refl, (refl, refl)))))))))))) tt)
 
-  pub abort_comes_through : (last : State) × (made : List Entry) × IsOpened (opening_with empty) [] (opened_empty stream_bytes) × MovesMaking g (opened_empty stream_bytes) (abort_twice bytes) last made
+  pub abort_comes_through : (last : State) × (made : List Entry) × IsOpened (opening_with (slot_limit g.version) empty) [] (opened_empty (slot_limit g.version) stream_bytes) × MovesMaking g (opened_empty (slot_limit g.version) stream_bytes) (abort_twice bytes) last made
       × (get last.sessions.records first_id ≡ None) × (last.sessions.active ≡ []) × (last.locks.requests ≡ []) × (acknowledged made ≡ [])
   abort_comes_through = (
     over,
@@ -196,7 +196,7 @@ module _ (g : Geometry) (stream_bytes : ℕ) (bytes : List ℕ) (store : HasStor
 
   -- ---- a way back
 
-  module _ (more : List ℕ) (also : length more ≤ MAX_RECORD_BYTES) (longer : 200000 ≤ stream_bytes) where
+  module _ (more : List ℕ) (also : length more ≤ record_limit g.version) (longer : 200000 ≤ stream_bytes) where
     abbrev saved : State
     saved = answered inserted one_changed call.Savepoint (Saved 0) inserted.counts
 
@@ -234,12 +234,12 @@ module _ (g : Geometry) (stream_bytes : ℕ) (bytes : List ℕ) (store : HasStor
     saves = (tt, at_once g inserted 1 call.Savepoint (Done (Saved 0)) saved (inr (inr (inr (inr (inr (inl (refl, λ w m. absurd m, (one_changed, ((inl refl, refl, omega arith), refl), inr (inl (refl, inr (inr (inr (inl (refl, (omega arith, refl, refl))))))))))))))) tt)
 
     -- the one slot of the page has room for either record
-    one_fits : (befores : ℕ) → befores ≤ MAX_RECORD_BYTES → Fits (record { image = get inserted.sessions.records first_id; claim = max (image_len (get inserted.sessions.records first_id)) befores } ∷ []) 0 (length more)
+    one_fits : (befores : ℕ) → befores ≤ record_limit g.version → Fits g.version (record { image = get inserted.sessions.records first_id; claim = max (image_len (get inserted.sessions.records first_id)) befores } ∷ []) 0 (length more)
     one_fits befores low =
         let here = ap image_len inserted_there in
-        record { there = omega arith; most = also; room = omega (arith, here, short, also, low) }
+        record { there = omega (arith, slot_limit-fills g.version, page_bytes-least g.version); most = also; room = omega (arith, here, short, also, low, record_limit-fits g.version) }
 
-    low_befores : longest (befores_at first_id saved.sessions.active) ≤ MAX_RECORD_BYTES
+    low_befores : longest (befores_at first_id saved.sessions.active) ≤ record_limit g.version
     low_befores =
         let none = ap image_len nothing_there in
         let is : longest (befores_at first_id saved.sessions.active) ≡ 0 = same_befores ∙ ap (λ n. max n 0) none in
@@ -248,16 +248,17 @@ module _ (g : Geometry) (stream_bytes : ℕ) (bytes : List ℕ) (store : HasStor
         same_befores : longest (befores_at first_id saved.sessions.active) ≡ max (image_len first_image) 0
         same_befores = ap (λ b. longest (([] ++ cond b (first_image ∷ []) []) ++ [])) (same_id first_id)
 
-    fits_again : FitsAt updating first_id (Some more)
+    fits_again : FitsAt g.version updating first_id (Some more)
     fits_again =
-        subst (λ n. Fits (slots_of saved.sessions.records saved.sessions.active first_page n) 0 (length more)) (sym one_there)
+        subst (λ n. Fits g.version (slots_of saved.sessions.records saved.sessions.active first_page n) 0 (length more)) (sym one_there)
         (one_fits (longest (befores_at first_id saved.sessions.active)) low_befores)
 
-    again : MayChange updating first_id (Some more) one_slot
+    again : MayChange g.version updating first_id (Some more) one_slot
     again =
         let before = ap image_cost nothing_there in
         let here = ap image_cost inserted_there in
         let cost = change_bytes first_id first_image (Some bytes) in
+        let few = record_limit-most g.version in
         record {
           fits = fits_again;
           logs = (omega arith, omega (arith, before, here, cost, short, also, longer));
@@ -276,7 +277,7 @@ module _ (g : Geometry) (stream_bytes : ℕ) (bytes : List ℕ) (store : HasStor
           inr (inl (
             refl,
             inr (inl (
-              (also, (page, omega arith)),
+              (also, (page, omega (arith, slot_limit-fills g.version, page_bytes-least g.version))),
               (updating, (write_lock, refl, refl, refl), (some_there (get inserted.sessions.records first_id) inserted_there, refl, (one_slot, again, refl))),
             )),
           )),
@@ -299,8 +300,8 @@ module _ (g : Geometry) (stream_bytes : ℕ) (bytes : List ℕ) (store : HasStor
     told : EventMoves g forced (TicketAsked 4 true) forced
     told = (((λ e. omega arith), (λ le. refl)), refl)
 
-    pub goes_back_and_commits : (last : State) × (made : List Entry) × IsOpened (opening_with empty) [] (opened_empty stream_bytes)
-        × MovesMaking g (opened_empty stream_bytes) (back_and_commit bytes more) last made
+    pub goes_back_and_commits : (last : State) × (made : List Entry) × IsOpened (opening_with (slot_limit g.version) empty) [] (opened_empty (slot_limit g.version) stream_bytes)
+        × MovesMaking g (opened_empty (slot_limit g.version) stream_bytes) (back_and_commit bytes more) last made
         × (get last.sessions.records first_id ≡ Some bytes) × (acknowledged made ≡ decision.Commit 1 ∷ [])
     goes_back_and_commits = (
       forced,

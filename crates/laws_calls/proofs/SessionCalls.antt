@@ -6,9 +6,9 @@ use Rattle.shore_types.specs.declared.faults.Fault.{Fault}
 use Rattle.shore_types.specs.declared.faults.Fault.TheVariants as fault
 use Rattle.shore_types.specs.declared.ids.Rid.{Rid}
 use Rattle.shore_types.specs.declared.layout.Geometry.{Geometry}
-use Rattle.shore_types.specs.declared.layout.TheConstants.{MAX_SLOTS}
 use Rattle.shore_types.specs.declared.locking.Granule.{Granule}
 use Rattle.shore_types.specs.declared.locking.Granule.TheVariants as granule
+use Rattle.shore_types.specs.Versions.{slot_limit}
 use Rattle.shore_model.specs.declared.calls.Answer.{Answer}
 use Rattle.shore_model.specs.declared.calls.Answer.TheVariants.{Began, AreInDoubt, Committed}
 use Rattle.shore_model.specs.declared.calls.Call.{Call}
@@ -128,7 +128,7 @@ module _ (g : Geometry) (o : Opening) (found : List LogRecord) (es : List Entry)
   -- ---- a prepare
 
   prepare_kept : (a : SessionTxn) → a.undo.rolling ≡ None → IsOfSession s session a → is_waiting a.txn s.locks.requests ≡ false → (global : List ℕ) (step : Step) (new : State)
-      → PrepareStep s a global step new → IsSessionsState o found (es ++ entries_told s session (call.Prepare global) step) new
+      → PrepareStep g.version s a global step new → IsSessionsState o found (es ++ entries_told s session (call.Prepare global) step) new
   prepare_kept a whole mem quiet global (Waits wait) new h =
       subst (IsSessionsState o found (es ++ entries_told s session (call.Prepare global) (Waits wait))) (sym h.4)
       (subst (λ w. IsSessionsState o found (es ++ entries_told s session (call.Prepare global) (Waits w)) (prepared s a global (granules_in_ex s a))) (sym h.3)
@@ -136,7 +136,7 @@ module _ (g : Geometry) (o : Opening) (found : List LogRecord) (es : List Entry)
       (prepare_state g o found es s k a mem.0 whole global h.1 quiet)))
   prepare_kept a whole mem quiet global (Refused f) new h =
       subst (IsSessionsState o found (es ++ entries_told s session (call.Prepare global) (Refused f))) (sym h.1)
-      (refusal_told o found es s k session (call.Prepare global) f (prepare_tells s a global f h.0))
+      (refusal_told o found es s k session (call.Prepare global) f (prepare_tells g.version s a global f h.0))
   prepare_kept a whole mem quiet global (Done answer) new h = absurd h
   prepare_kept a whole mem quiet global Nothing new h = absurd h
 
@@ -147,15 +147,15 @@ module _ (g : Geometry) (o : Opening) (found : List LogRecord) (es : List Entry)
     pub id : Rid
     pub named : record_named_by c ≡ Some id
     pub inner : IsInnerCall c
-    pub beyond : MAX_SLOTS ≤ id.slot
+    pub beyond : slot_limit g.version ≤ id.slot
 
-  no_slot_of_granule : (at : Granule) → RefusesGranule g at fault.NoRecord → (id : Rid) × (at ≡ granule.Record id) × (MAX_SLOTS ≤ id.slot)
+  no_slot_of_granule : (at : Granule) → RefusesGranule g at fault.NoRecord → (id : Rid) × (at ≡ granule.Record id) × (slot_limit g.version ≤ id.slot)
   no_slot_of_granule granule.Volume h = absurd h
   no_slot_of_granule (granule.Store store) h = let clash = h.0 in absurd cc
   no_slot_of_granule (granule.Page page) h = absurd (⊎_elim (λ store. let clash = store.0 in cc) (λ in_store. let clash = in_store.0 in cc) h)
   no_slot_of_granule (granule.Record id) h = (id, refl, h.1)
 
-  not_too_long : (bytes : List ℕ) → IsTooLong bytes fault.NoRecord → ⊥
+  not_too_long : (bytes : List ℕ) → IsTooLong g.version bytes fault.NoRecord → ⊥
   not_too_long bytes h = let clash = h.0 in cc
 
   pub names_no_slot : (c : Call) → RefusesEarly g c fault.NoRecord → NamesNoSlot c
@@ -176,14 +176,14 @@ module _ (g : Geometry) (o : Opening) (found : List LogRecord) (es : List Entry)
       record { id = is.0; named = ap (λ (x : Granule). record_named_by (call.TryLock x mode)) is.1; inner = tt; beyond = is.2 }
   names_no_slot _ h = absurd h
 
-  early_kept : (a : SessionTxn) → a.undo.rolling ≡ None → IsOfSession s session a → (c : Call) (f : Fault) → RefusesEarly g c f → IsSessionsState o found (es ++ Exchanged session (txn_of s.sessions session) (exchange c (Err f)) ∷ []) s
-  early_kept a whole mem c f h = ⊎_elim
+  early_kept : s.sessions.slots ≡ slot_limit g.version → (a : SessionTxn) → a.undo.rolling ≡ None → IsOfSession s session a → (c : Call) (f : Fault) → RefusesEarly g c f → IsSessionsState o found (es ++ Exchanged session (txn_of s.sessions session) (exchange c (Err f)) ∷ []) s
+  early_kept slots a whole mem c f h = ⊎_elim
       (refusal_told o found es s k session c f)
       (λ none.
       let names = names_no_slot c (subst (RefusesEarly g c) none h) in
       subst (λ (x : Fault). IsSessionsState o found (es ++ Exchanged session (txn_of s.sessions session) (exchange c (Err x)) ∷ []) s) (sym none)
       (absence_told o found es s k session a mem.0 mem.1 c names.inner whole
-      (subst (λ (x : Option Rid). IsSomeAnd x (IsKnownAbsent s.sessions.held a.txn s.sessions.records)) (sym names.named) (inr names.beyond))))
+      (subst (λ (x : Option Rid). IsSomeAnd x (IsKnownAbsent s.sessions.slots s.sessions.held a.txn s.sessions.records)) (sym names.named) (inr (subst (λ n. n ≤ names.id.slot) (sym slots) names.beyond)))))
       (tells_or_none f)
 
   -- ---- any call
@@ -196,7 +196,7 @@ module _ (g : Geometry) (o : Opening) (found : List LogRecord) (es : List Entry)
       → IsSessionsState o found (es ++ entries_told s session c step) new
   open_kept running a whole mem idle c step new (inl h) =
       subst (IsSessionsState o found (es ++ entries_told s session c step)) (sym h.3)
-      (subst (λ (x : Step). IsSessionsState o found (es ++ entries_told s session c x) s) (sym h.2) (early_kept a whole mem c h.0 h.1))
+      (subst (λ (x : Step). IsSessionsState o found (es ++ entries_told s session c x) s) (sym h.2) (early_kept h.4 a whole mem c h.0 h.1))
   open_kept running a whole mem idle c step new (inr (inl h)) =
       goes_on_kept g o found es session a mem.1 whole s k mem.0 (quiet_of running a mem idle) c step new h.1
   open_kept running a whole mem idle c step new (inr (inr (inl h))) =

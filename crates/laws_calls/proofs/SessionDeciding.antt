@@ -8,10 +8,11 @@ use Rattle.shore_types.specs.declared.faults.Fault.{Fault}
 use Rattle.shore_types.specs.declared.faults.Fault.TheVariants as fault
 use Rattle.shore_types.specs.declared.ids.Rid.{Rid}
 use Rattle.shore_types.specs.declared.layout.Geometry.{Geometry}
-use Rattle.shore_types.specs.declared.layout.TheConstants.{ENDING_COST, LAST_TXN, MAX_RECORD_BYTES, MAX_SAVEPOINTS, MAX_SLOTS, MAX_TRANSACTIONS, MAX_GLOBAL_ID_BYTES}
+use Rattle.shore_types.specs.declared.layout.TheConstants.{ENDING_COST, LAST_TXN, MAX_SAVEPOINTS, MAX_TRANSACTIONS}
 use Rattle.shore_types.specs.declared.locking.Granule.{Granule}
 use Rattle.shore_types.specs.declared.locking.Granule.TheVariants as granule
 use Rattle.shore_types.specs.declared.locking.Mode.{Mode}
+use Rattle.shore_types.specs.Versions.{record_limit, slot_limit, global_limit}
 use Rattle.shore_model.specs.Modes.{is_allowed}
 use Rattle.shore_model.specs.declared.calls.Answer.TheVariants.{Aborted, Began, Committed, Saved, WentBack, AreInDoubt, Prepared, Resolved}
 use Rattle.shore_model.specs.declared.calls.Call.{Call}
@@ -58,13 +59,13 @@ use Rattle.laws_calls.proofs.DecidingLocked.{GoesSomewhere, behind}
 
 -- ---- a call that asks for a lock
 
-module _ (g : Geometry) (s : State) (roomy : IsRoomyState s) (a : SessionTxn) where
+module _ (g : Geometry) (s : State) (roomy : IsRoomyState g.version s) (a : SessionTxn) where
   goes_somewhere : (c : Call) (lock : Asked) → lock_asked_by c ≡ Some lock → GoesSomewhere g s a c
   goes_somewhere c lock asks = by (lock_outcome s a c lock).answer refl
     where
       by : (r : Result Acquired Fault) → (lock_outcome s a c lock).answer ≡ r → GoesSomewhere g s a c
       by (Ok acquire.Done) is =
-          behind g s a (behind_lock s a c lock) (record { pages = roomy.pages; log = roomy.log }) c lock asks (lock, asks, is, refl)
+          behind g s a (behind_lock s a c lock) (record { slots = roomy.slots; pages = roomy.pages; log = roomy.log }) c lock asks (lock, asks, is, refl)
       by (Ok (acquire.Waiting at)) is =
           (Waits (Lock at), record (behind_lock s a c lock) { waiting = lock_waiting a c at ∷ s.waiting }, (lock, at, asks, is, refl, refl), tt)
       by (Err f) is = (
@@ -106,7 +107,7 @@ module _ (g : Geometry) where
       (λ page. ⊎_elim
       (λ beyond. inr (fault.NoRecord, (page, beyond), tt))
       (λ within. inl (page, within))
-      (within_or_beyond MAX_SLOTS id.slot))
+      (within_or_beyond (slot_limit g.version) id.slot))
       (λ none. inr (fault.NoPage, (store, none), tt))
       (page_or_not g id.page))
       (λ none. inr (fault.NoStore, none, tt))
@@ -141,7 +142,7 @@ module _ (g : Geometry) where
       (λ none. inr (fault.NoStore, inr (short, refl, none), tt))
       (store_or_not g store))
       (λ long. inr (fault.TooLong, inl (refl, long), tt))
-      (within_or_beyond (length bytes) MAX_RECORD_BYTES)
+      (within_or_beyond (length bytes) (record_limit g.version))
   asks_or_not (call.Update id bytes) served other last locks =
       ⊎_elim
       (λ short. ⊎_elim
@@ -149,7 +150,7 @@ module _ (g : Geometry) where
       (λ h. inr (h.0, inr (short, h.1), h.2))
       (id_or_not id))
       (λ long. inr (fault.TooLong, inl (refl, long), tt))
-      (within_or_beyond (length bytes) MAX_RECORD_BYTES)
+      (within_or_beyond (length bytes) (record_limit g.version))
   asks_or_not (call.Delete id) served other last locks = ⊎_elim (λ has. inl (has, (_, refl))) (λ h. inr h) (id_or_not id)
   asks_or_not (call.Scan store) served other last locks = ⊎_elim (λ has. inl (has, (_, refl))) (λ none. inr (fault.NoStore, (refl, none), tt)) (store_or_not g store)
   asks_or_not (call.Lock at mode) served other last locks = ⊎_elim (λ has. inl (has, (_, refl))) (λ h. inr h) (lock_or_not at mode)
@@ -200,7 +201,7 @@ module _ (g : Geometry) (s : State) (session : ℕ) where
     prepared_comes prepared call.InDoubt served = lists
     prepared_comes prepared c served = comes_refused c fault.IsPrepared (inr (inr (inr (inr (inr (inr (inl (running, idle, tt, prepared, refl, refl)))))))) tt
 
-    module _ (roomy : IsRoomyState s) (a : SessionTxn) (mine : IsOfSession s session a) where
+    module _ (roomy : IsRoomyState g.version s) (a : SessionTxn) (mine : IsOfSession s session a) where
       inner : (c : Call) (step : Step) (new : State) → InnerStep g s a c step new → ComesOfState step → SessionComesTo g s session c
       inner c step new h of = (step, new, inr (inr (inr (inr (inr (inl (running, idle, (a, mine, h))))))), of)
 
@@ -210,7 +211,7 @@ module _ (g : Geometry) (s : State) (session : ℕ) where
         asks c served other last locks =
             ⊎_elim
             (λ h. let goes = goes_somewhere g s roomy a c h.1.0 h.1.1 in inner c goes.0 goes.1 (inr (inl (whole, inr (inl (h.0, goes.2))))) goes.3)
-            (λ h. inner c (Refused h.0) s (inr (inl (whole, inl (h.0, h.1, refl, refl)))) (ordinary h.0 h.2))
+            (λ h. inner c (Refused h.0) s (inr (inl (whole, inl (h.0, h.1, refl, refl, roomy.slots)))) (ordinary h.0 h.2))
             (asks_or_not g c served other last locks)
 
         saves : SessionComesTo g s session call.Savepoint
@@ -233,9 +234,9 @@ module _ (g : Geometry) (s : State) (session : ℕ) where
             (λ used. refuses fault.GlobalIdInUse (inr (inl (refl, good, used))) tt)
             (unused_or_not global (in_use s.sessions)))
             (λ bad. refuses fault.BadGlobalId (inl (refl, bad)) tt)
-            (both (less_than 0 (length global)) (at_most (length global) MAX_GLOBAL_ID_BYTES))
+            (both (less_than 0 (length global)) (at_most (length global) (global_limit g.version)))
           where
-            refuses : (f : Fault) → RefusesPrepare s a global f → IsOrdinary f → SessionComesTo g s session (call.Prepare global)
+            refuses : (f : Fault) → RefusesPrepare g.version s a global f → IsOrdinary f → SessionComesTo g s session (call.Prepare global)
             refuses f h is = inner (call.Prepare global) (Refused f) s (inr (inl (whole, inr (inr (inr (inr (global, refl, (h, refl)))))))) (ordinary f is)
 
       -- a way back that is taken
@@ -304,7 +305,7 @@ module _ (g : Geometry) (s : State) (session : ℕ) where
           by None whole = asks whole c tt (λ e. cc) (λ e. cc) (λ none. none)
           by (Some r) rolls = must_abort c tt (not_taken c r rolls (λ e. cc) (λ n e. cc))
 
-  module _ (o : Opening) (found : List LogRecord) (es : List Entry) (k : IsStateAfter o found es s) (roomy : IsRoomyState s) where
+  module _ (o : Opening) (found : List LogRecord) (es : List Entry) (k : IsStateAfter o found es s) (roomy : IsRoomyState g.version s) where
     resolve_comes_to : (global : List ℕ) (asked : Outcome) → SessionComesTo g s session (call.Resolve global asked)
     resolve_comes_to global asked = by s.failed refl
       where
@@ -377,7 +378,7 @@ module _ (g : Geometry) (s : State) (session : ℕ) where
           by : (b : Bool) → is_waiting h.txn.txn s.locks.requests ≡ b → ResumeComes
           by true still = resumes spared (Lock h.at) h.is (Waits (Lock h.at)) s (h.txn, (h.active, h.of), inl (still, refl, refl)) tt
           by false done =
-              let goes = goes_somewhere g (wait_refused s w.session) (record { pages = roomy.pages; log = roomy.log }) h.txn w.call h.lock h.asked in
+              let goes = goes_somewhere g (wait_refused s w.session) (record { slots = roomy.slots; pages = roomy.pages; log = roomy.log }) h.txn w.call h.lock h.asked in
               resumes spared (Lock h.at) h.is goes.0 goes.1 (h.txn, (h.active, h.of), inr (done, goes.2)) goes.3
 
     pub resume_comes_to_something : ResumeComes

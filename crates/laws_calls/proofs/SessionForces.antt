@@ -52,7 +52,7 @@ event_forced g base es start s new (BeginTxn session) quiet h k =
     forced_grown base es (Exchanged session s.sessions.next_txn (exchange call.Begin (Ok (Began s.sessions.next_txn)))) s new h.durable (goes_on_log g s new (BeginTxn session) h) refl refl k
 event_forced g base es start s new (GiveReply a c (Ok answer)) quiet h k =
     forced_grown base es (Exchanged a.session a.txn (exchange c (Ok answer))) s new h.durable (goes_on_log g s new (GiveReply a c (Ok answer)) h)
-    (ap (λ d. cons_option d []) (inner_asks_none a.txn c h.moves.1)) (no_ticket a.txn (Ok answer) (reply_leaves s.sessions.held a.txn s.sessions.records _ c (Ok answer) h.moves.1 h.moves.2)) k
+    (ap (λ d. cons_option d []) (inner_asks_none a.txn c h.moves.1)) (no_ticket a.txn (Ok answer) (reply_leaves s.sessions.slots s.sessions.held a.txn s.sessions.records _ c (Ok answer) h.moves.1 h.moves.2)) k
 event_forced g base es start s new (GiveReply a c (Err f)) quiet h k =
     forced_grown base es (Exchanged a.session a.txn (exchange c (Err f))) s new h.durable (goes_on_log g s new (GiveReply a c (Err f)) h) refl refl k
 event_forced g base es start s new (RefuseCall session t c f) quiet h k =

@@ -1,14 +1,14 @@
 -- The worked run of one insert under locks: each event may come.
-use Rattle.std.proofs.Common.{◌≡◌, inl, inr, ⊎_elim, ◌≤◌, ℕ, List, [], ◌∷◌, ◌++◌, Bool, true, false, Some, None, refl, ap, length, arith}
+use Rattle.std.proofs.Common.{◌+◌, ◌≡◌, inl, inr, ⊎_elim, ◌≤◌, ℕ, List, [], ◌∷◌, ◌++◌, Bool, true, false, Some, None, refl, ap, length, arith}
 use Rattle.std.specs.FinMap.{empty, get, get-empty}
 use Rattle.std.specs.Ordering.{eq_by_cmp}
 use Rattle.std.proofs.lemmas.Map.Views.{tells_apart}
 use Rattle.shore_types.specs.Ids.{exact_pages, page_cmp, rid_cmp}
 use Rattle.shore_types.specs.Layout.{HasPage, HasStore}
 use Rattle.shore_types.specs.declared.layout.Geometry.{Geometry}
-use Rattle.shore_types.specs.declared.layout.TheConstants.{MAX_RECORD_BYTES}
 use Rattle.shore_types.specs.declared.locking.Granule.TheVariants as granule
 use Rattle.shore_types.specs.declared.locking.Mode.TheVariants.{IX}
+use Rattle.shore_types.specs.Versions.{page_bytes-least, record_limit, record_limit-fits, record_limit-most, slot_limit, slot_limit-fills}
 use Rattle.laws_locks.specs.CallLocks.{Asked}
 use Rattle.shore_model.specs.declared.calls.Answer.TheVariants.{Began, Committed, Inserted}
 use Rattle.shore_model.specs.declared.calls.Call.TheVariants as call
@@ -41,9 +41,9 @@ one_if false = 0
 abbrev one_slot : SlotCounts
 one_slot p = one_if (eq_by_cmp page_cmp p first_page)
 
-module _ (g : Geometry) (stream_bytes : ℕ) (bytes : List ℕ) (store : HasStore g 0) (page : HasPage g first_page) (short : length bytes ≤ MAX_RECORD_BYTES) (long : 100000 ≤ stream_bytes) where
+module _ (g : Geometry) (stream_bytes : ℕ) (bytes : List ℕ) (store : HasStore g 0) (page : HasPage g first_page) (short : length bytes ≤ record_limit g.version) (long : 96000 + record_limit g.version ≤ stream_bytes) where
   abbrev s0 : State
-  s0 = opened_empty stream_bytes
+  s0 = opened_empty (slot_limit g.version) stream_bytes
 
   abbrev s1 : State
   s1 = begun s0 1
@@ -73,11 +73,11 @@ module _ (g : Geometry) (stream_bytes : ℕ) (bytes : List ℕ) (store : HasStor
   abbrev s4 : State
   s4 = with_durable 2 s3
 
-  is_opened : IsOpened (opening_with empty) [] s0
-  is_opened = empty_is_opened stream_bytes
+  is_opened : IsOpened (opening_with (slot_limit g.version) empty) [] s0
+  is_opened = empty_is_opened (slot_limit g.version) stream_bytes
 
-  fits : FitsAt with_store first_id (Some bytes)
-  fits = record { there = omega arith; most = short; room = omega arith }
+  fits : FitsAt g.version with_store first_id (Some bytes)
+  fits = record { there = omega (arith, slot_limit-fills g.version, page_bytes-least g.version); most = short; room = omega (arith, short, record_limit-fits g.version) }
 
   nothing_there : get with_store.sessions.records first_id ≡ None
   nothing_there = get-empty rid_cmp first_id
@@ -98,8 +98,8 @@ module _ (g : Geometry) (stream_bytes : ℕ) (bytes : List ℕ) (store : HasStor
         ] refl;
   }
 
-  may : MayChange with_place first_id (Some bytes) one_slot
-  may = let before = ap image_cost nothing_there in record { fits = fits; logs = (omega arith, omega arith); grows = grows }
+  may : MayChange g.version with_place first_id (Some bytes) one_slot
+  may = let before = ap image_cost nothing_there in let few = record_limit-most g.version in record { fits = fits; logs = (omega arith, omega arith); grows = grows }
 
   begins : EventMoves g s0 (Called 1 call.Begin (Done (Began 1))) s1
   begins = (tt, at_once g s0 1 call.Begin (Done (Began 1)) s1 (inr (inr (inr (inl (refl, λ w m. absurd m, refl, (refl, omega arith, ((omega arith, omega arith), omega arith), refl, refl)))))) tt)
@@ -136,8 +136,8 @@ module _ (g : Geometry) (stream_bytes : ℕ) (bytes : List ℕ) (store : HasStor
       ++ entries_of s2 (Called 1 call.Commit (Done (Committed 2))) s3 ++ entries_of s3 (TicketAsked 2 false) s3 ++ entries_of s3 (Forced 2) s4
       ++ entries_of s4 (TicketAsked 2 true) s4 ++ []
 
-  pub session_comes_through : (last : State) × (made : List Entry) × IsOpened (opening_with empty) [] (opened_empty stream_bytes)
-      × MovesMaking g (opened_empty stream_bytes) (one_insert bytes) last made
+  pub session_comes_through : (last : State) × (made : List Entry) × IsOpened (opening_with (slot_limit g.version) empty) [] (opened_empty (slot_limit g.version) stream_bytes)
+      × MovesMaking g (opened_empty (slot_limit g.version) stream_bytes) (one_insert bytes) last made
       × (get last.sessions.records first_id ≡ Some bytes) × (acknowledged made ≡ decision.Commit 1 ∷ [])
   session_comes_through = (
     s4,
@@ -156,7 +156,7 @@ module _ (g : Geometry) (stream_bytes : ℕ) (bytes : List ℕ) (store : HasStor
       ap (λ before. record { txn = 1; previous = 0; payload = Change first_id before (Some bytes) } ∷ record { txn = 1; previous = 1; payload = Commit } ∷ []) nothing_there
 
   -- its first two events
-  pub session_inserts : (begun : State) × (done : State) × EventMoves g (opened_empty stream_bytes) (Called 1 call.Begin (Done (Began 1))) begun
+  pub session_inserts : (begun : State) × (done : State) × EventMoves g (opened_empty (slot_limit g.version) stream_bytes) (Called 1 call.Begin (Done (Began 1))) begun
       × EventMoves g begun (Called 1 (call.Insert 0 bytes) (Done (Inserted first_id))) done × (begun.log ≡ []) × (begun.durable ≡ 0)
       × (done.log ≡ record { txn = 1; previous = 0; payload = Change first_id None (Some bytes) } ∷ []) × (done.durable ≡ 0)
   session_inserts =

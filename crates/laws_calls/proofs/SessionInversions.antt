@@ -304,7 +304,7 @@ module _ (g : Geometry) (s new : State) (session : ℕ) where
   -- one that waits for a record has appended it
   abbrev pub AppendsIn : Call → ℕ → Type 0
   AppendsIn c n = (a : SessionTxn) × IsOfSession s session a × (a.undo.rolling ≡ None)
-      × ((global : List ℕ) × (c ≡ call.Prepare global) × PrepareStep s a global (Waits (Durable n)) new)
+      × ((global : List ℕ) × (c ≡ call.Prepare global) × PrepareStep g.version s a global (Waits (Durable n)) new)
 
   pub waits_on_record : (c : Call) (n : ℕ) → CallStep g s session c (Waits (Durable n)) new
       → AppendsIn c n ⊎ (CommitWaits s session c (Durable n) new ⊎ RollbackWaits s session c (Durable n) new)
@@ -318,7 +318,7 @@ module _ (g : Geometry) (s new : State) (session : ℕ) where
   waits_on_record c n (inr (inr (inr (inr (inr (inl h)))))) = inl (h.2.0, h.2.1, waits_whole c (Durable n) h.2.0 h.2.2, how h.2.2)
     where
       how : InnerStep g s h.2.0 c (Waits (Durable n)) new
-          → (global : List ℕ) × (c ≡ call.Prepare global) × PrepareStep s h.2.0 global (Waits (Durable n)) new
+          → (global : List ℕ) × (c ≡ call.Prepare global) × PrepareStep g.version s h.2.0 global (Waits (Durable n)) new
       how (inl x) = absurd (no_waits_refused (Durable n) fault.MustAbort x.2)
       how (inr (inl (whole, inl x))) = absurd (no_waits_refused (Durable n) x.0 x.2)
       how (inr (inl (whole, inr (inl x)))) = absurd (durable_no_lock n x.1.1 x.1.4)
@@ -352,7 +352,7 @@ RefusedFrom g s a c f new =
     ⊎ (((lock : Asked) × (lock_asked_by c ≡ Some lock) × MayAsk g c
     × ((((lock_outcome s a c lock).answer ≡ Err f) × (new ≡ behind_lock s a c lock))
     ⊎ (((lock_outcome s a c lock).answer ≡ Ok acquire.Done) × RefusesBehind g (behind_lock s a c lock) a c f new)))
-    ⊎ ((global : List ℕ) × (c ≡ call.Prepare global) × RefusesPrepare s a global f × (new ≡ s)))
+    ⊎ ((global : List ℕ) × (c ≡ call.Prepare global) × RefusesPrepare g.version s a global f × (new ≡ s)))
 
 module _ (g : Geometry) (s new : State) (session : ℕ) where
   pub record RefusedIn (c : Call) (f : Fault) : Type 0 where

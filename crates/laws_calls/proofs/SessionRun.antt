@@ -1,14 +1,14 @@
 -- The worked run of two sessions: each event may come.
-use Rattle.std.proofs.Common.{◌≡◌, inl, inr, ⊎_elim, ◌≤◌, ℕ, List, [], ◌∷◌, Bool, true, false, Some, None, refl, ap, length, arith}
+use Rattle.std.proofs.Common.{◌+◌, ◌≡◌, inl, inr, ⊎_elim, ◌≤◌, ℕ, List, [], ◌∷◌, Bool, true, false, Some, None, refl, ap, length, arith}
 use Rattle.std.specs.FinMap.{empty, get, get-empty}
 use Rattle.std.specs.Ordering.{eq_by_cmp}
 use Rattle.std.proofs.lemmas.Map.Views.{tells_apart}
 use Rattle.shore_types.specs.Ids.{exact_pages, page_cmp, rid_cmp}
 use Rattle.shore_types.specs.Layout.{HasPage, HasStore}
 use Rattle.shore_types.specs.declared.layout.Geometry.{Geometry}
-use Rattle.shore_types.specs.declared.layout.TheConstants.{MAX_RECORD_BYTES}
 use Rattle.shore_types.specs.declared.locking.Granule.TheVariants.{Record}
 use Rattle.shore_types.specs.declared.locking.Mode.TheVariants.{SH}
+use Rattle.shore_types.specs.Versions.{page_bytes-least, record_limit, record_limit-fits, record_limit-most, slot_limit, slot_limit-fills}
 use Rattle.shore_model.specs.declared.calls.Answer.TheVariants.{Began, Committed, Got, Inserted}
 use Rattle.shore_model.specs.declared.calls.Call.{Call}
 use Rattle.shore_model.specs.declared.calls.Call.TheVariants as call
@@ -44,11 +44,11 @@ one_if false = 0
 abbrev one_slot : SlotCounts
 one_slot p = one_if (eq_by_cmp page_cmp p first_page)
 
-module _ (g : Geometry) (stream_bytes : ℕ) (bytes : List ℕ) (store : HasStore g 0) (page : HasPage g first_page) (short : length bytes ≤ MAX_RECORD_BYTES) (long : 100000 ≤ stream_bytes) where
+module _ (g : Geometry) (stream_bytes : ℕ) (bytes : List ℕ) (store : HasStore g 0) (page : HasPage g first_page) (short : length bytes ≤ record_limit g.version) (long : 96000 + record_limit g.version ≤ stream_bytes) where
   -- ---- states
 
   abbrev opened : State
-  opened = opened_empty stream_bytes
+  opened = opened_empty (slot_limit g.version) stream_bytes
 
   abbrev begun_one : State
   begun_one = begun opened 1
@@ -91,14 +91,14 @@ module _ (g : Geometry) (stream_bytes : ℕ) (bytes : List ℕ) (store : HasStor
 
   -- ---- events
 
-  is_opened : IsOpened (opening_with empty) [] opened
-  is_opened = empty_is_opened stream_bytes
+  is_opened : IsOpened (opening_with (slot_limit g.version) empty) [] opened
+  is_opened = empty_is_opened (slot_limit g.version) stream_bytes
 
   begins_one : EventMoves g opened (Called 1 call.Begin (Done (Began 1))) begun_one
   begins_one = (tt, at_once g opened 1 call.Begin (Done (Began 1)) begun_one (inr (inr (inr (inl (refl, λ w m. absurd m, refl, (refl, omega arith, ((omega arith, omega arith), omega arith), refl, refl)))))) tt)
 
-  fits : FitsAt inserting first_id (Some bytes)
-  fits = record { there = omega arith; most = short; room = omega arith }
+  fits : FitsAt g.version inserting first_id (Some bytes)
+  fits = record { there = omega (arith, slot_limit-fills g.version, page_bytes-least g.version); most = short; room = omega (arith, short, record_limit-fits g.version) }
 
   nothing_there : get inserting.sessions.records first_id ≡ None
   nothing_there = get-empty rid_cmp first_id
@@ -119,8 +119,8 @@ module _ (g : Geometry) (stream_bytes : ℕ) (bytes : List ℕ) (store : HasStor
         ] refl;
   }
 
-  may : MayChange (behind_place inserting one first_id) first_id (Some bytes) one_slot
-  may = let before = ap image_cost nothing_there in record { fits = fits; logs = (omega arith, omega arith); grows = grows }
+  may : MayChange g.version (behind_place inserting one first_id) first_id (Some bytes) one_slot
+  may = let before = ap image_cost nothing_there in let few = record_limit-most g.version in record { fits = fits; logs = (omega arith, omega arith); grows = grows }
 
   inserts : EventMoves g begun_one (Called 1 insert (Done (Inserted first_id))) inserted
   inserts = (
@@ -149,7 +149,7 @@ module _ (g : Geometry) (stream_bytes : ℕ) (bytes : List ℕ) (store : HasStor
       not_in = refl
 
       room : MayBegin inserted
-      room = let before = ap image_cost nothing_there in let cost = change_bytes first_id (get inserting.sessions.records first_id) (Some bytes) in ((omega arith, omega arith), omega arith)
+      room = let before = ap image_cost nothing_there in let cost = change_bytes first_id (get inserting.sessions.records first_id) (Some bytes) in let few = record_limit-most g.version in ((omega arith, omega arith), omega arith)
 
   called_two : CallStep g begun_two 2 (call.Get first_id) (Waits (Lock (Record first_id))) two_waits
   called_two = inr (inr (inr (inr (inr (inl (
@@ -161,7 +161,7 @@ module _ (g : Geometry) (stream_bytes : ℕ) (bytes : List ℕ) (store : HasStor
       inr (inl (
         refl,
         inr (inl (
-          (page, omega arith),
+          (page, omega (arith, slot_limit-fills g.version, page_bytes-least g.version)),
           (share, Record first_id, refl, refl, refl, refl),
         )),
       )),
@@ -204,8 +204,8 @@ module _ (g : Geometry) (stream_bytes : ℕ) (bytes : List ℕ) (store : HasStor
         ),
       )) tt
 
-  pub two_come_through : (last : State) × (made : List Entry) × IsOpened (opening_with empty) [] (opened_empty stream_bytes)
-      × MovesMaking g (opened_empty stream_bytes) (two_sessions bytes) last made × (made ≡ told_to_two bytes)
+  pub two_come_through : (last : State) × (made : List Entry) × IsOpened (opening_with (slot_limit g.version) empty) [] (opened_empty (slot_limit g.version) stream_bytes)
+      × MovesMaking g (opened_empty (slot_limit g.version) stream_bytes) (two_sessions bytes) last made × (made ≡ told_to_two bytes)
   two_come_through = (
     two_has,
     told_to_two bytes,

@@ -100,7 +100,7 @@ module _ (o : Opening) (found : List LogRecord) (es : List Entry) (s : State) (k
       whole_told (length found) o (es ++ made) new.log after.sessions.decides
       ∙ ap (λ made. serial_after o (es ++ made)) h.entries
       ∙ ap (serial_after o) (sym (append_assoc es (d ∷ []) (Exchanged a.session a.txn x ∷ [])))
-      ∙ more_now mid ((es ++ d ∷ []) ++ Exchanged a.session a.txn x ∷ []) (decisions-exchanged (es ++ d ∷ []) a.txn a.session x) (all_kept mid a.session a.txn x (commit_is_quiet (next_number s)))
+      ∙ more_now mid ((es ++ d ∷ []) ++ Exchanged a.session a.txn x ∷ []) (decisions-exchanged (es ++ d ∷ []) a.txn a.session x) (all_kept mid a.session a.txn x (commit_is_quiet o.slots (next_number s)))
       ∙ commit_now k.sessions.sound a h.of.0.0
       ∙ ap (λ R. overlay R (written_by o es a.txn)) (sym sessions_told)
       ∙ ap (λ t. overlay (records_committed s.log) (written_by o es t)) (sym its)

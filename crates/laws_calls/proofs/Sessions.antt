@@ -134,11 +134,11 @@ seats_stay s left es same stays =
     ap (λ (seats : ℕ → SessionState). record left { seats = seats }) (same ∙ after)
 
 -- a reply leaves them
-pub reply_seats : (s : Sessions) (a : SessionTxn) (c : Call) (reply : Result Answer Fault) → IsInnerCall c → MayReplyInPlace s.held a.txn s.records (length a.undo.marks) c reply
+pub reply_seats : (s : Sessions) (a : SessionTxn) (c : Call) (reply : Result Answer Fault) → IsInnerCall c → MayReplyInPlace s.slots s.held a.txn s.records (length a.undo.marks) c reply
     → (left : Sessions) → left.seats ≡ s.seats → left ≡ seated s (entries_by s (GiveReply a c reply)) left
 reply_seats s a c reply inner may left same =
     seats_stay s left (entries_by s (GiveReply a c reply)) same
-    (seat_stays s a.session (λ p. after_own_reply p reply) (reply_leaves s.held a.txn s.records (length a.undo.marks) c reply inner may).stays)
+    (seat_stays s a.session (λ p. after_own_reply p reply) (reply_leaves s.slots s.held a.txn s.records (length a.undo.marks) c reply inner may).stays)
 
 pub refused_seats : (s : Sessions) (session t : ℕ) (c : Call) (f : Fault) → s ≡ seated s (entries_by s (RefuseCall session t c f)) s
 refused_seats s session t c f = seats_stay s s (entries_by s (RefuseCall session t c f)) refl (seat_stays s session (λ p. p) (λ p. refl))

@@ -65,7 +65,7 @@ module _ (g : Geometry) (s new : State) where
   commit_leaves a (Refused f) h end = absurd h
   commit_leaves a Nothing h end = absurd h
 
-  prepare_leaves : (a : SessionTxn) (global : List ℕ) (step : Step) → PrepareStep s a global step new → IsEnd step → new.waiting ≡ s.waiting
+  prepare_leaves : (a : SessionTxn) (global : List ℕ) (step : Step) → PrepareStep g.version s a global step new → IsEnd step → new.waiting ≡ s.waiting
   prepare_leaves a global (Waits wait) h end = absurd end
   prepare_leaves a global (Refused f) h end = ap (λ (x : State). x.waiting) h.1
   prepare_leaves a global (Done answer) h end = absurd h

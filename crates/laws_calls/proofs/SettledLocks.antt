@@ -242,7 +242,7 @@ module _ (g : Geometry) (o : Opening) (found : List LogRecord) (es : List Entry)
       commits (Waits wait) x = absurd x
       commits Nothing x = absurd x
   inner_so a of quiet step new (inr (inl (whole, inr (inr (inr (inl h)))))) = inl (savepoint_table s a step new h.1).locks
-  inner_so a of quiet step new (inr (inl (whole, inr (inr (inr (inr h)))))) = inl (prepare_locks s a h.0 step new h.2)
+  inner_so a of quiet step new (inr (inl (whole, inr (inr (inr (inr h)))))) = inl (prepare_locks g.version s a h.0 step new h.2)
   inner_so a of quiet step new (inr (inr (inl h))) = inl (back_table s a h.0 step new h.3).locks
   inner_so a of quiet step new (inr (inr (inr h))) = aborts step h.1
     where

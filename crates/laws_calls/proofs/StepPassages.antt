@@ -1,5 +1,6 @@
 -- Each step of a session as events of the sessions: a commit and its answer, and steps behind which each other call waits on.
 use Rattle.std.proofs.Common.{◌≡◌, ◌⊎◌, inl, inr, ⊎_elim, ◌∷◌, ◌≤◌, ℕ, List, [], false, None, Ok, Err, refl, sym, ap, subst, ◌∙◌}
+use Rattle.shore_types.specs.Versions.{slot_limit}
 use Rattle.std.specs.Prelude.{IsSomeAnd, IsTrue, Option}
 use Rattle.shore_types.specs.declared.faults.Fault.{Fault}
 use Rattle.shore_types.specs.declared.faults.Fault.TheVariants as fault
@@ -97,7 +98,7 @@ module _ (g : Geometry) (o : Opening) (found : List LogRecord) (es : List Entry)
   commit_passes a whole mem idle (Refused f) new h = absurd h
   commit_passes a whole mem idle Nothing new h = absurd h
 
-  prepare_passes : (a : SessionTxn) → a.undo.rolling ≡ None → IsOfSession s session a → DoesNotWait s session → (global : List ℕ) (step : Step) (new : State) → PrepareStep s a global step new
+  prepare_passes : (a : SessionTxn) → a.undo.rolling ≡ None → IsOfSession s session a → DoesNotWait s session → (global : List ℕ) (step : Step) (new : State) → PrepareStep g.version s a global step new
       → CallPasses g s session new (entries_told s session (call.Prepare global) step)
   prepare_passes a whole mem idle global (Waits wait) new h = inr (inr (inr (record {
     txn = a;
@@ -112,25 +113,25 @@ module _ (g : Geometry) (o : Opening) (found : List LogRecord) (es : List Entry)
         ap (λ w. entries_told s session (call.Prepare global) (Waits w)) h.3
         ∙ ap (λ t. Decided (decision.Prepare t global) ∷ []) (its_txn s.sessions a session mem.0.1 mem.1);
   })))
-  prepare_passes a whole mem idle global (Refused f) new h = inl (told_passes g o found es session s new (call.Prepare global) f (prepare_tells s a global f h.0) (inl h.1))
+  prepare_passes a whole mem idle global (Refused f) new h = inl (told_passes g o found es session s new (call.Prepare global) f (prepare_tells g.version s a global f h.0) (inl h.1))
   prepare_passes a whole mem idle global (Done answer) new h = absurd h
   prepare_passes a whole mem idle global Nothing new h = absurd h
 
-  early_passes : (a : SessionTxn) → a.undo.rolling ≡ None → IsOfSession s session a → (c : Call) (f : Fault) → RefusesEarly g c f → GoesQuietly g session s s (Exchanged session (txn_of s.sessions session) (exchange c (Err f)) ∷ [])
-  early_passes a whole mem c f h = ⊎_elim
+  early_passes : s.sessions.slots ≡ slot_limit g.version → (a : SessionTxn) → a.undo.rolling ≡ None → IsOfSession s session a → (c : Call) (f : Fault) → RefusesEarly g c f → GoesQuietly g session s s (Exchanged session (txn_of s.sessions session) (exchange c (Err f)) ∷ [])
+  early_passes slots a whole mem c f h = ⊎_elim
       (λ nothing. told_passes g o found es session s s c f nothing (inl refl))
       (λ none.
       let names = names_no_slot g o found es s k session c (subst (RefusesEarly g c) none h) in
       subst (λ (x : Fault). GoesQuietly g session s s (Exchanged session (txn_of s.sessions session) (exchange c (Err x)) ∷ [])) (sym none)
       (absence_passes g o found es session a mem.1 whole s k mem.0 c names.inner
-      (subst (λ (x : Option Rid). IsSomeAnd x (IsKnownAbsent s.sessions.held a.txn s.sessions.records)) (sym names.named) (inr names.beyond))))
+      (subst (λ (x : Option Rid). IsSomeAnd x (IsKnownAbsent s.sessions.slots s.sessions.held a.txn s.sessions.records)) (sym names.named) (inr (subst (λ n. n ≤ names.id.slot) (sym slots) names.beyond)))))
       (tells_or_none f)
 
   open_passes : s.failed ≡ false → (a : SessionTxn) → a.undo.rolling ≡ None → IsOfSession s session a → DoesNotWait s session → (c : Call) (step : Step) (new : State) → OpenStep g s a c step new
       → CallPasses g s session new (entries_told s session c step)
   open_passes running a whole mem idle c step new (inl h) =
       inl (subst (λ (n : State). GoesQuietly g session s n (entries_told s session c step)) (sym h.3)
-      (subst (λ (x : Step). GoesQuietly g session s s (entries_told s session c x)) (sym h.2) (early_passes a whole mem c h.0 h.1)))
+      (subst (λ (x : Step). GoesQuietly g session s s (entries_told s session c x)) (sym h.2) (early_passes h.4 a whole mem c h.0 h.1)))
   open_passes running a whole mem idle c step new (inr (inl h)) =
       inl (goes_on_passes g o found es session a mem.1 whole s k mem.0 (k.locks.waits running a mem.0.0 (λ w m spared same. idle w m (same ∙ mem.1))) idle c step new h.1)
   open_passes running a whole mem idle c step new (inr (inr (inl h))) =

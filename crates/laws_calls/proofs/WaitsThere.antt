@@ -100,7 +100,7 @@ module _ (g : Geometry) (s new : State) (session : ℕ) where
   commit_were a of (Refused f) h b m other = absurd h
   commit_were a of Nothing h b m other = absurd h
 
-  prepare_were : (a : SessionTxn) → a.session ≡ session → (global : List ℕ) (step : Step) → PrepareStep s a global step new → OthersWereUnderWay
+  prepare_were : (a : SessionTxn) → a.session ≡ session → (global : List ℕ) (step : Step) → PrepareStep g.version s a global step new → OthersWereUnderWay
   prepare_were a of global (Waits wait) h b m other =
       was_in s new _ b h.4 (λ now. was_it s b (now.0, was_in_txn a.txn b.txn (s.sessions.seats b.session) now.1, now.2)) m
   prepare_were a of global (Refused f) h b m other = was_in s new s b h.1 (was_it s b) m

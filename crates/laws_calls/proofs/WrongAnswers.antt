@@ -5,9 +5,10 @@ use Rattle.std.specs.Prelude.{Option, IsSome, IsTrue}
 use Rattle.shore_types.specs.Layout.{HasPage, HasSlot}
 use Rattle.shore_types.specs.declared.ids.Rid.{Rid}
 use Rattle.shore_types.specs.declared.layout.Geometry.{Geometry}
-use Rattle.shore_types.specs.declared.layout.TheConstants.{MAX_RECORD_BYTES, MAX_TRANSACTIONS}
+use Rattle.shore_types.specs.declared.layout.TheConstants.{MAX_TRANSACTIONS}
 use Rattle.shore_types.specs.declared.locking.Granule.TheVariants as granule
 use Rattle.shore_types.specs.declared.locking.Mode.TheVariants.{EX}
+use Rattle.shore_types.specs.Versions.{record_limit}
 use Rattle.shore_model.specs.Logs.{previous_of}
 use Rattle.shore_model.specs.Records.{scan_of}
 use Rattle.shore_model.specs.declared.calls.Answer.{Answer}
@@ -54,7 +55,7 @@ module _ (g : Geometry) (s new : State) (a : SessionTxn) where
   pub record Took (store : ℕ) (bytes : List ℕ) (id : Rid) : Type 0 where
     pub place : HasPlace g (store_locked s a store bytes) a store bytes id
     pub counts : SlotCounts
-    pub may : MayChange (behind_place (store_locked s a store bytes) a id) id (Some bytes) counts
+    pub may : MayChange g.version (behind_place (store_locked s a store bytes) a id) id (Some bytes) counts
     pub leaves : new ≡ answered (behind_place (store_locked s a store bytes) a id) a (call.Insert store bytes) (Inserted id) counts
 
   pub took : (store : ℕ) (bytes : List ℕ) (id : Rid) → AnsweredFrom g s a (call.Insert store bytes) (Inserted id) new → Took store bytes id
@@ -112,13 +113,13 @@ module _ (g : Geometry) (s new : State) (session : ℕ) where
   pub update_of_none : (id : Rid) (bytes : List ℕ) (answer : Answer) → get s.sessions.records id ≡ None → Answered (call.Update id bytes) answer → ⊥
   update_of_none id bytes answer none h = no_record_both (get s.sessions.records id) (updated id bytes answer h).from.behind.0 none
 
-  pub update_without_place : (id : Rid) (bytes : List ℕ) (answer : Answer) → (FitsAt s id (Some bytes) → ⊥) → Answered (call.Update id bytes) answer → ⊥
+  pub update_without_place : (id : Rid) (bytes : List ℕ) (answer : Answer) → (FitsAt g.version s id (Some bytes) → ⊥) → Answered (call.Update id bytes) answer → ⊥
   update_without_place id bytes answer none h = none (updated id bytes answer h).from.behind.2.1.fits
 
   pub update_without_room : (id : Rid) (bytes : List ℕ) (answer : Answer) → (CanLog s id (Some bytes) → ⊥) → Answered (call.Update id bytes) answer → ⊥
   update_without_room id bytes answer none h = none (updated id bytes answer h).from.behind.2.1.logs
 
-  pub update_too_long : (id : Rid) (bytes : List ℕ) (answer : Answer) → MAX_RECORD_BYTES < length bytes → Answered (call.Update id bytes) answer → ⊥
+  pub update_too_long : (id : Rid) (bytes : List ℕ) (answer : Answer) → record_limit g.version < length bytes → Answered (call.Update id bytes) answer → ⊥
   update_too_long id bytes answer long h = let short = (updated id bytes answer h).may.0 in omega arith
 
   pub delete_of_none : (id : Rid) (answer : Answer) → get s.sessions.records id ≡ None → Answered (call.Delete id) answer → ⊥
@@ -159,10 +160,10 @@ module _ (g : Geometry) (s new : State) (session : ℕ) where
   pub insert_without_room : (store : ℕ) (bytes : List ℕ) (id : Rid) → (CanLog s id (Some bytes) → ⊥) → Answered (call.Insert store bytes) (Inserted id) → ⊥
   insert_without_room store bytes id none h = none (its_place store bytes id h).may.logs
 
-  pub insert_without_place : (store : ℕ) (bytes : List ℕ) (id : Rid) → (FitsAt s id (Some bytes) → ⊥) → Answered (call.Insert store bytes) (Inserted id) → ⊥
+  pub insert_without_place : (store : ℕ) (bytes : List ℕ) (id : Rid) → (FitsAt g.version s id (Some bytes) → ⊥) → Answered (call.Insert store bytes) (Inserted id) → ⊥
   insert_without_place store bytes id none h = none (its_place store bytes id h).may.fits
 
-  pub insert_too_long : (store : ℕ) (bytes : List ℕ) (answer : Answer) → MAX_RECORD_BYTES < length bytes → Answered (call.Insert store bytes) answer → ⊥
+  pub insert_too_long : (store : ℕ) (bytes : List ℕ) (answer : Answer) → record_limit g.version < length bytes → Answered (call.Insert store bytes) answer → ⊥
   insert_too_long store bytes answer long h = let short = (inserted store bytes answer h).may.0 in omega arith
 
   pub insert_elsewhere : (store : ℕ) (bytes : List ℕ) (id : Rid) → id.page.store ≢ store → Answered (call.Insert store bytes) (Inserted id) → ⊥

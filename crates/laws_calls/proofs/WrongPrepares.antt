@@ -48,7 +48,7 @@ module _ (g : Geometry) (s new : State) (session : ℕ) (global : List ℕ) wher
       by a (inr (inr (inr x))) = let clash = x.0 in cc
 
   module _ (wait : Wait) (h : Prepares (Waits wait)) where
-    abbrev pub its : (a : SessionTxn) × IsOfSession s session a × PrepareStep s a global (Waits wait) new
+    abbrev pub its : (a : SessionTxn) × IsOfSession s session a × PrepareStep g.version s a global (Waits wait) new
     its = prepare_appended g s new session global wait h
 
     pub prepared_then : HasPrepared new session
@@ -67,7 +67,7 @@ module _ (g : Geometry) (s new : State) (session : ℕ) (global : List ℕ) wher
         by [] all = let clash : true ≡ false = sym (same_as_itself global) ∙ all.0 in cc
         by (p ∷ ps) all = by ps all.1
 
-    pub no_bad_id : ¬ IsGlobalId global → ⊥
+    pub no_bad_id : ¬ IsGlobalId g.version global → ⊥
     no_bad_id bad = bad its.2.0
 
     pub no_used_id : ¬ IsUnused s.sessions global → ⊥
@@ -110,18 +110,18 @@ module _ (g : Geometry) (s new : State) (session : ℕ) (global : List ℕ) wher
   same_name name e = cc
 
   -- a refusal of its own
-  refused_as : (f : Fault) → IsOwn f → Prepares (Refused f) → (a : SessionTxn) × IsOfSession s session a × RefusesPrepare s a global f
+  refused_as : (f : Fault) → IsOwn f → Prepares (Refused f) → (a : SessionTxn) × IsOfSession s session a × RefusesPrepare g.version s a global f
   refused_as f own h =
       let t = refused_in g s new session (call.Prepare global) f own tt (λ r is x p. cc) h in
       ⊎_elim
       (λ before. absurd before.0)
-      (⊎_elim (λ locks. let clash = locks.1 in absurd cc) (λ x. (t.txn, t.of, subst (λ name. RefusesPrepare s t.txn name f) (same_name x.0 x.1) x.2)))
+      (⊎_elim (λ locks. let clash = locks.1 in absurd cc) (λ x. (t.txn, t.of, subst (λ name. RefusesPrepare g.version s t.txn name f) (same_name x.0 x.1) x.2)))
       t.from
 
-  pub bad_though_good : IsGlobalId global → Prepares (Refused fault.BadGlobalId) → ⊥
+  pub bad_though_good : IsGlobalId g.version global → Prepares (Refused fault.BadGlobalId) → ⊥
   bad_though_good good h = by (refused_as fault.BadGlobalId tt h).0 (refused_as fault.BadGlobalId tt h).2
     where
-      by : (a : SessionTxn) → RefusesPrepare s a global fault.BadGlobalId → ⊥
+      by : (a : SessionTxn) → RefusesPrepare g.version s a global fault.BadGlobalId → ⊥
       by a (inl x) = x.1 good
       by a (inr (inl x)) = let clash = x.0 in cc
       by a (inr (inr x)) = let clash = x.0 in cc
@@ -129,7 +129,7 @@ module _ (g : Geometry) (s new : State) (session : ℕ) (global : List ℕ) wher
   pub used_though_unused : IsUnused s.sessions global → Prepares (Refused fault.GlobalIdInUse) → ⊥
   used_though_unused unused h = by (refused_as fault.GlobalIdInUse tt h).0 (refused_as fault.GlobalIdInUse tt h).2
     where
-      by : (a : SessionTxn) → RefusesPrepare s a global fault.GlobalIdInUse → ⊥
+      by : (a : SessionTxn) → RefusesPrepare g.version s a global fault.GlobalIdInUse → ⊥
       by a (inl x) = let clash = x.0 in cc
       by a (inr (inl x)) = x.2 unused
       by a (inr (inr x)) = let clash = x.0 in cc
@@ -137,7 +137,7 @@ module _ (g : Geometry) (s new : State) (session : ℕ) (global : List ℕ) wher
   pub full_though_room : ForItsTxn s session (λ a. MayPrepare s a global) → Prepares (Refused fault.LogFull) → ⊥
   full_though_room may h = let t = refused_as fault.LogFull tt h in by t.0 t.1 t.2
     where
-      by : (a : SessionTxn) → IsOfSession s session a → RefusesPrepare s a global fault.LogFull → ⊥
+      by : (a : SessionTxn) → IsOfSession s session a → RefusesPrepare g.version s a global fault.LogFull → ⊥
       by a of (inl x) = let clash = x.0 in cc
       by a of (inr (inl x)) = let clash = x.0 in cc
       by a of (inr (inr x)) = x.3 (may a of)

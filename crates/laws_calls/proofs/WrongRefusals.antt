@@ -9,6 +9,7 @@ use Rattle.shore_types.specs.declared.layout.TheConstants.{MAX_TRANSACTIONS}
 use Rattle.shore_types.specs.declared.locking.Granule.{Granule}
 use Rattle.shore_types.specs.declared.locking.Granule.TheVariants as granule
 use Rattle.shore_types.specs.declared.locking.Mode.{Mode}
+use Rattle.shore_types.specs.declared.versions.Version.{Version}
 use Rattle.shore_model.specs.declared.calls.Call.{Call}
 use Rattle.shore_model.specs.declared.calls.Call.TheVariants as call
 use Rattle.shore_model.specs.declared.rollbacks.Rollback.{Rollback}
@@ -58,10 +59,10 @@ IsOfPrepare fault.GlobalIdInUse = Unit {0}
 IsOfPrepare fault.LogFull = Unit {0}
 IsOfPrepare _ = ⊥
 
-pub prepare_refuses : (s : State) (a : SessionTxn) (global : List ℕ) (f : Fault) → RefusesPrepare s a global f → IsOfPrepare f
-prepare_refuses s a global f (inl bad) = subst IsOfPrepare (sym bad.0) tt
-prepare_refuses s a global f (inr (inl used)) = subst IsOfPrepare (sym used.0) tt
-prepare_refuses s a global f (inr (inr full)) = subst IsOfPrepare (sym full.0) tt
+pub prepare_refuses : (v : Version) (s : State) (a : SessionTxn) (global : List ℕ) (f : Fault) → RefusesPrepare v s a global f → IsOfPrepare f
+prepare_refuses v s a global f (inl bad) = subst IsOfPrepare (sym bad.0) tt
+prepare_refuses v s a global f (inr (inl used)) = subst IsOfPrepare (sym used.0) tt
+prepare_refuses v s a global f (inr (inr full)) = subst IsOfPrepare (sym full.0) tt
 
 -- those before the locks
 abbrev pub IsEarly : Fault → Type 0
@@ -122,7 +123,7 @@ module _ (g : Geometry) where
   lock_early : (at : Granule) (mode : Mode) (f : Fault) → RefusesLock g at mode f → IsEarly f
   lock_early at mode f h = ⊎_elim (λ bad. subst IsEarly (sym bad.0) tt) (λ none. granule_early at f none.1) h
 
-  long_early : (bytes : List ℕ) (f : Fault) → IsTooLong bytes f → IsEarly f
+  long_early : (bytes : List ℕ) (f : Fault) → IsTooLong g.version bytes f → IsEarly f
   long_early bytes f h = subst IsEarly (sym h.0) tt
 
   pub refused_early : (c : Call) (f : Fault) → RefusesEarly g c f → IsEarly f
@@ -228,7 +229,7 @@ module _ (g : Geometry) (s new : State) (session : ℕ) where
       by (inr (inl (whole, inr (inr (inr (inl x)))))) =
           inside (in_one s session h.2.0 h.2.1) (subst IsInner (sym x.1.0) tt) (λ e. apart_calls call.Savepoint call.Begin (λ d. cc) x.0 e) (λ e. apart_calls call.Savepoint call.Commit (λ d. cc) x.0 e)
       by (inr (inl (whole, inr (inr (inr (inr x)))))) =
-          inside (in_one s session h.2.0 h.2.1) (prepare_inner f (prepare_refuses s h.2.0 x.0 f x.2.0)) (λ e. apart_calls (call.Prepare x.0) call.Begin (λ d. cc) x.1 e)
+          inside (in_one s session h.2.0 h.2.1) (prepare_inner f (prepare_refuses g.version s h.2.0 x.0 f x.2.0)) (λ e. apart_calls (call.Prepare x.0) call.Begin (λ d. cc) x.1 e)
           (λ e. apart_calls (call.Prepare x.0) call.Commit (λ d. cc) x.1 e)
       by (inr (inr (inl x))) =
           inside (in_one s session h.2.0 h.2.1) (⊎_elim (λ late. subst IsInner (sym late.0) tt) (λ rolls. interrupted (To x.0) rolls.1) x.3)

@@ -260,7 +260,7 @@ module _ (g : Geometry) (s new : State) (session : ℕ) where
   full_in a c (inr (inl (whole, inr (inl h)))) = absurd (no_goes a c h.1)
   full_in a c (inr (inl (whole, inr (inr (inl h))))) = absurd h.1
   full_in a c (inr (inl (whole, inr (inr (inr (inl h)))))) = h.1.1
-  full_in a c (inr (inl (whole, inr (inr (inr (inr h)))))) = absurd (prepare_refuses s a h.0 fault.TooManySavepoints h.2.0)
+  full_in a c (inr (inl (whole, inr (inr (inr (inr h)))))) = absurd (prepare_refuses g.version s a h.0 fault.TooManySavepoints h.2.0)
   full_in a c (inr (inr (inl h))) =
       ⊎_elim (λ late. let clash = late.0 in absurd cc) (λ rolls. absurd (no_interrupt fault.TooManySavepoints (λ e. cc) (λ x. x) rolls.1.0 rolls.1.2)) h.3
   full_in a c (inr (inr (inr h))) = absurd (no_interrupt fault.TooManySavepoints (λ e. cc) (λ x. x) h.1.0 h.1.2)

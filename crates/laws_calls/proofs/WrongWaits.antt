@@ -57,19 +57,19 @@ module _ (g : Geometry) (s new : State) (session : ℕ) where
       by a (inr (inr (inr x))) = absurd x.1
 
   -- a prepare goes last in the log, and waits for its record
-  pub prepare_appended : (global : List ℕ) (wait : Wait) → WaitsFor (call.Prepare global) wait → (a : SessionTxn) × IsOfSession s session a × PrepareStep s a global (Waits wait) new
+  pub prepare_appended : (global : List ℕ) (wait : Wait) → WaitsFor (call.Prepare global) wait → (a : SessionTxn) × IsOfSession s session a × PrepareStep g.version s a global (Waits wait) new
   prepare_appended global wait h = let t = waits_of g s new session (call.Prepare global) wait tt h in (t.0, t.1, by t.0 t.2)
     where
       same_global : (name : List ℕ) → call.Prepare global ≡ call.Prepare name → name ≡ global
       same_global name e = cc
 
-      by : (a : SessionTxn) → InnerStep g s a (call.Prepare global) (Waits wait) new → PrepareStep s a global (Waits wait) new
+      by : (a : SessionTxn) → InnerStep g s a (call.Prepare global) (Waits wait) new → PrepareStep g.version s a global (Waits wait) new
       by a (inl x) = absurd (no_waits_refused wait fault.MustAbort x.2)
       by a (inr (inl (whole, inl x))) = absurd x.1
       by a (inr (inl (whole, inr (inl x)))) = absurd x.0
       by a (inr (inl (whole, inr (inr (inl x))))) = let clash = x.0 in absurd cc
       by a (inr (inl (whole, inr (inr (inr (inl x)))))) = absurd x.1
-      by a (inr (inl (whole, inr (inr (inr (inr x)))))) = subst (λ name. PrepareStep s a name (Waits wait) new) (same_global x.0 x.1) x.2
+      by a (inr (inl (whole, inr (inr (inr (inr x)))))) = subst (λ name. PrepareStep g.version s a name (Waits wait) new) (same_global x.0 x.1) x.2
       by a (inr (inr (inl x))) = absurd x.3
       by a (inr (inr (inr x))) = absurd x.1
 

@@ -4,6 +4,8 @@ use Rattle.std.specs.Prelude.{◌≡◌, ◌<◌, ◌≤◌, ℕ, List, [], ◌�
 use Rattle.std.specs.Cmp.Lexicographic.{pointwise}
 use Rattle.std.specs.List.{AllByRecursion}
 use Rattle.shore_types.specs.declared.layout.TheConstants.{LONGEST_FRAME, MAX_TRANSACTIONS}
+use Rattle.shore_types.specs.declared.versions.Version.{Version}
+use Rattle.shore_types.specs.Versions.{slot_limit}
 use Rattle.shore_model.specs.declared.calls.Call.{Call}
 use Rattle.shore_model.specs.declared.calls.Call.TheVariants as call
 use Rattle.shore_model.specs.declared.histories.Entry.{Entry}
@@ -53,8 +55,9 @@ pub record IsForced (base : ℕ) (es : List Entry) (s : State) : Type 0 where
   pub tickets : AreTickets base s.log es
 
 -- its pages have room for all that stands and for all that may come back, and so has the log
-pub record IsRoomyState (s : State) : Type 0 where
-  pub pages : Claimed s.sessions.records s.sessions.active s.counts
+pub record IsRoomyState (v : Version) (s : State) : Type 0 where
+  pub slots : s.sessions.slots ≡ slot_limit v
+  pub pages : Claimed v s.sessions.records s.sessions.active s.counts
   pub log : HasLogRoom LONGEST_FRAME (length s.sessions.prepared) s.sessions.active (log_room s)
 
 -- ---- from an open to a crash

@@ -11,11 +11,13 @@ use Rattle.shore_types.specs.declared.faults.Fault.{Fault}
 use Rattle.shore_types.specs.declared.faults.Fault.TheVariants as fault
 use Rattle.shore_types.specs.declared.ids.Rid.{Rid}
 use Rattle.shore_types.specs.declared.layout.Geometry.{Geometry}
-use Rattle.shore_types.specs.declared.layout.TheConstants.{MAX_RECORD_BYTES, MAX_SLOTS, MAX_TRANSACTIONS}
+use Rattle.shore_types.specs.declared.layout.TheConstants.{MAX_TRANSACTIONS}
 use Rattle.shore_types.specs.declared.locking.Granule.{Granule}
 use Rattle.shore_types.specs.declared.locking.Granule.TheVariants as granule
 use Rattle.shore_types.specs.declared.locking.Mode.{Mode}
 use Rattle.shore_types.specs.declared.locking.Mode.TheVariants.{EX}
+use Rattle.shore_types.specs.declared.versions.Version.{Version}
+use Rattle.shore_types.specs.Versions.{record_limit, slot_limit}
 use Rattle.shore_model.specs.declared.calls.Answer.{Answer}
 use Rattle.shore_model.specs.declared.calls.Answer.TheVariants.{Aborted, AreInDoubt, Began, Committed, Deleted, Got, Inserted, Locked, Prepared, Resolved, Scanned, Updated}
 use Rattle.shore_model.specs.declared.calls.Call.{Call}
@@ -95,8 +97,8 @@ HasLocked s a c locked = (lock : Asked) × (lock_asked_by c ≡ Some lock) × ((
 abbrev pub MayAsk : Geometry → Call → Type 0
 MayAsk g (call.Get id) = HasSlot g id
 MayAsk g (call.GetForUpdate id) = HasSlot g id
-MayAsk g (call.Insert store bytes) = IsShort bytes × HasStore g store
-MayAsk g (call.Update id bytes) = IsShort bytes × HasSlot g id
+MayAsk g (call.Insert store bytes) = IsShort g.version bytes × HasStore g store
+MayAsk g (call.Update id bytes) = IsShort g.version bytes × HasSlot g id
 MayAsk g (call.Delete id) = HasSlot g id
 MayAsk g (call.Scan store) = HasStore g store
 MayAsk g (call.Lock asked mode) = IsTrue (is_allowed (level_of asked) mode) × HasGranule g asked
@@ -114,7 +116,7 @@ MayAsk g call.InDoubt = ⊥
 abbrev pub RefusesId : Geometry → Rid → Fault → Type 0
 RefusesId g id fault.NoStore = ¬ HasStore g id.page.store
 RefusesId g id fault.NoPage = HasStore g id.page.store × ¬ HasPage g id.page
-RefusesId g id fault.NoRecord = HasPage g id.page × (MAX_SLOTS ≤ id.slot)
+RefusesId g id fault.NoRecord = HasPage g id.page × (slot_limit g.version ≤ id.slot)
 RefusesId g id _ = ⊥
 
 abbrev pub RefusesGranule : Geometry → Granule → Fault → Type 0
@@ -127,15 +129,15 @@ abbrev pub RefusesLock : Geometry → Granule → Mode → Fault → Type 0
 RefusesLock g asked mode f =
     ((f ≡ fault.BadMode) × IsFalse (is_allowed (level_of asked) mode)) ⊎ (IsTrue (is_allowed (level_of asked) mode) × RefusesGranule g asked f)
 
-abbrev pub IsTooLong : List ℕ → Fault → Type 0
-IsTooLong bytes f = (f ≡ fault.TooLong) × (MAX_RECORD_BYTES < length bytes)
+abbrev pub IsTooLong : Version → List ℕ → Fault → Type 0
+IsTooLong v bytes f = (f ≡ fault.TooLong) × (record_limit v < length bytes)
 
 -- what refuses a call of a transaction before it asks for its locks
 abbrev pub RefusesEarly : Geometry → Call → Fault → Type 0
 RefusesEarly g (call.Get id) f = RefusesId g id f
 RefusesEarly g (call.GetForUpdate id) f = RefusesId g id f
-RefusesEarly g (call.Insert store bytes) f = IsTooLong bytes f ⊎ (IsShort bytes × (f ≡ fault.NoStore) × ¬ HasStore g store)
-RefusesEarly g (call.Update id bytes) f = IsTooLong bytes f ⊎ (IsShort bytes × RefusesId g id f)
+RefusesEarly g (call.Insert store bytes) f = IsTooLong g.version bytes f ⊎ (IsShort g.version bytes × (f ≡ fault.NoStore) × ¬ HasStore g store)
+RefusesEarly g (call.Update id bytes) f = IsTooLong g.version bytes f ⊎ (IsShort g.version bytes × RefusesId g id f)
 RefusesEarly g (call.Delete id) f = RefusesId g id f
 RefusesEarly g (call.Scan store) f = (f ≡ fault.NoStore) × ¬ HasStore g store
 RefusesEarly g (call.Lock asked mode) f = RefusesLock g asked mode f
@@ -158,7 +160,7 @@ pub record ServesTxn (g : Geometry) (s : State) (t store : ℕ) (bytes : List �
   pub inside : HasPage g id.page
   pub empty : get s.sessions.records id ≡ None
   pub reached : id.slot ≤ s.counts id.page
-  pub fits : FitsAt s id (Some bytes)
+  pub fits : FitsAt g.version s id (Some bytes)
   pub free : CanLockNow s.locks.requests t (granule.Record id) EX
 
 -- of all ids that serve, the first in place order
@@ -183,11 +185,11 @@ AnswersBehind g s a (call.GetForUpdate id) answer new =
     ((bytes : List ℕ) × (get s.sessions.records id ≡ Some bytes) × (answer ≡ Got bytes)) × (new ≡ answered s a (call.GetForUpdate id) answer s.counts)
 AnswersBehind g s a (call.Insert store bytes) answer new =
     (id : Rid) × HasPlace g s a store bytes id × (answer ≡ Inserted id)
-    × ((counts : SlotCounts) × MayChange (behind_place s a id) id (Some bytes) counts × (new ≡ answered (behind_place s a id) a (call.Insert store bytes) answer counts))
+    × ((counts : SlotCounts) × MayChange g.version (behind_place s a id) id (Some bytes) counts × (new ≡ answered (behind_place s a id) a (call.Insert store bytes) answer counts))
 AnswersBehind g s a (call.Update id bytes) answer new =
-    Finds s id × (answer ≡ Updated) × ((counts : SlotCounts) × MayChange s id (Some bytes) counts × (new ≡ answered s a (call.Update id bytes) answer counts))
+    Finds s id × (answer ≡ Updated) × ((counts : SlotCounts) × MayChange g.version s id (Some bytes) counts × (new ≡ answered s a (call.Update id bytes) answer counts))
 AnswersBehind g s a (call.Delete id) answer new =
-    Finds s id × (answer ≡ Deleted) × ((counts : SlotCounts) × MayChange s id None counts × (new ≡ answered s a (call.Delete id) answer counts))
+    Finds s id × (answer ≡ Deleted) × ((counts : SlotCounts) × MayChange g.version s id None counts × (new ≡ answered s a (call.Delete id) answer counts))
 AnswersBehind g s a (call.Scan store) answer new = (answer ≡ Scanned (scan_of store s.sessions.records)) × (new ≡ answered s a (call.Scan store) answer s.counts)
 AnswersBehind g s a (call.Lock asked mode) answer new = (answer ≡ Locked) × (new ≡ answered s a (call.Lock asked mode) answer s.counts)
 AnswersBehind g s a (call.TryLock asked mode) answer new = (answer ≡ Locked) × (new ≡ answered s a (call.TryLock asked mode) answer s.counts)
@@ -215,8 +217,8 @@ RefusesBehind g s a (call.Insert store bytes) f new =
     ⊎ ((f ≡ fault.LogFull) × ((id : Rid) × HasPlace g s a store bytes id × ¬ CanLog s id (Some bytes) × (new ≡ behind_place s a id)))
     ⊎ (IsPageFault s f × (new ≡ after_refusal f s))
 RefusesBehind g s a (call.Update id bytes) f new =
-    (RefusesRead s id f ⊎ ((f ≡ fault.StoreFull) × Finds s id × ¬ FitsAt s id (Some bytes))
-    ⊎ ((f ≡ fault.LogFull) × Finds s id × FitsAt s id (Some bytes) × ¬ CanLog s id (Some bytes))) × (new ≡ after_refusal f s)
+    (RefusesRead s id f ⊎ ((f ≡ fault.StoreFull) × Finds s id × ¬ FitsAt g.version s id (Some bytes))
+    ⊎ ((f ≡ fault.LogFull) × Finds s id × FitsAt g.version s id (Some bytes) × ¬ CanLog s id (Some bytes))) × (new ≡ after_refusal f s)
 RefusesBehind g s a (call.Delete id) f new = (RefusesRead s id f ⊎ ((f ≡ fault.LogFull) × Finds s id × ¬ CanLog s id None)) × (new ≡ after_refusal f s)
 RefusesBehind g s a (call.Scan store) f new = IsPageFault s f × (new ≡ after_refusal f s)
 RefusesBehind g s a (call.Lock asked mode) f new = ⊥
@@ -338,11 +340,11 @@ OutsideStep s session c step new =
 -- the call of a transaction under way that no rollback keeps from it
 abbrev pub OpenStep : Geometry → State → SessionTxn → Call → Step → State → Type 0
 OpenStep g s a c step new =
-    ((f : Fault) × RefusesEarly g c f × (step ≡ Refused f) × (new ≡ s))
+    ((f : Fault) × RefusesEarly g c f × (step ≡ Refused f) × (new ≡ s) × (s.sessions.slots ≡ slot_limit g.version))
     ⊎ (MayAsk g c × CallGoesOn g s a c step new)
     ⊎ ((c ≡ call.Commit) × CommitStep s a step new)
     ⊎ ((c ≡ call.Savepoint) × SavepointStep s a step new)
-    ⊎ ((global : List ℕ) × (c ≡ call.Prepare global) × PrepareStep s a global step new)
+    ⊎ ((global : List ℕ) × (c ≡ call.Prepare global) × PrepareStep g.version s a global step new)
 
 -- The call of a transaction under way. Once a rollback has begun, nothing else is taken than what ends it; what needs no transaction comes to what it ever does.
 abbrev pub InnerStep : Geometry → State → SessionTxn → Call → Step → State → Type 0

@@ -7,10 +7,11 @@ use Rattle.shore_types.specs.Layout.{HasPage, HasStore}
 use Rattle.shore_types.specs.declared.ids.PageId.{PageId}
 use Rattle.shore_types.specs.declared.ids.Rid.{Rid}
 use Rattle.shore_types.specs.declared.layout.Geometry.{Geometry}
-use Rattle.shore_types.specs.declared.layout.TheConstants.{MAX_RECORD_BYTES, MAX_SAVEPOINTS, MAX_TRANSACTIONS}
+use Rattle.shore_types.specs.declared.layout.TheConstants.{MAX_SAVEPOINTS, MAX_TRANSACTIONS}
 use Rattle.shore_types.specs.declared.locking.Granule.{Granule}
 use Rattle.shore_types.specs.declared.locking.Granule.TheVariants as granule
 use Rattle.shore_types.specs.declared.locking.Mode.{Mode}
+use Rattle.shore_types.specs.Versions.{record_limit, slot_limit}
 use Rattle.shore_model.specs.Alone.{IsAbsent, record_named_by}
 use Rattle.shore_model.specs.Modes.{is_allowed}
 use Rattle.shore_model.specs.declared.calls.Call.{Call}
@@ -93,7 +94,7 @@ NamesOne {A} part c P = (at : Granule) × (x : A) × (granule_named_by c ≡ Som
 -- an insert finds, behind the lock of its store, no id that serves; an update's image does not fit its page
 abbrev pub LacksPlace : Geometry → State → ℕ → Call → Type 0
 LacksPlace g s session (call.Insert store bytes) = InItsTxn s session (λ a. (id : Rid) → ServesTxn g (store_locked s a store bytes) a.txn store bytes id → ⊥)
-LacksPlace g s session (call.Update id bytes) = FitsAt s id (Some bytes) → ⊥
+LacksPlace g s session (call.Update id bytes) = FitsAt g.version s id (Some bytes) → ⊥
 LacksPlace g s session (call.Get id) = ⊥
 LacksPlace g s session (call.GetForUpdate id) = ⊥
 LacksPlace g s session (call.Delete id) = ⊥
@@ -153,8 +154,8 @@ EarnsRefusal g s session c fault.AlreadyActive = ((c ≡ call.Begin) × IsInTxn 
 EarnsRefusal g s session c fault.TooManyTransactions = (c ≡ call.Begin) × (MAX_TRANSACTIONS ≤ txn_count s)
 EarnsRefusal g s session c fault.NoStore = NamesOne store_of_granule c (λ store. HasStore g store → ⊥)
 EarnsRefusal g s session c fault.NoPage = NamesOne page_of_granule c (λ page. HasStore g page.store × (HasPage g page → ⊥))
-EarnsRefusal g s session c fault.NoRecord = (id : Rid) × (record_named_by c ≡ Some id) × IsAbsent s.sessions.records id
-EarnsRefusal g s session c fault.TooLong = (bytes : List ℕ) × (bytes_put_by c ≡ Some bytes) × (MAX_RECORD_BYTES < length bytes)
+EarnsRefusal g s session c fault.NoRecord = (id : Rid) × (record_named_by c ≡ Some id) × IsAbsent (slot_limit g.version) s.sessions.records id
+EarnsRefusal g s session c fault.TooLong = (bytes : List ℕ) × (bytes_put_by c ≡ Some bytes) × (record_limit g.version < length bytes)
 EarnsRefusal g s session c fault.StoreFull = LacksPlace g s session c
 EarnsRefusal g s session c fault.LogFull = LacksLog g s session c
 EarnsRefusal g s session c fault.LockTableFull = LacksNode g s session c
@@ -166,7 +167,7 @@ EarnsRefusal g s session c fault.Busy = DoesNotWait s session → ⊥
 EarnsRefusal g s session c fault.NoSavepoint = (n : ℕ) × (c ≡ call.BackTo n) × InItsTxn s session (λ a. length a.undo.marks ≤ n)
 EarnsRefusal g s session c fault.TooManySavepoints = (c ≡ call.Savepoint) × InItsTxn s session (λ a. MAX_SAVEPOINTS ≤ length a.undo.marks)
 EarnsRefusal g s session c fault.IsPrepared = NeedsTxn c × HasPrepared s session
-EarnsRefusal g s session c fault.BadGlobalId = (global : List ℕ) × (c ≡ call.Prepare global) × (IsGlobalId global → ⊥)
+EarnsRefusal g s session c fault.BadGlobalId = (global : List ℕ) × (c ≡ call.Prepare global) × (IsGlobalId g.version global → ⊥)
 EarnsRefusal g s session c fault.GlobalIdInUse = (global : List ℕ) × (c ≡ call.Prepare global) × (IsUnused s.sessions global → ⊥)
 EarnsRefusal g s session c fault.NoGlobalId = Resolves c (λ global asked. (a : SessionTxn) → IsResolvable s a global ⊎ IsRollingBack s a global → ⊥)
 EarnsRefusal g s session c (fault.WouldBlock holder) = WouldWaitFor s session c holder

@@ -4,8 +4,10 @@ use Rattle.std.specs.FinMap.{from_entries, keys}
 use Rattle.shore_types.specs.Locking.{granule_cmp}
 use Rattle.shore_types.specs.declared.faults.Fault.{Fault}
 use Rattle.shore_types.specs.declared.faults.Fault.TheVariants as fault
-use Rattle.shore_types.specs.declared.layout.TheConstants.{ENDING_COST, MAX_GLOBAL_ID_BYTES}
+use Rattle.shore_types.specs.declared.layout.TheConstants.{ENDING_COST}
 use Rattle.shore_types.specs.declared.locking.Granule.{Granule}
+use Rattle.shore_types.specs.declared.versions.Version.{Version}
+use Rattle.shore_types.specs.Versions.{global_limit}
 use Rattle.shore_model.specs.declared.calls.Call.TheVariants as call
 use Rattle.shore_model.specs.declared.step.Step.{Step}
 use Rattle.shore_model.specs.declared.step.Step.TheVariants.{Done, Nothing, Refused, Waits}
@@ -22,8 +24,8 @@ use Rattle.laws_calls.specs.States.{HasRoomFor, State, next_number}
 abbrev pub granules_in_ex : State → SessionTxn → List Granule
 granules_in_ex s a = keys (from_entries {R = granule_cmp} (map (λ h. (h.granule, h.txn)) (filter (λ h. (h.txn == a.txn) && is_write h.mode) s.sessions.held)))
 
-abbrev pub IsGlobalId : List ℕ → Type 0
-IsGlobalId global = (0 < length global) × (length global ≤ MAX_GLOBAL_ID_BYTES)
+abbrev pub IsGlobalId : Version → List ℕ → Type 0
+IsGlobalId v global = (0 < length global) × (length global ≤ global_limit v)
 
 -- the Prepare goes last, and the call waits for its force
 abbrev pub prepared : State → SessionTxn → List ℕ → List Granule → State
@@ -38,15 +40,15 @@ abbrev pub MayPrepare : State → SessionTxn → List ℕ → Type 0
 MayPrepare s a global = HasRoomFor s (prepare_cost global (granules_in_ex s a) + ENDING_COST)
 
 -- the reasons to refuse a prepare, each where those before it are not given
-abbrev pub RefusesPrepare : State → SessionTxn → List ℕ → Fault → Type 0
-RefusesPrepare s a global f =
-    ((f ≡ fault.BadGlobalId) × ¬ IsGlobalId global)
-    ⊎ ((f ≡ fault.GlobalIdInUse) × IsGlobalId global × ¬ IsUnused s.sessions global)
-    ⊎ ((f ≡ fault.LogFull) × IsGlobalId global × IsUnused s.sessions global × ¬ MayPrepare s a global)
+abbrev pub RefusesPrepare : Version → State → SessionTxn → List ℕ → Fault → Type 0
+RefusesPrepare v s a global f =
+    ((f ≡ fault.BadGlobalId) × ¬ IsGlobalId v global)
+    ⊎ ((f ≡ fault.GlobalIdInUse) × IsGlobalId v global × ¬ IsUnused s.sessions global)
+    ⊎ ((f ≡ fault.LogFull) × IsGlobalId v global × IsUnused s.sessions global × ¬ MayPrepare s a global)
 
-abbrev pub PrepareStep : State → SessionTxn → List ℕ → Step → State → Type 0
-PrepareStep s a global (Waits wait) new =
-    IsGlobalId global × IsUnused s.sessions global × MayPrepare s a global × (wait ≡ Durable (next_number s)) × (new ≡ prepared s a global (granules_in_ex s a))
-PrepareStep s a global (Refused f) new = RefusesPrepare s a global f × (new ≡ s)
-PrepareStep s a global (Done answer) new = ⊥
-PrepareStep s a global Nothing new = ⊥
+abbrev pub PrepareStep : Version → State → SessionTxn → List ℕ → Step → State → Type 0
+PrepareStep v s a global (Waits wait) new =
+    IsGlobalId v global × IsUnused s.sessions global × MayPrepare s a global × (wait ≡ Durable (next_number s)) × (new ≡ prepared s a global (granules_in_ex s a))
+PrepareStep v s a global (Refused f) new = RefusesPrepare v s a global f × (new ≡ s)
+PrepareStep v s a global (Done answer) new = ⊥
+PrepareStep v s a global Nothing new = ⊥

@@ -23,7 +23,8 @@ use Rattle.laws_lives.specs.Sessions.{SessionTxn, commit_appended, locks_moved, 
 use Rattle.laws_room.specs.Claims.{SlotCounts, Grows}
 use Rattle.laws_calls.specs.States.{State, Waiting, next_number, without_waiting, log_room, page_slots}
 use Rattle.shore_types.specs.declared.faults.Device.TheVariants.{Volume}
-use Rattle.shore_types.specs.declared.layout.TheConstants.{MAX_RECORD_BYTES}
+use Rattle.shore_types.specs.declared.versions.Version.{Version}
+use Rattle.shore_types.specs.Versions.{record_limit}
 use Rattle.shore_page.specs.Room.{Fits}
 use Rattle.laws_room.specs.LogRooms.{ChangeAdmits}
 
@@ -78,12 +79,12 @@ wait_refused s session = record s { waiting = without_waiting session s.waiting 
 
 -- ---- conditions of calls
 
-abbrev pub IsShort : List ℕ → Type 0
-IsShort bytes = length bytes ≤ MAX_RECORD_BYTES
+abbrev pub IsShort : Version → List ℕ → Type 0
+IsShort v bytes = length bytes ≤ record_limit v
 
 -- the image fits into the slot of the id, with what the slot claims
-abbrev pub FitsAt : State → Rid → Image → Type 0
-FitsAt s id image = Fits (page_slots s id.page) id.slot (image_len image)
+abbrev pub FitsAt : Version → State → Rid → Image → Type 0
+FitsAt v s id image = Fits v (page_slots s id.page) id.slot (image_len image)
 
 -- the log has room for the Change that puts this image there, and for its undo
 abbrev pub CanLog : State → Rid → Image → Type 0
@@ -97,8 +98,8 @@ IsPageFault s f =
     ⊎ ((n : ℕ) × (f ≡ fault.NeedForce n) × (s.durable < n) × (n ≤ length s.log))
 
 -- The image may go to the id: it fits there, and log and undo have room. The page has these slots then.
-pub record MayChange (s : State) (id : Rid) (image : Image) (counts : SlotCounts) : Type 0 where
-  pub fits : FitsAt s id image
+pub record MayChange (v : Version) (s : State) (id : Rid) (image : Image) (counts : SlotCounts) : Type 0 where
+  pub fits : FitsAt v s id image
   pub logs : CanLog s id image
   pub grows : Grows s.counts counts id
 

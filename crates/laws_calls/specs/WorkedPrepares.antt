@@ -4,6 +4,7 @@ use Rattle.std.specs.Prelude.{◌≡◌, ℕ, List, [], ◌∷◌}
 use Rattle.std.specs.FinMap.{empty, get}
 use Rattle.shore_types.specs.Images.{Image}
 use Rattle.shore_types.specs.declared.layout.Geometry.{Geometry}
+use Rattle.shore_types.specs.Versions.{slot_limit}
 use Rattle.shore_model.specs.declared.histories.Decision.{Decision}
 use Rattle.shore_model.specs.declared.histories.Decision.TheVariants as decision
 use Rattle.shore_model.specs.declared.histories.Entry.{Entry}
@@ -31,7 +32,7 @@ prepare_and_resolve bytes asked =
 -- the run may come, and leaves this image under the id; that it was prepared and then decided is acknowledged, and it has left nothing else
 abbrev pub ResolvesThrough : Geometry → ℕ → List ℕ → Outcome → Image → Decision → Type 0
 ResolvesThrough g stream_bytes bytes asked image decided =
-    (last : State) × (made : List Entry) × IsOpened (opening_with empty) [] (opened_empty stream_bytes)
-    × MovesMaking g (opened_empty stream_bytes) (prepare_and_resolve bytes asked) last made
+    (last : State) × (made : List Entry) × IsOpened (opening_with (slot_limit g.version) empty) [] (opened_empty (slot_limit g.version) stream_bytes)
+    × MovesMaking g (opened_empty (slot_limit g.version) stream_bytes) (prepare_and_resolve bytes asked) last made
     × (get last.sessions.records first_id ≡ image) × (acknowledged made ≡ decision.Prepare 1 short_name ∷ decided ∷ [])
     × (last.sessions.prepared ≡ []) × (last.sessions.resolving ≡ []) × (last.sessions.active ≡ []) × (last.locks.requests ≡ [])

@@ -11,9 +11,9 @@ use Rattle.laws_calls.specs.Events.{Called, Forced, ManagerEvent, TicketAsked}
 use Rattle.laws_calls.specs.States.{State}
 
 -- an open of an empty log, over pages with no slot
-abbrev pub opened_empty : ℕ → State
-opened_empty stream_bytes = record {
-  sessions = just_opened empty;
+abbrev pub opened_empty : ℕ → ℕ → State
+opened_empty slots stream_bytes = record {
+  sessions = just_opened slots empty;
   locks = record { limit = 16; requests = [] };
   counts = λ p. 0;
   log = [];

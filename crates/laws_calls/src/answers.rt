@@ -6,7 +6,7 @@ ghost use Rattle.std.specs.Ordering.{nat_cmp};
 ghost use Rattle.shore_types.specs.Layout.{HasGranule, HasPage, HasSlot, HasStore};
 ghost use Rattle.shore_types.specs.declared.ids.Rid.{Rid};
 ghost use Rattle.shore_types.specs.declared.layout.Geometry.{Geometry};
-ghost use Rattle.shore_types.specs.declared.layout.TheConstants.{MAX_RECORD_BYTES, MAX_TRANSACTIONS};
+ghost use Rattle.shore_types.specs.declared.layout.TheConstants.{MAX_TRANSACTIONS};
 ghost use Rattle.shore_types.specs.declared.locking.Granule.{Granule};
 ghost use Rattle.shore_model.specs.declared.calls.Answer.{Answer};
 ghost use Rattle.shore_model.specs.declared.calls.Answer.TheVariants.{AreInDoubt, Began, Committed, Deleted, Got, Inserted, Locked, Scanned, Updated};
@@ -36,6 +36,7 @@ ghost use Rattle.shore_model.specs.declared.calls.Call.TheVariants as call;
 ghost use Rattle.shore_path.specs.declared.answers.Acquired.TheVariants as acquire;
 ghost use Rattle.laws_locks.specs.CallLocks.{Asked, CanLockNow, lock_asked_by};
 ghost use Rattle.laws_calls.specs.Shapes.{ForItsTxn, store_locked};
+ghost use Rattle.shore_types.specs.Versions.{record_limit};
 
 /// Answers that must not come, though each other condition of theirs may hold.
 pub fn wrong_answers_do_not_come()
@@ -52,11 +53,11 @@ pub fn wrong_answers_do_not_come()
     ensures update_of_none { (g : Geometry) (s new : State) (session : ℕ) (id : Rid) (bytes : List ℕ) (answer : Answer) →
         get s.sessions.records id ≡ None → CallStep g s session (Update id bytes) (Done answer) new → ⊥ }
     ensures update_without_place { (g : Geometry) (s new : State) (session : ℕ) (id : Rid) (bytes : List ℕ) (answer : Answer) →
-        ¬ FitsAt s id (Some bytes) → CallStep g s session (Update id bytes) (Done answer) new → ⊥ }
+        ¬ FitsAt g.version s id (Some bytes) → CallStep g s session (Update id bytes) (Done answer) new → ⊥ }
     ensures update_without_room { (g : Geometry) (s new : State) (session : ℕ) (id : Rid) (bytes : List ℕ) (answer : Answer) →
         ¬ CanLog s id (Some bytes) → CallStep g s session (Update id bytes) (Done answer) new → ⊥ }
     ensures update_too_long { (g : Geometry) (s new : State) (session : ℕ) (id : Rid) (bytes : List ℕ) (answer : Answer) →
-        MAX_RECORD_BYTES < length bytes → CallStep g s session (Update id bytes) (Done answer) new → ⊥ }
+        record_limit g.version < length bytes → CallStep g s session (Update id bytes) (Done answer) new → ⊥ }
     ensures delete_of_none { (g : Geometry) (s new : State) (session : ℕ) (id : Rid) (answer : Answer) →
         get s.sessions.records id ≡ None → CallStep g s session (Delete id) (Done answer) new → ⊥ }
     ensures delete_without_room { (g : Geometry) (s new : State) (session : ℕ) (id : Rid) (answer : Answer) →
@@ -150,9 +151,9 @@ pub fn wrong_inserts_do_not_come()
     ensures without_room { (g : Geometry) (s new : State) (session store : ℕ) (bytes : List ℕ) (id : Rid) →
         ¬ CanLog s id (Some bytes) → CallStep g s session (Insert store bytes) (Done (Inserted id)) new → ⊥ }
     ensures without_place { (g : Geometry) (s new : State) (session store : ℕ) (bytes : List ℕ) (id : Rid) →
-        ¬ FitsAt s id (Some bytes) → CallStep g s session (Insert store bytes) (Done (Inserted id)) new → ⊥ }
+        ¬ FitsAt g.version s id (Some bytes) → CallStep g s session (Insert store bytes) (Done (Inserted id)) new → ⊥ }
     ensures too_long { (g : Geometry) (s new : State) (session store : ℕ) (bytes : List ℕ) (answer : Answer) →
-        MAX_RECORD_BYTES < length bytes → CallStep g s session (Insert store bytes) (Done answer) new → ⊥ }
+        record_limit g.version < length bytes → CallStep g s session (Insert store bytes) (Done answer) new → ⊥ }
     ensures elsewhere { (g : Geometry) (s new : State) (session store : ℕ) (bytes : List ℕ) (id : Rid) →
         id.page.store ≢ store → CallStep g s session (Insert store bytes) (Done (Inserted id)) new → ⊥ }
     ensures outside { (g : Geometry) (s new : State) (session store : ℕ) (bytes : List ℕ) (id : Rid) →

@@ -19,13 +19,14 @@ ghost use Rattle.laws_calls.specs.GivingUp.{GivesUp, GiveUpStep};
 ghost use Rattle.laws_calls.specs.Midway.{but_doomed};
 ghost use Rattle.laws_calls.specs.SessionWaits.{AllWaitThere};
 ghost use Rattle.laws_calls.specs.States.{DoesNotWait, IsOfSession, State, Waiting};
+ghost use Rattle.shore_types.specs.declared.versions.Version.{Version};
 
 /// A wait that is taken back goes on with the history, by the entry of a call that is refused. Room on pages and in the log stays, each request is where its call waits, and no
 /// cycle of waits comes.
 pub fn waits_taken_back_keep_state()
     ensures state { (o : Opening) (found : List LogRecord) (es : List Entry) (old new : State) (session : ℕ) (step : Step) → IsStateAfter o found es old →
         GivesUp old session step new → IsStateAfter o found (es ++ entries_of_resume old session step) new }
-    ensures room { (old new : State) (session : ℕ) (step : Step) → IsRoomyState old → GiveUpStep old session step new → IsRoomyState new }
+    ensures room { (v : Version) (old new : State) (session : ℕ) (step : Step) → IsRoomyState v old → GiveUpStep old session step new → IsRoomyState v new }
     ensures there { (o : Opening) (found : List LogRecord) (es : List Entry) (old new : State) (session : ℕ) (step : Step) → IsStateAfter o found es old → AllWaitThere old →
         GivesUp old session step new → AllWaitThere new }
     ensures cycles { (o : Opening) (found : List LogRecord) (es : List Entry) (old new : State) (session : ℕ) (step : Step) → IsStateAfter o found es old →

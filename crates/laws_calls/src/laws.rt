@@ -9,7 +9,7 @@ ghost use Rattle.shore_types.specs.declared.faults.Fault.TheVariants as fault;
 ghost use Rattle.shore_types.specs.declared.ids.PageId.{PageId};
 ghost use Rattle.shore_types.specs.declared.ids.Rid.{Rid};
 ghost use Rattle.shore_types.specs.declared.layout.Geometry.{Geometry};
-ghost use Rattle.shore_types.specs.declared.layout.TheConstants.{LAST_OPENED, LONGEST_FRAME, MAX_LOG_BYTES, MAX_RECORD_BYTES};
+ghost use Rattle.shore_types.specs.declared.layout.TheConstants.{LAST_OPENED, LONGEST_FRAME, MAX_LOG_BYTES};
 ghost use Rattle.shore_model.specs.declared.calls.Answer.{Answer};
 ghost use Rattle.shore_model.specs.declared.calls.Answer.TheVariants.{Prepared, Resolved};
 ghost use Rattle.shore_model.specs.declared.calls.Call.{Call};
@@ -49,6 +49,8 @@ ghost use Rattle.shore_model.specs.declared.calls.Outcome.TheVariants as outcome
 ghost use Rattle.laws_calls.specs.Resolves.{IsRollingBack, rollback_number};
 ghost use Rattle.laws_calls.specs.Shapes.{EndsAtOnce, ResolvesTxn, IsNoRefusal};
 ghost use Rattle.shore_model.specs.declared.calls.Outcome.{Outcome};
+ghost use Rattle.shore_types.specs.declared.versions.Version.{Version};
+ghost use Rattle.shore_types.specs.Versions.{record_limit, slot_limit};
 
 /// What an open leaves is a state after no entries.
 pub fn open_begins_a_state()
@@ -141,15 +143,15 @@ pub fn undecided_transactions_run_alone()
 /// refuses: so undo is never refused. So does an open whose pages and log have place for what they hold.
 pub fn calls_keep_room()
     ensures calls { (g : Geometry) (o : Opening) (found : List LogRecord) (es : List Entry) (old new : State) (session : ℕ) (c : Call) (step : Step) →
-        IsStateAfter o found es old → IsRoomyState old → CallStep g old session c step new → IsRoomyState new }
+        IsStateAfter o found es old → IsRoomyState g.version old → CallStep g old session c step new → IsRoomyState g.version new }
     ensures resumes { (g : Geometry) (o : Opening) (found : List LogRecord) (es : List Entry) (old new : State) (session : ℕ) (step : Step) →
-        IsStateAfter o found es old → IsRoomyState old → ResumeStep g old session step new → IsRoomyState new }
-    ensures open { (o : Opening) (found : List LogRecord) (s : State) → IsOpened o found s
-        → ((p : PageId) → HasRoom (slots_of s.sessions.records s.sessions.active p (s.counts p)))
+        IsStateAfter o found es old → IsRoomyState g.version old → ResumeStep g old session step new → IsRoomyState g.version new }
+    ensures open { (v : Version) (o : Opening) (found : List LogRecord) (s : State) → IsOpened o found s → s.sessions.slots ≡ slot_limit v
+        → ((p : PageId) → HasRoom v (slots_of s.sessions.records s.sessions.active p (s.counts p)))
         → ((id : Rid) → s.counts id.page ≤ id.slot → get s.sessions.records id ≡ None)
         → ((a : SessionTxn) → IsAmong a s.sessions.active → AllByRecursion (λ e. e.0.slot < s.counts e.0.page) a.undo.images)
         → cost_of_log found + (log_room s).reserved + LONGEST_FRAME ≤ s.stream_bytes
-        → length found + (log_room s).reserved < LAST_OPENED → s.stream_bytes ≤ MAX_LOG_BYTES → IsRoomyState s }
+        → length found + (log_room s).reserved < LAST_OPENED → s.stream_bytes ≤ MAX_LOG_BYTES → IsRoomyState v s }
 {}
 
 /// A call that comes to a wait waits: a prepare or a resolve for its own record, which an interrupted resolve may have appended before. It waits no more once it is answered or refused. A device that fails, and a page that
@@ -219,7 +221,7 @@ pub fn locks_change_as_asked()
 /// The conditions can be met: over an empty volume, a transaction locks a store and a place, inserts a record and commits. The commit is answered at once with a ticket,
 /// which is not durable, and acknowledged once it is.
 pub fn one_insert_comes_through()
-    ensures { (g : Geometry) (stream_bytes : ℕ) (bytes : List ℕ) → HasStore g 0 → HasPage g first_page → length bytes ≤ MAX_RECORD_BYTES → 100000 ≤ stream_bytes →
-        (last : State) × (made : List Entry) × IsOpened (opening_with empty) [] (opened_empty stream_bytes) × MovesMaking g (opened_empty stream_bytes) (one_insert bytes) last made
+    ensures { (g : Geometry) (stream_bytes : ℕ) (bytes : List ℕ) → HasStore g 0 → HasPage g first_page → length bytes ≤ record_limit g.version → 96000 + record_limit g.version ≤ stream_bytes →
+        (last : State) × (made : List Entry) × IsOpened (opening_with (slot_limit g.version) empty) [] (opened_empty (slot_limit g.version) stream_bytes) × MovesMaking g (opened_empty (slot_limit g.version) stream_bytes) (one_insert bytes) last made
         × (get last.sessions.records first_id ≡ Some bytes) × (acknowledged made ≡ decision.Commit 1 ∷ []) }
 {}

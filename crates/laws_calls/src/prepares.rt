@@ -1,8 +1,7 @@
 //! Prepares and resolves: what a prepare's record lists, and what must not come of them.
-ghost use Rattle.std.specs.Prelude.{◌≡◌, ◌≢◌, ◌≤◌, ℕ, List, None, Some, ◌⊎◌, Contains, length, take, false, All};
+ghost use Rattle.std.specs.Prelude.{◌+◌, ◌≡◌, ◌≢◌, ◌≤◌, ℕ, List, None, Some, ◌⊎◌, Contains, length, take, false, All};
 ghost use Rattle.std.specs.List.Sorted.{IsStrictlySortedBy};
 ghost use Rattle.shore_types.specs.Layout.{HasPage, HasStore};
-ghost use Rattle.shore_types.specs.declared.layout.TheConstants.{MAX_RECORD_BYTES};
 ghost use Rattle.shore_types.specs.Locking.{granule_cmp};
 ghost use Rattle.shore_types.specs.declared.faults.Fault.TheVariants.{BadGlobalId, GlobalIdInUse, LogFull, AlreadyActive, NoGlobalId, MustAbort};
 ghost use Rattle.shore_types.specs.declared.layout.Geometry.{Geometry};
@@ -34,6 +33,7 @@ ghost use Rattle.laws_lives.specs.Views.{IsAmong};
 ghost use Rattle.laws_lives.specs.LogPrefixes.{decisions_in};
 ghost use Rattle.laws_calls.specs.CallHistories.{txn_under};
 ghost use Rattle.shore_model.specs.declared.histories.Decision.TheVariants as decision;
+ghost use Rattle.shore_types.specs.Versions.{record_limit};
 
 /// A prepare waits for its record, and is not answered at once. The record lists, rising, all granules that its transaction may write, and no others. The session is
 /// in the transaction still, which is prepared now, and the global id is in use. A prepare leaves the records in place, the undo lists, the locks and the slots.
@@ -53,7 +53,7 @@ pub fn prepares_list_what_is_held()
 /// refusals of prepares without their causes.
 pub fn wrong_prepares_do_not_come()
     ensures bad_id { (g : Geometry) (s new : State) (session : ℕ) (global : List ℕ) (wait : Wait) →
-        ¬ IsGlobalId global → CallStep g s session (Prepare global) (Waits wait) new → ⊥ }
+        ¬ IsGlobalId g.version global → CallStep g s session (Prepare global) (Waits wait) new → ⊥ }
     ensures id_in_use { (g : Geometry) (s new : State) (session : ℕ) (global : List ℕ) (wait : Wait) →
         ¬ IsUnused s.sessions global → CallStep g s session (Prepare global) (Waits wait) new → ⊥ }
     ensures without_room { (g : Geometry) (s new : State) (session : ℕ) (global : List ℕ) (wait : Wait) →
@@ -63,7 +63,7 @@ pub fn wrong_prepares_do_not_come()
     ensures twice { (g : Geometry) (s new : State) (session : ℕ) (global : List ℕ) (wait : Wait) →
         HasPrepared s session → CallStep g s session (Prepare global) (Waits wait) new → ⊥ }
     ensures bad_though_good { (g : Geometry) (s new : State) (session : ℕ) (global : List ℕ) →
-        IsGlobalId global → CallStep g s session (Prepare global) (Refused BadGlobalId) new → ⊥ }
+        IsGlobalId g.version global → CallStep g s session (Prepare global) (Refused BadGlobalId) new → ⊥ }
     ensures in_use_though_unused { (g : Geometry) (s new : State) (session : ℕ) (global : List ℕ) →
         IsUnused s.sessions global → CallStep g s session (Prepare global) (Refused GlobalIdInUse) new → ⊥ }
     ensures log_full_though_room { (g : Geometry) (s new : State) (session : ℕ) (global : List ℕ) →
@@ -119,6 +119,6 @@ pub fn resolves_end_transactions()
 /// The conditions can be met: over an empty volume a session inserts a record and prepares, another resolves it, and the resolve is answered. To commit, the
 /// record stays; to roll back, it is gone; and nobody is in doubt, under way or under locks.
 pub fn a_prepare_and_its_resolve_come_through()
-    ensures { (g : Geometry) (stream_bytes : ℕ) (bytes : List ℕ) → HasStore g 0 → HasPage g first_page → length bytes ≤ MAX_RECORD_BYTES → 100000 ≤ stream_bytes →
+    ensures { (g : Geometry) (stream_bytes : ℕ) (bytes : List ℕ) → HasStore g 0 → HasPage g first_page → length bytes ≤ record_limit g.version → 96000 + record_limit g.version ≤ stream_bytes →
         ResolvesThrough g stream_bytes bytes outcome.Commit (Some bytes) (decision.Commit 1) × ResolvesThrough g stream_bytes bytes outcome.Abort None (decision.RollBack 1) }
 {}

@@ -1,9 +1,8 @@
 //! Steps leave no gap and no overlap, and can be made: each call comes to something, to one thing, and a call that waited goes on.
-ghost use Rattle.std.specs.Prelude.{◌≡◌, ◌≢◌, ◌⊎◌, ◌≤◌, ℕ, List, [], None, length, false};
+ghost use Rattle.std.specs.Prelude.{◌+◌, ◌≡◌, ◌≢◌, ◌⊎◌, ◌≤◌, ℕ, List, [], None, length, false};
 ghost use Rattle.std.specs.FinMap.{empty};
 ghost use Rattle.shore_types.specs.Layout.{HasPage, HasStore};
 ghost use Rattle.shore_types.specs.declared.layout.Geometry.{Geometry};
-ghost use Rattle.shore_types.specs.declared.layout.TheConstants.{MAX_RECORD_BYTES};
 ghost use Rattle.shore_types.specs.declared.locking.Granule.{Granule};
 ghost use Rattle.shore_model.specs.declared.calls.Call.{Call};
 ghost use Rattle.shore_model.specs.declared.histories.Entry.{Entry};
@@ -25,16 +24,17 @@ ghost use Rattle.laws_calls.specs.WorkedSessions.{told_to_two, two_sessions};
 ghost use Rattle.laws_calls.specs.Shapes.{ForItsTxn, LockWaitsMayAsk, rollback_of};
 ghost use Rattle.laws_calls.specs.Victims.{TellsVictim};
 ghost use Rattle.laws_lives.specs.Soundness.{opening_with};
+ghost use Rattle.shore_types.specs.Versions.{record_limit, slot_limit};
 
 /// The refusals and their order leave no gap: each call comes to an answer, a wait, or a refusal that comes of the state alone.
 pub fn calls_come_to_something()
     ensures { (g : Geometry) (o : Opening) (found : List LogRecord) (es : List Entry) (s : State) (session : ℕ) (c : Call) →
-        IsStateAfter o found es s → IsRoomyState s → (step : Step) × (new : State) × CallStep g s session c step new × ComesOfState step }
+        IsStateAfter o found es s → IsRoomyState g.version s → (step : Step) × (new : State) × CallStep g s session c step new × ComesOfState step }
 {}
 
 /// So does each resume, of a prepare, of a resolve, of a call that waits for a lock, or of a victim's.
 pub fn resumes_come_to_something()
-    ensures { (g : Geometry) (o : Opening) (found : List LogRecord) (es : List Entry) (s : State) (session : ℕ) → IsStateAfter o found es s → IsRoomyState s
+    ensures { (g : Geometry) (o : Opening) (found : List LogRecord) (es : List Entry) (s : State) (session : ℕ) → IsStateAfter o found es s → IsRoomyState g.version s
         → (step : Step) × (new : State) × (ResumeStep g s session step new ⊎ TellsVictim s session step new) × ComesOfState step }
 {}
 
@@ -57,9 +57,9 @@ pub fn calls_that_wait_may_ask()
 /// The conditions of steps can be met: over an empty volume, one session inserts a record, another waits for its lock, and has the bytes once the first
 /// has committed, before that is durable.
 pub fn two_sessions_come_through()
-    ensures { (g : Geometry) (stream_bytes : ℕ) (bytes : List ℕ) → HasStore g 0 → HasPage g first_page → length bytes ≤ MAX_RECORD_BYTES → 100000 ≤ stream_bytes →
-        (last : State) × (made : List Entry) × IsOpened (opening_with empty) [] (opened_empty stream_bytes)
-        × MovesMaking g (opened_empty stream_bytes) (two_sessions bytes) last made × (made ≡ told_to_two bytes) }
+    ensures { (g : Geometry) (stream_bytes : ℕ) (bytes : List ℕ) → HasStore g 0 → HasPage g first_page → length bytes ≤ record_limit g.version → 96000 + record_limit g.version ≤ stream_bytes →
+        (last : State) × (made : List Entry) × IsOpened (opening_with (slot_limit g.version) empty) [] (opened_empty (slot_limit g.version) stream_bytes)
+        × MovesMaking g (opened_empty (slot_limit g.version) stream_bytes) (two_sessions bytes) last made × (made ≡ told_to_two bytes) }
 {}
 
 /// A state decides what a call and a resume come to, as far as it comes of the state alone, and what each step leaves but for a lack of memory and a rollback

@@ -7,7 +7,7 @@ ghost use Rattle.shore_types.specs.declared.faults.Fault.{Fault};
 ghost use Rattle.shore_types.specs.declared.faults.Fault.TheVariants as fault;
 ghost use Rattle.shore_types.specs.declared.ids.Rid.{Rid};
 ghost use Rattle.shore_types.specs.declared.layout.Geometry.{Geometry};
-ghost use Rattle.shore_types.specs.declared.layout.TheConstants.{MAX_RECORD_BYTES, MAX_SLOTS, MAX_TRANSACTIONS};
+ghost use Rattle.shore_types.specs.declared.layout.TheConstants.{MAX_TRANSACTIONS};
 ghost use Rattle.shore_types.specs.declared.locking.Granule.{Granule};
 ghost use Rattle.shore_model.specs.declared.calls.Call.{Call};
 ghost use Rattle.shore_model.specs.declared.calls.Call.TheVariants.{Commit, Begin, Delete, Get, GetForUpdate, Insert, TryLock, Update};
@@ -33,6 +33,7 @@ ghost use Rattle.shore_path.specs.declared.answers.OnConflict.TheVariants.{Refus
 ghost use Rattle.laws_locks.specs.CallLocks.{Asked, lock_asked_by};
 ghost use Rattle.laws_lives.specs.GranuleLocks.{HasLock};
 ghost use Rattle.laws_calls.specs.Shapes.{ForItsTxn, rollback_of, store_lock, store_locked, with_locks_of};
+ghost use Rattle.shore_types.specs.Versions.{record_limit, slot_limit};
 
 /// Refusals of a manager or a session that must not come: each without its cause.
 pub fn refusals_of_sessions_have_their_causes()
@@ -66,9 +67,9 @@ pub fn refusals_of_calls_have_their_causes()
         ForItsTxn s session (λ a. ServesTxn g (store_locked s a store bytes) a.txn store bytes id) →
         CallStep g s session (Insert store bytes) (Refused StoreFull) new → ⊥ }
     ensures update_full_though_fits { (g : Geometry) (s new : State) (session : ℕ) (id : Rid) (bytes : List ℕ) →
-        FitsAt s id (Some bytes) → CallStep g s session (Update id bytes) (Refused StoreFull) new → ⊥ }
+        FitsAt g.version s id (Some bytes) → CallStep g s session (Update id bytes) (Refused StoreFull) new → ⊥ }
     ensures log_before_page { (g : Geometry) (s new : State) (session : ℕ) (id : Rid) (bytes : List ℕ) →
-        ¬ FitsAt s id (Some bytes) → CallStep g s session (Update id bytes) (Refused LogFull) new → ⊥ }
+        ¬ FitsAt g.version s id (Some bytes) → CallStep g s session (Update id bytes) (Refused LogFull) new → ⊥ }
     ensures update_log_full_though_room { (g : Geometry) (s new : State) (session : ℕ) (id : Rid) (bytes : List ℕ) →
         CanLog s id (Some bytes) → CallStep g s session (Update id bytes) (Refused LogFull) new → ⊥ }
     ensures delete_log_full_though_room { (g : Geometry) (s new : State) (session : ℕ) (id : Rid) →
@@ -79,13 +80,13 @@ pub fn refusals_of_calls_have_their_causes()
         ForItsTxn s session (λ a. (id : Rid) → new ≢ behind_place (store_locked s a store bytes) a id) →
         CallStep g s session (Insert store bytes) (Refused LogFull) new → ⊥ }
     ensures get_none_though_there { (g : Geometry) (s new : State) (session : ℕ) (id : Rid) →
-        id.slot < MAX_SLOTS → IsSome (get s.sessions.records id) → CallStep g s session (Get id) (Refused NoRecord) new → ⊥ }
+        id.slot < slot_limit g.version → IsSome (get s.sessions.records id) → CallStep g s session (Get id) (Refused NoRecord) new → ⊥ }
     ensures for_update_none_though_there { (g : Geometry) (s new : State) (session : ℕ) (id : Rid) →
-        id.slot < MAX_SLOTS → IsSome (get s.sessions.records id) → CallStep g s session (GetForUpdate id) (Refused NoRecord) new → ⊥ }
+        id.slot < slot_limit g.version → IsSome (get s.sessions.records id) → CallStep g s session (GetForUpdate id) (Refused NoRecord) new → ⊥ }
     ensures update_none_though_there { (g : Geometry) (s new : State) (session : ℕ) (id : Rid) (bytes : List ℕ) →
-        id.slot < MAX_SLOTS → IsSome (get s.sessions.records id) → CallStep g s session (Update id bytes) (Refused NoRecord) new → ⊥ }
+        id.slot < slot_limit g.version → IsSome (get s.sessions.records id) → CallStep g s session (Update id bytes) (Refused NoRecord) new → ⊥ }
     ensures delete_none_though_there { (g : Geometry) (s new : State) (session : ℕ) (id : Rid) →
-        id.slot < MAX_SLOTS → IsSome (get s.sessions.records id) → CallStep g s session (Delete id) (Refused NoRecord) new → ⊥ }
+        id.slot < slot_limit g.version → IsSome (get s.sessions.records id) → CallStep g s session (Delete id) (Refused NoRecord) new → ⊥ }
     ensures no_page_of_no_store { (g : Geometry) (s new : State) (session : ℕ) (id : Rid) →
         ¬ HasStore g id.page.store → CallStep g s session (Get id) (Refused NoPage) new → ⊥ }
     ensures no_page_though_there { (g : Geometry) (s new : State) (session : ℕ) (id : Rid) →
@@ -93,7 +94,7 @@ pub fn refusals_of_calls_have_their_causes()
     ensures no_store_though_there { (g : Geometry) (s new : State) (session : ℕ) (id : Rid) →
         HasStore g id.page.store → CallStep g s session (Get id) (Refused NoStore) new → ⊥ }
     ensures too_long_though_short { (g : Geometry) (s new : State) (session store : ℕ) (bytes : List ℕ) →
-        length bytes ≤ MAX_RECORD_BYTES → CallStep g s session (Insert store bytes) (Refused TooLong) new → ⊥ }
+        length bytes ≤ record_limit g.version → CallStep g s session (Insert store bytes) (Refused TooLong) new → ⊥ }
     ensures force_of_durable { (g : Geometry) (s new : State) (session : ℕ) (c : Call) (n : ℕ) →
         n ≤ s.durable → CallStep g s session c (Refused (NeedForce n)) new → ⊥ }
     ensures force_beyond_log { (g : Geometry) (s new : State) (session : ℕ) (c : Call) (n : ℕ) →
@@ -137,6 +138,6 @@ pub fn refusals_leave_locks_alone()
         IsOfSession s session a → CallStep g s session (Insert store bytes) (Refused LogFull) new →
         (id : Rid) × (¬ CanLog s id (Some bytes)) × HasLock new.sessions.held a.txn (Record id) EX }
     ensures absence { (g : Geometry) (o : Opening) (found : List LogRecord) (es : List Entry) (s new : State) (session : ℕ) (c : Call) (id : Rid) (lock : Asked) (a : SessionTxn) → IsSessionsState o found es s →
-        record_named_by c ≡ Some id → id.slot < MAX_SLOTS → lock_asked_by c ≡ Some lock → IsOfSession s session a →
+        record_named_by c ≡ Some id → id.slot < slot_limit g.version → lock_asked_by c ≡ Some lock → IsOfSession s session a →
         CallStep g s session c (Refused NoRecord) new → HasLock new.sessions.held a.txn lock.granule lock.mode }
 {}

@@ -1,5 +1,5 @@
 //! Savepoints, ways back to them and aborts: that undo is never refused, and which steps of them must not come.
-ghost use Rattle.std.specs.Prelude.{◌≡◌, ◌≢◌, ◌⊎◌, ◌++◌, ◌<◌, ◌≤◌, ◌∷◌, ℕ, All, List, [], None, Some, length};
+ghost use Rattle.std.specs.Prelude.{◌+◌, ◌≡◌, ◌≢◌, ◌⊎◌, ◌++◌, ◌<◌, ◌≤◌, ◌∷◌, ℕ, All, List, [], None, Some, length};
 ghost use Rattle.std.specs.FinMap.{empty, get};
 ghost use Rattle.shore_types.specs.Images.{Image};
 ghost use Rattle.shore_types.specs.Layout.{HasPage, HasStore};
@@ -7,7 +7,7 @@ ghost use Rattle.shore_types.specs.declared.faults.Fault.{Fault};
 ghost use Rattle.shore_types.specs.declared.faults.Fault.TheVariants.{MustAbort, NoSavepoint, TooManySavepoints};
 ghost use Rattle.shore_types.specs.declared.ids.Rid.{Rid};
 ghost use Rattle.shore_types.specs.declared.layout.Geometry.{Geometry};
-ghost use Rattle.shore_types.specs.declared.layout.TheConstants.{MAX_RECORD_BYTES, MAX_SAVEPOINTS};
+ghost use Rattle.shore_types.specs.declared.layout.TheConstants.{MAX_SAVEPOINTS};
 ghost use Rattle.shore_model.specs.declared.calls.Answer.{Answer};
 ghost use Rattle.shore_model.specs.declared.calls.Answer.TheVariants.{Aborted, Saved, WentBack};
 ghost use Rattle.shore_model.specs.declared.calls.Call.{Call};
@@ -41,6 +41,7 @@ ghost use Rattle.laws_calls.specs.WorkedRun.{first_id, first_page, opened_empty}
 ghost use Rattle.laws_lives.specs.Soundness.{opening_with};
 ghost use Rattle.shore_model.specs.declared.calls.Outcome.{Outcome};
 ghost use Rattle.laws_calls.specs.Resolves.{DecidesRollback, rollback_done};
+ghost use Rattle.shore_types.specs.Versions.{record_limit, slot_limit};
 
 /// Undo is never refused: neither an abort, nor a way back, nor a resolve, either way, for lack of room on a page or in the log, or by the lock table. An abort is refused by nothing of
 /// its transaction, only by what interrupts it.
@@ -145,17 +146,17 @@ pub fn answered_aborts_give_locks_back()
 /// The conditions can be met: over an empty volume a transaction inserts a record, sets a savepoint, updates the record, goes back and commits, and the record
 /// is as it was at the savepoint.
 pub fn rollback_to_a_savepoint()
-    ensures { (g : Geometry) (stream_bytes : ℕ) (bytes more : List ℕ) → HasStore g 0 → HasPage g first_page → length bytes ≤ MAX_RECORD_BYTES →
-        length more ≤ MAX_RECORD_BYTES → 200000 ≤ stream_bytes →
-        (last : State) × (made : List Entry) × IsOpened (opening_with empty) [] (opened_empty stream_bytes)
-        × MovesMaking g (opened_empty stream_bytes) (back_and_commit bytes more) last made
+    ensures { (g : Geometry) (stream_bytes : ℕ) (bytes more : List ℕ) → HasStore g 0 → HasPage g first_page → length bytes ≤ record_limit g.version →
+        length more ≤ record_limit g.version → 200000 ≤ stream_bytes →
+        (last : State) × (made : List Entry) × IsOpened (opening_with (slot_limit g.version) empty) [] (opened_empty (slot_limit g.version) stream_bytes)
+        × MovesMaking g (opened_empty (slot_limit g.version) stream_bytes) (back_and_commit bytes more) last made
         × (get last.sessions.records first_id ≡ Some bytes) × (acknowledged made ≡ decision.Commit 1 ∷ []) }
 {}
 
 /// And one whose abort lacks memory in between goes on with it, and with nothing else, and leaves nothing.
 pub fn an_interrupted_abort_comes_through()
-    ensures { (g : Geometry) (stream_bytes : ℕ) (bytes : List ℕ) → HasStore g 0 → HasPage g first_page → length bytes ≤ MAX_RECORD_BYTES →
-        100000 ≤ stream_bytes →
-        (last : State) × (made : List Entry) × IsOpened (opening_with empty) [] (opened_empty stream_bytes) × MovesMaking g (opened_empty stream_bytes) (abort_twice bytes) last made
+    ensures { (g : Geometry) (stream_bytes : ℕ) (bytes : List ℕ) → HasStore g 0 → HasPage g first_page → length bytes ≤ record_limit g.version →
+        96000 + record_limit g.version ≤ stream_bytes →
+        (last : State) × (made : List Entry) × IsOpened (opening_with (slot_limit g.version) empty) [] (opened_empty (slot_limit g.version) stream_bytes) × MovesMaking g (opened_empty (slot_limit g.version) stream_bytes) (abort_twice bytes) last made
         × (get last.sessions.records first_id ≡ None) × (last.sessions.active ≡ []) × (last.locks.requests ≡ []) × (acknowledged made ≡ []) }
 {}

@@ -7,6 +7,7 @@ ghost use Rattle.shore_types.specs.declared.faults.Fault.TheVariants as fault;
 ghost use Rattle.shore_types.specs.declared.layout.Geometry.{Geometry};
 ghost use Rattle.shore_types.specs.declared.locking.Granule.TheVariants.{Volume};
 ghost use Rattle.shore_types.specs.declared.locking.Mode.TheVariants.{EX};
+ghost use Rattle.shore_types.specs.Versions.{slot_limit};
 ghost use Rattle.shore_model.specs.declared.calls.Answer.{Answer};
 ghost use Rattle.shore_model.specs.declared.calls.Call.{Call};
 ghost use Rattle.shore_model.specs.declared.histories.Entry.{Entry};
@@ -42,9 +43,9 @@ pub fn settled_calls_keep_state()
 /// It leaves room on pages and in the log, for the rollbacks of the victims too.
 pub fn settled_calls_keep_room()
     ensures call { (g : Geometry) (o : Opening) (found : List LogRecord) (es : List Entry) (old new : State) (session : ℕ) (c : Call) (step : Step) →
-        IsStateAfter o found es old → IsRoomyState old → SettledCall g old session c step new → IsRoomyState new }
+        IsStateAfter o found es old → IsRoomyState g.version old → SettledCall g old session c step new → IsRoomyState g.version new }
     ensures resume { (g : Geometry) (o : Opening) (found : List LogRecord) (es : List Entry) (old new : State) (session : ℕ) (step : Step) →
-        IsStateAfter o found es old → IsRoomyState old → SettledResume g old session step new → IsRoomyState new }
+        IsStateAfter o found es old → IsRoomyState g.version old → SettledResume g old session step new → IsRoomyState g.version new }
 {}
 
 /// A call that comes to a wait waits, a prepare for its own record, and its transaction is no victim then. It waits no more once it is answered or
@@ -89,7 +90,7 @@ pub fn settled_calls_leave_no_cycle()
 /// The conditions of victims can be met: two sessions share the volume, and each asks for all of it. The second to ask closes a cycle, and the younger transaction
 /// is its victim: its session is told so as it is resumed, and aborts, and the other one has its lock.
 pub fn a_deadlock_comes_through()
-    ensures { (g : Geometry) (stream_bytes : ℕ) → 100000 ≤ stream_bytes → (last : State) × (made : List Entry) × IsOpened (opening_with empty) [] (opened_empty stream_bytes)
-        × MovesMaking g (opened_empty stream_bytes) a_deadlock last made × (made ≡ told_in_a_deadlock)
+    ensures { (g : Geometry) (stream_bytes : ℕ) → 100000 ≤ stream_bytes → (last : State) × (made : List Entry) × IsOpened (opening_with (slot_limit g.version) empty) [] (opened_empty (slot_limit g.version) stream_bytes)
+        × MovesMaking g (opened_empty (slot_limit g.version) stream_bytes) a_deadlock last made × (made ≡ told_in_a_deadlock)
         × (last.sessions.held ≡ record { txn = 1; granule = Volume; mode = EX } ∷ []) }
 {}

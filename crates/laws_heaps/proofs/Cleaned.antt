@@ -53,7 +53,7 @@ flushed_page c q = record c { store = after_flush c.store q; recovery = cleaned 
 
 module _ (g : Geometry) (log : List LogRecord) (left : ℕ → List ℕ) (noted : RecoveryNumbers) where
   abbrev IsLeft : PageId → LoggedPage → Type 0
-  IsLeft p page = IsTextOf log (left (page_number g p)) p page
+  IsLeft p page = IsTextOf g.version log (left (page_number g p)) p page
 
   -- a page stays as it is, or it may be flushed, and is clean then
   abbrev MayClean : CheckpointedStore → Type 0
@@ -196,24 +196,24 @@ module _ {D : Type 0} {G : Ghosts D} (old new : Heap D G) (seen : ℕ) (front : 
       has.some k f (stay.unwritten k f is dirty).0 none
 
   -- the text of a page that is not dirty now is that of the page in place
-  text_left : (p : PageId) → HasPage (geometry_of old) p → noted p ≡ 0 → IsTextOf c.store.log (left (number_at p)) p (c.store.in_place p)
+  text_left : (p : PageId) → HasPage (geometry_of old) p → noted p ≡ 0 → IsTextOf (geometry_of old).version c.store.log (left (number_at p)) p (c.store.in_place p)
   text_left p there clean =
       let is = store.in_place p there in
       let here = (stay.same (number_at p) p (c.store.in_place p).number is.images).0 is.here in
       record { images = is.images; text = text_here p (c.store.in_place p).number is.images (frame_at new (number_at p)) refl clean here; has = is.has }
     where
-      text_here : (p : PageId) (number : ℕ) (images : List Image) (o : Option Frame) → frame_at new (number_at p) ≡ o → recovery_in o ≡ 0 → IsPage o (left (number_at p)) p number images
-          → IsPageText (left (number_at p)) p number images
+      text_here : (p : PageId) (number : ℕ) (images : List Image) (o : Option Frame) → frame_at new (number_at p) ≡ o → recovery_in o ≡ 0 → IsPage (geometry_of old).version o (left (number_at p)) p number images
+          → IsPageText (geometry_of old).version (left (number_at p)) p number images
       text_here p number images None at clean here = here
       text_here p number images (Some f) at clean here =
           let text = holds.written (number_at p) f at (no_number f (some_now (number_at p) f at) clean) in
-          (one_page f (left (number_at p)) text p number images).0 here
+          (one_page (geometry_of old).version f (left (number_at p)) ((new.pool.in_order (number_at p) f at).2 ∙ ap (λ (g : Geometry). g.version) geometry) text p number images).0 here
 
-  low_enough : (p : PageId) → HasPage (geometry_of old) p → IsTextOf c.store.log (left (number_at p)) p (c.store.in_place p) → (c.store.in_place p).number ≤ c.store.durable
+  low_enough : (p : PageId) → HasPage (geometry_of old) p → IsTextOf (geometry_of old).version c.store.log (left (number_at p)) p (c.store.in_place p) → (c.store.in_place p).number ≤ c.store.durable
   low_enough p there text = elim (stay.may p there) [
     | inl same ↦
         let was = store.volume.each p there in
-        let one = one_text (left (number_at p)) p p (c.store.in_place p).number (c.store.volume p).number text.images was.images text.text (subst (λ (b : List ℕ). IsPageText b p (c.store.volume p).number was.images) (sym same) was.text) in
+        let one = one_text (geometry_of old).version (left (number_at p)) p p (c.store.in_place p).number (c.store.volume p).number text.images was.images text.text (subst (λ (b : List ℕ). IsPageText (geometry_of old).version b p (c.store.volume p).number was.images) (sym same) was.text) in
         let ahead = kept.ahead p in
         omega (arith, one.1, ahead)
     | inr written ↦
@@ -223,8 +223,8 @@ module _ {D : Type 0} {G : Ghosts D} (old new : Heap D G) (seen : ℕ) (front : 
   ]
 
   abbrev IsEither : PageId → Type 0
-  IsEither p = (IsTextOf c.store.log (left (number_at p)) p (c.store.volume p) × (c.recovery p ≡ noted p))
-      ⊎ (((c.store.in_place p).number ≤ c.store.durable) × IsTextOf c.store.log (left (number_at p)) p (c.store.in_place p) × (noted p ≡ 0))
+  IsEither p = (IsTextOf (geometry_of old).version c.store.log (left (number_at p)) p (c.store.volume p) × (c.recovery p ≡ noted p))
+      ⊎ (((c.store.in_place p).number ≤ c.store.durable) × IsTextOf (geometry_of old).version c.store.log (left (number_at p)) p (c.store.in_place p) × (noted p ≡ 0))
 
   may_clean : MayClean (geometry_of old) c.store.log left noted c
   may_clean p there = by_frame (frame_at new (number_at p)) refl
@@ -239,7 +239,7 @@ module _ {D : Type 0} {G : Ghosts D} (old new : Heap D G) (seen : ℕ) (front : 
         | inr dirty ↦
             let unwritten = stay.unwritten (number_at p) f at (λ none. dirty (ap (λ (r : Option ℕ). unwrap_or r 0) none)) in
             inl (
-              subst (λ (bytes : List ℕ). IsTextOf c.store.log bytes p (c.store.volume p)) (sym unwritten.1) (store.volume.each p there),
+              subst (λ (bytes : List ℕ). IsTextOf (geometry_of old).version c.store.log bytes p (c.store.volume p)) (sym unwritten.1) (store.volume.each p there),
               has.each p there ∙ ap recovery_in (unwritten.0 ∙ sym at),
             )
       ]

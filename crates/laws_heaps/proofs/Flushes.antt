@@ -35,7 +35,7 @@ written_here pages q page = ap (λ b. cond b page (pages q)) ((eq_by_cmp_equiv p
 module _ (g : Geometry) (log : List LogRecord) (left : ℕ → List ℕ) where
   -- what is left is a text of the page
   abbrev pub IsLeft : PageId → LoggedPage → Type 0
-  IsLeft p page = IsTextOf log (left (page_number g p)) p page
+  IsLeft p page = IsTextOf g.version log (left (page_number g p)) p page
 
   -- what is left of each page is the volume's, or the one in place if its number is durable
   abbrev pub MayFlush : RecoveryState → Type 0
@@ -118,7 +118,7 @@ module _ (g : Geometry) (log : List LogRecord) (left : ℕ → List ℕ) where
 module _ {D : Type 0} {G : Ghosts D} (old : Heap D G) (seen : ℕ) (disk left : ℕ → List ℕ) (s : RecoveryState) (store : IsStoreOf old disk s) (durable : seen ≤ s.durable) (may : MayBeLeft old seen disk left) where
   may_flush : MayFlush (geometry_of old) s.log left s
   may_flush p has = elim (may p has) [
-    | inl same ↦ inl (subst (λ (bytes : List ℕ). IsTextOf s.log bytes p (s.volume p)) (sym same) (store.volume.each p has))
+    | inl same ↦ inl (subst (λ (bytes : List ℕ). IsTextOf (geometry_of old).version s.log bytes p (s.volume p)) (sym same) (store.volume.each p has))
     | inr written ↦
         let text = text_in_place s.log old disk p (s.in_place p) (store.in_place p has) (left (page_number (geometry_of old) p)) written.0 written.1 written.2 written.4 in
         let number = text.0 in

@@ -40,13 +40,13 @@ one_shown g image a b (inl x) (inr y) k within = absurd (x.0 y.1.is_open)
 one_shown g image a b (inr x) (inl y) k within = absurd (y.0 x.1.is_open)
 one_shown g image a b (inr x) (inr y) k within =
     let one : x.0 ≡ y.0 = one_table (part TABLE_AT TABLE_BYTES image) x.0 y.0 x.1.table y.1.table in
-    sym (x.2 k within) ∙ ap (λ (ns : List ℕ). overlaid ns (drop AREA_AT image) (page_at image) k) one ∙ y.2 k within
+    sym (x.2 k within) ∙ ap (λ (ns : List ℕ). overlaid g.version ns (drop AREA_AT image) (page_at g.version image) k) one ∙ y.2 k within
 
 pub texts_shown : (log : List LogRecord) (g : Geometry) (front : List ℕ) (texts : ℕ → List ℕ) (pages : LoggedPages) (image : List ℕ) → LeavesStore log g front pages image → ShowsBehind g front texts image → AreTextsOf log g texts pages
 texts_shown log g front texts pages image left shown = record {
   each = λ p has.
       let same = one_shown g image left.0 texts left.1.1 shown.1 (page_number g p) (page_within g.stores p.store p.page has).1 in
-      subst (λ (bytes : List ℕ). IsTextOf log bytes p (pages p)) same (left.2.each p has);
+      subst (λ (bytes : List ℕ). IsTextOf g.version log bytes p (pages p)) same (left.2.each p has);
   inside = left.2.inside;
 }
 
@@ -63,7 +63,7 @@ left_settled heap front disk s image store holds may =
 pub left_cut : (log : List LogRecord) (g : Geometry) (front : List ℕ) (pages : LoggedPages) (image : List ℕ) (n : ℕ) → LeavesStore log g front pages image → ((p : PageId) → (pages p).number ≤ n) → LeavesStore (take n log) g front pages image
 left_cut log g front pages image n left low = (left.0, left.1, record { each = λ p has. cut p (left.2.each p has); inside = left.2.inside })
   where
-    cut : (p : PageId) → IsTextOf log (left.0 (page_number g p)) p (pages p) → IsTextOf (take n log) (left.0 (page_number g p)) p (pages p)
+    cut : (p : PageId) → IsTextOf g.version log (left.0 (page_number g p)) p (pages p) → IsTextOf g.version (take n log) (left.0 (page_number g p)) p (pages p)
     cut p is = record {
       images = is.images;
       text = is.text;
@@ -87,10 +87,10 @@ opened_is heap log texts pages are none = (
   λ k f is. let clash : None ≡ Some f = sym (none k) ∙ is in absurd cc,
 )
   where
-    in_place : (p : PageId) → IsTextOf log (texts (page_number (geometry_of heap) p)) p (pages p) → IsInPlace log heap texts p (pages p)
+    in_place : (p : PageId) → IsTextOf (geometry_of heap).version log (texts (page_number (geometry_of heap) p)) p (pages p) → IsInPlace log heap texts p (pages p)
     in_place p is = record {
       images = is.images;
-      here = subst (λ (o : Option Frame). IsPage o (texts (page_number (geometry_of heap) p)) p (pages p).number is.images) (sym (none (page_number (geometry_of heap) p))) is.text;
+      here = subst (λ (o : Option Frame). IsPage (geometry_of heap).version o (texts (page_number (geometry_of heap) p)) p (pages p).number is.images) (sym (none (page_number (geometry_of heap) p))) is.text;
       has = is.has;
     }
 

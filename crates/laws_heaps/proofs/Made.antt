@@ -11,6 +11,7 @@ use Rattle.shore_types.specs.Layout.{HasPage}
 use Rattle.shore_types.specs.declared.ids.PageId.{PageId}
 use Rattle.shore_types.specs.declared.ids.Rid.{Rid}
 use Rattle.shore_types.specs.declared.layout.Geometry.{Geometry}
+use Rattle.shore_types.specs.declared.versions.Version.{Version}
 use Rattle.shore_model.specs.declared.log_records.LogRecord.{LogRecord}
 use Rattle.shore_model.specs.Logs.{image_in}
 use Rattle.laws_lives.specs.Pages.{LoggedPage, redone_on, slots_with}
@@ -42,13 +43,13 @@ has_images_longer log p page images has within r = record {
   count = has.count ∙ ap (λ (l : List LogRecord). slot_count l p) (sym (take-append-le page.number log (r ∷ []) within));
 }
 
-text_longer : (log : List LogRecord) (bytes : List ℕ) (p : PageId) (page : LoggedPage) → IsTextOf log bytes p page → page.number ≤ length log → (r : LogRecord) → IsTextOf (log ++ r ∷ []) bytes p page
-text_longer log bytes p page is within r = record { images = is.images; text = is.text; has = has_images_longer log p page is.images is.has within r }
+text_longer : (v : Version) (log : List LogRecord) (bytes : List ℕ) (p : PageId) (page : LoggedPage) → IsTextOf v log bytes p page → page.number ≤ length log → (r : LogRecord) → IsTextOf v (log ++ r ∷ []) bytes p page
+text_longer v log bytes p page is within r = record { images = is.images; text = is.text; has = has_images_longer log p page is.images is.has within r }
 
 pub store_longer : {D : Type 0} {G : Ghosts D} (heap : Heap D G) (disk : ℕ → List ℕ) (s : RecoveryState) (r : LogRecord) → IsStoreOf heap disk s → IsRecoverable s → IsStoreOf heap disk (record s { log = s.log ++ r ∷ [] })
 store_longer heap disk s r store kept = record {
   volume = record {
-    each = λ p has. text_longer s.log (disk (page_number (geometry_of heap) p)) p (s.volume p) (store.volume.each p has) (kept.volume p).within r;
+    each = λ p has. text_longer (geometry_of heap).version s.log (disk (page_number (geometry_of heap) p)) p (s.volume p) (store.volume.each p has) (kept.volume p).within r;
     inside = store.volume.inside;
   };
   in_place = λ p has.
@@ -60,10 +61,10 @@ store_longer heap disk s r store kept = record {
 
 -- ---- one change
 
-module _ (log : List LogRecord) (n : ℕ) (id : Rid) (image : Image) (text : List ℕ) (page : LoggedPage) where
+module _ (v : Version) (log : List LogRecord) (n : ℕ) (id : Rid) (image : Image) (text : List ℕ) (page : LoggedPage) where
   -- what a page has that is in place
   abbrev Has : Option Frame → LoggedPage → Type 0
-  Has o it = (images : List Image) × IsPage o text id.page it.number images × HasImages log id.page it images
+  Has o it = (images : List Image) × IsPage v o text id.page it.number images × HasImages log id.page it images
 
   made_here : (o : Option Frame) → IsTrue (is_some o) → slot_count (take n log) id.page ≡ max (slot_count (take page.number log) id.page) (id.slot + 1) → Has o page
       → Has (option_map (changed n id.slot image) o) (record { number = n; slots = slots_with id.page page.slots id image })
@@ -85,7 +86,7 @@ module _ {D : Type 0} {G : Ghosts D} (old new : Heap D G) (disk : ℕ → List �
 
   -- by the old geometry
   abbrev IsNow : PageId → LoggedPage → Type 0
-  IsNow p page = (images : List Image) × IsPage (frame_at new (page_number (geometry_of old) p)) (disk (page_number (geometry_of old) p)) p page.number images × HasImages s.log p page images
+  IsNow p page = (images : List Image) × IsPage (geometry_of old).version (frame_at new (page_number (geometry_of old) p)) (disk (page_number (geometry_of old) p)) p page.number images × HasImages s.log p page images
 
   equal : eq_by_cmp page_cmp id.page id.page ≡ true
   equal = (eq_by_cmp_equiv pages_total).refl id.page
@@ -101,11 +102,11 @@ module _ {D : Type 0} {G : Ghosts D} (old new : Heap D G) (disk : ℕ → List �
   now_here =
       let is = store.in_place id.page there in
       let k = page_number (geometry_of old) id.page in
-      let has = made_here s.log (s.redone + 1) id image (disk k) (s.in_place id.page) (frame_of old id.page) held count_now (is.images, is.here, is.has) in
+      let has = made_here (geometry_of old).version s.log (s.redone + 1) id image (disk k) (s.in_place id.page) (frame_of old id.page) held count_now (is.images, is.here, is.has) in
       let low : (s.in_place id.page).number < s.redone + 1 = omega arith in
       let page : page_now id.page ≡ record { number = s.redone + 1; slots = slots_with id.page (s.in_place id.page).slots id image } =
       ap (λ o. redone_on (s.redone + 1) o id.page (s.in_place id.page)) says ∙ redone_here (s.redone + 1) id.page (s.in_place id.page) (id, image) equal low in
-      subst (IsNow id.page) (sym page) (has.0, subst (λ (o : Option Frame). IsPage o (disk k) id.page (s.redone + 1) has.0) (sym made.0) has.1, has.2)
+      subst (IsNow id.page) (sym page) (has.0, subst (λ (o : Option Frame). IsPage (geometry_of old).version o (disk k) id.page (s.redone + 1) has.0) (sym made.0) has.1, has.2)
 
   other_page : (p : PageId) → p ≢ id.page → page_now p ≡ s.in_place p
   other_page p other = redone_there (s.redone + 1) p (s.in_place p) (image_in r.payload) (λ e is same.
@@ -118,7 +119,7 @@ module _ {D : Type 0} {G : Ghosts D} (old new : Heap D G) (disk : ℕ → List �
       let is = store.in_place p has in
       let k = page_number (geometry_of old) p in
       let frame : frame_at new k ≡ frame_at old k = made.1 k (λ same. other (one_page (geometry_of old) p id.page has there same)) in
-      subst (IsNow p) (sym (other_page p other)) (is.images, subst (λ (o : Option Frame). IsPage o (disk k) p (s.in_place p).number is.images) (sym frame) is.here, is.has)
+      subst (IsNow p) (sym (other_page p other)) (is.images, subst (λ (o : Option Frame). IsPage (geometry_of old).version o (disk k) p (s.in_place p).number is.images) (sym frame) is.here, is.has)
 
   now_each : (p : PageId) → HasPage (geometry_of old) p → IsNow p (page_now p)
   now_each p has = elim (cases_page p id.page) [
@@ -139,7 +140,7 @@ module _ {D : Type 0} {G : Ghosts D} (old new : Heap D G) (disk : ℕ → List �
       moved : (p : PageId) → IsNow p (page_now p) → IsInPlace s.log new disk p (page_now p)
       moved p is = record {
         images = is.0;
-        here = subst (λ (g : Geometry). IsPage (frame_at new (page_number g p)) (disk (page_number g p)) p (page_now p).number is.0) (sym geometry) is.1;
+        here = subst (λ (g : Geometry). IsPage g.version (frame_at new (page_number g p)) (disk (page_number g p)) p (page_now p).number is.0) (sym geometry) is.1;
         has = is.2;
       }
 

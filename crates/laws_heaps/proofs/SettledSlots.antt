@@ -64,7 +64,7 @@ module _ {D : Type 0} {G : Ghosts D} (heap : Heap D G) (disk : ℕ → List ℕ)
   framed p f has is =
       let page = store.in_place p has in
       let k = page_number (geometry_of heap) p in
-      let here : IsPage (Some f) (disk k) p (s.in_place p).number page.images = subst (λ (o : Option Frame). IsPage o (disk k) p (s.in_place p).number page.images) is page.here in
+      let here : IsPage (geometry_of heap).version (Some f) (disk k) p (s.in_place p).number page.images = subst (λ (o : Option Frame). IsPage (geometry_of heap).version o (disk k) p (s.in_place p).number page.images) is page.here in
       settled_all k f is ∙ ap (map settled) here.2 ∙ settled_images s.log p (s.in_place p) page.images page.has
 
   pub framed_due : (p : PageId) (f : Frame) → IsRecoverable s → HasPage (geometry_of heap) p → frame_of heap p ≡ Some f → (s.in_place p).number ≤ s.redone → f.page.slots ≡ slots_left (take s.redone s.log) p
@@ -74,14 +74,14 @@ module _ {D : Type 0} {G : Ghosts D} (heap : Heap D G) (disk : ℕ → List ℕ)
   framed_whole p f kept has is whole = framed p f has is ∙ slots_done s p kept (store.done p) whole
 
   -- .. or not
-  shown : (p : PageId) → HasPage (geometry_of heap) p → HasSlots (frame_of heap p) (disk (page_number (geometry_of heap) p)) p [] (slots_in_place s p)
+  shown : (p : PageId) → HasPage (geometry_of heap) p → HasSlots (geometry_of heap).version (frame_of heap p) (disk (page_number (geometry_of heap) p)) p [] (slots_in_place s p)
   shown p has = each (frame_of heap p) refl
     where
-      each : (o : Option Frame) → frame_of heap p ≡ o → HasSlots o (disk (page_number (geometry_of heap) p)) p [] (slots_in_place s p)
+      each : (o : Option Frame) → frame_of heap p ≡ o → HasSlots (geometry_of heap).version o (disk (page_number (geometry_of heap) p)) p [] (slots_in_place s p)
       each None is =
           let page = store.in_place p has in
           let k = page_number (geometry_of heap) p in
-          let here : IsPage None (disk k) p (s.in_place p).number page.images = subst (λ (o : Option Frame). IsPage o (disk k) p (s.in_place p).number page.images) is page.here in
+          let here : IsPage (geometry_of heap).version None (disk k) p (s.in_place p).number page.images = subst (λ (o : Option Frame). IsPage (geometry_of heap).version o (disk k) p (s.in_place p).number page.images) is page.here in
           ((s.in_place p).number, page.images, here, sym (settled_images s.log p (s.in_place p) page.images page.has), tt)
       each (Some f) is = framed p f has is
 
@@ -92,11 +92,11 @@ module _ {D : Type 0} {G : Ghosts D} (heap : Heap D G) (disk : ℕ → List ℕ)
       each None is =
           let page = store.in_place p has in
           let k = page_number (geometry_of heap) p in
-          let here : IsPage None (disk k) p (s.in_place p).number page.images = subst (λ (o : Option Frame). IsPage o (disk k) p (s.in_place p).number page.images) is page.here in
-          let slots : HasSlots None (disk k) p [] (S p) = subst (λ (o : Option Frame). HasSlots o (disk k) p [] (S p)) is (shows.pages p has) in
-          slots.3 ∙ ap (map settled) (one_in_place None (disk k) p slots.0 (s.in_place p).number slots.1 page.images slots.2 here).1 ∙ settled_images s.log p (s.in_place p) page.images page.has
+          let here : IsPage (geometry_of heap).version None (disk k) p (s.in_place p).number page.images = subst (λ (o : Option Frame). IsPage (geometry_of heap).version o (disk k) p (s.in_place p).number page.images) is page.here in
+          let slots : HasSlots (geometry_of heap).version None (disk k) p [] (S p) = subst (λ (o : Option Frame). HasSlots (geometry_of heap).version o (disk k) p [] (S p)) is (shows.pages p has) in
+          slots.3 ∙ ap (map settled) (one_in_place (geometry_of heap).version None (disk k) p slots.0 (s.in_place p).number slots.1 page.images slots.2 here).1 ∙ settled_images s.log p (s.in_place p) page.images page.has
       each (Some f) is =
-          let slots : f.page.slots ≡ S p = subst (λ (o : Option Frame). HasSlots o (disk (page_number (geometry_of heap) p)) p [] (S p)) is (shows.pages p has) in
+          let slots : f.page.slots ≡ S p = subst (λ (o : Option Frame). HasSlots (geometry_of heap).version o (disk (page_number (geometry_of heap) p)) p [] (S p)) is (shows.pages p has) in
           sym slots ∙ framed p f has is
 
   module _ (front : List ℕ) (holds : PoolHolds (pool_of heap) front disk) where
@@ -106,7 +106,7 @@ module _ {D : Type 0} {G : Ghosts D} (heap : Heap D G) (disk : ℕ → List ℕ)
     pub shows_whole : IsRecoverable s → s.redone ≡ length s.log → AreBounds (geometry_of heap) (bounds_of heap) (slots_left s.log) → Shows unclaimed heap front disk (slots_left s.log)
     shows_whole kept whole bounds = record {
       holds = holds;
-      pages = λ p has. subst (HasSlots (frame_of heap p) (disk (page_number (geometry_of heap) p)) p []) (slots_done s p kept (store.done p) whole) (shown p has);
+      pages = λ p has. subst (HasSlots (geometry_of heap).version (frame_of heap p) (disk (page_number (geometry_of heap) p)) p []) (slots_done s p kept (store.done p) whole) (shown p has);
       bounds = bounds;
     }
 
@@ -126,5 +126,5 @@ pub frame_number : {D : Type 0} {G : Ghosts D} (heap : Heap D G) (disk : ℕ →
 frame_number heap disk s p f store has is =
     let page = store.in_place p has in
     let k = page_number (geometry_of heap) p in
-    let here : IsPage (Some f) (disk k) p (s.in_place p).number page.images = subst (λ (o : Option Frame). IsPage o (disk k) p (s.in_place p).number page.images) is page.here in
+    let here : IsPage (geometry_of heap).version (Some f) (disk k) p (s.in_place p).number page.images = subst (λ (o : Option Frame). IsPage (geometry_of heap).version o (disk k) p (s.in_place p).number page.images) is page.here in
     here.1

@@ -70,7 +70,7 @@ module _ {D : Type 0} {G : Ghosts D} where
   settled_shown heap front disk S shows are k f is =
       let its = heap.pool.in_order k f is in
       let here : frame_of heap f.page.id ≡ Some f = ap (frame_at heap) its.1 ∙ is in
-      let slots : f.page.slots ≡ S f.page.id = subst (λ (o : Option Frame). HasSlots o (disk (page_number (geometry_of heap) f.page.id)) f.page.id [] (S f.page.id)) here (shows.pages f.page.id its.0) in
+      let slots : f.page.slots ≡ S f.page.id = subst (λ (o : Option Frame). HasSlots (geometry_of heap).version o (disk (page_number (geometry_of heap) f.page.id)) f.page.id [] (S f.page.id)) here (shows.pages f.page.id its.0) in
       subst (λ (l : List Slot). l ≡ map settled (images_of l)) (sym slots) (are f.page.id its.0).0
 
   module _ (old mid new : Heap D G) (number : ℕ) (id : Rid) (image : Image) (settled_all : AreSettled old) (made : IsMade old mid number id image) (geometry : geometry_of mid ≡ geometry_of old) (released : IsReleased mid new id) where

@@ -5,6 +5,7 @@ use Rattle.shore_types.specs.Layout.{HasPage}
 use Rattle.shore_types.specs.declared.ids.PageId.{PageId}
 use Rattle.shore_types.specs.declared.ids.Rid.{Rid}
 use Rattle.shore_types.specs.declared.layout.Geometry.{Geometry}
+use Rattle.shore_types.specs.declared.versions.Version.{Version}
 use Rattle.shore_model.specs.declared.log_records.LogRecord.{LogRecord}
 use Rattle.shore_disk.specs.declared.device.Disk.{Ghosts}
 use Rattle.shore_page.specs.Room.{lowered}
@@ -31,9 +32,9 @@ pub record HasImages (log : List LogRecord) (p : PageId) (page : LoggedPage) (im
   pub count : length images ≡ slot_count (take page.number log) p
 
 -- the bytes are a text of the page
-pub record IsTextOf (log : List LogRecord) (bytes : List ℕ) (p : PageId) (page : LoggedPage) : Type 0 where
+pub record IsTextOf (v : Version) (log : List LogRecord) (bytes : List ℕ) (p : PageId) (page : LoggedPage) : Type 0 where
   pub images : List Image
-  pub text : IsPageText bytes p page.number images
+  pub text : IsPageText v bytes p page.number images
   pub has : HasImages log p page images
 
 -- it is in place, in a frame or over these texts of the volume
@@ -55,7 +56,7 @@ AreInside g pages = (p : PageId) → (HasPage g p → ⊥) → pages p ≡ empty
 
 -- these are the texts of the pages
 pub record AreTextsOf (log : List LogRecord) (g : Geometry) (texts : ℕ → List ℕ) (pages : LoggedPages) : Type 0 where
-  pub each : (p : PageId) → HasPage g p → IsTextOf log (texts (page_number g p)) p (pages p)
+  pub each : (p : PageId) → HasPage g p → IsTextOf g.version log (texts (page_number g p)) p (pages p)
   pub inside : AreInside g pages
 
 -- each record that is done on the pages in place is on its page: none that changes a page has a number above the page's

@@ -40,7 +40,7 @@ pub fn pages_written_back_are_work<D: Disk>()
 /// changed claims alone.
 pub fn only_reads_keep_the_store<D: Disk>()
     ensures unwritten { (old new : Heap D D.Disk) (disk : ℕ → List ℕ) (s : RecoveryState) →
-        IsStoreOf old disk s → SamePages (frame_at old) disk (frame_at new) disk → geometry_of new ≡ geometry_of old → IsStoreOf new disk s }
+        IsStoreOf old disk s → SamePages (geometry_of old).version (frame_at old) disk (frame_at new) disk → geometry_of new ≡ geometry_of old → IsStoreOf new disk s }
     ensures same_frames { (old new : Heap D D.Disk) (disk : ℕ → List ℕ) (s : RecoveryState) →
         IsStoreOf old disk s → ((k : ℕ) → frame_at new k ≡ frame_at old k) → geometry_of new ≡ geometry_of old → IsStoreOf new disk s }
 {}

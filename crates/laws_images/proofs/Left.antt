@@ -11,6 +11,7 @@ use Rattle.shore_dwrite.specs.Volumes.{page_at}
 use Rattle.shore_dwrite.specs.declared.places.TheConstants.{GATE_AT}
 use Rattle.laws_lives.specs.Pages.{LoggedPages, empty_page}
 use Rattle.laws_lives.specs.Recovery.{RecoveryState}
+use Rattle.shore_types.specs.Versions.{least_log-least}
 use Rattle.laws_runs.proofs.SoundStores.{format_may_be_opened, left_may_be_opened}
 use Rattle.laws_runs.specs.SoundStores.{IsLost, IsSoundStore}
 use Rattle.laws_heaps.proofs.LoggedLeft.{empty_texts, left_cut}
@@ -30,9 +31,9 @@ module _ (g : Geometry) (log_bytes volume_bytes : ℕ) where
         log = f.log;
         volume = record {
           label = f.volume.label;
-          shows = (page_at volume, (refl, inl (f.volume.shut, λ k below. refl)), empty_texts g (page_at volume) f.volume.empty);
+          shows = (page_at g.version volume, (refl, inl (f.volume.shut, λ k below. refl)), empty_texts g (page_at g.version volume) f.volume.empty);
         };
-        opened = format_may_be_opened g (log_bytes - LOG_FRONT_BYTES) (omega (arith, least)) (omega (arith, most));
+        opened = format_may_be_opened g (log_bytes - LOG_FRONT_BYTES) (omega (arith, least, least_log-least g.version)) (omega (arith, most));
       }
 
   -- the label stands where it stood

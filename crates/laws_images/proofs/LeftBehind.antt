@@ -13,6 +13,7 @@ use Rattle.shore_dwrite.specs.declared.places.TheConstants.{GATE_AT}
 use Rattle.laws_lives.specs.Pages.{LoggedPages, empty_page}
 use Rattle.laws_heaps.proofs.LoggedLeft.{left_cut}
 use Rattle.laws_heaps.specs.LoggedHeaps.{LeavesStore}
+use Rattle.shore_types.specs.Versions.{least_log-least}
 use Rattle.laws_runs.proofs.CheckpointCrashes.{leaves_behind}
 use Rattle.laws_runs.proofs.FormatsBehind.{format_behind}
 use Rattle.laws_runs.specs.CheckpointSteps.{CheckpointedState}
@@ -35,7 +36,7 @@ formatted_behind g log_bytes volume_bytes log volume f =
       front = record { label = stood.log.front.label; slot = stood.log.front.slot; counts = stood.log.front.anchor; long = stood.log.long };
       log = stood.log.log;
       volume = stood.volume;
-      opened = format_behind g (log_bytes - LOG_FRONT_BYTES) (omega (arith, least)) (omega (arith, most));
+      opened = format_behind g (log_bytes - LOG_FRONT_BYTES) (omega (arith, least, least_log-least g.version)) (omega (arith, most));
     }
 
 module _ (g : Geometry) (log_bytes volume_bytes : ℕ) (o : Opening) (found : List LogRecord) (es : List Entry) (m : CheckpointedState)

@@ -4,6 +4,7 @@ use Rattle.std.proofs.Math.Seq.{take-length}
 use Rattle.std.proofs.lemmas.List.{length-append, take-append-le}
 use Rattle.shore_types.specs.declared.ids.PageId.{PageId}
 use Rattle.shore_types.specs.declared.layout.Geometry.{Geometry}
+use Rattle.shore_types.specs.declared.versions.Version.{Version}
 use Rattle.shore_model.specs.declared.log_records.LogRecord.{LogRecord}
 use Rattle.shore_model.specs.Logs.{Lawful, image_of_record}
 use Rattle.shore_dwrite.specs.Volumes.{page_number}
@@ -30,13 +31,13 @@ module _ (rs more : List LogRecord) (pages : LoggedPages) (as_of : AreAsOfOwnNum
         slots = λ i. (as_of p).slots i ∙ ap (λ front. image_of_record front (rid_on p i)) (same_front p);
       }
 
-  text_stays : (bytes : List ℕ) (p : PageId) → IsTextOf rs bytes p (pages p) → IsTextOf (rs ++ more) bytes p (pages p)
-  text_stays bytes p is =
+  text_stays : (v : Version) (bytes : List ℕ) (p : PageId) → IsTextOf v rs bytes p (pages p) → IsTextOf v (rs ++ more) bytes p (pages p)
+  text_stays v bytes p is =
       record { images = is.images; text = is.text; has = record { slots = is.has.slots; count = is.has.count ∙ ap (λ front. slot_count front p) (same_front p) } }
 
   pub leaves_longer : (g : Geometry) (front image : List ℕ) → LeavesStore rs g front pages image → LeavesStore (rs ++ more) g front pages image
   leaves_longer g front image is =
-      (is.0, is.1, record { each = λ p has. text_stays (is.0 (page_number g p)) p (is.2.each p has); inside = is.2.inside })
+      (is.0, is.1, record { each = λ p has. text_stays g.version (is.0 (page_number g p)) p (is.2.each p has); inside = is.2.inside })
 
 -- ---- the anchor
 

@@ -28,7 +28,7 @@ pub record HasAnchor (g : Geometry) (device_bytes : ℕ) (anchor : Anchor) (imag
   pub label : HoldsLabel Log device_bytes (take 512 image) (log_label g device_bytes)
   pub slot : Slot
   pub counts : Counts image slot anchor
-  pub long : IsLogLength device_bytes
+  pub long : IsLogLength g.version device_bytes
 
 -- The anchor counts, and from its tail on the frames give what is kept of a prefix of the list, which has so many records at least.
 abbrev pub GivesKept : Anchor → ℕ → List LogRecord → List ℕ → Type 0

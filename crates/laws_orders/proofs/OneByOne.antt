@@ -118,4 +118,4 @@ order_is_sound h k n d at = by (turn_of h.opening.in_doubt (take n (decisions h.
 
     by : (o : Option ℕ) → IfSome o (RunsAloneInTurn h before) → IfSome o (RunsAloneAfter h before)
     by None turn = turn
-    by (Some t) turn = subst (λ R. Alone R (calls_of t h.entries) (writes_in h t)) (k.leaves n (λ t. false) ∙ with_none h before) (turn (λ t. false))
+    by (Some t) turn = subst (λ R. Alone h.opening.slots R (calls_of t h.entries) (writes_in h t)) (k.leaves n (λ t. false) ∙ with_none h before) (turn (λ t. false))

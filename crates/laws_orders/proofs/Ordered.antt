@@ -128,7 +128,7 @@ module _ (o : Opening) (es more : List Entry) where
     turn_stays d own = if_some (turn_of o.in_doubt ds d) (RunsAloneInTurn (history_from o es) ds) (RunsAloneInTurn (history_from o more) ds)
         (λ t is alone chosen.
         let its : KeepsTurn o es more t = subst (KeepsTurn o es more) (turn_decides o.in_doubt ds d t is) own in (
-          subst (λ R. MayReplyAll R start (calls_of t more)) (sym (turns_kept chosen)) (its.replies _ (alone chosen).0),
+          subst (λ R. MayReplyAll o.slots R start (calls_of t more)) (sym (turns_kept chosen)) (its.replies _ (alone chosen).0),
           ap (λ (p : Progress). p.writes) its.progress ∙ (alone chosen).1 ∙ sym its.writes,
         ))
 

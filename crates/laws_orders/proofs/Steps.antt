@@ -120,7 +120,7 @@ module _ {o : Opening} {es : List Entry} {s : Sessions} (k : IsSoundAfter o es s
     -- one whose turn it is runs alone
     runs_alone : (t : ℕ) → IsAmong t (txns_of s.active) → (IsAmong t doubts → ⊥) → writes_given o.in_doubt t ≡ None → RunsAloneInTurn (history_from o more) ds t
     runs_alone t active outside own chosen = (
-      subst (λ R. MayReplyAll R start (calls_of t more)) (sym (turns_kept o es more ds kept chosen ∙ laid_now chosen))
+      subst (λ R. MayReplyAll o.slots R start (calls_of t more)) (sym (turns_kept o es more ds kept chosen ∙ laid_now chosen))
           ((kept_by_decided o es t d).replies _ (k.replies t active _ (reads_serial k agree t outside chosen))),
       own_writes (writes_given o.in_doubt t) (calls_of t more) own,
     )
@@ -311,7 +311,7 @@ module _ {o : Opening} {es : List Entry} {s : Sessions} (k : IsSoundAfter o es s
         commit_leaves
 
 -- a quiet reply
-quiet_in_order : (o : Opening) (es : List Entry) (session t : ℕ) (x : Exchange) → IsQuiet x → IsInOrder (history_from o es) → IsInOrder (history_from o (es ++ Exchanged session t x ∷ []))
+quiet_in_order : (o : Opening) (es : List Entry) (session t : ℕ) (x : Exchange) → IsQuiet o.slots x → IsInOrder (history_from o es) → IsInOrder (history_from o (es ++ Exchanged session t x ∷ []))
 quiet_in_order o es session t x quiet k =
     order_stays o es (es ++ Exchanged session t x ∷ []) (decisions-exchanged es t session x)
     (recursion-each (λ d. KeepsTurn o es (es ++ Exchanged session t x ∷ []) (decided_txn d)) (λ d. kept_by_quiet o es (decided_txn d) t session x quiet) (decisions es)) k
@@ -330,25 +330,25 @@ event_in_order o es old new (AppendCommit a ticket) k agree moves ordered =
     let active = txn_among a old.active moves.0.0 in
     let x : Exchange = exchange call.Commit (Ok (Committed ticket)) in
     subst (λ xs. IsInOrder (history_from o xs)) (append_assoc es (Decided (Commit a.txn) ∷ []) (Exchanged a.session a.txn x ∷ []))
-    (quiet_in_order o (es ++ Decided (Commit a.txn) ∷ []) a.session a.txn x (commit_is_quiet ticket)
+    (quiet_in_order o (es ++ Decided (Commit a.txn) ∷ []) a.session a.txn x (commit_is_quiet o.slots ticket)
     (commit_in_order k agree ordered a moves.0.0 moves.1 moves.0.2.0 (k.own a.txn active moves.0.2) (k.undecided a.txn active moves.0.2)))
 event_in_order o es old new (PutBack a images e r) k agree moves ordered = no_more o es ordered
 event_in_order o es old new (Doom a) k agree moves ordered = no_more o es ordered
-event_in_order o es old new (AnswerAbort a) k agree moves ordered = quiet_in_order o es a.session a.txn (exchange call.Abort (Ok Aborted)) abort_is_quiet ordered
+event_in_order o es old new (AnswerAbort a) k agree moves ordered = quiet_in_order o es a.session a.txn (exchange call.Abort (Ok Aborted)) (abort_is_quiet o.slots) ordered
 event_in_order o es old new (Ask ticket durable) k agree moves ordered =
     order_stays o es (es ++ Asked ticket durable ∷ []) (decisions-asked es ticket durable)
     (recursion-each (λ d. KeepsTurn o es (es ++ Asked ticket durable ∷ []) (decided_txn d)) (λ d. kept_by_asked o es (decided_txn d) ticket durable) (decisions es)) ordered
 event_in_order o es old new (RefuseCall session t c fault) k agree moves ordered =
-    quiet_in_order o es session t (exchange c (Err fault)) (refusal_is_quiet c fault moves.1) ordered
+    quiet_in_order o es session t (exchange c (Err fault)) (refusal_is_quiet o.slots c fault moves.1) ordered
 event_in_order o es old new (AppendPrepare a global granules) k agree moves ordered =
     let active = txn_among a old.active moves.0.0 in
     prepare_in_order k agree ordered a.txn active moves.0.2.0 (k.own a.txn active moves.0.2) (k.undecided a.txn active moves.0.2) global
 event_in_order o es old new (AnswerPrepare session t global) k agree moves ordered =
-    quiet_in_order o es session t (exchange (call.Prepare global) (Ok Prepared)) (prepare_is_quiet global) ordered
+    quiet_in_order o es session t (exchange (call.Prepare global) (Ok Prepared)) (prepare_is_quiet o.slots global) ordered
 event_in_order o es old new (AppendResolve a global) k agree moves ordered = resolve_in_order k agree ordered a.txn (prepared_among _ old.prepared moves.2)
 event_in_order o es old new (AppendRollback a global) k agree moves ordered = rollback_in_order k agree ordered a.txn
 event_in_order o es old new (EndRollback a) k agree moves ordered = no_more o es ordered
 event_in_order o es old new (AnswerResolve session r) k agree moves ordered =
-    quiet_in_order o es session r.txn (exchange (call.Resolve r.global r.outcome) (Ok Resolved)) (resolve_is_quiet r.global r.outcome) ordered
+    quiet_in_order o es session r.txn (exchange (call.Resolve r.global r.outcome) (Ok Resolved)) (resolve_is_quiet o.slots r.global r.outcome) ordered
 event_in_order o es old new (AnswerInDoubt session t pairs) k agree moves ordered =
-    quiet_in_order o es session t (exchange call.InDoubt (Ok (AreInDoubt pairs))) (in_doubt_is_quiet pairs) ordered
+    quiet_in_order o es session t (exchange call.InDoubt (Ok (AreInDoubt pairs))) (in_doubt_is_quiet o.slots pairs) ordered

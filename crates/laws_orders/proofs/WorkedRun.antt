@@ -31,8 +31,9 @@ use Rattle.laws_orders.specs.InTurns.{IsInOrder}
 use Rattle.laws_orders.specs.WorkedTurns.{commits_between}
 
 -- an open with nobody in doubt
-opened : (o : Records) → IsJustOpened (opening_with o) (just_opened o)
+opened : (o : Records) → IsJustOpened (opening_with 2042 o) (just_opened 2042 o)
 opened o = record {
+  slots = refl;
   seats = λ n. refl;
   resolving = refl;
   prepared = refl;
@@ -86,7 +87,7 @@ module _ (o : Records) (a b : Rid) (x y z global : List ℕ) (ticket : ℕ) (dif
   a_stays = ⊎_elim (λ same. absurd (differ same)) (λ other. put_there o b (Some z) a other) (told_apart a b) ∙ at_a
 
   abbrev s1 : Sessions
-  s1 = seated (just_opened o) (entries_by (just_opened o) (BeginTxn 1)) (txn_begun (just_opened o) 1)
+  s1 = seated (just_opened 2042 o) (entries_by (just_opened 2042 o) (BeginTxn 1)) (txn_begun (just_opened 2042 o) 1)
 
   abbrev s2 : Sessions
   s2 = seated s1 (entries_by s1 (BeginTxn 2)) (txn_begun s1 2)
@@ -112,10 +113,10 @@ module _ (o : Records) (a b : Rid) (x y z global : List ℕ) (ticket : ℕ) (dif
   abbrev s9 : Sessions
   s9 = seated s8 (entries_by s8 (AppendResolve (writer (once_updated o b)) global)) (resolve_appended s8 (writer (once_updated o b)) global)
 
-  pub run_between : (last : Sessions) × (made : List Entry) × RunsTo (just_opened o) (commits_between o a b x z global ticket) [] last made
-      × (decisions made ≡ Prepare 2 global ∷ Commit 1 ∷ Commit 2 ∷ []) × IsInOrder (history_from (opening_with o) made)
+  pub run_between : (last : Sessions) × (made : List Entry) × RunsTo (just_opened 2042 o) (commits_between o a b x z global ticket) [] last made
+      × (decisions made ≡ Prepare 2 global ∷ Commit 1 ∷ Commit 2 ∷ []) × IsInOrder (history_from (opening_with 2042 o) made)
   run_between =
-      let run : (made : List Entry) × RunsTo (just_opened o) (commits_between o a b x z global ticket) [] s9 made = (
+      let run : (made : List Entry) × RunsTo (just_opened 2042 o) (commits_between o a b x z global ticket) [] s9 made = (
         _,
         (
           s1,
@@ -155,6 +156,6 @@ module _ (o : Records) (a b : Rid) (x y z global : List ℕ) (ticket : ℕ) (dif
         run.0,
         run.1,
         refl,
-        run_in_order (opening_with o) [] (just_opened o) (commits_between o a b x z global ticket) s9 run.0 (open_is_sound (opening_with o) (just_opened o) (opened o))
-            (open_agrees (opening_with o) (just_opened o) (opened o)) run.1 (starts_in_order (opening_with o) tt),
+        run_in_order (opening_with 2042 o) [] (just_opened 2042 o) (commits_between o a b x z global ticket) s9 run.0 (open_is_sound (opening_with 2042 o) (just_opened 2042 o) (opened o))
+            (open_agrees (opening_with 2042 o) (just_opened 2042 o) (opened o)) run.1 (starts_in_order (opening_with 2042 o) tt),
       )

@@ -58,46 +58,46 @@ each_of_three P d e f p q r (suc (suc (suc n))) c at = absurd (no_fourth n c at)
 
 -- ---- a lost update
 
-pub lost_is_sound : (o : Records) (a : Rid) (x z v : List ℕ) → get o a ≡ Some x → Sound (history_from (opening_with o) (lost_update a x z v))
+pub lost_is_sound : (o : Records) (a : Rid) (x z v : List ℕ) → get o a ≡ Some x → Sound (history_from (opening_with 2042 o) (lost_update a x z v))
 lost_is_sound o a x z v at_a =
-    each_of_three (TakesTurn (history_from (opening_with o) (lost_update a x z v))) (Prepare 1 []) (Commit 2) (Commit 1)
+    each_of_three (TakesTurn (history_from (opening_with 2042 o) (lost_update a x z v))) (Prepare 1 []) (Commit 2) (Commit 1)
     (((1, refl), (may_get o a x at_a, ((may_write o a x at_a, refl), tt))), refl)
     (((2, refl), (may_get o a x at_a, ((may_write o a x at_a, refl), ((1, refl), tt)))), refl)
     tt
 
-pub lost_is_out_of_order : (o : Records) (a : Rid) (x z v : List ℕ) → get o a ≡ Some x → x ≢ z → SoundInOrder (history_from (opening_with o) (lost_update a x z v)) → ⊥
+pub lost_is_out_of_order : (o : Records) (a : Rid) (x z v : List ℕ) → get o a ≡ Some x → x ≢ z → SoundInOrder (history_from (opening_with 2042 o) (lost_update a x z v)) → ⊥
 lost_is_out_of_order o a x z v at_a other sound =
     other (was_there (overlay o (insert empty a (Some z))) a z x (written o a z) (sound 1 (Commit 2) refl (λ t. true)).0.1.0)
 
 -- ---- wrong reads
 
-pub soon_is_out_of_order : (o : Records) (a : Rid) (x z : List ℕ) → get o a ≡ Some x → x ≢ z → SoundInOrder (history_from (opening_with o) (read_too_soon a z)) → ⊥
+pub soon_is_out_of_order : (o : Records) (a : Rid) (x z : List ℕ) → get o a ≡ Some x → x ≢ z → SoundInOrder (history_from (opening_with 2042 o) (read_too_soon a z)) → ⊥
 soon_is_out_of_order o a x z at_a other sound = other (sym (was_there o a x z at_a (sound 1 (Commit 2) refl (λ t. false)).0.1.0))
 
-pub late_is_out_of_order : (o : Records) (a : Rid) (x z : List ℕ) → get o a ≡ Some x → x ≢ z → SoundInOrder (history_from (opening_with o) (read_too_late a x z)) → ⊥
+pub late_is_out_of_order : (o : Records) (a : Rid) (x z : List ℕ) → get o a ≡ Some x → x ≢ z → SoundInOrder (history_from (opening_with 2042 o) (read_too_late a x z)) → ⊥
 late_is_out_of_order o a x z at_a other sound =
     other (was_there (overlay o (insert empty a (Some z))) a z x (written o a z) (sound 1 (Commit 2) refl (λ t. false)).0.1.0)
 
-pub undone_is_out_of_order : (o : Records) (a : Rid) (x z : List ℕ) → get o a ≡ Some x → x ≢ z → SoundInOrder (history_from (opening_with o) (read_though_undone a z)) → ⊥
+pub undone_is_out_of_order : (o : Records) (a : Rid) (x z : List ℕ) → get o a ≡ Some x → x ≢ z → SoundInOrder (history_from (opening_with 2042 o) (read_though_undone a z)) → ⊥
 undone_is_out_of_order o a x z at_a other sound = other (sym (was_there o a x z at_a (sound 2 (Commit 2) refl (λ t. true)).0.1.0))
 
 -- ---- write sets that lie over each other
 
 module _ (o : Records) (a : Rid) (x z v : List ℕ) (at_a : get o a ≡ Some x) where
   -- whether transaction 1 counts or not, there is a record
-  some_there : (b : Bool) → IsSome (get (overlay (overlays o (map (writes_in (history_from (opening_with o) (written_over a z v))) (cond b (1 ∷ []) []))) empty) a)
+  some_there : (b : Bool) → IsSome (get (overlay (overlays o (map (writes_in (history_from (opening_with 2042 o) (written_over a z v))) (cond b (1 ∷ []) []))) empty) a)
   some_there true = may_write (overlay o (insert empty a (Some z))) a z (written o a z)
   some_there false = may_write o a x at_a
 
-  over_is_sound : SoundInOrder (history_from (opening_with o) (written_over a z v))
+  over_is_sound : SoundInOrder (history_from (opening_with 2042 o) (written_over a z v))
   over_is_sound =
-      each_of_three (TakesTurnInOrder (history_from (opening_with o) (written_over a z v))) (Prepare 1 []) (Commit 2) (Commit 1)
+      each_of_three (TakesTurnInOrder (history_from (opening_with 2042 o) (written_over a z v))) (Prepare 1 []) (Commit 2) (Commit 1)
       (λ chosen. (((1, refl), ((may_write o a x at_a, refl), tt)), refl))
       (λ chosen. (((2, refl), ((some_there (chosen 1), refl), ((1, refl), tt))), refl))
       tt
 
 pub over_leaves_other : (o : Records) (a : Rid) (x z v : List ℕ) → get o a ≡ Some x → z ≢ v
-    → SoundInOrder (history_from (opening_with o) (written_over a z v)) × (LeavesTheSame (history_from (opening_with o) (written_over a z v)) → ⊥)
+    → SoundInOrder (history_from (opening_with 2042 o) (written_over a z v)) × (LeavesTheSame (history_from (opening_with 2042 o) (written_over a z v)) → ⊥)
 over_leaves_other o a x z v at_a other = (
   over_is_sound o a x z v at_a,
   λ leaves. other (same (sym (written (overlay o (insert empty a (Some v))) a z) ∙ sym (ap (λ R. get R a) (leaves 3 (λ t. true))) ∙ written (overlay o (insert empty a (Some z))) a v)),

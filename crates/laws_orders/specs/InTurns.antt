@@ -41,7 +41,7 @@ records_in_turns h chosen ds = overlays h.opening.records (map (writes_in h) (fi
 -- A transaction, with its own answers and its write set, runs alone on the records that the turns before these decisions leave: whichever of
 -- those that are in doubt then may count.
 abbrev pub RunsAloneInTurn : History → List Decision → ℕ → Type 0
-RunsAloneInTurn h before t = (chosen : ℕ → Bool) → Alone (records_in_turns h chosen before) (calls_of t h.entries) (writes_in h t)
+RunsAloneInTurn h before t = (chosen : ℕ → Bool) → Alone h.opening.slots (records_in_turns h chosen before) (calls_of t h.entries) (writes_in h t)
 
 -- if the decision is a turn, its transaction runs alone on the records of the turns before it
 abbrev pub TakesTurnInOrder : History → List Decision → Decision → Type 0
@@ -79,7 +79,7 @@ pub record IsInOrder (h : History) : Type 0 where
 -- the transactions run alone one after another, each with its own answers and its write set, from these records to those
 abbrev pub RunOneByOne : History → Records → List ℕ → Records → Type 0
 RunOneByOne h R [] last = last ≡ R
-RunOneByOne h R (t ∷ ts) last = Alone R (calls_of t h.entries) (writes_in h t) × RunOneByOne h (overlay R (writes_in h t)) ts last
+RunOneByOne h R (t ∷ ts) last = Alone h.opening.slots R (calls_of t h.entries) (writes_in h t) × RunOneByOne h (overlay R (writes_in h t)) ts last
 
 -- what the opening's transactions in doubt leave that count: they ran before the opening
 abbrev pub opened_in_turns : History → (ℕ → Bool) → List Decision → Records

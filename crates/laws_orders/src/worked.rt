@@ -15,22 +15,22 @@ ghost use Rattle.laws_orders.specs.WorkedTurns.{commits_between, lost_update, re
 /// A transaction may commit between the prepare of another and its commit, beside its locks: a run of events that come, and its history is in order.
 pub fn transactions_commit_between()
     ensures { (o : Records) (a b : Rid) (x y z global : List ℕ) (ticket : ℕ) → a ≢ b → get o a ≡ Some x → get o b ≡ Some y →
-        (last : Sessions) × (made : List Entry) × RunsTo (just_opened o) (commits_between o a b x z global ticket) [] last made
-        × (decisions made ≡ Prepare 2 global ∷ Commit 1 ∷ Commit 2 ∷ []) × IsInOrder (history_from (opening_with o) made) }
+        (last : Sessions) × (made : List Entry) × RunsTo (just_opened 2042 o) (commits_between o a b x z global ticket) [] last made
+        × (decisions made ≡ Prepare 2 global ∷ Commit 1 ∷ Commit 2 ∷ []) × IsInOrder (history_from (opening_with 2042 o) made) }
 {}
 
 /// A history in which the update of one is lost, who has read what another had prepared over, is sound by itself; but no order of turns explains it.
 pub fn lost_updates_are_not_in_order()
-    ensures sound { (o : Records) (a : Rid) (x z v : List ℕ) → get o a ≡ Some x → Sound (history_from (opening_with o) (lost_update a x z v)) }
-    ensures not { (o : Records) (a : Rid) (x z v : List ℕ) → get o a ≡ Some x → x ≢ z → SoundInOrder (history_from (opening_with o) (lost_update a x z v)) → ⊥ }
+    ensures sound { (o : Records) (a : Rid) (x z v : List ℕ) → get o a ≡ Some x → Sound (history_from (opening_with 2042 o) (lost_update a x z v)) }
+    ensures not { (o : Records) (a : Rid) (x z v : List ℕ) → get o a ≡ Some x → x ≢ z → SoundInOrder (history_from (opening_with 2042 o) (lost_update a x z v)) → ⊥ }
 {}
 
 /// Nor are these in order: one who reads what is prepared and may be rolled back; one who reads what was there before a commit; one who reads what was rolled back. And where write sets
 /// lie over each other, all may be answered right in the order of turns, and yet this does not leave what the order of commits leaves.
 pub fn wrong_orders_do_not_come()
-    ensures too_soon { (o : Records) (a : Rid) (x z : List ℕ) → get o a ≡ Some x → x ≢ z → SoundInOrder (history_from (opening_with o) (read_too_soon a z)) → ⊥ }
-    ensures too_late { (o : Records) (a : Rid) (x z : List ℕ) → get o a ≡ Some x → x ≢ z → SoundInOrder (history_from (opening_with o) (read_too_late a x z)) → ⊥ }
-    ensures undone { (o : Records) (a : Rid) (x z : List ℕ) → get o a ≡ Some x → x ≢ z → SoundInOrder (history_from (opening_with o) (read_though_undone a z)) → ⊥ }
+    ensures too_soon { (o : Records) (a : Rid) (x z : List ℕ) → get o a ≡ Some x → x ≢ z → SoundInOrder (history_from (opening_with 2042 o) (read_too_soon a z)) → ⊥ }
+    ensures too_late { (o : Records) (a : Rid) (x z : List ℕ) → get o a ≡ Some x → x ≢ z → SoundInOrder (history_from (opening_with 2042 o) (read_too_late a x z)) → ⊥ }
+    ensures undone { (o : Records) (a : Rid) (x z : List ℕ) → get o a ≡ Some x → x ≢ z → SoundInOrder (history_from (opening_with 2042 o) (read_though_undone a z)) → ⊥ }
     ensures written_over { (o : Records) (a : Rid) (x z v : List ℕ) → get o a ≡ Some x → z ≢ v →
-        SoundInOrder (history_from (opening_with o) (written_over a z v)) × (LeavesTheSame (history_from (opening_with o) (written_over a z v)) → ⊥) }
+        SoundInOrder (history_from (opening_with 2042 o) (written_over a z v)) × (LeavesTheSame (history_from (opening_with 2042 o) (written_over a z v)) → ⊥) }
 {}

@@ -6,6 +6,7 @@ use Rattle.std.proofs.lemmas.List.{append-nil, append_assoc}
 use Rattle.std.proofs.lemmas.Option.{slice_get_past}
 use Rattle.shore_types.specs.Images.{Image, image_len}
 use Rattle.shore_types.specs.declared.ids.Rid.{Rid}
+use Rattle.shore_types.specs.declared.versions.Version.{Version}
 use Rattle.shore_model.specs.Records.{Records, put_image}
 use Rattle.shore_page.specs.Room.{claim_at, lowered}
 use Rattle.shore_page.specs.Slots.{Slot, holding, with_change, with_image, with_slot}
@@ -61,7 +62,7 @@ lower_over bytes image slots i =
     (with_slot slots i) i
     ∙ sym (with_change_twice (lowered (max (image_len image) bytes)) (holding image) (with_slot slots i) i)
 
-module _ (R : Records) (undos : List SessionTxn) (counts : SlotCounts) (k : Claimed R undos counts) (a : SessionTxn) (m : IsAmong a undos) where
+module _ (v : Version) (R : Records) (undos : List SessionTxn) (counts : SlotCounts) (k : Claimed v R undos counts) (a : SessionTxn) (m : IsAmong a undos) where
   -- the claim that a change finds
   pub found : (id : Rid) → NoOthers undos a.txn id → claim_at (slots_of R undos id.page (counts id.page)) id.slot ≡ claim_before a.undo.images (id, get R id)
   found id alone = ⊎_elim
@@ -93,12 +94,12 @@ module _ (R : Records) (undos : List SessionTxn) (counts : SlotCounts) (k : Clai
     -- the claim is what it was before the change
     pub claim_back : claim_at (slots_of (put_image R e.0 e.1) (with_undo a.txn left undos) e.0.page (counts e.0.page)) e.0.slot ≡ claim_before kept e
     claim_back =
-        claim_is (put_image R e.0 e.1) (with_undo a.txn left undos) e.0.page (counts e.0.page) e.0.slot (its_slot R undos counts k a m kept e marks rolling is)
+        claim_is (put_image R e.0 e.1) (with_undo a.txn left undos) e.0.page (counts e.0.page) e.0.slot (its_slot v R undos counts k a m kept e marks rolling is)
         ∙ ap (λ (i : Image). max (image_len i) (longest (befores_at e.0 (with_undo a.txn left undos)))) (put_here R e.0 e.1)
-        ∙ ap (λ l. max (image_len e.1) (longest l)) (lone_with (split undos a k.once m) e.0 left (its_own R undos counts k a m kept e marks rolling is))
+        ∙ ap (λ l. max (image_len e.1) (longest l)) (lone_with (split undos a k.once m) e.0 left (its_own v R undos counts k a m kept e marks rolling is))
 
     pub unreserved : slots_of (put_image R e.0 e.1) (with_undo a.txn left undos) e.0.page (counts e.0.page)
         ≡ with_change (lowered (claim_before kept e)) (with_image (slots_of R undos e.0.page (counts e.0.page)) e.0.slot e.1) e.0.slot
     unreserved =
-        undo_slots R undos counts k a m kept e marks rolling is
+        undo_slots v R undos counts k a m kept e marks rolling is
         ∙ lower_over (longest (befores_in e.0 kept)) e.1 (slots_of R undos e.0.page (counts e.0.page)) e.0.slot

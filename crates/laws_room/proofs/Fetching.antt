@@ -11,6 +11,8 @@ use Rattle.shore_types.specs.Ids.{page_cmp, rid_cmp, exact_rids}
 use Rattle.shore_types.specs.declared.ids.PageId.{PageId}
 use Rattle.shore_types.specs.declared.ids.Rid.{Rid}
 use Rattle.shore_types.specs.Images.{Image, image_len}
+use Rattle.shore_types.specs.declared.versions.Version.{Version}
+use Rattle.shore_types.specs.Versions.{record_limit, slot_limit-fills}
 use Rattle.shore_model.specs.Records.{Records}
 use Rattle.shore_page.specs.Room.{Fits, HasRoom, HoldsItsImage, claims, raised}
 use Rattle.shore_page.specs.Slots.{Slot, settled, with_change}
@@ -83,9 +85,9 @@ all_each p n (a ∷ undos) f on =
     ∙ all_each p n undos (λ i. at_all (λ i. raised (image_len i)) (rid_on p i) a.undo.images (f i)) (λ b m. on b (inr m))
 
 -- the claims come back as they were
-pub fetched : (R : Records) (undos : List SessionTxn) (counts : SlotCounts) → Claimed R undos counts → (p : PageId)
+pub fetched : (v : Version) (R : Records) (undos : List SessionTxn) (counts : SlotCounts) → Claimed v R undos counts → (p : PageId)
     → reserved_for_all p undos (settled_slots R p (counts p)) ≡ slots_of R undos p (counts p)
-fetched R undos counts k p =
+fetched v R undos counts k p =
     all_each p (counts p) undos (λ i. settled (get R (rid_on p i))) (λ a m. are_on counts p a.undo.images (k.within a m))
     ∙ each_alike (λ i. all_at (rid_on p i) undos (settled (get R (rid_on p i)))) (λ i. claiming (undecided_at R undos (rid_on p i))) 0 (counts p)
     (λ i ge less. all_raised_at (rid_on p i) (get R (rid_on p i)) (image_len (get R (rid_on p i))) undos)
@@ -133,16 +135,16 @@ claims_raised bytes (s ∷ slots) zero x at =
 claims_raised bytes (s ∷ slots) (suc i) x at =
     omega (arith, claims_raised bytes slots i x at, sum_by-cons (λ (s : Slot). s.claim) s slots, sum_by-cons (λ (s : Slot). s.claim) s (with_change (raised bytes) slots i))
 
-module _ (p : PageId) (n : ℕ) (F : ℕ → Slot) (room : HasRoom (each_from F 0 n)) where
+module _ (v : Version) (p : PageId) (n : ℕ) (F : ℕ → Slot) (room : HasRoom v (each_from F 0 n)) where
   -- the slots of the entries are there, and no image is longer than what its slot claims in the end
   abbrev pub AreWithin : List (Rid × Image) → Type 0
   AreWithin es = AllByRecursion (λ e. p ≡ e.0.page → (e.0.slot < n) × (image_len e.1 ≤ (F e.0.slot).claim)) es
 
-  pub most_claim : (i : ℕ) → i < n → (F i).claim ≤ 4000
+  pub most_claim : (i : ℕ) → i < n → (F i).claim ≤ record_limit v
   most_claim i less =
       let read : F i ≡ get_or (each_from F 0 n) i (F i) = sym (get_or_from_slice_get (each_from F 0 n) i (F i) (F i) (each_at F n i less)) in
-      let holds : HoldsItsImage (F i) =
-      subst HoldsItsImage (sym read) (All-get_or HoldsItsImage (each_from F 0 n) i (F i) (omega (arith, length-each F 0 n)) room.each) in
+      let holds : HoldsItsImage v (F i) =
+      subst (HoldsItsImage v) (sym read) (All-get_or (HoldsItsImage v) (each_from F 0 n) i (F i) (omega (arith, length-each F 0 n)) room.each) in
       holds.1
 
   pub raised_less : (e : Rid × Image) (f : ℕ → Slot) → (p ≡ e.0.page → (e.0.slot < n) × (image_len e.1 ≤ (F e.0.slot).claim))
@@ -162,7 +164,7 @@ module _ (p : PageId) (n : ℕ) (F : ℕ → Slot) (room : HasRoom (each_from F 
 
   pub kept_fits : (e : Rid × Image) (f : ℕ → Slot) → (p ≡ e.0.page → (e.0.slot < n) × (image_len e.1 ≤ (F e.0.slot).claim))
       → ((i : ℕ) → (f i).claim ≤ (F i).claim) → p ≡ e.0.page
-      → (e.0.slot < length (each_from f 0 n)) × Fits (each_from f 0 n) e.0.slot (image_len e.1)
+      → (e.0.slot < length (each_from f 0 n)) × Fits v (each_from f 0 n) e.0.slot (image_len e.1)
   kept_fits e f within less same =
       let w = within same in
       let slots = each_from f 0 n in
@@ -180,17 +182,17 @@ module _ (p : PageId) (n : ℕ) (F : ℕ → Slot) (room : HasRoom (each_from F 
       (claims_less (λ i. cond (eq_by_cmp rid_cmp (rid_on p i) e.0) (raised (image_len e.1) (f i)) (f i)) F 0 n (raised_less e f within less)) in (
         inside,
         record {
-          there = omega arith;
+          there = omega (arith, room.room, slot_limit-fills v);
           most = omega (arith, w.1, most_claim e.0.slot w.0);
           room = omega (arith, need_inside slots e.0.slot (image_len e.1) (f e.0.slot) inside read, claims_raised (image_len e.1) slots e.0.slot (f e.0.slot) at, sum, room.room);
         },
       )
 
-  all_kept_fit : (es : List (Rid × Image)) (f : ℕ → Slot) → AreWithin es → ((i : ℕ) → (f i).claim ≤ (F i).claim) → ReservesFit p es (each_from f 0 n)
+  all_kept_fit : (es : List (Rid × Image)) (f : ℕ → Slot) → AreWithin es → ((i : ℕ) → (f i).claim ≤ (F i).claim) → ReservesFit v p es (each_from f 0 n)
   all_kept_fit [] f within less = tt
   all_kept_fit (e ∷ es) f within less = (
     kept_fits e f within.0 less,
-    subst (ReservesFit p es) (sym (one_each (λ i. raised (image_len i)) p n e f (λ s. (within.0 s).0)))
+    subst (ReservesFit v p es) (sym (one_each (λ i. raised (image_len i)) p n e f (λ s. (within.0 s).0)))
         (all_kept_fit es (λ i. cond (eq_by_cmp rid_cmp (rid_on p i) e.0) (raised (image_len e.1) (f i)) (f i)) within.1 (raised_less e f within.0 less)),
   )
 
@@ -201,7 +203,7 @@ module _ (p : PageId) (n : ℕ) (F : ℕ → Slot) (room : HasRoom (each_from F 
       all_less es (λ i. cond (eq_by_cmp rid_cmp (rid_on p i) e.0) (raised (image_len e.1) (f i)) (f i)) within.1 (raised_less e f within.0 less) i
 
   all_fit : (undos : List SessionTxn) (f : ℕ → Slot) → ((a : SessionTxn) → IsAmong a undos → AreWithin a.undo.images) → ((i : ℕ) → (f i).claim ≤ (F i).claim)
-      → AllReservesFit p undos (each_from f 0 n)
+      → AllReservesFit v p undos (each_from f 0 n)
   all_fit [] f within less = tt
   all_fit (a ∷ undos) f within less =
       let its = within a (inl refl) in
@@ -209,15 +211,15 @@ module _ (p : PageId) (n : ℕ) (F : ℕ → Slot) (room : HasRoom (each_from F 
       recursion-weaker (λ e. p ≡ e.0.page → (e.0.slot < n) × (image_len e.1 ≤ (F e.0.slot).claim)) (λ e. p ≡ e.0.page → e.0.slot < n)
       (λ e w s. (w s).0) a.undo.images its in (
         all_kept_fit a.undo.images f its less,
-        subst (AllReservesFit p undos) (sym (on_each (λ i. raised (image_len i)) p n a.undo.images f on))
+        subst (AllReservesFit v p undos) (sym (on_each (λ i. raised (image_len i)) p n a.undo.images f on))
             (all_fit undos (λ i. at_all (λ i. raised (image_len i)) (rid_on p i) a.undo.images (f i)) (λ b m. within b (inr m)) (all_less a.undo.images f its less)),
       )
 
-pub fetching_fits : (R : Records) (undos : List SessionTxn) (counts : SlotCounts) → Claimed R undos counts → (p : PageId)
-    → AllReservesFit p undos (settled_slots R p (counts p))
-fetching_fits R undos counts k p =
-    all_fit p (counts p) (λ i. claiming (undecided_at R undos (rid_on p i)))
-    (subst HasRoom (map_each claiming (λ i. undecided_at R undos (rid_on p i)) 0 (counts p)) (k.room p)) undos (λ i. settled (get R (rid_on p i)))
+pub fetching_fits : (v : Version) (R : Records) (undos : List SessionTxn) (counts : SlotCounts) → Claimed v R undos counts → (p : PageId)
+    → AllReservesFit v p undos (settled_slots R p (counts p))
+fetching_fits v R undos counts k p =
+    all_fit v p (counts p) (λ i. claiming (undecided_at R undos (rid_on p i)))
+    (subst (HasRoom v) (map_each claiming (λ i. undecided_at R undos (rid_on p i)) 0 (counts p)) (k.room p)) undos (λ i. settled (get R (rid_on p i)))
     (λ a m. both a m a.undo.images (k.within a m) (its_longest a.undo.images))
     (λ i. least (image_len (get R (rid_on p i))) (longest (befores_at (rid_on p i) undos)))
   where

@@ -10,6 +10,7 @@ use Rattle.shore_types.specs.Ids.{page_cmp, pages_total, exact_pages, rid_cmp}
 use Rattle.shore_types.specs.declared.ids.PageId.{PageId}
 use Rattle.shore_types.specs.declared.ids.Rid.{Rid}
 use Rattle.shore_types.specs.Images.{Image, image_len}
+use Rattle.shore_types.specs.declared.versions.Version.{Version}
 use Rattle.shore_model.specs.Records.{Records}
 use Rattle.shore_page.specs.Room.{HasRoom, lowered}
 use Rattle.shore_page.specs.Slots.{Slot, settled, with_change}
@@ -134,15 +135,15 @@ found_at P id (e ∷ es) all some = ⊎_elim (λ same. subst P (sym same) all.0)
     (λ other. found_at P id es all.1 (λ none. some (ap (λ b. befores_in id es ++ cond b (e.1 ∷ []) []) other ∙ append-nil (befores_in id es) ∙ none)))
     (told_apart id e.0)
 
-let_go_room : (p : PageId) (es : List (Rid × Image)) (slots : List Slot) → HasRoom slots → HasRoom (let_go p es slots)
-let_go_room p [] slots room = room
-let_go_room p (e ∷ es) slots room =
-    let_go_room p es _ (elim (eq_by_cmp page_cmp p e.0.page) as (λ b. HasRoom (cond b (with_change (lowered 0) slots e.0.slot) slots)) [
-      | true ↦ lower_room 0 slots e.0.slot room
+let_go_room : (v : Version) (p : PageId) (es : List (Rid × Image)) (slots : List Slot) → HasRoom v slots → HasRoom v (let_go p es slots)
+let_go_room v p [] slots room = room
+let_go_room v p (e ∷ es) slots room =
+    let_go_room v p es _ (elim (eq_by_cmp page_cmp p e.0.page) as (λ b. HasRoom v (cond b (with_change (lowered 0) slots e.0.slot) slots)) [
+      | true ↦ lower_room v 0 slots e.0.slot room
       | false ↦ room
     ])
 
-module _ (R : Records) (undos : List SessionTxn) (counts : SlotCounts) (k : Claimed R undos counts) (a : SessionTxn) (m : IsAmong a undos) where
+module _ (v : Version) (R : Records) (undos : List SessionTxn) (counts : SlotCounts) (k : Claimed v R undos counts) (a : SessionTxn) (m : IsAmong a undos) where
   s : IsSplit undos a
   s = split undos a k.once m
 
@@ -185,9 +186,9 @@ module _ (R : Records) (undos : List SessionTxn) (counts : SlotCounts) (k : Clai
       ∙ sym (on_each (λ _. lowered 0) p (counts p) a.undo.images f (are_on counts p a.undo.images (k.within a m)))
       ∙ ap (let_go p a.undo.images) (sym (map_each claiming (λ i. undecided_at R undos (rid_on p i)) 0 (counts p)))
 
-  pub left_keeps : Claimed R (without_txn a.txn undos) counts
+  pub left_keeps : Claimed v R (without_txn a.txn undos) counts
   left_keeps = record {
-    room = λ p. subst HasRoom (sym (left_slots p)) (let_go_room p a.undo.images (slots_of R undos p (counts p)) (k.room p));
+    room = λ p. subst (HasRoom v) (sym (left_slots p)) (let_go_room v p a.undo.images (slots_of R undos p (counts p)) (k.room p));
     behind = k.behind;
     within = λ b among. k.within b (among_without a.txn b undos among).0;
     owned = λ b among. recursion-weaker (λ e. NoOthers undos b.txn e.0) (λ e. NoOthers (without_txn a.txn undos) b.txn e.0)
@@ -210,9 +211,9 @@ module _ (R : Records) (undos : List SessionTxn) (counts : SlotCounts) (k : Clai
     none_still : (u : ℕ) (q : Rid) → NoOthers undos u q → NoOthers (with_undo a.txn undo undos) u q
     none_still u q none = no_others_with undos a.txn undo u q none (λ other. ap (befores_in q) same ∙ none a m other)
 
-    pub marked_keeps : Claimed R (with_undo a.txn undo undos) counts
+    pub marked_keeps : Claimed v R (with_undo a.txn undo undos) counts
     marked_keeps = record {
-      room = λ p. subst HasRoom (sym (marked_slots p (counts p))) (k.room p);
+      room = λ p. subst (HasRoom v) (sym (marked_slots p (counts p))) (k.room p);
       behind = k.behind;
       within = λ b among.
           let o = among_with a.txn undo b undos among in
@@ -246,14 +247,14 @@ begun_slots R undos a empty p n =
     of : Image → List Image → Undecided
     of image befores = record { image = image; befores = befores }
 
-pub begun_keeps : (R : Records) (undos : List SessionTxn) (counts : SlotCounts) → Claimed R undos counts → (a : SessionTxn) → a.undo.images ≡ []
-    → (IsAmong a.txn (txns_of undos) → ⊥) → Claimed R (a ∷ undos) counts
-begun_keeps R undos counts k a empty fresh =
+pub begun_keeps : (v : Version) (R : Records) (undos : List SessionTxn) (counts : SlotCounts) → Claimed v R undos counts → (a : SessionTxn) → a.undo.images ≡ []
+    → (IsAmong a.txn (txns_of undos) → ⊥) → Claimed v R (a ∷ undos) counts
+begun_keeps v R undos counts k a empty fresh =
     let none : (u : ℕ) (q : Rid) → NoOthers undos u q → NoOthers (a ∷ undos) u q =
     λ u q h b there other. ⊎_elim (λ same. subst (λ (c : SessionTxn). befores_in q c.undo.images ≡ []) same (ap (befores_in q) empty))
     (λ later. h b later other) there in
     record {
-      room = λ p. subst HasRoom (sym (begun_slots R undos a empty p (counts p))) (k.room p);
+      room = λ p. subst (HasRoom v) (sym (begun_slots R undos a empty p (counts p))) (k.room p);
       behind = k.behind;
       within = λ b there. ⊎_elim
           (λ same. subst (λ (c : SessionTxn). AllByRecursion (λ e. e.0.slot < counts e.0.page) c.undo.images) same (subst (AllByRecursion (λ e. e.0.slot < counts e.0.page)) (sym empty) tt)) (λ later. k.within b later) there;

@@ -6,6 +6,8 @@ use Rattle.std.specs.Option.{option_map_or}
 use Rattle.shore_types.specs.declared.ids.PageId.{PageId}
 use Rattle.shore_types.specs.declared.ids.Rid.{Rid}
 use Rattle.shore_types.specs.Images.{Image, image_len}
+use Rattle.shore_types.specs.declared.versions.Version.{Version}
+use Rattle.shore_types.specs.Versions.{page_room, slot_limit, slot_limit-fills}
 use Rattle.shore_model.specs.Records.{Records}
 use Rattle.shore_page.specs.Room.{claim_at, claims}
 use Rattle.shore_page.specs.Slots.{Slot}
@@ -28,14 +30,14 @@ each_of P [] x all m = absurd m
 each_of P (y ∷ xs) x all (inl same) = subst P same all.0
 each_of P (y ∷ xs) x all (inr m) = each_of P xs x all.1 m
 
-pub of_one : (R : Records) (undos : List SessionTxn) (counts : SlotCounts) → Claimed R undos counts → (a : SessionTxn) → IsAmong a undos → (e : Rid × Image)
+pub of_one : (v : Version) (R : Records) (undos : List SessionTxn) (counts : SlotCounts) → Claimed v R undos counts → (a : SessionTxn) → IsAmong a undos → (e : Rid × Image)
     → IsAmong e a.undo.images → befores_at e.0 undos ≡ befores_in e.0 a.undo.images
-of_one R undos counts k a m e among =
+of_one v R undos counts k a m e among =
     lone_at (split undos a k.once m) e.0 (each_of (λ (e : Rid × Image). NoOthers undos a.txn e.0) a.undo.images e (k.owned a m) among)
 
-pub in_bounds : (R : Records) (undos : List SessionTxn) (counts : SlotCounts) → Claimed R undos counts → (p : PageId)
-    → (4 * counts p + claims (slots_of R undos p (counts p)) ≤ 8168) × (counts p ≤ 2042)
-in_bounds R undos counts k p =
+pub in_bounds : (v : Version) (R : Records) (undos : List SessionTxn) (counts : SlotCounts) → Claimed v R undos counts → (p : PageId)
+    → (4 * counts p + claims (slots_of R undos p (counts p)) ≤ page_room v) × (counts p ≤ slot_limit v)
+in_bounds v R undos counts k p =
     let len = length-slots R undos p (counts p) in
     let room = (k.room p).room in
-    (omega arith, omega arith)
+    (omega arith, omega (arith, slot_limit-fills v))

@@ -12,6 +12,7 @@ use Rattle.shore_types.specs.Ids.{page_cmp, pages_total, exact_pages, rid_cmp, r
 use Rattle.shore_types.specs.declared.ids.PageId.{PageId}
 use Rattle.shore_types.specs.declared.ids.Rid.{Rid}
 use Rattle.shore_types.specs.Images.{Image, image_len}
+use Rattle.shore_types.specs.declared.versions.Version.{Version}
 use Rattle.shore_model.specs.Records.{Records, put_image}
 use Rattle.shore_page.specs.Room.{Fits}
 use Rattle.shore_page.specs.Slots.{with_change}
@@ -111,7 +112,7 @@ length-slots R undos p n = length-map (undecided_on R undos p n) claiming ∙ le
 
 -- ---- a change
 
-module _ (R : Records) (undos : List SessionTxn) (counts : SlotCounts) (k : Claimed R undos counts) (a : SessionTxn) (m : IsAmong a undos) where
+module _ (v : Version) (R : Records) (undos : List SessionTxn) (counts : SlotCounts) (k : Claimed v R undos counts) (a : SessionTxn) (m : IsAmong a undos) where
   its : IsSplit undos a
   its = split undos a k.once m
 
@@ -211,9 +212,9 @@ module _ (R : Records) (undos : List SessionTxn) (counts : SlotCounts) (k : Clai
         ∙ ap (λ (s : Undecided). Some s) (undecided_is refl newest)
 
     -- it fits
-    pub undo_fits : Fits (slots_of R undos e.0.page (counts e.0.page)) e.0.slot (image_len e.1)
+    pub undo_fits : Fits v (slots_of R undos e.0.page (counts e.0.page)) e.0.slot (image_len e.1)
     undo_fits =
         let slots = undecided_on R undos e.0.page (counts e.0.page) in
         let it : undo_image slots e.0.slot ≡ Some e.1 = ap (λ (o : Option Undecided). option_and_then (λ s. slice_get s.befores 0) o) stands_there in
-        subst (λ (o : Option Image). IfSome o (λ before. Fits (claiming_all slots) e.0.slot (image_len before))) it
-        (undos_fit slots (e.0.slot ∷ []) (k.room e.0.page)).0
+        subst (λ (o : Option Image). IfSome o (λ before. Fits v (claiming_all slots) e.0.slot (image_len before))) it
+        (undos_fit v slots (e.0.slot ∷ []) (k.room e.0.page)).0

@@ -7,7 +7,9 @@ use Rattle.std.proofs.lemmas.List.Sums.{sum_by-append, sum_by-cons}
 use Rattle.shore_types.specs.Images.{Image, image_len}
 use Rattle.shore_types.specs.declared.ids.PageId.{PageId}
 use Rattle.shore_types.specs.declared.ids.Rid.{Rid}
-use Rattle.shore_types.specs.declared.layout.TheConstants.{PAGE_ROOM, SLOT_ENTRY_BYTES}
+use Rattle.shore_types.specs.declared.layout.TheConstants.{SLOT_ENTRY_BYTES}
+use Rattle.shore_types.specs.declared.versions.Version.{Version}
+use Rattle.shore_types.specs.Versions.{page_room}
 use Rattle.shore_model.specs.Records.{Records, laid_over, put_image}
 use Rattle.shore_page.specs.Layout.{record_bytes}
 use Rattle.shore_page.specs.Room.{HasRoom, HoldsItsImage, claims}
@@ -95,29 +97,29 @@ settled_bytes f first zero = refl
 settled_bytes f first (suc n) =
     omega (arith, settled_bytes f (suc first) n, sum_by-cons (λ (s : Slot). s.claim) (settled (f first)) (each_from (λ i. settled (f i)) (suc first) n), sum_by-cons image_len (f first) (each_from f (suc first) n))
 
-module _ (R : Records) (undos some : List SessionTxn) (counts : SlotCounts) (k : Claimed R undos counts)
+module _ (v : Version) (R : Records) (undos some : List SessionTxn) (counts : SlotCounts) (k : Claimed v R undos counts)
     (each : (a : SessionTxn) → IsAmong a some → IsAmong a undos) where
   claimed_by : (q : Rid) → image_len (get (all_rolled_back R some) q) ≤ max (image_len (get R q)) (longest (befores_at q undos))
   claimed_by q = let one = all_rolled_len R some q in let more = longest_of_some q some undos each in omega arith
 
-  pub rolled_room : (p : PageId) (n : ℕ) → n ≤ counts p → HasRoom (settled_slots (all_rolled_back R some) p n)
+  pub rolled_room : (p : PageId) (n : ℕ) → n ≤ counts p → HasRoom v (settled_slots (all_rolled_back R some) p n)
   rolled_room p n le =
       let f : ℕ → Slot = λ i. settled (get (all_rolled_back R some) (rid_on p i)) in
       let F : ℕ → Slot = λ i. claiming (undecided_at R undos (rid_on p i)) in
       let is = map_each claiming (λ i. undecided_at R undos (rid_on p i)) 0 (counts p) in
-      let room : HasRoom (each_from F 0 (counts p)) = subst HasRoom is (k.room p) in
+      let room : HasRoom v (each_from F 0 (counts p)) = subst (HasRoom v) is (k.room p) in
       let fewer = claims_less f F 0 n (λ i. claimed_by (rid_on p i)) in
       let first = first_claims F n (counts p) le in
       record {
         room = omega (arith, length-each f 0 n, length-each F 0 (counts p), fewer, first, room.room);
-        each = each_all HoldsItsImage f 0 n
-            (λ i ge less. let most = most_claim p (counts p) F room i (omega arith) in let its = claimed_by (rid_on p i) in (omega arith, omega arith));
+        each = each_all (HoldsItsImage v) f 0 n
+            (λ i ge less. let most = most_claim v p (counts p) F room i (omega arith) in let its = claimed_by (rid_on p i) in (omega arith, omega arith));
       }
 
-  pub rolled_bytes : (p : PageId) (n : ℕ) → n ≤ counts p → SLOT_ENTRY_BYTES * n + record_bytes (images_on (all_rolled_back R some) p n) ≤ PAGE_ROOM
+  pub rolled_bytes : (p : PageId) (n : ℕ) → n ≤ counts p → SLOT_ENTRY_BYTES * n + record_bytes (images_on (all_rolled_back R some) p n) ≤ page_room v
   rolled_bytes p n le =
       omega (arith, (rolled_room p n le).room, settled_bytes (λ i. get (all_rolled_back R some) (rid_on p i)) 0 n, length-each (λ i. settled (get (all_rolled_back R some) (rid_on p i))) 0 n)
 
-  pub rolled_claimed : Claimed (all_rolled_back R some) [] counts
-  rolled_claimed = opens_claimed (all_rolled_back R some) counts (λ p. rolled_room p (counts p) (omega arith))
+  pub rolled_claimed : Claimed v (all_rolled_back R some) [] counts
+  rolled_claimed = opens_claimed v (all_rolled_back R some) counts (λ p. rolled_room p (counts p) (omega arith))
       (λ id behind. all_rolled_none counts id behind R some (λ a m. k.within a (each a m)) (k.behind id behind))

@@ -8,6 +8,7 @@ use Rattle.std.proofs.lemmas.List.Elements.{All-cons, All-head, All-tail, All-ni
 use Rattle.shore_types.specs.declared.ids.PageId.{PageId}
 use Rattle.shore_types.specs.declared.ids.Rid.{Rid}
 use Rattle.shore_types.specs.Images.{Image, image_len}
+use Rattle.shore_types.specs.declared.versions.Version.{Version}
 use Rattle.shore_model.specs.Records.{Records, put_image}
 use Rattle.shore_page.specs.Room.{claims, Fits, HasRoom, HoldsItsImage, lowered}
 use Rattle.shore_page.specs.Slots.{Slot, with_change, with_image}
@@ -28,26 +29,26 @@ use Rattle.laws_room.proofs.Pages.{all_but_last, back_same, changed_other, chang
 
 -- ---- claims lowered
 
-lowered_holds : (bytes : ℕ) (s : Slot) → HoldsItsImage s → (lowered bytes s).claim ≤ s.claim × HoldsItsImage (lowered bytes s)
-lowered_holds bytes s h = (omega arith, (omega (arith, h.0), omega (arith, h.1)))
+lowered_holds : (v : Version) (bytes : ℕ) (s : Slot) → HoldsItsImage v s → (lowered bytes s).claim ≤ s.claim × HoldsItsImage v (lowered bytes s)
+lowered_holds v bytes s h = (omega arith, (omega (arith, h.0), omega (arith, h.1)))
 
-lower_each : (bytes : ℕ) (slots : List Slot) (i : ℕ) → All HoldsItsImage slots
-    → claims (with_change (lowered bytes) slots i) ≤ claims slots × All HoldsItsImage (with_change (lowered bytes) slots i)
-lower_each bytes [] i each = (omega arith, All-nil HoldsItsImage)
-lower_each bytes (s ∷ slots) zero each =
-    let here = lowered_holds bytes s (All-head HoldsItsImage s slots each) in (
+lower_each : (v : Version) (bytes : ℕ) (slots : List Slot) (i : ℕ) → All (HoldsItsImage v) slots
+    → claims (with_change (lowered bytes) slots i) ≤ claims slots × All (HoldsItsImage v) (with_change (lowered bytes) slots i)
+lower_each v bytes [] i each = (omega arith, All-nil (HoldsItsImage v))
+lower_each v bytes (s ∷ slots) zero each =
+    let here = lowered_holds v bytes s (All-head (HoldsItsImage v) s slots each) in (
       omega (arith, here.0, sum_by-cons (λ (s : Slot). s.claim) s slots, sum_by-cons (λ (s : Slot). s.claim) (lowered bytes s) slots),
-      All-cons HoldsItsImage (lowered bytes s) slots here.1 (All-tail HoldsItsImage s slots each),
+      All-cons (HoldsItsImage v) (lowered bytes s) slots here.1 (All-tail (HoldsItsImage v) s slots each),
     )
-lower_each bytes (s ∷ slots) (suc i) each =
-    let later = lower_each bytes slots i (All-tail HoldsItsImage s slots each) in (
+lower_each v bytes (s ∷ slots) (suc i) each =
+    let later = lower_each v bytes slots i (All-tail (HoldsItsImage v) s slots each) in (
       omega (arith, later.0, sum_by-cons (λ (s : Slot). s.claim) s slots, sum_by-cons (λ (s : Slot). s.claim) s (with_change (lowered bytes) slots i)),
-      All-cons HoldsItsImage s (with_change (lowered bytes) slots i) (All-head HoldsItsImage s slots each) later.1,
+      All-cons (HoldsItsImage v) s (with_change (lowered bytes) slots i) (All-head (HoldsItsImage v) s slots each) later.1,
     )
 
-pub lower_room : (bytes : ℕ) (slots : List Slot) (i : ℕ) → HasRoom slots → HasRoom (with_change (lowered bytes) slots i)
-lower_room bytes slots i room =
-    let l = lower_each bytes slots i room.each in
+pub lower_room : (v : Version) (bytes : ℕ) (slots : List Slot) (i : ℕ) → HasRoom v slots → HasRoom v (with_change (lowered bytes) slots i)
+lower_room v bytes slots i room =
+    let l = lower_each v bytes slots i room.each in
     record { room = omega (arith, l.0, room.room, length-with_change (lowered bytes) slots i); each = l.1 }
 
 -- ---- undo lists
@@ -62,21 +63,21 @@ no_others_with undos t undo u id none mine b m other =
     (λ old. subst (λ (c : SessionTxn). befores_in id c.undo.images ≡ []) (sym old.1) (none o.was o.there (λ e. other (o.txn ∙ e))))
     o.one
 
-module _ (R : Records) (undos : List SessionTxn) (counts : SlotCounts) (k : Claimed R undos counts) (a : SessionTxn) (m : IsAmong a undos) where
+module _ (v : Version) (R : Records) (undos : List SessionTxn) (counts : SlotCounts) (k : Claimed v R undos counts) (a : SessionTxn) (m : IsAmong a undos) where
   -- ---- a change
 
-  module _ (id : Rid) (image : Image) (alone : NoOthers undos a.txn id) (fits : Fits (slots_of R undos id.page (counts id.page)) id.slot (image_len image))
+  module _ (id : Rid) (image : Image) (alone : NoOthers undos a.txn id) (fits : Fits v (slots_of R undos id.page (counts id.page)) id.slot (image_len image))
       (new : SlotCounts) (grows : Grows counts new id) where
     pub change_slots : slots_of (put_image R id image) (with_undo a.txn (with_before_image R a.undo id) undos) id.page (new id.page)
         ≡ with_image (slots_of R undos id.page (counts id.page)) id.slot image
     change_slots =
-        ap claiming_all (changed_page R undos counts k a m id image alone (new id.page) grows.here)
+        ap claiming_all (changed_page v R undos counts k a m id image alone (new id.page) grows.here)
         ∙ sym (change_claims (undecided_on R undos id.page (counts id.page)) id.slot image)
 
     pub change_others : (p : PageId) → p ≢ id.page
         → slots_of (put_image R id image) (with_undo a.txn (with_before_image R a.undo id) undos) p (new p) ≡ slots_of R undos p (counts p)
     change_others p other =
-        ap claiming_all (ap (undecided_on (put_image R id image) (with_undo a.txn (with_before_image R a.undo id) undos) p) (grows.others p other) ∙ changed_other R undos counts k a m id image alone p (counts p) other)
+        ap claiming_all (ap (undecided_on (put_image R id image) (with_undo a.txn (with_before_image R a.undo id) undos) p) (grows.others p other) ∙ changed_other v R undos counts k a m id image alone p (counts p) other)
 
     more : (p : PageId) → counts p ≤ new p
     more p =
@@ -143,11 +144,11 @@ module _ (R : Records) (undos : List SessionTxn) (counts : SlotCounts) (k : Clai
             subst (λ (c : SessionTxn). c.txn ≢ a.txn → AllByRecursion (λ e. NoOthers (with_undo a.txn (with_before_image R a.undo id) undos) c.txn e.0) c.undo.images) (sym is)
             (λ apart. both was.txn was.undo.images (k.owned was among) (none_here was.undo.images (alone was among apart))) other
 
-    pub change_keeps : Claimed (put_image R id image) (with_undo a.txn (with_before_image R a.undo id) undos) new
+    pub change_keeps : Claimed v (put_image R id image) (with_undo a.txn (with_before_image R a.undo id) undos) new
     change_keeps = record {
       room = λ p. ⊎_elim
-          (λ same. subst (λ q. HasRoom (slots_of (put_image R id image) (with_undo a.txn (with_before_image R a.undo id) undos) q (new q))) (sym same) (subst HasRoom (sym change_slots) (with_image_room (slots_of R undos id.page (counts id.page)) id.slot image (k.room id.page) fits)))
-          (λ other. subst HasRoom (sym (change_others p other)) (k.room p))
+          (λ same. subst (λ q. HasRoom v (slots_of (put_image R id image) (with_undo a.txn (with_before_image R a.undo id) undos) q (new q))) (sym same) (subst (HasRoom v) (sym change_slots) (with_image_room v (slots_of R undos id.page (counts id.page)) id.slot image (k.room id.page) fits)))
+          (λ other. subst (HasRoom v) (sym (change_others p other)) (k.room p))
           (page_or_other p id.page);
       behind = change_behind;
       within = change_within;
@@ -165,11 +166,11 @@ module _ (R : Records) (undos : List SessionTxn) (counts : SlotCounts) (k : Clai
     pub undo_slots : slots_of (put_image R e.0 e.1) (with_undo a.txn fewer undos) e.0.page (counts e.0.page)
         ≡ with_change (lowered (longest (befores_in e.0 kept))) (with_image (slots_of R undos e.0.page (counts e.0.page)) e.0.slot e.1) e.0.slot
     undo_slots =
-        ap claiming_all (undone_page R undos counts k a m kept e marks rolling is)
-        ∙ sym (undo_claims (undecided_on R undos e.0.page (counts e.0.page)) e.0.slot (get R e.0) e.1 (befores_in e.0 kept) (stands_there R undos counts k a m kept e marks rolling is))
+        ap claiming_all (undone_page v R undos counts k a m kept e marks rolling is)
+        ∙ sym (undo_claims (undecided_on R undos e.0.page (counts e.0.page)) e.0.slot (get R e.0) e.1 (befores_in e.0 kept) (stands_there v R undos counts k a m kept e marks rolling is))
 
     pub undo_others : (p : PageId) → p ≢ e.0.page → slots_of (put_image R e.0 e.1) (with_undo a.txn fewer undos) p (counts p) ≡ slots_of R undos p (counts p)
-    undo_others p other = ap claiming_all (undone_other R undos counts k a m kept e marks rolling is p (counts p) other)
+    undo_others p other = ap claiming_all (undone_other v R undos counts k a m kept e marks rolling is p (counts p) other)
 
     fewer_in : (q : Rid) → befores_in q a.undo.images ≡ [] → befores_in q kept ≡ []
     fewer_in q none = (append_empty (before_of q e) (befores_in q kept) (sym (befores_push q kept e) ∙ sym (ap (befores_in q) is) ∙ none)).1
@@ -177,19 +178,19 @@ module _ (R : Records) (undos : List SessionTxn) (counts : SlotCounts) (k : Clai
     undo_none : (u : ℕ) (q : Rid) → NoOthers undos u q → NoOthers (with_undo a.txn fewer undos) u q
     undo_none u q none = no_others_with undos a.txn fewer u q none (λ other. fewer_in q (none a m other))
 
-    pub undo_keeps : Claimed (put_image R e.0 e.1) (with_undo a.txn fewer undos) counts
+    pub undo_keeps : Claimed v (put_image R e.0 e.1) (with_undo a.txn fewer undos) counts
     undo_keeps = record {
       room = λ p. ⊎_elim
-          (λ same. subst (λ q. HasRoom (slots_of (put_image R e.0 e.1) (with_undo a.txn fewer undos) q (counts q))) (sym same)
-          (subst HasRoom (sym undo_slots) (lower_room (longest (befores_in e.0 kept)) _ e.0.slot (with_image_room (slots_of R undos e.0.page (counts e.0.page)) e.0.slot e.1 (k.room e.0.page) (undo_fits R undos counts k a m kept e marks rolling is)))))
-          (λ other. subst HasRoom (sym (undo_others p other)) (k.room p))
+          (λ same. subst (λ q. HasRoom v (slots_of (put_image R e.0 e.1) (with_undo a.txn fewer undos) q (counts q))) (sym same)
+          (subst (HasRoom v) (sym undo_slots) (lower_room v (longest (befores_in e.0 kept)) _ e.0.slot (with_image_room v (slots_of R undos e.0.page (counts e.0.page)) e.0.slot e.1 (k.room e.0.page) (undo_fits v R undos counts k a m kept e marks rolling is)))))
+          (λ other. subst (HasRoom v) (sym (undo_others p other)) (k.room p))
           (page_or_other p e.0.page);
       behind = λ q far. put_there R e.0 e.1 q (other_id q e.0 (λ same. clash (subst (λ (q : Rid). counts q.page ≤ q.slot) same far))) ∙ k.behind q far;
       within = λ b among.
           let o = among_with a.txn fewer b undos among in
           ⊎_elim
           (λ new. subst (λ (tr : UndoList). AllByRecursion (λ e. e.0.slot < counts e.0.page) tr.images) (sym new.1)
-          (all_but_last R undos counts k a m kept e marks rolling is (λ e. e.0.slot < counts e.0.page) kept (subst (AllByRecursion (λ e. e.0.slot < counts e.0.page)) is (k.within a m))))
+          (all_but_last v R undos counts k a m kept e marks rolling is (λ e. e.0.slot < counts e.0.page) kept (subst (AllByRecursion (λ e. e.0.slot < counts e.0.page)) is (k.within a m))))
           (λ old. subst (λ (c : SessionTxn). AllByRecursion (λ e. e.0.slot < counts e.0.page) c.undo.images) (sym old.1) (k.within o.was o.there))
           o.one;
       owned = λ b among.
@@ -201,21 +202,21 @@ module _ (R : Records) (undos : List SessionTxn) (counts : SlotCounts) (k : Clai
           ⊎_elim
           (λ new. subst (λ t. AllByRecursion (λ e. NoOthers (with_undo a.txn fewer undos) t e.0) b.undo.images) (sym new.0)
           (subst (λ (tr : UndoList). AllByRecursion (λ e. NoOthers (with_undo a.txn fewer undos) a.txn e.0) tr.images) (sym new.1)
-          (weaker a.txn kept (all_but_last R undos counts k a m kept e marks rolling is (λ e. NoOthers undos a.txn e.0) kept (subst (AllByRecursion (λ e. NoOthers undos a.txn e.0)) is (k.owned a m))))))
+          (weaker a.txn kept (all_but_last v R undos counts k a m kept e marks rolling is (λ e. NoOthers undos a.txn e.0) kept (subst (AllByRecursion (λ e. NoOthers undos a.txn e.0)) is (k.owned a m))))))
           (λ old. subst (λ (c : SessionTxn). AllByRecursion (λ e. NoOthers (with_undo a.txn fewer undos) c.txn e.0) c.undo.images) (sym old.1) (weaker o.was.txn o.was.undo.images (k.owned o.was o.there)))
           o.one;
       once = subst EachOnce (sym (txns_with a.txn fewer undos)) k.once;
     }
       where
         clash : counts e.0.page ≤ e.0.slot → ⊥
-        clash far = let less = its_slot R undos counts k a m kept e marks rolling is in omega arith
+        clash far = let less = its_slot v R undos counts k a m kept e marks rolling is in omega arith
 
 -- ---- rollbacks in turns
 
-pub turns_fit : (R : Records) (undos : List SessionTxn) (counts : SlotCounts) (turns : List ℕ) → Claimed R undos counts → TurnsFit R undos counts turns
-turns_fit R undos counts [] k = tt
-turns_fit R undos counts (t ∷ turns) k = λ a kept e marks rolling m txn is. (
-  undo_fits R undos counts k a m kept e marks rolling is,
-  subst (λ t. TurnsFit (put_image R e.0 e.1) (with_undo t record { images = kept; marks = marks; rolling = rolling } undos) counts turns) txn
-      (turns_fit (put_image R e.0 e.1) (with_undo a.txn record { images = kept; marks = marks; rolling = rolling } undos) counts turns (undo_keeps R undos counts k a m kept e marks rolling is)),
+pub turns_fit : (v : Version) (R : Records) (undos : List SessionTxn) (counts : SlotCounts) (turns : List ℕ) → Claimed v R undos counts → TurnsFit v R undos counts turns
+turns_fit v R undos counts [] k = tt
+turns_fit v R undos counts (t ∷ turns) k = λ a kept e marks rolling m txn is. (
+  undo_fits v R undos counts k a m kept e marks rolling is,
+  subst (λ t. TurnsFit v (put_image R e.0 e.1) (with_undo t record { images = kept; marks = marks; rolling = rolling } undos) counts turns) txn
+      (turns_fit v (put_image R e.0 e.1) (with_undo a.txn record { images = kept; marks = marks; rolling = rolling } undos) counts turns (undo_keeps v R undos counts k a m kept e marks rolling is)),
 )

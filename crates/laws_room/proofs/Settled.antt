@@ -6,6 +6,7 @@ use Rattle.std.proofs.lemmas.Bool.{eq-eqb}
 use Rattle.shore_types.specs.Images.{Image, image_len}
 use Rattle.shore_types.specs.declared.ids.PageId.{PageId}
 use Rattle.shore_types.specs.declared.ids.Rid.{Rid}
+use Rattle.shore_types.specs.declared.versions.Version.{Version}
 use Rattle.shore_model.specs.Records.{Records}
 use Rattle.shore_page.specs.Room.{HasRoom}
 use Rattle.shore_page.specs.Slots.{Slot, settled}
@@ -30,10 +31,10 @@ claims_settled R p n =
     bare n = omega arith
 
 -- pages with room for their records, while nothing is undecided
-pub opens_claimed : (R : Records) (counts : SlotCounts) → ((p : PageId) → HasRoom (settled_slots R p (counts p)))
-    → ((id : Rid) → counts id.page ≤ id.slot → get R id ≡ None) → Claimed R [] counts
-opens_claimed R counts room behind = record {
-  room = λ p. subst HasRoom (claims_settled R p (counts p)) (room p);
+pub opens_claimed : (v : Version) (R : Records) (counts : SlotCounts) → ((p : PageId) → HasRoom v (settled_slots R p (counts p)))
+    → ((id : Rid) → counts id.page ≤ id.slot → get R id ≡ None) → Claimed v R [] counts
+opens_claimed v R counts room behind = record {
+  room = λ p. subst (HasRoom v) (claims_settled R p (counts p)) (room p);
   behind = behind;
   within = λ a m. absurd m;
   owned = λ a m. absurd m;
@@ -48,9 +49,9 @@ one_alone a id b (inr none) other = absurd none
 pub one_leaves : (a : SessionTxn) → without_txn a.txn (a ∷ []) ≡ []
 one_leaves a = ap (λ b. cond (not b) (a ∷ []) []) (eq-eqb a.txn a.txn refl)
 
-pub one_decided : (R : Records) (counts : SlotCounts) (a : SessionTxn) → Claimed R (a ∷ []) counts
-    → Claimed R [] counts × ((p : PageId) → let_go p a.undo.images (slots_of R (a ∷ []) p (counts p)) ≡ settled_slots R p (counts p))
-one_decided R counts a k = (
-  subst (λ (undos : List SessionTxn). Claimed R undos counts) (one_leaves a) (left_keeps R (a ∷ []) counts k a (inl refl)),
-  λ p. sym (claims_settled R p (counts p) ∙ ap (λ (undos : List SessionTxn). slots_of R undos p (counts p)) (sym (one_leaves a)) ∙ left_slots R (a ∷ []) counts k a (inl refl) p),
+pub one_decided : (v : Version) (R : Records) (counts : SlotCounts) (a : SessionTxn) → Claimed v R (a ∷ []) counts
+    → Claimed v R [] counts × ((p : PageId) → let_go p a.undo.images (slots_of R (a ∷ []) p (counts p)) ≡ settled_slots R p (counts p))
+one_decided v R counts a k = (
+  subst (λ (undos : List SessionTxn). Claimed v R undos counts) (one_leaves a) (left_keeps v R (a ∷ []) counts k a (inl refl)),
+  λ p. sym (claims_settled R p (counts p) ∙ ap (λ (undos : List SessionTxn). slots_of R undos p (counts p)) (sym (one_leaves a)) ∙ left_slots v R (a ∷ []) counts k a (inl refl) p),
 )

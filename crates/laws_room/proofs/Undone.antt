@@ -11,6 +11,7 @@ use Rattle.shore_model.specs.declared.histories.Entry.{Entry}
 use Rattle.shore_model.specs.declared.histories.Opening.{Opening}
 use Rattle.shore_model.specs.Locks.{MayWrite}
 use Rattle.shore_types.specs.Images.{Image}
+use Rattle.shore_types.specs.declared.versions.Version.{Version}
 use Rattle.shore_model.specs.Records.{Records, laid_over, put_image}
 use Rattle.laws_room.specs.Claims.{Claimed, NoOthers, SlotCounts, befores_in}
 use Rattle.laws_room.specs.Events.{AnswerFits, ChangeFitsPage, EventFits}
@@ -53,15 +54,15 @@ among_middle (x ∷ front) back a = inr (among_middle front back a)
 pub new_among : {undos : List SessionTxn} {a : SessionTxn} → IsSplit undos a → (undo : UndoList) → IsAmong (with_its a undo) (with_undo a.txn undo undos)
 new_among {undos} {a} s undo = subst (IsAmong (with_its a undo)) (sym (s.with_it undo)) (among_middle s.front s.back (with_its a undo))
 
-module _ (R : Records) (undos : List SessionTxn) (counts : SlotCounts) (k : Claimed R undos counts) (a : SessionTxn) (m : IsAmong a undos) where
+module _ (v : Version) (R : Records) (undos : List SessionTxn) (counts : SlotCounts) (k : Claimed v R undos counts) (a : SessionTxn) (m : IsAmong a undos) where
   pub undone_keeps : (es kept : List (Rid × Image)) (marks : List ℕ) (rolling : Option Rollback) → a.undo.images ≡ kept ++ es
-      → Claimed (laid_over R es) (with_undo a.txn record { images = kept; marks = marks; rolling = rolling } undos) counts
-  undone_keeps [] kept marks rolling is = marked_keeps R undos counts k a m record { images = kept; marks = marks; rolling = rolling } (sym (is ∙ append-nil kept))
+      → Claimed v (laid_over R es) (with_undo a.txn record { images = kept; marks = marks; rolling = rolling } undos) counts
+  undone_keeps [] kept marks rolling is = marked_keeps v R undos counts k a m record { images = kept; marks = marks; rolling = rolling } (sym (is ∙ append-nil kept))
   undone_keeps (e ∷ es) kept marks rolling is =
       let one : UndoList = record { images = kept ++ e ∷ []; marks = marks; rolling = rolling } in
       let k1 = undone_keeps es (kept ++ e ∷ []) marks rolling (is ∙ sym (append_assoc kept (e ∷ []) es)) in
-      subst (λ l. Claimed (put_image (laid_over R es) e.0 e.1) l counts) (with_twice a.txn one record { images = kept; marks = marks; rolling = rolling } undos)
-      (undo_keeps (laid_over R es) (with_undo a.txn one undos) counts k1 (with_its a one) (new_among (split undos a k.once m) one) kept e marks rolling refl)
+      subst (λ l. Claimed v (put_image (laid_over R es) e.0 e.1) l counts) (with_twice a.txn one record { images = kept; marks = marks; rolling = rolling } undos)
+      (undo_keeps v (laid_over R es) (with_undo a.txn one undos) counts k1 (with_its a one) (new_among (split undos a k.once m) one) kept e marks rolling refl)
 
 -- ---- events of the sessions
 
@@ -74,86 +75,86 @@ module _ {o : Opening} {es : List Entry} {s : Sessions} (after : IsSoundAfter o 
       absurd (writer_excludes after.stand a.txn b.txn id (λ e. other (sym e)) w (read_of_write s.held b.txn id v)))
       (empty_or_not (befores_in id b.undo.images))
 
-module _ {o : Opening} {es : List Entry} {s : Sessions} (after : IsSoundAfter o es s) (counts : SlotCounts) (k : Claimed s.records s.active counts) where
+module _ {v : Version} {o : Opening} {es : List Entry} {s : Sessions} (after : IsSoundAfter o es s) (counts : SlotCounts) (k : Claimed v s.records s.active counts) where
   module _ (a : SessionTxn) (m : IsAmong a s.active) (new : SlotCounts) where
-    same_counts : {R : Records} {undos : List SessionTxn} → new ≡ counts → Claimed R undos counts → Claimed R undos new
-    same_counts {R} {undos} same h = subst (Claimed R undos) (sym same) h
+    same_counts : {R : Records} {undos : List SessionTxn} → new ≡ counts → Claimed v R undos counts → Claimed v R undos new
+    same_counts {R} {undos} same h = subst (Claimed v R undos) (sym same) h
 
-    change_on : (id : Rid) (image : Image) → MayWrite s.held a.txn id → ChangeFitsPage s.records s.active counts id image new
-        → Claimed (put_image s.records id image) (with_undo a.txn (with_before_image s.records a.undo id) s.active) new
-    change_on id image w h = change_keeps s.records s.active counts k a m id image (alone after a m id w) h.0 new h.1
+    change_on : (id : Rid) (image : Image) → MayWrite s.held a.txn id → ChangeFitsPage v s.records s.active counts id image new
+        → Claimed v (put_image s.records id image) (with_undo a.txn (with_before_image s.records a.undo id) s.active) new
+    change_on id image w h = change_keeps v s.records s.active counts k a m id image (alone after a m id w) h.0 new h.1
 
-    stays_on : (undo : UndoList) → undo.images ≡ a.undo.images → new ≡ counts → Claimed s.records (with_undo a.txn undo s.active) new
-    stays_on undo same is = same_counts is (marked_keeps s.records s.active counts k a m undo same)
+    stays_on : (undo : UndoList) → undo.images ≡ a.undo.images → new ≡ counts → Claimed v s.records (with_undo a.txn undo s.active) new
+    stays_on undo same is = same_counts is (marked_keeps v s.records s.active counts k a m undo same)
 
     insert_on : (store : ℕ) (bytes : List ℕ) (answer : Answer) → Permit s.held a.txn (call.Insert store bytes) answer
-        → AnswerFits s counts (call.Insert store bytes) answer new
-        → Claimed (in_place_after_answer s.records a.undo (call.Insert store bytes) answer) (with_undo a.txn (undo_after_answer s.records a.undo (call.Insert store bytes) answer) s.active) new
+        → AnswerFits v s counts (call.Insert store bytes) answer new
+        → Claimed v (in_place_after_answer s.records a.undo (call.Insert store bytes) answer) (with_undo a.txn (undo_after_answer s.records a.undo (call.Insert store bytes) answer) s.active) new
     insert_on store bytes (Inserted id) w h = change_on id (Some bytes) w h
     insert_on store bytes _ w h = stays_on a.undo refl h
 
     parts : {A : Type 0} (n : ℕ) (xs : List A) → xs ≡ take n xs ++ drop n xs
     parts n xs = sym (take-append-drop n xs)
 
-    answer_on : (c : Call) (answer : Answer) → Permit s.held a.txn c answer → AnswerFits s counts c answer new
-        → Claimed (in_place_after_answer s.records a.undo c answer) (with_undo a.txn (undo_after_answer s.records a.undo c answer) s.active) new
+    answer_on : (c : Call) (answer : Answer) → Permit s.held a.txn c answer → AnswerFits v s counts c answer new
+        → Claimed v (in_place_after_answer s.records a.undo c answer) (with_undo a.txn (undo_after_answer s.records a.undo c answer) s.active) new
     answer_on (call.Insert store bytes) answer w h = insert_on store bytes answer w h
     answer_on (call.Update id bytes) answer w h = change_on id (Some bytes) w h
     answer_on (call.Delete id) answer w h = change_on id None w h
     answer_on (call.BackTo n) answer w h =
-        same_counts h (undone_keeps s.records s.active counts k a m (drop (mark_of a.undo n) a.undo.images) (take (mark_of a.undo n) a.undo.images) (take (n + 1) a.undo.marks) None (parts (mark_of a.undo n) a.undo.images))
+        same_counts h (undone_keeps v s.records s.active counts k a m (drop (mark_of a.undo n) a.undo.images) (take (mark_of a.undo n) a.undo.images) (take (n + 1) a.undo.marks) None (parts (mark_of a.undo n) a.undo.images))
     answer_on call.Savepoint answer w h = stays_on (undo_after_answer s.records a.undo call.Savepoint answer) refl h
     answer_on _ answer w h = stays_on a.undo refl h
 
   all_undone : (a : SessionTxn) → IsAmong a s.active → (counts' : SlotCounts) → counts' ≡ counts
-      → Claimed (laid_over s.records a.undo.images) (without_txn a.txn s.active) counts'
+      → Claimed v (laid_over s.records a.undo.images) (without_txn a.txn s.active) counts'
   all_undone a m counts' fits =
-      let k1 = undone_keeps s.records s.active counts k a m a.undo.images [] [] None refl in
+      let k1 = undone_keeps v s.records s.active counts k a m a.undo.images [] [] None refl in
       let m1 = new_among (split s.active a k.once m) nothing_to_undo in
-      subst (Claimed (laid_over s.records a.undo.images) (without_txn a.txn s.active)) (sym fits)
-      (subst (λ l. Claimed (laid_over s.records a.undo.images) l counts) (without_with a.txn nothing_to_undo s.active)
-      (left_keeps (laid_over s.records a.undo.images) (with_undo a.txn nothing_to_undo s.active) counts k1 (with_its a nothing_to_undo) m1))
+      subst (Claimed v (laid_over s.records a.undo.images) (without_txn a.txn s.active)) (sym fits)
+      (subst (λ l. Claimed v (laid_over s.records a.undo.images) l counts) (without_with a.txn nothing_to_undo s.active)
+      (left_keeps v (laid_over s.records a.undo.images) (with_undo a.txn nothing_to_undo s.active) counts k1 (with_its a nothing_to_undo) m1))
 
-  pub event_claims : (e : SessionEvent) (new : Sessions) (counts' : SlotCounts) → StepsTo s e new → EventFits s counts e counts'
-      → Claimed new.records new.active counts'
+  pub event_claims : (e : SessionEvent) (new : Sessions) (counts' : SlotCounts) → StepsTo s e new → EventFits v s counts e counts'
+      → Claimed v new.records new.active counts'
   event_claims (MoveLocks held) new counts' h fits =
-      subst (λ (n : Sessions). Claimed n.records n.active counts') (sym h.3) (subst (Claimed s.records s.active) (sym fits) k)
+      subst (λ (n : Sessions). Claimed v n.records n.active counts') (sym h.3) (subst (Claimed v s.records s.active) (sym fits) k)
   event_claims (BeginTxn session) new counts' h fits =
-      subst (λ (n : Sessions). Claimed n.records n.active counts') (sym h.1)
-      (subst (Claimed s.records (record { session = session; txn = s.next_txn; undo = nothing_to_undo } ∷ s.active)) (sym fits)
-      (begun_keeps s.records s.active counts k record { session = session; txn = s.next_txn; undo = nothing_to_undo } refl (λ m. low (after.below s.next_txn m))))
+      subst (λ (n : Sessions). Claimed v n.records n.active counts') (sym h.1)
+      (subst (Claimed v s.records (record { session = session; txn = s.next_txn; undo = nothing_to_undo } ∷ s.active)) (sym fits)
+      (begun_keeps v s.records s.active counts k record { session = session; txn = s.next_txn; undo = nothing_to_undo } refl (λ m. low (after.below s.next_txn m))))
     where
       low : s.next_txn < s.next_txn → ⊥
       low less = omega arith
   event_claims (GiveReply a c (Ok answer)) new counts' h fits =
-      subst (λ (n : Sessions). Claimed n.records n.active counts') (sym h.4) (answer_on a h.0.0 counts' c answer h.2.0 fits)
+      subst (λ (n : Sessions). Claimed v n.records n.active counts') (sym h.4) (answer_on a h.0.0 counts' c answer h.2.0 fits)
   event_claims (GiveReply a c (Err fault)) new counts' h fits =
-      subst (λ (n : Sessions). Claimed n.records n.active counts') (sym h.4) (stays_on a h.0.0 counts' a.undo refl fits)
+      subst (λ (n : Sessions). Claimed v n.records n.active counts') (sym h.4) (stays_on a h.0.0 counts' a.undo refl fits)
   event_claims (AppendCommit a ticket) new counts' h fits =
-      subst (λ (n : Sessions). Claimed n.records n.active counts') (sym h.2)
-      (subst (Claimed s.records (without_txn a.txn s.active)) (sym fits) (left_keeps s.records s.active counts k a h.0.0))
+      subst (λ (n : Sessions). Claimed v n.records n.active counts') (sym h.2)
+      (subst (Claimed v s.records (without_txn a.txn s.active)) (sym fits) (left_keeps v s.records s.active counts k a h.0.0))
   event_claims (PutBack a kept e r) new counts' h fits =
-      subst (λ (n : Sessions). Claimed n.records n.active counts') (sym h.4)
-      (subst (Claimed (put_image s.records e.0 e.1) (with_undo a.txn (undo_rolled a.undo kept r) s.active)) (sym fits)
-      (undo_keeps s.records s.active counts k a h.0.0 kept e (marks_kept r a.undo.marks) (Some r) h.1))
+      subst (λ (n : Sessions). Claimed v n.records n.active counts') (sym h.4)
+      (subst (Claimed v (put_image s.records e.0 e.1) (with_undo a.txn (undo_rolled a.undo kept r) s.active)) (sym fits)
+      (undo_keeps v s.records s.active counts k a h.0.0 kept e (marks_kept r a.undo.marks) (Some r) h.1))
   event_claims (Doom a) new counts' h fits =
-      subst (λ (n : Sessions). Claimed n.records n.active counts') (sym h.1) (stays_on a h.0.0 counts' (undo_rolled a.undo a.undo.images Whole) refl fits)
-  event_claims (AnswerAbort a) new counts' h fits = subst (λ (n : Sessions). Claimed n.records n.active counts') (sym h.1) (all_undone a h.0.0 counts' fits)
+      subst (λ (n : Sessions). Claimed v n.records n.active counts') (sym h.1) (stays_on a h.0.0 counts' (undo_rolled a.undo a.undo.images Whole) refl fits)
+  event_claims (AnswerAbort a) new counts' h fits = subst (λ (n : Sessions). Claimed v n.records n.active counts') (sym h.1) (all_undone a h.0.0 counts' fits)
   event_claims (Ask ticket durable) new counts' h fits =
-      subst (λ (n : Sessions). Claimed n.records n.active counts') (sym h) (subst (Claimed s.records s.active) (sym fits) k)
+      subst (λ (n : Sessions). Claimed v n.records n.active counts') (sym h) (subst (Claimed v s.records s.active) (sym fits) k)
   event_claims (RefuseCall session t c fault) new counts' h fits =
-      subst (λ (n : Sessions). Claimed n.records n.active counts') (sym h.2) (subst (Claimed s.records s.active) (sym fits) k)
+      subst (λ (n : Sessions). Claimed v n.records n.active counts') (sym h.2) (subst (Claimed v s.records s.active) (sym fits) k)
   event_claims (AppendPrepare a global granules) new counts' h fits =
-      subst (λ (n : Sessions). Claimed n.records n.active counts') (sym h.4) (subst (Claimed s.records s.active) (sym fits) k)
+      subst (λ (n : Sessions). Claimed v n.records n.active counts') (sym h.4) (subst (Claimed v s.records s.active) (sym fits) k)
   event_claims (AnswerPrepare session t global) new counts' h fits =
-      subst (λ (n : Sessions). Claimed n.records n.active counts') (sym h.2) (subst (Claimed s.records s.active) (sym fits) k)
+      subst (λ (n : Sessions). Claimed v n.records n.active counts') (sym h.2) (subst (Claimed v s.records s.active) (sym fits) k)
   event_claims (AppendResolve a global) new counts' h fits =
-      subst (λ (n : Sessions). Claimed n.records n.active counts') (sym h.3)
-      (subst (Claimed s.records (without_txn a.txn s.active)) (sym fits) (left_keeps s.records s.active counts k a h.0))
+      subst (λ (n : Sessions). Claimed v n.records n.active counts') (sym h.3)
+      (subst (Claimed v s.records (without_txn a.txn s.active)) (sym fits) (left_keeps v s.records s.active counts k a h.0))
   event_claims (AppendRollback a global) new counts' h fits =
-      subst (λ (n : Sessions). Claimed n.records n.active counts') (sym h.2) (stays_on a h.0 counts' (undo_rolled a.undo a.undo.images Whole) refl fits)
-  event_claims (EndRollback a) new counts' h fits = subst (λ (n : Sessions). Claimed n.records n.active counts') (sym h.2) (all_undone a h.0.0 counts' fits)
+      subst (λ (n : Sessions). Claimed v n.records n.active counts') (sym h.2) (stays_on a h.0 counts' (undo_rolled a.undo a.undo.images Whole) refl fits)
+  event_claims (EndRollback a) new counts' h fits = subst (λ (n : Sessions). Claimed v n.records n.active counts') (sym h.2) (all_undone a h.0.0 counts' fits)
   event_claims (AnswerResolve session r) new counts' h fits =
-      subst (λ (n : Sessions). Claimed n.records n.active counts') (sym h.2) (subst (Claimed s.records s.active) (sym fits) k)
+      subst (λ (n : Sessions). Claimed v n.records n.active counts') (sym h.2) (subst (Claimed v s.records s.active) (sym fits) k)
   event_claims (AnswerInDoubt session t pairs) new counts' h fits =
-      subst (λ (n : Sessions). Claimed n.records n.active counts') (sym h.2) (subst (Claimed s.records s.active) (sym fits) k)
+      subst (λ (n : Sessions). Claimed v n.records n.active counts') (sym h.2) (subst (Claimed v s.records s.active) (sym fits) k)

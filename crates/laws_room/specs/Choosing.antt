@@ -2,6 +2,7 @@
 use Rattle.std.specs.Prelude.{◌≡◌, ◌⊎◌, ◌<◌, ◌≤◌, ◌+◌, ℕ, zero, suc, List, Bool, IsTrue, Option, None, Some, if◌then◌else◌}
 use Rattle.std.specs.FinMap.{get}
 use Rattle.shore_types.specs.declared.ids.Rid.{Rid}
+use Rattle.shore_types.specs.declared.versions.Version.{Version}
 use Rattle.shore_model.specs.Records.{Records}
 use Rattle.shore_page.specs.Room.{Fits}
 use Rattle.laws_lives.specs.Sessions.{SessionTxn}
@@ -9,12 +10,12 @@ use Rattle.laws_room.specs.Claims.{SlotCounts, rid_on, slots_of}
 
 -- A new record of so many bytes may have the id: its slot is an empty one or the one behind the last, the bytes fit the page, and the id
 -- can be locked now.
-pub record Serves (R : Records) (undos : List SessionTxn) (counts : SlotCounts) (store pages bytes : ℕ) (may_lock : Rid → Bool) (id : Rid) : Type 0 where
+pub record Serves (v : Version) (R : Records) (undos : List SessionTxn) (counts : SlotCounts) (store pages bytes : ℕ) (may_lock : Rid → Bool) (id : Rid) : Type 0 where
   pub of_store : id.page.store ≡ store
   pub of_page : id.page.page < pages
   pub empty : get R id ≡ None
   pub reached : id.slot ≤ counts id.page
-  pub fits : Fits (slots_of R undos id.page (counts id.page)) id.slot bytes
+  pub fits : Fits v (slots_of R undos id.page (counts id.page)) id.slot bytes
   pub locks : IsTrue (may_lock id)
 
 -- of two ids of a store, the one comes before the other

@@ -8,6 +8,7 @@ use Rattle.shore_types.specs.Ids.{rid_cmp}
 use Rattle.shore_types.specs.Images.{Image}
 use Rattle.shore_types.specs.declared.ids.PageId.{PageId}
 use Rattle.shore_types.specs.declared.ids.Rid.{Rid}
+use Rattle.shore_types.specs.declared.versions.Version.{Version}
 use Rattle.shore_model.specs.Records.{Records}
 use Rattle.shore_page.specs.Room.{HasRoom}
 use Rattle.shore_page.specs.Slots.{Slot}
@@ -58,8 +59,8 @@ SlotCounts = PageId → ℕ
 
 -- Each page has room for its slots as they claim. Behind the last slot no record is, and no image comes back there. What could come
 -- back to a slot is one transaction's.
-pub record Claimed (R : Records) (undos : List SessionTxn) (counts : SlotCounts) : Type 0 where
-  pub room : (p : PageId) → HasRoom (slots_of R undos p (counts p))
+pub record Claimed (v : Version) (R : Records) (undos : List SessionTxn) (counts : SlotCounts) : Type 0 where
+  pub room : (p : PageId) → HasRoom v (slots_of R undos p (counts p))
   pub behind : (id : Rid) → counts id.page ≤ id.slot → get R id ≡ None
   pub within : (a : SessionTxn) → IsAmong a undos → AllByRecursion (λ e. e.0.slot < counts e.0.page) a.undo.images
   pub owned : (a : SessionTxn) → IsAmong a undos → AllByRecursion (λ e. NoOthers undos a.txn e.0) a.undo.images

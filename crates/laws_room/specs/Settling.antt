@@ -6,6 +6,7 @@ use Rattle.shore_types.specs.Ids.{page_cmp}
 use Rattle.shore_types.specs.Images.{Image, image_len}
 use Rattle.shore_types.specs.declared.ids.PageId.{PageId}
 use Rattle.shore_types.specs.declared.ids.Rid.{Rid}
+use Rattle.shore_types.specs.declared.versions.Version.{Version}
 use Rattle.shore_model.specs.Records.{Records}
 use Rattle.shore_page.specs.Room.{Fits, lowered, raised}
 use Rattle.shore_page.specs.Slots.{Slot, settled, with_change}
@@ -35,11 +36,11 @@ abbrev pub settled_slots : Records → PageId → ℕ → List Slot
 settled_slots R p n = each_from (λ i. settled (get R (rid_on p i))) 0 n
 
 -- `Page::reserve` may be called for each entry, one after another
-abbrev pub ReservesFit : PageId → List (Rid × Image) → List Slot → Type 0
-ReservesFit p [] slots = Unit {0}
-ReservesFit p (e ∷ es) slots = (p ≡ e.0.page → (e.0.slot < length slots) × Fits slots e.0.slot (image_len e.1))
-    × ReservesFit p es (if eq_by_cmp page_cmp p e.0.page then with_change (raised (image_len e.1)) slots e.0.slot else slots)
+abbrev pub ReservesFit : Version → PageId → List (Rid × Image) → List Slot → Type 0
+ReservesFit v p [] slots = Unit {0}
+ReservesFit v p (e ∷ es) slots = (p ≡ e.0.page → (e.0.slot < length slots) × Fits v slots e.0.slot (image_len e.1))
+    × ReservesFit v p es (if eq_by_cmp page_cmp p e.0.page then with_change (raised (image_len e.1)) slots e.0.slot else slots)
 
-abbrev pub AllReservesFit : PageId → List SessionTxn → List Slot → Type 0
-AllReservesFit p [] slots = Unit {0}
-AllReservesFit p (a ∷ undos) slots = ReservesFit p a.undo.images slots × AllReservesFit p undos (reserved_for p a.undo.images slots)
+abbrev pub AllReservesFit : Version → PageId → List SessionTxn → List Slot → Type 0
+AllReservesFit v p [] slots = Unit {0}
+AllReservesFit v p (a ∷ undos) slots = ReservesFit v p a.undo.images slots × AllReservesFit v p undos (reserved_for p a.undo.images slots)

@@ -5,6 +5,7 @@ use Rattle.std.specs.FinMap.{get}
 use Rattle.shore_types.specs.Images.{Image, image_len}
 use Rattle.shore_types.specs.declared.ids.Rid.{Rid}
 use Rattle.shore_types.specs.declared.layout.TheConstants.{ENDING_COST}
+use Rattle.shore_types.specs.declared.versions.Version.{Version}
 use Rattle.shore_model.specs.Records.{Records, put_image}
 use Rattle.shore_page.specs.Room.{Fits}
 use Rattle.shore_model.specs.declared.rollbacks.Rollback.{Rollback}
@@ -23,8 +24,8 @@ pub record TxnTable : Type 0 where
   pub room : LogRoom
 
 -- pages and log have room for all that could be undone
-pub record IsRoomy (spare doubts : ℕ) (s : TxnTable) : Type 0 where
-  pub pages : Claimed s.records s.undos s.counts
+pub record IsRoomy (v : Version) (spare doubts : ℕ) (s : TxnTable) : Type 0 where
+  pub pages : Claimed v s.records s.undos s.counts
   pub log : HasLogRoom spare doubts s.undos s.room
 
 pub data TableStep : Type 0 where
@@ -42,14 +43,14 @@ pub data TableStep : Type 0 where
   LeaveTable : SessionTxn → TableStep
 
 -- When a step may come. Only a transaction that enters, and a Change, ask for room.
-abbrev pub MayStep : TxnTable → TableStep → Type 0
-MayStep s (EnterTxn a) = (a.undo.images ≡ []) × (IsAmong a.txn (txns_of s.undos) → ⊥) × Admits s.room ENDING_COST
-MayStep s (MakeChange a id image new) =
-    IsAmong a s.undos × NoOthers s.undos a.txn id × ChangeFitsPage s.records s.undos s.counts id image new × ChangeAdmits s.records id image s.room
-MayStep s (SetMarks a marks rolling) = IsAmong a s.undos
-MayStep s (UndoOne a kept e marks rolling) = IsAmong a s.undos × (a.undo.images ≡ kept ++ e ∷ [])
-MayStep s (EndTxn a) = IsAmong a s.undos
-MayStep s (LeaveTable a) = IsAmong a s.undos
+abbrev pub MayStep : Version → TxnTable → TableStep → Type 0
+MayStep v s (EnterTxn a) = (a.undo.images ≡ []) × (IsAmong a.txn (txns_of s.undos) → ⊥) × Admits s.room ENDING_COST
+MayStep v s (MakeChange a id image new) =
+    IsAmong a s.undos × NoOthers s.undos a.txn id × ChangeFitsPage v s.records s.undos s.counts id image new × ChangeAdmits s.records id image s.room
+MayStep v s (SetMarks a marks rolling) = IsAmong a s.undos
+MayStep v s (UndoOne a kept e marks rolling) = IsAmong a s.undos × (a.undo.images ≡ kept ++ e ∷ [])
+MayStep v s (EndTxn a) = IsAmong a s.undos
+MayStep v s (LeaveTable a) = IsAmong a s.undos
 
 abbrev pub stepped : TxnTable → TableStep → TxnTable
 stepped s (EnterTxn a) = record s { undos = a ∷ s.undos; room = begun_room s.room }
@@ -70,32 +71,32 @@ stepped s (EndTxn a) = record s { undos = without_txn a.txn s.undos; room = ende
 stepped s (LeaveTable a) = record s { undos = without_txn a.txn s.undos; room = left_room (owed a) s.room }
 
 -- A step that asks for no room has it: its page has room for what is put back, and the log for its record.
-abbrev pub HasItsRoom : ℕ → TxnTable → TableStep → Type 0
-HasItsRoom spare s (UndoOne a kept e marks rolling) =
-    Fits (slots_of s.records s.undos e.0.page (s.counts e.0.page)) e.0.slot (image_len e.1) × Takes spare s.room (compensation_cost e.1)
-HasItsRoom spare s (EndTxn a) = Takes spare s.room ENDING_COST
-HasItsRoom spare s (EnterTxn a) = Unit {0}
-HasItsRoom spare s (MakeChange a id image new) = Unit {0}
-HasItsRoom spare s (SetMarks a marks rolling) = Unit {0}
-HasItsRoom spare s (LeaveTable a) = Unit {0}
+abbrev pub HasItsRoom : Version → ℕ → TxnTable → TableStep → Type 0
+HasItsRoom v spare s (UndoOne a kept e marks rolling) =
+    Fits v (slots_of s.records s.undos e.0.page (s.counts e.0.page)) e.0.slot (image_len e.1) × Takes spare s.room (compensation_cost e.1)
+HasItsRoom v spare s (EndTxn a) = Takes spare s.room ENDING_COST
+HasItsRoom v spare s (EnterTxn a) = Unit {0}
+HasItsRoom v spare s (MakeChange a id image new) = Unit {0}
+HasItsRoom v spare s (SetMarks a marks rolling) = Unit {0}
+HasItsRoom v spare s (LeaveTable a) = Unit {0}
 
 -- ---- steps of any transactions, one after another
 
-abbrev pub MayStepAll : TxnTable → List TableStep → Type 0
-MayStepAll s [] = Unit {0}
-MayStepAll s (step ∷ steps) = MayStep s step × MayStepAll (stepped s step) steps
+abbrev pub MayStepAll : Version → TxnTable → List TableStep → Type 0
+MayStepAll v s [] = Unit {0}
+MayStepAll v s (step ∷ steps) = MayStep v s step × MayStepAll v (stepped s step) steps
 
 abbrev pub stepped_all : TxnTable → List TableStep → TxnTable
 stepped_all s [] = s
 stepped_all s (step ∷ steps) = stepped_all (stepped s step) steps
 
-abbrev pub AllHaveRoom : ℕ → TxnTable → List TableStep → Type 0
-AllHaveRoom spare s [] = Unit {0}
-AllHaveRoom spare s (step ∷ steps) = HasItsRoom spare s step × AllHaveRoom spare (stepped s step) steps
+abbrev pub AllHaveRoom : Version → ℕ → TxnTable → List TableStep → Type 0
+AllHaveRoom v spare s [] = Unit {0}
+AllHaveRoom v spare s (step ∷ steps) = HasItsRoom v spare s step × AllHaveRoom v spare (stepped s step) steps
 
 -- the events of the sessions may come one after another, each with the room that it asks for; they lead to `last`, with these slots
 -- and this room of the log
-abbrev pub RunsWithRoom : Sessions → SlotCounts → LogRoom → List SessionEvent → Sessions → SlotCounts → LogRoom → Type 0
-RunsWithRoom s counts room [] last c r = (last ≡ s) × (c ≡ counts) × (r ≡ room)
-RunsWithRoom s counts room (e ∷ events) last c r = (new : Sessions) × (later : SlotCounts) × (left : LogRoom)
-    × StepsTo s e new × EventFits s counts e later × EventAdmits s e room × RoomAfter s e room left × RunsWithRoom new later left events last c r
+abbrev pub RunsWithRoom : Version → Sessions → SlotCounts → LogRoom → List SessionEvent → Sessions → SlotCounts → LogRoom → Type 0
+RunsWithRoom v s counts room [] last c r = (last ≡ s) × (c ≡ counts) × (r ≡ room)
+RunsWithRoom v s counts room (e ∷ events) last c r = (new : Sessions) × (later : SlotCounts) × (left : LogRoom)
+    × StepsTo s e new × EventFits v s counts e later × EventAdmits s e room × RoomAfter s e room left × RunsWithRoom v new later left events last c r

@@ -76,7 +76,7 @@ module _ (g : Geometry) (ring_bytes : ℕ) (o : Opening) (found : List LogRecord
     goes_work (Tend works) h = h.1
 
     goes_owing : (e : StoredEvent) → StoredSteps g (stored_in m) e (stored_in new) → HasRingRoom (owing (owed_to m.store.stage) new.state)
-    goes_owing (Manage e works) h = event_owing (owed_to m.store.stage) o found es m.state k.under_way.state k.under_way.roomy k.room g new.state e h.0
+    goes_owing (Manage e works) h = event_owing (owed_to m.store.stage) g o found es m.state k.under_way.state k.under_way.roomy k.room new.state e h.0
     goes_owing (Tend works) h = subst (λ s. HasRingRoom (owing (owed_to m.store.stage) s)) (sym h.0) k.room
 
     module _ (e : StoredEvent) (h : StoredSteps g (stored_in m) e (stored_in new)) (works : StoreWorks m.store (works_of e) new.store) where

@@ -180,7 +180,7 @@ module _ (g : Geometry) where
   inner_bounds s a c step new (inr (inl (whole, inr (inl h)))) k = goes_on_bounds s a c step new h.0 h.1 k
   inner_bounds s a c step new (inr (inl (whole, inr (inr (inl h))))) k = commit_bounds s a step new h.1 k
   inner_bounds s a c step new (inr (inl (whole, inr (inr (inr (inl h)))))) k = same_bounds s new (savepoint_table s a step new h.1).locks k
-  inner_bounds s a c step new (inr (inl (whole, inr (inr (inr (inr h)))))) k = same_bounds s new (prepare_locks s a h.0 step new h.2) k
+  inner_bounds s a c step new (inr (inl (whole, inr (inr (inr (inr h)))))) k = same_bounds s new (prepare_locks g.version s a h.0 step new h.2) k
   inner_bounds s a c step new (inr (inr (inl h))) k = same_bounds s new (back_table s a h.0 step new h.3).locks k
   inner_bounds s a c step new (inr (inr (inr h))) k = abort_bounds s a step new h.1 k
 

@@ -1,5 +1,6 @@
 -- Managers over their stores leave logs that the next restart takes.
 use Rattle.std.proofs.Common.{◌≡◌, ◌++◌, ◌∙◌, ◌<◌, length, map, arith, ℕ, List, [], ◌∷◌, Option, Some, None, refl, sym, ap, subst}
+use Rattle.shore_types.specs.Versions.{slot_limit}
 use Rattle.std.specs.Prelude.{IsSomeAnd, slice_get}
 use Rattle.std.specs.List.{AllByRecursion}
 use Rattle.std.proofs.lemmas.List.Elements.{All-from_recursion}
@@ -78,8 +79,9 @@ found_have P log (t ∷ ts) last u all =
 
 pub opened_over : (g : Geometry) (stream_bytes : ℕ) (o : Opening) (found : List LogRecord) (ready : RecoveryState) (first : State) → IsRecoverable ready → ready.redone ≡ length ready.log
     → IsRestartOf found ready → IsOpeningOf found o → IsOpenedOver o ready first → first.stream_bytes ≡ stream_bytes → ((p : PageId) → first.counts p ≡ slot_count ready.log p)
-    → IsNext found first.sessions.next_txn → HasLocksInBounds g first → IsOpenedFrom g stream_bytes ready.log first
-opened_over g stream_bytes o found ready first kept redone restart opening opens long counts next locks = record {
+    → IsNext found first.sessions.next_txn → HasLocksInBounds g first → o.slots ≡ slot_limit g.version → IsOpenedFrom g stream_bytes ready.log first
+opened_over g stream_bytes o found ready first kept redone restart opening opens long counts next locks sized = record {
+  slots = opens.sessions.slots ∙ sized;
   log = sym opens.stored.log;
   as_long = long;
   records = λ id. opens.sessions.records id ∙ redone_whole ready kept redone id.page id.slot;
@@ -112,16 +114,16 @@ opened_over g stream_bytes o found ready first kept redone restart opening opens
 
 module _ (g : Geometry) (stream_bytes : ℕ) (o : Opening) (found : List LogRecord) where
   pub moves_leaving : (es : List Entry) (m : StoredState) (events : List StoredEvent) (last : StoredState) (made : List Entry) → IsStateAfter o found es m.state
-      → LockWaitsMayAsk g m.state → IsRoomyState m.state → LeavesRoomyLogs g stream_bytes m.state → StoredMoves g m events last made → IsRoomyState last.state × LeavesRoomyLogs g stream_bytes last.state
+      → LockWaitsMayAsk g m.state → IsRoomyState g.version m.state → LeavesRoomyLogs g stream_bytes m.state → StoredMoves g m events last made → IsRoomyState g.version last.state × LeavesRoomyLogs g stream_bytes last.state
   moves_leaving es m [] last made k asks roomy h x =
-      (subst (λ (x : StoredState). IsRoomyState x.state) (sym x.0) roomy, subst (λ (x : StoredState). LeavesRoomyLogs g stream_bytes x.state) (sym x.0) h)
+      (subst (λ (x : StoredState). IsRoomyState g.version x.state) (sym x.0) roomy, subst (λ (x : StoredState). LeavesRoomyLogs g stream_bytes x.state) (sym x.0) h)
   moves_leaving es m (Manage e works ∷ events) last made k asks roomy h x =
       moves_leaving (es ++ entries_of m.state e x.0.state) x.0 events last x.1 (session_event_stays g o found es m.state x.0.state e k x.2.0)
       (waits_may_ask g m.state x.0.state (e ∷ []) (x.0.state, x.2.0, refl) asks)
-      (session_event_roomy o found es m.state k roomy g x.0.state e x.2.0) (event_leaving g stream_bytes o found es m.state x.0.state e k asks roomy h x.2.0) x.3
+      (session_event_roomy g o found es m.state k roomy x.0.state e x.2.0) (event_leaving g stream_bytes o found es m.state x.0.state e k asks roomy h x.2.0) x.3
   moves_leaving es m (Tend works ∷ events) last made k asks roomy h x =
       let same = x.2.0 in
-      moves_leaving es x.0 events last x.1 (subst (IsStateAfter o found es) (sym same) k) (subst (LockWaitsMayAsk g) (sym same) asks) (subst IsRoomyState (sym same) roomy)
+      moves_leaving es x.0 events last x.1 (subst (IsStateAfter o found es) (sym same) k) (subst (LockWaitsMayAsk g) (sym same) asks) (subst (IsRoomyState g.version) (sym same) roomy)
       (subst (LeavesRoomyLogs g stream_bytes) (sym same) h) x.3
 
 -- ---- a manager from its restart to a crash
@@ -136,14 +138,14 @@ module _ (g : Geometry) (stream_bytes : ℕ) (o : Opening) (s : RecoveryState) (
       let restarted = events_restart s.log s r.restart r.ready f.recoverable (record { turns = []; undone = refl; durable = f.durable }) h.restarts in
       undone_lawful s.log restarted.1.turns r.ready.log restarted.1.undone f.lawful
 
-  first_roomy : IsRoomyState r.first
+  first_roomy : IsRoomyState g.version r.first
   first_roomy = opens_roomy g stream_bytes r.ready.log r.first opens (whole_roomy g stream_bytes r.ready.durable r.ready.log ready_roomy) ready_lawful
 
   first_leaves : LeavesRoomyLogs g stream_bytes r.first
   first_leaves =
       opens_leaving g stream_bytes r.ready.log r.first opens r.first.durable (subst (λ n. AreRoomy g stream_bytes n r.ready.log) h.opens.stored.durable ready_roomy) ready_lawful h.no_losers
 
-  pub last_has_room : IsRoomyState r.last.state × LeavesRoomyLogs g stream_bytes r.last.state
+  pub last_has_room : IsRoomyState g.version r.last.state × LeavesRoomyLogs g stream_bytes r.last.state
   last_has_room = moves_leaving g stream_bytes o s.log [] (record { state = r.first; store = r.ready }) r.events r.last r.made (opened g o s f opening r h)
       (λ w there. absurd (subst (IsAmong w) h.opens.waiting there)) first_roomy first_leaves h.moves
 

@@ -83,12 +83,12 @@ module _ (g : Geometry) (o : Opening) (found : List LogRecord) (es : List Entry)
   abbrev pub s : State
   s = with_stream n m.state
 
-  streamed_roomy : IsRoomyState s
+  streamed_roomy : IsRoomyState g.version s
   streamed_roomy =
       let fits = k.roomy.log.fits in
       let front = cost_of_front m.state.log m.state.durable in
       let all = most m.state.durable (omega arith) in
-      record { pages = k.roomy.pages; log = record { sum = k.roomy.log.sum; fits = omega (arith, fits, more); lsns = k.roomy.log.lsns; short = omega (arith, front, all) } }
+      record { slots = k.roomy.slots; pages = k.roomy.pages; log = record { sum = k.roomy.log.sum; fits = omega (arith, fits, more); lsns = k.roomy.log.lsns; short = omega (arith, front, all) } }
 
   pub streamed_under_way : IsUnderWay g n o found es (record { state = s; store = m.store })
   streamed_under_way = record {

@@ -5,6 +5,8 @@ use Rattle.std.proofs.lemmas.List.Elements.{All-push}
 use Rattle.shore_types.specs.declared.ids.PageId.{PageId}
 use Rattle.shore_types.specs.declared.layout.Geometry.{Geometry}
 use Rattle.shore_types.specs.declared.layout.TheConstants.{LAST_OPENED, LAST_TXN, LONGEST_FRAME}
+use Rattle.shore_types.specs.declared.versions.Version.{Version}
+use Rattle.shore_analysis.specs.Sizes.{HasSizes}
 use Rattle.shore_model.specs.declared.histories.Entry.{Entry}
 use Rattle.shore_model.specs.declared.histories.Opening.{Opening}
 use Rattle.shore_model.specs.declared.log_records.LogRecord.{LogRecord}
@@ -38,6 +40,7 @@ use Rattle.laws_runs.specs.RoomyStates.{LeavesRoomyLogs}
 use Rattle.laws_runs.specs.SlotCounts.{slot_count, slots_behind}
 use Rattle.laws_runs.specs.SoundStores.{IsUnderWay}
 use Rattle.laws_runs.specs.StoredRuns.{StoredState}
+use Rattle.std.proofs.lemmas.Bool.{true≢false}
 
 -- the record has its room and its number, beside what is reserved and the longest frame
 pub record HasItsRoom (s : State) (r : LogRecord) : Type 0 where
@@ -97,10 +100,17 @@ module _ (o : Opening) (found : List LogRecord) (es : List Entry) (s : State) (k
   pub noted_state : IsStateAfter o found es new
   noted_state = record { sessions = sessions_stay; waits = waits_stay; forced = forced_on (length found) es s new refl goes_on k.forced; few = k.few }
 
+-- a record of a checkpoint has no image and no global id
+no_sizes : (v : Version) (p : Payload) → is_of_checkpoint p ≡ true → HasSizes v p
+no_sizes v CheckpointBegin its = tt
+no_sizes v (CheckpointEnd begin next txns dirty) its = tt
+no_sizes v (Anchor checkpoint tail) its = tt
+no_sizes v _ its = absurd (true≢false (sym its))
+
 -- ---- its room
 
-module _ (s : State) (roomy : IsRoomyState s) (r : LogRecord) (room : HasItsRoom s r) where
-  pub noted_roomy : IsRoomyState (with_record r s)
+module _ (v : Version) (s : State) (roomy : IsRoomyState v s) (r : LogRecord) (room : HasItsRoom s r) where
+  pub noted_roomy : IsRoomyState v (with_record r s)
   noted_roomy =
       let cost = cost_pushed s.log r in
       let long = length-append s.log (r ∷ []) in
@@ -108,6 +118,7 @@ module _ (s : State) (roomy : IsRoomyState s) (r : LogRecord) (room : HasItsRoom
       let number = room.number in
       let short = roomy.log.short in
       record {
+        slots = roomy.slots;
         pages = roomy.pages;
         log = record { sum = refl; fits = omega (arith, cost, fits); lsns = omega (arith, long, number); short = omega (arith, cost, short) };
       }
@@ -123,8 +134,8 @@ module _ (g : Geometry) (stream_bytes : ℕ) (o : Opening) (found : List LogReco
   state_after : IsStateAfter o found es its_state
   state_after = noted_state o found es s k.state r follows its
 
-  its_roomy : IsRoomyState its_state
-  its_roomy = noted_roomy s k.roomy r room
+  its_roomy : IsRoomyState g.version its_state
+  its_roomy = noted_roomy g.version s k.roomy r room
 
   nobody : r.txn ≡ 0
   nobody = no_one s.log r its k.state.sessions.whole.lawful follows
@@ -136,6 +147,7 @@ module _ (g : Geometry) (stream_bytes : ℕ) (o : Opening) (found : List LogReco
       record {
         number = omega (arith, none);
         next = next;
+        sizes = no_sizes g.version r.payload its;
         lists = lists;
         id = λ id e. absurd (none_some (sym plain.id ∙ e));
         granules = subst (AreGranules g) (sym (no_granules r.payload its)) (names_none g);

@@ -67,6 +67,7 @@ each_before P (x ∷ xs) ys h = (h.0, each_before P xs ys h.1)
 
 from_behind : (g : Geometry) (stream_bytes : ℕ) (a : Anchored) (found : List LogRecord) (s : State) → IsOpenedBehind g stream_bytes a found s → IsOpenedAs g stream_bytes found s
 from_behind g stream_bytes a found s h = record {
+  slots = h.slots;
   log = h.log;
   as_long = h.as_long;
   records = h.records;

@@ -1,5 +1,6 @@
 -- What undo asks of a roomy log, what an open makes of one, and that analysis takes it.
 use Rattle.std.proofs.Common.{◌≡◌, inl, inr, ⊎_elim, ◌++◌, ◌+◌, ◌<◌, ◌≤◌, ℕ, nat_lt, List, [], ◌∷◌, true, false, cond, Option, Some, None, refl, sym, ap, subst, ◌∙◌, length, take, take_all, arith}
+use Rattle.shore_types.specs.Versions.{slot_limit}
 use Rattle.std.specs.Prelude.{All, map, unwrap_or}
 use Rattle.std.specs.FinMap.{empty, get, get-empty, same_map}
 use Rattle.std.specs.List.{AllByRecursion, filter_map}
@@ -72,7 +73,7 @@ empty_is_placed g = record {
   undos = [];
   undecided = record { each = λ a m. absurd m; every = λ t h. absurd (none_undecided t h) };
   pages = record {
-    room = λ p. record { room = omega arith; each = All-nil HoldsItsImage };
+    room = λ p. record { room = omega arith; each = All-nil (HoldsItsImage g.version) };
     behind = λ id le. get-empty rid_cmp id;
     within = λ a m. absurd m;
     owned = λ a m. absurd m;
@@ -125,7 +126,7 @@ module _ (g : Geometry) (stream_bytes : ℕ) (log : List LogRecord) (k : IsRoomy
 -- ---- what undo asks
 
 module _ (g : Geometry) (stream_bytes : ℕ) (log : List LogRecord) (t : ℕ) (k : IsRoomyLog g stream_bytes log) (loser : IsLoser log t) where
-  pub undo_fits : FitsBehind log (undo_record log t).payload
+  pub undo_fits : FitsBehind g.version log (undo_record log t).payload
   undo_fits = record_fits g log (undo_record log t) k.placed (undone_roomy g stream_bytes log k t loser).placed
 
   pub undo_has_log_room : (cost_of_log log + cost_of (undo_record log t).payload + LONGEST_FRAME ≤ stream_bytes) × (length log + 1 < LAST_OPENED)
@@ -175,14 +176,14 @@ module _ (g : Geometry) where
       let left : image_of_record log id ≡ Some bytes = sym (shown id) ∙ at in
       let slot = left_inside log (recursion_from_All (IsInBounds g) log k.inside) id bytes left in
       let n = slot_count log id.page in
-      let room : HasRoom (settled_slots k.records id.page n) = rolled_room k.records k.undos [] (slot_count log) k.pages (λ a m. absurd m) id.page n (omega arith) in
+      let room : HasRoom g.version (settled_slots k.records id.page n) = rolled_room g.version k.records k.undos [] (slot_count log) k.pages (λ a m. absurd m) id.page n (omega arith) in
       let it : get k.records id ≡ Some bytes = k.shown id ∙ left in
       let within : id.slot < n =
       elim (nat_lt id.slot n) as (λ b. nat_lt id.slot n ≡ b → id.slot < n) [
         | true ↦ λ e. ltb-true id.slot n e
         | false ↦ λ e. absurd (none_some (sym (k.pages.behind id (ltb-false id.slot n e)) ∙ it))
       ] refl in
-      let holds = all_at HoldsItsImage (settled_slots k.records id.page n) id.slot (settled (get k.records id)) room.each
+      let holds = all_at (HoldsItsImage g.version) (settled_slots k.records id.page n) id.slot (settled (get k.records id)) room.each
       (each_at (λ i. settled (get k.records (rid_on id.page i))) n id.slot within) in
       let most = holds.1 in
       let long = ap image_len it in
@@ -201,6 +202,7 @@ doubt_is_one log lawful t doubt = prepared_is_one log lawful t (in_doubt_parts (
 
 -- what an open makes of a log, whatever its next number is
 pub record IsOpenedAs (g : Geometry) (stream_bytes : ℕ) (found : List LogRecord) (s : State) : Type 0 where
+  pub slots : s.sessions.slots ≡ slot_limit g.version
   pub log : s.log ≡ found
   pub as_long : s.stream_bytes ≡ stream_bytes
   pub records : (id : Rid) → get s.sessions.records id ≡ image_of_record found id
@@ -213,6 +215,7 @@ pub record IsOpenedAs (g : Geometry) (stream_bytes : ℕ) (found : List LogRecor
 
 pub from_as : (g : Geometry) (stream_bytes : ℕ) (found : List LogRecord) (s : State) → IsOpenedFrom g stream_bytes found s → IsOpenedAs g stream_bytes found s
 from_as g stream_bytes found s h = record {
+  slots = h.slots;
   log = h.log;
   as_long = h.as_long;
   records = h.records;
@@ -246,12 +249,12 @@ module _ (g : Geometry) (stream_bytes : ℕ) (log : List LogRecord) (s : State) 
   once : Lawful log → EachOnce (txns_of s.sessions.active)
   once lawful = subst EachOnce (sym opened.active) (doubts_once log lawful)
 
-  pub as_roomy : IsRoomyLog g stream_bytes log → Lawful log → IsRoomyState s
+  pub as_roomy : IsRoomyLog g stream_bytes log → Lawful log → IsRoomyState g.version s
   as_roomy k lawful =
       let same : k.placed.records ≡ s.sessions.records = same_map rids_total exact_rids k.placed.records s.sessions.records (λ id. k.placed.shown id ∙ sym (opened.records id)) in
-      let claimed : Claimed k.placed.records s.sessions.active (slot_count log) = some_claimed g log k.placed s.sessions.active (once lawful) each_undecided in
-      let placed : Claimed s.sessions.records s.sessions.active s.counts =
-      subst (λ R. Claimed R s.sessions.active s.counts) same (same_claimed k.placed.records s.sessions.active (slot_count log) s.counts opened.counts claimed) in
+      let claimed : Claimed g.version k.placed.records s.sessions.active (slot_count log) = some_claimed g log k.placed s.sessions.active (once lawful) each_undecided in
+      let placed : Claimed g.version s.sessions.records s.sessions.active s.counts =
+      subst (λ R. Claimed g.version R s.sessions.active s.counts) same (same_claimed g.version k.placed.records s.sessions.active (slot_count log) s.counts opened.counts claimed) in
       let less = some_owe_no_more log k.placed.undos k.placed.undecided s.sessions.active (once lawful) each_undecided in
       let many : length s.sessions.prepared ≡ length (doubts_in log) =
       sym (length-map s.sessions.prepared pair_of) ∙ ap length opened.prepared ∙ length-map (doubts_in log) pair_logged in
@@ -262,6 +265,7 @@ module _ (g : Geometry) (stream_bytes : ℕ) (log : List LogRecord) (s : State) 
       let last : length s.log ≡ length log = ap length opened.log in
       let long = opened.as_long in
       record {
+        slots = opened.slots;
         pages = placed;
         log = record { sum = refl; fits = omega (arith, fits, less, many, kept, long); lsns = omega (arith, lsns, less, many, last); short = omega (arith, short, long, kept) };
       }
@@ -294,7 +298,7 @@ numbers_below g stream_bytes least log k =
     recursion-weaker (IsInBounds g) (λ r. r.txn < LAST_TXN) (λ r h. h.number) log (recursion_from_All (IsInBounds g) log (whole_placed g stream_bytes least log k).inside)
 
 module _ (g : Geometry) (stream_bytes : ℕ) (log : List LogRecord) (s : State) (opened : IsOpenedFrom g stream_bytes log s) where
-  pub opens_roomy : IsRoomyLog g stream_bytes log → Lawful log → IsRoomyState s
+  pub opens_roomy : IsRoomyLog g stream_bytes log → Lawful log → IsRoomyState g.version s
   opens_roomy k lawful = as_roomy g stream_bytes log s (from_as g stream_bytes log s opened) k lawful
 
   pub opens_leaving : (least : ℕ) → AreRoomy g stream_bytes least log → Lawful log → HasNoLosers log → LeavesRoomyLogsFrom g stream_bytes least s

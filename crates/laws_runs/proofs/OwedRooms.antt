@@ -43,7 +43,7 @@ nothing_spared : (doubts : ℕ) (s : State) → HasLogRoom LONGEST_FRAME doubts 
 nothing_spared doubts s h = let fits = h.fits in record { sum = h.sum; fits = omega (arith, fits); lsns = h.lsns; short = h.short }
 
 module _ (owed : ℕ) where
-  goes_owing : (base : ℕ) (o : Opening) (es : List Entry) (g : Geometry) (s new : State) (e : SessionEvent) → AreSessionsAfter base o es s.sessions s.log → IsRoomyState s
+  goes_owing : (base : ℕ) (o : Opening) (es : List Entry) (g : Geometry) (s new : State) (e : SessionEvent) → AreSessionsAfter base o es s.sessions s.log → IsRoomyState g.version s
       → HasRingRoom (owing owed s) → Goes g s e new → HasRingRoom (owing owed new)
   goes_owing base o es g s new e k roomy ring h =
       let room = event_room LONGEST_FRAME within s.sessions (log_room s) roomy.log k.agree.once (doubts_apart k) e new.sessions h.room.room h.moves h.admits h.room.after in
@@ -52,7 +52,7 @@ module _ (owed : ℕ) where
       same_sums owed new h.room.room kept h.room.kept room.sum h.room.stream h.room.last
 
   by_owing : (base : ℕ) (o : Opening) (es : List Entry) (g : Geometry) (s : State) (events : List SessionEvent) (new : State) (made : List Entry) → AreSessionsAfter base o es s.sessions s.log
-      → IsRoomyState s → HasRingRoom (owing owed s) → GoesBy g s events new made → HasRingRoom (owing owed new)
+      → IsRoomyState g.version s → HasRingRoom (owing owed s) → GoesBy g s events new made → HasRingRoom (owing owed new)
   by_owing base o es g s [] new made k roomy ring h = subst (λ x. HasRingRoom (owing owed x)) (sym h.0) ring
   by_owing base o es g s (e ∷ events) new made k roomy ring h =
       by_owing base o (es ++ entries_by s.sessions e) g h.0 events new h.1 (goes_keeps base o es g s h.0 e k h.2) (goes_roomy base o es g s h.0 e k roomy h.2)
@@ -65,11 +65,11 @@ module _ (owed : ℕ) where
       reserved_for : Sessions → ℕ
       reserved_for x = (log_room (record s { sessions = x })).reserved
 
-  pub event_owing : (o : Opening) (found : List LogRecord) (es : List Entry) (s : State) → IsStateAfter o found es s → IsRoomyState s → HasRingRoom (owing owed s) → (g : Geometry) (new : State)
+  pub event_owing : (g : Geometry) (o : Opening) (found : List LogRecord) (es : List Entry) (s : State) → IsStateAfter o found es s → IsRoomyState g.version s → HasRingRoom (owing owed s) → (new : State)
       (e : ManagerEvent) → EventMoves g s e new → HasRingRoom (owing owed new)
-  event_owing o found es s k roomy ring g new e h =
+  event_owing g o found es s k roomy ring new e h =
       let comes = session_event_comes g o found es s k new e h in
       like_owing comes.mid new comes.after
       (by_owing (length found) o es g comes.start comes.events comes.mid (entries_of s e new)
-      (like_keeps (length found) o es s comes.start comes.before (sessions_of o found es s k.sessions)) (like_roomy s comes.start comes.before roomy)
+      (like_keeps (length found) o es s comes.start comes.before (sessions_of o found es s k.sessions)) (like_roomy g.version s comes.start comes.before roomy)
       (like_owing s comes.start comes.before ring) comes.goes)

@@ -7,11 +7,13 @@ use Rattle.std.specs.Ordering.{eq_by_cmp}
 use Rattle.std.proofs.lemmas.Bool.{ltb-true, ltb-false}
 use Rattle.std.proofs.lemmas.List.Sums.{sum_by-cons}
 use Rattle.std.proofs.lemmas.Option.{get_or_from_slice_get, slice_get_past, slice_get_within}
+use Rattle.shore_types.specs.Versions.{slot_limit-fills}
 use Rattle.shore_types.specs.Ids.{rid_cmp}
 use Rattle.shore_types.specs.Images.{Image, image_len}
 use Rattle.shore_types.specs.declared.ids.PageId.{PageId}
 use Rattle.shore_types.specs.declared.ids.Rid.{Rid}
 use Rattle.shore_types.specs.declared.layout.Geometry.{Geometry}
+use Rattle.shore_types.specs.declared.versions.Version.{Version}
 use Rattle.shore_model.specs.declared.log_records.LogRecord.{LogRecord}
 use Rattle.shore_model.specs.Logs.{image_in, image_of_record}
 use Rattle.shore_page.specs.Room.{Fits, HasRoom, HoldsItsImage, claim_at, claims, free_bytes, need}
@@ -81,9 +83,9 @@ claim_past f n slot le =
     ap (λ (o : Option Slot). option_map_or (λ (s : Slot). s.claim) o 0) (slice_get_past (each_from f 0 n) slot (omega arith))
 
 -- the slots are f's as far as they go, and h's up to the changed one have room
-pub fits_before : (f h : ℕ → Slot) (n slot : ℕ) (image : Image) → ((j : ℕ) → j ≢ slot → h j ≡ f j) → h slot ≡ settled image
-    → (n ≤ slot → (f slot).claim ≡ 0) → HasRoom (each_from h 0 (max n (slot + 1))) → Fits (each_from f 0 n) slot (image_len image)
-fits_before f h n slot image others here behind room =
+pub fits_before : (v : Version) (f h : ℕ → Slot) (n slot : ℕ) (image : Image) → ((j : ℕ) → j ≢ slot → h j ≡ f j) → h slot ≡ settled image
+    → (n ≤ slot → (f slot).claim ≡ 0) → HasRoom v (each_from h 0 (max n (slot + 1))) → Fits v (each_from f 0 n) slot (image_len image)
+fits_before v f h n slot image others here behind room =
     let c = max n (slot + 1) in
     let inside : slot < c = omega arith in
     let long = length-each f 0 n in
@@ -91,12 +93,13 @@ fits_before f h n slot image others here behind room =
     let moved = claims_moved f h slot others 0 c (omega arith) (omega arith) in
     let more = claims_more f 0 n c (omega arith) in
     let new = ap (λ (s : Slot). s.claim) here in
-    let each = all_at HoldsItsImage (each_from h 0 c) slot (h slot) room.each (each_at h c slot inside) in
+    let each = all_at (HoldsItsImage v) (each_from h 0 c) slot (h slot) room.each (each_at h c slot inside) in
     let total = room.room in
+    let fills = slot_limit-fills v in
     record {
       there = omega arith;
       most = let most = each.1 in omega arith;
-      room = elim (nat_lt slot n) as (λ b. nat_lt slot n ≡ b → need (each_from f 0 n) slot (image_len image) ≤ free_bytes (each_from f 0 n)) [
+      room = elim (nat_lt slot n) as (λ b. nat_lt slot n ≡ b → need (each_from f 0 n) slot (image_len image) ≤ free_bytes v (each_from f 0 n)) [
         | true ↦ λ e. let less = ltb-true slot n e in let claim = claim_of f n slot less in omega arith
         | false ↦ λ e. let past = ltb-false slot n e in let claim = claim_past f n slot past in let none = behind past in omega arith
       ] refl;
@@ -106,19 +109,19 @@ fits_before f h n slot image others here behind room =
 
 module _ (g : Geometry) where
   -- the slots that such a log leaves have room
-  pub left_have_room : (log : List LogRecord) → IsPlacedLog g log → (p : PageId) → HasRoom (slots_left log p)
+  pub left_have_room : (log : List LogRecord) → IsPlacedLog g log → (p : PageId) → HasRoom g.version (slots_left log p)
   left_have_room log k p =
-      subst HasRoom
+      subst (HasRoom g.version)
       (each_alike (λ i. settled (get k.records (rid_on p i))) (λ i. settled (image_of_record log (rid_on p i))) 0 (slot_count log p)
       (λ i ge less. ap settled (k.shown (rid_on p i))))
-      (rolled_room k.records k.undos [] (slot_count log) k.pages (λ a m. absurd m) p (slot_count log p) (omega arith))
+      (rolled_room g.version k.records k.undos [] (slot_count log) k.pages (λ a m. absurd m) p (slot_count log p) (omega arith))
 
   -- behind the slots nothing is
   none_behind : (log : List LogRecord) → IsPlacedLog g log → (id : Rid) → slot_count log id.page ≤ id.slot → image_of_record log id ≡ None
   none_behind log k id le = sym (k.shown id) ∙ k.pages.behind id le
 
   module _ (log : List LogRecord) (r : LogRecord) (old : IsPlacedLog g log) (new : IsPlacedLog g (log ++ r ∷ [])) where
-    changed_fits : (e : Rid × Image) → image_in r.payload ≡ Some e → Fits (slots_left log e.0.page) e.0.slot (image_len e.1)
+    changed_fits : (e : Rid × Image) → image_in r.payload ≡ Some e → Fits g.version (slots_left log e.0.page) e.0.slot (image_len e.1)
     changed_fits e is =
         let p = e.0.page in
         let f : ℕ → Slot = λ i. settled (image_of_record log (rid_on p i)) in
@@ -127,20 +130,20 @@ module _ (g : Geometry) where
         λ i. image_of_record-push log r (rid_on p i) ∙ ap (λ o. or_image o (rid_on p i) (image_of_record log (rid_on p i))) is in
         let count : slot_count (log ++ r ∷ []) p ≡ max (slot_count log p) (e.0.slot + 1) =
         slot_count-push log r p ∙ ap (λ o. slots_behind p o (slot_count log p)) is ∙ behind_here e (slot_count log p) in
-        fits_before f h (slot_count log p) e.0.slot e.1
+        fits_before g.version f h (slot_count log p) e.0.slot e.1
         (λ j other. ap settled (pushed j ∙ ap (λ b. cond b e.1 (image_of_record log (rid_on p j))) (apart j other)))
         (ap settled (pushed e.0.slot ∙ ap (λ b. cond b e.1 (image_of_record log (rid_on p e.0.slot))) (id_itself e.0)))
         (λ past. ap image_len (none_behind log old e.0 past))
-        (subst (λ n. HasRoom (each_from h 0 n)) count (left_have_room (log ++ r ∷ []) new p))
+        (subst (λ n. HasRoom g.version (each_from h 0 n)) count (left_have_room (log ++ r ∷ []) new p))
       where
         apart : (j : ℕ) → j ≢ e.0.slot → eq_by_cmp rid_cmp (rid_on e.0.page j) e.0 ≡ false
         apart j other = ⊎_elim (λ same. absurd (other (ap (λ (q : Rid). q.slot) same))) (λ off. off) (told_apart (rid_on e.0.page j) e.0)
 
-    fits_if_some : (o : Option (Rid × Image)) → image_in r.payload ≡ o → ForSome o (λ e. Fits (slots_left log e.0.page) e.0.slot (image_len e.1))
+    fits_if_some : (o : Option (Rid × Image)) → image_in r.payload ≡ o → ForSome o (λ e. Fits g.version (slots_left log e.0.page) e.0.slot (image_len e.1))
     fits_if_some o is e some = changed_fits e (is ∙ some)
 
-    pub record_fits : FitsBehind log r.payload
+    pub record_fits : FitsBehind g.version log r.payload
     record_fits = fits_if_some (image_in r.payload) refl
 
-  pub each_fits : (stream_bytes least : ℕ) (log : List LogRecord) → AreRoomy g stream_bytes least log → EachFits log
+  pub each_fits : (stream_bytes least : ℕ) (log : List LogRecord) → AreRoomy g stream_bytes least log → EachFits g.version log
   each_fits stream_bytes least log k n r at = record_fits (take n log) r (k.placed n) (subst (IsPlacedLog g) (take_next log n r at) (k.placed (n + 1)))

@@ -63,7 +63,7 @@ module _ (g : Geometry) where
   pub roomy_in_limits : (stream_bytes least : ℕ) (log : List LogRecord) → AreRoomy g stream_bytes least log → Lawful log → AreInLimits g log
   roomy_in_limits stream_bytes least log k lawful n r at =
       let its = recursion-at (IsInBounds g) log n r (recursion_from_All (IsInBounds g) log (whole_placed g stream_bytes least log k).inside) at in
-      record { number = its.number; says = says log n r.txn r.payload its.id its.granules its.next its.lists (lawful n r at).says }
+      record { number = its.number; sizes = its.sizes; says = says log n r.txn r.payload its.id its.granules its.next its.lists (lawful n r at).says }
 
   pub kept_meant : (stream_bytes least : ℕ) (log : List LogRecord) → AreRoomy g stream_bytes least log → Lawful log → (volume : LoggedPages) (cut : ℕ) → MayBeCut log volume cut
       → AreMeantKept g cut (drop cut log)

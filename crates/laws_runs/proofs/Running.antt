@@ -1,5 +1,5 @@
 -- Each event of a manager leaves a log that a restart takes.
-use Rattle.std.proofs.Common.{◌≡◌, ◌⊎◌, inl, inr, ⊎_elim, ◌++◌, ◌+◌, ◌<◌, ◌≤◌, ℕ, List, [], ◌∷◌, Option, Some, None, true, refl, sym, ap, subst, ◌∙◌, length, arith}
+use Rattle.std.proofs.Common.{◌≡◌, ◌⊎◌, inl, inr, ⊎_elim, ◌++◌, ◌+◌, ◌-◌, ◌<◌, ◌≤◌, ℕ, List, [], ◌∷◌, Option, Some, None, true, refl, sym, ap, subst, ◌∙◌, length, arith}
 use Rattle.std.specs.Prelude.{All, IsSome, not}
 use Rattle.std.specs.FinMap.{get}
 use Rattle.std.specs.List.{AllByRecursion}
@@ -8,7 +8,7 @@ use Rattle.std.proofs.Math.Seq.{take-length}
 use Rattle.std.proofs.lemmas.Bool.{true≢false}
 use Rattle.std.proofs.lemmas.List.{append_cancel_left, take-append-le}
 use Rattle.std.proofs.lemmas.List.Elements.{All-nil, All-push, recursion_from_All}
-use Rattle.shore_types.specs.Images.{Image}
+use Rattle.shore_types.specs.Images.{Image, image_len}
 use Rattle.shore_types.specs.Layout.{HasGranule, HasPage, HasSlot}
 use Rattle.shore_types.specs.Locking.{granule_cmp}
 use Rattle.shore_types.specs.declared.ids.PageId.{PageId}
@@ -22,7 +22,7 @@ use Rattle.shore_types.specs.declared.locking.Granule.{Granule}
 use Rattle.shore_model.specs.declared.log_records.Payload.{Payload}
 use Rattle.shore_model.specs.declared.log_records.Payload.TheVariants as payload
 use Rattle.shore_model.specs.Locks.{WellRooted}
-use Rattle.shore_model.specs.Logs.{Lawful, MayFollow, MaySay, has, image_in, id_in, is_prepare, is_unprepared, previous_of}
+use Rattle.shore_model.specs.Logs.{Answers, Lawful, MayFollow, MaySay, has, id_in, image_in, is_prepare, is_unprepared, previous_of, unanswered}
 use Rattle.shore_model.specs.declared.calls.Call.TheVariants as call
 use Rattle.shore_model.specs.declared.step.Step.{Step}
 use Rattle.shore_model.specs.declared.step.Step.TheVariants.{Waits}
@@ -73,6 +73,12 @@ use Rattle.laws_runs.proofs.StateLosers.{state_is_roomy}
 use Rattle.laws_runs.specs.RoomyLogs.{AreRoomy, IsRoomyLog}
 use Rattle.laws_runs.specs.RoomyStates.{HasLocksInBounds, LeavesRoomyLogs, LeavesRoomyLogsFrom}
 use Rattle.laws_runs.specs.SlotCounts.{slot_count, slots_behind}
+use Rattle.shore_analysis.specs.Sizes.{HasSizes}
+use Rattle.shore_types.specs.Versions.{global_limit, record_limit}
+use Rattle.shore_model.specs.declared.unanswered_changes.UnansweredChange.{UnansweredChange}
+use Rattle.laws_lives.specs.UndoChains.{IsUndoChain}
+use Rattle.laws_lives.proofs.UndoChains.{unanswered_chain}
+use Rattle.laws_runs.proofs.Redoing.{all_at}
 
 -- ---- what an event appends
 
@@ -87,6 +93,7 @@ record AppendsOne (g : Geometry) (log new : List LogRecord) (old counts : SlotCo
   served : IsServedKind appended.payload
   inside : (id : Rid) → id_in appended.payload ≡ Some id → HasSlot g id
   granules : AreGranules g (granules_in appended.payload)
+  sizes : HasSizes g.version appended.payload
   grown : (p : PageId) → counts p ≡ slots_behind p (image_in appended.payload) (old p)
 
 -- only an End names a next number
@@ -125,6 +132,7 @@ commit_appends g s new h = record {
   served = tt;
   inside = λ id e. absurd (nothing id e);
   granules = names_none g;
+  sizes = tt;
   grown = λ p. ap (λ (c : SlotCounts). c p) h.counts;
 }
   where
@@ -138,6 +146,7 @@ end_appends g s new h = record {
   served = tt;
   inside = λ id e. absurd (nothing id e);
   granules = names_none g;
+  sizes = tt;
   grown = λ p. ap (λ (c : SlotCounts). c p) h.counts;
 }
   where
@@ -145,13 +154,14 @@ end_appends g s new h = record {
     nothing id e = cc
 
 -- the page of an image that is put back has its slot
-compensation_appends : (g : Geometry) (s new : State) (h : Compensates s new) → HasSlot g h.id → h.id.slot < s.counts h.id.page → AppendsOne g s.log new.log s.counts new.counts
-compensation_appends g s new h inside slot = record {
+compensation_appends : (g : Geometry) (s new : State) (h : Compensates s new) → HasSlot g h.id → h.id.slot < s.counts h.id.page → image_len h.image ≤ record_limit g.version → AppendsOne g s.log new.log s.counts new.counts
+compensation_appends g s new h inside slot short = record {
   appended = record { txn = h.txn; previous = previous_of h.txn s.log; payload = payload.Compensation h.id h.image h.next };
   is = h.log;
   served = tt;
   inside = λ q e. subst (HasSlot g) (same q e) inside;
   granules = names_none g;
+  sizes = short;
   grown = λ p.
       ap (λ (c : SlotCounts). c p) h.counts
       ∙ sym (behind_within p (h.id, h.image) (s.counts p) (λ here. subst (λ q. h.id.slot < s.counts q) (sym here) slot));
@@ -163,13 +173,14 @@ compensation_appends g s new h inside slot = record {
 abbrev IsDecision : Payload → Type 0
 IsDecision says = ((global : List ℕ) × (granules : List Granule) × (says ≡ payload.Prepare global granules) × IsStrictlySortedBy granule_cmp granules) ⊎ (says ≡ payload.RollbackDecided)
 
-decision_appends : (g : Geometry) (s new : State) (h : Decides s new) → AreGranules g (granules_in h.says) → AppendsOne g s.log new.log s.counts new.counts
-decision_appends g s new h names = record {
+decision_appends : (g : Geometry) (s new : State) (h : Decides s new) → AreGranules g (granules_in h.says) → HasSizes g.version h.says → AppendsOne g s.log new.log s.counts new.counts
+decision_appends g s new h names sizes = record {
   appended = record { txn = h.txn; previous = previous_of h.txn s.log; payload = h.says };
   is = h.log;
   served = served h.says h.decides;
   inside = λ id e. absurd (no_id h.says h.decides id e);
   granules = names;
+  sizes = sizes;
   grown = λ p. ap (λ (c : SlotCounts). c p) h.counts ∙ sym (same_behind h.says h.decides p);
 }
   where
@@ -191,13 +202,14 @@ decision_appends g s new h names = record {
     same_behind : (says : Payload) → IsDecision says → (p : PageId) → slots_behind p (image_in says) (s.counts p) ≡ s.counts p
     same_behind says is p = ap (λ o. slots_behind p o (s.counts p)) (no_image says is)
 
-change_appends : (g : Geometry) (s new : State) (h : Changes g s new) → HasPage g h.id.page → AppendsOne g s.log new.log s.counts new.counts
-change_appends g s new h page = record {
+change_appends : (g : Geometry) (s new : State) (h : Changes g s new) → HasPage g h.id.page → image_len (get s.sessions.records h.id) ≤ record_limit g.version → AppendsOne g s.log new.log s.counts new.counts
+change_appends g s new h page was = record {
   appended = record { txn = h.txn; previous = previous_of h.txn s.log; payload = payload.Change h.id (get s.sessions.records h.id) h.image };
   is = h.log;
   served = tt;
   inside = λ q e. subst (HasSlot g) (same q e) (page, h.fits.there);
   granules = names_none g;
+  sizes = (was, h.fits.most);
   grown = grown_behind s.counts new.counts h.id h.image h.grows;
 }
   where
@@ -220,9 +232,9 @@ and_locks : (g : Geometry) (stream_bytes least : ℕ) (s : State) → LeavesLogs
 and_locks g stream_bytes least s h locks =
     record { as_long = h.as_long; prefixes = h.prefixes; counts = h.counts; whole = h.whole; losers = h.losers; txns = h.txns; locks = locks }
 
--- while a Prepare comes what is held is in bounds
+-- while a Prepare comes what is held is in bounds, and so is its global id
 abbrev pub HoldsForPrepare : Geometry → State → SessionEvent → Type 0
-HoldsForPrepare g s (AppendPrepare a global granules) = HoldsInBounds g s.sessions.held
+HoldsForPrepare g s (AppendPrepare a global granules) = HoldsInBounds g s.sessions.held × (length global ≤ global_limit g.version)
 HoldsForPrepare g s _ = Unit {0}
 
 -- ---- one event of the sessions
@@ -241,9 +253,9 @@ module _ (g : Geometry) (stream_bytes least base : ℕ) (o : Opening) (es : List
   }
 
   -- a record comes
-  module _ (new : State) (later : List Entry) (new_sessions : AreSessionsAfter base o later new.sessions new.log) (new_roomy : IsRoomyState new) (few : length new.sessions.active ≤ MAX_TRANSACTIONS)
+  module _ (new : State) (later : List Entry) (new_sessions : AreSessionsAfter base o later new.sessions new.log) (new_roomy : IsRoomyState g.version new) (few : length new.sessions.active ≤ MAX_TRANSACTIONS)
       (stream : new.stream_bytes ≡ s.stream_bytes) (whole : IsWholeLog new.log new.sessions) (losers : (t : ℕ) → IsLoser new.log t → IsAmong t (txns_of new.sessions.active)) (txns : new.sessions.next_txn ≤ LAST_TXN)
-      (places : NeedMore g.max_locks (doubts_in new.log) → ⊥) (names : (one : Decides s new) → AreGranules g (granules_in one.says)) where
+      (places : NeedMore g.max_locks (doubts_in new.log) → ⊥) (names : (one : Decides s new) → AreGranules g (granules_in one.says)) (sizes : (one : Decides s new) → HasSizes g.version one.says) where
     appended_leaving : AppendsOne g s.log new.log s.counts new.counts → LeavesLogs g stream_bytes least new
     appended_leaving one =
         let counts : (p : PageId) → new.counts p ≡ slot_count new.log p =
@@ -255,7 +267,7 @@ module _ (g : Geometry) (stream_bytes least base : ℕ) (o : Opening) (es : List
         let inside : All (IsInBounds g) new.log =
         subst (All (IsInBounds g)) (sym one.is)
         (All-push (IsInBounds g) s.log one.appended (whole_placed g stream_bytes least s.log h.prefixes).inside
-        (record { number = omega arith; next = (let none = served_names_none one.appended.payload one.served in omega (arith, none)); lists = served_lists_none g one.appended.payload one.served; id = one.inside; granules = one.granules })) in
+        (record { number = omega arith; next = (let none = served_names_none one.appended.payload one.served in omega (arith, none)); lists = served_lists_none g one.appended.payload one.served; sizes = one.sizes; id = one.inside; granules = one.granules })) in
         let roomy = state_is_roomy g base o later new new_sessions new_roomy few whole counts inside losers places in
         record {
           as_long = stream ∙ h.as_long;
@@ -283,16 +295,36 @@ module _ (g : Geometry) (stream_bytes least base : ℕ) (o : Opening) (es : List
         by (Some bytes) at some =
             (records_inside g s.log s.sessions.records (whole_placed g stream_bytes least s.log h.prefixes) (λ id. sym (image_in_place k.sound k.logged h.whole id)) id bytes at).0.0
 
+    -- .. and is as short as records are
+    was_short : (id : Rid) (x : Image) → get s.sessions.records id ≡ x → image_len x ≤ record_limit g.version
+    was_short id None at = omega arith
+    was_short id (Some bytes) at =
+        (records_inside g s.log s.sessions.records (whole_placed g stream_bytes least s.log h.prefixes) (λ id. sym (image_in_place k.sound k.logged h.whole id)) id bytes at).1
+
+    -- an image that is put back was logged as the one before a change
+    put_back_short : (one : Compensates s new) → image_len one.image ≤ record_limit g.version
+    put_back_short one =
+        let r : LogRecord = record { txn = one.txn; previous = previous_of one.txn s.log; payload = payload.Compensation one.id one.image one.next } in
+        let may : MaySay s.log one.txn (payload.Compensation one.id one.image one.next) = (last_follows s.log r (subst Lawful one.log whole.lawful)).says in
+        by (unanswered one.txn s.log) (unanswered_chain s.log one.txn) one.id one.image one.next may.1
+      where
+        by : (cs : List UnansweredChange) → IsUndoChain s.log one.txn cs → (id : Rid) (image : Image) (next : ℕ) → Answers cs id image next → image_len image ≤ record_limit g.version
+        by [] chain id image next answers = absurd answers
+        by (c ∷ cs) chain id image next answers =
+            let change = chain.0 in
+            let it = all_at (IsInBounds g) s.log (c.number - 1) change.found (whole_placed g stream_bytes least s.log h.prefixes).inside change.here in
+            subst (λ (x : Image). image_len x ≤ record_limit g.version) (sym answers.2) (subst (HasSizes g.version) change.says it.sizes).0
+
     writes_leaving : Writes g s new → LeavesLogs g stream_bytes least new
     writes_leaving (inl same) = stays_leaving new same.0 same.1 stream whole losers txns
     writes_leaving (inr (inl one)) = appended_leaving (commit_appends g s new one)
-    writes_leaving (inr (inr (inl one))) = appended_leaving (change_appends g s new one (its_page one.id one.inside))
+    writes_leaving (inr (inr (inl one))) = appended_leaving (change_appends g s new one (its_page one.id one.inside) (was_short one.id (get s.sessions.records one.id) refl))
     writes_leaving (inr (inr (inr (inl one)))) = appended_leaving (end_appends g s new one)
-    writes_leaving (inr (inr (inr (inr (inr one))))) = appended_leaving (decision_appends g s new one (names one))
+    writes_leaving (inr (inr (inr (inr (inr one))))) = appended_leaving (decision_appends g s new one (names one) (sizes one))
     writes_leaving (inr (inr (inr (inr (inl one))))) =
         let inside = recursion_from_All (IsInBounds g) s.log (whole_placed g stream_bytes least s.log h.prefixes).inside in
         appended_leaving (compensation_appends g s new one (logged_inside g one.txn s.log one.id one.logged inside)
-        (subst (λ n. one.id.slot < n) (sym (h.counts one.id.page)) (logged_slot g one.txn s.log one.id one.logged)))
+        (subst (λ n. one.id.slot < n) (sym (h.counts one.id.page)) (logged_slot g one.txn s.log one.id one.logged)) (put_back_short one))
 
   -- a Prepare comes while the locks that it names are held; else nobody more is in doubt
   fewer_places : (new : State) (e : SessionEvent) → IsNoPrepare e → Goes g s e new → NeedMore g.max_locks (doubts_in new.log) → ⊥
@@ -306,8 +338,8 @@ module _ (g : Geometry) (stream_bytes least base : ℕ) (o : Opening) (es : List
       let same : new.sessions.held ≡ s.sessions.held = ap (λ (x : Sessions). x.held) goes.moves.4 in
       let tracks = (goes_keeps base o es g s new (AppendPrepare a global granules) k goes).doubts in
       let long = ap length same in
-      let few = holds.within in
-      held_have_places new.log new.sessions tracks (subst WellRooted (sym same) holds.rooted) g.max_locks (omega (arith, long, few)) more
+      let few = holds.0.within in
+      held_have_places new.log new.sessions tracks (subst WellRooted (sym same) holds.0.rooted) g.max_locks (omega (arith, long, few)) more
   places_kept new e holds goes more = fewer_places new e tt goes more
 
   -- it names what is held, rising
@@ -322,15 +354,23 @@ module _ (g : Geometry) (stream_bytes least base : ℕ) (o : Opening) (es : List
       })
 
   -- no other event appends one
-  none_prepared : (new : State) (e : SessionEvent) → IsNoPrepare e → Goes g s e new → Lawful new.log → (one : Decides s new) → IsDecision one.says → AreGranules g (granules_in one.says)
-  none_prepared new e none goes lawful one (inr rollback) = subst (AreGranules g) (sym (ap granules_in rollback)) (names_none g)
-  none_prepared new e none goes lawful one (inl prepare) =
+  no_prepare_made : (new : State) (e : SessionEvent) → IsNoPrepare e → Goes g s e new → Lawful new.log → (one : Decides s new) (global : List ℕ) (granules : List Granule)
+      → one.says ≡ payload.Prepare global granules → ⊥
+  no_prepare_made new e none goes lawful one global granules is =
       let r : LogRecord = record { txn = one.txn; previous = previous_of one.txn s.log; payload = one.says } in
       let may : MaySay s.log one.txn one.says = (last_follows s.log r (subst Lawful one.log lawful)).says in
-      let unprepared : is_unprepared one.txn s.log ≡ true = (subst (MaySay s.log one.txn) prepare.2 may).0 in
-      let now : has is_prepare one.txn new.log ≡ true = ap (has is_prepare one.txn) one.log ∙ has-this s.log r is_prepare (ap is_prepare prepare.2) in
+      let unprepared : is_unprepared one.txn s.log ≡ true = (subst (MaySay s.log one.txn) is may).0 in
+      let now : has is_prepare one.txn new.log ≡ true = ap (has is_prepare one.txn) one.log ∙ has-this s.log r is_prepare (ap is_prepare is) in
       let before : has is_prepare one.txn s.log ≡ true = sym ((prepares_none s.log s.sessions e none).prepares one.txn) ∙ ap (has is_prepare one.txn) (sym goes.log) ∙ now in
-      absurd (true≢false (sym unprepared ∙ ap not before))
+      true≢false (sym unprepared ∙ ap not before)
+
+  none_prepared : (new : State) (e : SessionEvent) → IsNoPrepare e → Goes g s e new → Lawful new.log → (one : Decides s new) → IsDecision one.says → AreGranules g (granules_in one.says)
+  none_prepared new e none goes lawful one (inr rollback) = subst (AreGranules g) (sym (ap granules_in rollback)) (names_none g)
+  none_prepared new e none goes lawful one (inl prepare) = absurd (no_prepare_made new e none goes lawful one prepare.0 prepare.1 prepare.2)
+
+  no_global_id : (new : State) (e : SessionEvent) → IsNoPrepare e → Goes g s e new → Lawful new.log → (one : Decides s new) → IsDecision one.says → HasSizes g.version one.says
+  no_global_id new e none goes lawful one (inr rollback) = subst (HasSizes g.version) (sym rollback) tt
+  no_global_id new e none goes lawful one (inl prepare) = absurd (no_prepare_made new e none goes lawful one prepare.0 prepare.1 prepare.2)
 
   same_payload : (p q : LogRecord) → p ∷ [] ≡ q ∷ [] → p.payload ≡ q.payload
   same_payload p q e = cc
@@ -339,17 +379,23 @@ module _ (g : Geometry) (stream_bytes least base : ℕ) (o : Opening) (es : List
   names_kept new (AppendPrepare a global granules) holds goes lawful one =
       let same : and_record one.txn s.log one.says ≡ and_record a.txn s.log (payload.Prepare global granules) = sym one.log ∙ goes.log in
       let last = append_cancel_left s.log _ _ same in
-      prepare_names a global granules holds goes.moves.3 one.says (same_payload _ _ last) one.decides
+      prepare_names a global granules holds.0 goes.moves.3 one.says (same_payload _ _ last) one.decides
   names_kept new e holds goes lawful one = none_prepared new e tt goes lawful one one.decides
 
-  goes_leaving : (new : State) (e : SessionEvent) → IsRoomyState s → txn_count s ≤ MAX_TRANSACTIONS → HoldsForPrepare g s e → Goes g s e new → LeavesLogs g stream_bytes least new
+  sizes_kept : (new : State) (e : SessionEvent) → HoldsForPrepare g s e → Goes g s e new → Lawful new.log → (one : Decides s new) → HasSizes g.version one.says
+  sizes_kept new (AppendPrepare a global granules) holds goes lawful one =
+      let same : and_record one.txn s.log one.says ≡ and_record a.txn s.log (payload.Prepare global granules) = sym one.log ∙ goes.log in
+      subst (HasSizes g.version) (sym (same_payload _ _ (append_cancel_left s.log _ _ same))) holds.1
+  sizes_kept new e holds goes lawful one = no_global_id new e tt goes lawful one one.decides
+
+  goes_leaving : (new : State) (e : SessionEvent) → IsRoomyState g.version s → txn_count s ≤ MAX_TRANSACTIONS → HoldsForPrepare g s e → Goes g s e new → LeavesLogs g stream_bytes least new
   goes_leaving new e roomy few holds goes =
       let whole : IsWholeLog new.log new.sessions =
       subst (λ l. IsWholeLog l new.sessions) (sym goes.log) (event_stays_whole o es s.sessions new.sessions e s.log k.sound k.logged k.doubts h.whole goes.moves) in
       let many = goes.few few in
       writes_leaving new (es ++ entries_by s.sessions e) (goes_keeps base o es g s new e k goes) (goes_roomy base o es g s new e k roomy goes) (omega (arith, many)) goes.stream whole
       (λ t loser. losers_stay s.log s.sessions h.losers new.sessions e goes.moves t (subst (λ l. IsLoser l t) goes.log loser)) (goes.numbers h.txns) (places_kept new e holds goes)
-      (names_kept new e holds goes whole.lawful) goes.writes
+      (names_kept new e holds goes whole.lawful) (sizes_kept new e holds goes whole.lawful) goes.writes
 
 -- ---- events of the sessions one after another
 
@@ -358,7 +404,7 @@ none_held g s (AppendPrepare a global granules) none = absurd none.0
 none_held g s _ none = tt
 
 by_leaving : (g : Geometry) (stream_bytes least base : ℕ) (o : Opening) (es : List Entry) (s : State) (events : List SessionEvent) (new : State) (made : List Entry) → AreSessionsAfter base o es s.sessions s.log
-    → IsRoomyState s → txn_count s ≤ MAX_TRANSACTIONS → LeavesLogs g stream_bytes least s → GoesBy g s events new made → AllByRecursion PreparesNothing made → LeavesLogs g stream_bytes least new
+    → IsRoomyState g.version s → txn_count s ≤ MAX_TRANSACTIONS → LeavesLogs g stream_bytes least s → GoesBy g s events new made → AllByRecursion PreparesNothing made → LeavesLogs g stream_bytes least new
 by_leaving g stream_bytes least base o es s [] new made k roomy few h x none = subst (LeavesLogs g stream_bytes least) (sym x.0) h
 by_leaving g stream_bytes least base o es s (e ∷ events) new made k roomy few h x none =
     let parts = both (entries_by s.sessions e) x.1 (subst (AllByRecursion PreparesNothing) x.4 none) in
@@ -405,30 +451,30 @@ durable_rises g s new (TicketAsked ticket answer) h = let same = ap (λ (x : Sta
 module _ (g : Geometry) (stream_bytes : ℕ) (o : Opening) (found : List LogRecord) where
   module _ (least : ℕ) where
     -- a step that decides no prepare, and leaves the lock table in bounds
-    pub comes_leaving : (es : List Entry) (s new : State) (made : List Entry) → IsStateAfter o found es s → IsRoomyState s → LeavesRoomyLogsFrom g stream_bytes least s → ComesBy g s new made
+    pub comes_leaving : (es : List Entry) (s new : State) (made : List Entry) → IsStateAfter o found es s → IsRoomyState g.version s → LeavesRoomyLogsFrom g stream_bytes least s → ComesBy g s new made
         → AllByRecursion PreparesNothing made → HasLocksInBounds g new → LeavesRoomyLogsFrom g stream_bytes least new
     comes_leaving es s new made k roomy h comes none locks =
         let few : txn_count comes.start ≤ MAX_TRANSACTIONS = subst (λ (n : Sessions). length n.active + length (ended_among n.active n.resolving) ≤ MAX_TRANSACTIONS) (sym comes.before.sessions) k.few in
         and_locks g stream_bytes least new
         (like_leaving g stream_bytes least comes.mid new comes.after
         (by_leaving g stream_bytes least (length found) o es comes.start comes.events comes.mid made
-        (like_keeps (length found) o es s comes.start comes.before (sessions_of o found es s k.sessions)) (like_roomy s comes.start comes.before roomy) few
+        (like_keeps (length found) o es s comes.start comes.before (sessions_of o found es s k.sessions)) (like_roomy g.version s comes.start comes.before roomy) few
         (like_leaving g stream_bytes least s comes.start comes.before (but_locks g stream_bytes least s h)) comes.goes none)) locks
 
     -- a prepare that waits: its Prepare is appended, and nothing else happens
-    appended_leaving_from : (es : List Entry) (s new : State) → IsStateAfter o found es s → IsRoomyState s → LeavesRoomyLogsFrom g stream_bytes least s
-        → (a : SessionTxn) → HasSeat s.sessions a → a.undo.rolling ≡ None → (global : List ℕ) (wait : Wait) → PrepareStep s a global (Waits wait) new → LeavesRoomyLogsFrom g stream_bytes least new
+    appended_leaving_from : (es : List Entry) (s new : State) → IsStateAfter o found es s → IsRoomyState g.version s → LeavesRoomyLogsFrom g stream_bytes least s
+        → (a : SessionTxn) → HasSeat s.sessions a → a.undo.rolling ≡ None → (global : List ℕ) (wait : Wait) → PrepareStep g.version s a global (Waits wait) new → LeavesRoomyLogsFrom g stream_bytes least new
     appended_leaving_from es s new k roomy h a mem whole global wait x =
         let goes = prepare_goes g o found es s k.sessions a mem whole global x.1 x.2 in
         let behind = with_prepare g o found es s k.sessions a mem whole global x.1 in
         let leaves = goes_leaving g stream_bytes least (length found) o es s (sessions_of o found es s k.sessions) (but_locks g stream_bytes least s h) behind
-        (AppendPrepare a global (granules_in_ex s a)) roomy k.few (holds_in_bounds g s k.sessions.locks h.locks) goes in
+        (AppendPrepare a global (granules_in_ex s a)) roomy k.few (holds_in_bounds g s k.sessions.locks h.locks, x.0.1) goes in
         and_locks g stream_bytes least new
         (subst (LeavesLogs g stream_bytes least) (sym x.4)
         (like_leaving g stream_bytes least behind (prepared s a global (granules_in_ex s a)) (record { sessions = refl; log = refl; counts = refl; stream = refl }) leaves))
         (same_bounds g s new (ap (λ (y : State). y.locks) x.4) h.locks)
 
-    module _ (es : List Entry) (s : State) (k : IsStateAfter o found es s) (roomy : IsRoomyState s) (h : LeavesRoomyLogsFrom g stream_bytes least s) (session : ℕ) (global : List ℕ) (wait : Wait) where
+    module _ (es : List Entry) (s : State) (k : IsStateAfter o found es s) (roomy : IsRoomyState g.version s) (h : LeavesRoomyLogsFrom g stream_bytes least s) (session : ℕ) (global : List ℕ) (wait : Wait) where
       pub prepare_leaving : (new : State) → CallStep g s session (call.Prepare global) (Waits wait) new → LeavesRoomyLogsFrom g stream_bytes least new
       prepare_leaving new x = let t = waits_of g s new session (call.Prepare global) wait tt x in by t.0 t.1.0 t.2
         where
@@ -452,26 +498,26 @@ module _ (g : Geometry) (stream_bytes : ℕ) (o : Opening) (found : List LogReco
           let clash = asked.asked in
           absurd cc
 
-    pub event_leaving_from : (es : List Entry) (s new : State) (e : ManagerEvent) → IsStateAfter o found es s → LockWaitsMayAsk g s → IsRoomyState s → LeavesRoomyLogsFrom g stream_bytes least s
+    pub event_leaving_from : (es : List Entry) (s new : State) (e : ManagerEvent) → IsStateAfter o found es s → LockWaitsMayAsk g s → IsRoomyState g.version s → LeavesRoomyLogsFrom g stream_bytes least s
         → EventMoves g s e new → LeavesRoomyLogsFrom g stream_bytes least new
     event_leaving_from es s new (Called session (call.Prepare global) (Waits wait)) k asks roomy h x = prepared_leaving es s k roomy h session global wait new x.1.first x.1.mid x.1.calls x.1.rounds x.1.settles
     event_leaving_from es s new e k asks roomy h x =
         comes_leaving es s new (entries_of s e new) k roomy h (session_event_comes g o found es s k new e x) (event_decides_no_prepare g o found es s k new e tt x) (event_keeps_locks g s new e asks x h.locks)
 
-    pub events_leaving_from : (es : List Entry) (s : State) (events : List ManagerEvent) (last : State) (made : List Entry) → IsStateAfter o found es s → LockWaitsMayAsk g s → IsRoomyState s
+    pub events_leaving_from : (es : List Entry) (s : State) (events : List ManagerEvent) (last : State) (made : List Entry) → IsStateAfter o found es s → LockWaitsMayAsk g s → IsRoomyState g.version s
         → LeavesRoomyLogsFrom g stream_bytes least s → MovesMaking g s events last made → LeavesRoomyLogsFrom g stream_bytes least last
     events_leaving_from es s [] last made k asks roomy h x = subst (LeavesRoomyLogsFrom g stream_bytes least) (sym x.0) h
     events_leaving_from es s (e ∷ events) last made k asks roomy h x =
         events_leaving_from (es ++ entries_of s e x.0) x.0 events last x.1 (session_event_stays g o found es s x.0 e k x.2) (waits_may_ask g s x.0 (e ∷ []) (x.0, x.2, refl) asks)
-        (session_event_roomy o found es s k roomy g x.0 e x.2) (event_leaving_from es s x.0 e k asks roomy h x.2) x.3
+        (session_event_roomy g o found es s k roomy x.0 e x.2) (event_leaving_from es s x.0 e k asks roomy h x.2) x.3
 
-  pub event_leaving : (es : List Entry) (s new : State) (e : ManagerEvent) → IsStateAfter o found es s → LockWaitsMayAsk g s → IsRoomyState s → LeavesRoomyLogs g stream_bytes s → EventMoves g s e new
+  pub event_leaving : (es : List Entry) (s new : State) (e : ManagerEvent) → IsStateAfter o found es s → LockWaitsMayAsk g s → IsRoomyState g.version s → LeavesRoomyLogs g stream_bytes s → EventMoves g s e new
       → LeavesRoomyLogs g stream_bytes new
   event_leaving es s new e k asks roomy h x = later_leaving g stream_bytes s.durable new (durable_rises g s new e x) (event_leaving_from s.durable es s new e k asks roomy h x)
 
-  pub events_leaving : (es : List Entry) (s : State) (events : List ManagerEvent) (last : State) (made : List Entry) → IsStateAfter o found es s → LockWaitsMayAsk g s → IsRoomyState s
-      → LeavesRoomyLogs g stream_bytes s → MovesMaking g s events last made → IsRoomyState last × LeavesRoomyLogs g stream_bytes last
-  events_leaving es s [] last made k asks roomy h x = (subst IsRoomyState (sym x.0) roomy, subst (LeavesRoomyLogs g stream_bytes) (sym x.0) h)
+  pub events_leaving : (es : List Entry) (s : State) (events : List ManagerEvent) (last : State) (made : List Entry) → IsStateAfter o found es s → LockWaitsMayAsk g s → IsRoomyState g.version s
+      → LeavesRoomyLogs g stream_bytes s → MovesMaking g s events last made → IsRoomyState g.version last × LeavesRoomyLogs g stream_bytes last
+  events_leaving es s [] last made k asks roomy h x = (subst (IsRoomyState g.version) (sym x.0) roomy, subst (LeavesRoomyLogs g stream_bytes) (sym x.0) h)
   events_leaving es s (e ∷ events) last made k asks roomy h x =
       events_leaving (es ++ entries_of s e x.0) x.0 events last x.1 (session_event_stays g o found es s x.0 e k x.2) (waits_may_ask g s x.0 (e ∷ []) (x.0, x.2, refl) asks)
-      (session_event_roomy o found es s k roomy g x.0 e x.2) (event_leaving es s x.0 e k asks roomy h x.2) x.3
+      (session_event_roomy g o found es s k roomy x.0 e x.2) (event_leaving es s x.0 e k asks roomy h x.2) x.3

@@ -7,6 +7,7 @@ use Rattle.shore_types.specs.Ids.{exact_pages, page_cmp}
 use Rattle.shore_types.specs.Images.{Image}
 use Rattle.shore_types.specs.declared.ids.PageId.{PageId}
 use Rattle.shore_types.specs.declared.ids.Rid.{Rid}
+use Rattle.shore_types.specs.declared.versions.Version.{Version}
 use Rattle.shore_model.specs.declared.log_records.LogRecord.{LogRecord}
 use Rattle.shore_model.specs.Logs.{image_in}
 use Rattle.shore_model.specs.Records.{Records}
@@ -55,5 +56,5 @@ behind_within p e n within =
 
 -- ---- claims by counts that are the same
 
-pub same_claimed : (R : Records) (undos : List SessionTxn) (old new : SlotCounts) → ((p : PageId) → new p ≡ old p) → Claimed R undos old → Claimed R undos new
-same_claimed R undos old new same k = subst (Claimed R undos) (sym (fun_ext same)) k
+pub same_claimed : (v : Version) (R : Records) (undos : List SessionTxn) (old new : SlotCounts) → ((p : PageId) → new p ≡ old p) → Claimed v R undos old → Claimed v R undos new
+same_claimed v R undos old new same k = subst (Claimed v R undos) (sym (fun_ext same)) k

@@ -8,6 +8,7 @@ use Rattle.std.proofs.lemmas.List.Elements.{recursion_from_All}
 use Rattle.shore_types.specs.declared.ids.PageId.{PageId}
 use Rattle.shore_types.specs.declared.layout.Geometry.{Geometry}
 use Rattle.shore_types.specs.declared.layout.TheConstants.{MAX_TRANSACTIONS}
+use Rattle.shore_types.specs.declared.versions.Version.{Version}
 use Rattle.shore_model.specs.declared.histories.Entry.{Entry}
 use Rattle.shore_model.specs.declared.histories.Opening.{Opening}
 use Rattle.shore_model.specs.declared.log_records.LogTxn.{LogTxn}
@@ -68,17 +69,17 @@ owed_less t (a ∷ undos) = by (not (a.txn == t)) (owed_less t undos)
     by true rest = omega (arith, rest)
     by false rest = omega (arith, rest)
 
-module _ (s : State) where
+module _ (v : Version) (s : State) where
   -- what is left of a list once those of `todo` are taken out that have no record
   record HasLeft (todo undos : List SessionTxn) : Type 0 where
     left : List SessionTxn
-    pages : Claimed s.sessions.records left s.counts
+    pages : Claimed v s.sessions.records left s.counts
     owed : owed_by_all left ≤ owed_by_all undos
     from : (a : SessionTxn) → IsAmong a left → IsAmong a undos
     keeps : (a : SessionTxn) → IsAmong a undos → 0 < last_of a.txn s.log → IsAmong a left
     known : (a : SessionTxn) → IsAmong a todo → IsAmong a left → 0 < last_of a.txn s.log
 
-  take_out : (todo undos : List SessionTxn) → EachOnce (txns_of todo) → ((a : SessionTxn) → IsAmong a todo → IsAmong a undos) → Claimed s.sessions.records undos s.counts → HasLeft todo undos
+  take_out : (todo undos : List SessionTxn) → EachOnce (txns_of todo) → ((a : SessionTxn) → IsAmong a todo → IsAmong a undos) → Claimed v s.sessions.records undos s.counts → HasLeft todo undos
   take_out [] undos once within claimed = record { left = undos; pages = claimed; owed = omega arith; from = λ a m. m; keeps = λ a m known. m; known = λ a m. absurd m }
   take_out (a ∷ todo) undos once within claimed = by (last_of a.txn s.log) refl (take_out todo)
     where
@@ -86,10 +87,10 @@ module _ (s : State) where
       others_within b m = member_stays a.txn b undos (within b (inr m)) (λ same. once.0 (subst (λ t. IsAmong t (txns_of todo)) same (txn_among b todo m)))
 
       by : (n : ℕ) → last_of a.txn s.log ≡ n
-          → ((undos : List SessionTxn) → EachOnce (txns_of todo) → ((b : SessionTxn) → IsAmong b todo → IsAmong b undos) → Claimed s.sessions.records undos s.counts → HasLeft todo undos)
+          → ((undos : List SessionTxn) → EachOnce (txns_of todo) → ((b : SessionTxn) → IsAmong b todo → IsAmong b undos) → Claimed v s.sessions.records undos s.counts → HasLeft todo undos)
           → HasLeft (a ∷ todo) undos
       by zero is later =
-          let rest = later (without_txn a.txn undos) once.1 others_within (left_keeps s.sessions.records undos s.counts claimed a (within a (inl refl))) in
+          let rest = later (without_txn a.txn undos) once.1 others_within (left_keeps v s.sessions.records undos s.counts claimed a (within a (inl refl))) in
           record {
             left = rest.left;
             pages = rest.pages;
@@ -120,7 +121,7 @@ module _ (s : State) where
 
 -- ---- the log of a state with room is roomy
 
-module _ (g : Geometry) (base : ℕ) (o : Opening) (es : List Entry) (s : State) (k : AreSessionsAfter base o es s.sessions s.log) (roomy : IsRoomyState s) (few : length s.sessions.active ≤ MAX_TRANSACTIONS)
+module _ (g : Geometry) (base : ℕ) (o : Opening) (es : List Entry) (s : State) (k : AreSessionsAfter base o es s.sessions s.log) (roomy : IsRoomyState g.version s) (few : length s.sessions.active ≤ MAX_TRANSACTIONS)
     (whole : IsWholeLog s.log s.sessions) (counts : (p : PageId) → s.counts p ≡ slot_count s.log p) (inside : All (IsInBounds g) s.log)
     (losers : (t : ℕ) → IsLoser s.log t → IsAmong t (txns_of s.sessions.active)) (places : NeedMore g.max_locks (doubts_in s.log) → ⊥) where
   -- who is in doubt is prepared, and under way
@@ -157,8 +158,8 @@ module _ (g : Geometry) (base : ℕ) (o : Opening) (es : List Entry) (s : State)
   is_known t (inl loser) = loser.known
   is_known t (inr doubt) = doubt_known t s.log doubt
 
-  has_left : HasLeft s s.sessions.active s.sessions.active
-  has_left = take_out s s.sessions.active s.sessions.active k.agree.once (λ a m. m) roomy.pages
+  has_left : HasLeft g.version s s.sessions.active s.sessions.active
+  has_left = take_out g.version s s.sessions.active s.sessions.active k.agree.once (λ a m. m) roomy.pages
 
   are_undecided : AreUndecided s.log has_left.left
   are_undecided = record {
@@ -182,7 +183,7 @@ module _ (g : Geometry) (base : ℕ) (o : Opening) (es : List Entry) (s : State)
       shown = λ id. sym (image_in_place k.sound k.logged whole id);
       undos = has_left.left;
       undecided = are_undecided;
-      pages = same_claimed s.sessions.records has_left.left s.counts (slot_count s.log) (λ p. sym (counts p)) has_left.pages;
+      pages = same_claimed g.version s.sessions.records has_left.left s.counts (slot_count s.log) (λ p. sym (counts p)) has_left.pages;
       inside = inside;
       few = not_crowded;
     };

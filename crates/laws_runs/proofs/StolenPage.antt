@@ -1,5 +1,5 @@
 -- A life of two managers, worked by hand: a page is written back with a change that is not decided, the power is lost, and the next restart takes it back.
-use Rattle.std.proofs.Common.{◌≡◌, inl, ⊎_elim, ◌++◌, ◌≤◌, ℕ, List, [], ◌∷◌, Bool, true, false, cond, Some, None, refl, sym, ap, subst, ◌∙◌, length, take, arith}
+use Rattle.std.proofs.Common.{◌+◌, ◌≡◌, inl, ⊎_elim, ◌++◌, ◌≤◌, ℕ, List, [], ◌∷◌, Bool, true, false, cond, Some, None, refl, sym, ap, subst, ◌∙◌, length, take, arith}
 use Rattle.std.specs.FinMap.{empty, get, get-empty}
 use Rattle.std.specs.Ordering.{eq_by_cmp}
 use Rattle.shore_types.specs.Ids.{rid_cmp}
@@ -8,7 +8,8 @@ use Rattle.std.proofs.lemmas.List.Elements.{All-nil}
 use Rattle.shore_model.specs.declared.requests.Request.{Request}
 use Rattle.shore_types.specs.declared.ids.Rid.{Rid}
 use Rattle.shore_types.specs.declared.layout.Geometry.{Geometry}
-use Rattle.shore_types.specs.declared.layout.TheConstants.{MAX_LOG_BYTES, MAX_RECORD_BYTES}
+use Rattle.shore_types.specs.declared.layout.TheConstants.{MAX_LOG_BYTES}
+use Rattle.shore_types.specs.Versions.{record_limit, slot_limit}
 use Rattle.shore_model.specs.declared.calls.Answer.TheVariants.{Began, Inserted}
 use Rattle.shore_model.specs.declared.calls.Call.TheVariants as call
 use Rattle.shore_model.specs.declared.log_records.LogRecord.{LogRecord}
@@ -45,8 +46,8 @@ use Rattle.laws_runs.specs.Stays.{AreStoredStays, IsStoredUp, Up}
 use Rattle.laws_runs.specs.StoredRuns.{IsOpenedOver, Manage, StoredMoves, StoredRun, Tend, span_of_run}
 use Rattle.laws_runs.specs.WorkedLogs.{inserted, taken_back}
 
-module _ (g : Geometry) (stream_bytes : ℕ) (bytes : List ℕ) (store : HasStore g 0) (page : HasPage g first_page) (limits : LocksInLimits g) (short : length bytes ≤ MAX_RECORD_BYTES)
-    (long : 100000 ≤ stream_bytes) (most : stream_bytes ≤ MAX_LOG_BYTES) where
+module _ (g : Geometry) (stream_bytes : ℕ) (bytes : List ℕ) (store : HasStore g 0) (page : HasPage g first_page) (limits : LocksInLimits g) (short : length bytes ≤ record_limit g.version)
+    (long : 96000 + record_limit g.version ≤ stream_bytes) (most : stream_bytes ≤ MAX_LOG_BYTES) where
   -- ---- the first manager: its record is forced, and its page written back
 
   abbrev change : LogRecord
@@ -64,7 +65,7 @@ module _ (g : Geometry) (stream_bytes : ℕ) (bytes : List ℕ) (store : HasStor
   abbrev with_flush : RecoveryState
   with_flush = after_flush with_force first_page
 
-  run : (begun : State) × (done : State) × EventMoves g (opened_empty stream_bytes) (Called 1 call.Begin (Done (Began 1))) begun
+  run : (begun : State) × (done : State) × EventMoves g (opened_empty (slot_limit g.version) stream_bytes) (Called 1 call.Begin (Done (Began 1))) begun
       × EventMoves g begun (Called 1 (call.Insert 0 bytes) (Done (Inserted first_id))) done × (begun.log ≡ []) × (begun.durable ≡ 0) × (done.log ≡ inserted bytes) × (done.durable ≡ 0)
   run = session_inserts g stream_bytes bytes store page short long
 
@@ -78,16 +79,16 @@ module _ (g : Geometry) (stream_bytes : ℕ) (bytes : List ℕ) (store : HasStor
   stolen = record {
     restart = [];
     ready = formatted;
-    first = opened_empty stream_bytes;
+    first = opened_empty (slot_limit g.version) stream_bytes;
     events = Manage begins [] ∷ Manage inserts (AppendRecord change ∷ []) ∷ Manage (Forced 1) (ForceLog 1 ∷ []) ∷ Tend (FlushPage first_page ∷ []) ∷ [];
     last = record { state = with_durable 1 run.1; store = with_flush };
-    made = entries_of (opened_empty stream_bytes) begins run.0 ++ (entries_of run.0 inserts run.1 ++ []);
+    made = entries_of (opened_empty (slot_limit g.version) stream_bytes) begins run.0 ++ (entries_of run.0 inserts run.1 ++ []);
     survive = 1;
     pages = with_flush.volume;
     begin = 0;
   }
 
-  stolen_moves : StoredMoves g (record { state = opened_empty stream_bytes; store = formatted }) stolen.events stolen.last stolen.made
+  stolen_moves : StoredMoves g (record { state = opened_empty (slot_limit g.version) stream_bytes; store = formatted }) stolen.events stolen.last stolen.made
   stolen_moves =
       let durable = run.7 in
       let one = ap length run.6 in (
@@ -116,11 +117,12 @@ module _ (g : Geometry) (stream_bytes : ℕ) (bytes : List ℕ) (store : HasStor
         refl,
       )
 
-  opened_over_none : IsOpenedOver (opening_with empty) formatted (opened_empty stream_bytes)
+  opened_over_none : IsOpenedOver (opening_with (slot_limit g.version) empty) formatted (opened_empty (slot_limit g.version) stream_bytes)
   opened_over_none =
-      let opened = empty_is_opened stream_bytes in
+      let opened = empty_is_opened (slot_limit g.version) stream_bytes in
       record {
         sessions = record {
+          slots = refl;
           records = λ id. get-empty rid_cmp id;
           seats = λ n. refl;
           resolving = refl;
@@ -138,7 +140,7 @@ module _ (g : Geometry) (stream_bytes : ℕ) (bytes : List ℕ) (store : HasStor
         few = opened.few;
       }
 
-  stolen_up : IsStoredUp g stream_bytes (opening_with empty) formatted stolen
+  stolen_up : IsStoredUp g stream_bytes (opening_with (slot_limit g.version) empty) formatted stolen
   stolen_up = record {
     restarts = refl;
     redone = refl;
@@ -157,7 +159,7 @@ module _ (g : Geometry) (stream_bytes : ℕ) (bytes : List ℕ) (store : HasStor
 
   left : MayBeOpened g stream_bytes (inserted bytes) with_flush.volume
   left =
-      (come g stream_bytes (opening_with empty) [] (λ p. empty_page) (format_may_be_opened g stream_bytes (omega (arith, long)) most) format_opens (Up stolen ∷ []) (inserted bytes) with_flush.volume
+      (come g stream_bytes (opening_with (slot_limit g.version) empty) [] (λ p. empty_page) (format_may_be_opened g stream_bytes (omega (arith, long)) most) (format_opens (slot_limit g.version)) (Up stolen ∷ []) (inserted bytes) with_flush.volume
       (stolen_up, (refl, refl))).opened
 
   abbrev passed : RecoveryState
@@ -212,7 +214,7 @@ module _ (g : Geometry) (stream_bytes : ℕ) (bytes : List ℕ) (store : HasStor
 
   abbrev first : State
   first = record {
-    sessions = record (just_opened empty) { next_txn = 2 };
+    sessions = record (just_opened (slot_limit g.version) empty) { next_txn = 2 };
     locks = record { limit = 16; requests = [] };
     counts = slot_count ready.log;
     log = ready.log;
@@ -239,13 +241,14 @@ module _ (g : Geometry) (stream_bytes : ℕ) (bytes : List ℕ) (store : HasStor
   none_held h in_none = absurd (omega (arith, in_none.1))
 
   -- the crash kept no decision
-  opened_up : IsStoredUp g stream_bytes (next_opening (opening_with empty) (span_of_run formatted stolen)) found opened
+  opened_up : IsStoredUp g stream_bytes (next_opening (opening_with (slot_limit g.version) empty) (span_of_run formatted stolen)) found opened
   opened_up = record {
     restarts = restarts;
     redone = refl;
     no_losers = none_left;
     opens = record {
       sessions = record {
+        slots = refl;
         records = λ id. get-empty rid_cmp id ∙ sym (redone_whole ready sound.recoverable refl id.page id.slot ∙ leaves_nothing id);
         seats = λ n. refl;
         resolving = refl;
@@ -263,6 +266,7 @@ module _ (g : Geometry) (stream_bytes : ℕ) (bytes : List ℕ) (store : HasStor
       few = omega arith;
     };
     from = record {
+      slots = refl;
       log = refl;
       as_long = refl;
       records = λ id. get-empty rid_cmp id ∙ sym (leaves_nothing id);
@@ -280,7 +284,7 @@ module _ (g : Geometry) (stream_bytes : ℕ) (bytes : List ℕ) (store : HasStor
   }
 
   pub stolen_page_is_undone : (stolen : StoredRun) × (opened : StoredRun) × (pages : LoggedPages)
-      × AreStoredStays g stream_bytes (opening_with empty) [] (λ p. empty_page) (Up stolen ∷ Up opened ∷ []) (taken_back bytes) pages
+      × AreStoredStays g stream_bytes (opening_with (slot_limit g.version) empty) [] (λ p. empty_page) (Up stolen ∷ Up opened ∷ []) (taken_back bytes) pages
       × (take stolen.survive stolen.last.store.log ≡ inserted bytes) × ((stolen.pages first_page).slots 0 ≡ Some bytes)
       × ((id : Rid) → get opened.first.sessions.records id ≡ None)
   stolen_page_is_undone = (stolen, opened, ready.volume, (stolen_up, (opened_up, (refl, refl))), refl, refl, λ id. get-empty rid_cmp id)

@@ -3,6 +3,7 @@ use Rattle.std.proofs.Common.{◌≡◌, ◌+◌, ◌<◌, ◌≤◌, ◌^◌, �
 use Rattle.std.specs.List.Sorted.{IsStrictlySortedBy}
 use Rattle.std.proofs.lemmas.List.Elements.{All-cons, All-nil}
 use Rattle.shore_types.specs.declared.layout.Geometry.{Geometry}
+use Rattle.shore_types.specs.Versions.{slot_limit}
 use Rattle.shore_model.specs.declared.log_records.LogRecord.{LogRecord}
 use Rattle.shore_model.specs.declared.log_records.Payload.TheVariants.{Anchor, CheckpointBegin}
 use Rattle.shore_model.specs.Logs.{IsEntry, IsListed, IsTable}
@@ -64,9 +65,9 @@ nobody_still = record {
       (All-cons (IsListed first_records []) (its_anchor 1) [] (λ one runs. absurd (omega (arith, one))) (All-nil (IsListed first_records []))));
 }
 
-module _ (stream_bytes : ℕ) (long : 100000 ≤ stream_bytes) where
+module _ (g : Geometry) (stream_bytes : ℕ) (long : 100000 ≤ stream_bytes) where
   abbrev pub at_first : CheckpointedState
-  at_first = record { state = opened_empty stream_bytes; store = formatted_store }
+  at_first = record { state = opened_empty (slot_limit g.version) stream_bytes; store = formatted_store }
 
   abbrev first_begun : CheckpointedState
   first_begun = noted at_first its_begin (BeginLogged (of_nothing 1))
@@ -143,8 +144,8 @@ module _ (stream_bytes : ℕ) (long : 100000 ≤ stream_bytes) where
   second_admitted : IsAdmitted first_moved (of_nothing 4) 4
   second_admitted = let cost = costs in record { numbers = omega arith; fits = omega (arith, long, cost); leaves = omega (arith, long, cost) }
 
-  pub two_made : (g : Geometry) → CheckpointedMoves g at_first two_checkpoints second_moved []
-  two_made g = (
+  pub two_made : CheckpointedMoves g at_first two_checkpoints second_moved []
+  two_made = (
     first_begun,
     [],
     (refl, (of_nothing 1, 1, refl, first_now, first_admitted, refl, refl)),

@@ -14,6 +14,7 @@ use Rattle.shore_types.specs.Images.{Image}
 use Rattle.shore_types.specs.declared.ids.PageId.{PageId}
 use Rattle.shore_types.specs.declared.ids.Rid.{Rid}
 use Rattle.shore_types.specs.declared.layout.Geometry.{Geometry}
+use Rattle.shore_types.specs.declared.versions.Version.{Version}
 use Rattle.shore_model.specs.declared.log_records.LogRecord.{LogRecord}
 use Rattle.laws_lives.specs.LogTells.{MatchesUndo}
 use Rattle.laws_lives.specs.Sessions.{EachOnce, SessionTxn, txns_of, without_txn}
@@ -87,12 +88,12 @@ longest_theirs q undos (a ∷ some) theirs =
     let rest = longest_theirs q undos some (λ c m. theirs c (inr m)) in
     omega (arith, parts, one, same, rest)
 
-each_holds : (f : ℕ → Slot) (first n : ℕ) → ((i : ℕ) → first ≤ i → i < first + n → HoldsItsImage (f i)) → All HoldsItsImage (each_from f first n)
-each_holds f first zero each = All-nil HoldsItsImage
-each_holds f first (suc n) each =
-    All-cons HoldsItsImage (f first) (each_from f (suc first) n) (each first (omega arith) (omega arith)) (each_holds f (suc first) n (λ i ge less. each i (omega arith) (omega arith)))
+each_holds : (v : Version) (f : ℕ → Slot) (first n : ℕ) → ((i : ℕ) → first ≤ i → i < first + n → HoldsItsImage v (f i)) → All (HoldsItsImage v) (each_from f first n)
+each_holds v f first zero each = All-nil (HoldsItsImage v)
+each_holds v f first (suc n) each =
+    All-cons (HoldsItsImage v) (f first) (each_from f (suc first) n) (each first (omega arith) (omega arith)) (each_holds v f (suc first) n (λ i ge less. each i (omega arith) (omega arith)))
 
-module _ (R : Records) (undos some : List SessionTxn) (counts : SlotCounts) (k : Claimed R undos counts) (once : EachOnce (txns_of some)) (theirs : HaveTheirs some undos) where
+module _ (v : Version) (R : Records) (undos some : List SessionTxn) (counts : SlotCounts) (k : Claimed v R undos counts) (once : EachOnce (txns_of some)) (theirs : HaveTheirs some undos) where
   within : (a : SessionTxn) → IsAmong a some → AllByRecursion (λ e. e.0.slot < counts e.0.page) a.undo.images
   within a m = let b = theirs a m in subst (AllByRecursion (λ (e : Rid × Image). e.0.slot < counts e.0.page)) b.3 (k.within b.0 b.1)
 
@@ -107,20 +108,20 @@ module _ (R : Records) (undos some : List SessionTxn) (counts : SlotCounts) (k :
       (subst (AllByRecursion (λ (e : Rid × Image). NoOthers undos b.0.txn e.0)) b.3 (k.owned b.0 b.1))
 
   -- a claim is the longest image that could come back, so fewer of them claim no more, in any order
-  fewer_claims : (p : PageId) → HasRoom (slots_of R some p (counts p))
+  fewer_claims : (p : PageId) → HasRoom v (slots_of R some p (counts p))
   fewer_claims p =
       let f : ℕ → Slot = λ i. claiming (undecided_at R some (rid_on p i)) in
       let F : ℕ → Slot = λ i. claiming (undecided_at R undos (rid_on p i)) in
-      let room : HasRoom (each_from F 0 (counts p)) = subst HasRoom (map_each claiming (λ i. undecided_at R undos (rid_on p i)) 0 (counts p)) (k.room p) in
+      let room : HasRoom v (each_from F 0 (counts p)) = subst (HasRoom v) (map_each claiming (λ i. undecided_at R undos (rid_on p i)) 0 (counts p)) (k.room p) in
       let less : (i : ℕ) → (f i).claim ≤ (F i).claim = λ i. let no_longer = longest_theirs (rid_on p i) undos some theirs in omega (arith, no_longer) in
       let fewer = claims_less f F 0 (counts p) less in
-      subst HasRoom (sym (map_each claiming (λ i. undecided_at R some (rid_on p i)) 0 (counts p))) record {
+      subst (HasRoom v) (sym (map_each claiming (λ i. undecided_at R some (rid_on p i)) 0 (counts p))) record {
         room = omega (arith, length-each f 0 (counts p), length-each F 0 (counts p), fewer, room.room);
-        each = each_holds f 0 (counts p) (λ i ge below. let most = most_claim p (counts p) F room i (omega arith) in let its = less i in (omega arith, omega (arith, most, its)));
+        each = each_holds v f 0 (counts p) (λ i ge below. let most = most_claim v p (counts p) F room i (omega arith) in let its = less i in (omega arith, omega (arith, most, its)));
       }
 
-  pub claimed_by_some : Claimed R some counts
+  pub claimed_by_some : Claimed v R some counts
   claimed_by_some = record { room = fewer_claims; behind = k.behind; within = within; owned = owned; once = once }
 
-pub some_claimed : (g : Geometry) (log : List LogRecord) (k : IsPlacedLog g log) (some : List SessionTxn) → EachOnce (txns_of some) → AreOfLog log some → Claimed k.records some (slot_count log)
-some_claimed g log k some once are = claimed_by_some k.records k.undos some (slot_count log) k.pages once (have_theirs log k.undos k.undecided some are)
+pub some_claimed : (g : Geometry) (log : List LogRecord) (k : IsPlacedLog g log) (some : List SessionTxn) → EachOnce (txns_of some) → AreOfLog log some → Claimed g.version k.records some (slot_count log)
+some_claimed g log k some once are = claimed_by_some g.version k.records k.undos some (slot_count log) k.pages once (have_theirs log k.undos k.undecided some are)

@@ -14,6 +14,7 @@ use Rattle.shore_types.specs.declared.ids.PageId.{PageId}
 use Rattle.shore_types.specs.declared.ids.Rid.{Rid}
 use Rattle.shore_types.specs.declared.layout.Geometry.{Geometry}
 use Rattle.shore_types.specs.declared.layout.TheConstants.{ENDING_COST, LAST_TXN, LONGEST_FRAME}
+use Rattle.shore_analysis.specs.Sizes.{HasSizes}
 use Rattle.shore_model.specs.declared.log_records.LogRecord.{LogRecord}
 use Rattle.shore_model.specs.declared.log_records.Payload.TheVariants.{Compensation, End}
 use Rattle.shore_model.specs.declared.unanswered_changes.UnansweredChange.{UnansweredChange}
@@ -117,10 +118,19 @@ module _ (g : Geometry) (stream_bytes : ℕ) (log : List LogRecord) (k : IsRoomy
   undo_granules [] = record { inside = All-nil (HasGranule g); rise = tt }
   undo_granules (c ∷ cs) = record { inside = All-nil (HasGranule g); rise = tt }
 
+  -- the image before was logged as such
+  undo_sizes : (cs : List UnansweredChange) → IsUndoChain log t cs → HasSizes g.version (undo_payload cs)
+  undo_sizes [] chain = tt
+  undo_sizes (c ∷ cs) chain =
+      let change = chain.0 in
+      let it = all_at (IsInBounds g) log (c.number - 1) change.found k.placed.inside change.here in
+      (subst (HasSizes g.version) change.says it.sizes).0
+
   undo_in_bounds : IsInBounds g r
   undo_in_bounds = record {
     number = number_below;
     next = (let none = undo_next_none (unanswered t log) in omega (arith, none));
+    sizes = undo_sizes (unanswered t log) (unanswered_chain log t);
     lists = undo_lists (unanswered t log);
     id = undo_inside (unanswered t log) (unanswered_chain log t);
     granules = undo_granules (unanswered t log);
@@ -185,7 +195,7 @@ module _ (g : Geometry) (stream_bytes : ℕ) (log : List LogRecord) (k : IsRoomy
     same_count p =
         slot_count-push log r p ∙ ap (λ q. slots_behind p (image_in q) (slot_count log p)) says
         ∙ behind_within p e (slot_count log p)
-        (λ same. subst (λ q. c.id.slot < slot_count log q) (sym same) (its_slot k.placed.records k.placed.undos (slot_count log) k.placed.pages a its.1 kept e a.undo.marks a.undo.rolling images))
+        (λ same. subst (λ q. c.id.slot < slot_count log q) (sym same) (its_slot g.version k.placed.records k.placed.undos (slot_count log) k.placed.pages a its.1 kept e a.undo.marks a.undo.rolling images))
 
     own_matches : MatchesUndo new t kept
     own_matches =
@@ -232,8 +242,8 @@ module _ (g : Geometry) (stream_bytes : ℕ) (log : List LogRecord) (k : IsRoomy
             shown = put_shown k.placed.records log r e (ap image_in says) k.placed.shown;
             undos = undos_left;
             undecided = record { each = each_left; every = every_left };
-            pages = same_claimed (put_image k.placed.records c.id c.before) undos_left (slot_count log) (slot_count new) same_count
-                (undo_keeps k.placed.records k.placed.undos (slot_count log) k.placed.pages a its.1 kept e a.undo.marks a.undo.rolling images);
+            pages = same_claimed g.version (put_image k.placed.records c.id c.before) undos_left (slot_count log) (slot_count new) same_count
+                (undo_keeps g.version k.placed.records k.placed.undos (slot_count log) k.placed.pages a its.1 kept e a.undo.marks a.undo.rolling images);
             inside = inside_more;
             few = few_more;
           };
@@ -277,9 +287,9 @@ module _ (g : Geometry) (stream_bytes : ℕ) (log : List LogRecord) (k : IsRoomy
                   (λ other. txn_stays a.txn u k.placed.undos (k.placed.undecided.every u (other_undecided log r u other h)) (λ same. other (sym its.2 ∙ sym same)))
                   (same_or_not t u);
             };
-            pages = same_claimed k.placed.records undos_left (slot_count log) (slot_count new)
+            pages = same_claimed g.version k.placed.records undos_left (slot_count log) (slot_count new)
                 (λ p. slot_count-push log r p ∙ ap (λ q. slots_behind p (image_in q) (slot_count log p)) ends)
-                (left_keeps k.placed.records k.placed.undos (slot_count log) k.placed.pages a its.1);
+                (left_keeps g.version k.placed.records k.placed.undos (slot_count log) k.placed.pages a its.1);
             inside = inside_more;
             few = few_more;
           };

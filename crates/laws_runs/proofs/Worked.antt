@@ -9,7 +9,7 @@ use Rattle.shore_types.specs.Layout.{HasGranule, HasPage, HasStore, LocksInLimit
 use Rattle.shore_model.specs.declared.requests.Request.{Request}
 use Rattle.laws_runs.proofs.DoubtsThere.{doubt_there}
 use Rattle.shore_types.specs.declared.layout.Geometry.{Geometry}
-use Rattle.shore_types.specs.declared.layout.TheConstants.{LONGEST_FRAME, MAX_LOG_BYTES, MAX_RECORD_BYTES, PAGE_ROOM, SLOT_ENTRY_BYTES}
+use Rattle.shore_types.specs.declared.layout.TheConstants.{LONGEST_FRAME, MAX_LOG_BYTES, SLOT_ENTRY_BYTES}
 use Rattle.shore_model.specs.declared.histories.Entry.{Entry}
 use Rattle.shore_model.specs.declared.log_records.LogRecord.{LogRecord}
 use Rattle.shore_model.specs.declared.log_records.Payload.TheVariants.{Change, Commit, Compensation}
@@ -23,6 +23,8 @@ use Rattle.laws_calls.specs.WorkedRun.{first_id, first_page, one_insert, opened_
 use Rattle.shore_page.specs.Room.{HasRoom, HoldsItsImage, claims}
 use Rattle.shore_page.specs.Slots.{Slot, settled}
 use Rattle.shore_types.specs.Images.{image_len}
+use Rattle.shore_types.specs.declared.versions.Version.{Version}
+use Rattle.shore_types.specs.Versions.{page_room, record_limit, record_limit-most, slot_limit}
 use Rattle.laws_lives.proofs.Numbers.{newest_other}
 use Rattle.laws_lives.proofs.Redo.{image_of_record-push}
 use Rattle.laws_lives.proofs.Writers.{same_or_not}
@@ -48,8 +50,9 @@ use Rattle.laws_runs.specs.WorkedLogs.{committed, inserted, room_taken, second_i
 
 -- ---- a log that a run leaves
 
-pub opened_from_none : (g : Geometry) → LocksInLimits g → (stream_bytes : ℕ) → IsOpenedFrom g stream_bytes [] (opened_empty stream_bytes)
+pub opened_from_none : (g : Geometry) → LocksInLimits g → (stream_bytes : ℕ) → IsOpenedFrom g stream_bytes [] (opened_empty (slot_limit g.version) stream_bytes)
 opened_from_none g limits stream_bytes = record {
+  slots = refl;
   log = refl;
   as_long = refl;
   records = λ id. get-empty rid_cmp id ∙ sym (leaves_none id);
@@ -62,37 +65,37 @@ opened_from_none g limits stream_bytes = record {
   locks = record { limit = let least = limits.0 in omega arith; within = omega arith; inside = All-nil (λ (r : Request). HasGranule g r.granule) };
 }
 
-module _ (g : Geometry) (bytes : List ℕ) (store : HasStore g 0) (page : HasPage g first_page) (limits : LocksInLimits g) (short : length bytes ≤ MAX_RECORD_BYTES) where
+module _ (g : Geometry) (bytes : List ℕ) (store : HasStore g 0) (page : HasPage g first_page) (limits : LocksInLimits g) (short : length bytes ≤ record_limit g.version) where
   -- over a stream that is long enough each of its prefixes is roomy
   pub record HasRun (stream_bytes : ℕ) : Type 0 where
     pub last : State
     pub made : List Entry
-    pub moves : MovesMaking g (opened_empty stream_bytes) (one_insert bytes) last made
+    pub moves : MovesMaking g (opened_empty (slot_limit g.version) stream_bytes) (one_insert bytes) last made
     pub there : get last.sessions.records first_id ≡ Some bytes
     pub log : last.log ≡ committed bytes
     pub leaves : LeavesRoomyLogsFrom g stream_bytes 0 last
 
-  pub has_run : (stream_bytes : ℕ) → 100000 ≤ stream_bytes → stream_bytes ≤ MAX_LOG_BYTES → HasRun stream_bytes
+  pub has_run : (stream_bytes : ℕ) → 96000 + record_limit g.version ≤ stream_bytes → stream_bytes ≤ MAX_LOG_BYTES → HasRun stream_bytes
   has_run stream_bytes long most =
       let h = session_comes_through g stream_bytes bytes store page short long in
       let none = format_is_roomy g stream_bytes (omega arith) most in
       let opened = opened_from_none g limits stream_bytes in
-      let roomy = opens_roomy g stream_bytes [] (opened_empty stream_bytes) opened (whole_roomy g stream_bytes 0 [] none) (λ n r at. absurd (nothing n r at)) in
-      let leaves = opens_leaving g stream_bytes [] (opened_empty stream_bytes) opened 0 none (λ n r at. absurd (nothing n r at)) (λ t loser. let known = loser.known in omega arith) in
+      let roomy = opens_roomy g stream_bytes [] (opened_empty (slot_limit g.version) stream_bytes) opened (whole_roomy g stream_bytes 0 [] none) (λ n r at. absurd (nothing n r at)) in
+      let leaves = opens_leaving g stream_bytes [] (opened_empty (slot_limit g.version) stream_bytes) opened 0 none (λ n r at. absurd (nothing n r at)) (λ t loser. let known = loser.known in omega arith) in
       record {
         last = h.0;
         made = h.1;
         moves = h.3;
         there = h.4;
         log = session_leaves g stream_bytes bytes store page short long;
-        leaves = events_leaving_from g stream_bytes (opening_with empty) [] 0 [] (opened_empty stream_bytes) (one_insert bytes) h.0 h.1 (sessions_after_open (opening_with empty) [] (opened_empty stream_bytes) h.2) (λ w m. absurd m) roomy leaves h.3;
+        leaves = events_leaving_from g stream_bytes (opening_with (slot_limit g.version) empty) [] 0 [] (opened_empty (slot_limit g.version) stream_bytes) (one_insert bytes) h.0 h.1 (sessions_after_open (opening_with (slot_limit g.version) empty) [] (opened_empty (slot_limit g.version) stream_bytes) h.2) (λ w m. absurd m) roomy leaves h.3;
       }
     where
       nothing : (n : ℕ) (r : LogRecord) → slice_get [] n ≡ Some r → ⊥
       nothing n r at = cc
 
-  pub run_leaves_roomy : (stream_bytes : ℕ) → 100000 ≤ stream_bytes → stream_bytes ≤ MAX_LOG_BYTES
-      → (last : State) × (made : List Entry) × MovesMaking g (opened_empty stream_bytes) (one_insert bytes) last made
+  pub run_leaves_roomy : (stream_bytes : ℕ) → 96000 + record_limit g.version ≤ stream_bytes → stream_bytes ≤ MAX_LOG_BYTES
+      → (last : State) × (made : List Entry) × MovesMaking g (opened_empty (slot_limit g.version) stream_bytes) (one_insert bytes) last made
       × (get last.sessions.records first_id ≡ Some bytes) × (last.log ≡ committed bytes) × AreRoomy g stream_bytes 0 last.log
   run_leaves_roomy stream_bytes long most = let h = has_run stream_bytes long most in (h.last, h.made, h.moves, h.there, h.log, h.leaves.prefixes)
 
@@ -120,12 +123,12 @@ none_owed [] none = refl
 none_owed (a ∷ undos) none = absurd (none a (inl refl))
 
 -- The Commit has given away what was reserved before it, so the log may be opened over a stream that has room for it and the longest frame alone.
-pub committed_may_be_opened : (g : Geometry) (bytes : List ℕ) → HasStore g 0 → HasPage g first_page → LocksInLimits g → length bytes ≤ MAX_RECORD_BYTES
+pub committed_may_be_opened : (g : Geometry) (bytes : List ℕ) → HasStore g 0 → HasPage g first_page → LocksInLimits g → length bytes ≤ record_limit g.version
     → MayBeOpened g (cost_of_log (committed bytes) + LONGEST_FRAME) (committed bytes) (λ p. empty_page)
 committed_may_be_opened g bytes store page limits short =
-    let h = has_run g bytes store page limits short 100000 (omega arith) (omega arith) in
-    let longer : AreRoomy g 100000 0 (committed bytes) = subst (AreRoomy g 100000 0) h.log h.leaves.prefixes in
-    let whole = whole_roomy g 100000 0 (committed bytes) longer in
+    let h = has_run g bytes store page limits short 200000 (omega (arith, record_limit-most g.version)) (omega arith) in
+    let longer : AreRoomy g 200000 0 (committed bytes) = subst (AreRoomy g 200000 0) h.log h.leaves.prefixes in
+    let whole = whole_roomy g 200000 0 (committed bytes) longer in
     let none = none_owed whole.placed.undos (λ a m. none_left bytes a.txn (whole.placed.undecided.each a m).0) in
     let fits = whole.room.fits in
     let roomy : IsRoomyLog g (cost_of_log (committed bytes) + LONGEST_FRAME) (committed bytes) =
@@ -168,7 +171,7 @@ inserted_before_full g bytes k =
 
 -- ---- a page has none
 
-module _ (old new other : List ℕ) where
+module _ (v : Version) (old new other : List ℕ) where
   abbrev log : List LogRecord
   log = room_taken old new other
 
@@ -208,8 +211,8 @@ module _ (old new other : List ℕ) where
   abbrev standing_at : ℕ → Slot
   standing_at i = settled (image_of_record log (rid_on first_page i))
 
-  pub taken_stands : length new ≤ MAX_RECORD_BYTES → length other ≤ MAX_RECORD_BYTES → 3 * SLOT_ENTRY_BYTES + length new + length other ≤ PAGE_ROOM
-      → HasRoom (slots_left log first_page)
+  pub taken_stands : length new ≤ record_limit v → length other ≤ record_limit v → 3 * SLOT_ENTRY_BYTES + length new + length other ≤ page_room v
+      → HasRoom v (slots_left log first_page)
   taken_stands short brief fits =
       let none : image_of_record log first_id ≡ None =
       image_of_record-push (delete ∷ first_insert ∷ []) second_insert first_id ∙ image_of_record-push (delete ∷ []) first_insert first_id
@@ -226,15 +229,15 @@ module _ (old new other : List ℕ) where
       record {
         room = omega arith;
         each =
-            All-cons HoldsItsImage (standing_at 0) (each_from standing_at 1 2) (omega arith, omega arith)
-            (All-cons HoldsItsImage (standing_at 1) (each_from standing_at 2 1) (omega arith, omega arith)
-            (All-cons HoldsItsImage (standing_at 2) [] (omega arith, omega arith) (All-nil HoldsItsImage)));
+            All-cons (HoldsItsImage v) (standing_at 0) (each_from standing_at 1 2) (omega arith, omega arith)
+            (All-cons (HoldsItsImage v) (standing_at 1) (each_from standing_at 2 1) (omega arith, omega arith)
+            (All-cons (HoldsItsImage v) (standing_at 2) [] (omega arith, omega arith) (All-nil (HoldsItsImage v))));
       }
 
-  pub taken_too_full : (g : Geometry) (stream_bytes : ℕ) → PAGE_ROOM < 3 * SLOT_ENTRY_BYTES + length old + length new + length other
+  pub taken_too_full : (g : Geometry) (stream_bytes : ℕ) → page_room g.version < 3 * SLOT_ENTRY_BYTES + length old + length new + length other
       → IsRoomyLog g stream_bytes log → ⊥
   taken_too_full g stream_bytes much k =
-      let slots : HasRoom (each_from left_at 0 3) = left_have_room g undone (undone_roomy g stream_bytes log k 1 deleted_loser).placed first_page in
+      let slots : HasRoom g.version (each_from left_at 0 3) = left_have_room g undone (undone_roomy g stream_bytes log k 1 deleted_loser).placed first_page in
       let room = slots.room in
       let all = claims_cons 0 2 in
       let two = claims_cons 1 1 in

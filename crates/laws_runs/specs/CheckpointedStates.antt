@@ -3,6 +3,7 @@ use Rattle.std.specs.Prelude.{◌≡◌, ◌⊎◌, ◌≤◌, ◌<◌, ℕ, Lis
 use Rattle.std.specs.FinMap.{get}
 use Rattle.std.specs.List.{AllByRecursion}
 use Rattle.shore_types.specs.declared.ids.PageId.{PageId}
+use Rattle.shore_types.specs.Versions.{slot_limit}
 use Rattle.shore_types.specs.declared.ids.Rid.{Rid}
 use Rattle.shore_types.specs.declared.layout.Geometry.{Geometry}
 use Rattle.shore_types.specs.declared.layout.TheConstants.{LAST_TXN, MAX_LOG_BYTES}
@@ -74,6 +75,7 @@ pub record MayBeOpenedBehind (g : Geometry) (ring_bytes : ℕ) (a : Anchored) (r
 -- What an open makes of a log of which the front is cut off. The next transaction's number is the least above all of what is kept and not below that of
 -- the anchored checkpoint; all else is as with no front cut off.
 pub record IsOpenedBehind (g : Geometry) (stream_bytes : ℕ) (a : Anchored) (found : List LogRecord) (s : State) : Type 0 where
+  pub slots : s.sessions.slots ≡ slot_limit g.version
   pub log : s.log ≡ found
   pub as_long : s.stream_bytes ≡ stream_bytes
   pub records : (id : Rid) → get s.sessions.records id ≡ image_of_record found id

@@ -45,7 +45,7 @@ pub record IsPlacedLog (g : Geometry) (log : List LogRecord) : Type 0 where
   pub shown : (id : Rid) → get records id ≡ image_of_record log id
   pub undos : List SessionTxn
   pub undecided : AreUndecided log undos
-  pub pages : Claimed records undos (slot_count log)
+  pub pages : Claimed g.version records undos (slot_count log)
   pub inside : All (IsInBounds g) log
   pub few : IsCrowded log → ⊥
 

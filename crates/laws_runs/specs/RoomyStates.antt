@@ -1,5 +1,6 @@
 -- States of a manager of whose log a crash leaves only what a restart takes.
 use Rattle.shore_types.specs.Layout.{HasGranule}
+use Rattle.shore_types.specs.Versions.{slot_limit}
 use Rattle.std.specs.Prelude.{◌≡◌, ◌<◌, ◌≤◌, ℕ, List, All, length, map}
 use Rattle.std.specs.FinMap.{get}
 use Rattle.std.specs.List.{AllByRecursion}
@@ -44,6 +45,7 @@ LeavesRoomyLogs g stream_bytes s = LeavesRoomyLogsFrom g stream_bytes s.durable 
 -- undo lists that the log gives them. Each page has the slots that the log gave it, the next transaction's number is the least above
 -- all of the log's, and the lock table is in bounds.
 pub record IsOpenedFrom (g : Geometry) (stream_bytes : ℕ) (found : List LogRecord) (s : State) : Type 0 where
+  pub slots : s.sessions.slots ≡ slot_limit g.version
   pub log : s.log ≡ found
   pub as_long : s.stream_bytes ≡ stream_bytes
   pub records : (id : Rid) → get s.sessions.records id ≡ image_of_record found id

@@ -6,6 +6,7 @@ use Rattle.shore_types.specs.Ids.{page_cmp}
 use Rattle.shore_types.specs.Images.{Image, image_len}
 use Rattle.shore_types.specs.declared.ids.PageId.{PageId}
 use Rattle.shore_types.specs.declared.ids.Rid.{Rid}
+use Rattle.shore_types.specs.declared.versions.Version.{Version}
 use Rattle.shore_model.specs.declared.log_records.LogRecord.{LogRecord}
 use Rattle.shore_model.specs.declared.log_records.Payload.{Payload}
 use Rattle.shore_model.specs.Logs.{image_in, image_of_record}
@@ -28,9 +29,9 @@ abbrev pub slots_left : List LogRecord → PageId → List Slot
 slots_left log p = each_from (λ i. settled (image_of_record log (rid_on p i))) 0 (slot_count log p)
 
 -- the image that a record leaves fits its page as the records before it leave that
-abbrev pub FitsBehind : List LogRecord → Payload → Type 0
-FitsBehind before payload = ForSome (image_in payload) (λ e. Fits (slots_left before e.0.page) e.0.slot (image_len e.1))
+abbrev pub FitsBehind : Version → List LogRecord → Payload → Type 0
+FitsBehind v before payload = ForSome (image_in payload) (λ e. Fits v (slots_left before e.0.page) e.0.slot (image_len e.1))
 
 -- so does that of each record of the log
-abbrev pub EachFits : List LogRecord → Type 0
-EachFits log = (n : ℕ) (r : LogRecord) → slice_get log n ≡ Some r → FitsBehind (take n log) r.payload
+abbrev pub EachFits : Version → List LogRecord → Type 0
+EachFits v log = (n : ℕ) (r : LogRecord) → slice_get log n ≡ Some r → FitsBehind v (take n log) r.payload

@@ -49,7 +49,7 @@ pub record IsUnderWay (g : Geometry) (stream_bytes : ℕ) (o : Opening) (found :
   pub asks : LockWaitsMayAsk g m.state
   pub no_cycle : HasNoCycle m.state.locks.requests
   pub stored : IsStored m.state m.store
-  pub roomy : IsRoomyState m.state
+  pub roomy : IsRoomyState g.version m.state
   pub leaves : LeavesRoomyLogs g stream_bytes m.state
   pub recoverable : IsRecoverable m.store
   pub redone : m.store.redone ≡ length m.store.log

@@ -5,7 +5,7 @@ ghost use Rattle.std.specs.List.{AllByRecursion};
 ghost use Rattle.shore_types.specs.Layout.{HasPage, HasStore, LocksInLimits};
 ghost use Rattle.shore_types.specs.declared.ids.PageId.{PageId};
 ghost use Rattle.shore_types.specs.declared.layout.Geometry.{Geometry};
-ghost use Rattle.shore_types.specs.declared.layout.TheConstants.{ENDING_COST, LAST_OPENED, LAST_TXN, LONGEST_FRAME, MAX_LOG_BYTES, MAX_RECORD_BYTES, PAGE_ROOM, SLOT_ENTRY_BYTES};
+ghost use Rattle.shore_types.specs.declared.layout.TheConstants.{ENDING_COST, LAST_OPENED, LAST_TXN, LONGEST_FRAME, MAX_LOG_BYTES, SLOT_ENTRY_BYTES};
 ghost use Rattle.shore_model.specs.declared.histories.Entry.{Entry};
 ghost use Rattle.shore_model.specs.declared.histories.Opening.{Opening};
 ghost use Rattle.shore_model.specs.declared.log_records.DirtyPage.{DirtyPage};
@@ -44,6 +44,8 @@ ghost use Rattle.laws_runs.specs.RoomyRuns.{AreOpenedFrom};
 ghost use Rattle.laws_runs.specs.RoomyStates.{IsOpenedFrom, HasLocksInBounds, LeavesRoomyLogs};
 ghost use Rattle.laws_runs.specs.SlotCounts.{EachFits, FitsBehind, slot_count, slots_left};
 ghost use Rattle.laws_runs.specs.WorkedLogs.{committed, inserted, room_taken};
+ghost use Rattle.shore_types.specs.declared.versions.Version.{Version};
+ghost use Rattle.shore_types.specs.Versions.{page_room, record_limit, slot_limit};
 
 /// What a format leaves, the empty log, is roomy over each stream that a log device may have.
 pub fn formats_are_roomy()
@@ -68,17 +70,17 @@ pub fn roomy_logs_fit_their_stream()
 
 /// Redo of each record fits its page, on slots that take what the records before it left, and keep nothing besides.
 pub fn redo_fits_pages()
-    ensures { (g : Geometry) (stream_bytes least : ℕ) (log : List LogRecord) → AreRoomy g stream_bytes least log → EachFits log }
+    ensures { (g : Geometry) (stream_bytes least : ℕ) (log : List LogRecord) → AreRoomy g stream_bytes least log → EachFits g.version log }
 {}
 
 /// Each event of a manager leaves a log that a restart takes, whatever a crash leaves of it, if the state before did and its calls that wait may ask for
 /// their locks; and so do any events. The records in place lie in the geometry then. That the state before did so is known of each open (`opens_have_room`).
 pub fn events_leave_roomy_logs()
     ensures each { (g : Geometry) (stream_bytes : ℕ) (o : Opening) (found : List LogRecord) (es : List Entry) (old new : State) (e : ManagerEvent) →
-        IsStateAfter o found es old → LockWaitsMayAsk g old → IsRoomyState old → LeavesRoomyLogs g stream_bytes old → EventMoves g old e new → LeavesRoomyLogs g stream_bytes new }
+        IsStateAfter o found es old → LockWaitsMayAsk g old → IsRoomyState g.version old → LeavesRoomyLogs g stream_bytes old → EventMoves g old e new → LeavesRoomyLogs g stream_bytes new }
     ensures run { (g : Geometry) (stream_bytes : ℕ) (o : Opening) (found : List LogRecord) (es : List Entry) (first last : State) (events : List ManagerEvent) (made : List Entry) →
-        IsStateAfter o found es first → LockWaitsMayAsk g first → IsRoomyState first → LeavesRoomyLogs g stream_bytes first → MovesMaking g first events last made →
-        IsRoomyState last × LeavesRoomyLogs g stream_bytes last }
+        IsStateAfter o found es first → LockWaitsMayAsk g first → IsRoomyState g.version first → LeavesRoomyLogs g stream_bytes first → MovesMaking g first events last made →
+        IsRoomyState g.version last × LeavesRoomyLogs g stream_bytes last }
     ensures crash { (g : Geometry) (stream_bytes : ℕ) (s : State) (n : ℕ) → LeavesRoomyLogs g stream_bytes s → KeepsDurable s n →
         AreRoomy g stream_bytes n (take n s.log) }
     ensures inside { (g : Geometry) (stream_bytes : ℕ) (o : Opening) (found : List LogRecord) (es : List Entry) (s : State) → IsStateAfter o found es s →
@@ -92,10 +94,10 @@ pub fn managers_leave_roomy_logs()
     ensures restart { (g : Geometry) (stream_bytes : ℕ) (s ready : RecoveryState) (events : List RecoveryEvent) → AreRoomy g stream_bytes s.durable s.log →
         RestartsTo s events ready → AreRoomy g stream_bytes ready.durable ready.log }
     ensures moves { (g : Geometry) (stream_bytes : ℕ) (o : Opening) (found : List LogRecord) (es : List Entry) (m last : StoredState) (events : List StoredEvent) (made : List Entry) →
-        IsStateAfter o found es m.state → LockWaitsMayAsk g m.state → IsRoomyState m.state → LeavesRoomyLogs g stream_bytes m.state → StoredMoves g m events last made →
-        IsRoomyState last.state × LeavesRoomyLogs g stream_bytes last.state }
+        IsStateAfter o found es m.state → LockWaitsMayAsk g m.state → IsRoomyState g.version m.state → LeavesRoomyLogs g stream_bytes m.state → StoredMoves g m events last made →
+        IsRoomyState g.version last.state × LeavesRoomyLogs g stream_bytes last.state }
     ensures last { (g : Geometry) (stream_bytes : ℕ) (o : Opening) (s : RecoveryState) (r : StoredRun) → MayBeFound s → IsOpeningOf s.log o → AreRoomy g stream_bytes s.durable s.log → IsStoredRun g o s r →
-        IsOpenedFrom g stream_bytes r.ready.log r.first → IsRoomyState r.last.state × LeavesRoomyLogs g stream_bytes r.last.state }
+        IsOpenedFrom g stream_bytes r.ready.log r.first → IsRoomyState g.version r.last.state × LeavesRoomyLogs g stream_bytes r.last.state }
     ensures runs { (g : Geometry) (stream_bytes : ℕ) (o : Opening) (s last : RecoveryState) (runs : List StoredRun) → MayBeFound s → IsOpeningOf s.log o → AreRoomy g stream_bytes s.durable s.log →
         AreStoredRuns g o s runs last → AreOpenedFrom g stream_bytes runs → AreRoomy g stream_bytes last.durable last.log }
 {}
@@ -115,7 +117,7 @@ pub fn undo_keeps_logs_roomy()
 /// theirs once the losers are undone.
 pub fn undecided_have_their_room()
     ensures pages { (g : Geometry) (log : List LogRecord) (k : IsPlacedLog g log) (some : List SessionTxn) → EachOnce (txns_of some) →
-        ((a : SessionTxn) → IsAmong a some → IsUndecided log a.txn × MatchesUndo log a.txn a.undo.images) → Claimed k.records some (slot_count log) }
+        ((a : SessionTxn) → IsAmong a some → IsUndecided log a.txn × MatchesUndo log a.txn a.undo.images) → Claimed g.version k.records some (slot_count log) }
     ensures stream { (g : Geometry) (stream_bytes : ℕ) (log : List LogRecord) (some : List SessionTxn) → IsRoomyLog g stream_bytes log → EachOnce (txns_of some) →
         ((a : SessionTxn) → IsAmong a some → IsUndecided log a.txn × MatchesUndo log a.txn a.undo.images) →
         cost_of_log log + (owed_by_all some + ENDING_COST * length (doubts_in log)) + LONGEST_FRAME ≤ stream_bytes }
@@ -136,7 +138,7 @@ pub fn doubts_have_places_for_their_locks()
 /// and its number.
 pub fn undo_fits_pages_and_log()
     ensures page { (g : Geometry) (stream_bytes t : ℕ) (log : List LogRecord) → IsRoomyLog g stream_bytes log → IsLoser log t →
-        FitsBehind log (undo_record log t).payload }
+        FitsBehind g.version log (undo_record log t).payload }
     ensures stream { (g : Geometry) (stream_bytes t : ℕ) (log : List LogRecord) → IsRoomyLog g stream_bytes log → IsLoser log t →
         cost_of_log log + cost_of (undo_record log t).payload + LONGEST_FRAME ≤ stream_bytes }
     ensures number { (g : Geometry) (stream_bytes t : ℕ) (log : List LogRecord) → IsRoomyLog g stream_bytes log → IsLoser log t →
@@ -148,14 +150,14 @@ pub fn undo_fits_pages_and_log()
 /// with the slots that the log gave the pages, if its next number is the one that analysis of the found log gives and its lock table is in bounds.
 pub fn opens_have_room()
     ensures roomy { (g : Geometry) (stream_bytes : ℕ) (log : List LogRecord) (s : State) → IsRoomyLog g stream_bytes log → Lawful log → IsOpenedFrom g stream_bytes log s →
-        IsRoomyState s }
+        IsRoomyState g.version s }
     ensures inside { (g : Geometry) (stream_bytes : ℕ) (log : List LogRecord) (s : State) → IsRoomyLog g stream_bytes log → IsOpenedFrom g stream_bytes log s →
         AreRecords g s.sessions.records }
     ensures leaves { (g : Geometry) (stream_bytes : ℕ) (log : List LogRecord) (s : State) → AreRoomy g stream_bytes s.durable log → Lawful log → HasNoLosers log →
         IsOpenedFrom g stream_bytes log s → LeavesRoomyLogs g stream_bytes s }
     ensures over { (g : Geometry) (stream_bytes : ℕ) (o : Opening) (found : List LogRecord) (ready : RecoveryState) (s : State) → IsRecoverable ready → ready.redone ≡ length ready.log →
         IsRestartOf found ready → IsOpeningOf found o → IsOpenedOver o ready s → s.stream_bytes ≡ stream_bytes → ((p : PageId) → s.counts p ≡ slot_count ready.log p) →
-        IsNext found s.sessions.next_txn → HasLocksInBounds g s → IsOpenedFrom g stream_bytes ready.log s }
+        IsNext found s.sessions.next_txn → HasLocksInBounds g s → o.slots ≡ slot_limit g.version → IsOpenedFrom g stream_bytes ready.log s }
 {}
 
 /// Analysis refuses no record of a lawful log that may be left, whatever of its front may be cut off, and whichever checkpoint is anchored whose begin is kept.
@@ -170,9 +172,9 @@ pub fn roomy_logs_are_meant()
 /// The conditions can be met: over an empty volume and an empty log, a transaction inserts a record and commits, and each prefix of the log
 /// is roomy, also that which has the insert alone.
 pub fn one_insert_leaves_roomy_logs()
-    ensures { (g : Geometry) (stream_bytes : ℕ) (bytes : List ℕ) → HasStore g 0 → HasPage g first_page → LocksInLimits g → length bytes ≤ MAX_RECORD_BYTES →
-        100000 ≤ stream_bytes → stream_bytes ≤ MAX_LOG_BYTES →
-        (last : State) × (made : List Entry) × MovesMaking g (opened_empty stream_bytes) (one_insert bytes) last made
+    ensures { (g : Geometry) (stream_bytes : ℕ) (bytes : List ℕ) → HasStore g 0 → HasPage g first_page → LocksInLimits g → length bytes ≤ record_limit g.version →
+        96000 + record_limit g.version ≤ stream_bytes → stream_bytes ≤ MAX_LOG_BYTES →
+        (last : State) × (made : List Entry) × MovesMaking g (opened_empty (slot_limit g.version) stream_bytes) (one_insert bytes) last made
         × (get last.sessions.records first_id ≡ Some bytes) × (last.log ≡ committed bytes) × AreRoomy g stream_bytes 0 last.log }
 {}
 
@@ -182,10 +184,10 @@ pub fn logs_without_room_are_not_roomy()
     ensures stream { (g : Geometry) (stream_bytes t : ℕ) (log : List LogRecord) → IsLoser log t →
         stream_bytes < cost_of_log log + cost_of (undo_record log t).payload + LONGEST_FRAME → IsRoomyLog g stream_bytes log → ⊥ }
     ensures inserted { (g : Geometry) (bytes : List ℕ) → IsRoomyLog g (cost_of_log (inserted bytes) + LONGEST_FRAME) (inserted bytes) → ⊥ }
-    ensures standing { (old new other : List ℕ) → length new ≤ MAX_RECORD_BYTES → length other ≤ MAX_RECORD_BYTES →
-        3 * SLOT_ENTRY_BYTES + length new + length other ≤ PAGE_ROOM → HasRoom (slots_left (room_taken old new other) first_page) }
+    ensures standing { (v : Version) (old new other : List ℕ) → length new ≤ record_limit v → length other ≤ record_limit v →
+        3 * SLOT_ENTRY_BYTES + length new + length other ≤ page_room v → HasRoom v (slots_left (room_taken old new other) first_page) }
     ensures room_taken { (g : Geometry) (stream_bytes : ℕ) (old new other : List ℕ) →
-        PAGE_ROOM < 3 * SLOT_ENTRY_BYTES + length old + length new + length other → IsRoomyLog g stream_bytes (room_taken old new other) → ⊥ }
+        page_room g.version < 3 * SLOT_ENTRY_BYTES + length old + length new + length other → IsRoomyLog g stream_bytes (room_taken old new other) → ⊥ }
 {}
 
 /// What an End of a roomy log lists lies in bounds, if it lists pages with records from before its begin, as each does that a manager logs: its next number is

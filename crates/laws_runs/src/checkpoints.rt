@@ -4,6 +4,7 @@ ghost use Rattle.std.specs.List.{AllByRecursion};
 ghost use Rattle.shore_types.specs.declared.faults.Fault.TheVariants as fault;
 ghost use Rattle.shore_types.specs.declared.layout.Geometry.{Geometry};
 ghost use Rattle.shore_types.specs.declared.layout.TheConstants.{GREATEST_CHECKPOINT, LAST_LSN, LONGEST_FRAME, MAX_LOG_BYTES};
+ghost use Rattle.shore_types.specs.Versions.{slot_limit};
 ghost use Rattle.shore_model.specs.declared.calls.Answer.{Answer};
 ghost use Rattle.shore_model.specs.declared.calls.Answer.TheVariants as calls;
 ghost use Rattle.shore_model.specs.declared.calls.Answer.TheVariants.{Begun, Ended, Moved};
@@ -159,6 +160,6 @@ pub fn begins_count_on_what_is_freed()
 /// be logged.
 pub fn checkpoints_free_the_log()
     ensures { (g : Geometry) (stream_bytes : ℕ) → 100000 ≤ stream_bytes →
-        (last : CheckpointedState) × CheckpointedMoves g (record { state = opened_empty stream_bytes; store = formatted_store }) two_checkpoints last []
+        (last : CheckpointedState) × CheckpointedMoves g (record { state = opened_empty (slot_limit g.version) stream_bytes; store = formatted_store }) two_checkpoints last []
         × (last.store.anchored ≡ record { checkpoint = 4; tail = 4 }) × (last.state.stream_bytes ≡ stream_bytes + 138) }
 {}

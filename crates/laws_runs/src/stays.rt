@@ -4,7 +4,7 @@ ghost use Rattle.std.specs.FinMap.{empty, get};
 ghost use Rattle.shore_types.specs.Layout.{HasPage, HasStore, LocksInLimits};
 ghost use Rattle.shore_types.specs.declared.ids.Rid.{Rid};
 ghost use Rattle.shore_types.specs.declared.layout.Geometry.{Geometry};
-ghost use Rattle.shore_types.specs.declared.layout.TheConstants.{LONGEST_FRAME, MAX_LOG_BYTES, MAX_RECORD_BYTES};
+ghost use Rattle.shore_types.specs.declared.layout.TheConstants.{LONGEST_FRAME, MAX_LOG_BYTES};
 ghost use Rattle.shore_model.specs.declared.histories.Entry.{Entry};
 ghost use Rattle.shore_model.specs.declared.histories.Opening.{Opening};
 ghost use Rattle.shore_model.specs.declared.log_records.LogRecord.{LogRecord};
@@ -26,6 +26,7 @@ ghost use Rattle.laws_runs.specs.RoomyStates.{IsOpenedFrom};
 ghost use Rattle.laws_runs.specs.SoundStores.{IsLost, IsSoundStore, IsUnderWay, MayBeOpened, found_state, managed};
 ghost use Rattle.laws_runs.specs.WorkedLogs.{committed, inserted, taken_back};
 ghost use Rattle.laws_runs.specs.Stays.{AreStoredStays, StoredStay, Up, runs_of};
+ghost use Rattle.shore_types.specs.Versions.{record_limit, slot_limit};
 
 /// What a format leaves may be opened: no record, and empty pages.
 pub fn formats_may_be_opened()
@@ -35,7 +36,7 @@ pub fn formats_may_be_opened()
 /// A log in bounds may be opened, though an earlier prefix of it left no room for its undo: a Commit gives away what was reserved before it. Here a
 /// record was inserted and committed, and the stream has room for both records and the longest frame, and for nothing besides.
 pub fn logs_in_bounds_may_be_opened()
-    ensures opened { (g : Geometry) (bytes : List ℕ) → HasStore g 0 → HasPage g first_page → LocksInLimits g → length bytes ≤ MAX_RECORD_BYTES →
+    ensures opened { (g : Geometry) (bytes : List ℕ) → HasStore g 0 → HasPage g first_page → LocksInLimits g → length bytes ≤ record_limit g.version →
         MayBeOpened g (cost_of_log (committed bytes) + LONGEST_FRAME) (committed bytes) (λ p. empty_page) }
     ensures before { (g : Geometry) (bytes : List ℕ) → IsRoomyLog g (cost_of_log (committed bytes) + LONGEST_FRAME) (take 1 (committed bytes)) → ⊥ }
 {}
@@ -64,7 +65,7 @@ pub fn managers_stay_under_way()
     ensures moves { (g : Geometry) (stream_bytes : ℕ) (o : Opening) (found : List LogRecord) (es : List Entry) (m last : StoredState) (events : List StoredEvent) (made : List Entry) →
         IsUnderWay g stream_bytes o found es m → StoredMoves g m events last made → IsUnderWay g stream_bytes o found (es ++ made) last }
     ensures safe { (g : Geometry) (stream_bytes : ℕ) (o : Opening) (found : List LogRecord) (es : List Entry) (m : StoredState) → IsUnderWay g stream_bytes o found es m →
-        IsRoomyState m.state × AreRecords g m.state.sessions.records }
+        IsRoomyState g.version m.state × AreRecords g m.state.sessions.records }
     ensures sound { (g : Geometry) (stream_bytes : ℕ) (o : Opening) (found : List LogRecord) (es : List Entry) (m : StoredState) → IsUnderWay g stream_bytes o found es m →
         IsSoundStore g stream_bytes m.store }
 {}
@@ -104,10 +105,10 @@ pub fn committed_work_survives_every_stay()
 /// Stays can be such: over an empty store a manager inserts a record and is not asked to commit, the log is forced, its page is written back, and the
 /// power is lost with the record on the volume. The next restart takes it back by records of its own, and the manager behind it shows no record.
 pub fn flushed_losers_are_undone()
-    ensures { (g : Geometry) (stream_bytes : ℕ) (bytes : List ℕ) → HasStore g 0 → HasPage g first_page → LocksInLimits g → length bytes ≤ MAX_RECORD_BYTES →
-        100000 ≤ stream_bytes → stream_bytes ≤ MAX_LOG_BYTES →
+    ensures { (g : Geometry) (stream_bytes : ℕ) (bytes : List ℕ) → HasStore g 0 → HasPage g first_page → LocksInLimits g → length bytes ≤ record_limit g.version →
+        96000 + record_limit g.version ≤ stream_bytes → stream_bytes ≤ MAX_LOG_BYTES →
         (stolen : StoredRun) × (opened : StoredRun) × (pages : LoggedPages)
-        × AreStoredStays g stream_bytes (opening_with empty) [] (λ p. empty_page) (Up stolen ∷ Up opened ∷ []) (taken_back bytes) pages
+        × AreStoredStays g stream_bytes (opening_with (slot_limit g.version) empty) [] (λ p. empty_page) (Up stolen ∷ Up opened ∷ []) (taken_back bytes) pages
         × (take stolen.survive stolen.last.store.log ≡ inserted bytes) × ((stolen.pages first_page).slots 0 ≡ Some bytes)
         × ((id : Rid) → get opened.first.sessions.records id ≡ None) }
 {}

@@ -1,5 +1,5 @@
 -- The worked run of a commit that is forced while it is under way: each event may come, and such a moment with it.
-use Rattle.std.proofs.Common.{◌≡◌, inl, inr, ⊎_elim, ◌≤◌, ℕ, List, [], ◌∷◌, ◌++◌, Bool, true, false, Some, None, refl, sym, ap, length, take, arith}
+use Rattle.std.proofs.Common.{◌+◌, ◌≡◌, inl, inr, ⊎_elim, ◌≤◌, ℕ, List, [], ◌∷◌, ◌++◌, Bool, true, false, Some, None, refl, sym, ap, length, take, arith}
 use Rattle.std.specs.FinMap.{empty, get, get-empty}
 use Rattle.std.specs.Ordering.{eq_by_cmp}
 use Rattle.std.proofs.lemmas.List.Elements.{All-cons, All-nil}
@@ -8,7 +8,7 @@ use Rattle.shore_types.specs.Ids.{exact_pages, page_cmp, rid_cmp}
 use Rattle.shore_types.specs.Images.{Image}
 use Rattle.shore_types.specs.Layout.{HasPage, HasStore}
 use Rattle.shore_types.specs.declared.layout.Geometry.{Geometry}
-use Rattle.shore_types.specs.declared.layout.TheConstants.{MAX_RECORD_BYTES}
+use Rattle.shore_types.specs.Versions.{page_bytes-least, record_limit, record_limit-fits, record_limit-most, slot_limit, slot_limit-fills}
 use Rattle.shore_types.specs.declared.locking.Granule.TheVariants as granule
 use Rattle.shore_types.specs.declared.locking.Mode.TheVariants.{IX}
 use Rattle.shore_gate.specs.declared.anchors.Anchor.{Anchor}
@@ -53,12 +53,12 @@ one_slot p = one_if (eq_by_cmp page_cmp p first_page)
 abbrev with_appended : CheckpointedStore → LogRecord → CheckpointedStore
 with_appended s r = record s { store = after_append s.store r; recovery = recovery_after s.store (AppendRecord r) s.recovery }
 
-module _ (g : Geometry) (stream_bytes : ℕ) (bytes : List ℕ) (store : HasStore g 0) (page : HasPage g first_page) (short : length bytes ≤ MAX_RECORD_BYTES) (long : 100000 ≤ stream_bytes)
+module _ (g : Geometry) (stream_bytes : ℕ) (bytes : List ℕ) (store : HasStore g 0) (page : HasPage g first_page) (short : length bytes ≤ record_limit g.version) (long : 96000 + record_limit g.version ≤ stream_bytes)
     (anchor : Anchor) (first_anchor : anchored_by anchor ≡ not_anchored) where
   -- ---- the states of the sessions
 
   abbrev s0 : State
-  s0 = opened_empty stream_bytes
+  s0 = opened_empty (slot_limit g.version) stream_bytes
 
   abbrev s1 : State
   s1 = begun s0 1
@@ -84,8 +84,8 @@ module _ (g : Geometry) (stream_bytes : ℕ) (bytes : List ℕ) (store : HasStor
   nothing_there : get with_store.sessions.records first_id ≡ None
   nothing_there = get-empty rid_cmp first_id
 
-  fits : FitsAt with_store first_id (Some bytes)
-  fits = record { there = omega arith; most = short; room = omega arith }
+  fits : FitsAt g.version with_store first_id (Some bytes)
+  fits = record { there = omega (arith, slot_limit-fills g.version, page_bytes-least g.version); most = short; room = omega (arith, short, record_limit-fits g.version) }
 
   place : IsPlaceOf g with_store 1 0 bytes first_id
   place = record {
@@ -103,8 +103,8 @@ module _ (g : Geometry) (stream_bytes : ℕ) (bytes : List ℕ) (store : HasStor
         ] refl;
   }
 
-  may : MayChange with_place first_id (Some bytes) one_slot
-  may = let before = ap image_cost nothing_there in record { fits = fits; logs = (omega arith, omega arith); grows = grows }
+  may : MayChange g.version with_place first_id (Some bytes) one_slot
+  may = let before = ap image_cost nothing_there in let few = record_limit-most g.version in record { fits = fits; logs = (omega arith, omega arith); grows = grows }
 
   begins : EventMoves g s0 (Called 1 call.Begin (Done (Began 1))) s1
   begins = (tt, at_once g s0 1 call.Begin (Done (Began 1)) s1 (inr (inr (inr (inl (refl, λ w m. absurd m, refl, (refl, omega arith, ((omega arith, omega arith), omega arith), refl, refl)))))) tt)

@@ -11,7 +11,7 @@ pub returns-clause-state : goal.returns-clause-state
 returns-clause-state d = λ o found es old new session step k h. gives_up_stays o found es old k session step new h
 
 pub returns-clause-room : goal.returns-clause-room
-returns-clause-room d = λ old new session step roomy h. give_up_roomy old new session step h roomy
+returns-clause-room d = λ v old new session step roomy h. give_up_roomy v old new session step h roomy
 
 pub returns-clause-there : goal.returns-clause-there
 returns-clause-there d = λ o found es old new session step k was h. withdrawn_there o found es old k was h.txn (Refused fault.Memory) new (refl, gives_up_as o found es old k session step new h)

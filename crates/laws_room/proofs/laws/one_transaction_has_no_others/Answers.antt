@@ -5,4 +5,4 @@ pub returns-clause-alone : goal.returns-clause-alone
 returns-clause-alone c = one_alone
 
 pub returns-clause-decided : goal.returns-clause-decided
-returns-clause-decided c R counts a k = one_decided R counts a k
+returns-clause-decided c v R counts a k = one_decided v R counts a k

@@ -7,7 +7,7 @@ pub returns-clause-alike : goal.returns-clause-alike
 returns-clause-alike c R p n = sym (claims_settled R p n)
 
 pub returns-clause-settled : goal.returns-clause-settled
-returns-clause-settled c = opens_claimed
+returns-clause-settled c v = opens_claimed v
 
 pub returns-clause-each : goal.returns-clause-each
-returns-clause-each c R undos counts p turns k = page_undos R undos counts k p turns
+returns-clause-each c v R undos counts p turns k = page_undos v R undos counts k p turns

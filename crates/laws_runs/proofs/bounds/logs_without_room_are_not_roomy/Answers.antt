@@ -8,7 +8,7 @@ pub returns-clause-inserted : goal.returns-clause-inserted
 returns-clause-inserted c g bytes k = inserted_too_full g bytes k
 
 pub returns-clause-room_taken : goal.returns-clause-room_taken
-returns-clause-room_taken c g stream_bytes old new other much k = taken_too_full old new other g stream_bytes much k
+returns-clause-room_taken c g stream_bytes old new other much k = taken_too_full g.version old new other g stream_bytes much k
 
 pub returns-clause-standing : goal.returns-clause-standing
-returns-clause-standing c old new other short brief fits = taken_stands old new other short brief fits
+returns-clause-standing c v old new other short brief fits = taken_stands v old new other short brief fits

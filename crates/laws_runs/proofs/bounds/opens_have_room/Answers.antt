@@ -12,5 +12,5 @@ pub returns-clause-leaves : goal.returns-clause-leaves
 returns-clause-leaves c g stream_bytes log s k lawful ended opened = opens_leaving g stream_bytes log s opened s.durable k lawful ended
 
 pub returns-clause-over : goal.returns-clause-over
-returns-clause-over c g stream_bytes o found ready s kept redone restart opening opens long counts next locks =
-    opened_over g stream_bytes o found ready s kept redone restart opening opens long counts next locks
+returns-clause-over c g stream_bytes o found ready s kept redone restart opening opens long counts next locks sized =
+    opened_over g stream_bytes o found ready s kept redone restart opening opens long counts next locks sized
