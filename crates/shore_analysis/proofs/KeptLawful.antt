@@ -173,6 +173,7 @@ module _ (g : Geometry) (log : List LogRecord) (lawful : Lawful log) (limits : A
         record {
           number = limit.number;
           bounds = subst (λ k. SaysInBounds g k r.payload) number (in_bounds r.payload limit.says follows.says);
+          sizes = limit.sizes;
           not_over = λ one. means.not_over;
           of_nobody = λ none. (
             follows.previous ∙ ap (λ b. cond b 0 (last_of r.txn L)) (eq-eqb r.txn 0 none),

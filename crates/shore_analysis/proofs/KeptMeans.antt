@@ -21,6 +21,7 @@ use Rattle.shore_analysis.specs.Passes.{progress_at}
 use Rattle.shore_analysis.proofs.Answered.{last_named}
 use Rattle.shore_analysis.proofs.Padding.{has_padded, last_padded, over_padded, records_padded}
 use Rattle.shore_analysis.proofs.Progresses.{told}
+use Rattle.shore_analysis.specs.Sizes.{HasSizes}
 
 -- ---- what a record of a whole transaction says
 
@@ -95,10 +96,11 @@ module _ (g : Geometry) (cut : ℕ) (before : List LogRecord) (r : LogRecord) (o
         number = m.number;
         previous = w.previous ∙ sym (last_padded r.txn one cut before) ∙ sym (last_named (padded cut before) r.txn one);
         not_over = over_padded r.txn one cut before ∙ m.not_over one;
+        sizes = m.sizes;
         says = says_padded r.txn one cut before g (cut + 1 + length before) r.payload m.bounds w.says;
       }
 
-  module _ (number : r.txn < LAST_TXN) (bounds : SaysInBounds g (cut + 1 + length before) r.payload) where
+  module _ (number : r.txn < LAST_TXN) (bounds : SaysInBounds g (cut + 1 + length before) r.payload) (sizes : HasSizes g.version r.payload) where
     module _ (whole : IsWholeIn cut (before ++ r ∷ []) r.txn) (p : Progress) (is : Some p ≡ progress_at r.txn (padded cut before)) where
       pub whole_is : r.previous ≡ p.last → Means g (padded cut before) r.txn r.payload → IsMeantNow g cut before r
       whole_is previous says =
@@ -106,6 +108,7 @@ module _ (g : Geometry) (cut : ℕ) (before : List LogRecord) (r : LogRecord) (o
           record {
             number = number;
             bounds = bounds;
+            sizes = sizes;
             not_over = λ some. sym (over_padded r.txn one cut before) ∙ tells.runs;
             of_nobody = λ none. absurd (not_nobody none);
             of_whole = λ some all. record {
@@ -132,6 +135,7 @@ module _ (g : Geometry) (cut : ℕ) (before : List LogRecord) (r : LogRecord) (o
       cut_off_is previous says = record {
         number = number;
         bounds = bounds;
+        sizes = sizes;
         not_over = λ some. runs;
         of_nobody = λ none. absurd (not_nobody none);
         of_whole = λ some whole. absurd (not_whole whole);
@@ -149,11 +153,12 @@ module _ (g : Geometry) (cut : ℕ) (before : List LogRecord) (r : LogRecord) (o
       cut_off_says m = (m.of_cut_off one not_whole).says
 
 -- of nobody
-pub of_nobody : (g : Geometry) (cut : ℕ) (before : List LogRecord) (r : LogRecord) → r.txn ≡ 0 → r.txn < LAST_TXN → SaysInBounds g (cut + 1 + length before) r.payload
+pub of_nobody : (g : Geometry) (cut : ℕ) (before : List LogRecord) (r : LogRecord) → r.txn ≡ 0 → r.txn < LAST_TXN → SaysInBounds g (cut + 1 + length before) r.payload → HasSizes g.version r.payload
     → (r.previous ≡ 0) × SaysOfCheckpoint cut before r.payload → IsMeantNow g cut before r
-of_nobody g cut before r none number bounds says = record {
+of_nobody g cut before r none number bounds sizes says = record {
   number = number;
   bounds = bounds;
+  sizes = sizes;
   not_over = λ some. absurd (omega (arith, none, some));
   of_nobody = λ is. says;
   of_whole = λ some. absurd (omega (arith, none, some));

@@ -98,6 +98,7 @@ module _ (g : Geometry) (rs : List LogRecord) (n : ℕ) (r : LogRecord) (at : sl
         now = record {
           number = m.number;
           bounds = bounds_of g before r.txn (0 + 1 + length before) r.payload m.says;
+          sizes = m.sizes;
           not_over = λ one. m.not_over;
           of_nobody = λ none. let some = m.some in absurd (omega (arith, none, some));
           of_whole = λ one is. record { is_one = one; previous = m.previous ∙ last_named before r.txn one; says = says_kept r.txn one 0 before g r.payload m.says };

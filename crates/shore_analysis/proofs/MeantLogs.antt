@@ -260,6 +260,7 @@ follows_meant g rs r bounds served follows = record {
   number = bounds.number;
   previous = follows.previous;
   not_over = follows.not_over;
+  sizes = bounds.sizes;
   says = served_says g rs r.txn r.payload served bounds.id bounds.granules follows.says;
 }
 

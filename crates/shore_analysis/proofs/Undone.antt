@@ -27,6 +27,7 @@ use Rattle.shore_analysis.proofs.Counted.{Among, among_listed, cases_lt, last_is
 use Rattle.shore_analysis.proofs.Listed.{is_entry}
 use Rattle.shore_analysis.proofs.MeantLogs.{before_last, meant_of}
 use Rattle.shore_analysis.proofs.Phases.{loser_undoable}
+use Rattle.shore_analysis.specs.Sizes.{HasSizes}
 
 -- ---- a loser's next record of undo means what it has to
 
@@ -38,6 +39,10 @@ module _ (g : Geometry) (rs : List LogRecord) (t : ℕ) (all : AreMeantOf g t rs
       let change : MeansChange g (take (c.number - 1) rs) k.found.txn c.id = subst (λ P. P) (ap (Means g (take (c.number - 1) rs) k.found.txn) k.says) (all (c.number - 1) k.found k.here k.own).says in
       (change.0, (loser_undoable t rs loser, subst (λ xs. Answers xs c.id c.before (undo_next_of cs)) (sym is) (refl, refl, refl)))
 
+  undo_sizes : (cs : List UnansweredChange) → IsUndoChain rs t cs → HasSizes g.version (undo_payload cs)
+  undo_sizes [] chain = tt
+  undo_sizes (c ∷ cs) chain = let k = chain.0 in (subst (HasSizes g.version) k.says (all (c.number - 1) k.found k.here k.own).sizes).0
+
   pub undo_meant : IsMeant g rs (undo_record rs t)
   undo_meant =
       let one = last_is_one rs t loser.known in
@@ -46,6 +51,7 @@ module _ (g : Geometry) (rs : List LogRecord) (t : ℕ) (all : AreMeantOf g t rs
         number = subst (λ u. u < LAST_TXN) one.own (all one.at one.found one.here one.own).number;
         previous = sym (last_named rs t loser.is_one);
         not_over = loser.not_over;
+        sizes = undo_sizes (unanswered t rs) (unanswered_chain rs t);
         says = says_undo (unanswered t rs) refl (unanswered_chain rs t);
       }
 

@@ -131,6 +131,7 @@ module _ (g : Geometry) (cut : ℕ) (kept : List LogRecord) (all : AreMeantKept 
   now = record {
     number = its.number;
     bounds = bounds_of g rs t (cut + 1 + length kept) r.payload its.says;
+    sizes = its.sizes;
     not_over = λ one. loser_unended.not_over;
     of_nobody = λ none. let one = loser.is_one in absurd (omega (arith, none, one));
     of_whole = λ one is. record { is_one = one; previous = last_padded t one cut kept; says = says_kept t one cut kept g r.payload its.says };

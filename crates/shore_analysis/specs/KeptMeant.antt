@@ -16,6 +16,7 @@ use Rattle.laws_checkpoints.specs.KeptLogs.{IsKeptUnended, kept_last_of, kept_re
 use Rattle.laws_checkpoints.specs.KeptTables.{IsKeptTable, NamesKept}
 use Rattle.laws_checkpoints.specs.MeantBehind.{IsCutOff, IsMeantWhole, first_previous}
 use Rattle.shore_analysis.specs.Meant.{AreGranules, IsChange}
+use Rattle.shore_analysis.specs.Sizes.{HasSizes}
 
 -- ---- bounds: what a record with this number asks by itself, beside numbers that name records before it
 
@@ -60,6 +61,7 @@ SaysInLimits g n (Anchor checkpoint tail) = Unit {0}
 pub record IsInLimits (g : Geometry) (n : ℕ) (r : LogRecord) : Type 0 where
   pub number : r.txn < LAST_TXN
   pub says : SaysInLimits g n r.payload
+  pub sizes : HasSizes g.version r.payload
 
 -- of each record, by its number
 abbrev pub AreInLimits : Geometry → List LogRecord → Type 0
@@ -133,6 +135,7 @@ SaysOfCheckpoint cut before RollbackDecided = ⊥
 pub record IsMeantNow (g : Geometry) (cut : ℕ) (before : List LogRecord) (r : LogRecord) : Type 0 where
   pub number : r.txn < LAST_TXN
   pub bounds : SaysInBounds g (cut + 1 + length before) r.payload
+  pub sizes : HasSizes g.version r.payload
   pub not_over : 0 < r.txn → is_over r.txn before ≡ false
   pub of_nobody : r.txn ≡ 0 → (r.previous ≡ 0) × SaysOfCheckpoint cut before r.payload
   pub of_whole : 0 < r.txn → IsWholeIn cut (before ++ r ∷ []) r.txn → IsMeantWhole cut before r

@@ -8,3 +8,4 @@ pub mod Meant
 pub mod Padded
 pub mod Passes
 pub mod Tables
+pub mod Sizes

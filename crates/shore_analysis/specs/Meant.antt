@@ -4,6 +4,7 @@ use Rattle.std.specs.Prelude.{◌≡◌, ◌<◌, ◌≤◌, ◌-◌, ◌++◌, 
 use Rattle.std.specs.List.{AllByRecursion}
 use Rattle.std.specs.List.Sorted.{IsStrictlySortedBy}
 use Rattle.shore_types.specs.Images.{Image}
+use Rattle.shore_analysis.specs.Sizes.{HasSizes}
 use Rattle.shore_types.specs.Layout.{HasGranule, HasPage, HasSlot}
 use Rattle.shore_types.specs.declared.ids.Rid.{Rid}
 use Rattle.shore_types.specs.declared.layout.Geometry.{Geometry}
@@ -46,12 +47,13 @@ Means g before t CheckpointBegin = ⊥
 Means g before t (CheckpointEnd begin next txns dirty) = ⊥
 Means g before t (Anchor checkpoint tail) = ⊥
 
--- the record is of a transaction with a number that one may have and that has not ended, and names its record before it
+-- the record is of a transaction with a number that one may have and that has not ended, names its record before it, and says nothing too long
 pub record IsMeant (g : Geometry) (before : List LogRecord) (r : LogRecord) : Type 0 where
   pub some : 0 < r.txn
   pub number : r.txn < LAST_TXN
   pub previous : r.previous ≡ previous_of r.txn before
   pub not_over : is_over r.txn before ≡ false
+  pub sizes : HasSizes g.version r.payload
   pub says : Means g before r.txn r.payload
 
 -- the payload is a Change
@@ -152,11 +154,12 @@ ListsInBounds g CheckpointBegin = Unit {0}
 ListsInBounds g (CheckpointEnd begin next txns dirty) = AllByRecursion (IsPageListed g begin) dirty
 ListsInBounds g (Anchor checkpoint tail) = Unit {0}
 
--- An id that the record changes may be one, and so may granules that it names, its transaction has a number that one may have, and so has the next one that it
+-- No image and no global id is longer than the version allows. An id that the record changes may be one, and so may granules that it names, its transaction has a number that one may have, and so has the next one that it
 -- names, and pages that it lists are there.
 pub record IsInBounds (g : Geometry) (r : LogRecord) : Type 0 where
   pub number : r.txn < LAST_TXN
   pub next : next_in r.payload ≤ LAST_TXN
+  pub sizes : HasSizes g.version r.payload
   pub lists : ListsInBounds g r.payload
   pub id : (id : Rid) → id_in r.payload ≡ Some id → HasSlot g id
   pub granules : AreGranules g (granules_in r.payload)

@@ -12,12 +12,14 @@ ghost use Rattle.shore_analysis.specs.KeptPasses.{IsEarlier, KnowsEnds, KnowsKep
 ghost use Rattle.shore_analysis.specs.Meant.{AreMeantOf, Means};
 ghost use Rattle.shore_analysis.specs.Padded.{padded};
 ghost use Rattle.shore_analysis.specs.Passes.{noted, over_after, progress_at};
+ghost use Rattle.shore_analysis.specs.Sizes.{HasSizes};
 
 use crate::kept_meaning::{
     is_cut_off, names_cut_off, says_cut_off, says_in_bounds, says_of_checkpoint,
 };
 use crate::passes::{end, means};
 use crate::progress::{Phase, Progress, begun, entry_by, progress_of};
+use crate::sizes::has_sizes;
 use shore_model::{LogRecord, LogTxn, Payload};
 use shore_types::layout::{LAST_TXN, MAX_TRANSACTIONS};
 use shore_types::{Geometry, Lsn, TxnId};
@@ -88,6 +90,9 @@ impl KeptPass {
             return false;
         }
         if !says_in_bounds(geometry, number, &logged.payload) {
+            return false;
+        }
+        if !has_sizes(geometry.version, &logged.payload) {
             return false;
         }
         if txn.0 == 0 {
@@ -248,7 +253,7 @@ fn stands(
     standing: &Standing,
 ) -> bool
     ensures { 0 < logged.now.txn → logged.now.txn < LAST_TXN → SaysInBounds geometry.now (cut + 1 + length before.now) logged.now.payload
-        → StandsAs geometry.now cut before.now logged.now standing.now → (IsWholeIn cut before.now logged.now.txn → AreMeantOf geometry.now logged.now.txn (padded cut before.now))
+        → HasSizes geometry.now.version logged.now.payload → StandsAs geometry.now cut before.now logged.now standing.now → (IsWholeIn cut before.now logged.now.txn → AreMeantOf geometry.now logged.now.txn (padded cut before.now))
         → (IsTrue result ↔ IsMeantNow geometry.now cut before.now logged.now) }
 {
     match standing {

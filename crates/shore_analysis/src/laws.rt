@@ -72,7 +72,7 @@ pub fn kept_tables_are_of_the_whole()
 {}
 
 /// No lawful log that may be cut is refused, behind any checkpoint whose begin is kept: each kept record means what it has to, and that one's End lists nobody by a record that is cut off
-/// but one that has ended since. Beside the log's own law its ids, granules, pages and numbers have to lie in their bounds, and no more transactions may be unended at once than there may be.
+/// but one that has ended since. Beside the log's own law its ids, granules, pages, numbers, images and global ids have to lie in their bounds, and no more transactions may be unended at once than there may be.
 pub fn kept_records_are_not_refused()
     ensures meant { (g : Geometry) (log : List LogRecord) (volume : LoggedPages) (cut : ℕ) → Lawful log → AreInLimits g log → ((n : ℕ) → IsCrowded (take n log) → ⊥)
         → MayBeCut log volume cut → AreMeantKept g cut (drop cut log) }

@@ -16,6 +16,7 @@ mod losers;
 mod passes;
 mod prepares;
 mod progress;
+mod sizes;
 
 pub use analysis::{NotAnalysed, Tables, analyse};
 pub use chains::{record_at, record_behind};

@@ -18,6 +18,7 @@ use crate::analysis::Tables;
 use crate::chains::is_answer;
 use crate::prepares::may_prepare;
 use crate::progress::{Phase, Progress, begun, entry_by, progress_of};
+use crate::sizes::has_sizes;
 use shore_model::{DirtyPage, LogRecord, LogTxn, Payload};
 use shore_types::layout::{LAST_TXN, MAX_TRANSACTIONS};
 use shore_types::{Bytes, Geometry, Lsn, PageId, Rid, Sequence, TxnId};
@@ -87,6 +88,9 @@ impl Pass {
     {
         let txn = logged.txn;
         if txn.0 == 0 || txn.0 >= LAST_TXN {
+            return false;
+        }
+        if !has_sizes(geometry.version, &logged.payload) {
             return false;
         }
         match self.progress(txn) {

@@ -3,7 +3,7 @@ use Rattle.std.proofs.Common.{◌≡◌, ◌+◌, ℕ, List, length, arith}
 use Rattle.shore_model.specs.declared.log_records.DirtyPage.{DirtyPage}
 use Rattle.shore_model.specs.declared.log_records.LogTxn.{LogTxn}
 use Rattle.shore_model.specs.declared.log_records.Payload.TheVariants.{Anchor, CheckpointBegin, CheckpointEnd}
-use Rattle.shore_types.specs.declared.layout.TheConstants.{FRAME_SHARE}
+use Rattle.shore_types.specs.declared.layout.TheConstants.{ENDING_COST, FRAME_SHARE}
 use Rattle.shore_logrec.specs.Text.{anchor_text, cost_of, text}
 use Rattle.shore_logrec.proofs.TextLengths.{lengths, length-checkpoint_text, length-text}
 use Rattle.laws_checkpoints.specs.Checkpoints.{of_checkpoint}
@@ -35,3 +35,6 @@ named_text checkpoint tail =
     let head = length-text (of_checkpoint (Anchor checkpoint tail)) in
     let two = anchor_length checkpoint tail in
     omega (arith, head, two)
+
+pub begin_text : FRAME_SHARE + length (text (of_checkpoint CheckpointBegin)) ≡ ENDING_COST
+begin_text = let head = length-text (of_checkpoint CheckpointBegin) in omega (arith, head)

@@ -81,6 +81,7 @@ pub struct Named {
 pub fn begin_record() -> LogRecord
     ensures is { result ≡ of_checkpoint payload.CheckpointBegin }
     ensures fits { Fits result }
+    ensures cost { FRAME_SHARE + length (text result) ≡ ENDING_COST }
 {
     of_checkpoint(Payload::CheckpointBegin)
 }

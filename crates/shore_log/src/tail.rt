@@ -44,9 +44,11 @@ pub trait Tail {
         ensures told { told self.new ≡ told self.old };
 
     /// Keeps room aside for so many records with so many bytes of texts in all, in place of what was kept: no other record takes it. `Memory` if an allocation
-    /// failed: what was kept is kept.
+    /// failed: what was kept is kept. None is made for what is kept already, nor by a tail that keeps none.
     fn keep_aside(&mut self, count: usize, bytes: usize) -> Result<(), Fault>
         requires few { (count < 2 ^ 30) × (bytes < 2 ^ 30) }
+        ensures idle { KeepsAside (told self.old) count bytes → IsOk result }
+        ensures keeps_none { keeps ≡ false → IsOk result }
         ensures kept { OnOk result (IsTrue keeps → (told self.new).aside ≡ aside_for count bytes) }
         ensures none { keeps ≡ false → (told self.new).aside ≡ (told self.old).aside }
         ensures refused { IfErr result (λ fault. fault ≡ Fault.Memory) }
@@ -55,7 +57,7 @@ pub trait Tail {
         ensures first { first self.new ≡ first self.old }
         ensures records { records self.new ≡ records self.old };
 
-    /// Adds a record as `push` does, into room that is kept aside: if there is so much of it, it is not refused.
+    /// Adds a record as `push` does, into room that is kept aside: if there is so much of it, it is not refused. If it is refused, what was kept is kept.
     fn push_kept(&mut self, logged: &LogRecord) -> Result<Lsn, Fault>
         requires text { Fits logged.now }
         requires previous { logged.now.previous < first self.old + length (records self.old) }
@@ -66,7 +68,8 @@ pub trait Tail {
         ensures refused { IfErr result (λ fault. fault ≡ Fault.Memory) }
         ensures none_added { OnErr result (records self.new ≡ records self.old) }
         ensures first { first self.new ≡ first self.old }
-        ensures told { told self.new ≡ taken_from (told self.old) 1 (length (text logged.now)) };
+        ensures told { OnOk result (told self.new ≡ taken_from (told self.old) 1 (length (text logged.now))) }
+        ensures none_taken { OnErr result (told self.new ≡ told self.old) };
 
     /// The number that the next record will have.
     fn next(&self) -> Lsn
@@ -184,6 +187,7 @@ impl PlainTail {
         requires { next ≤ 2 ^ 62 }
         ensures first { first_of result ≡ next }
         ensures waiting { waiting_in result ≡ [] }
+        ensures aside { (told_in result).aside ≡ aside_for 0 0 }
     {
         PlainTail {
             first: next.0,
@@ -236,7 +240,7 @@ impl PlainTail {
     pub(crate) fn learn(&mut self, entries: Known, texts: Known)
         requires empty { waiting_in self.old ≡ [] }
         requires room { (entries.held ≤ entries.room) × (texts.held ≤ texts.room) × (texts.held < 2 ^ 63) }
-        ensures told { ((told_in self.new).entries ≡ entries) × ((told_in self.new).texts ≡ texts) }
+        ensures told { ((told_in self.new).entries ≡ entries) × ((told_in self.new).texts ≡ texts) × ((told_in self.new).aside ≡ aside_for 0 0) }
         ensures same { (first_of self.new ≡ first_of self.old) × (waiting_in self.new ≡ waiting_in self.old) }
     {
         self.told = Told {
@@ -320,27 +324,30 @@ impl PlainTail {
         self.bytes.reserve(len)
     }
 
-    // One record more; what is kept aside stays so.
-    fn push_one(&mut self, logged: &LogRecord) -> Result<Lsn, Fault>
+    // One record more; no more than this is kept aside then.
+    fn push_one(&mut self, logged: &LogRecord, left: Aside) -> Result<Lsn, Fault>
         requires text { Fits logged.now }
         requires previous { logged.now.previous < first_of self.old + length (waiting_in self.old) }
         requires numbers { first_of self.old + length (waiting_in self.old) < 2 ^ 62 }
+        requires left { KeepsAside (told_in self.old) left.records left.bytes }
         ensures number { IfOk result (λ n. n ≡ first_of self.old + length (waiting_in self.old)) }
         ensures added { OnOk result (waiting_in self.new ≡ waiting_in self.old ++ logged.now ∷ []) }
-        ensures idle { HasRoom (told_in self.old).entries (self.old.count + ((told_in self.old).aside.records + 1)) (vec_capacity self.old.index)
-            → HasRoom (told_in self.old).texts (vec_len self.old.bytes + ((told_in self.old).aside.bytes + length (text logged.now))) (vec_capacity self.old.bytes)
-            → vec_len self.old.bytes + ((told_in self.old).aside.bytes + length (text logged.now)) ≤ vec_capacity self.old.bytes → IsOk result }
+        ensures idle { HasRoom (told_in self.old).entries (self.old.count + (left.records + 1)) (vec_capacity self.old.index)
+            → HasRoom (told_in self.old).texts (vec_len self.old.bytes + (left.bytes + length (text logged.now))) (vec_capacity self.old.bytes)
+            → vec_len self.old.bytes + (left.bytes + length (text logged.now)) ≤ vec_capacity self.old.bytes → IsOk result }
         ensures refused { IfErr result (λ fault. fault ≡ Fault.Memory) }
         ensures none_added { OnErr result (waiting_in self.new ≡ waiting_in self.old) }
         ensures first { first_of self.new ≡ first_of self.old }
-        ensures told { told_in self.new ≡ told_in self.old }
+        ensures told { OnOk result (told_in self.new ≡ record (told_in self.old) { aside = left }) }
+        ensures none_taken { OnErr result (told_in self.new ≡ told_in self.old) }
     {
-        let Aside { records, bytes } = self.told.aside;
+        let Aside { records, bytes } = left;
         self.take_room(records + 1, bytes + encoded_len(logged))?;
         encode(logged, &mut self.bytes)?;
         let number = self.first + self.count;
         self.waiting = self.waiting.and(logged, &());
         self.count += 1;
+        self.told.aside = left;
         Ok(Lsn(number))
     }
 
@@ -404,7 +411,7 @@ impl Tail for PlainTail {
     ghost keeps = { true };
 
     fn push(&mut self, logged: &LogRecord) -> Result<Lsn, Fault> {
-        self.push_one(logged)
+        self.push_one(logged, self.told.aside)
     }
 
     fn keep_aside(&mut self, count: usize, bytes: usize) -> Result<(), Fault> {
@@ -421,11 +428,11 @@ impl Tail for PlainTail {
 
     fn push_kept(&mut self, logged: &LogRecord) -> Result<Lsn, Fault> {
         let Aside { records, bytes } = self.told.aside;
-        self.told.aside = Aside {
+        let left = Aside {
             records: records.saturating_sub(1),
             bytes: bytes.saturating_sub(encoded_len(logged)),
         };
-        self.push_one(logged)
+        self.push_one(logged, left)
     }
 
     fn next(&self) -> Lsn {

@@ -7,6 +7,7 @@ use Rattle.std.proofs.lemmas.Bool.{cases_Bool, eq-eqb, eqb-false, eqb-true, ne_e
 use Rattle.std.specs.FinMap.{get}
 use Rattle.std.proofs.lemmas.List.{map-append, reverse-append}
 use Rattle.shore_types.specs.Images.{Image}
+use Rattle.shore_types.specs.declared.versions.Version.{Version}
 use Rattle.shore_types.specs.declared.layout.TheConstants.{ENDING_COST}
 use Rattle.shore_model.specs.declared.log_records.LogRecord.{LogRecord}
 use Rattle.shore_model.specs.declared.log_records.Payload.{Payload}
@@ -276,13 +277,13 @@ module _ (old new : Transactions) (s : State) (was : HasTxns old s) where
 
   -- ---- one has logged a change and made it
 
-  pub txns_changed : (number : ℕ) (entry : UndoEntry) (a : SessionTxn) (image : Image) (counts : SlotCounts)
+  pub txns_changed : (v : Version) (number : ℕ) (entry : UndoEntry) (a : SessionTxn) (image : Image) (counts : SlotCounts)
       → OneBecomes number (λ t u. IsAfterChange t entry u) (table.txns_in old) (table.txns_in new) → undos_in new ≡ with_undo a.txn (with_entry a.undo entry) (undos_in old) → prepared_in new ≡ prepared_in old
       → next_in new ≡ next_in old → (room_in new).kept ≡ (room_in old).kept + cost_of (Change entry.id entry.before image) → (room_in new).stream_bytes ≡ (room_in old).stream_bytes
       → IsAmong a s.sessions.active → a.txn ≡ number → entry.lsn ≡ 1 + length s.log → entry.before ≡ get s.sessions.records entry.id
-      → Claimed s.sessions.records s.sessions.active s.counts → NoOthers s.sessions.active a.txn entry.id → entry.claim ≡ claim_at (page_slots s entry.id.page) entry.id.slot
+      → Claimed v s.sessions.records s.sessions.active s.counts → NoOthers s.sessions.active a.txn entry.id → entry.claim ≡ claim_at (page_slots s entry.id.page) entry.id.slot
       → HasTxns new (changed s a entry.id image counts)
-  txns_changed its_number entry a image counts one undos doubts next kept stream m own number found claimed alone claim =
+  txns_changed v its_number entry a image counts one undos doubts next kept stream m own number found claimed alone claim =
       txns_on (changed s a entry.id image counts) (λ n. refl) refl doubts refl next (becomes_so (change_seated entry) one)
       (ap (with_undo a.txn (with_before_image s.sessions.records a.undo entry.id)) was.active
       ∙ ap (λ b. with_undo a.txn (record a.undo { images = a.undo.images ++ (entry.id, b) ∷ [] }) (undos_in old)) (sym found) ∙ sym undos)
@@ -325,7 +326,7 @@ module _ (old new : Transactions) (s : State) (was : HasTxns old s) where
           ap (map (λ (e : UndoEntry). e.claim)) one.becomes.entries ∙ map-append (λ (e : UndoEntry). e.claim) (entries_of one.before) (entry ∷ [])
           ∙ ap (λ ns. ns ++ entry.claim ∷ []) (before ∙ ap (λ (b : SessionTxn). claims_before b.undo.images) is_one)
           ∙ ap (λ n. claims_before a.undo.images ++ n ∷ []) claim
-          ∙ sym (entries.changed s.sessions.records s.sessions.active s.counts claimed a m entry.id alone)
+          ∙ sym (entries.changed v s.sessions.records s.sessions.active s.counts claimed a m entry.id alone)
           ∙ ap (λ b. claims_before (a.undo.images ++ (entry.id, b) ∷ [])) (sym found)
           ∙ ap claims_before (sym images_now)
 

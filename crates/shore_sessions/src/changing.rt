@@ -18,6 +18,7 @@ ghost use Rattle.shore_txn.specs.Transactions as table;
 ghost use Rattle.shore_txn.specs.Txns.{IsAfterChange, SameTxn};
 ghost use Rattle.shore_txn.specs.declared.txn.Txn.{Txn};
 ghost use Rattle.shore_txn.specs.Transactions.{HasNoTxnOf, HasRoomToNote, HasTxnRoom, IsSeatIn, IsUnchanged, kept_in, next_in, room_in, undos_in};
+ghost use Rattle.shore_types.specs.declared.versions.Version.{Version};
 
 use crate::control::Control;
 use shore_txn::{Seat, UndoEntry};
@@ -78,9 +79,9 @@ impl Control {
         ensures elsewhere { (p : PageId) → p ≢ entry.id.page → kept_in (txns_in self.new) p ≡ kept_in (txns_in self.old) p }
         ensures locks { locks_in self.new ≡ locks_in self.old }
         ensures waits { waits_in self.new ≡ waits_in self.old }
-        ensures stands { (s : State) (a : SessionTxn) (image : Image) (counts : SlotCounts) → HasControl self.old s → IsAt seat.now s a
+        ensures stands { (v : Version) (s : State) (a : SessionTxn) (image : Image) (counts : SlotCounts) → HasControl self.old s → IsAt seat.now s a
             → entry.lsn ≡ 1 + length s.log → entry.before ≡ get s.sessions.records entry.id → logged ≡ cost_of (Change entry.id entry.before image)
-            → Claimed s.sessions.records s.sessions.active s.counts → NoOthers s.sessions.active a.txn entry.id → entry.claim ≡ claim_at (page_slots s entry.id.page) entry.id.slot
+            → Claimed v s.sessions.records s.sessions.active s.counts → NoOthers s.sessions.active a.txn entry.id → entry.claim ≡ claim_at (page_slots s entry.id.page) entry.id.slot
             → HasControl self.new (changed s a entry.id image counts) }
         ensures stream { (room_in (txns_in self.new)).stream_bytes ≡ (room_in (txns_in self.old)).stream_bytes }
     {

@@ -225,6 +225,7 @@ impl Waits {
         ensures room { HasCallRoom self.old → HasCallRoom self.new }
         ensures keeps { (n : ℕ) → IsMarked n self.old → IsMarked n self.new }
         ensures marked { (n : ℕ) (w : WaitingCall) → slice_get (calls_in self.old) n ≡ Some w → w.txn ≡ txn → IsMarked n self.new }
+        ensures only { (n : ℕ) (w : WaitingCall) → slice_get (calls_in self.old) n ≡ Some w → w.txn ≢ txn → IsMarked n self.new → IsMarked n self.old }
     {
         for place in 0..self.calls.len() {
             if self.calls[place].txn == txn {
@@ -239,6 +240,7 @@ impl Waits {
         ensures room { HasCallRoom self.old → HasCallRoom self.new }
         ensures keeps { (n : ℕ) → IsMarked n self.old → IsMarked n self.new }
         ensures marked { AreMarked locks.now.requests self.new }
+        ensures only { (n : ℕ) (w : WaitingCall) → slice_get (calls_in self.old) n ≡ Some w → IsTrue (is_waiting w.txn locks.now.requests) → IsMarked n self.new → IsMarked n self.old }
     {
         for place in 0..self.calls.len() {
             if !locks.is_waiting(self.calls[place].txn) {

@@ -3,6 +3,8 @@ use Rattle.std.proofs.Common.{◌≡◌, ◌<◌, ◌++◌, ℕ, List, [], ◌�
 use Rattle.std.specs.List.{AllByRecursion}
 use Rattle.std.proofs.lemmas.List.{length-map}
 use Rattle.shore_types.specs.declared.ids.PageId.{PageId}
+use Rattle.shore_types.specs.Versions.{slot_limit-fills}
+use Rattle.shore_types.specs.declared.versions.Version.{Version}
 use Rattle.shore_model.specs.Records.{Records}
 use Rattle.shore_page.specs.Claims.{AreThere, FitIn, claimed_by}
 use Rattle.shore_page.specs.Room.{HasRoom, raised}
@@ -49,7 +51,7 @@ changes_there counts p (t ∷ older) within =
     subst (AreThere (counts p)) (sym (claims_append p (all_changes older) (entries_of t)))
     (there_join (counts p) (claims_on p (all_changes older)) (claims_on p (entries_of t)) (changes_there counts p older (λ a m. within a (inr m))) (told_there counts p (entries_of t) (within (as_session_txn t) (inl refl))))
 
-module _ (ts : List Txn) (R : Records) (counts : SlotCounts) (p : PageId) (claimed : Claimed R (session_txns ts) counts) where
+module _ (v : Version) (ts : List Txn) (R : Records) (counts : SlotCounts) (p : PageId) (claimed : Claimed v R (session_txns ts) counts) where
   abbrev undos : List SessionTxn
   undos = session_txns ts
 
@@ -60,7 +62,7 @@ module _ (ts : List Txn) (R : Records) (counts : SlotCounts) (p : PageId) (claim
   kept = claims_on p (all_changes ts)
 
   pub claims_back : slots ≡ claimed_by kept (settled_slots R p (counts p))
-  claims_back = sym (claims_told ts p (settled_slots R p (counts p)) ∙ fetched R undos counts claimed p)
+  claims_back = sym (claims_told ts p (settled_slots R p (counts p)) ∙ fetched v R undos counts claimed p)
 
   pub back_again : slots ≡ claimed_by kept (map settled (text.images_of slots))
   back_again = claims_back ∙ ap (claimed_by kept) (sym (read_slots R undos p (counts p)))
@@ -68,28 +70,28 @@ module _ (ts : List Txn) (R : Records) (counts : SlotCounts) (p : PageId) (claim
   images_long : length (text.images_of slots) ≡ counts p
   images_long = length-map slots (λ (s : Slot). s.image) ∙ length-slots R undos p (counts p)
 
-  pub fit_again : FitIn kept (map settled (text.images_of slots))
+  pub fit_again : FitIn v kept (map settled (text.images_of slots))
   fit_again =
-      let room : HasRoom slots = claimed.room p in
+      let room : HasRoom v slots = claimed.room p in
       let all : length (map settled (text.images_of slots)) ≡ counts p = length-map (text.images_of slots) settled ∙ images_long in
-      fit_in_room kept (text.images_of slots) (let r = room.room in omega (arith, r, length-slots R undos p (counts p), images_long))
+      fit_in_room v kept (text.images_of slots) (let r = room.room in omega (arith, r, slot_limit-fills v, length-slots R undos p (counts p), images_long))
       (subst (λ (n : ℕ). AreThere n kept) (sym all) (changes_there counts p ts claimed.within))
-      (subst HasRoom back_again room)
+      (subst (HasRoom v) back_again room)
 
-  pub fit_read : FitIn kept (settled_slots R p (counts p))
-  fit_read = subst (FitIn kept) (read_slots R undos p (counts p)) fit_again
+  pub fit_read : FitIn v kept (settled_slots R p (counts p))
+  fit_read = subst (FitIn v kept) (read_slots R undos p (counts p)) fit_again
 
 -- ---- once one is taken out
 
-module _ (old new : List Txn) (R : Records) (counts : SlotCounts) (a : SessionTxn) (claimed : Claimed R (session_txns old) counts) (m : IsAmong a (session_txns old)) (out : session_txns new ≡ without_txn a.txn (session_txns old)) where
-  still_claimed : Claimed R (session_txns new) counts
-  still_claimed = subst (λ undos. Claimed R undos counts) (sym out) (left_keeps R (session_txns old) counts claimed a m)
+module _ (v : Version) (old new : List Txn) (R : Records) (counts : SlotCounts) (a : SessionTxn) (claimed : Claimed v R (session_txns old) counts) (m : IsAmong a (session_txns old)) (out : session_txns new ≡ without_txn a.txn (session_txns old)) where
+  still_claimed : Claimed v R (session_txns new) counts
+  still_claimed = subst (λ undos. Claimed v R undos counts) (sym out) (left_keeps v R (session_txns old) counts claimed a m)
 
   -- slots that let its claims go are as those of the page when it is read again, with the claims that are left
   pub left_read : (p : PageId) → let_go p a.undo.images (slots_of R (session_txns old) p (counts p)) ≡ claimed_by (claims_on p (all_changes new)) (map settled (text.images_of (slots_of R (session_txns old) p (counts p))))
   left_read p =
-      sym (left_slots R (session_txns old) counts claimed a m p) ∙ ap (λ undos. slots_of R undos p (counts p)) (sym out)
-      ∙ claims_back new R counts p still_claimed ∙ ap (claimed_by (claims_on p (all_changes new))) (sym (read_slots R (session_txns old) p (counts p)))
+      sym (left_slots v R (session_txns old) counts claimed a m p) ∙ ap (λ undos. slots_of R undos p (counts p)) (sym out)
+      ∙ claims_back v new R counts p still_claimed ∙ ap (claimed_by (claims_on p (all_changes new))) (sym (read_slots R (session_txns old) p (counts p)))
 
-  pub left_fit : (p : PageId) → FitIn (claims_on p (all_changes new)) (map settled (text.images_of (slots_of R (session_txns old) p (counts p))))
-  left_fit p = subst (FitIn (claims_on p (all_changes new))) (sym (read_slots R (session_txns old) p (counts p))) (fit_read new R counts p still_claimed)
+  pub left_fit : (p : PageId) → FitIn v (claims_on p (all_changes new)) (map settled (text.images_of (slots_of R (session_txns old) p (counts p))))
+  left_fit p = subst (FitIn v (claims_on p (all_changes new))) (sym (read_slots R (session_txns old) p (counts p))) (fit_read v new R counts p still_claimed)

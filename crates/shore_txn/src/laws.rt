@@ -15,6 +15,7 @@ ghost use Rattle.laws_lives.specs.Sessions.{EachOnce, SessionTxn, txns_of, witho
 ghost use Rattle.laws_lives.specs.Views.{IsAmong};
 ghost use Rattle.shore_txn.specs.ActiveTxns.{AreApart};
 ghost use Rattle.shore_txn.specs.Transactions.{kept_in, next_in, prepared_in, room_in, txns_in, undos_in};
+ghost use Rattle.shore_types.specs.declared.versions.Version.{Version};
 
 use crate::transactions::Transactions;
 
@@ -35,22 +36,22 @@ pub fn claims_are_those_of_undo_lists(table: &Transactions)
 /// If each page has room for its slots as they claim, what a table tells brings the claims of a page back when it is read, and each fits: so a
 /// page may leave its frame.
 pub fn claimed_pages_may_go(table: &Transactions)
-    ensures claims { (R : Records) (counts : SlotCounts) (p : PageId) → Claimed R (undos_in table.now) counts
+    ensures claims { (v : Version) (R : Records) (counts : SlotCounts) (p : PageId) → Claimed v R (undos_in table.now) counts
         → slots_of R (undos_in table.now) p (counts p) ≡ claimed_by (kept_in table.now p) (settled_slots R p (counts p)) }
-    ensures fit { (R : Records) (counts : SlotCounts) (p : PageId) → Claimed R (undos_in table.now) counts → FitIn (kept_in table.now p) (settled_slots R p (counts p)) }
+    ensures fit { (v : Version) (R : Records) (counts : SlotCounts) (p : PageId) → Claimed v R (undos_in table.now) counts → FitIn v (kept_in table.now p) (settled_slots R p (counts p)) }
 
     // A page as it is read has the images of its slots, and each slot claims what its record takes.
     ensures read { (R : Records) (p : PageId) (n : ℕ) → map settled (images_of (slots_of R (undos_in table.now) p n)) ≡ settled_slots R p n }
-    ensures kept { (R : Records) (counts : SlotCounts) (p : PageId) → Claimed R (undos_in table.now) counts
+    ensures kept { (v : Version) (R : Records) (counts : SlotCounts) (p : PageId) → Claimed v R (undos_in table.now) counts
         → (slots_of R (undos_in table.now) p (counts p) ≡ claimed_by (kept_in table.now p) (map settled (images_of (slots_of R (undos_in table.now) p (counts p)))))
-        × FitIn (kept_in table.now p) (map settled (images_of (slots_of R (undos_in table.now) p (counts p)))) }
+        × FitIn v (kept_in table.now p) (map settled (images_of (slots_of R (undos_in table.now) p (counts p)))) }
 {}
 
 /// Once a transaction is taken out, slots that let its claims go are those of the page as it is read again: each has what is left to be told of it.
 pub fn left_pages_may_go(old: &Transactions, new: &Transactions)
-    ensures claims { (R : Records) (counts : SlotCounts) (a : SessionTxn) (p : PageId) → Claimed R (undos_in old.now) counts → IsAmong a (undos_in old.now)
+    ensures claims { (v : Version) (R : Records) (counts : SlotCounts) (a : SessionTxn) (p : PageId) → Claimed v R (undos_in old.now) counts → IsAmong a (undos_in old.now)
         → undos_in new.now ≡ without_txn a.txn (undos_in old.now)
         → let_go p a.undo.images (slots_of R (undos_in old.now) p (counts p)) ≡ claimed_by (kept_in new.now p) (map settled (images_of (slots_of R (undos_in old.now) p (counts p)))) }
-    ensures fit { (R : Records) (counts : SlotCounts) (a : SessionTxn) (p : PageId) → Claimed R (undos_in old.now) counts → IsAmong a (undos_in old.now)
-        → undos_in new.now ≡ without_txn a.txn (undos_in old.now) → FitIn (kept_in new.now p) (map settled (images_of (slots_of R (undos_in old.now) p (counts p)))) }
+    ensures fit { (v : Version) (R : Records) (counts : SlotCounts) (a : SessionTxn) (p : PageId) → Claimed v R (undos_in old.now) counts → IsAmong a (undos_in old.now)
+        → undos_in new.now ≡ without_txn a.txn (undos_in old.now) → FitIn v (kept_in new.now p) (map settled (images_of (slots_of R (undos_in old.now) p (counts p)))) }
 {}

@@ -9,10 +9,12 @@ use shore_disk::Disk;
 impl<D: Disk> LogDev<D> {
     ghost use Rattle.shore_log.specs.PlainTails.{first_of, told_in, waiting_in};
     ghost use Rattle.shore_log.specs.Settled.{IsSpelled, KnowsRoom};
+    ghost use Rattle.shore_log.specs.Told.{aside_for};
 
-    /// Tells a log buffer what there is room for; nothing as long as a record waits there, or here one that `take` took.
+    /// Tells a log buffer what there is room for, of which nothing is kept aside; nothing as long as a record waits there, or here one that `take` took.
     pub fn tell_room(&self, tail: &mut PlainTail)
         ensures knows { waiting_in tail.old ≡ [] → IsSpelled self.now → KnowsRoom self.now (told_in tail.new) }
+        ensures aside { waiting_in tail.old ≡ [] → IsSpelled self.now → (told_in tail.new).aside ≡ aside_for 0 0 }
         ensures same { (first_of tail.new ≡ first_of tail.old) × (waiting_in tail.new ≡ waiting_in tail.old) }
     {
         if !tail.is_empty() || !self.is_spelled() {

@@ -19,6 +19,7 @@ invariant_of-self-2 c =
     let long = ap length all_is in
     let aside_is = ap (λ (t : Told). t.aside.records) c.take_room.ensures.told in
     let bytes_is = ap (λ (t : Told). t.aside.bytes) c.take_room.ensures.told in
+    let least = c.requires.left in
     let more : listed c.and-self.result.items ≡ all ++ r ∷ [] = ap listed c.and-self.ensures ∙ listed-push old.waiting.items r _ in
     record {
       numbered = subst (λ (l : List LogRecord). IsTrue (are_numbered old.first l)) (sym more) (numbered-push old.first all r old.numbered c.requires.text (omega (arith, c.requires.previous, same.0, long)));
@@ -26,12 +27,12 @@ invariant_of-self-2 c =
       few = omega (arith, c.requires.numbers, old.counted, same.0, long);
       spelled = c.in_ok-encode.ensures.ok ∙ ap (λ (l : List ℕ). l ++ text r) old.spelled ∙ sym (texts-push all r) ∙ ap texts (sym more);
       no_entry = old.no_entry;
-      index_room = omega (arith, c.in_ok-take_room.ensures.entries, aside_is);
-      texts_room = omega (arith, c.in_ok-take_room.ensures.texts, bytes_is, ap length c.in_ok-encode.ensures.ok, length-append old.bytes.items (text r), c.encode.new.out.ok.0, old.bytes.ok.0, c.encoded_len.ensures.len, c.in_ok-encode.ensures.capacity);
+      index_room = omega (arith, c.in_ok-take_room.ensures.entries);
+      texts_room = omega (arith, c.in_ok-take_room.ensures.texts, ap length c.in_ok-encode.ensures.ok, length-append old.bytes.items (text r), c.encode.new.out.ok.0, old.bytes.ok.0, c.encoded_len.ensures.len, c.in_ok-encode.ensures.capacity);
       texts_short = old.texts_short;
-      aside_short = old.aside_short;
-      aside_room = omega (arith, c.in_ok-take_room.ensures.here, bytes_is, ap length c.in_ok-encode.ensures.ok, length-append old.bytes.items (text r), c.encode.new.out.ok.0, old.bytes.ok.0, c.encoded_len.ensures.len, c.in_ok-encode.ensures.capacity);
-      spare_room = old.spare_room;
+      aside_short = let short = old.aside_short in (omega (arith, short.0, least.0, aside_is), omega (arith, short.1, least.1, bytes_is));
+      aside_room = omega (arith, c.in_ok-take_room.ensures.here, ap length c.in_ok-encode.ensures.ok, length-append old.bytes.items (text r), c.encode.new.out.ok.0, old.bytes.ok.0, c.encoded_len.ensures.len, c.in_ok-encode.ensures.capacity);
+      spare_room = let spare = old.spare_room in (spare.0, omega (arith, spare.1, least.1, bytes_is));
     }
 
 pub returns-clause-added : goal.returns-clause-added

@@ -12,11 +12,11 @@ use Rattle.shore_sessions.proofs.WaitSteps.{names-with_undo, waits_kept}
 use Rattle.shore_sessions.proofs.control.Control.note_change.Goals as goal
 
 pub returns-clause-stands : goal.returns-clause-stands
-returns-clause-stands c s a image counts was its number found logged claimed alone claim =
+returns-clause-stands c v s a image counts was its number found logged claimed alone claim =
     let done = c.note_change.ensures in
     let entry = c.args.entry in
     record {
-      txns = txns_changed (txns_in c.args.self.now) c.note_change.new.self s was.txns c.args.seat.now.txn entry a image counts done.noted
+      txns = txns_changed (txns_in c.args.self.now) c.note_change.new.self s was.txns v c.args.seat.now.txn entry a image counts done.noted
           (done.undos a (subst (IsAmong a) was.txns.active its.0) its.1) done.doubts done.next (done.kept ∙ ap (λ n. (room_in (txns_in c.args.self.now)).kept + n) logged) done.stream
           its.0 its.1 number found claimed alone claim;
       waits = waits_kept (waits_in c.args.self.now) s was.waits (changed s a entry.id image counts) refl

@@ -1,4 +1,4 @@
-use Rattle.std.proofs.Common.{◌≡◌, ◌<◌, ℕ, Some}
+use Rattle.std.proofs.Common.{◌≡◌, ◌≢◌, ◌<◌, ℕ, Some}
 use Rattle.std.specs.Prelude.{slice_get}
 use Rattle.shore_sessions.specs.Waits.{HasCallRoom, IsMarked, calls_in}
 use Rattle.shore_sessions.specs.declared.waits.WaitingCall.{WaitingCall}
@@ -10,4 +10,5 @@ invariant-loop-place l = record {
   room : HasCallRoom l.initial.self → HasCallRoom l.self;
   keeps : (n : ℕ) → IsMarked n l.initial.self → IsMarked n l.self;
   marked : (n : ℕ) (w : WaitingCall) → n < l.place → slice_get (calls_in l.initial.self) n ≡ Some w → w.txn ≡ l.txn → IsMarked n l.self;
+  only : (n : ℕ) (w : WaitingCall) → slice_get (calls_in l.initial.self) n ≡ Some w → w.txn ≢ l.txn → IsMarked n l.self → IsMarked n l.initial.self;
 }

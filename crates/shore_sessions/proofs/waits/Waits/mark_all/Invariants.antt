@@ -1,4 +1,4 @@
-use Rattle.std.proofs.Common.{◌≡◌, ◌<◌, ℕ, Some, false}
+use Rattle.std.proofs.Common.{◌≡◌, ◌<◌, ℕ, IsTrue, Some, false}
 use Rattle.std.specs.Prelude.{slice_get}
 use Rattle.shore_locks.specs.Tables.{is_waiting}
 use Rattle.shore_sessions.specs.Calls.{awaits_record}
@@ -12,4 +12,5 @@ invariant-loop-place l = record {
   room : HasCallRoom l.initial.self → HasCallRoom l.self;
   keeps : (n : ℕ) → IsMarked n l.initial.self → IsMarked n l.self;
   marked : (n : ℕ) (w : WaitingCall) → n < l.place → slice_get (calls_in l.initial.self) n ≡ Some w → awaits_record w ≡ false → is_waiting w.txn l.locks.requests ≡ false → IsMarked n l.self;
+  only : (n : ℕ) (w : WaitingCall) → slice_get (calls_in l.initial.self) n ≡ Some w → IsTrue (is_waiting w.txn l.locks.requests) → IsMarked n l.self → IsMarked n l.initial.self;
 }
