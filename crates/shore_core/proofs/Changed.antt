@@ -1,6 +1,6 @@
 -- The pages and the room of the log, when a transaction changes a record.
 use Rattle.laws_checkpoints.specs.CheckpointedStores.{CheckpointedStore}
-use Rattle.std.proofs.Common.{◌≡◌, ◌⊎◌, ◌≢◌, ◌+◌, ◌<◌, ◌≤◌, inl, inr, ℕ, List, Option, None, Some, IsSomeAnd, IsTrue, false, true, is_some, Result, Ok, Err, OnErr, OnOk, IsErrAnd, max, refl, sym, ap, subst, ◌∙◌, arith}
+use Rattle.std.proofs.Common.{◌≡◌, ◌⊎◌, ◌≢◌, ◌+◌, ◌<◌, ◌≤◌, inl, inr, ℕ, List, Option, None, Some, IsSomeAnd, IsTrue, false, true, is_some, Result, Ok, Err, OnErr, OnOk, IsErrAnd, IfSome, length, max, option_map, refl, sym, ap, subst, ◌∙◌, arith}
 use Rattle.std.specs.FinMap.{get}
 use Rattle.shore_disk.specs.declared.device.Disk as disk
 use Rattle.shore_log.specs.declared.tail.Tail as tail
@@ -21,6 +21,7 @@ use Rattle.shore_heap.specs.Contents.{ClaimsOfPages, with_slots}
 use Rattle.shore_heap.specs.Heaps as heaps
 use Rattle.shore_heap.specs.Heaps.{Shows, frame_of, geometry_of}
 use Rattle.shore_types.specs.declared.layout.TheConstants.{MAX_RECORD_BYTES}
+use Rattle.shore_types.specs.declared.versions.Version.{Version}
 use Rattle.shore_dwrite.specs.Settled as settled_device
 use Rattle.shore_dwrite.specs.Volumes.{page_number}
 use Rattle.shore_heap.proofs.Bounds.{cases_page, slots_here, slots_other}
@@ -61,9 +62,9 @@ grows counts id = record { here = here (cases_page id.page id.page); others = λ
     others p apart (inl same) = absurd (apart same)
     others p apart (inr other) = refl
 
-module _ {V : Type 0} {H : disk.Ghosts V} where
+module _ (v : Version) {V : Type 0} {H : disk.Ghosts V} where
   pub pages_changed : (new : Heap V H) (K : ClaimsOfPages) (front : List ℕ) (disk : ℕ → List ℕ) (s : State) (a : SessionTxn) (id : Rid) (image : Image) (counts : SlotCounts)
-      → Claimed s.sessions.records s.sessions.active s.counts → IsAmong a s.sessions.active → NoOthers s.sessions.active a.txn id → Fits (page_slots s id.page) id.slot (image_len image) → Grows s.counts counts id
+      → Claimed v s.sessions.records s.sessions.active s.counts → IsAmong a s.sessions.active → NoOthers s.sessions.active a.txn id → Fits v (page_slots s id.page) id.slot (image_len image) → Grows s.counts counts id
       → Shows K new front disk (with_slots (page_slots s) id.page (λ slots. with_image slots id.slot image)) → Shows K new front disk (page_slots (changed s a id image counts))
   pages_changed new K front disk s a id image counts k among alone fits grows shows =
       shows_same new K front disk (with_slots (page_slots s) id.page (λ slots. with_image slots id.slot image)) (page_slots (changed s a id image counts)) each shows
@@ -72,11 +73,11 @@ module _ {V : Type 0} {H : disk.Ghosts V} where
       each p there = elim (cases_page p id.page) [
         | inl same ↦
             ap (page_slots (changed s a id image counts)) same
-            ∙ change_slots s.sessions.records s.sessions.active s.counts k a among id image alone fits counts grows
+            ∙ change_slots _ s.sessions.records s.sessions.active s.counts k a among id image alone fits counts grows
             ∙ sym (slots_here (page_slots s) id.page (λ slots. with_image slots id.slot image))
             ∙ ap (with_slots (page_slots s) id.page (λ slots. with_image slots id.slot image)) (sym same)
         | inr other ↦
-            change_others s.sessions.records s.sessions.active s.counts k a among id image alone fits counts grows p other
+            change_others _ s.sessions.records s.sessions.active s.counts k a among id image alone fits counts grows p other
             ∙ sym (slots_other (page_slots s) id.page (λ slots. with_image slots id.slot image) p other)
       ]
 
@@ -103,16 +104,24 @@ costs_are R id was image logged undo a b found =
     ap (λ n. n + undo) (a ∙ sym (change_bytes id was image)) ∙ ap (λ n. change_cost was image + n) (b ∙ sym (compensation_bytes id was 0))
     ∙ ap (λ (w : Image). change_cost w image + compensation_cost w) (sym found)
 
-module _ {T V : Type 0} {G : tail.Ghosts T} {H : disk.Ghosts V} (new : Core T V G H) (front : List ℕ) (before : List LogRecord) (s : State) (store : CheckpointedStore) (a : SessionTxn)
+module _ (v : Version) {T V : Type 0} {G : tail.Ghosts T} {H : disk.Ghosts V} (new : Core T V G H) (front : List ℕ) (before : List LogRecord) (s : State) (store : CheckpointedStore) (a : SessionTxn)
     (id : Rid) (image : Image) where
   -- an allocation failed, and the state is as it was
-  pub changes_none : (r : Result (Unit {0}) Fault) → IsErrAnd r (λ e. e ≡ fault.Memory) → CoreComesTo new front before store s → Changes new a id image r front before s store
+  pub changes_none : (r : Result (Unit {0}) Fault) → IsErrAnd r (λ e. e ≡ fault.Memory) → CoreComesTo new front before store s → Changes v new a id image r front before s store
   changes_none (Err e) memory comes = (inl memory, comes)
   changes_none (Ok u) memory comes = absurd memory
 
 pub image_short : (image : Image) → image_len image ≤ MAX_RECORD_BYTES → ImageFits image
 image_short None short = tt
 image_short (Some bytes) short = short
+
+-- the length that was read of a short image is short
+pub len_short : (image : Image) (n : Option ℕ) → n ≡ option_map length image → image_len image ≤ MAX_RECORD_BYTES → (x : ℕ) → n ≡ Some x → x ≤ MAX_RECORD_BYTES
+len_short None n is short x some = absurd (none_some (sym is ∙ some))
+  where
+    none_some : None ≡ Some x → ⊥
+    none_some clash = cc
+len_short (Some bytes) n is short x some = subst (λ (o : Option ℕ). IfSome o (λ m. m ≤ MAX_RECORD_BYTES)) (sym is ∙ some) short
 
 pub same_history : {V : Type 0} {H : disk.Ghosts V} (new old : Heap V H) → heaps.device_of new ≡ heaps.device_of old → heaps.history_of new ≡ heaps.history_of old
 same_history {H = H} new old same = ap (λ d. H.history (settled_device.device_of d)) same

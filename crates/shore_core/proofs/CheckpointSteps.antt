@@ -1,6 +1,6 @@
 -- The steps of a checkpoint: its records, its tables and its room.
 use Rattle.std.proofs.Common.{inl, inr, ◌≡◌, ◌⊎◌, ◌+◌, ◌-◌, ◌*◌, ◌<◌, ◌≤◌, ◌++◌, ◌∷◌, [], List, ℕ, None, All, Result, Ok, Err, IsErrAnd, false, length, length-append, length-take-le, take, drop, refl, sym, ap, ◌∙◌, subst, arith}
-use Rattle.shore_types.specs.declared.layout.TheConstants.{FRAME_SHARE, LAST_OPENED, LONGEST_FRAME}
+use Rattle.shore_types.specs.declared.layout.TheConstants.{LAST_OPENED, LONGEST_FRAME}
 use Rattle.shore_types.specs.declared.faults.Fault.{Fault}
 use Rattle.shore_types.specs.declared.faults.Fault.TheVariants as fault
 use Rattle.shore_disk.specs.declared.device.Disk as disk

@@ -161,10 +161,10 @@ pub pages_may_go : {T V : Type 0} {G : tail.Ghosts T} {H : disk.Ghosts V} (core 
     → AreKept (geometry_of core) (kept_in (txns_of core)) (page_slots s)
 pages_may_go core before s was safe id has =
     let undos : undos_in (txns_of core) ≡ s.sessions.active = sym was.parts.stands.txns.active in
-    let claimed = subst (λ us. Claimed s.sessions.records us s.counts) (sym undos) safe.roomy.pages in
+    let claimed = subst (λ us. Claimed (geometry_of core).version s.sessions.records us s.counts) (sym undos) safe.roomy.pages in
     subst (λ us. (slots_of s.sessions.records us id (s.counts id) ≡ claimed_by (kept_in (txns_of core) id) (map settled (images_of (slots_of s.sessions.records us id (s.counts id)))))
-    × FitIn (kept_in (txns_of core) id) (map settled (images_of (slots_of s.sessions.records us id (s.counts id))))) undos
-    (back_again (table.txns_in (txns_of core)) s.sessions.records s.counts id claimed, fit_again (table.txns_in (txns_of core)) s.sessions.records s.counts id claimed)
+    × FitIn (geometry_of core).version (kept_in (txns_of core) id) (map settled (images_of (slots_of s.sessions.records us id (s.counts id))))) undos
+    (back_again (geometry_of core).version (table.txns_in (txns_of core)) s.sessions.records s.counts id claimed, fit_again (geometry_of core).version (table.txns_in (txns_of core)) s.sessions.records s.counts id claimed)
 
 -- ---- stays
 
@@ -277,7 +277,7 @@ pub pages_told : {V : Type 0} {H : disk.Ghosts V} (heap : Heap V H) (table new :
 pages_told heap table new front disk S same shows = shows_told heap (kept_in table) (kept_in new) front disk S (λ p has none. same p) shows
 
 -- the pages are the same, be they in frames or not, and no page has become dirty or clean
-pub pages_same : {V : Type 0} {H : disk.Ghosts V} (old new : Heap V H) (disk : ℕ → List ℕ) (store : CheckpointedStore) → SamePages (heaps.frame_at old) disk (heaps.frame_at new) disk → SameDirt old new
+pub pages_same : {V : Type 0} {H : disk.Ghosts V} (old new : Heap V H) (disk : ℕ → List ℕ) (store : CheckpointedStore) → SamePages (heaps.geometry_of old).version (heaps.frame_at old) disk (heaps.frame_at new) disk → SameDirt old new
     → heaps.geometry_of new ≡ heaps.geometry_of old → IsHeapOf old disk store → IsHeapOf new disk store
 pages_same old new disk store same dirt geometry over = record {
   pages = store_over old new disk disk store.store over.pages geometry store.store.volume same over.pages.volume;
@@ -287,4 +287,4 @@ pages_same old new disk store same dirt geometry over = record {
 -- the frames are the same
 pub same_store : {V : Type 0} {H : disk.Ghosts V} (old new : Heap V H) (disk : ℕ → List ℕ) (store : CheckpointedStore) → ((k : ℕ) → heaps.frame_at new k ≡ heaps.frame_at old k) → heaps.geometry_of new ≡ heaps.geometry_of old
     → IsHeapOf old disk store → IsHeapOf new disk store
-same_store old new disk store frames geometry over = pages_same old new disk store (pages_stay (heaps.frame_at old) (heaps.frame_at new) disk frames) (λ k. ap (λ o. option_map (λ f. f.recovery) o) (frames k)) geometry over
+same_store old new disk store frames geometry over = pages_same old new disk store (pages_stay (heaps.geometry_of old).version (heaps.frame_at old) (heaps.frame_at new) disk frames) (λ k. ap (λ o. option_map (λ f. f.recovery) o) (frames k)) geometry over

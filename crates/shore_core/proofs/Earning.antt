@@ -17,13 +17,13 @@ module _ (g : Geometry) (disk : ℕ → List ℕ) (last : ℕ) (IsRead : PageId 
   says_nothing f none d offset is = absurd (none d offset is)
 
   pub page_earned : (X : ℕ → Type 0) (id : PageId) (n : ℕ) (f : Fault) → n ≡ last → IsRead id → HasPage g id
-      → (f ≡ fault.Device) ⊎ (f ≡ fault.Memory) ⊎ ((f ≡ fault.Damaged Volume (page_offset (page_number g id))) × HasNoPage (disk (page_number g id)) id n)
+      → (f ≡ fault.Device) ⊎ (f ≡ fault.Memory) ⊎ ((f ≡ fault.Damaged Volume (page_offset g.version (page_number g id))) × HasNoPage g.version (disk (page_number g id)) id n)
       ⊎ ((number : ℕ) × (f ≡ fault.NeedForce number) × X number) → IsEarned g disk last IsRead f
   page_earned X id n f same read there (inl device) d offset is = absurd cc
   page_earned X id n f same read there (inr (inl memory)) d offset is = absurd cc
   page_earned X id n f same read there (inr (inr (inl damaged))) d offset is =
-      let at : fault.Damaged d offset ≡ fault.Damaged Volume (page_offset (page_number g id)) = sym is ∙ damaged.0 in
-      (cc, (id, read, there, cc, subst (HasNoPage (disk (page_number g id)) id) same damaged.1))
+      let at : fault.Damaged d offset ≡ fault.Damaged Volume (page_offset g.version (page_number g id)) = sym is ∙ damaged.0 in
+      (cc, (id, read, there, cc, subst (HasNoPage g.version (disk (page_number g id)) id) same damaged.1))
   page_earned X id n f same read there (inr (inr (inr force))) d offset is = absurd (apart (sym is ∙ force.1))
     where
       apart : fault.Damaged d offset ≡ fault.NeedForce force.0 → ⊥
@@ -34,8 +34,8 @@ module _ (g : Geometry) (disk : ℕ → List ℕ) (last : ℕ) (IsRead : PageId 
   store_earned IsFetched X n f same read (inl (inl device)) d offset is = absurd cc
   store_earned IsFetched X n f same read (inl (inr (inl memory))) d offset is = absurd cc
   store_earned IsFetched X n f same read (inl (inr (inr (id, there, fetched, damaged, no_page)))) d offset is =
-      let at : fault.Damaged d offset ≡ fault.Damaged Volume (page_offset (page_number g id)) = sym is ∙ damaged in
-      (cc, (id, read id there fetched, there, cc, subst (HasNoPage (disk (page_number g id)) id) same no_page))
+      let at : fault.Damaged d offset ≡ fault.Damaged Volume (page_offset g.version (page_number g id)) = sym is ∙ damaged in
+      (cc, (id, read id there fetched, there, cc, subst (HasNoPage g.version (disk (page_number g id)) id) same no_page))
   store_earned IsFetched X n f same read (inr force) d offset is = absurd (apart (sym is ∙ force.1))
     where
       apart : fault.Damaged d offset ≡ fault.NeedForce force.0 → ⊥

@@ -6,6 +6,7 @@ use Rattle.shore_types.specs.Images.{Image}
 use Rattle.shore_types.specs.declared.ids.PageId.{PageId}
 use Rattle.shore_types.specs.declared.ids.Rid.{Rid}
 use Rattle.shore_types.specs.declared.layout.Geometry.{Geometry}
+use Rattle.shore_types.specs.declared.versions.Version.{Version}
 use Rattle.shore_model.specs.declared.log_records.LogRecord.{LogRecord}
 use Rattle.shore_model.specs.declared.log_records.Payload.{Payload}
 use Rattle.shore_model.specs.declared.log_records.Payload.TheVariants.{End}
@@ -95,14 +96,14 @@ appended_work s later store r kept log durable =
 
 -- ---- the core then
 
-module _ {T V : Type 0} {G : tail.Ghosts T} {H : disk.Ghosts V} (old new : Core T V G H) (front : List ℕ) (disk : ℕ → List ℕ) (before : List LogRecord) (s : State) (store : CheckpointedStore)
-    (is : IsIn front disk before old s) (over : IsOver disk old s store) (claimed : Claimed s.sessions.records s.sessions.active s.counts)
+module _ (v : Version) {T V : Type 0} {G : tail.Ghosts T} {H : disk.Ghosts V} (old new : Core T V G H) (front : List ℕ) (disk : ℕ → List ℕ) (before : List LogRecord) (s : State) (store : CheckpointedStore)
+    (is : IsIn front disk before old s) (over : IsOver disk old s store) (claimed : Claimed v s.sessions.records s.sessions.active s.counts)
     (a : SessionTxn) (m : IsAmong a s.sessions.active) (none : a.undo.images ≡ [])
     (heap : heap_of new ≡ heap_of old) (first : first_of new ≡ first_of old) (durable : durable_of new ≡ durable_of old) (failed : has_failed new ≡ has_failed old)
     (claims : (p : PageId) → kept_in (txns_of new) p ≡ kept_in (txns_of old) p) where
   done_pages : s.failed ≡ false → Shows (kept_in (txns_of new)) (heap_of new) front disk (page_slots (rollback_done s a))
   done_pages works =
-      shows_same (heap_of new) (kept_in (txns_of new)) front disk (page_slots s) (page_slots (rollback_done s a)) (λ p there. aborted_slots s a none claimed m p)
+      shows_same (heap_of new) (kept_in (txns_of new)) front disk (page_slots s) (page_slots (rollback_done s a)) (λ p there. aborted_slots v s a none claimed m p)
       (subst (λ (h : Heap V H). Shows (kept_in (txns_of new)) h front disk (page_slots s)) (sym heap) (pages_told (heap_of old) (txns_of old) (txns_of new) front disk (page_slots s) claims (is.pages works)))
 
   done_log : (rollback_done s a).log ≡ s.log ++ record { txn = a.txn; previous = previous_of a.txn s.log; payload = End } ∷ []

@@ -6,6 +6,7 @@ use Rattle.std.proofs.lemmas.Bool.{eqb-true}
 use Rattle.shore_types.specs.Images.{Image}
 use Rattle.shore_types.specs.declared.ids.PageId.{PageId}
 use Rattle.shore_types.specs.declared.ids.Rid.{Rid}
+use Rattle.shore_types.specs.declared.versions.Version.{Version}
 use Rattle.shore_model.specs.declared.log_records.LogRecord.{LogRecord}
 use Rattle.shore_model.specs.declared.log_records.Payload.TheVariants.{End}
 use Rattle.shore_model.specs.Logs.{previous_of}
@@ -73,7 +74,7 @@ some_left table t there a among is kept e entries none =
 
 -- ---- the state then
 
-module _ (s : State) (a : SessionTxn) (none : a.undo.images ≡ []) where
+module _ (v : Version) (s : State) (a : SessionTxn) (none : a.undo.images ≡ []) where
   -- it has logged nothing
   pub aborted_unlogged : previous_of a.txn s.log ≡ 0 → aborted s a ≡ abort_ended s a false
   aborted_unlogged nothing =
@@ -87,21 +88,21 @@ module _ (s : State) (a : SessionTxn) (none : a.undo.images ≡ []) where
       (ap (and_rollback a.txn s.log) none ∙ when_some (previous_of a.txn s.log) s.log (and_record a.txn s.log End) some)
 
   -- each page has the slots that it had: nothing could have come back to them
-  pub aborted_slots : Claimed s.sessions.records s.sessions.active s.counts → IsAmong a s.sessions.active → (p : PageId) → page_slots (aborted s a) p ≡ page_slots s p
+  pub aborted_slots : Claimed v s.sessions.records s.sessions.active s.counts → IsAmong a s.sessions.active → (p : PageId) → page_slots (aborted s a) p ≡ page_slots s p
   aborted_slots claimed m p =
       ap (λ (images : List (Rid × Image)). slots_of (rolled_back s.sessions.records images) (without_txn a.txn s.sessions.active) p (s.counts p)) none
-      ∙ left_slots s.sessions.records s.sessions.active s.counts claimed a m p ∙ ap (λ (images : List (Rid × Image)). let_go p images (page_slots s p)) none
+      ∙ left_slots v s.sessions.records s.sessions.active s.counts claimed a m p ∙ ap (λ (images : List (Rid × Image)). let_go p images (page_slots s p)) none
 
 -- ---- the core then
 
-module _ {T V : Type 0} {G : tail.Ghosts T} {H : disk.Ghosts V} (old new : Core T V G H) (front : List ℕ) (disk : ℕ → List ℕ) (before : List LogRecord) (s : State) (store : CheckpointedStore)
-    (is : IsIn front disk before old s) (over : IsOver disk old s store) (claimed : Claimed s.sessions.records s.sessions.active s.counts)
+module _ (v : Version) {T V : Type 0} {G : tail.Ghosts T} {H : disk.Ghosts V} (old new : Core T V G H) (front : List ℕ) (disk : ℕ → List ℕ) (before : List LogRecord) (s : State) (store : CheckpointedStore)
+    (is : IsIn front disk before old s) (over : IsOver disk old s store) (claimed : Claimed v s.sessions.records s.sessions.active s.counts)
     (a : SessionTxn) (m : IsAmong a s.sessions.active) (none : a.undo.images ≡ [])
     (heap : heap_of new ≡ heap_of old) (first : first_of new ≡ first_of old) (durable : durable_of new ≡ durable_of old) (failed : has_failed new ≡ has_failed old)
     (claims : (p : PageId) → kept_in (txns_of new) p ≡ kept_in (txns_of old) p) where
   pages : s.failed ≡ false → Shows (kept_in (txns_of new)) (heap_of new) front disk (page_slots (aborted s a))
   pages works =
-      shows_same (heap_of new) (kept_in (txns_of new)) front disk (page_slots s) (page_slots (aborted s a)) (λ p there. aborted_slots s a none claimed m p)
+      shows_same (heap_of new) (kept_in (txns_of new)) front disk (page_slots s) (page_slots (aborted s a)) (λ p there. aborted_slots v s a none claimed m p)
       (subst (λ (h : Heap V H). Shows (kept_in (txns_of new)) h front disk (page_slots s)) (sym heap) (pages_told (heap_of old) (txns_of old) (txns_of new) front disk (page_slots s) claims (is.pages works)))
 
   same_parts : {waiting : List LogRecord} → HasParts (control_of new) waiting (durable_of old) (has_failed old) before (aborted s a) → HasParts (control_of new) waiting (durable_of new) (has_failed new) before (aborted s a)
@@ -112,8 +113,8 @@ module _ {T V : Type 0} {G : tail.Ghosts T} {H : disk.Ghosts V} (old new : Core 
   -- it has logged nothing
   pub ended_unlogged : waiting_of new ≡ waiting_of old → previous_of a.txn s.log ≡ 0 → HasControl (control_of new) (abort_ended s a false) → CoreComesTo new front before store (aborted s a)
   ended_unlogged waiting nothing stands =
-      let log : (aborted s a).log ≡ s.log = ap (λ (x : State). x.log) (aborted_unlogged s a none nothing) in
-      let has = subst (HasControl (control_of new)) (sym (aborted_unlogged s a none nothing)) stands in
+      let log : (aborted s a).log ≡ s.log = ap (λ (x : State). x.log) (aborted_unlogged v s a none nothing) in
+      let has = subst (HasControl (control_of new)) (sym (aborted_unlogged v s a none nothing)) stands in
       let parts = parts_moved (control_of old) (control_of new) (waiting_of old) (durable_of old) (has_failed old) before s (aborted s a) is.beside.parts has log refl refl in
       comes_same new front disk before (aborted s a) store
       (record {
@@ -127,8 +128,8 @@ module _ {T V : Type 0} {G : tail.Ghosts T} {H : disk.Ghosts V} (old new : Core 
       → HasControl (control_of new) (abort_ended s a true) → CoreComesTo new front before store (aborted s a)
   ended_logged r r_is waiting some stands =
       let own : LogRecord = record { txn = a.txn; previous = previous_of a.txn s.log; payload = End } in
-      let log : (aborted s a).log ≡ s.log ++ own ∷ [] = ap (λ (x : State). x.log) (aborted_logged s a none some) in
-      let has = subst (HasControl (control_of new)) (sym (aborted_logged s a none some)) stands in
+      let log : (aborted s a).log ≡ s.log ++ own ∷ [] = ap (λ (x : State). x.log) (aborted_logged v s a none some) in
+      let has = subst (HasControl (control_of new)) (sym (aborted_logged v s a none some)) stands in
       let parts = parts_logged (control_of old) (control_of new) (waiting_of old) (durable_of old) (has_failed old) before s (aborted s a) own is.beside.parts has log refl refl in
       let added : waiting_of new ≡ waiting_of old ++ own ∷ [] = waiting ∙ ap (λ (x : LogRecord). waiting_of old ++ x ∷ []) r_is in
       comes_appended new front disk before s (aborted s a) store own over.kept log refl

@@ -28,7 +28,7 @@ module _ {V : Type 0} {H : disk.Ghosts V} (heap : Heap V H) (s : State) (store :
       let order = heap.pool.in_order k f is in
       let here = over.pages.in_place f.page.id order.0 in
       let at : frame_at heap (page_number (geometry_of heap) f.page.id) ≡ Some f = ap (frame_at heap) order.1 ∙ is in
-      let n : f.page.number ≡ (store.store.in_place f.page.id).number = (subst (λ o. IsPage o (disk (page_number (geometry_of heap) f.page.id)) f.page.id (store.store.in_place f.page.id).number here.images) at here.here).1 in
+      let n : f.page.number ≡ (store.store.in_place f.page.id).number = (subst (λ o. IsPage (geometry_of heap).version o (disk (page_number (geometry_of heap) f.page.id)) f.page.id (store.store.in_place f.page.id).number here.images) at here.here).1 in
       let within = ((kept.recoverable.in_place f.page.id).each (store.store.in_place f.page.id).number (omega arith) (omega arith)).within in
       omega (arith, n, within, ap length kept.stored.log)
 
@@ -41,7 +41,7 @@ module _ {V : Type 0} {H : disk.Ghosts V} (heap : Heap V H) (s : State) (store :
 
   -- what refuses the fetch of a page
   pub page_fault : (seen last : ℕ) (id : PageId) (f : Fault) → seen ≡ s.durable
-      → (f ≡ fault.Device) ⊎ (f ≡ fault.Memory) ⊎ ((f ≡ fault.Damaged Volume (page_offset (page_number (geometry_of heap) id))) × HasNoPage (disk (page_number (geometry_of heap) id)) id last)
+      → (f ≡ fault.Device) ⊎ (f ≡ fault.Memory) ⊎ ((f ≡ fault.Damaged Volume (page_offset (geometry_of heap).version (page_number (geometry_of heap) id))) × HasNoPage (geometry_of heap).version (disk (page_number (geometry_of heap) id)) id last)
       ⊎ AsksForForce heap seen f → (f ≡ fault.Memory) ⊎ IsPageFault s f
   page_fault seen last id f told (inl device) = inr (inl device)
   page_fault seen last id f told (inr (inl memory)) = inl memory
@@ -80,7 +80,7 @@ module _ {V : Type 0} {H : disk.Ghosts V} (heap : Heap V H) (seen : ℕ) where
   page_force A f (inr (inr (inr force))) number is = asked force.0 number (sym force.1 ∙ is) force.2
 
   pub fetch_force : (g : Geometry) (disk : ℕ → List ℕ) (last : ℕ) (id : PageId) (f : Fault)
-      → (f ≡ fault.Device) ⊎ (f ≡ fault.Memory) ⊎ ((f ≡ fault.Damaged Volume (page_offset (page_number g id))) × HasNoPage (disk (page_number g id)) id last) ⊎ AsksForForce heap seen f
+      → (f ≡ fault.Device) ⊎ (f ≡ fault.Memory) ⊎ ((f ≡ fault.Damaged Volume (page_offset (geometry_of heap).version (page_number g id))) × HasNoPage (geometry_of heap).version (disk (page_number g id)) id last) ⊎ AsksForForce heap seen f
       → (number : ℕ) → f ≡ fault.NeedForce number → NeedsForce heap.pool seen number
   fetch_force g disk last id f (inl device) = page_force (Unit {0}) f (inl device)
   fetch_force g disk last id f (inr (inl memory)) = page_force (Unit {0}) f (inr (inl memory))

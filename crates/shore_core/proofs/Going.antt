@@ -1,6 +1,7 @@
 -- How calls go on that wait, or that have a transaction.
 use Rattle.laws_checkpoints.specs.CheckpointedStores.{CheckpointedStore}
 use Rattle.std.proofs.Common.{◌≡◌, inl, inr, ℕ, List, None, Option, Some, Result, false, true, refl, sym, ap, subst, ◌∙◌}
+use Rattle.shore_types.specs.Versions.{slot_limit}
 use Rattle.std.specs.Prelude.{not, ◌==◌}
 use Rattle.shore_types.specs.declared.faults.Fault.{Fault}
 use Rattle.shore_types.specs.declared.layout.Geometry.{Geometry}
@@ -95,7 +96,7 @@ safe_woken g s safe session a its quiet =
         few = k.few;
       };
       asks = λ w at m. safe.asks w at (among_filtered (λ (v : Waiting). not (v.session == session)) w s.waiting m).0;
-      roomy = record { pages = safe.roomy.pages; log = safe.roomy.log };
+      roomy = record { slots = safe.roomy.slots; pages = safe.roomy.pages; log = safe.roomy.log };
       stream_bytes = safe.stream_bytes;
       leaves = record {
         as_long = safe.leaves.as_long;
@@ -118,15 +119,15 @@ early_plain g c f s refuses =
 
 module _ {T V : Type 0} {G : tail.Ghosts T} {H : disk.Ghosts V} (old new : Core T V G H) (front : List ℕ) (before : List LogRecord) (s : State) (store : CheckpointedStore) (a : SessionTxn) (r : Result Step Fault) where
   -- when it is made
-  pub asked_calls : (session : ℕ) (c : Call) → s.failed ≡ false → DoesNotWait s session → IsOfSession s session a → a.undo.rolling ≡ None → AskedFor a c r old new front before s store
+  pub asked_calls : s.sessions.slots ≡ slot_limit (geometry_of old).version → (session : ℕ) (c : Call) → s.failed ≡ false → DoesNotWait s session → IsOfSession s session a → a.undo.rolling ≡ None → AskedFor a c r old new front before s store
       → Called session c r old new front before s store
-  asked_calls session c works idle its whole asked = record {
+  asked_calls slots session c works idle its whole asked = record {
     later = asked.later;
     calls = elim asked.asks [
       | inl early ↦
           subst (λ x. SettledCall (geometry_of old) s session c (as_step x) (once_noted x asked.later)) (sym early.2)
           (called_at_once (geometry_of old) s _ session c (Refused early.0) tt
-          (inr (inr (inr (inr (inr (inl (works, idle, (a, its, inr (inl (whole, inl (early.0, early.1, refl, early_plain (geometry_of old) c early.0 asked.later early.1 ∙ early.3))))))))))))
+          (inr (inr (inr (inr (inr (inl (works, idle, (a, its, inr (inl (whole, inl (early.0, early.1, refl, early_plain (geometry_of old) c early.0 asked.later early.1 ∙ early.3, slots))))))))))))
       | inr goes ↦ record {
         first = goes.1.first;
         mid = goes.1.mid;

@@ -40,9 +40,9 @@ use Rattle.shore_core.proofs.Taking.{image_shown}
 
 -- ---- what the pages of a state show
 
-module _ (g : Geometry) (s : State) (claimed : Claimed s.sessions.records s.sessions.active s.counts) (store : ℕ) where
+module _ (g : Geometry) (s : State) (claimed : Claimed g.version s.sessions.records s.sessions.active s.counts) (store : ℕ) where
   shown : (id : Rid) → image_at_slot (page_slots s id.page) id.slot ≡ get s.sessions.records id
-  shown id = image_shown s.sessions.records s.sessions.active s.counts claimed id
+  shown id = image_shown g.version s.sessions.records s.sessions.active s.counts claimed id
 
   slots : (id : Rid) → length (page_slots s id.page) ≡ s.counts id.page
   slots id = length-slots s.sessions.records s.sessions.active id.page (s.counts id.page)
@@ -98,7 +98,7 @@ module _ (g : Geometry) (s : State) (claimed : Claimed s.sessions.records s.sess
     part_shows to before = model_part g (page_slots s) store from to s.sessions.records (omega (arith, before, end_inside g store next there)) (tells inside)
 
 -- what refuses an insert that finds no place
-pub place_fault : (g : Geometry) (s : State) → Claimed s.sessions.records s.sessions.active s.counts → (a : SessionTxn) (store : ℕ) (bytes : List ℕ) (f : Fault) {len : ℕ} → len ≡ length bytes
+pub place_fault : (g : Geometry) (s : State) → Claimed g.version s.sessions.records s.sessions.active s.counts → (a : SessionTxn) (store : ℕ) (bytes : List ℕ) (f : Fault) {len : ℕ} → len ≡ length bytes
     → ((f ≡ fault.StoreFull) × HasNoPlace g (page_slots s) store len (can_lock s.locks.requests a.txn)) ⊎ (f ≡ fault.Memory) ⊎ IsPageFault s f
     → IsServedBehind g s a (call.Insert store bytes) (Err f) (after_refusal f s)
 place_fault g s claimed a store bytes f same (inl full) =
@@ -109,7 +109,7 @@ place_fault g s claimed a store bytes f same (inr (inr page)) = inr (inr (inr (i
 
 -- ---- in a state of which a core has the locks
 
-module _ (g : Geometry) (s : State) (claimed : Claimed s.sessions.records s.sessions.active s.counts) (a : SessionTxn) (store : ℕ) (bytes : List ℕ) {len : ℕ} (same : len ≡ length bytes)
+module _ (g : Geometry) (s : State) (claimed : Claimed g.version s.sessions.records s.sessions.active s.counts) (a : SessionTxn) (store : ℕ) (bytes : List ℕ) {len : ℕ} (same : len ≡ length bytes)
     (locks : Table) (t : ℕ) (locks_are : s.locks ≡ locks) (number : a.txn ≡ t) where
   here : (P : (Rid → Type 0) → Type 0) → P (can_lock locks.requests t) → P (can_lock s.locks.requests a.txn)
   here P holds = subst (λ (l : Table). P (can_lock l.requests a.txn)) (sym locks_are) (subst (λ (n : ℕ). P (can_lock locks.requests n)) (sym number) holds)

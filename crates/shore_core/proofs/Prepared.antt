@@ -4,6 +4,7 @@ use Rattle.std.proofs.Common.{◌≡◌, inl, inr, ◌+◌, ◌<◌, ℕ, List, 
 use Rattle.std.proofs.lemmas.Bool.{true≢false}
 use Rattle.shore_types.specs.declared.faults.Fault.{Fault}
 use Rattle.shore_types.specs.declared.layout.Geometry.{Geometry}
+use Rattle.shore_types.specs.declared.versions.Version.{Version}
 use Rattle.shore_model.specs.declared.calls.Call.TheVariants as call
 use Rattle.shore_model.specs.declared.log_records.LogRecord.{LogRecord}
 use Rattle.shore_model.specs.declared.step.Step.{Step}
@@ -37,13 +38,13 @@ use Rattle.shore_core.proofs.Taking.{replied_as}
 
 module _ (g : Geometry) (s : State) (session : ℕ) (a : SessionTxn) (global : List ℕ) (works : s.failed ≡ false) (idle : DoesNotWait s session) (of : IsOfSession s session a) (whole : a.undo.rolling ≡ None) where
   -- a step of a prepare is one of the manager
-  pub prepare_steps : (step : Step) (new : State) → PrepareStep s a global step new → CallStep g s session (call.Prepare global) step new
+  pub prepare_steps : (step : Step) (new : State) → PrepareStep g.version s a global step new → CallStep g s session (call.Prepare global) step new
   prepare_steps step new h = inr (inr (inr (inr (inr (inl (works, idle, (a, of, inr (inl (whole, inr (inr (inr (inr (global, refl, h)))))))))))))
 
 -- it is refused
 module _ {T V : Type 0} {G : tail.Ghosts T} {H : disk.Ghosts V} (core : Core T V G H) (front : List ℕ) (before : List LogRecord) (s : State) (store : CheckpointedStore) (session : ℕ) (a : SessionTxn) (global : List ℕ)
     (works : s.failed ≡ false) (idle : DoesNotWait s session) (of : IsOfSession s session a) (whole : a.undo.rolling ≡ None) where
-  pub prepare_refused : (disk : ℕ → List ℕ) → IsIn front disk before core s → IsOver disk core s store → (r : Result Step Fault) (f : Fault) → IsErrAnd r (λ e. e ≡ f) → RefusesPrepare s a global f → after_refusal f s ≡ s
+  pub prepare_refused : (disk : ℕ → List ℕ) → IsIn front disk before core s → IsOver disk core s store → (r : Result Step Fault) (f : Fault) → IsErrAnd r (λ e. e ≡ f) → RefusesPrepare (geometry_of core).version s a global f → after_refusal f s ≡ s
       → Replied session (call.Prepare global) r core core front before s store
   prepare_refused disk is over r f same refuses stays =
       replied_as core core front before s store session (call.Prepare global) r f same

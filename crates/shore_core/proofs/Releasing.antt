@@ -8,6 +8,7 @@ use Rattle.shore_types.specs.Ids.{exact_pages, page_cmp}
 use Rattle.shore_types.specs.declared.ids.PageId.{PageId}
 use Rattle.shore_types.specs.declared.ids.Rid.{Rid}
 use Rattle.shore_types.specs.Images.{Image, image_len}
+use Rattle.shore_types.specs.declared.versions.Version.{Version}
 use Rattle.shore_page.specs.Room.{lowered}
 use Rattle.shore_page.specs.Slots.{Slot, settled, with_change}
 use Rattle.shore_page.specs.Text as texts
@@ -141,8 +142,8 @@ is_none (Some x) is = absurd (clash is)
     clash e = cc
 
 -- each page takes these claims, as it would be read
-abbrev pub Take : ClaimsOfPages → (PageId → List Slot) → Type 0
-Take stay S = (p : PageId) → FitIn (stay p) (map settled (texts.images_of (S p)))
+abbrev pub Take : Version → ClaimsOfPages → (PageId → List Slot) → Type 0
+Take v stay S = (p : PageId) → FitIn v (stay p) (map settled (texts.images_of (S p)))
 
 -- N are the claims that stay
 module _ (framed : PageId → Bool) (K N : ClaimsOfPages) (S : PageId → List Slot) where
@@ -158,7 +159,7 @@ module _ {V : Type 0} {H : disk.Ghosts V} (framed : PageId → Bool) (K N : Clai
   abbrev pub ShowsLeft : Heap V H → List ℕ → (ℕ → List ℕ) → List UndoEntry → Type 0
   ShowsLeft heap front disk done = Shows (λ p. kept_left p done (N p) (K p)) heap front disk (λ p. slots_left (framed p) p done (N p) (S p))
 
-  module _ (mid new : Heap V H) (front : List ℕ) (disk : ℕ → List ℕ) (done : List UndoEntry) (e : UndoEntry) where
+  module _ (v : Version) (mid new : Heap V H) (front : List ℕ) (disk : ℕ → List ℕ) (done : List UndoEntry) (e : UndoEntry) where
     -- the other pages are as they were
     slots_are : (put : List Slot → List Slot) → slots_by framed K N S (done ++ e ∷ []) e.id.page ≡ put (slots_by framed K N S done e.id.page)
         → (p : PageId) → slots_by framed K N S (done ++ e ∷ []) p ≡ with_slots (slots_by framed K N S done) e.id.page put p
@@ -196,29 +197,29 @@ module _ {V : Type 0} {H : disk.Ghosts V} (framed : PageId → Bool) (K N : Clai
             ∙ ap (λ kept. read_with kept (slots_by framed K N S done e.id.page)) (sym (kept_here done e (N e.id.page) (K e.id.page)))
 
     -- the claims that stay fit it
-    fits_read : Take N S → framed e.id.page ≡ false → FitIn (kept_by framed K N S (done ++ e ∷ []) e.id.page) (map settled (texts.images_of (slots_by framed K N S done e.id.page)))
+    fits_read : Take v N S → framed e.id.page ≡ false → FitIn v (kept_by framed K N S (done ++ e ∷ []) e.id.page) (map settled (texts.images_of (slots_by framed K N S done e.id.page)))
     fits_read fit is =
-        subst (λ kept. FitIn kept (map settled (texts.images_of (slots_by framed K N S done e.id.page)))) (sym (kept_here done e (N e.id.page) (K e.id.page)))
-        (subst (λ (b : Bool). FitIn (N e.id.page) (map settled (texts.images_of (slots_left b e.id.page done (N e.id.page) (S e.id.page))))) (sym is)
-        (subst (λ (l : List Image). FitIn (N e.id.page) (map settled l)) (sym (images_left done e (N e.id.page) (S e.id.page))) (fit e.id.page)))
+        subst (λ kept. FitIn v kept (map settled (texts.images_of (slots_by framed K N S done e.id.page)))) (sym (kept_here done e (N e.id.page) (K e.id.page)))
+        (subst (λ (b : Bool). FitIn v (N e.id.page) (map settled (texts.images_of (slots_left b e.id.page done (N e.id.page) (S e.id.page))))) (sym is)
+        (subst (λ (l : List Image). FitIn v (N e.id.page) (map settled l)) (sym (images_left done e (N e.id.page) (S e.id.page))) (fit e.id.page)))
 
   -- one entry more of an undo list has let its claim go
-  pub released_more : (mid new : Heap V H) (front : List ℕ) (disk : ℕ → List ℕ) (done more : List UndoEntry) (e : UndoEntry) → more ≡ done ++ e ∷ [] → Take N S
+  pub released_more : (v : Version) (mid new : Heap V H) (front : List ℕ) (disk : ℕ → List ℕ) (done more : List UndoEntry) (e : UndoEntry) → more ≡ done ++ e ∷ [] → Take v N S
       → is_some (frame_of mid e.id.page) ≡ framed e.id.page → is_some (frame_of new e.id.page) ≡ framed e.id.page
       → ((L : ClaimsOfPages) (T : PageId → List Slot) → Shows L mid front disk T → (frame_of mid e.id.page ≡ None → L e.id.page ≡ []) → Shows L new front disk (with_slots T e.id.page (λ slots. with_change (lowered 0) slots e.id.slot)))
       → ((L M : ClaimsOfPages) (T : PageId → List Slot) → Shows L mid front disk T → frame_of mid e.id.page ≡ None → ((p : PageId) → p ≢ e.id.page → M p ≡ L p)
-      → FitIn (M e.id.page) (map settled (texts.images_of (T e.id.page))) → Shows M new front disk (with_slots T e.id.page (λ slots. claimed_by (M e.id.page) (map settled (texts.images_of slots)))))
+      → FitIn v (M e.id.page) (map settled (texts.images_of (T e.id.page))) → Shows M new front disk (with_slots T e.id.page (λ slots. claimed_by (M e.id.page) (map settled (texts.images_of slots)))))
       → ShowsLeft mid front disk done → ShowsLeft new front disk more
-  released_more mid new front disk done more e is fit was held lowers tells shows = subst (ShowsLeft new front disk) (sym is) (each (framed e.id.page) refl)
+  released_more v mid new front disk done more e is fit was held lowers tells shows = subst (ShowsLeft new front disk) (sym is) (each (framed e.id.page) refl)
     where
       each : (b : Bool) → framed e.id.page ≡ b → ShowsLeft new front disk (done ++ e ∷ [])
       each true there =
-          released_framed mid new front disk done e there (held ∙ there)
+          released_framed v mid new front disk done e there (held ∙ there)
           (lowers (kept_by framed K N S done) (slots_by framed K N S done) shows (λ none. absurd (none_some (frame_of mid e.id.page) (was ∙ there) none)))
       each false away =
-          released_read mid new front disk done e away
+          released_read v mid new front disk done e away
           (tells (kept_by framed K N S done) (kept_by framed K N S (done ++ e ∷ [])) (slots_by framed K N S done) shows (is_none (frame_of mid e.id.page) (was ∙ away))
-          (λ p apart. kept_other p done e (N p) (K p) apart) (fits_read mid new front disk done e fit away))
+          (λ p apart. kept_other p done e (N p) (K p) apart) (fits_read v mid new front disk done e fit away))
 
   -- none has as yet
   pub none_released : (heap : Heap V H) (front : List ℕ) (disk : ℕ → List ℕ) → Shows K heap front disk S → ShowsLeft heap front disk []
@@ -234,14 +235,14 @@ pub framed_as : {V : Type 0} {H : disk.Ghosts V} (old new : Heap V H) (id : Page
 framed_as old new id device held = ap (λ d. is_some (frame_at new (page_number (settled_device.geometry_of d) id))) device ∙ held (page_number (geometry_of old) id)
 
 -- all of them have: the transaction is under way no more
-module _ (s : State) (a : SessionTxn) (es : List UndoEntry) (old new : List Txn) (all : images_of es ≡ a.undo.images) (claimed : Claimed s.sessions.records s.sessions.active s.counts)
+module _ (v : Version) (s : State) (a : SessionTxn) (es : List UndoEntry) (old new : List Txn) (all : images_of es ≡ a.undo.images) (claimed : Claimed v s.sessions.records s.sessions.active s.counts)
     (m : IsAmong a s.sessions.active) (was : s.sessions.active ≡ session_txns old) (out : session_txns new ≡ without_txn a.txn (session_txns old))
     (more : (p : PageId) → HasMore (claims_on p es) (claims_on p (all_changes new)) (claims_on p (all_changes old))) where
   abbrev stay : ClaimsOfPages
   stay p = claims_on p (all_changes new)
 
   gone : (p : PageId) → page_slots (committed s a) p ≡ let_go p (images_of es) (page_slots s p)
-  gone p = left_slots s.sessions.records s.sessions.active s.counts claimed a m p ∙ ap (λ l. let_go p l (page_slots s p)) (sym all)
+  gone p = left_slots v s.sessions.records s.sessions.active s.counts claimed a m p ∙ ap (λ l. let_go p l (page_slots s p)) (sym all)
 
   module _ (p : PageId) where
     abbrev told : List SessionTxn → List Slot
@@ -251,7 +252,7 @@ module _ (s : State) (a : SessionTxn) (es : List UndoEntry) (old new : List Txn)
     read =
         ap (λ l. let_go p l (page_slots s p)) all
         ∙ subst (λ undos. let_go p a.undo.images (told undos) ≡ read_with (stay p) (told undos)) (sym was)
-        (left_read old new s.sessions.records s.counts a (subst (λ undos. Claimed s.sessions.records undos s.counts) was claimed) (subst (IsAmong a) was m) out p)
+        (left_read v old new s.sessions.records s.counts a (subst (λ undos. Claimed v s.sessions.records undos s.counts) was claimed) (subst (IsAmong a) was m) out p)
 
     left_is : (framed : Bool) → page_slots (committed s a) p ≡ slots_left framed p es (stay p) (page_slots s p)
     left_is true = gone p
@@ -271,10 +272,10 @@ module _ (s : State) (a : SessionTxn) (es : List UndoEntry) (old new : List Txn)
             ∙ ap (λ (b : Bool). cond b (stay p) (claims_on p (all_changes old))) (sym is)
 
   -- the claims that stay fit each page
-  pub stays_fit : (p : PageId) → FitIn (stay p) (map settled (texts.images_of (page_slots s p)))
+  pub stays_fit : (p : PageId) → FitIn v (stay p) (map settled (texts.images_of (page_slots s p)))
   stays_fit p =
-      subst (λ undos. FitIn (stay p) (map settled (texts.images_of (slots_of s.sessions.records undos p (s.counts p))))) (sym was)
-      (left_fit old new s.sessions.records s.counts a (subst (λ undos. Claimed s.sessions.records undos s.counts) was claimed) (subst (IsAmong a) was m) out p)
+      subst (λ undos. FitIn v (stay p) (map settled (texts.images_of (slots_of s.sessions.records undos p (s.counts p))))) (sym was)
+      (left_fit v old new s.sessions.records s.counts a (subst (λ undos. Claimed v s.sessions.records undos s.counts) was claimed) (subst (IsAmong a) was m) out p)
 
   pub all_released : {V : Type 0} {H : disk.Ghosts V} (heap : Heap V H) (framed : PageId → Bool) (front : List ℕ) (disk : ℕ → List ℕ)
       → ShowsLeft framed (λ p. claims_on p (all_changes old)) stay (page_slots s) heap front disk es → Shows stay heap front disk (page_slots (committed s a))

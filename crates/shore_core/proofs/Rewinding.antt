@@ -9,6 +9,7 @@ use Rattle.shore_types.specs.Layout.{HasPage}
 use Rattle.shore_types.specs.declared.faults.Fault.{Fault}
 use Rattle.shore_types.specs.declared.ids.PageId.{PageId}
 use Rattle.shore_types.specs.declared.layout.Geometry.{Geometry}
+use Rattle.shore_types.specs.declared.versions.Version.{Version}
 use Rattle.shore_dwrite.specs.Shown.{ShowsBehind}
 use Rattle.shore_dwrite.specs.Volumes.{HasNoPage, page_number}
 use Rattle.shore_page.specs.Text.{IsPageText}
@@ -32,8 +33,8 @@ each_ok (Ok x) Was Is Or each = each
 each_ok (Err f) Was Is Or each = tt
 
 -- bytes that are no text up to a number are none up to a lower one
-none_below : (bytes : List ℕ) (id : PageId) (last later : ℕ) → last ≤ later → HasNoPage bytes id later → HasNoPage bytes id last
-none_below bytes id last later up_to none number images text = let above : later < number = none number images text in omega (arith, above, up_to)
+none_below : (v : Version) (bytes : List ℕ) (id : PageId) (last later : ℕ) → last ≤ later → HasNoPage v bytes id later → HasNoPage v bytes id last
+none_below v bytes id last later up_to none number images text = let above : later < number = none number images text in omega (arith, above, up_to)
 
 module _ {T V : Type 0} {G : tail.Ghosts T} {H : disk.Ghosts V} where
   -- nothing was done
@@ -49,7 +50,7 @@ module _ {T V : Type 0} {G : tail.Ghosts T} {H : disk.Ghosts V} where
         holds = w.1;
         may = w.2.may;
         in_place = λ id has number images here. inl ((w.2.same (page_number (geometry_of old) id) id number images).1
-            (subst (λ (g : Geometry). IsPage (frame_at (heap_of new) (page_number g id)) (w.0 (page_number g id)) id number images) geometry here));
+            (subst (λ (g : Geometry). IsPage g.version (frame_at (heap_of new) (page_number g id)) (w.0 (page_number g id)) id number images) geometry here));
       }
 
   module _ (old mid : Core T V G H) (geometry : geometry_of mid ≡ geometry_of old) (durable : durable_of mid ≡ durable_of old) where
@@ -61,7 +62,7 @@ module _ {T V : Type 0} {G : tail.Ghosts T} {H : disk.Ghosts V} where
     may_rewound front disk left one two id has = elim here [
       | inl stays ↦ elim (one.may id has) [
         | inl was ↦ inl (stays ∙ was)
-        | inr w ↦ inr (w.0, w.1, w.2, w.3, subst (λ (text : List ℕ). IsPageText text id w.0 w.1) (sym stays) w.4)
+        | inr w ↦ inr (w.0, w.1, w.2, w.3, subst (λ (text : List ℕ). IsPageText (geometry_of old).version text id w.0 w.1) (sym stays) w.4)
       ]
       | inr w ↦ elim (one.in_place id has w.0 w.1 w.2) [
         | inl was ↦ inr (w.0, w.1, was, omega (arith, w.3, durable), w.4)
@@ -70,10 +71,10 @@ module _ {T V : Type 0} {G : tail.Ghosts T} {H : disk.Ghosts V} where
     ]
       where
         here : (left (page_number (geometry_of old) id) ≡ one.left (page_number (geometry_of old) id))
-            ⊎ ((number : ℕ) × (images : List Image) × HasInPlace (pool_of (heap_of mid)) one.left id number images × (number ≤ durable_of mid) × IsPageText (left (page_number (geometry_of old) id)) id number images)
+            ⊎ ((number : ℕ) × (images : List Image) × HasInPlace (pool_of (heap_of mid)) one.left id number images × (number ≤ durable_of mid) × IsPageText (geometry_of old).version (left (page_number (geometry_of old) id)) id number images)
         here =
             subst (λ (g : Geometry). (left (page_number g id) ≡ one.left (page_number g id))
-            ⊎ ((number : ℕ) × (images : List Image) × HasInPlace (pool_of (heap_of mid)) one.left id number images × (number ≤ durable_of mid) × IsPageText (left (page_number g id)) id number images))
+            ⊎ ((number : ℕ) × (images : List Image) × HasInPlace (pool_of (heap_of mid)) one.left id number images × (number ≤ durable_of mid) × IsPageText g.version (left (page_number g id)) id number images))
             geometry (two id (there id has))
 
     -- some steps, and then others
@@ -113,7 +114,7 @@ module _ {T V : Type 0} {G : tail.Ghosts T} {H : disk.Ghosts V} where
             e.1.1,
             e.1.2,
             e.1.3,
-            none_below (disk (page_number (geometry_of old) e.1.0)) e.1.0 (last_of old) (last_of mid) longer
+            none_below (geometry_of old).version (disk (page_number (geometry_of old) e.1.0)) e.1.0 (last_of old) (last_of mid) longer
                 (none_there (geometry_of old) (frame_at (heap_of old)) (durable_of old) disk one.left e.1.0 (last_of mid) e.1.2 told one.may e.1.4),
           ),
         ))
@@ -129,20 +130,20 @@ module _ {T V : Type 0} {G : tail.Ghosts T} {H : disk.Ghosts V} where
       (here : frame_at mid (page_number (geometry_of old) page) ≡ option_map (changed lsn slot image) (frame_of (heap_of old) page))
       (others : (k : ℕ) → k ≢ page_number (geometry_of old) page → frame_at mid k ≡ frame_at (heap_of old) k) where
     -- its page has the number of its record then, and all others are in place as they were
-    change_placed : (disk : ℕ → List ℕ) (k : ℕ) (id : PageId) (number : ℕ) (images : List Image) → IsPage (frame_at mid k) (disk k) id number images
-        → IsPage (frame_at (heap_of old) k) (disk k) id number images ⊎ (lsn ≡ number)
+    change_placed : (disk : ℕ → List ℕ) (k : ℕ) (id : PageId) (number : ℕ) (images : List Image) → IsPage (geometry_of old).version (frame_at mid k) (disk k) id number images
+        → IsPage (geometry_of old).version (frame_at (heap_of old) k) (disk k) id number images ⊎ (lsn ≡ number)
     change_placed disk k id number images is = elim (cases_eq k (page_number (geometry_of old) page)) [
-      | inl same ↦ each (frame_at (heap_of old) k) (subst (λ (o : Option Frame). IsPage o (disk k) id number images) (ap (frame_at mid) same ∙ here ∙ ap (λ (n : ℕ). option_map (changed lsn slot image) (frame_at (heap_of old) n)) (sym same)) is)
-      | inr other ↦ inl (subst (λ (o : Option Frame). IsPage o (disk k) id number images) (others k other) is)
+      | inl same ↦ each (frame_at (heap_of old) k) (subst (λ (o : Option Frame). IsPage (geometry_of old).version o (disk k) id number images) (ap (frame_at mid) same ∙ here ∙ ap (λ (n : ℕ). option_map (changed lsn slot image) (frame_at (heap_of old) n)) (sym same)) is)
+      | inr other ↦ inl (subst (λ (o : Option Frame). IsPage (geometry_of old).version o (disk k) id number images) (others k other) is)
     ]
       where
-        each : (o : Option Frame) → IsPage (option_map (changed lsn slot image) o) (disk k) id number images → IsPage o (disk k) id number images ⊎ (lsn ≡ number)
+        each : (o : Option Frame) → IsPage (geometry_of old).version (option_map (changed lsn slot image) o) (disk k) id number images → IsPage (geometry_of old).version o (disk k) id number images ⊎ (lsn ≡ number)
         each None placed = inl placed
         each (Some f) placed = inr placed.1
 
     -- .. once the claim of its slot has fallen, too
     pub rewinds_changed : geometry_of new ≡ geometry_of old → durable_of old < lsn → KeepsVolume (heap_of old) mid → KeepsVolume mid (heap_of new)
-        → ((disk : ℕ → List ℕ) → SamePages (frame_at mid) disk (frame_at (heap_of new)) disk) → Rewinds old new
+        → ((disk : ℕ → List ℕ) → SamePages (geometry_of old).version (frame_at mid) disk (frame_at (heap_of new)) disk) → Rewinds old new
     rewinds_changed geometry above first second same front disk holds =
         let one = first front disk holds in
         let two = second front disk one.0 in
@@ -153,7 +154,7 @@ module _ {T V : Type 0} {G : tail.Ghosts T} {H : disk.Ghosts V} where
           in_place = λ id has number images placed.
               let k = page_number (geometry_of old) id in
               elim (change_placed disk k id number images ((same disk k id number images).1
-              (subst (λ (g : Geometry). IsPage (frame_at (heap_of new) (page_number g id)) (disk (page_number g id)) id number images) geometry placed))) [
+              (subst (λ (g : Geometry). IsPage g.version (frame_at (heap_of new) (page_number g id)) (disk (page_number g id)) id number images) geometry placed))) [
                 | inl was ↦ inl was
                 | inr is ↦ inr (omega (arith, above, is))
               ];

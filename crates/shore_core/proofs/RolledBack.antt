@@ -95,7 +95,7 @@ module _ (s : State) (a : SessionTxn) (n : ℕ) (none : images_since a.undo n �
   back_slots g safe mem p =
       let undo : UndoList = record { images = take (mark_of a.undo n) a.undo.images; marks = take (n + 1) a.undo.marks; rolling = None } in
       ap (λ es. slots_of (rolled_back s.sessions.records es) (with_undo a.txn undo s.sessions.active) p (s.counts p)) none
-      ∙ marked_slots s.sessions.records s.sessions.active s.counts safe.roomy.pages a mem undo (ap (λ m. take m a.undo.images) (sym here) ∙ take-length a.undo.images) p (s.counts p)
+      ∙ marked_slots _ s.sessions.records s.sessions.active s.counts safe.roomy.pages a mem undo (ap (λ m. take m a.undo.images) (sym here) ∙ take-length a.undo.images) p (s.counts p)
 
 pub no_images : (images : List (Rid × Image)) → length images ≡ 0 → images ≡ []
 no_images [] none = refl

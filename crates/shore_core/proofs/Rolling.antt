@@ -71,8 +71,8 @@ module _ (g : Geometry) (s : State) (safe : IsSafe g s) (a : SessionTxn) (mem : 
       (one_logged (λ d. IsSome (get (logged_writes s.log a.txn) d.0)) kept e [] (subst (AreLogged s.log a.txn) is (safe.after.sessions.log.undo_logged a mem)))
       (recursion_from_All (IsInBounds g) s.log (whole_placed g safe.stream_bytes s.durable s.log safe.leaves.prefixes).inside)).0
 
-  pub newest_fits : Fits (page_slots s e.0.page) e.0.slot (image_len e.1)
-  newest_fits = undo_fits s.sessions.records s.sessions.active s.counts safe.roomy.pages a mem kept e [] None is
+  pub newest_fits : Fits g.version (page_slots s e.0.page) e.0.slot (image_len e.1)
+  newest_fits = undo_fits _ s.sessions.records s.sessions.active s.counts safe.roomy.pages a mem kept e [] None is
 
 pub split_last : {A : Type 0} (xs : List A) (n : ℕ) → length xs ≡ n + 1 → (less : List A) × (e : A) × (xs ≡ less ++ e ∷ []) × (length less ≡ n)
 split_last [] n long = absurd (omega arith)

@@ -11,6 +11,7 @@ use Rattle.shore_types.specs.declared.layout.Geometry.{Geometry}
 use Rattle.shore_types.specs.declared.locking.Granule.{Granule}
 use Rattle.shore_types.specs.declared.locking.Granule.TheVariants.{Record}
 use Rattle.shore_types.specs.declared.locking.Mode.TheVariants.{EX}
+use Rattle.shore_types.specs.declared.versions.Version.{Version}
 use Rattle.shore_model.specs.Locks.{MayWrite}
 use Rattle.shore_model.specs.declared.calls.Answer.TheVariants.{Deleted}
 use Rattle.shore_model.specs.declared.calls.Call.{Call}
@@ -81,8 +82,8 @@ module _ (s : State) (rs : List Request) where
   forced_behind : (base : ℕ) (es : List Entry) → IsForced base es s → IsForced base es (with_requests s rs)
   forced_behind base es h = record { least = h.least; most = h.most; acknowledged_kept = h.acknowledged_kept; tickets = h.tickets }
 
-  roomy_behind : IsRoomyState s → IsRoomyState (with_requests s rs)
-  roomy_behind h = record { pages = h.pages; log = h.log }
+  roomy_behind : (v : Version) → IsRoomyState v s → IsRoomyState v (with_requests s rs)
+  roomy_behind v h = record { slots = h.slots; pages = h.pages; log = h.log }
 
   leaves_behind : (g : Geometry) (n : ℕ) → HasLocksInBounds g (with_requests s rs) → LeavesRoomyLogs g n s → LeavesRoomyLogs g n (with_requests s rs)
   leaves_behind g n locks h = record {
@@ -107,7 +108,7 @@ module _ (s : State) (rs : List Request) where
       few = safe.after.few;
     };
     asks = safe.asks;
-    roomy = roomy_behind safe.roomy;
+    roomy = roomy_behind g.version safe.roomy;
     stream_bytes = safe.stream_bytes;
     leaves = leaves_behind g safe.stream_bytes locks safe.leaves;
     inside = safe.inside;

@@ -8,6 +8,7 @@ use Rattle.shore_model.specs.declared.log_records.LogRecord.{LogRecord}
 use Rattle.shore_page.specs.Slots.{Slot}
 use Rattle.shore_model.specs.Records.{AreRecords}
 use Rattle.shore_types.specs.declared.locking.Granule.{Granule}
+use Rattle.shore_types.specs.declared.versions.Version.{Version}
 use Rattle.shore_model.specs.declared.calls.Call.{Call}
 use Rattle.shore_locks.specs.Tables.{is_waiting}
 use Rattle.shore_path.specs.declared.answers.Acquired.{Acquired}
@@ -71,14 +72,14 @@ with_pages s mid new h same = record {
   slots = λ p. ap (λ (x : PagesOf). x.pages_slots p) same ∙ h.slots p;
 }
 
-victim_pages : (s : State) → IsRoomyState s → (t : ℕ) (v : Victim) (new : State) → TakesVictim s t v new → HasSamePages s new
-victim_pages s roomy t v new h =
+victim_pages : (v : Version) (s : State) → IsRoomyState v s → (t : ℕ) (victim : Victim) (new : State) → TakesVictim s t victim new → HasSamePages s new
+victim_pages v s roomy t victim new h =
     let b = h.txn in
     subst (HasSamePages s) (sym h.is) (record {
       log = refl;
       durable = refl;
       failed = refl;
-      slots = λ p. marked_slots s.sessions.records s.sessions.active s.counts roomy.pages b h.active (undo_rolled b.undo b.undo.images Whole) refl p (s.counts p);
+      slots = λ p. marked_slots _ s.sessions.records s.sessions.active s.counts roomy.pages b h.active (undo_rolled b.undo b.undo.images Whole) refl p (s.counts p);
     })
 
 -- ---- calls that wait
@@ -109,7 +110,7 @@ module _ (g : Geometry) where
         asks = λ w at there is.
             let was = told_before h.txn.session v.cycle w s.waiting (subst (λ (x : State). IsAmong w x.waiting) h.is there) in
             subst (MayAsk g) was.2 (safe.asks was.0 at was.1 (was.3 ∙ is));
-        roomy = comes_roomy safe.opening safe.found safe.entries s safe.after safe.roomy g new [] comes;
+        roomy = comes_roomy g safe.opening safe.found safe.entries s safe.after safe.roomy new [] comes;
         stream_bytes = safe.stream_bytes;
         leaves = later_leaving g safe.stream_bytes s.durable new (omega (arith, even)) (comes_leaving g safe.stream_bytes safe.opening safe.found s.durable safe.entries s new [] safe.after safe.roomy safe.leaves comes tt
             (victims_bounds g s t (v ∷ []) new (new, h, refl) safe.leaves.locks));
@@ -125,7 +126,7 @@ module _ (g : Geometry) where
   victims_safe [] s safe t new h = subst (ComesSafely s) (sym h) (record { safe = safe; same = same_pages s })
   victims_safe (v ∷ vs) s safe t new h =
       let rest = victims_safe vs h.0 (safe_victim s safe t v h.0 h.1) t new h.2 in
-      record { safe = rest.safe; same = pages_then s h.0 new (victim_pages s safe.roomy t v h.0 h.1) rest.same }
+      record { safe = rest.safe; same = pages_then s h.0 new (victim_pages g.version s safe.roomy t v h.0 h.1) rest.same }
 
   module _ (a : SessionTxn) (c : Call) (lock : Asked) (asks : lock_asked_by c ≡ Some lock) (may : MayAsk g c) (whole : a.undo.rolling ≡ None) where
     safe_waits : (s : State) (safe : IsSafe g s) → MayLock safe.opening safe.found safe.entries a s → (at : Granule) → (lock_outcome s a c lock).answer ≡ Ok (acquire.Waiting at) → IsSafe g (waits_at s a c lock at)
@@ -135,7 +136,7 @@ module _ (g : Geometry) where
       entries = safe.entries;
       after = (round_stays g safe.opening safe.found safe.entries a c lock asks may whole s k at [] (waits_at s a c lock at) (record { waits = waits; victims = refl }) refl).0;
       asks = λ w at there is. elim there [ inl same ↦ subst (λ (x : Waiting). MayAsk g x.call) same may | inr older ↦ safe.asks w at older is ];
-      roomy = record { pages = safe.roomy.pages; log = safe.roomy.log };
+      roomy = record { slots = safe.roomy.slots; pages = safe.roomy.pages; log = safe.roomy.log };
       stream_bytes = safe.stream_bytes;
       leaves = record {
         as_long = safe.leaves.as_long;

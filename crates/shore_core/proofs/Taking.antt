@@ -21,6 +21,7 @@ use Rattle.laws_room.proofs.Pages.{length-slots}
 use Rattle.shore_types.specs.declared.faults.Fault.{Fault}
 use Rattle.shore_types.specs.declared.faults.Fault.TheVariants as fault
 use Rattle.shore_types.specs.declared.faults.Device.{Device}
+use Rattle.shore_types.specs.declared.versions.Version.{Version}
 use Rattle.shore_model.specs.declared.log_records.LogRecord.{LogRecord}
 use Rattle.laws_calls.specs.StateChanges.{IsPageFault, after_refusal, with_durable, with_failure}
 use Rattle.laws_calls.specs.States.{State, cost_of_log}
@@ -126,9 +127,9 @@ read_fault s id f (inr (inr (inl damaged))) = inr (subst (RefusesRead s id) (sym
 read_fault s id f (inr (inr (inr force))) = inr (subst (RefusesRead s id) (sym force.1) (inr (inr (force.0, refl, force.2, force.3))))
 
 -- a slot of a page has the image of its record
-pub image_shown : (R : Records) (undos : List SessionTxn) (counts : SlotCounts) → Claimed R undos counts → (id : Rid)
+pub image_shown : (v : Version) (R : Records) (undos : List SessionTxn) (counts : SlotCounts) → Claimed v R undos counts → (id : Rid)
     → image_at_slot (slots_of R undos id.page (counts id.page)) id.slot ≡ get R id
-image_shown R undos counts k id = elim (nat_lt id.slot (counts id.page)) as (λ b. nat_lt id.slot (counts id.page) ≡ b → image_at_slot (slots_of R undos id.page (counts id.page)) id.slot ≡ get R id) [
+image_shown v R undos counts k id = elim (nat_lt id.slot (counts id.page)) as (λ b. nat_lt id.slot (counts id.page) ≡ b → image_at_slot (slots_of R undos id.page (counts id.page)) id.slot ≡ get R id) [
   | true ↦ λ e. ap (λ (o : Option Slot). option_and_then (λ (x : Slot). x.image) o)
       (ap (λ (l : List Slot). slice_get l id.slot) (map_each claiming (λ i. undecided_at R undos (rid_on id.page i)) 0 (counts id.page))
       ∙ each_at (λ i. claiming (undecided_at R undos (rid_on id.page i))) (counts id.page) id.slot (ltb-true id.slot (counts id.page) e))
@@ -139,9 +140,9 @@ image_shown R undos counts k id = elim (nat_lt id.slot (counts id.page)) as (λ 
       ∙ sym (k.behind id behind)
 ] refl
 
-pub framed_is : (P : List Slot → Type 0) (o : Option Frame) (text : List ℕ) (id : PageId) (kept : List (ℕ × ℕ)) (slots : List Slot) → HasSlots o text id kept slots → IsSomeAnd o (λ f. P f.page.slots) → P slots
-framed_is P (Some f) text id kept slots has holds = subst P has holds
-framed_is P None text id kept slots has holds = absurd holds
+pub framed_is : (v : Version) (P : List Slot → Type 0) (o : Option Frame) (text : List ℕ) (id : PageId) (kept : List (ℕ × ℕ)) (slots : List Slot) → HasSlots v o text id kept slots → IsSomeAnd o (λ f. P f.page.slots) → P slots
+framed_is v P (Some f) text id kept slots has holds = subst P has holds
+framed_is v P None text id kept slots has holds = absurd holds
 
 -- ---- refusals
 

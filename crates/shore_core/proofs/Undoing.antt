@@ -40,6 +40,7 @@ use Rattle.shore_core.proofs.Changed.{image_short}
 use Rattle.shore_types.specs.Images.{Image, image_len}
 use Rattle.shore_types.specs.declared.ids.Rid.{Rid}
 use Rattle.shore_types.specs.declared.layout.TheConstants.{MAX_RECORD_BYTES}
+use Rattle.shore_types.specs.declared.versions.Version.{Version}
 use Rattle.laws_lives.specs.Sessions.{SessionTxn}
 use Rattle.laws_lives.specs.Views.{IsAmong}
 use Rattle.shore_txn.specs.Transactions.{txns_in, undos_in}
@@ -147,10 +148,10 @@ slot_there lsn i image (Some f) new is some =
     (let long = count-with_image f.page.slots i image in let same = length-map (with_image f.page.slots i image) (λ s. s.image) in omega (arith, long, same))
 slot_there lsn i image None new is some = absurd (false_true some)
 
-module _ {V : Type 0} {H : disk.Ghosts V} where
+module _ (v : Version) {V : Type 0} {H : disk.Ghosts V} where
   -- the image is put back, and the claim falls
   pub pages_undone : (new : Heap V H) (K : ClaimsOfPages) (front : List ℕ) (disk : ℕ → List ℕ) (s : State) (a : SessionTxn) (kept : List (Rid × Image)) (e : Rid × Image) (rollback : Rollback)
-      → Claimed s.sessions.records s.sessions.active s.counts → IsAmong a s.sessions.active → a.undo.images ≡ kept ++ e ∷ []
+      → Claimed v s.sessions.records s.sessions.active s.counts → IsAmong a s.sessions.active → a.undo.images ≡ kept ++ e ∷ []
       → Shows K new front disk (with_slots (with_slots (page_slots s) e.0.page (λ slots. with_image slots e.0.slot e.1)) e.0.page (λ slots. with_change (lowered (claim_before kept e)) slots e.0.slot))
       → Shows K new front disk (page_slots (put_back s a kept (e ∷ []) rollback))
   pages_undone new K front disk s a kept e rollback k among is shows =
@@ -172,12 +173,12 @@ module _ {V : Type 0} {H : disk.Ghosts V} where
       each p = elim (cases_page p e.0.page) [
         | inl same ↦
             ap (page_slots (put_back s a kept (e ∷ []) rollback)) same
-            ∙ unreserved s.sessions.records s.sessions.active s.counts k a among kept e (marks_kept rollback a.undo.marks) (Some rollback) is
+            ∙ unreserved _ s.sessions.records s.sessions.active s.counts k a among kept e (marks_kept rollback a.undo.marks) (Some rollback) is
             ∙ ap claim (sym (slots_here (page_slots s) e.0.page image))
             ∙ sym (slots_here once e.0.page claim)
             ∙ ap both (sym same)
         | inr other ↦
-            undo_others s.sessions.records s.sessions.active s.counts k a among kept e (marks_kept rollback a.undo.marks) (Some rollback) is p other
+            undo_others _ s.sessions.records s.sessions.active s.counts k a among kept e (marks_kept rollback a.undo.marks) (Some rollback) is p other
             ∙ sym (slots_other (page_slots s) e.0.page image p other)
             ∙ sym (slots_other once e.0.page claim p other)
       ]

@@ -11,7 +11,7 @@ use Rattle.shore_log.specs.declared.device.LogDev.{LogDev}
 use Rattle.shore_log.specs.declared.tail.Tail as tail
 use Rattle.shore_log.specs.Indexes.{AreBelow}
 use Rattle.shore_log.specs.Settled.{cut_of_log, records_of_log, stable}
-use Rattle.shore_log.specs.Told.{KeepsAside}
+use Rattle.shore_log.specs.Told.{aside_for}
 use Rattle.shore_log.specs.declared.tail.Told.{Told}
 use Rattle.shore_model.specs.declared.log_records.LogRecord.{LogRecord}
 use Rattle.shore_model.specs.declared.step.Step.{Step}
@@ -41,9 +41,9 @@ pub record HasKept {D : Type 0} {L : disk.Ghosts D} (log : LogDev D L) (m : Chec
   pub kept : drop (cut_of m.store.anchored) m.state.log ≡ records_of_log log ++ coming
   pub forced : cut_of_log log + length (stable log) ≡ m.state.durable
 
--- There is room aside for all that a checkpoint under way still has to log.
+-- There is room aside for all that a checkpoint under way still has to log, and no more.
 abbrev pub KeepsFor : Stage → Told → Type 0
-KeepsFor stage told = KeepsAside told (records_to_log stage) (bytes_to_log stage)
+KeepsFor stage told = told.aside ≡ aside_for (records_to_log stage) (bytes_to_log stage)
 
 -- A checkpoint may go on: its owner's stage is that of the store, which is in order, and what is owed to it has room.
 pub record MayGoOn (stage : Stage) (m : CheckpointedState) : Type 0 where

@@ -159,7 +159,7 @@ pub record IsSafe (g : Geometry) (s : State) : Type 0 where
   pub entries : List Entry
   pub after : IsStateAfter opening found entries s
   pub asks : (w : Waiting) (at : Granule) → IsAmong w s.waiting → w.wait ≡ Lock at → MayAsk g w.call
-  pub roomy : IsRoomyState s
+  pub roomy : IsRoomyState g.version s
   pub stream_bytes : ℕ
   pub leaves : LeavesRoomyLogs g stream_bytes s
   pub inside : AreRecords g s.sessions.records

@@ -19,6 +19,7 @@ use Rattle.shore_types.specs.declared.faults.Fault.TheVariants as fault
 use Rattle.shore_types.specs.declared.faults.Fault.TheVariants.{LogFull, Memory}
 use Rattle.shore_types.specs.declared.ids.PageId.{PageId}
 use Rattle.shore_types.specs.declared.layout.Geometry.{Geometry}
+use Rattle.shore_types.specs.declared.versions.Version.{Version}
 use Rattle.shore_model.specs.declared.calls.Call.{Call}
 use Rattle.shore_model.specs.declared.calls.Call.TheVariants as call
 use Rattle.shore_model.specs.declared.calls.Outcome.TheVariants as outcome
@@ -58,7 +59,7 @@ Fails f = (f ≡ fault.Device) ⊎ ((device : Device) × (offset : ℕ) × (f �
 -- text of that page with a number up to the last.
 abbrev pub IsEarned : Geometry → (ℕ → List ℕ) → ℕ → (PageId → Type 0) → Fault → Type 0
 IsEarned g disk last IsRead f = (device : Device) (offset : ℕ) → f ≡ fault.Damaged device offset → (device ≡ Volume)
-    × ((id : PageId) × IsRead id × HasPage g id × (offset ≡ page_offset (page_number g id)) × HasNoPage (disk (page_number g id)) id last)
+    × ((id : PageId) × IsRead id × HasPage g id × (offset ≡ page_offset g.version (page_number g id)) × HasNoPage g.version (disk (page_number g id)) id last)
 
 -- The pages that a call may read: that of its record, or those of its store. A rollback, by a resolve too, reads those of its transaction's changes, which
 -- its call does not name: of it nothing more is said than that they lie in the volume.
@@ -286,7 +287,7 @@ module _ {T V : Type 0} {G : tail.Ghosts T} {H : disk.Ghosts V} where
 
 -- What a change of the session's transaction comes to, of an image that fits where it goes: it is logged and made; or there is no room in the
 -- log, or an allocation failed, and the state is as it was.
-abbrev pub Changes : {T V : Type 0} {G : tail.Ghosts T} {H : disk.Ghosts V} → Core T V G H → SessionTxn → Rid → Image → Result (Unit {0}) Fault
+abbrev pub Changes : {T V : Type 0} {G : tail.Ghosts T} {H : disk.Ghosts V} → Version → Core T V G H → SessionTxn → Rid → Image → Result (Unit {0}) Fault
     → List ℕ → List LogRecord → State → CheckpointedStore → Type 0
-Changes new a id image (Ok done) front before s store = (counts : SlotCounts) × MayChange s id image counts × CoreComesTo new front before store (changed s a id image counts)
-Changes new a id image (Err f) front before s store = ((f ≡ Memory) ⊎ ((f ≡ LogFull) × ¬ CanLog s id image)) × CoreComesTo new front before store s
+Changes v new a id image (Ok done) front before s store = (counts : SlotCounts) × MayChange v s id image counts × CoreComesTo new front before store (changed s a id image counts)
+Changes v new a id image (Err f) front before s store = ((f ≡ Memory) ⊎ ((f ≡ LogFull) × ¬ CanLog s id image)) × CoreComesTo new front before store s

@@ -74,12 +74,12 @@ impl<T: Tail, V: Disk> Core<T, V> {
         after: Option<Bytes>,
     ) -> Result<(), Fault>
         requires there { HasSlot (geometry_of self.old) id }
-        requires found { IsSomeAnd (frame_of (heap_of self.old) id.page) (λ f. (image_at_slot f.page.slots id.slot ≡ before) × Fits f.page.slots id.slot (image_len after)) }
+        requires found { IsSomeAnd (frame_of (heap_of self.old) id.page) (λ f. (image_at_slot f.page.slots id.slot ≡ before) × Fits (geometry_of self.old).version f.page.slots id.slot (image_len after)) }
         requires before { image_len before ≤ MAX_RECORD_BYTES }
         requires some { IsTrue (is_some before) ⊎ IsTrue (is_some after) }
         requires seated { IsSeatIn seat.now (txns_of self.old) }
         requires own { IsOfCaller seat.now (txns_of self.old) }
-        ensures changed { has_failed self.old ≡ false → InEach (λ front disk before s store. ForWriter seat.now.session (locks_of self.old).requests id s (λ a. Changes self.new a id after result front before s store)) self.old }
+        ensures changed { has_failed self.old ≡ false → InEach (λ front disk before s store. ForWriter seat.now.session (locks_of self.old).requests id s (λ a. Changes (geometry_of self.old).version self.new a id after result front before s store)) self.old }
         ensures no_call { MakesNoCall self.old self.new }
         ensures refused { IfErr result (λ f. (f ≡ Fault.Memory) ⊎ (f ≡ Fault.LogFull)) }
         ensures ring { (room_in (txns_of self.new)).stream_bytes ≡ (room_in (txns_of self.old)).stream_bytes }

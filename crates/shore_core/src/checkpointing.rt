@@ -25,6 +25,7 @@ use crate::core_calls::Core;
 use shore_check::{ANCHOR_COST, Begun, Ended, Mark, Stage, Sums, begin, begin_record};
 use shore_disk::Disk;
 use shore_log::{LogDev, Tail};
+use shore_logrec::encoded_len;
 use shore_model::{Answer, Step};
 use shore_types::layout::{ENDING_COST, LAST_OPENED, MAX_TRANSACTIONS};
 use shore_types::{Fault, Lsn, TxnId};
@@ -119,7 +120,7 @@ impl<T: Tail, V: Disk> Core<T, V> {
         ensures durable { durable_of self.new ≡ durable_of self.old }
         ensures first { first_of self.new ≡ first_of self.old }
         ensures told { SaysAlike (told_of self.new) (told_of self.old) }
-        ensures aside { IsTrue T.keeps → KeepsFor stage.new (told_of self.new) }
+        ensures aside { IsTrue T.keeps → KeepsFor Stage.Resting (told_of self.old) → KeepsFor stage.new (told_of self.new) }
         ensures running { has_failed self.new ≡ has_failed self.old }
         ensures ring { (room_in (txns_of self.new)).stream_bytes ≡ (room_in (txns_of self.old)).stream_bytes }
         ensures busy { result ≢ Step.Nothing }
@@ -160,6 +161,7 @@ impl<T: Tail, V: Disk> Core<T, V> {
         ensures first { first_of self.new ≡ first_of self.old }
         ensures told { SaysAlike (told_of self.new) (told_of self.old) }
         ensures aside { IsTrue T.keeps → IfOk result (λ b. KeepsFor (Stage.Begun b.1) (told_of self.new)) }
+        ensures none_kept { OnErr result ((told_of self.new).aside ≡ (told_of self.old).aside) }
         ensures running { has_failed self.new ≡ has_failed self.old }
         ensures ring { (room_in (txns_of self.new)).stream_bytes ≡ (room_in (txns_of self.old)).stream_bytes }
         ensures refused { IfErr result (λ f. (f ≡ Fault.Memory) ⊎ (f ≡ Fault.LogFull) ⊎ (f ≡ Fault.TooManyTransactions)) }
@@ -288,18 +290,20 @@ impl<T: Tail, V: Disk> Core<T, V> {
     }
 }
 
-// Pushes the record that a checkpoint begins with, once there is room aside for those that it still has to log.
+// Pushes the record that a checkpoint begins with, once there is room aside for it and for those that it still has to log. If that is refused nothing more is kept than before.
 fn push_begin<T: Tail>(tail: &mut T, begun: &Begun) -> Result<Lsn, Fault>
     requires some { 0 < T.first tail.old + length (T.records tail.old) }
     requires numbers { T.first tail.old + length (T.records tail.old) < 2 ^ 62 }
     ensures number { IfOk result (λ n. n ≡ T.first tail.old + length (T.records tail.old)) }
     ensures added { OnOk result (T.records tail.new ≡ T.records tail.old ++ of_checkpoint CheckpointBegin ∷ []) }
     ensures aside { IsTrue T.keeps → OnOk result (KeepsFor (Stage.Begun begun.now) (T.told tail.new)) }
+    ensures none_kept { OnErr result ((T.told tail.new).aside ≡ (T.told tail.old).aside) }
     ensures refused { IfErr result (λ fault. fault ≡ Fault.Memory) }
     ensures none_added { OnErr result (T.records tail.new ≡ T.records tail.old) }
     ensures first { T.first tail.new ≡ T.first tail.old }
     ensures told { SaysAlike (T.told tail.new) (T.told tail.old) }
 {
-    tail.keep_aside(2, begun.bytes_to_log())?;
-    tail.push(&begin_record())
+    let logged = begin_record();
+    tail.keep_aside(3, begun.bytes_to_log() + encoded_len(&logged))?;
+    tail.push_kept(&logged)
 }

@@ -13,7 +13,6 @@ ghost use Rattle.shore_core.specs.declared.checks.Asked.{Asked};
 use shore_model::Call;
 use shore_modes::allowed;
 use shore_path::OnConflict;
-use shore_types::layout::{MAX_RECORD_BYTES, MAX_SLOTS};
 use shore_types::{Bytes, Fault, Geometry, Granule, Mode, PageId, Rid, StoreId};
 
 /// What a call asks of the lock table: a granule in a mode.
@@ -33,11 +32,11 @@ pub(crate) fn check(geometry: &Geometry, call: &Call) -> Result<(), Fault>
     match call {
         Call::Get(id) | Call::GetForUpdate(id) | Call::Delete(id) => check_record(geometry, id),
         Call::Insert(store, bytes) => {
-            check_bytes(bytes)?;
+            check_bytes(geometry, bytes)?;
             check_store(geometry, *store)
         }
         Call::Update(id, bytes) => {
-            check_bytes(bytes)?;
+            check_bytes(geometry, bytes)?;
             check_record(geometry, id)
         }
         Call::Scan(store) => check_store(geometry, *store),
@@ -56,11 +55,11 @@ pub(crate) fn check(geometry: &Geometry, call: &Call) -> Result<(), Fault>
     }
 }
 
-fn check_bytes(bytes: &Bytes) -> Result<(), Fault>
-    ensures short { OnOk result (IsShort bytes.now) }
-    ensures long { IfErr result (IsTooLong bytes.now) }
+fn check_bytes(geometry: &Geometry, bytes: &Bytes) -> Result<(), Fault>
+    ensures short { OnOk result (IsShort geometry.now.version bytes.now) }
+    ensures long { IfErr result (IsTooLong geometry.now.version bytes.now) }
 {
-    if bytes.as_slice().len() > MAX_RECORD_BYTES {
+    if bytes.as_slice().len() > geometry.version.record_limit() {
         return Err(Fault::TooLong);
     }
     Ok(())
@@ -94,7 +93,7 @@ fn check_record(geometry: &Geometry, id: &Rid) -> Result<(), Fault>
     ensures none { IfErr result (RefusesId geometry.now id.now) }
 {
     check_page(geometry, id.page)?;
-    if id.slot >= MAX_SLOTS {
+    if id.slot >= geometry.version.slot_limit() {
         return Err(Fault::NoRecord);
     }
     Ok(())

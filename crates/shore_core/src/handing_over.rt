@@ -3,6 +3,7 @@ ghost use Rattle.laws_checkpoints.specs.CheckpointedStores.{CheckpointedStore};
 ghost use Rattle.shore_model.specs.declared.log_records.LogRecord.{LogRecord};
 ghost use Rattle.std.specs.Prelude.{◌≡◌, ◌+◌, ◌++◌, [], ℕ, List, IfOk, length};
 ghost use Rattle.shore_log.specs.Settled.{IsSettledFrom, IsSpelled, KnowsRoom, cut_of_log, records_of_log, stable};
+ghost use Rattle.shore_log.specs.Told.{aside_for};
 ghost use Rattle.shore_heap.specs.Heaps as heaps;
 ghost use Rattle.laws_calls.specs.States.{State};
 ghost use Rattle.shore_txn.specs.Transactions.{room_in};
@@ -61,10 +62,11 @@ impl<V: Disk> Core<PlainTail, V> {
         };
     }
 
-    /// The log buffer learns what the log device has room for, if nothing waits there.
+    /// The log buffer learns what the log device has room for, of which nothing is kept aside, if nothing waits there.
     pub fn learn_room<D: Disk>(&mut self, log: &LogDev<D>)
         ensures same { KeepsAllButRoom self.old self.new }
         ensures knows { waiting_of self.old ≡ [] → IsSpelled log.now → KnowsRoom log.now (told_of self.new) }
+        ensures aside { waiting_of self.old ≡ [] → IsSpelled log.now → (told_of self.new).aside ≡ aside_for 0 0 }
     {
         log.tell_room(&mut self.tail);
     }

@@ -97,7 +97,7 @@ impl<T: Tail, V: Disk> Core<T, V> {
         requires intended { way ≡ WayToWrite.Intended → IntendsToWrite (locks_of self.old).requests txn store }
         ensures there { IfOk result (HasSlot (geometry_of self.old)) }
         ensures of_store { IfOk result (λ id. id.page.store ≡ store) }
-        ensures framed { IfOk result (λ id. IsSomeAnd (frame_of (heap_of self.new) id.page) (λ f. IsCandidate f.page.slots id.slot len)) }
+        ensures framed { IfOk result (λ id. IsSomeAnd (frame_of (heap_of self.new) id.page) (λ f. IsCandidate (geometry_of self.old).version f.page.slots id.slot len)) }
         ensures found { has_failed self.old ≡ false → InEach (λ front disk before s plain. MatchResult result (IsPlace (geometry_of self.old) (page_slots s) store len (can_lock (locks_of self.old).requests txn))
             (λ f. ((f ≡ Fault.StoreFull) × HasNoPlace (geometry_of self.old) (page_slots s) store len (can_lock (locks_of self.old).requests txn)) ⊎ (f ≡ Fault.Memory) ⊎ IsPageFault s f)) self.old }
         ensures lockable { IfOk result (can_lock (locks_of self.old).requests txn) }

@@ -13,8 +13,8 @@ use shore_log::Tail;
 use shore_logrec::{LogRecord, Payload, granules_fit, prepare_cost};
 use shore_model::{Answer, Step, Wait};
 use shore_txn::Seat;
-use shore_types::layout::{ENDING_COST, MAX_GLOBAL_ID_BYTES};
-use shore_types::{Fault, GlobalId, SessionId};
+use shore_types::layout::ENDING_COST;
+use shore_types::{Fault, Geometry, GlobalId, SessionId};
 use std::alloc::Global;
 
 impl<T: Tail, V: Disk> Core<T, V> {
@@ -40,7 +40,7 @@ impl<T: Tail, V: Disk> Core<T, V> {
     {
         let own = self.active(seat)?;
         let (txn, previous) = (own.id(), own.last());
-        check_global(&global)?;
+        check_global(self.heap.geometry(), &global)?;
         if self.control.uses(seat.session, &global) {
             return Err(Fault::GlobalIdInUse);
         }
@@ -78,12 +78,12 @@ impl<T: Tail, V: Disk> Core<T, V> {
 }
 
 // A global id has a byte, and no more than fit.
-fn check_global(global: &GlobalId) -> Result<(), Fault>
-    ensures is { OnOk result (IsGlobalId global.now) }
-    ensures bad { IfErr result (λ f. (f ≡ Fault.BadGlobalId) × ¬ IsGlobalId global.now) }
+fn check_global(geometry: &Geometry, global: &GlobalId) -> Result<(), Fault>
+    ensures is { OnOk result (IsGlobalId geometry.now.version global.now) }
+    ensures bad { IfErr result (λ f. (f ≡ Fault.BadGlobalId) × ¬ IsGlobalId geometry.now.version global.now) }
 {
     let len = global.as_slice().len();
-    if len == 0 || len > MAX_GLOBAL_ID_BYTES {
+    if len == 0 || len > geometry.version.global_limit() {
         return Err(Fault::BadGlobalId);
     }
     Ok(())

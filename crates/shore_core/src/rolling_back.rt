@@ -229,7 +229,7 @@ impl<T: Tail, V: Disk> Core<T, V> {
         requires unprepared { IsNotInDoubt seat.now (txns_of self.old) }
         requires next { IsNext (txns_of self.old) seat.now.txn undo.id undo.bytes undo.cost undo.logged }
         requires there { HasPage (geometry_of self.old) undo.id.page }
-        requires fits { IsSomeAnd (frame_of (heap_of self.old) undo.id.page) (λ f. Fits f.page.slots undo.id.slot undo.bytes) }
+        requires fits { IsSomeAnd (frame_of (heap_of self.old) undo.id.page) (λ f. Fits (geometry_of self.old).version f.page.slots undo.id.slot undo.bytes) }
         ensures put_back { has_failed self.old ≡ false → InEach (λ front disk before s store. (a : SessionTxn) (kept : List (Rid × Image)) (e : Rid × Image) → IsAt seat.now s a
             → a.undo.images ≡ kept ++ e ∷ [] → PutsBack self.new a kept e rollback result front before s store) self.old }
         ensures rewinds { OnOk result (Rewinds self.old self.new) }

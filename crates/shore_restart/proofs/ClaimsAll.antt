@@ -5,6 +5,7 @@ use Rattle.std.proofs.lemmas.List.{append-nil, append_assoc, reverse-append}
 use Rattle.shore_types.specs.Layout.{HasPage}
 use Rattle.shore_types.specs.declared.ids.PageId.{PageId}
 use Rattle.shore_types.specs.declared.layout.Geometry.{Geometry}
+use Rattle.shore_types.specs.declared.versions.Version.{Version}
 use Rattle.shore_disk.specs.Device.{may_leave}
 use Rattle.shore_disk.specs.declared.device.Disk.{Ghosts}
 use Rattle.shore_disk.proofs.Moments.{started}
@@ -70,29 +71,29 @@ none_there g p [] absent there = refl
 none_there g p (e ∷ es) absent there =
     claims_there p e es (λ same. absent (subst (HasPage g) (sym same) (there e (inl refl)))) ∙ none_there g p es absent (λ x among. there x (inr among))
 
-pub fit_everywhere : (g : Geometry) (es : List UndoEntry) (slots : PageId → List Slot) → ((e : UndoEntry) → IsAmong e es → HasPage g e.id.page) → ((p : PageId) → HasPage g p → HaveRoom (claims_on p es) (slots p))
-    → (p : PageId) → FitIn (claims_on p es) (slots p)
+pub fit_everywhere : (g : Geometry) (es : List UndoEntry) (slots : PageId → List Slot) → ((e : UndoEntry) → IsAmong e es → HasPage g e.id.page) → ((p : PageId) → HasPage g p → HaveRoom g.version (claims_on p es) (slots p))
+    → (p : PageId) → FitIn g.version (claims_on p es) (slots p)
 fit_everywhere g es slots there room p = elim (has_or_not g p) [
   | inl has ↦ (room p has).fit
-  | inr absent ↦ subst (λ (l : List (ℕ × ℕ)). FitIn l (slots p)) (sym (none_there g p es absent there)) tt
+  | inr absent ↦ subst (λ (l : List (ℕ × ℕ)). FitIn g.version l (slots p)) (sym (none_there g p es absent there)) tt
 ]
 
 -- ---- the first, and all
 
 -- claims that have room leave no less room to take a record
-takes_none_beside : (kept : List (ℕ × ℕ)) (slots : List Slot) → FitIn kept slots → (bytes : ℕ) → TakesNone slots bytes → TakesNone (claimed_by kept slots) bytes
-takes_none_beside [] slots fit bytes none = none
-takes_none_beside (c ∷ kept) slots fit bytes none =
-    takes_none (claimed_by kept slots) c.0 c.1 (fit.0, fit.1) bytes (takes_none_beside kept slots fit.2 bytes none)
+takes_none_beside : (v : Version) (kept : List (ℕ × ℕ)) (slots : List Slot) → FitIn v kept slots → (bytes : ℕ) → TakesNone v slots bytes → TakesNone v (claimed_by kept slots) bytes
+takes_none_beside v [] slots fit bytes none = none
+takes_none_beside v (c ∷ kept) slots fit bytes none =
+    takes_none v (claimed_by kept slots) c.0 c.1 (fit.0, fit.1) bytes (takes_none_beside v kept slots fit.2 bytes none)
 
-slots_with : (o : Option Frame) (text : List ℕ) (p : PageId) (all : List (ℕ × ℕ)) (slots : List Slot) → FitIn all slots → ClaimsSoFar o text p all all slots → HasSlots o text p all (claimed_by all slots)
-slots_with (Some f) text p all slots fit (inl is) = is
-slots_with (Some f) text p all slots fit (inr keeps) = all_kept all slots f.page.slots fit keeps
-slots_with None text p all slots fit (number, images, is, settled_is) = (number, images, is, ap (claimed_by all) settled_is, subst (FitIn all) settled_is fit)
+slots_with : (v : Version) (o : Option Frame) (text : List ℕ) (p : PageId) (all : List (ℕ × ℕ)) (slots : List Slot) → FitIn v all slots → ClaimsSoFar v o text p all all slots → HasSlots v o text p all (claimed_by all slots)
+slots_with v (Some f) text p all slots fit (inl is) = is
+slots_with v (Some f) text p all slots fit (inr keeps) = all_kept v all slots f.page.slots fit keeps
+slots_with v None text p all slots fit (number, images, is, settled_is) = (number, images, is, ap (claimed_by all) settled_is, subst (FitIn v all) settled_is fit)
 
-slots_without : (o : Option Frame) (text : List ℕ) (p : PageId) (all : List (ℕ × ℕ)) (slots : List Slot) → HasSlots o text p [] slots → ClaimsSoFar o text p all [] slots
-slots_without (Some f) text p all slots is = inl is
-slots_without None text p all slots (number, images, is, settled_is, fit) = (number, images, is, settled_is)
+slots_without : (v : Version) (o : Option Frame) (text : List ℕ) (p : PageId) (all : List (ℕ × ℕ)) (slots : List Slot) → HasSlots v o text p [] slots → ClaimsSoFar v o text p all [] slots
+slots_without v (Some f) text p all slots is = inl is
+slots_without v None text p all slots (number, images, is, settled_is, fit) = (number, images, is, settled_is)
 
 module _ {V : Type 0} {H : Ghosts V} where
   pub none_so_far : (all : ClaimsOfPages) (front : List ℕ) (disk : ℕ → List ℕ) (heap : Heap V H) (s : RecoveryState) (stands : Stands front disk heap s) → StandsSoFar all (λ p. []) stands.slots front disk heap s
@@ -102,7 +103,7 @@ module _ {V : Type 0} {H : Ghosts V} where
     holds = stands.shows.holds;
     bounds = stands.shows.bounds;
     room = λ p has. record { bare = (stands_kept front disk heap s stands p has).0; fit = tt };
-    pages = λ p has. slots_without (frame_of heap p) (disk (page_number (geometry_of heap) p)) p (all p) (stands.slots p) (stands.shows.pages p has);
+    pages = λ p has. slots_without (geometry_of heap).version (frame_of heap p) (disk (page_number (geometry_of heap) p)) p (all p) (stands.slots p) (stands.shows.pages p has);
   }
 
   pub all_so_far : (all : ClaimsOfPages) (slots : PageId → List Slot) (front : List ℕ) (disk : ℕ → List ℕ) (heap : Heap V H) (s : RecoveryState) → StandsSoFar all all slots front disk heap s → StandsWith all front disk heap s
@@ -113,8 +114,8 @@ module _ {V : Type 0} {H : Ghosts V} where
     room = st.room;
     shows = record {
       holds = st.holds;
-      pages = λ p has. slots_with (frame_of heap p) (disk (page_number (geometry_of heap) p)) p (all p) (slots p) (st.room p has).fit (st.pages p has);
-      bounds = λ p bytes has up_to. takes_none_beside (all p) (slots p) (st.room p has).fit bytes (st.bounds p bytes has up_to);
+      pages = λ p has. slots_with (geometry_of heap).version (frame_of heap p) (disk (page_number (geometry_of heap) p)) p (all p) (slots p) (st.room p has).fit (st.pages p has);
+      bounds = λ p bytes has up_to. takes_none_beside (geometry_of heap).version (all p) (slots p) (st.room p has).fit bytes (st.bounds p bytes has up_to);
     };
   }
 

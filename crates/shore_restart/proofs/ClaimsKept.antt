@@ -5,6 +5,7 @@ use Rattle.shore_types.specs.Images.{Image, image_len}
 use Rattle.shore_types.specs.Layout.{HasPage}
 use Rattle.shore_types.specs.declared.ids.PageId.{PageId}
 use Rattle.shore_types.specs.declared.layout.Geometry.{Geometry}
+use Rattle.shore_types.specs.declared.versions.Version.{Version}
 use Rattle.shore_disk.specs.Device.{DeviceHistory, LeavesOnly, may_leave}
 use Rattle.shore_disk.specs.declared.device.Disk.{Ghosts}
 use Rattle.shore_disk.proofs.Moments.{at_end, joined, widened}
@@ -39,7 +40,7 @@ use Rattle.shore_txn.specs.UndoEntries.{claims_on}
 use Rattle.shore_txn.specs.declared.undo.UndoEntry.{UndoEntry}
 use Rattle.shore_txn.proofs.ClaimLemmas.{claims_append, claims_other}
 use Rattle.shore_restart.specs.declared.errors.RestartError.{RestartError}
-use Rattle.shore_restart.specs.GivenBack.{ClaimsSoFar, Keeps, StandsSoFar}
+use Rattle.shore_restart.specs.GivenBack.{ClaimsSoFar, HaveRoom, Keeps, StandsSoFar}
 use Rattle.shore_restart.specs.Standing.{Notes, SameInPlace, Worked}
 use Rattle.shore_restart.proofs.Noting.{notes_on, pages_noted}
 use Rattle.shore_restart.proofs.Paths.{none_lost_on, work_kept, work_on, works_lose_none}
@@ -47,60 +48,61 @@ use Rattle.shore_restart.proofs.RoomKept.{can_keep_there, could_keep, is_kept, k
 
 -- ---- one page
 
-images_same : (f : Frame) (text : List ℕ) (p : PageId) (all so_far : List (ℕ × ℕ)) (slots : List Slot) → slots ≡ map settled (images_of slots) → ClaimsSoFar (Some f) text p all so_far slots → images_of f.page.slots ≡ images_of slots
-images_same f text p all so_far slots bare (inl claimed) =
+images_same : (v : Version) (f : Frame) (text : List ℕ) (p : PageId) (all so_far : List (ℕ × ℕ)) (slots : List Slot) → slots ≡ map settled (images_of slots) → ClaimsSoFar v (Some f) text p all so_far slots → images_of f.page.slots ≡ images_of slots
+images_same v f text p all so_far slots bare (inl claimed) =
     ap images_of claimed ∙ ap (λ (l : List Slot). images_of (claimed_by so_far l)) bare ∙ images_claimed so_far (images_of slots)
-images_same f text p all so_far slots bare (inr keeps) = images_kept all slots f.page.slots keeps
+images_same v f text p all so_far slots bare (inr keeps) = images_kept v all slots f.page.slots keeps
 
-module _ (text later : List ℕ) (p : PageId) (all so_far : List (ℕ × ℕ)) (slots : List Slot) (bare : slots ≡ map settled (images_of slots)) where
+module _ (v : Version) (text later : List ℕ) (p : PageId) (all so_far : List (ℕ × ℕ)) (slots : List Slot) (bare : slots ≡ map settled (images_of slots)) where
   abbrev Same : Option Frame → Option Frame → Type 0
-  Same at now = (number : ℕ) (images : List Image) → IsPage at text p number images → IsPage now later p number images
+  Same at now = (number : ℕ) (images : List Image) → IsPage v at text p number images → IsPage v now later p number images
 
   -- on the volume alone it has its text still
-  alone : Same None None → ClaimsSoFar None text p all so_far slots → ClaimsSoFar None later p all so_far slots
+  alone : Same None None → ClaimsSoFar v None text p all so_far slots → ClaimsSoFar v None later p all so_far slots
   alone same (number, images, is, settled_is) = (number, images, same number images is, settled_is)
 
   -- .. and is written back as it was
-  went : (f : Frame) → f.page.id ≡ p → Same (Some f) None → ClaimsSoFar (Some f) text p all so_far slots → ClaimsSoFar None later p all so_far slots
+  went : (f : Frame) → f.page.id ≡ p → Same (Some f) None → ClaimsSoFar v (Some f) text p all so_far slots → ClaimsSoFar v None later p all so_far slots
   went f own same claims =
-      (f.page.number, images_of f.page.slots, same f.page.number (images_of f.page.slots) (own, refl, refl), bare ∙ ap (map settled) (sym (images_same f text p all so_far slots bare claims)))
+      (f.page.number, images_of f.page.slots, same f.page.number (images_of f.page.slots) (own, refl, refl), bare ∙ ap (map settled) (sym (images_same v f text p all so_far slots bare claims)))
 
-  pub stays_or_goes : (at now : Option Frame) → ((f : Frame) → at ≡ Some f → f.page.id ≡ p) → StaysOrGoes at now → Same at now → ClaimsSoFar at text p all so_far slots → ClaimsSoFar now later p all so_far slots
+  pub stays_or_goes : (at now : Option Frame) → ((f : Frame) → at ≡ Some f → f.page.id ≡ p) → StaysOrGoes at now → Same at now → ClaimsSoFar v at text p all so_far slots → ClaimsSoFar v now later p all so_far slots
   stays_or_goes None now own (inl is) same claims =
-      subst (λ (o : Option Frame). ClaimsSoFar o later p all so_far slots) (sym is) (alone (subst (Same None) is same) claims)
+      subst (λ (o : Option Frame). ClaimsSoFar v o later p all so_far slots) (sym is) (alone (subst (Same None) is same) claims)
   stays_or_goes None now own (inr (inl is)) same claims =
-      subst (λ (o : Option Frame). ClaimsSoFar o later p all so_far slots) (sym is) (alone (subst (Same None) is same) claims)
+      subst (λ (o : Option Frame). ClaimsSoFar v o later p all so_far slots) (sym is) (alone (subst (Same None) is same) claims)
   stays_or_goes None now own (inr (inr is)) same claims =
-      subst (λ (o : Option Frame). ClaimsSoFar o later p all so_far slots) (sym is) (alone (subst (Same None) is same) claims)
-  stays_or_goes (Some f) now own (inl is) same claims = subst (λ (o : Option Frame). ClaimsSoFar o later p all so_far slots) (sym is) claims
-  stays_or_goes (Some f) now own (inr (inl is)) same claims = subst (λ (o : Option Frame). ClaimsSoFar o later p all so_far slots) (sym is) claims
+      subst (λ (o : Option Frame). ClaimsSoFar v o later p all so_far slots) (sym is) (alone (subst (Same None) is same) claims)
+  stays_or_goes (Some f) now own (inl is) same claims = subst (λ (o : Option Frame). ClaimsSoFar v o later p all so_far slots) (sym is) claims
+  stays_or_goes (Some f) now own (inr (inl is)) same claims = subst (λ (o : Option Frame). ClaimsSoFar v o later p all so_far slots) (sym is) claims
   stays_or_goes (Some f) now own (inr (inr is)) same claims =
-      subst (λ (o : Option Frame). ClaimsSoFar o later p all so_far slots) (sym is) (went f (own f refl) (subst (Same (Some f)) is same) claims)
+      subst (λ (o : Option Frame). ClaimsSoFar v o later p all so_far slots) (sym is) (went f (own f refl) (subst (Same (Some f)) is same) claims)
 
   -- as it was read it keeps what fits
-  pub came : (at now : Option Frame) (last : ℕ) → at ≡ None → IsSomeAnd now (IsFreshFrame all last) → Same at now → ClaimsSoFar at text p all so_far slots → ClaimsSoFar now later p all so_far slots
-  came (Some f) now last none read same claims = cc
-  came None None last none read same claims = absurd read
-  came None (Some f) last none read same (number, images, is, settled_is) =
+  pub came : (at now : Option Frame) (last : ℕ) → ((f : Frame) → now ≡ Some f → f.page.version ≡ v) → at ≡ None → IsSomeAnd now (IsFreshFrame all last) → Same at now → ClaimsSoFar v at text p all so_far slots → ClaimsSoFar v now later p all so_far slots
+  came (Some f) now last own none read same claims = cc
+  came None None last own none read same claims = absurd read
+  came None (Some f) last own none read same (number, images, is, settled_is) =
       let its = same number images is in
-      inr (subst (λ (l : List Slot). KeepWhatFits all l f.page.slots) (ap (map settled) its.2 ∙ sym settled_is) read.slots)
+      inr (subst (λ (l : List Slot). KeepWhatFits v all l f.page.slots) (ap (map settled) its.2 ∙ sym settled_is)
+      (subst (λ (w : Version). KeepWhatFits w all (map settled (images_of f.page.slots)) f.page.slots) (own f refl) read.slots))
 
 -- ---- the claim of one more
 
-module _ (older newer : List (ℕ × ℕ)) (c : ℕ × ℕ) (f : Frame) (text : List ℕ) (p : PageId) (slots : List Slot) (fit : FitIn newer slots) where
-  pub could : ClaimsSoFar (Some f) text p (older ++ c ∷ newer) newer slots → CanKeep f.page.slots c.0 c.1 → CanKeep (claimed_by newer slots) c.0 c.1
-  could (inl claimed) can = subst (λ (l : List Slot). CanKeep l c.0 c.1) claimed can
-  could (inr keeps) can = could_keep older newer c slots f.page.slots fit keeps can
+module _ (v : Version) (older newer : List (ℕ × ℕ)) (c : ℕ × ℕ) (f : Frame) (text : List ℕ) (p : PageId) (slots : List Slot) (fit : FitIn v newer slots) where
+  pub could : ClaimsSoFar v (Some f) text p (older ++ c ∷ newer) newer slots → CanKeep v f.page.slots c.0 c.1 → CanKeep v (claimed_by newer slots) c.0 c.1
+  could (inl claimed) can = subst (λ (l : List Slot). CanKeep v l c.0 c.1) claimed can
+  could (inr keeps) can = could_keep v older newer c slots f.page.slots fit keeps can
 
-  pub can_there : ClaimsSoFar (Some f) text p (older ++ c ∷ newer) newer slots → CanKeep (claimed_by newer slots) c.0 c.1 → CanKeep f.page.slots c.0 c.1
-  can_there (inl claimed) can = subst (λ (l : List Slot). CanKeep l c.0 c.1) (sym claimed) can
-  can_there (inr keeps) can = can_keep_there older newer c slots f.page.slots fit keeps can
+  pub can_there : ClaimsSoFar v (Some f) text p (older ++ c ∷ newer) newer slots → CanKeep v (claimed_by newer slots) c.0 c.1 → CanKeep v f.page.slots c.0 c.1
+  can_there (inl claimed) can = subst (λ (l : List Slot). CanKeep v l c.0 c.1) (sym claimed) can
+  can_there (inr keeps) can = can_keep_there v older newer c slots f.page.slots fit keeps can
 
-  pub keeps_one : ClaimsSoFar (Some f) text p (older ++ c ∷ newer) newer slots → CanKeep f.page.slots c.0 c.1
-      → ClaimsSoFar (Some (reclaimed (raised c.1) c.0 f)) text p (older ++ c ∷ newer) (c ∷ newer) slots
+  pub keeps_one : ClaimsSoFar v (Some f) text p (older ++ c ∷ newer) newer slots → CanKeep v f.page.slots c.0 c.1
+      → ClaimsSoFar v (Some (reclaimed (raised c.1) c.0 f)) text p (older ++ c ∷ newer) (c ∷ newer) slots
   keeps_one (inl claimed) can = inl (ap (λ (l : List Slot). with_change (raised c.1) l c.0) claimed)
   keeps_one (inr keeps) can =
-      inr (subst (λ (l : List Slot). KeepWhatFits (older ++ c ∷ newer) slots l) (sym (kept_already c.1 f.page.slots c.0 (is_kept older newer c slots f.page.slots fit keeps (could_keep older newer c slots f.page.slots fit keeps can)))) keeps)
+      inr (subst (λ (l : List Slot). KeepWhatFits v (older ++ c ∷ newer) slots l) (sym (kept_already c.1 f.page.slots c.0 (is_kept v older newer c slots f.page.slots fit keeps (could_keep v older newer c slots f.page.slots fit keeps can)))) keeps)
 
 -- what may come back to a page by one change more, and those behind it
 pub claims_here : (e : UndoEntry) (newer : List UndoEntry) → claims_on e.id.page (e ∷ newer) ≡ (e.id.slot, image_len e.before) ∷ claims_on e.id.page newer
@@ -220,7 +222,7 @@ module _ {V : Type 0} {H : Ghosts V} where
   -- ---- the pages
 
   module _ (front : List ℕ) (disk left : ℕ → List ℕ) (old mid : Heap V H) (s : RecoveryState) (all so_far : ClaimsOfPages) (slots : PageId → List Slot) (stands : StandsSoFar all so_far slots front disk old s) (page : PageId)
-      (there : HasPage (geometry_of old) page) (geometry : geometry_of mid ≡ geometry_of old) (same : SamePages (frame_at old) disk (frame_at mid) left)
+      (there : HasPage (geometry_of old) page) (geometry : geometry_of mid ≡ geometry_of old) (same : SamePages (geometry_of old).version (frame_at old) disk (frame_at mid) left)
       (last : ℕ) (were : FramesWere all old mid page last) where
     abbrev number_in : PageId → ℕ
     number_in p = page_number (geometry_of old) p
@@ -244,21 +246,19 @@ module _ {V : Type 0} {H : Ghosts V} where
           inr (none, subst (λ (q : PageId). IsFreshFrame (all q) last f) own fresh)
     ]
 
-    pub fetched_claims : (p : PageId) → HasPage (geometry_of old) p → ClaimsSoFar (frame_of mid p) (left (number_in p)) p (all p) (so_far p) (slots p)
-    fetched_claims p has = subst (λ (o : Option Frame). ClaimsSoFar o (left (number_in p)) p (all p) (so_far p) (slots p)) (sym (at_mid p)) (elim (step_at p has (frame_at mid (number_in p)) refl) [
+    pub fetched_claims : (p : PageId) → HasPage (geometry_of old) p → ClaimsSoFar (geometry_of old).version (frame_of mid p) (left (number_in p)) p (all p) (so_far p) (slots p)
+    fetched_claims p has = subst (λ (o : Option Frame). ClaimsSoFar (geometry_of old).version o (left (number_in p)) p (all p) (so_far p) (slots p)) (sym (at_mid p)) (elim (step_at p has (frame_at mid (number_in p)) refl) [
       | inl step ↦
-          stays_or_goes (disk (number_in p)) (left (number_in p)) p (all p) (so_far p) (slots p) bare (frame_at old (number_in p)) (frame_at mid (number_in p)) (own_page p has) step
+          stays_or_goes (geometry_of old).version (disk (number_in p)) (left (number_in p)) p (all p) (so_far p) (slots p) bare (frame_at old (number_in p)) (frame_at mid (number_in p)) (own_page p has) step
           (λ number images it. (same (number_in p) p number images).0 it) (stands.pages p has)
       | inr read ↦
-          came (disk (number_in p)) (left (number_in p)) p (all p) (so_far p) (slots p) bare (frame_at old (number_in p)) (frame_at mid (number_in p)) last read.0 read.1
+          came (geometry_of old).version (disk (number_in p)) (left (number_in p)) p (all p) (so_far p) (slots p) bare (frame_at old (number_in p)) (frame_at mid (number_in p)) last
+          (λ f is. (mid.pool.in_order (number_in p) f is).2 ∙ ap (λ (g : Geometry). g.version) geometry) read.0 read.1
           (λ number images it. (same (number_in p) p number images).0 it) (stands.pages p has)
     ])
       where
         bare : slots p ≡ map settled (images_of (slots p))
         bare = (stands.room p has).bare
-
-    at_now : (p : PageId) → page_number (geometry_of mid) p ≡ number_in p
-    at_now p = ap (λ (g : Geometry). page_number g p) geometry
 
     -- the heap stands with the same claims so far, over what is left
     pub stands_fetched : (kept : KeptStore front old mid s left) → PoolHolds mid.pool front left → heaps.bounds_of mid ≡ heaps.bounds_of old → StandsSoFar all so_far slots front left mid kept.later
@@ -267,6 +267,6 @@ module _ {V : Type 0} {H : Ghosts V} where
       recoverable = kept.recoverable;
       holds = holds;
       bounds = subst (λ (g : Geometry). AreBounds g (heaps.bounds_of mid) slots) (sym geometry) (subst (λ (free : List (List ℕ)). AreBounds (geometry_of old) free slots) (sym bounds) stands.bounds);
-      room = λ p has. stands.room p (subst (λ (g : Geometry). HasPage g p) geometry has);
-      pages = λ p has. subst (λ (k : ℕ). ClaimsSoFar (frame_of mid p) (left k) p (all p) (so_far p) (slots p)) (sym (at_now p)) (fetched_claims p (subst (λ (g : Geometry). HasPage g p) geometry has));
+      room = λ p has. subst (λ (g : Geometry). HaveRoom g.version (so_far p) (slots p)) (sym geometry) (stands.room p (subst (λ (g : Geometry). HasPage g p) geometry has));
+      pages = λ p has. subst (λ (g : Geometry). ClaimsSoFar g.version (frame_of mid p) (left (page_number g p)) p (all p) (so_far p) (slots p)) (sym geometry) (fetched_claims p (subst (λ (g : Geometry). HasPage g p) geometry has));
     }

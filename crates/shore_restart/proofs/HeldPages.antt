@@ -11,6 +11,7 @@ use Rattle.shore_types.specs.declared.ids.PageId.{PageId}
 use Rattle.shore_types.specs.declared.ids.Rid.{Rid}
 use Rattle.shore_types.specs.declared.layout.Geometry.{Geometry}
 use Rattle.shore_types.specs.declared.log_ends.LogEnds.{LogEnds}
+use Rattle.shore_types.specs.declared.versions.Version.{Version}
 use Rattle.shore_disk.specs.declared.device.Disk.{Ghosts}
 use Rattle.shore_dwrite.specs.Volumes.{HasNoPage, page_number}
 use Rattle.shore_log.specs.Settled.{records_of_log, stable}
@@ -47,7 +48,7 @@ IsNoPage error = (f : Fault) → error ≡ Page f → ⊥
 
 -- what is damaged behind some work was so before
 pub fault_back : (g now : Geometry) (may_read : PageId → Type 0) (disk left : ℕ → List ℕ) (last later : ℕ) (f : Fault) → now ≡ g
-    → ((id : PageId) → HasPage g id → HasNoPage (left (page_number g id)) id later → HasNoPage (disk (page_number g id)) id last) → IsPageFault now may_read left later f → IsPageFault g may_read disk last f
+    → ((id : PageId) → HasPage g id → HasNoPage g.version (left (page_number g id)) id later → HasNoPage g.version (disk (page_number g id)) id last) → IsPageFault now may_read left later f → IsPageFault g may_read disk last f
 fault_back g now may_read disk left last later f same bad of = by_kind (subst (λ (x : Geometry). IsPageFault x may_read left later f) same of)
   where
     by_kind : IsPageFault g may_read left later f → IsPageFault g may_read disk last f
@@ -59,8 +60,8 @@ pub fault_wider : (g : Geometry) (few more : PageId → Type 0) (disk : ℕ → 
 fault_wider g few more disk last f all (inl device) = inl device
 fault_wider g few more disk last f all (inr (id, there, read, is, none)) = inr (id, there, all id read, is, none)
 
-pub no_page_down : (text : List ℕ) (id : PageId) (last later : ℕ) → last ≤ later → HasNoPage text id later → HasNoPage text id last
-no_page_down text id last later more none number images is = let above = none number images is in omega (arith, above, more)
+pub no_page_down : (v : Version) (text : List ℕ) (id : PageId) (last later : ℕ) → last ≤ later → HasNoPage v text id later → HasNoPage v text id last
+no_page_down v text id last later more none number images is = let above = none number images is in omega (arith, above, more)
 
 -- each frame has a number up to this one
 abbrev pub IsLow : ℕ → (ℕ → Option Frame) → Type 0
@@ -117,7 +118,7 @@ module _ {V : Type 0} {H : Ghosts V} where
   held_here front first disk heap done last later more held = record {
     left = disk;
     held = held_up front first disk heap done last later more held;
-    bad = λ id there none. no_page_down (disk _) id last later more none;
+    bad = λ id there none. no_page_down (geometry_of heap).version (disk _) id last later more none;
   }
 
   -- a record more, that no page in place lacks
@@ -128,7 +129,7 @@ module _ {V : Type 0} {H : Ghosts V} where
     holds = held.holds;
     low = held.low;
     settled = held.settled;
-    made = λ p page there is. made_more (first (page_number (geometry_of heap) p)) done r p page page (held.made p page there is) (same p page there is);
+    made = λ p page there is. made_more (geometry_of heap).version (first (page_number (geometry_of heap) p)) done r p page page (held.made p page there is) (same p page there is);
   }
 
   -- one call behind another
@@ -137,12 +138,12 @@ module _ {V : Type 0} {H : Ghosts V} where
         → StaysHeld front first disk old new last after later
     held_then new after later same w = record { left = w.left; held = w.held; bad = λ id there none. s.bad id there (again id there none) }
       where
-        again : (id : PageId) → HasPage (geometry_of old) id → HasNoPage (w.left (page_number (geometry_of old) id)) id later → HasNoPage (s.left (page_number (geometry_of old) id)) id between
-        again = subst (λ (g : Geometry). (id : PageId) → HasPage g id → HasNoPage (w.left (page_number g id)) id later → HasNoPage (s.left (page_number g id)) id between) same w.bad
+        again : (id : PageId) → HasPage (geometry_of old) id → HasNoPage (geometry_of old).version (w.left (page_number (geometry_of old) id)) id later → HasNoPage (geometry_of old).version (s.left (page_number (geometry_of old) id)) id between
+        again = subst (λ (g : Geometry). (id : PageId) → HasPage g id → HasNoPage g.version (w.left (page_number g id)) id later → HasNoPage g.version (s.left (page_number g id)) id between) same w.bad
 
     -- .. on the heap as it is then
     pub held_changed : (new : Heap V H) (after : List LogRecord) (later : ℕ) → between ≤ later → IsHeld front first s.left new after later → StaysHeld front first disk old new last after later
-    held_changed new after later more held = record { left = s.left; held = held; bad = λ id there none. s.bad id there (no_page_down (s.left _) id between later more none) }
+    held_changed new after later more held = record { left = s.left; held = held; bad = λ id there none. s.bad id there (no_page_down (geometry_of old).version (s.left _) id between later more none) }
 
     pub held_behind : {A : Type 0} {may_read : PageId → Type 0} (r : Result A RestartError) (new : Heap V H) (after : List LogRecord) (later : ℕ) → geometry_of mid ≡ geometry_of old
         → WorksHeld r may_read front first s.left mid new between after later → WorksHeld r may_read front first disk old new last after later
@@ -185,9 +186,9 @@ module _ {V : Type 0} {H : Ghosts V} where
       → WroteBack old new durable front disk → FramesWere unclaimed old new page last → geometry_of new ≡ geometry_of old → StaysHeld front first disk old new last done last
   fetch_leaves front first disk old new done page last durable held low (left, holds, stay) were same = record {
     left = left;
-    held = record { holds = holds; low = low_now; settled = settled_now; made = subst (λ (g : Geometry). (p : PageId) (page : ReadPage) → HasPage g p → IsPage (frame_at new (page_number g p)) (left (page_number g p)) p page.number page.images → IsMadeOf (first (page_number g p)) done p page) (sym same) made_now };
+    held = record { holds = holds; low = low_now; settled = settled_now; made = subst (λ (g : Geometry). (p : PageId) (page : ReadPage) → HasPage g p → IsPage g.version (frame_at new (page_number g p)) (left (page_number g p)) p page.number page.images → IsMadeOf g.version (first (page_number g p)) done p page) (sym same) made_now };
     bad = λ id there none. elim (stay.may id there) [
-      | inl same ↦ subst (λ (text : List ℕ). HasNoPage text id last) same none
+      | inl same ↦ subst (λ (text : List ℕ). HasNoPage (geometry_of old).version text id last) same none
       | inr (number, images, at, seen_too, text) ↦ let above = none number images text in absurd (omega (arith, above, seen_too, low))
     ];
   }
@@ -206,7 +207,7 @@ module _ {V : Type 0} {H : Ghosts V} where
         | inr (here, none, fresh) ↦ fresh.slots
       ]
 
-      made_now : (p : PageId) (page : ReadPage) → HasPage (geometry_of old) p → IsPage (frame_at new (page_number (geometry_of old) p)) (left (page_number (geometry_of old) p)) p page.number page.images → IsMadeOf (first (page_number (geometry_of old) p)) done p page
+      made_now : (p : PageId) (page : ReadPage) → HasPage (geometry_of old) p → IsPage (geometry_of old).version (frame_at new (page_number (geometry_of old) p)) (left (page_number (geometry_of old) p)) p page.number page.images → IsMadeOf (geometry_of old).version (first (page_number (geometry_of old) p)) done p page
       made_now p page there is = held.made p page there ((stay.same (page_number (geometry_of old) p) p page.number page.images).1 is)
 
   pub low_names : (disk : ℕ → List ℕ) (heap : Heap V H) (page : PageId) (ends : LogEnds) (f h : Fault) (error : RestartError) → HasPage (geometry_of heap) page → IsLow ends.last (frame_at heap)
@@ -276,18 +277,18 @@ module _ {V : Type 0} {H : Ghosts V} where
   read_frame heap disk p f there is =
       let its = heap.pool.in_order (page_number (geometry_of heap) p) f is in
       let one : f.page.id ≡ p = one_page (geometry_of heap) f.page.id p its.0 there its.1 in
-      subst (λ (o : Option Frame). IsPage o (disk (page_number (geometry_of heap) p)) p f.page.number (images_of f.page.slots)) (sym is) (one, refl, refl)
+      subst (λ (o : Option Frame). IsPage (geometry_of heap).version o (disk (page_number (geometry_of heap) p)) p f.page.number (images_of f.page.slots)) (sym is) (one, refl, refl)
 
   -- no other is in place
   pub frame_read : (heap : Heap V H) (disk : ℕ → List ℕ) (p : PageId) (f : Frame) (page : ReadPage) → frame_of heap p ≡ Some f → HasRead heap disk p page
       → (f.page.number ≡ page.number) × (images_of f.page.slots ≡ page.images)
   frame_read heap disk p f page is has =
-      let it : IsPage (Some f) (disk (page_number (geometry_of heap) p)) p page.number page.images = subst (λ (o : Option Frame). IsPage o (disk (page_number (geometry_of heap) p)) p page.number page.images) is has in
+      let it : IsPage (geometry_of heap).version (Some f) (disk (page_number (geometry_of heap) p)) p page.number page.images = subst (λ (o : Option Frame). IsPage (geometry_of heap).version o (disk (page_number (geometry_of heap) p)) p page.number page.images) is has in
       (it.1, it.2)
 
   -- a record finds no room there
   pub finds_none : (front : List ℕ) (first disk : ℕ → List ℕ) (heap : Heap V H) (done : List LogRecord) (last n : ℕ) (payload : Payload) (id : Rid) (image : Image) (f : Frame) → IsHeld front first disk heap done last
-      → HasPage (geometry_of heap) id.page → frame_of heap id.page ≡ Some f → image_in payload ≡ Some (id, image) → f.page.number < n → (Fits f.page.slots id.slot (image_len image) → ⊥)
+      → HasPage (geometry_of heap) id.page → frame_of heap id.page ≡ Some f → image_in payload ≡ Some (id, image) → f.page.number < n → (Fits (geometry_of heap).version f.page.slots id.slot (image_len image) → ⊥)
       → FindsNoRoom (geometry_of heap) first done n payload
   finds_none front first disk heap done last n payload id image f held there is says lacks wont = record {
     id = id;
@@ -296,51 +297,51 @@ module _ {V : Type 0} {H : Ghosts V} where
     page = record { number = f.page.number; images = images_of f.page.slots };
     made = held.made id.page _ there (read_frame heap disk id.page f there is);
     lacks = lacks;
-    no_room = λ fits. wont (subst (λ (l : List Slot). Fits l id.slot (image_len image)) (sym (held.settled (page_number (geometry_of heap) id.page) f is)) fits);
+    no_room = λ fits. wont (subst (λ (l : List Slot). Fits (geometry_of heap).version l id.slot (image_len image)) (sym (held.settled (page_number (geometry_of heap) id.page) f is)) fits);
   }
 
   -- .. and it is the page of that text
   pub finds_some : (front : List ℕ) (first disk : ℕ → List ℕ) (heap : Heap V H) (done : List LogRecord) (last n : ℕ) (payload : Payload) (id : Rid) (image : Image) (f : Frame) → IsHeld front first disk heap done last
-      → HasPage (geometry_of heap) id.page → frame_of heap id.page ≡ Some f → image_in payload ≡ Some (id, image) → (f.page.number < n → Fits f.page.slots id.slot (image_len image))
+      → HasPage (geometry_of heap) id.page → frame_of heap id.page ≡ Some f → image_in payload ≡ Some (id, image) → (f.page.number < n → Fits (geometry_of heap).version f.page.slots id.slot (image_len image))
       → FindsNoRoom (geometry_of heap) first done n payload → ⊥
   finds_some front first disk heap done last n payload id image f held there is says fits x = by_id x.id x.image x.changes x.made x.no_room
     where
-      here : IsMadeOf (first (page_number (geometry_of heap) id.page)) done id.page (record { number = f.page.number; images = images_of f.page.slots })
+      here : IsMadeOf (geometry_of heap).version (first (page_number (geometry_of heap) id.page)) done id.page (record { number = f.page.number; images = images_of f.page.slots })
       here = held.made id.page _ there (read_frame heap disk id.page f there is)
 
-      by_id : (other : Rid) (its : Image) → image_in payload ≡ Some (other, its) → IsMadeOf (first (page_number (geometry_of heap) other.page)) done other.page x.page
-          → (Fits (map settled x.page.images) other.slot (image_len its) → ⊥) → ⊥
+      by_id : (other : Rid) (its : Image) → image_in payload ≡ Some (other, its) → IsMadeOf (geometry_of heap).version (first (page_number (geometry_of heap) other.page)) done other.page x.page
+          → (Fits (geometry_of heap).version (map settled x.page.images) other.slot (image_len its) → ⊥) → ⊥
       by_id other its changes made wont =
           let same : ◌≡◌ {A = Option (Rid × Image)} (Some (id, image)) (Some (other, its)) = sym says ∙ changes in
           let one : ◌≡◌ {A = Rid × Image} (id, image) (other, its) = cc in
           let id_is : id ≡ other = ap (λ (e : Rid × Image). e.0) one in
           let image_is : image ≡ its = ap (λ (e : Rid × Image). e.1) one in
-          let there_made = subst (λ (q : Rid). IsMadeOf (first (page_number (geometry_of heap) q.page)) done q.page x.page) (sym id_is) made in
-          let texts = one_text (first (page_number (geometry_of heap) id.page)) id.page id.page there_made.was.number here.was.number there_made.was.images here.was.images there_made.read here.read in
+          let there_made = subst (λ (q : Rid). IsMadeOf (geometry_of heap).version (first (page_number (geometry_of heap) q.page)) done q.page x.page) (sym id_is) made in
+          let texts = one_text (geometry_of heap).version (first (page_number (geometry_of heap) id.page)) id.page id.page there_made.was.number here.was.number there_made.was.images here.was.images there_made.read here.read in
           let was : there_made.was ≡ here.was = one_read there_made.was here.was texts.1 texts.2 in
           let page : x.page ≡ record { number = f.page.number; images = images_of f.page.slots } = one_redone (redone_by done id.page) there_made.was here.was x.page (record { number = f.page.number; images = images_of f.page.slots }) there_made.redone was here.redone in
           let low : f.page.number < n = subst (λ (m : ℕ). m < n) (ap (λ (y : ReadPage). y.number) page) x.lacks in
           let slots : f.page.slots ≡ map settled x.page.images = held.settled (page_number (geometry_of heap) id.page) f is ∙ sym (ap (λ (y : ReadPage). map settled y.images) page) in
-          let room : Fits (map settled x.page.images) id.slot (image_len image) = subst (λ (l : List Slot). Fits l id.slot (image_len image)) slots (fits low) in
-          wont (subst (λ (q : Rid). Fits (map settled x.page.images) q.slot (image_len its)) id_is (subst (λ (i : Image). Fits (map settled x.page.images) id.slot (image_len i)) image_is room))
+          let room : Fits (geometry_of heap).version (map settled x.page.images) id.slot (image_len image) = subst (λ (l : List Slot). Fits (geometry_of heap).version l id.slot (image_len image)) slots (fits low) in
+          wont (subst (λ (q : Rid). Fits (geometry_of heap).version (map settled x.page.images) q.slot (image_len its)) id_is (subst (λ (i : Image). Fits (geometry_of heap).version (map settled x.page.images) id.slot (image_len i)) image_is room))
 
   -- .. by what a call says of the frame
   pub finds_none_there : (front : List ℕ) (first disk : ℕ → List ℕ) (heap : Heap V H) (done : List LogRecord) (last n : ℕ) (payload : Payload) (id : Rid) (image : Image) → IsHeld front first disk heap done last
       → HasPage (geometry_of heap) id.page → image_in payload ≡ Some (id, image) → IsSomeAnd (frame_of heap id.page) (λ f. f.page.number < n)
-      → (IsSomeAnd (frame_of heap id.page) (λ f. Fits f.page.slots id.slot (image_len image)) → ⊥) → FindsNoRoom (geometry_of heap) first done n payload
+      → (IsSomeAnd (frame_of heap id.page) (λ f. Fits (geometry_of heap).version f.page.slots id.slot (image_len image)) → ⊥) → FindsNoRoom (geometry_of heap) first done n payload
   finds_none_there front first disk heap done last n payload id image held there says lacks wont = each (frame_of heap id.page) refl lacks wont
     where
-      each : (o : Option Frame) → frame_of heap id.page ≡ o → IsSomeAnd o (λ f. f.page.number < n) → (IsSomeAnd o (λ f. Fits f.page.slots id.slot (image_len image)) → ⊥)
+      each : (o : Option Frame) → frame_of heap id.page ≡ o → IsSomeAnd o (λ f. f.page.number < n) → (IsSomeAnd o (λ f. Fits (geometry_of heap).version f.page.slots id.slot (image_len image)) → ⊥)
           → FindsNoRoom (geometry_of heap) first done n payload
       each None is lacks wont = absurd lacks
       each (Some f) is lacks wont = finds_none front first disk heap done last n payload id image f held there is says lacks wont
 
   pub finds_some_there : (front : List ℕ) (first disk : ℕ → List ℕ) (heap : Heap V H) (done : List LogRecord) (last n : ℕ) (payload : Payload) (id : Rid) (image : Image) → IsHeld front first disk heap done last
-      → HasPage (geometry_of heap) id.page → image_in payload ≡ Some (id, image) → IsSomeAnd (frame_of heap id.page) (λ f. f.page.number < n → Fits f.page.slots id.slot (image_len image))
+      → HasPage (geometry_of heap) id.page → image_in payload ≡ Some (id, image) → IsSomeAnd (frame_of heap id.page) (λ f. f.page.number < n → Fits (geometry_of heap).version f.page.slots id.slot (image_len image))
       → FindsNoRoom (geometry_of heap) first done n payload → ⊥
   finds_some_there front first disk heap done last n payload id image held there says fits x = each (frame_of heap id.page) refl fits
     where
-      each : (o : Option Frame) → frame_of heap id.page ≡ o → IsSomeAnd o (λ f. f.page.number < n → Fits f.page.slots id.slot (image_len image)) → ⊥
+      each : (o : Option Frame) → frame_of heap id.page ≡ o → IsSomeAnd o (λ f. f.page.number < n → Fits (geometry_of heap).version f.page.slots id.slot (image_len image)) → ⊥
       each None is fits = fits
       each (Some f) is fits = finds_some front first disk heap done last n payload id image f held there is says fits x
 
@@ -399,11 +400,11 @@ module _ {V : Type 0} {H : Ghosts V} where
     new_other j apart = released.1 j (λ one. apart (one ∙ same_k)) ∙ made.1 j apart
 
     abbrev IsMadeIn : Geometry → Type 0
-    IsMadeIn g = (p : PageId) (page : ReadPage) → HasPage g p → IsPage (frame_at new (page_number g p)) (disk (page_number g p)) p page.number page.images
-        → IsMadeOf (first (page_number g p)) (done ++ r ∷ []) p page
+    IsMadeIn g = (p : PageId) (page : ReadPage) → HasPage g p → IsPage g.version (frame_at new (page_number g p)) (disk (page_number g p)) p page.number page.images
+        → IsMadeOf g.version (first (page_number g p)) (done ++ r ∷ []) p page
 
     here_made : (o : Option Frame) → frame_at old k ≡ o → IsSomeAnd o (λ f. f.page.number < number) → (page : ReadPage)
-        → IsPage (option_map (reclaimed (lowered 0) id.slot) (option_map (changed number id.slot image) o)) (disk k) id.page page.number page.images → IsMadeOf (first k) (done ++ r ∷ []) id.page page
+        → IsPage (geometry_of old).version (option_map (reclaimed (lowered 0) id.slot) (option_map (changed number id.slot image) o)) (disk k) id.page page.number page.images → IsMadeOf (geometry_of old).version (first k) (done ++ r ∷ []) id.page page
     here_made None is low page has = absurd low
     here_made (Some f) is low page has =
         let before = held.made id.page _ there (read_frame old disk id.page f there is) in
@@ -412,16 +413,16 @@ module _ {V : Type 0} {H : Ghosts V} where
         let images = sym (images_put f.page.slots id.slot image) ∙ has.2 in
         let now : record { number = length done + 1; images = with_image_at (images_of f.page.slots) id.slot image } ≡ page =
         ap (λ (n : ℕ). record { number = n; images = with_image_at (images_of f.page.slots) id.slot image }) (sym is_next ∙ has.1) ∙ ap (λ (l : List Image). record { number = page.number; images = l }) images in
-        made_more (first k) done r id.page was page before (due ∙ now)
+        made_more (geometry_of old).version (first k) done r id.page was page before (due ∙ now)
 
     made_now : IsMadeIn (geometry_of old)
     made_now p page has is = elim (cases_page p id.page) [
-      | inl same ↦ subst (λ (q : PageId). IsMadeOf (first (page_number g q)) (done ++ r ∷ []) q page) (sym same)
-          (here_made (frame_at old k) refl below page (subst (λ (o : Option Frame). IsPage o (disk k) id.page page.number page.images) new_here
-          (subst (λ (q : PageId). IsPage (frame_at new (page_number g q)) (disk (page_number g q)) q page.number page.images) same is)))
+      | inl same ↦ subst (λ (q : PageId). IsMadeOf (geometry_of old).version (first (page_number g q)) (done ++ r ∷ []) q page) (sym same)
+          (here_made (frame_at old k) refl below page (subst (λ (o : Option Frame). IsPage (geometry_of old).version o (disk k) id.page page.number page.images) new_here
+          (subst (λ (q : PageId). IsPage (geometry_of old).version (frame_at new (page_number g q)) (disk (page_number g q)) q page.number page.images) same is)))
       | inr apart ↦
           let other = new_other (page_number g p) (λ one. apart (one_page g p id.page has there one)) in
-          made_more (first (page_number g p)) done r p page page (held.made p page has (subst (λ (o : Option Frame). IsPage o (disk (page_number g p)) p page.number page.images) other is))
+          made_more (geometry_of old).version (first (page_number g p)) done r p page page (held.made p page has (subst (λ (o : Option Frame). IsPage (geometry_of old).version o (disk (page_number g p)) p page.number page.images) other is))
           (of_other (length done + 1) (image_in r.payload) id image p page says apart)
     ]
 

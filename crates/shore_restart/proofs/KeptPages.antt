@@ -49,15 +49,15 @@ module _ {V : Type 0} {H : Ghosts V} (K : ClaimsOfPages) (front : List ℕ) (dis
       each None is =
           let page = stands.store.in_place p has in
           let k = page_number (geometry_of heap) p in
-          let here : IsPage None (disk k) p (s.in_place p).number page.images = subst (λ (o : Option Frame). IsPage o (disk k) p (s.in_place p).number page.images) is page.here in
-          let slots : HasSlots None (disk k) p (K p) (claimed_by (K p) (stands.slots p)) = subst (λ (o : Option Frame). HasSlots o (disk k) p (K p) (claimed_by (K p) (stands.slots p))) is (stands.shows.pages p has) in
+          let here : IsPage (geometry_of heap).version None (disk k) p (s.in_place p).number page.images = subst (λ (o : Option Frame). IsPage (geometry_of heap).version o (disk k) p (s.in_place p).number page.images) is page.here in
+          let slots : HasSlots (geometry_of heap).version None (disk k) p (K p) (claimed_by (K p) (stands.slots p)) = subst (λ (o : Option Frame). HasSlots (geometry_of heap).version o (disk k) p (K p) (claimed_by (K p) (stands.slots p))) is (stands.shows.pages p has) in
           by_images page.images
-          (sym images_same ∙ ap images_of slots.3 ∙ images_claimed (K p) slots.1 ∙ (one_in_place None (disk k) p slots.0 (s.in_place p).number slots.1 page.images slots.2 here).1) page.has
+          (sym images_same ∙ ap images_of slots.3 ∙ images_claimed (K p) slots.1 ∙ (one_in_place (geometry_of heap).version None (disk k) p slots.0 (s.in_place p).number slots.1 page.images slots.2 here).1) page.has
       each (Some f) is =
           let page = stands.store.in_place p has in
           let k = page_number (geometry_of heap) p in
-          let here : IsPage (Some f) (disk k) p (s.in_place p).number page.images = subst (λ (o : Option Frame). IsPage o (disk k) p (s.in_place p).number page.images) is page.here in
-          let slots : f.page.slots ≡ claimed_by (K p) (stands.slots p) = subst (λ (o : Option Frame). HasSlots o (disk k) p (K p) (claimed_by (K p) (stands.slots p))) is (stands.shows.pages p has) in
+          let here : IsPage (geometry_of heap).version (Some f) (disk k) p (s.in_place p).number page.images = subst (λ (o : Option Frame). IsPage (geometry_of heap).version o (disk k) p (s.in_place p).number page.images) is page.here in
+          let slots : f.page.slots ≡ claimed_by (K p) (stands.slots p) = subst (λ (o : Option Frame). HasSlots (geometry_of heap).version o (disk k) p (K p) (claimed_by (K p) (stands.slots p))) is (stands.shows.pages p has) in
           by_images page.images (sym images_same ∙ ap images_of (sym slots) ∙ here.2) page.has
 
   -- with all records done
@@ -77,6 +77,6 @@ module _ {V : Type 0} {H : Ghosts V} (txns : Transactions) (front : List ℕ) (d
   shows_opened told redone lawful quiet =
       shows_same heap (kept_in txns) front disk (λ p. claimed_by (kept_in txns p) (stands.slots p)) (λ p. slots_of (records_told s.log) (session_txns (txns_in txns)) p (slot_count s.log p))
       (λ p has.
-      sym (claimed_slots (records_told s.log) (txns_in txns) p (slot_count s.log p) (entries_on s.log txns told p))
+      sym (claimed_slots (records_told s.log) (txns_in txns) p (slot_count s.log p) (entries_on (geometry_of heap).version s.log txns told p))
       ∙ ap (claimed_by (kept_in txns p)) (told_slots s.log lawful quiet p ∙ sym (left_with (kept_in txns) front disk heap s stands redone p has)))
       stands.shows

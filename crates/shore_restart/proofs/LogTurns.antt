@@ -7,6 +7,7 @@ use Rattle.std.specs.Prelude.{◌==◌, ◌||◌, All, IfNone, IfSome, IsSome}
 use Rattle.shore_types.specs.Layout.{HasSlot}
 use Rattle.shore_types.specs.declared.ids.Rid.{Rid}
 use Rattle.shore_types.specs.declared.layout.Geometry.{Geometry}
+use Rattle.shore_types.specs.declared.versions.Version.{Version}
 use Rattle.shore_model.specs.declared.log_records.LogRecord.{LogRecord}
 use Rattle.shore_model.specs.Logs.{id_in, last_of, unanswered, undo_next_of}
 use Rattle.shore_logrec.specs.Text.{Fits}
@@ -137,14 +138,14 @@ module _ (g : Geometry) (cut : ℕ) (kept : List LogRecord) (stream_bytes : ℕ)
 
 -- ---- by a log of which this is a turn
 
-module _ (log : List LogRecord) (r : LogRecord) (turn : IsTurn log r) where
+module _ (v : Version) (log : List LogRecord) (r : LogRecord) (turn : IsTurn log r) where
   -- what it says
   pub turn_says : r.payload ≡ undo_payload (unanswered r.txn log)
   turn_says = ap (λ (x : LogRecord). x.payload) turn.is
 
   -- what it brings back does not fit
-  pub turn_cannot : (n : ℕ) → n ≡ undo_next_of (unanswered r.txn log) → (FitsBehind log r.payload → ⊥) → CannotUndo log n
-  turn_cannot n names none = (r.txn, turn.loser, turn.next, names, λ fits. none (subst (λ (x : LogRecord). FitsBehind log x.payload) (sym turn.is) fits))
+  pub turn_cannot : (n : ℕ) → n ≡ undo_next_of (unanswered r.txn log) → (FitsBehind v log r.payload → ⊥) → CannotUndo v log n
+  turn_cannot n names none = (r.txn, turn.loser, turn.next, names, λ fits. none (subst (λ (x : LogRecord). FitsBehind v log x.payload) (sym turn.is) fits))
 
 -- a list goes on by a record, or not at all
 pub gone_more : (mine log later : List LogRecord) (r : LogRecord) → later ≡ log ++ r ∷ [] → gone_on mine log later ≡ mine ++ r ∷ []

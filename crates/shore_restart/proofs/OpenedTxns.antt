@@ -154,11 +154,12 @@ requests_below rs n nobody of_use below = All-In (λ (r : Request). r.txn < n) r
 
 -- ---- the state
 
-module _ (cut : ℕ) (ready : RecoveryState) (control : Control) (ring_bytes : ℕ) where
+module _ (cut : ℕ) (ready : RecoveryState) (control : Control) (ring_bytes slots : ℕ) where
   -- what is cut off takes no room of the log stream
   abbrev pub opened_state : State
   opened_state = record {
     sessions = record {
+      slots = slots;
       records = records_told ready.log;
       active = undos_in (txns_in control);
       held = held_by_all (locks_in control).requests;

@@ -3,6 +3,7 @@ use Rattle.std.proofs.Common.{◌≡◌, ◌+◌, ◌≤◌, ℕ, List, Option, 
 use Rattle.shore_disk.specs.declared.device.Disk as disk
 use Rattle.shore_types.specs.declared.layout.Geometry.{Geometry}
 use Rattle.shore_types.specs.declared.layout.TheConstants.{LAST_OPENED}
+use Rattle.shore_types.specs.Versions.{slot_limit}
 use Rattle.shore_model.specs.declared.histories.Opening.{Opening}
 use Rattle.shore_model.specs.declared.log_records.LogRecord.{LogRecord}
 use Rattle.shore_model.specs.declared.log_records.LogTxn.{LogTxn}
@@ -54,18 +55,19 @@ use Rattle.shore_restart.proofs.WholeDoubts.{doubts_found, found_below, locks_st
 
 -- ---- the state
 
-module _ (cut : ℕ) (ready : RecoveryState) (control : Control) (ring_bytes : ℕ) (g : Geometry) (kept found : List LogRecord) (ends : EndsBehind cut found) (same : drop cut found ≡ kept) (meant : AreMeantKept g cut kept)
+module _ (cut : ℕ) (ready : RecoveryState) (control : Control) (ring_bytes slots : ℕ) (g : Geometry) (kept found : List LogRecord) (ends : EndsBehind cut found) (same : drop cut found ≡ kept) (meant : AreMeantKept g cut kept)
     (turns : List ℕ) (undone : IsUndoneTo found turns ready.log) (limit : ℕ) (back : HasDoubtsBack limit (padded cut kept) control) (checkpoint : ℕ)
     (next : IsNextKept kept (end_among checkpoint kept) (next_in (txns_in control))) (behind : cut ≤ redo_behind (end_among checkpoint found)) (is : end_among checkpoint found ≡ end_among checkpoint kept) where
   abbrev seen : List LogRecord
   seen = padded cut kept
 
-  opened_over : IsRecoverable ready → ready.redone ≡ length ready.log → Lawful found → HasNoLosers ready.log → (txns : List LogTxn) → IsKeptTable cut kept txns → (o : Opening) → IsOpeningOf found o
-      → IsOpenedOver o ready (opened_state cut ready control ring_bytes)
-  opened_over recoverable redone lawful quiet txns entries o opening =
+  opened_over : IsRecoverable ready → ready.redone ≡ length ready.log → Lawful found → HasNoLosers ready.log → (txns : List LogTxn) → IsKeptTable cut kept txns → (o : Opening) → IsOpeningOf found o → o.slots ≡ slots
+      → IsOpenedOver o ready (opened_state cut ready control ring_bytes slots)
+  opened_over recoverable redone lawful quiet txns entries o opening sized =
       let below = found_below cut checkpoint (next_in (txns_in control)) found lawful kept same is behind next in
       record {
         sessions = record {
+          slots = sym sized;
           records = λ id. sym (redone_whole ready recoverable redone id.page id.slot ∙ leaves_told ready.log (undone_lawful found turns ready.log undone lawful) quiet id);
           seats = λ n. refl;
           resolving = refl;
@@ -76,10 +78,10 @@ module _ (cut : ℕ) (ready : RecoveryState) (control : Control) (ring_bytes : �
               subst (λ (a : SessionTxn). a.undo ≡ undo_in ready.log a.txn) of.2 (sym (undo_still g cut kept found ends same meant turns ready.log undone of.0 of.1));
           locks = locks_still g cut kept found ends same meant turns ready.log undone lawful _ back.locks.restored;
           some = next.some;
-          below = opened_above cut ready control ring_bytes g kept found ends same meant turns undone limit back next.some next.above below;
+          below = opened_above cut ready control ring_bytes slots g kept found ends same meant turns undone limit back next.some next.above below;
         };
         stored = record { log = refl; durable = refl };
-        locks = opened_locks cut ready control ring_bytes g kept found ends same meant turns undone limit back next.some next.above below;
+        locks = opened_locks cut ready control ring_bytes slots g kept found ends same meant turns undone limit back next.some next.above below;
         waiting = refl;
         running = refl;
         few = let few = few_doubts g cut kept meant txns entries in let many = as_many_undos seen (txns_in control) back.txns in omega (arith, few, many);
@@ -98,9 +100,9 @@ module _ {T V : Type 0} {G : tail.Ghosts T} {H : disk.Ghosts V} (core : Core T V
       → IsNextKept kept (end_among checkpoint kept) (next_in (txns_in control)) → cut ≤ redo_behind (end_among checkpoint found) → end_among checkpoint found ≡ end_among checkpoint kept
       → IsRoomBehind cut (drop cut ready.store.log) ring_bytes (room_in (txns_in control)) → (txns : List LogTxn) → IsKeptTable cut kept txns
       → ((s : State) → s.log ≡ ready.store.log → s.durable ≡ ready.store.durable → s.failed ≡ false → HasControl control s → Shows (kept_in (txns_in control)) heap front left (page_slots s) → IsIn front left s.log core s)
-      → ((s : State) (store : CheckpointedStore) → IsKept s store → IsHeapOf heap left store → IsOver left core s store) → OpensIn cut checkpoint core front left found ring_bytes ready
+      → ((s : State) (store : CheckpointedStore) → IsKept s store → IsHeapOf heap left store → IsOver left core s store) → OpensIn g.version cut checkpoint core front left found ring_bytes ready
   opens_in g meant ends same lawful so_far quiet redone stands recoveries limit back next behind is room txns entries in_state over_store =
-      let s = opened_state cut ready.store control ring_bytes in
+      let s = opened_state cut ready.store control ring_bytes (slot_limit g.version) in
       let turns = so_far.0 in
       let undone : IsUndoneTo found turns ready.store.log = in_order_undone found turns ready.store.log so_far.1 in
       let still_lawful = undone_lawful found turns ready.store.log undone lawful in
@@ -108,12 +110,13 @@ module _ {T V : Type 0} {G : tail.Ghosts T} {H : disk.Ghosts V} (core : Core T V
       let told = told_still g cut kept found ends same meant turns ready.store.log undone lawful (txns_in control) (are_told (padded cut kept) (txns_in control) back.txns) in
       record {
         first = s;
-        opened = opened_over cut ready.store control ring_bytes g kept found ends same meant turns undone limit back checkpoint next behind is stands.recoverable redone lawful quiet txns entries;
+        slots = refl;
+        opened = opened_over cut ready.store control ring_bytes (slot_limit g.version) g kept found ends same meant turns undone limit back checkpoint next behind is stands.recoverable redone lawful quiet txns entries;
         counts = λ p. refl;
         stream = refl;
         next = subst (λ (o : Option Checkpoint). IsNextKept (drop cut found) o (next_in (txns_in control))) (sym is)
             (subst (λ (rs : List LogRecord). IsNextKept rs (end_among checkpoint kept) (next_in (txns_in control))) (sym same) next);
-        is_in = in_state s refl refl refl (opened_control cut ready.store control ring_bytes g kept found ends same meant turns undone limit back next.some next.above below room)
+        is_in = in_state s refl refl refl (opened_control cut ready.store control ring_bytes (slot_limit g.version) g kept found ends same meant turns undone limit back next.some next.above below room)
             (shows_opened (txns_in control) front left heap ready.store stands told redone still_lawful quiet);
         over = over_store s ready (record { stored = record { log = refl; durable = refl }; redone = redone; recoverable = stands.recoverable }) (record { pages = stands.store; recoveries = recoveries });
       }

@@ -60,7 +60,7 @@ module _ {V : Type 0} {H : Ghosts V} where
       same : f ≡ fault.Damaged device.Volume offset
       same = (page_is f (fault.Damaged device.Volume offset) error of is).0
 
-      by_kind : RefusesPage heap disk page ends f → (id : PageId) × HasPage (geometry_of heap) id × (offset ≡ page_offset (page_number (geometry_of heap) id)) × HasNoPage (disk (page_number (geometry_of heap) id)) id ends.last
+      by_kind : RefusesPage heap disk page ends f → (id : PageId) × HasPage (geometry_of heap) id × (offset ≡ page_offset (geometry_of heap).version (page_number (geometry_of heap) id)) × HasNoPage (geometry_of heap).version (disk (page_number (geometry_of heap) id)) id ends.last
       by_kind (inl dev) = let clash = sym same ∙ dev in absurd cc
       by_kind (inr (inl memory)) = let clash = sym same ∙ memory in absurd cc
       by_kind (inr (inr (inl damaged))) = let one = sym same ∙ damaged.0 in (page, there, cc, damaged.1)

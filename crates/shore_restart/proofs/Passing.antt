@@ -10,6 +10,7 @@ use Rattle.shore_types.specs.declared.faults.Fault.{Fault}
 use Rattle.shore_types.specs.declared.ids.PageId.{PageId}
 use Rattle.shore_types.specs.declared.ids.Rid.{Rid}
 use Rattle.shore_types.specs.declared.layout.Geometry.{Geometry}
+use Rattle.shore_types.specs.declared.versions.Version.{Version}
 use Rattle.shore_model.specs.declared.log_records.LogRecord.{LogRecord}
 use Rattle.shore_model.specs.Logs.{id_in}
 use Rattle.laws_checkpoints.specs.Checkpoints.{end_among}
@@ -113,8 +114,8 @@ module _ {V : Type 0} {H : Ghosts V} (front : List ℕ) (disk : ℕ → List ℕ
   bare_left p has = shows_only heap disk s stands.store stands.settled front stands.slots stands.shows p has ∙ slots_done s p stands.recoverable (stands.store.done p) redone
 
   -- What finds no room there is an image that one in doubt may put back. What is kept of the store's log tells of them, behind the same turns.
-  pub misfit_behind : (found seen : List LogRecord) (g : Geometry) (cut : ℕ) (kept : List LogRecord) (txns : Transactions) (n : ℕ) → IsUndoneSoFar found s.log → TurnsFit found s.log → HasNoLosers s.log
-      → EndsBehind cut s.log → drop cut s.log ≡ kept → AreMeantKept g cut kept → IsUndoneSoFar seen (padded cut kept) → HasDoubts seen txns → geometry_of heap ≡ g → CannotKeep txns stands.slots n → IsMisfit found n
+  pub misfit_behind : (found seen : List LogRecord) (g : Geometry) (cut : ℕ) (kept : List LogRecord) (txns : Transactions) (n : ℕ) → IsUndoneSoFar found s.log → TurnsFit (geometry_of heap).version found s.log → HasNoLosers s.log
+      → EndsBehind cut s.log → drop cut s.log ≡ kept → AreMeantKept g cut kept → IsUndoneSoFar seen (padded cut kept) → HasDoubts seen txns → geometry_of heap ≡ g → CannotKeep (geometry_of heap).version txns stands.slots n → IsMisfit (geometry_of heap).version found n
   misfit_behind found seen g cut kept txns n undone fit none ends same meant turns back geometry finds =
       let told = still_told seen turns.0 (padded cut kept) txns (in_order_undone seen turns.0 (padded cut kept) turns.1) (are_told seen txns back) in
       let whole : changes_in_doubt s.log ≡ changes_in_doubt (padded cut kept) =
@@ -125,13 +126,13 @@ module _ {V : Type 0} {H : Ghosts V} (front : List ℕ) (disk : ℕ → List ℕ
         fit,
         inr (
           none,
-          unkept s.log txns (whole ∙ told) (geometry_of heap) stands.slots
-              (λ e among. subst (λ (g : Geometry). HasPage g e.id.page) (sym geometry) (entry_there (padded cut kept) txns told g (in_seen g cut kept meant) e among)) bare_left n finds,
+          unkept (geometry_of heap).version s.log txns (whole ∙ told) (geometry_of heap) stands.slots
+              (λ e among. subst (λ (g : Geometry). HasPage g e.id.page) (sym geometry) (entry_there (geometry_of heap).version (padded cut kept) txns told g (in_seen g cut kept meant) e among)) bare_left n finds,
         ),
       )
 
-pub misfit_turn : (found : List LogRecord) (n : ℕ) → (so_far : List LogRecord) × IsUndoneSoFar found so_far × TurnsFit found so_far × CannotUndo so_far n → IsMisfit found n
-misfit_turn found n cannot = inr (cannot.0, cannot.1, cannot.2, inl cannot.3)
+pub misfit_turn : (v : Version) (found : List LogRecord) (n : ℕ) → (so_far : List LogRecord) × IsUndoneSoFar found so_far × TurnsFit v found so_far × CannotUndo v so_far n → IsMisfit v found n
+misfit_turn v found n cannot = inr (cannot.0, cannot.1, cannot.2, inl cannot.3)
 
 -- ---- before a device is called
 

@@ -44,21 +44,21 @@ module _ {V : Type 0} {H : Ghosts V} where
   same_geometry old new device = ap (λ (d : PageDev V H). settled_device.geometry_of d) device
 
   -- the slot of the change is there
-  pub slot_there : (old mid : Heap V H) (number : ℕ) (id : Rid) (image : Image) (bytes : ℕ) → device_of mid ≡ device_of old → IsSomeAnd (frame_of old id.page) (λ f. Fits f.page.slots id.slot bytes)
+  pub slot_there : (old mid : Heap V H) (number : ℕ) (id : Rid) (image : Image) (bytes : ℕ) → device_of mid ≡ device_of old → IsSomeAnd (frame_of old id.page) (λ f. Fits (geometry_of old).version f.page.slots id.slot bytes)
       → frame_at mid (page_number (geometry_of old) id.page) ≡ option_map (changed number id.slot image) (frame_of old id.page) → IsSomeAnd (frame_of mid id.page) (λ f. id.slot < length f.page.slots)
   slot_there old mid number id image bytes device fits made =
       let mid_is : frame_of mid id.page ≡ option_map (changed number id.slot image) (frame_of old id.page) = ap (λ (g : Geometry). frame_at mid (page_number g id.page)) (same_geometry old mid device) ∙ made in
       subst (λ (o : Option Frame). IsSomeAnd o (λ f. id.slot < length f.page.slots)) (sym mid_is) (there (frame_of old id.page) fits)
     where
-      there : (o : Option Frame) → IsSomeAnd o (λ f. Fits f.page.slots id.slot bytes) → IsSomeAnd (option_map (changed number id.slot image) o) (λ f. id.slot < length f.page.slots)
+      there : (o : Option Frame) → IsSomeAnd o (λ f. Fits (geometry_of old).version f.page.slots id.slot bytes) → IsSomeAnd (option_map (changed number id.slot image) o) (λ f. id.slot < length f.page.slots)
       there None none = absurd none
       there (Some f) is =
           let slots = f.page.slots in
           omega (arith, count-with_image slots id.slot image, length-map (with_image slots id.slot image) (λ (s : Slot). s.image))
 
   module _ (front : List ℕ) (disk : ℕ → List ℕ) (old mid new : Heap V H) (s : RecoveryState) (r : LogRecord) (id : Rid) (number : ℕ) (image : Image) (stands : Stands front disk old s) (there : HasPage (geometry_of old) id.page)
-      (fits : IsSomeAnd (frame_of old id.page) (λ f. Fits f.page.slots id.slot (image_len image))) (made : IsMade old mid number id image) (device : device_of mid ≡ device_of old) (released : IsReleased mid new id)
-      (again : device_of new ≡ device_of mid) (same : (disk : ℕ → List ℕ) → SamePages (frame_at mid) disk (frame_at new) disk) (shown : (slots : PageId → List Slot) × Shows unclaimed new front disk slots) where
+      (fits : IsSomeAnd (frame_of old id.page) (λ f. Fits (geometry_of old).version f.page.slots id.slot (image_len image))) (made : IsMade old mid number id image) (device : device_of mid ≡ device_of old) (released : IsReleased mid new id)
+      (again : device_of new ≡ device_of mid) (same : (disk : ℕ → List ℕ) → SamePages (geometry_of mid).version (frame_at mid) disk (frame_at new) disk) (shown : (slots : PageId → List Slot) × Shows unclaimed new front disk slots) where
     stands_after : (e : RecoveryEvent) (later : RecoveryState) → LeadsTo s e later → IsStoreOf mid disk later → Stands front disk new later
     stands_after e later leads store = record {
       store = store_unwritten mid new disk later store (same disk) (same_geometry mid new again);
@@ -69,7 +69,7 @@ module _ {V : Type 0} {H : Ghosts V} where
     }
 
     held : IsTrue (is_some (frame_of old id.page))
-    held = some_held (frame_of old id.page) (λ f. Fits f.page.slots id.slot (image_len image)) fits
+    held = some_held (frame_of old id.page) (λ f. Fits (geometry_of old).version f.page.slots id.slot (image_len image)) fits
 
     -- what is released of a slot leaves the frames' numbers
     numbers_released : (recovery : RecoveryNumbers) → HasRecoveries mid recovery → HasRecoveries new recovery

@@ -122,14 +122,14 @@ module _ {V : Type 0} {H : Ghosts V} where
 
   -- what fits behind the records done fits the frame of a page that has none above them
   pub fits_frame : (front : List ℕ) (disk : ℕ → List ℕ) (heap : Heap V H) (s : RecoveryState) (id : Rid) (bytes n : ℕ) → Stands front disk heap s → HasPage (geometry_of heap) id.page
-      → IsSomeAnd (frame_of heap id.page) (λ f. n ≡ f.page.number) → (s.in_place id.page).number ≤ s.redone → Fits (slots_left (take s.redone s.log) id.page) id.slot bytes
-      → IsSomeAnd (frame_of heap id.page) (λ f. Fits f.page.slots id.slot bytes)
+      → IsSomeAnd (frame_of heap id.page) (λ f. n ≡ f.page.number) → (s.in_place id.page).number ≤ s.redone → Fits (geometry_of heap).version (slots_left (take s.redone s.log) id.page) id.slot bytes
+      → IsSomeAnd (frame_of heap id.page) (λ f. Fits (geometry_of heap).version f.page.slots id.slot bytes)
   fits_frame front disk heap s id bytes n stands there is due fits = at (frame_of heap id.page) refl is
     where
-      at : (o : Option Frame) → frame_of heap id.page ≡ o → IsSomeAnd o (λ f. n ≡ f.page.number) → IsSomeAnd o (λ f. Fits f.page.slots id.slot bytes)
+      at : (o : Option Frame) → frame_of heap id.page ≡ o → IsSomeAnd o (λ f. n ≡ f.page.number) → IsSomeAnd o (λ f. Fits (geometry_of heap).version f.page.slots id.slot bytes)
       at None same none = absurd none
       at (Some f) same number =
-          subst (λ (slots : List Slot). Fits slots id.slot bytes) (sym (framed_due heap disk s stands.store stands.settled id.page f stands.recoverable there same due)) fits
+          subst (λ (slots : List Slot). Fits (geometry_of heap).version slots id.slot bytes) (sym (framed_due heap disk s stands.store stands.settled id.page f stands.recoverable there same due)) fits
 
   module _ (front : List ℕ) (old mid : Heap V H) (s : RecoveryState) (r : LogRecord) (f : Fetches (Ok tt) front old mid s) where
     -- a record that was done on its page
@@ -220,7 +220,7 @@ module _ {V : Type 0} {H : Ghosts V} where
   pub does_not_fit : (front : List ℕ) (old mid : Heap V H) (s : RecoveryState) (r : LogRecord) → (f : Fetches (Ok tt) front old mid s) → (id : Rid) (image : Image) (number n : ℕ) → n ≡ s.redone + 1
       → slice_get s.log s.redone ≡ Some r → image_in r.payload ≡ Some (id, image) → (is : (left : ℕ → List ℕ) × Stands front left mid f.later) → HasPage (geometry_of mid) id.page
       → IsSomeAnd (frame_of mid id.page) (λ f. number ≡ f.page.number) → (f.later.in_place id.page).number ≤ s.redone
-      → (IsSomeAnd (frame_of mid id.page) (λ f. Fits f.page.slots id.slot (image_len image)) → ⊥) → DoesNotFit s.log n
+      → (IsSomeAnd (frame_of mid id.page) (λ f. Fits (geometry_of mid).version f.page.slots id.slot (image_len image)) → ⊥) → DoesNotFit (geometry_of mid).version s.log n
   does_not_fit front old mid s r f id image number n at next says is there framed due refuses =
       let one : n - 1 ≡ s.redone = omega (arith, at) in (
         omega (arith, at),
@@ -228,11 +228,11 @@ module _ {V : Type 0} {H : Ghosts V} where
           r,
           ap (slice_get s.log) one ∙ next,
           λ fits.
-              let before : FitsBehind (take s.redone s.log) r.payload = subst (λ (k : ℕ). FitsBehind (take k s.log) r.payload) one fits in
-              let room : Fits (slots_left (take s.redone s.log) id.page) id.slot (image_len image) = before (id, image) says in
+              let before : FitsBehind (geometry_of mid).version (take s.redone s.log) r.payload = subst (λ (k : ℕ). FitsBehind (geometry_of mid).version (take k s.log) r.payload) one fits in
+              let room : Fits (geometry_of mid).version (slots_left (take s.redone s.log) id.page) id.slot (image_len image) = before (id, image) says in
               let same : take s.redone s.log ≡ take f.later.redone f.later.log = sym (ap (λ (k : ℕ). take k f.later.log) f.same.redone ∙ ap (take s.redone) f.same.log) in
               let low = f.same.redone in
               refuses (fits_frame front is.0 mid f.later id (image_len image) number is.1 there framed (omega (arith, due, low))
-              (subst (λ (l : List LogRecord). Fits (slots_left l id.page) id.slot (image_len image)) same room)),
+              (subst (λ (l : List LogRecord). Fits (geometry_of mid).version (slots_left l id.page) id.slot (image_len image)) same room)),
         ),
       )

@@ -8,6 +8,7 @@ use Rattle.shore_types.specs.Ids.{page_cmp}
 use Rattle.shore_types.specs.Images.{Image}
 use Rattle.shore_types.specs.declared.ids.PageId.{PageId}
 use Rattle.shore_types.specs.declared.ids.Rid.{Rid}
+use Rattle.shore_types.specs.declared.versions.Version.{Version}
 use Rattle.shore_model.specs.declared.log_records.LogRecord.{LogRecord}
 use Rattle.shore_model.specs.Logs.{image_in}
 use Rattle.shore_page.specs.Room.{lowered}
@@ -26,9 +27,9 @@ redone_more (x ∷ rs) n r p page =
     let next = redone_read (n + 1) (image_in x.payload) p page in
     redone_more rs (n + 1) r p next ∙ ap (λ (m : ℕ). redone_read m (image_in r.payload) p (redone_from (n + 1) rs p next)) (omega arith)
 
-pub made_more : (text : List ℕ) (log : List LogRecord) (r : LogRecord) (p : PageId) (page next : ReadPage) → IsMadeOf text log p page → redone_read (length log + 1) (image_in r.payload) p page ≡ next
-    → IsMadeOf text (log ++ r ∷ []) p next
-made_more text log r p page next made is = record {
+pub made_more : (v : Version) (text : List ℕ) (log : List LogRecord) (r : LogRecord) (p : PageId) (page next : ReadPage) → IsMadeOf v text log p page → redone_read (length log + 1) (image_in r.payload) p page ≡ next
+    → IsMadeOf v text (log ++ r ∷ []) p next
+made_more v text log r p page next made is = record {
   was = made.was;
   read = made.read;
   redone = sym (redone_more log 0 r p made.was ∙ ap (λ (m : ℕ). redone_read m (image_in r.payload) p (redone_by log p made.was)) (omega arith) ∙ ap (redone_read (length log + 1) (image_in r.payload) p) (sym made.redone) ∙ is);

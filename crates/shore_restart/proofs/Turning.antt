@@ -83,22 +83,22 @@ module _ {L : Type 0} {G : Ghosts L} where
 module _ {V : Type 0} {H : Ghosts V} where
   -- what fits the slots that the log leaves fits the frame of a page
   pub fits_whole : (front : List ℕ) (disk : ℕ → List ℕ) (heap : Heap V H) (s : RecoveryState) (id : Rid) (bytes : ℕ) → Stands front disk heap s → s.redone ≡ length s.log → HasPage (geometry_of heap) id.page
-      → IsTrue (is_some (frame_of heap id.page)) → Fits (slots_left s.log id.page) id.slot bytes → IsSomeAnd (frame_of heap id.page) (λ f. Fits f.page.slots id.slot bytes)
+      → IsTrue (is_some (frame_of heap id.page)) → Fits (geometry_of heap).version (slots_left s.log id.page) id.slot bytes → IsSomeAnd (frame_of heap id.page) (λ f. Fits (geometry_of heap).version f.page.slots id.slot bytes)
   fits_whole front disk heap s id bytes stands all there held fits = at (frame_of heap id.page) refl held
     where
-      at : (o : Option Frame) → frame_of heap id.page ≡ o → IsTrue (is_some o) → IsSomeAnd o (λ f. Fits f.page.slots id.slot bytes)
+      at : (o : Option Frame) → frame_of heap id.page ≡ o → IsTrue (is_some o) → IsSomeAnd o (λ f. Fits (geometry_of heap).version f.page.slots id.slot bytes)
       at None same none = absurd cc
       at (Some f) same some =
-          subst (λ (slots : List Slot). Fits slots id.slot bytes) (sym (framed_whole heap disk s stands.store stands.settled id.page f stands.recoverable there same all)) fits
+          subst (λ (slots : List Slot). Fits (geometry_of heap).version slots id.slot bytes) (sym (framed_whole heap disk s stands.store stands.settled id.page f stands.recoverable there same all)) fits
 
   -- .. and what fits that fits those slots
   pub fits_left : (front : List ℕ) (disk : ℕ → List ℕ) (heap : Heap V H) (s : RecoveryState) (id : Rid) (bytes : ℕ) → Stands front disk heap s → s.redone ≡ length s.log → HasPage (geometry_of heap) id.page
-      → IsSomeAnd (frame_of heap id.page) (λ f. Fits f.page.slots id.slot bytes) → Fits (slots_left s.log id.page) id.slot bytes
+      → IsSomeAnd (frame_of heap id.page) (λ f. Fits (geometry_of heap).version f.page.slots id.slot bytes) → Fits (geometry_of heap).version (slots_left s.log id.page) id.slot bytes
   fits_left front disk heap s id bytes stands all there fits = at (frame_of heap id.page) refl fits
     where
-      at : (o : Option Frame) → frame_of heap id.page ≡ o → IsSomeAnd o (λ f. Fits f.page.slots id.slot bytes) → Fits (slots_left s.log id.page) id.slot bytes
+      at : (o : Option Frame) → frame_of heap id.page ≡ o → IsSomeAnd o (λ f. Fits (geometry_of heap).version f.page.slots id.slot bytes) → Fits (geometry_of heap).version (slots_left s.log id.page) id.slot bytes
       at None same none = absurd none
-      at (Some f) same here = subst (λ (slots : List Slot). Fits slots id.slot bytes) (framed_whole heap disk s stands.store stands.settled id.page f stands.recoverable there same all) here
+      at (Some f) same here = subst (λ (slots : List Slot). Fits (geometry_of heap).version slots id.slot bytes) (framed_whole heap disk s stands.store stands.settled id.page f stands.recoverable there same all) here
 
   -- a record without an image
   pub without_stands : (front : List ℕ) (disk : ℕ → List ℕ) (heap : Heap V H) (s : RecoveryState) (r : LogRecord) → Stands front disk heap s → s.redone ≡ length s.log → image_in r.payload ≡ None

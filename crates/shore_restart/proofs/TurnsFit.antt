@@ -5,6 +5,7 @@ use Rattle.std.proofs.lemmas.Option.{slice_get_within}
 use Rattle.shore_types.specs.Images.{Image, image_len}
 use Rattle.shore_types.specs.declared.ids.Rid.{Rid}
 use Rattle.shore_types.specs.declared.layout.Geometry.{Geometry}
+use Rattle.shore_types.specs.declared.versions.Version.{Version}
 use Rattle.shore_model.specs.declared.log_records.LogRecord.{LogRecord}
 use Rattle.shore_model.specs.declared.log_records.Payload.{Payload}
 use Rattle.shore_model.specs.Logs.{image_in}
@@ -36,19 +37,19 @@ pub find_more : (g : Geometry) (first : ℕ → List ℕ) (log : List LogRecord)
 find_more g first log r all room n misfit = ⊎_elim (all n) room (own_or_new (λ before k x. FindsNoRoom g first before k x.payload) log r n misfit)
 
 -- .. and fits it, by the log alone
-pub turns_fit_more : (found log : List LogRecord) (r : LogRecord) → TurnsFit found log → FitsBehind log r.payload → TurnsFit found (log ++ r ∷ [])
-turns_fit_more found log r all fits n behind misfit = ⊎_elim (all n behind) (λ (last : FitsBehind log r.payload → ⊥). last fits) (own_or_new (λ before k x. FitsBehind before x.payload → ⊥) log r n misfit)
+pub turns_fit_more : (v : Version) (found log : List LogRecord) (r : LogRecord) → TurnsFit v found log → FitsBehind v log r.payload → TurnsFit v found (log ++ r ∷ [])
+turns_fit_more v found log r all fits n behind misfit = ⊎_elim (all n behind) (λ (last : FitsBehind v log r.payload → ⊥). last fits) (own_or_new (λ before k x. FitsBehind v before x.payload → ⊥) log r n misfit)
 
 -- a payload does, if its image does or if it has none
-pub image_fits : (before : List LogRecord) (payload : Payload) (id : Rid) (image : Image) → image_in payload ≡ Some (id, image) → Fits (slots_left before id.page) id.slot (image_len image) → FitsBehind before payload
-image_fits before payload id image says fits e at =
+pub image_fits : (v : Version) (before : List LogRecord) (payload : Payload) (id : Rid) (image : Image) → image_in payload ≡ Some (id, image) → Fits v (slots_left before id.page) id.slot (image_len image) → FitsBehind v before payload
+image_fits v before payload id image says fits e at =
     let same : ◌≡◌ {A = Option (Rid × Image)} (Some (id, image)) (Some e) = sym says ∙ at in
     let it : ◌≡◌ {A = Rid × Image} (id, image) e = cc in
-    subst (λ (e : Rid × Image). Fits (slots_left before e.0.page) e.0.slot (image_len e.1)) it fits
+    subst (λ (e : Rid × Image). Fits v (slots_left before e.0.page) e.0.slot (image_len e.1)) it fits
 
-pub none_fits : (before : List LogRecord) (payload : Payload) → image_in payload ≡ None → FitsBehind before payload
-none_fits before payload none e at = absurd (of_no_image (image_in payload) e.0 e.1 none at)
+pub none_fits : (v : Version) (before : List LogRecord) (payload : Payload) → image_in payload ≡ None → FitsBehind v before payload
+none_fits v before payload none e at = absurd (of_no_image (image_in payload) e.0 e.1 none at)
 
 -- there is none yet
-pub no_turns : (log : List LogRecord) → TurnsFit log log
-no_turns log n behind misfit = let within = slice_get_within log (n - 1) misfit.1.0 misfit.1.1 in omega (arith, behind, within)
+pub no_turns : (v : Version) (log : List LogRecord) → TurnsFit v log log
+no_turns v log n behind misfit = let within = slice_get_within log (n - 1) misfit.1.0 misfit.1.1 in omega (arith, behind, within)

@@ -11,6 +11,7 @@ use Rattle.shore_types.specs.Layout.{HasPage, HasSlot}
 use Rattle.shore_types.specs.declared.ids.PageId.{PageId}
 use Rattle.shore_types.specs.declared.ids.Rid.{Rid}
 use Rattle.shore_types.specs.declared.layout.Geometry.{Geometry}
+use Rattle.shore_types.specs.declared.versions.Version.{Version}
 use Rattle.shore_model.specs.declared.log_records.LogRecord.{LogRecord}
 use Rattle.shore_model.specs.declared.unanswered_changes.UnansweredChange.{UnansweredChange}
 use Rattle.shore_model.specs.Logs.{id_in, image_in, unanswered}
@@ -147,7 +148,7 @@ are_told log txns back = changes_same log (doubts_left log) (txns_in txns) back
 pub still_told : (log : List LogRecord) (turns : List ℕ) (last : List LogRecord) (txns : Transactions) → IsUndoneTo log turns last → IsTold log txns → IsTold last txns
 still_told log turns last txns undone told = same_changes log turns last undone ∙ told
 
-module _ (log : List LogRecord) (txns : Transactions) (told : IsTold log txns) where
+module _ (v : Version) (log : List LogRecord) (txns : Transactions) (told : IsTold log txns) where
   abbrev changes : List UndoEntry
   changes = all_changes (txns_in txns)
 
@@ -210,24 +211,24 @@ module _ (log : List LogRecord) (txns : Transactions) (told : IsTold log txns) w
         order = told ∙ ap (λ (es : List UndoEntry). reverse (map as_change es)) none.order ∙ turned_append none.older (none.entry ∷ none.newer)
             ∙ ap (λ (cs : List UnansweredChange). cs ++ older) (turned_push none.entry none.newer) ∙ append_assoc newer (as_change none.entry ∷ []) older;
         number = none.number;
-        first = λ q page has made. subst (λ (kept : List (ℕ × ℕ)). FitIn kept (map settled page.images)) (sym (claims_same q none.newer)) (none.first q page has made);
+        first = λ q page has made. subst (λ (kept : List (ℕ × ℕ)). FitIn g.version kept (map settled page.images)) (sym (claims_same q none.newer)) (none.first q page has made);
         page = none.page;
         made = none.made;
-        no_room = λ can. none.no_room (subst (λ (kept : List (ℕ × ℕ)). CanKeep (claimed_by kept (map settled none.page.images)) none.entry.id.slot (image_len none.entry.before)) (claims_same p none.newer) can);
+        no_room = λ can. none.no_room (subst (λ (kept : List (ℕ × ℕ)). CanKeep g.version (claimed_by kept (map settled none.page.images)) none.entry.id.slot (image_len none.entry.before)) (claims_same p none.newer) can);
       }
 
   -- .. and if none is, what they may put back has room
   pub kept_on : (g : Geometry) (texts : ℕ → List ℕ) (due : List LogRecord) → CanKeepOn g txns texts due → AreKeptOn g texts log due
   kept_on g texts due can p page has made =
-      subst (λ (kept : List (ℕ × ℕ)). FitIn kept (map settled page.images)) (sym (ap (claims_of p) told ∙ claims_same p changes)) (can p page has made)
+      subst (λ (kept : List (ℕ × ℕ)). FitIn g.version kept (map settled page.images)) (sym (ap (claims_of p) told ∙ claims_same p changes)) (can p page has made)
 
   -- .. as the log leaves them
 
   module _ (g : Geometry) (slots : PageId → List Slot) (within : (e : UndoEntry) → IsAmong e changes → HasPage g e.id.page) (left : (p : PageId) → HasPage g p → slots p ≡ slots_left log p) where
-    fit_same : (p : PageId) (es : List UndoEntry) → ((e : UndoEntry) → IsAmong e es → HasPage g e.id.page) → FitIn (claims_on p es) (slots p) → FitIn (claims_on p es) (slots_left log p)
+    fit_same : (p : PageId) (es : List UndoEntry) → ((e : UndoEntry) → IsAmong e es → HasPage g e.id.page) → FitIn v (claims_on p es) (slots p) → FitIn v (claims_on p es) (slots_left log p)
     fit_same p es there fit = ⊎_elim
-        (λ none. subst (λ (kept : List (ℕ × ℕ)). FitIn kept (slots_left log p)) (sym none) tt)
-        (λ has. subst (FitIn (claims_on p es)) (left p has) fit)
+        (λ none. subst (λ (kept : List (ℕ × ℕ)). FitIn v kept (slots_left log p)) (sym none) tt)
+        (λ has. subst (FitIn v (claims_on p es)) (left p has) fit)
         (none_or_there p es there)
       where
         none_or_there : (p : PageId) (es : List UndoEntry) → ((e : UndoEntry) → IsAmong e es → HasPage g e.id.page) → (claims_on p es ≡ []) ⊎ HasPage g p
@@ -238,7 +239,7 @@ module _ (log : List LogRecord) (txns : Transactions) (told : IsTold log txns) w
             by true is rest = inr (subst (HasPage g) (sym (tells_apart exact_pages p e.id.page is)) (there e (inl refl)))
             by false is rest = rest
 
-    pub unkept : (n : ℕ) → CannotKeep txns slots n → IsUnkept log n
+    pub unkept : (n : ℕ) → CannotKeep v txns slots n → IsUnkept v log n
     unkept n none =
         let newer = reverse (map as_change none.newer) in
         let older = reverse (map as_change none.older) in
@@ -254,6 +255,6 @@ module _ (log : List LogRecord) (txns : Transactions) (told : IsTold log txns) w
           order = told ∙ ap (λ (es : List UndoEntry). reverse (map as_change es)) none.order ∙ turned_append none.older (none.entry ∷ none.newer)
               ∙ ap (λ (cs : List UnansweredChange). cs ++ older) (turned_push none.entry none.newer) ∙ append_assoc newer (as_change none.entry ∷ []) older;
           number = none.number;
-          first = λ q. subst (λ (kept : List (ℕ × ℕ)). FitIn kept (slots_left log q)) (sym (claims_same q none.newer)) (fit_same q none.newer (λ e among. there e (inr among)) (none.first q));
-          no_room = λ can. none.no_room (subst (λ (s : List Slot). CanKeep s none.entry.id.slot (image_len none.entry.before)) same can);
+          first = λ q. subst (λ (kept : List (ℕ × ℕ)). FitIn v kept (slots_left log q)) (sym (claims_same q none.newer)) (fit_same q none.newer (λ e among. there e (inr among)) (none.first q));
+          no_room = λ can. none.no_room (subst (λ (s : List Slot). CanKeep v s none.entry.id.slot (image_len none.entry.before)) same can);
         }

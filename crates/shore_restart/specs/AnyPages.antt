@@ -10,6 +10,7 @@ use Rattle.shore_model.specs.declared.log_records.LogRecord.{LogRecord}
 use Rattle.shore_model.specs.declared.log_records.Payload.{Payload}
 use Rattle.shore_model.specs.Logs.{image_in, unanswered, undo_next_of}
 use Rattle.shore_types.specs.Layout.{HasPage}
+use Rattle.shore_types.specs.declared.versions.Version.{Version}
 use Rattle.shore_model.specs.declared.unanswered_changes.UnansweredChange.{UnansweredChange}
 use Rattle.shore_page.specs.Claims.{FitIn, claimed_by}
 use Rattle.shore_heap.specs.Contents.{CanKeep}
@@ -36,8 +37,8 @@ pub record ReadPage : Type 0 where
   pub images : List Image
 
 -- the bytes are a text of this page that says so
-abbrev pub IsReadAs : List ℕ → PageId → ReadPage → Type 0
-IsReadAs text p page = IsPageText text p page.number page.images
+abbrev pub IsReadAs : Version → List ℕ → PageId → ReadPage → Type 0
+IsReadAs v text p page = IsPageText v text p page.number page.images
 
 -- the image in a slot, which is new behind the last, or farther on
 abbrev pub with_image_at : List Image → ℕ → Image → List Image
@@ -58,9 +59,9 @@ abbrev pub redone_by : List LogRecord → PageId → ReadPage → ReadPage
 redone_by log p page = redone_from 0 log p page
 
 -- the page is what redo of these records makes of one with this text
-pub record IsMadeOf (text : List ℕ) (log : List LogRecord) (p : PageId) (page : ReadPage) : Type 0 where
+pub record IsMadeOf (v : Version) (text : List ℕ) (log : List LogRecord) (p : PageId) (page : ReadPage) : Type 0 where
   pub was : ReadPage
-  pub read : IsReadAs text p was
+  pub read : IsReadAs v text p was
   pub redone : page ≡ redone_by log p was
 
 -- ---- the records that are due
@@ -120,9 +121,9 @@ module _ (g : Geometry) (texts : ℕ → List ℕ) where
     pub image : Image
     pub changes : image_in payload ≡ Some (id, image)
     pub page : ReadPage
-    pub made : IsMadeOf (texts (page_number g id.page)) before id.page page
+    pub made : IsMadeOf g.version (texts (page_number g id.page)) before id.page page
     pub lacks : page.number < n
-    pub no_room : Fits (map settled page.images) id.slot (image_len image) → ⊥
+    pub no_room : Fits g.version (map settled page.images) id.slot (image_len image) → ⊥
 
   -- so does record n of a log, behind those before it
   abbrev pub IsMisfitAt : List LogRecord → ℕ → Type 0
@@ -148,10 +149,10 @@ module _ (g : Geometry) (texts : ℕ → List ℕ) where
     pub later : List UnansweredChange
     pub order : changes_in_doubt log ≡ kept ++ change ∷ later
     pub number : n ≡ change.number
-    pub first : (p : PageId) (page : ReadPage) → HasPage g p → IsMadeOf (texts (page_number g p)) due p page → FitIn (claims_of p kept) (map settled page.images)
+    pub first : (p : PageId) (page : ReadPage) → HasPage g p → IsMadeOf g.version (texts (page_number g p)) due p page → FitIn g.version (claims_of p kept) (map settled page.images)
     pub page : ReadPage
-    pub made : IsMadeOf (texts (page_number g change.id.page)) due change.id.page page
-    pub no_room : CanKeep (claimed_by (claims_of change.id.page kept) (map settled page.images)) change.id.slot (image_len change.before) → ⊥
+    pub made : IsMadeOf g.version (texts (page_number g change.id.page)) due change.id.page page
+    pub no_room : CanKeep g.version (claimed_by (claims_of change.id.page kept) (map settled page.images)) change.id.slot (image_len change.before) → ⊥
 
   -- It is the first that finds no room; or all of the log do, and all records of undo so far, and the next one, which undoes the Change of this number, does not; or,
   -- with nobody left to be undone, the Change of this number is not kept.
@@ -162,7 +163,7 @@ module _ (g : Geometry) (texts : ℕ → List ℕ) where
 
   -- what those in doubt by this log may put back has room on each page, as the records that are due make that of its text
   abbrev pub AreKeptOn : List LogRecord → List LogRecord → Type 0
-  AreKeptOn log due = (p : PageId) (page : ReadPage) → HasPage g p → IsMadeOf (texts (page_number g p)) due p page → FitIn (claims_of p (changes_in_doubt log)) (map settled page.images)
+  AreKeptOn log due = (p : PageId) (page : ReadPage) → HasPage g p → IsMadeOf g.version (texts (page_number g p)) due p page → FitIn g.version (claims_of p (changes_in_doubt log)) (map settled page.images)
 
   -- None is such a misfit, and the log has become this later one by turns of undo: each record that is due finds room; behind them so does each of undo; and behind
   -- all what those in doubt may put back.

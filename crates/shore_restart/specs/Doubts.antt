@@ -11,6 +11,7 @@ use Rattle.shore_types.specs.declared.layout.Geometry.{Geometry}
 use Rattle.shore_types.specs.declared.layout.TheConstants.{ENDING_COST}
 use Rattle.shore_types.specs.declared.locking.Granule.{Granule}
 use Rattle.shore_types.specs.declared.locking.Mode.TheVariants.{EX, IX}
+use Rattle.shore_types.specs.declared.versions.Version.{Version}
 use Rattle.shore_model.specs.declared.holds.Hold.{Hold}
 use Rattle.shore_model.specs.declared.log_records.LogRecord.{LogRecord}
 use Rattle.shore_model.specs.declared.log_records.LogTxn.{LogTxn}
@@ -131,11 +132,11 @@ claims_of p (c ∷ cs) = claims_of p cs ++ (if eq_by_cmp page_cmp p c.id.page th
 
 -- The record of this number is the first of those Changes whose image before does not fit its page any more, as the log leaves that and with what is kept there
 -- for those before it.
-pub record IsUnkept (log : List LogRecord) (n : ℕ) : Type 0 where
+pub record IsUnkept (v : Version) (log : List LogRecord) (n : ℕ) : Type 0 where
   pub kept : List UnansweredChange
   pub change : UnansweredChange
   pub later : List UnansweredChange
   pub order : changes_in_doubt log ≡ kept ++ change ∷ later
   pub number : n ≡ change.number
-  pub first : (p : PageId) → FitIn (claims_of p kept) (slots_left log p)
-  pub no_room : CanKeep (claimed_by (claims_of change.id.page kept) (slots_left log change.id.page)) change.id.slot (image_len change.before) → ⊥
+  pub first : (p : PageId) → FitIn v (claims_of p kept) (slots_left log p)
+  pub no_room : CanKeep v (claimed_by (claims_of change.id.page kept) (slots_left log change.id.page)) change.id.slot (image_len change.before) → ⊥

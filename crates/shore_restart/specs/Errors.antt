@@ -6,6 +6,7 @@ use Rattle.shore_types.specs.declared.faults.Fault.{Fault}
 use Rattle.shore_types.specs.declared.faults.Fault.TheVariants as fault
 use Rattle.shore_types.specs.declared.ids.PageId.{PageId}
 use Rattle.shore_types.specs.declared.layout.Geometry.{Geometry}
+use Rattle.shore_types.specs.declared.versions.Version.{Version}
 use Rattle.shore_model.specs.declared.log_records.LogRecord.{LogRecord}
 use Rattle.shore_dwrite.specs.Volumes.{HasNoPage, page_number, page_offset}
 use Rattle.laws_runs.specs.SlotCounts.{FitsBehind}
@@ -47,8 +48,8 @@ IsLogError f error = ((f ≡ fault.Memory) × (error ≡ Memory)) ⊎ ((f ≢ fa
 -- a damaged page: its bytes are no text of it with a number up to the log's last
 abbrev pub IsEarned : Geometry → (ℕ → List ℕ) → ℕ → RestartError → Type 0
 IsEarned g disk last error = (offset : ℕ) → error ≡ Page (fault.Damaged Volume offset)
-    → (id : PageId) × HasPage g id × (offset ≡ page_offset (page_number g id)) × HasNoPage (disk (page_number g id)) id last
+    → (id : PageId) × HasPage g id × (offset ≡ page_offset g.version (page_number g id)) × HasNoPage g.version (disk (page_number g id)) id last
 
 -- the record of this number does not fit its page as the records before it leave that
-abbrev pub DoesNotFit : List LogRecord → ℕ → Type 0
-DoesNotFit log n = (0 < n) × ((r : LogRecord) × (slice_get log (n - 1) ≡ Some r) × (FitsBehind (take (n - 1) log) r.payload → ⊥))
+abbrev pub DoesNotFit : Version → List LogRecord → ℕ → Type 0
+DoesNotFit v log n = (0 < n) × ((r : LogRecord) × (slice_get log (n - 1) ≡ Some r) × (FitsBehind v (take (n - 1) log) r.payload → ⊥))

@@ -4,6 +4,7 @@ use Rattle.shore_types.specs.Images.{Image, image_len}
 use Rattle.shore_types.specs.Layout.{HasPage}
 use Rattle.shore_types.specs.declared.ids.PageId.{PageId}
 use Rattle.shore_types.specs.declared.layout.Geometry.{Geometry}
+use Rattle.shore_types.specs.declared.versions.Version.{Version}
 use Rattle.shore_disk.specs.declared.device.Disk.{Ghosts}
 use Rattle.shore_dwrite.specs.Volumes.{page_number}
 use Rattle.shore_model.specs.declared.log_records.LogRecord.{LogRecord}
@@ -112,15 +113,15 @@ pub record HasDoubtsBack (limit : ℕ) (log : List LogRecord) (control : Control
 -- ---- pages
 
 -- Each of these slots claims what its record takes, and there is room for what may come back to them, one after another, the last of the list first.
-pub record HaveRoom (kept : List (ℕ × ℕ)) (slots : List Slot) : Type 0 where
+pub record HaveRoom (v : Version) (kept : List (ℕ × ℕ)) (slots : List Slot) : Type 0 where
   pub bare : slots ≡ map settled (images_of slots)
-  pub fit : FitIn kept slots
+  pub fit : FitIn v kept slots
 
 -- What a page claims while claims are kept, the newest first: in a frame these so far, or what found room of all of them as it was read; on the volume what its
 -- records take.
-abbrev pub ClaimsSoFar : Option Frame → List ℕ → PageId → List (ℕ × ℕ) → List (ℕ × ℕ) → List Slot → Type 0
-ClaimsSoFar (Some f) text p all so_far slots = (f.page.slots ≡ claimed_by so_far slots) ⊎ KeepWhatFits all slots f.page.slots
-ClaimsSoFar None text p all so_far slots = (number : ℕ) × (images : List Image) × IsPageText text p number images × (slots ≡ map settled images)
+abbrev pub ClaimsSoFar : Version → Option Frame → List ℕ → PageId → List (ℕ × ℕ) → List (ℕ × ℕ) → List Slot → Type 0
+ClaimsSoFar v (Some f) text p all so_far slots = (f.page.slots ≡ claimed_by so_far slots) ⊎ KeepWhatFits v all slots f.page.slots
+ClaimsSoFar v None text p all so_far slots = (number : ℕ) × (images : List Image) × IsPageText v text p number images × (slots ≡ map settled images)
 
 -- one of the changes is of this page
 abbrev pub AreOfPage : List UndoEntry → PageId → Type 0
@@ -128,14 +129,14 @@ AreOfPage changes p = (e : UndoEntry) × IsAmong e changes × (p ≡ e.id.page)
 
 -- The change of this number is the first, the newest of the table first, whose image before does not fit its page any more beside what is kept for the newer
 -- ones, if pages have these slots.
-pub record CannotKeep (txns : Transactions) (slots : PageId → List Slot) (n : ℕ) : Type 0 where
+pub record CannotKeep (v : Version) (txns : Transactions) (slots : PageId → List Slot) (n : ℕ) : Type 0 where
   pub older : List UndoEntry
   pub entry : UndoEntry
   pub newer : List UndoEntry
   pub order : all_changes (table.txns_in txns) ≡ older ++ entry ∷ newer
   pub number : n ≡ entry.lsn
-  pub first : (p : PageId) → FitIn (claims_on p newer) (slots p)
-  pub no_room : CanKeep (claimed_by (claims_on entry.id.page newer) (slots entry.id.page)) entry.id.slot (image_len entry.before) → ⊥
+  pub first : (p : PageId) → FitIn v (claims_on p newer) (slots p)
+  pub no_room : CanKeep v (claimed_by (claims_on entry.id.page newer) (slots entry.id.page)) entry.id.slot (image_len entry.before) → ⊥
 
 -- .. if pages are what these records make of these texts
 pub record CannotKeepOn (g : Geometry) (txns : Transactions) (texts : ℕ → List ℕ) (log : List LogRecord) (n : ℕ) : Type 0 where
@@ -144,14 +145,14 @@ pub record CannotKeepOn (g : Geometry) (txns : Transactions) (texts : ℕ → Li
   pub newer : List UndoEntry
   pub order : all_changes (table.txns_in txns) ≡ older ++ entry ∷ newer
   pub number : n ≡ entry.lsn
-  pub first : (p : PageId) (page : ReadPage) → HasPage g p → IsMadeOf (texts (page_number g p)) log p page → FitIn (claims_on p newer) (map settled page.images)
+  pub first : (p : PageId) (page : ReadPage) → HasPage g p → IsMadeOf g.version (texts (page_number g p)) log p page → FitIn g.version (claims_on p newer) (map settled page.images)
   pub page : ReadPage
-  pub made : IsMadeOf (texts (page_number g entry.id.page)) log entry.id.page page
-  pub no_room : CanKeep (claimed_by (claims_on entry.id.page newer) (map settled page.images)) entry.id.slot (image_len entry.before) → ⊥
+  pub made : IsMadeOf g.version (texts (page_number g entry.id.page)) log entry.id.page page
+  pub no_room : CanKeep g.version (claimed_by (claims_on entry.id.page newer) (map settled page.images)) entry.id.slot (image_len entry.before) → ⊥
 
 -- what all changes of the table may put back has room on each page, if pages are what these records make of these texts
 abbrev pub CanKeepOn : Geometry → Transactions → (ℕ → List ℕ) → List LogRecord → Type 0
-CanKeepOn g txns texts log = (p : PageId) (page : ReadPage) → HasPage g p → IsMadeOf (texts (page_number g p)) log p page → FitIn (table.kept_in txns p) (map settled page.images)
+CanKeepOn g txns texts log = (p : PageId) (page : ReadPage) → HasPage g p → IsMadeOf g.version (texts (page_number g p)) log p page → FitIn g.version (table.kept_in txns p) (map settled page.images)
 
 module _ {V : Type 0} {H : Ghosts V} where
   -- The heap is the store's, over a volume that is settled with these texts of its pages behind this front. Each slot claims what its record takes, and what
@@ -160,7 +161,7 @@ module _ {V : Type 0} {H : Ghosts V} where
     pub store : IsStoreOf heap disk s
     pub recoverable : IsRecoverable s
     pub slots : PageId → List Slot
-    pub room : (p : PageId) → HasPage (heaps.geometry_of heap) p → HaveRoom (K p) (slots p)
+    pub room : (p : PageId) → HasPage (heaps.geometry_of heap) p → HaveRoom (heaps.geometry_of heap).version (K p) (slots p)
     pub shows : Shows K heap front disk (λ p. claimed_by (K p) (slots p))
 
   -- .. and so far some of all those claims are kept
@@ -169,9 +170,9 @@ module _ {V : Type 0} {H : Ghosts V} where
     pub recoverable : IsRecoverable s
     pub holds : PoolHolds heap.pool front disk
     pub bounds : AreBounds (heaps.geometry_of heap) (heaps.bounds_of heap) slots
-    pub room : (p : PageId) → HasPage (heaps.geometry_of heap) p → HaveRoom (so_far p) (slots p)
+    pub room : (p : PageId) → HasPage (heaps.geometry_of heap) p → HaveRoom (heaps.geometry_of heap).version (so_far p) (slots p)
     pub pages : (p : PageId) → HasPage (heaps.geometry_of heap) p
-        → ClaimsSoFar (heaps.frame_of heap p) (disk (page_number (heaps.geometry_of heap) p)) p (all p) (so_far p) (slots p)
+        → ClaimsSoFar (heaps.geometry_of heap).version (heaps.frame_of heap p) (disk (page_number (heaps.geometry_of heap) p)) p (all p) (so_far p) (slots p)
 
   -- Pages may have been written back, as a crash may leave them. If it was not refused, such a thing stands over what is left of them and a store that is the
   -- same but for the volume.

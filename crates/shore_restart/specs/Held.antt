@@ -24,7 +24,7 @@ use Rattle.shore_restart.specs.declared.errors.RestartError.TheVariants.{Page}
 -- the volume failed, or a page is damaged, one of those that may be read: its bytes are no text of it with a number up to this one
 abbrev pub IsPageFault : Geometry → (PageId → Type 0) → (ℕ → List ℕ) → ℕ → Fault → Type 0
 IsPageFault g may_read disk last f = (f ≡ fault.Device)
-    ⊎ ((id : PageId) × HasPage g id × may_read id × (f ≡ fault.Damaged Volume (page_offset (page_number g id))) × HasNoPage (disk (page_number g id)) id last)
+    ⊎ ((id : PageId) × HasPage g id × may_read id × (f ≡ fault.Damaged Volume (page_offset g.version (page_number g id))) × HasNoPage g.version (disk (page_number g id)) id last)
 
 module _ {V : Type 0} {H : Ghosts V} where
   -- the heap has this page in place, over these texts of its volume
@@ -37,14 +37,14 @@ module _ {V : Type 0} {H : Ghosts V} where
     pub holds : PoolHolds heap.pool front disk
     pub low : (k : ℕ) (f : Frame) → heaps.frame_at heap k ≡ Some f → f.page.number ≤ last
     pub settled : AreSettled heap
-    pub made : (p : PageId) (page : ReadPage) → HasPage (heaps.geometry_of heap) p → HasRead heap disk p page → IsMadeOf (first (page_number (heaps.geometry_of heap) p)) done p page
+    pub made : (p : PageId) (page : ReadPage) → HasPage (heaps.geometry_of heap) p → HasRead heap disk p page → IsMadeOf (heaps.geometry_of heap).version (first (page_number (heaps.geometry_of heap) p)) done p page
 
   -- It is so over other texts, with these records done, up to a later number: a page with no text of it up to that one had none up to the one before.
   pub record StaysHeld (front : List ℕ) (first disk : ℕ → List ℕ) (old new : Heap V H) (last : ℕ) (done : List LogRecord) (later : ℕ) : Type 0 where
     pub left : ℕ → List ℕ
     pub held : IsHeld front first left new done later
-    pub bad : (id : PageId) → HasPage (heaps.geometry_of old) id → HasNoPage (left (page_number (heaps.geometry_of old) id)) id later
-        → HasNoPage (disk (page_number (heaps.geometry_of old) id)) id last
+    pub bad : (id : PageId) → HasPage (heaps.geometry_of old) id → HasNoPage (heaps.geometry_of old).version (left (page_number (heaps.geometry_of old) id)) id later
+        → HasNoPage (heaps.geometry_of old).version (disk (page_number (heaps.geometry_of old) id)) id last
 
   -- A fetch of one of these pages tells such a fault, or that a force is needed up to a number that is not durable. Unless the volume failed the heap is held so still.
   pub record FetchesHeld (result : Result (Unit {0}) RestartError) (may_read : PageId → Type 0) (front : List ℕ) (first disk : ℕ → List ℕ) (old new : Heap V H) (done : List LogRecord) (last durable : ℕ) : Type 0 where
@@ -63,18 +63,18 @@ module _ {V : Type 0} {H : Ghosts V} where
   pub record IsHeldSoFar (all so_far : ClaimsOfPages) (front : List ℕ) (first disk : ℕ → List ℕ) (heap : Heap V H) (done : List LogRecord) (last : ℕ) : Type 0 where
     pub holds : PoolHolds heap.pool front disk
     pub low : (k : ℕ) (f : Frame) → heaps.frame_at heap k ≡ Some f → f.page.number ≤ last
-    pub made : (p : PageId) (page : ReadPage) → HasPage (heaps.geometry_of heap) p → HasRead heap disk p page → IsMadeOf (first (page_number (heaps.geometry_of heap) p)) done p page
+    pub made : (p : PageId) (page : ReadPage) → HasPage (heaps.geometry_of heap) p → HasRead heap disk p page → IsMadeOf (heaps.geometry_of heap).version (first (page_number (heaps.geometry_of heap) p)) done p page
     pub claims : (p : PageId) (f : Frame) → HasPage (heaps.geometry_of heap) p → heaps.frame_of heap p ≡ Some f
-        → (f.page.slots ≡ claimed_by (so_far p) (map settled (images_of f.page.slots))) ⊎ KeepWhatFits (all p) (map settled (images_of f.page.slots)) f.page.slots
-    pub fits : (p : PageId) (page : ReadPage) → HasPage (heaps.geometry_of heap) p → HasRead heap disk p page → FitIn (so_far p) (map settled page.images)
+        → (f.page.slots ≡ claimed_by (so_far p) (map settled (images_of f.page.slots))) ⊎ KeepWhatFits (heaps.geometry_of heap).version (all p) (map settled (images_of f.page.slots)) f.page.slots
+    pub fits : (p : PageId) (page : ReadPage) → HasPage (heaps.geometry_of heap) p → HasRead heap disk p page → FitIn (heaps.geometry_of heap).version (so_far p) (map settled page.images)
     pub there : (p : PageId) → HasPage (heaps.geometry_of heap) p → (so_far p ≡ []) ⊎ ((page : ReadPage) × HasRead heap disk p page)
 
   -- it is so over other texts
   pub record StaysHeldSoFar (all so_far : ClaimsOfPages) (front : List ℕ) (first disk : ℕ → List ℕ) (old new : Heap V H) (done : List LogRecord) (last : ℕ) : Type 0 where
     pub left : ℕ → List ℕ
     pub held : IsHeldSoFar all so_far front first left new done last
-    pub bad : (id : PageId) → HasPage (heaps.geometry_of old) id → HasNoPage (left (page_number (heaps.geometry_of old) id)) id last
-        → HasNoPage (disk (page_number (heaps.geometry_of old) id)) id last
+    pub bad : (id : PageId) → HasPage (heaps.geometry_of old) id → HasNoPage (heaps.geometry_of old).version (left (page_number (heaps.geometry_of old) id)) id last
+        → HasNoPage (heaps.geometry_of old).version (disk (page_number (heaps.geometry_of old) id)) id last
 
   -- Such work tells no other fault of the volume, and if it was not refused the heap is held so still, with these claims so far.
   pub record KeepsHeld (result : Result (Unit {0}) RestartError) (may_read : PageId → Type 0) (all so_far : ClaimsOfPages) (front : List ℕ) (first disk : ℕ → List ℕ) (old new : Heap V H) (done : List LogRecord) (last : ℕ) : Type 0 where

@@ -2,6 +2,8 @@
 use Rattle.std.specs.Prelude.{◌≡◌, ℕ, List, Result, Ok, Err, IfOk, drop, length}
 use Rattle.shore_types.specs.declared.faults.Fault.{Fault}
 use Rattle.shore_types.specs.declared.ids.PageId.{PageId}
+use Rattle.shore_types.specs.Versions.{slot_limit}
+use Rattle.shore_types.specs.declared.versions.Version.{Version}
 use Rattle.shore_disk.specs.declared.device.Disk.{Ghosts}
 use Rattle.shore_model.specs.declared.log_records.LogRecord.{LogRecord}
 use Rattle.shore_model.specs.Logs.{Lawful}
@@ -55,9 +57,10 @@ module _ {T V : Type 0} {G : tail.Ghosts T} {H : Ghosts V} where
   -- locks that it gives them, and nobody else. It is behind a volume with these texts of its pages and a log stream of this length, in which what is cut off takes
   -- no room. Pages have the slots that records of the log have used. The next transaction's number is the least above those of what is kept, and not below
   -- that of the anchored checkpoint.
-  pub record OpensIn (cut checkpoint : ℕ) (core : Core T V G H) (front : List ℕ) (disk : ℕ → List ℕ) (found : List LogRecord) (stream_bytes : ℕ) (ready : CheckpointedStore) : Type 0 where
+  pub record OpensIn (v : Version) (cut checkpoint : ℕ) (core : Core T V G H) (front : List ℕ) (disk : ℕ → List ℕ) (found : List LogRecord) (stream_bytes : ℕ) (ready : CheckpointedStore) : Type 0 where
     pub first : State
-    pub opened : (o : Opening) → IsOpeningOf found o → IsOpenedOver o ready.store first
+    pub slots : first.sessions.slots ≡ slot_limit v
+    pub opened : (o : Opening) → IsOpeningOf found o → o.slots ≡ slot_limit v → IsOpenedOver o ready.store first
     pub counts : (p : PageId) → first.counts p ≡ slot_count ready.store.log p
     pub stream : first.stream_bytes ≡ log_limit stream_bytes cut ready.store.log
     pub next : IsNextKept (drop cut found) (end_among checkpoint found) first.sessions.next_txn
@@ -74,4 +77,4 @@ module _ {T V : Type 0} {G : tail.Ghosts T} {H : Ghosts V} where
     pub path : PathBehind (heaps.geometry_of heap) log_front front anchor (moment_of (log_history old) heap s) moments (moment_of (log_history new) (heap_left result) ready.store)
     pub opens : Lawful s.log → IfOk result (λ done. (ready.store.redone ≡ length ready.store.log) × HasNoLosers ready.store.log × (ready.store.durable ≡ length ready.store.log)
         × IsAtRest log_front anchor new ready.store
-        × (left : ℕ → List ℕ) × OpensIn (cut_of_log new) anchor.checkpoint done.0 front left s.log (stream_bytes_of new) ready)
+        × (left : ℕ → List ℕ) × OpensIn (heaps.geometry_of heap).version (cut_of_log new) anchor.checkpoint done.0 front left s.log (stream_bytes_of new) ready)

@@ -1,6 +1,7 @@
 -- The turns of undo: what undo works with, and why it may end before a loser is undone.
 use Rattle.std.specs.Prelude.{◌≡◌, ◌⊎◌, ◌<◌, ◌++◌, ◌∷◌, [], ℕ, List, drop, length}
 use Rattle.shore_types.specs.declared.layout.Geometry.{Geometry}
+use Rattle.shore_types.specs.declared.versions.Version.{Version}
 use Rattle.shore_model.specs.declared.log_records.LogRecord.{LogRecord}
 use Rattle.shore_model.specs.Logs.{unanswered, undo_next_of}
 use Rattle.laws_lives.specs.Undo.{HasNoLosers, IsLoser, undo_record}
@@ -40,24 +41,24 @@ abbrev pub HasNoTurnRoom : ℕ → List LogRecord → ℕ → Type 0
 HasNoTurnRoom cut kept stream_bytes = (t : ℕ) × IsLoser (padded cut kept) t × (LeavesRoom cut (kept ++ undo_record (padded cut kept) t ∷ []) stream_bytes → ⊥)
 
 -- the Change of this number is to be undone next, and what its undo brings back does not fit its page
-abbrev pub CannotUndo : List LogRecord → ℕ → Type 0
-CannotUndo log n = (t : ℕ) × IsLoser log t × IsNextToUndo log t × (n ≡ undo_next_of (unanswered t log)) × (FitsBehind log (undo_record log t).payload → ⊥)
+abbrev pub CannotUndo : Version → List LogRecord → ℕ → Type 0
+CannotUndo v log n = (t : ℕ) × IsLoser log t × IsNextToUndo log t × (n ≡ undo_next_of (unanswered t log)) × (FitsBehind v log (undo_record log t).payload → ⊥)
 
 -- each record of undo behind the log that was found fits its page, as the records before it leave that
-abbrev pub TurnsFit : List LogRecord → List LogRecord → Type 0
-TurnsFit found log = (n : ℕ) → length found < n → DoesNotFit log n → ⊥
+abbrev pub TurnsFit : Version → List LogRecord → List LogRecord → Type 0
+TurnsFit v found log = (n : ℕ) → length found < n → DoesNotFit v log n → ⊥
 
 -- ---- why a restart is refused
 
 -- The record of this number does not fit its page; or the records of undo so far fit theirs, and what its undo brings back is the first that does not; or all of them
 -- do, and behind them there is no room for the image before it, which one in doubt may put back.
-abbrev pub IsMisfit : List LogRecord → ℕ → Type 0
-IsMisfit log n = DoesNotFit log n
-    ⊎ ((so_far : List LogRecord) × IsUndoneSoFar log so_far × TurnsFit log so_far × (CannotUndo so_far n ⊎ (HasNoLosers so_far × IsUnkept so_far n)))
+abbrev pub IsMisfit : Version → List LogRecord → ℕ → Type 0
+IsMisfit v log n = DoesNotFit v log n
+    ⊎ ((so_far : List LogRecord) × IsUndoneSoFar log so_far × TurnsFit v log so_far × (CannotUndo v so_far n ⊎ (HasNoLosers so_far × IsUnkept v so_far n)))
 
 -- by it what is kept itself says that no restart may work on it; or one may, and it is such a misfit of the whole log
 abbrev pub IsBadRecord : Geometry → ℕ → ℕ → List LogRecord → List LogRecord → ℕ → Type 0
-IsBadRecord g cut checkpoint kept log n = IsRefusedBy g cut checkpoint kept n ⊎ (IsTaken g cut checkpoint kept × IsMisfit log n)
+IsBadRecord g cut checkpoint kept log n = IsRefusedBy g cut checkpoint kept n ⊎ (IsTaken g cut checkpoint kept × IsMisfit g.version log n)
 
 -- what is kept leaves no room in a stream of this length, or it does with the records of undo so far but not with one more
 abbrev pub LacksRoom : ℕ → List LogRecord → ℕ → Type 0

@@ -41,7 +41,7 @@ pub fn keep_claims<V: Disk>(
     ensures keeps { (front : List ℕ) (disk : ℕ → List ℕ) (s : RecoveryState) → Stands front disk heap.old s → last ≤ s.durable
         → Keeps result front heap.old heap.new s (λ left later. StandsWith (kept_in txns.now) front left heap.new later) }
     ensures bad { (front : List ℕ) (disk : ℕ → List ℕ) (s : RecoveryState) (stands : Stands front disk heap.old s) → last ≤ s.durable
-        → IfErr result (λ error. (n : ℕ) → error ≡ RestartError.BadRecord n → CannotKeep txns.now stands.slots n) }
+        → IfErr result (λ error. (n : ℕ) → error ≡ RestartError.BadRecord n → CannotKeep (geometry_of heap.old).version txns.now stands.slots n) }
     ensures device { (front : List ℕ) (disk : ℕ → List ℕ) (s : RecoveryState) → Stands front disk heap.old s → length s.log ≤ last → last ≤ s.durable
         → IfErr result (λ error. (f : Fault) → error ≡ RestartError.Page f → f ≡ Fault.Device) }
     ensures bad_number { IfErr result (λ error. (n : ℕ) → error ≡ RestartError.BadRecord n → IsAmong n (map (λ e. e.lsn) (all_changes (txns_in txns.now)))) }
@@ -77,7 +77,7 @@ fn keep_changes<V: Disk>(
         → Keeps result front heap.old heap.new s (λ left later. StandsSoFar (kept_in txns.now) (λ p. claims_on p (changes.now ++ newer)) slots front left heap.new later) }
     ensures bad { (older newer : List UndoEntry) (slots : PageId → List Slot) (front : List ℕ) (disk : ℕ → List ℕ) (s : RecoveryState)
         → all_changes (txns_in txns.now) ≡ older ++ (changes.now ++ newer) → ((e : UndoEntry) → IsAmong e newer → HasPage (geometry_of heap.old) e.id.page) → StandsSoFar (kept_in txns.now) (λ p. claims_on p newer) slots front disk heap.old s → last ≤ s.durable
-        → IfErr result (λ error. (n : ℕ) → error ≡ RestartError.BadRecord n → CannotKeep txns.now slots n) }
+        → IfErr result (λ error. (n : ℕ) → error ≡ RestartError.BadRecord n → CannotKeep (geometry_of heap.old).version txns.now slots n) }
     ensures device { (older newer : List UndoEntry) (slots : PageId → List Slot) (front : List ℕ) (disk : ℕ → List ℕ) (s : RecoveryState)
         → all_changes (txns_in txns.now) ≡ older ++ (changes.now ++ newer) → StandsSoFar (kept_in txns.now) (λ p. claims_on p newer) slots front disk heap.old s → length s.log ≤ last → last ≤ s.durable
         → IfErr result (λ error. (f : Fault) → error ≡ RestartError.Page f → f ≡ Fault.Device) }
@@ -115,7 +115,7 @@ fn keep_claim<V: Disk>(
     ensures bad { (older newer : List UndoEntry) (slots : PageId → List Slot) (front : List ℕ) (disk : ℕ → List ℕ) (s : RecoveryState)
         → all_changes (txns_in txns.now) ≡ older ++ entry.now ∷ newer → StandsSoFar (kept_in txns.now) (λ p. claims_on p newer) slots front disk heap.old s → last ≤ s.durable
         → IfErr result (λ error. (n : ℕ) → error ≡ RestartError.BadRecord n
-        → CanKeep (claimed_by (claims_on entry.now.id.page newer) (slots entry.now.id.page)) entry.now.id.slot (image_len entry.now.before) → ⊥) }
+        → CanKeep (geometry_of heap.old).version (claimed_by (claims_on entry.now.id.page newer) (slots entry.now.id.page)) entry.now.id.slot (image_len entry.now.before) → ⊥) }
     ensures device { (so_far : PageId → List (ℕ × ℕ)) (slots : PageId → List Slot) (front : List ℕ) (disk : ℕ → List ℕ) (s : RecoveryState)
         → StandsSoFar (kept_in txns.now) so_far slots front disk heap.old s → length s.log ≤ last → last ≤ s.durable
         → IfErr result (λ error. (f : Fault) → error ≡ RestartError.Page f → f ≡ Fault.Device) }

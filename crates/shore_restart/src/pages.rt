@@ -57,7 +57,7 @@ pub fn fetch<V: Disk>(
 /// more: with more, the records behind could find no room that was there when they were logged.
 pub fn put<V: Disk>(heap: &mut Heap<V>, id: Rid, number: Lsn, image: &Option<Bytes>)
     requires there { HasPage (geometry_of heap.old) id.page }
-    requires fits { IsSomeAnd (frame_of heap.old id.page) (λ f. Fits f.page.slots id.slot (image_len image.now)) }
+    requires fits { IsSomeAnd (frame_of heap.old id.page) (λ f. Fits (geometry_of heap.old).version f.page.slots id.slot (image_len image.now)) }
     ensures redone { (front : List ℕ) (disk : ℕ → List ℕ) (s : RecoveryState) (r : LogRecord) → Stands front disk heap.old s → slice_get s.log s.redone ≡ Some r
         → image_in r.payload ≡ Some (id, image.now) → number ≡ s.redone + 1 → (s.in_place id.page).number ≤ s.redone
         → LeadsTo s RedoRecord (after_redo s r) × Stands front disk heap.new (after_redo s r)

@@ -51,7 +51,7 @@ pub fn redo<V: Disk>(
     ensures missing { (front : List ℕ) (disk : ℕ → List ℕ) (s : RecoveryState) → Stands front disk heap.old s → IsToRedo cut kept.now table.now s
         → IfOk result (λ redone. redone ≡ missing_on s.log s.in_place) }
     ensures bad { (front : List ℕ) (disk : ℕ → List ℕ) (s : RecoveryState) → Stands front disk heap.old s → IsToRedo cut kept.now table.now s
-        → IfErr result (λ error. (n : ℕ) → error ≡ RestartError.BadRecord n → DoesNotFit s.log n) }
+        → IfErr result (λ error. (n : ℕ) → error ≡ RestartError.BadRecord n → DoesNotFit (geometry_of heap.old).version s.log n) }
     ensures device { (front : List ℕ) (disk : ℕ → List ℕ) (s : RecoveryState) → Stands front disk heap.old s → IsToRedo cut kept.now table.now s
         → IfErr result (λ error. (f : Fault) → error ≡ RestartError.Page f → f ≡ Fault.Device) }
     ensures bad_number { IfErr result (λ error. (n : ℕ) → error ≡ RestartError.BadRecord n → (cut < n) × (n ≤ cut + length kept.now)) }
@@ -103,7 +103,7 @@ fn redo_record<V: Disk>(
         → number ≡ s.redone + 1 → last ≡ length s.log → s.durable ≡ length s.log
         → TableIsRight s.log table.now.begin table.now.dirty s.in_place → IfOk result (λ did. did ≡ is_missing s.in_place number (image_in logged.now.payload)) }
     ensures bad { (front : List ℕ) (disk : ℕ → List ℕ) (s : RecoveryState) → Stands front disk heap.old s → slice_get s.log s.redone ≡ Some logged.now
-        → number ≡ s.redone + 1 → last ≡ length s.log → s.durable ≡ length s.log → IfErr result (λ error. (n : ℕ) → error ≡ RestartError.BadRecord n → DoesNotFit s.log n) }
+        → number ≡ s.redone + 1 → last ≡ length s.log → s.durable ≡ length s.log → IfErr result (λ error. (n : ℕ) → error ≡ RestartError.BadRecord n → DoesNotFit (geometry_of heap.old).version s.log n) }
     ensures device { (front : List ℕ) (disk : ℕ → List ℕ) (s : RecoveryState) → Stands front disk heap.old s → last ≡ length s.log → s.durable ≡ length s.log
         → IfErr result (λ error. (f : Fault) → error ≡ RestartError.Page f → f ≡ Fault.Device) }
     ensures bad_number { IfErr result (λ error. (n : ℕ) → error ≡ RestartError.BadRecord n → n ≡ number) }
@@ -158,7 +158,7 @@ fn redo_image<V: Disk>(
         → IfOk result (λ did. did ≡ is_missing s.in_place number (Some (id, image.now))) }
     ensures bad { (front : List ℕ) (disk : ℕ → List ℕ) (s : RecoveryState) (r : LogRecord) → Stands front disk heap.old s → slice_get s.log s.redone ≡ Some r
         → image_in r.payload ≡ Some (id, image.now) → number ≡ s.redone + 1 → last ≡ length s.log → s.durable ≡ length s.log
-        → IfErr result (λ error. (n : ℕ) → error ≡ RestartError.BadRecord n → DoesNotFit s.log n) }
+        → IfErr result (λ error. (n : ℕ) → error ≡ RestartError.BadRecord n → DoesNotFit (geometry_of heap.old).version s.log n) }
     ensures device { (front : List ℕ) (disk : ℕ → List ℕ) (s : RecoveryState) → Stands front disk heap.old s → last ≡ length s.log → s.durable ≡ length s.log
         → IfErr result (λ error. (f : Fault) → error ≡ RestartError.Page f → f ≡ Fault.Device) }
     ensures bad_number { IfErr result (λ error. (n : ℕ) → error ≡ RestartError.BadRecord n → n ≡ number) }

@@ -70,9 +70,9 @@ impl Undo {
         ensures anchor { IfErr result (λ error. error ≢ RestartError.BadAnchor) }
         ensures bad { (log_front front : List ℕ) (anchor : Anchor) (disk : ℕ → List ℕ) (s : RecoveryState) → IsReady log_front front anchor disk log.old heap.old s
             → IfErr result (λ error. (n : ℕ) → error ≡ RestartError.BadRecord n → (so_far : List LogRecord) × IsUndoneSoFar s.log so_far
-            × TurnsFit s.log so_far × CannotUndo so_far n) }
+            × TurnsFit (geometry_of heap.old).version s.log so_far × CannotUndo (geometry_of heap.old).version so_far n) }
         ensures fits { (log_front front : List ℕ) (anchor : Anchor) (disk : ℕ → List ℕ) (s : RecoveryState) → IsReady log_front front anchor disk log.old heap.old s
-            → OnOk result (TurnsFit s.log (gone_on s.log (log_seen log.old) (log_seen log.new))) }
+            → OnOk result (TurnsFit (geometry_of heap.old).version s.log (gone_on s.log (log_seen log.old) (log_seen log.new))) }
         ensures device { (log_front front : List ℕ) (anchor : Anchor) (disk : ℕ → List ℕ) (s : RecoveryState) → IsReady log_front front anchor disk log.old heap.old s
             → IfErr result (λ error. (f : Fault) → error ≡ RestartError.Page f → f ≡ Fault.Device) }
         ensures log_device { (log_front : List ℕ) → IsQuiet log_front log.old → StaysQuiet result log_front log.old log.new }
@@ -111,9 +111,9 @@ impl Undo {
         ensures no_room { IfErr result (λ error. error ≡ RestartError.NoRoom → HasNoTurnRoom (cut_of_log log.old) (records_of_log log.old) (stream_bytes_of log.old)) }
         ensures anchor { IfErr result (λ error. error ≢ RestartError.BadAnchor) }
         ensures bad { (log_front front : List ℕ) (anchor : Anchor) (disk : ℕ → List ℕ) (s : RecoveryState) → IsReady log_front front anchor disk log.old heap.old s
-            → IfErr result (λ error. (n : ℕ) → error ≡ RestartError.BadRecord n → CannotUndo s.log n) }
+            → IfErr result (λ error. (n : ℕ) → error ≡ RestartError.BadRecord n → CannotUndo (geometry_of heap.old).version s.log n) }
         ensures fits { (log_front front : List ℕ) (anchor : Anchor) (disk : ℕ → List ℕ) (s : RecoveryState) (found : List LogRecord) → IsReady log_front front anchor disk log.old heap.old s
-            → TurnsFit found s.log → OnOk result (TurnsFit found (gone_on s.log (log_seen log.old) (log_seen log.new))) }
+            → TurnsFit (geometry_of heap.old).version found s.log → OnOk result (TurnsFit (geometry_of heap.old).version found (gone_on s.log (log_seen log.old) (log_seen log.new))) }
         ensures device { (log_front front : List ℕ) (anchor : Anchor) (disk : ℕ → List ℕ) (s : RecoveryState) → IsReady log_front front anchor disk log.old heap.old s
             → IfErr result (λ error. (f : Fault) → error ≡ RestartError.Page f → f ≡ Fault.Device) }
         ensures log_device { (log_front : List ℕ) → IsQuiet log_front log.old → StaysQuiet result log_front log.old log.new }
@@ -171,9 +171,9 @@ fn append<L: Disk, V: Disk>(
         → Appends result log_front front anchor log.old log.new heap.old heap.new s (undo_record s.log t) }
     ensures reserved { OnOk result (HasRecordRoom log.new 1) }
     ensures bad { (log_front front : List ℕ) (anchor : Anchor) (disk : ℕ → List ℕ) (s : RecoveryState) → IsReady log_front front anchor disk log.old heap.old s
-        → IfErr result (λ error. (n : ℕ) → error ≡ RestartError.BadRecord n → (n ≡ undone) × (FitsBehind s.log payload.now → ⊥)) }
+        → IfErr result (λ error. (n : ℕ) → error ≡ RestartError.BadRecord n → (n ≡ undone) × (FitsBehind (geometry_of heap.old).version s.log payload.now → ⊥)) }
     ensures fits { (log_front front : List ℕ) (anchor : Anchor) (disk : ℕ → List ℕ) (s : RecoveryState) (t : ℕ) → IsReady log_front front anchor disk log.old heap.old s
-        → payload.now ≡ undo_payload (unanswered t s.log) → OnOk result (FitsBehind s.log payload.now) }
+        → payload.now ≡ undo_payload (unanswered t s.log) → OnOk result (FitsBehind (geometry_of heap.old).version s.log payload.now) }
     ensures device { (log_front front : List ℕ) (anchor : Anchor) (disk : ℕ → List ℕ) (s : RecoveryState) → IsReady log_front front anchor disk log.old heap.old s
         → IfErr result (λ error. (f : Fault) → error ≡ RestartError.Page f → f ≡ Fault.Device) }
     ensures log_device { (log_front : List ℕ) → IsQuiet log_front log.old → StaysQuiet result log_front log.old log.new }
@@ -227,9 +227,9 @@ fn put_back<L: Disk, V: Disk>(
         → image_in r.payload ≡ Some (id, image.now) → number ≡ length s.log + 1 → Appends result log_front front anchor log.old log.new heap.old heap.new s r }
     ensures reserved { OnOk result (HasRecordRoom log.new 1) }
     ensures bad { (log_front front : List ℕ) (anchor : Anchor) (disk : ℕ → List ℕ) (s : RecoveryState) → IsReady log_front front anchor disk log.old heap.old s
-        → IfErr result (λ error. (n : ℕ) → error ≡ RestartError.BadRecord n → (n ≡ undone) × (Fits (slots_left s.log id.page) id.slot (image_len image.now) → ⊥)) }
+        → IfErr result (λ error. (n : ℕ) → error ≡ RestartError.BadRecord n → (n ≡ undone) × (Fits (geometry_of heap.old).version (slots_left s.log id.page) id.slot (image_len image.now) → ⊥)) }
     ensures fits { (log_front front : List ℕ) (anchor : Anchor) (disk : ℕ → List ℕ) (s : RecoveryState) → IsReady log_front front anchor disk log.old heap.old s
-        → OnOk result (Fits (slots_left s.log id.page) id.slot (image_len image.now)) }
+        → OnOk result (Fits (geometry_of heap.old).version (slots_left s.log id.page) id.slot (image_len image.now)) }
     ensures device { (log_front front : List ℕ) (anchor : Anchor) (disk : ℕ → List ℕ) (s : RecoveryState) → IsReady log_front front anchor disk log.old heap.old s
         → IfErr result (λ error. (f : Fault) → error ≡ RestartError.Page f → f ≡ Fault.Device) }
     ensures log_device { (log_front : List ℕ) → IsQuiet log_front log.old → StaysQuiet result log_front log.old log.new }

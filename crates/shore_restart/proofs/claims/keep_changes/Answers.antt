@@ -13,7 +13,7 @@ use Rattle.shore_txn.specs.Transactions.{kept_in, txns_in}
 use Rattle.shore_txn.specs.UndoEntries.{claims_on}
 use Rattle.shore_txn.specs.declared.undo.UndoEntry.{UndoEntry}
 use Rattle.shore_restart.specs.declared.errors.RestartError.{RestartError}
-use Rattle.shore_restart.specs.GivenBack.{AreOfPage, CannotKeepOn, Keeps, StandsSoFar}
+use Rattle.shore_restart.specs.GivenBack.{AreOfPage, CannotKeep, CannotKeepOn, Keeps, StandsSoFar}
 use Rattle.shore_restart.specs.Held.{IsHeldSoFar, KeepsHeld, StaysHeldSoFar}
 use Rattle.shore_restart.proofs.ChangesBack.{among_at}
 use Rattle.shore_restart.proofs.ClaimsAll.{fit_everywhere, in_place_of, keeps_none}
@@ -114,7 +114,7 @@ returns-in_err-keep_claim-clause-bad g c older newer slots front disk s order th
     let durable = first.same.durable in
     let split = in_place_of (all_changes (txns_in c.args.txns.now)) older es newer j e here order in
     if_err c.from_residual.result c.from_residual.ensures.1 (λ error same n is.
-    record {
+    subst (λ (k : Geometry). CannotKeep k.version c.args.txns.now slots n) so.volume.geometry (record {
       older = older ++ take j es;
       entry = e;
       newer = rest;
@@ -125,7 +125,7 @@ returns-in_err-keep_claim-clause-bad g c older newer slots front disk s order th
         | inr other ↦ there x other
       ])) st.room;
       no_room = c.in_err-keep_claim.ensures.bad (older ++ take j es) rest slots front first.stands.0 first.later split st (omega (arith, durable, low)) n (sym same ∙ is);
-    })
+    }))
   where
     among_drop : (n : ℕ) (xs : List UndoEntry) (x : UndoEntry) → IsAmong x (drop n xs) → IsAmong x xs
     among_drop n xs x there = subst (IsAmong x) (take-append-drop n xs) (among_right x (take n xs) (drop n xs) there)

@@ -1,12 +1,13 @@
 use Rattle.std.proofs.Common.{◌≡◌, ◌∷◌, ℕ, Result, true, false, refl, sym, subst, ◌∙◌}
 use Rattle.std.specs.Prelude.{IsSomeAnd, option_map}
+use Rattle.shore_types.specs.Images.{image_len}
 use Rattle.shore_types.specs.Layout.{HasPage}
 use Rattle.shore_types.specs.declared.faults.Fault.{Fault}
 use Rattle.shore_types.specs.declared.layout.Geometry.{Geometry}
 use Rattle.shore_dwrite.proofs.Moves.{if_err}
 use Rattle.shore_page.specs.Room.{raised}
 use Rattle.shore_pool.specs.Changes.{reclaimed}
-use Rattle.shore_heap.specs.Contents.{CanKeep}
+use Rattle.shore_heap.specs.Contents.{CanKeep, claimed_by}
 use Rattle.shore_heap.specs.Heaps.{faults_of, frame_of, geometry_of}
 use Rattle.shore_txn.specs.ActiveTxns.{all_changes}
 use Rattle.shore_txn.specs.Transactions.{kept_in, txns_in}
@@ -85,8 +86,9 @@ returns-then-not-keep_claim-clause-bad g c older newer slots front disk s order 
     let kept = c.in_ok-fetch_claimed.ensures.keeps (λ p. claims_on p newer) slots front disk s stands low in
     let st = kept.stands.1 in
     let there : HasPage (geometry_of mid) entry.id.page = subst (λ (k : Geometry). HasPage k entry.id.page) (sym c.fetch_claimed.ensures.volume.geometry) c.requires.there in
-    let place = has_place kept.stands.0 mid (all_changes (txns_in c.args.txns.now)) older newer entry order slots there st.room st.pages c.in_ok-fetch_claimed.ensures.held can in
-    let yes : c.keep_claim.result ≡ true = c.keep_claim.ensures.kept.1 (subst (λ (bytes : ℕ). IsSomeAnd (frame_of mid entry.id.page) (λ f. CanKeep f.page.slots entry.id.slot bytes)) (sym c.image_len.ensures) place) in
+    let can_there = subst (λ (k : Geometry). CanKeep k.version (claimed_by (claims_on entry.id.page newer) (slots entry.id.page)) entry.id.slot (image_len entry.before)) (sym c.fetch_claimed.ensures.volume.geometry) can in
+    let place = has_place kept.stands.0 mid (all_changes (txns_in c.args.txns.now)) older newer entry order slots there st.room st.pages c.in_ok-fetch_claimed.ensures.held can_there in
+    let yes : c.keep_claim.result ≡ true = c.keep_claim.ensures.kept.1 (subst (λ (bytes : ℕ). IsSomeAnd (frame_of mid entry.id.page) (λ f. CanKeep (geometry_of mid).version f.page.slots entry.id.slot bytes)) (sym c.image_len.ensures) place) in
     let clash : true ≡ false = sym yes ∙ c.if-not-keep_claim.true in
     cc
 
@@ -103,7 +105,7 @@ returns-then-not-keep_claim-clause-any_bad g c older newer front first disk done
     let kept = (c.in_ok-fetch_claimed.ensures.any_pages (λ p. claims_on p newer) front first disk done held).stays in
     let there : HasPage (geometry_of mid) entry.id.page = subst (λ (k : Geometry). HasPage k entry.id.page) (sym c.fetch_claimed.ensures.volume.geometry) c.requires.there in
     let lacks = lacks_room front first kept.left done c.args.last mid (all_changes (txns_in c.args.txns.now)) older newer entry order there kept.held c.args.txns.now refl c.in_ok-fetch_claimed.ensures.held (λ can.
-    let yes : c.keep_claim.result ≡ true = c.keep_claim.ensures.kept.1 (subst (λ (bytes : ℕ). IsSomeAnd (frame_of mid entry.id.page) (λ f. CanKeep f.page.slots entry.id.slot bytes)) (sym c.image_len.ensures) can) in
+    let yes : c.keep_claim.result ≡ true = c.keep_claim.ensures.kept.1 (subst (λ (bytes : ℕ). IsSomeAnd (frame_of mid entry.id.page) (λ f. CanKeep (geometry_of mid).version f.page.slots entry.id.slot bytes)) (sym c.image_len.ensures) can) in
     let clash : true ≡ false = sym yes ∙ c.if-not-keep_claim.true in
     cc) in
     subst (λ (k : ℕ). CannotKeepOn (geometry_of c.args.heap.now) c.args.txns.now first done k) (one_number entry.lsn n is)
@@ -126,7 +128,7 @@ returns-clause-keeps g c older newer slots front disk s order stands low =
     let there : HasPage (geometry_of mid) entry.id.page = subst (λ (k : Geometry). HasPage k entry.id.page) (sym c.fetch_claimed.ensures.volume.geometry) c.requires.there in
     let yes = c.if-not-keep_claim.false in
     let untouched = c.keep_claim.ensures.untouched front left st.holds in
-    let can = subst (λ (bytes : ℕ). IsSomeAnd (frame_of mid entry.id.page) (λ f. CanKeep f.page.slots entry.id.slot bytes)) c.image_len.ensures (c.keep_claim.ensures.kept.0 yes) in
+    let can = subst (λ (bytes : ℕ). IsSomeAnd (frame_of mid entry.id.page) (λ f. CanKeep (geometry_of mid).version f.page.slots entry.id.slot bytes)) c.image_len.ensures (c.keep_claim.ensures.kept.0 yes) in
     let here = subst (λ (bytes : ℕ). frame_of new entry.id.page ≡ option_map (reclaimed (raised bytes) entry.id.slot) (frame_of mid entry.id.page)) c.image_len.ensures (c.keep_claim.ensures.here yes) in
     record {
       later = kept.later;
@@ -149,7 +151,7 @@ returns-clause-any_pages g c older newer front first disk done order held =
     let kept = (c.in_ok-fetch_claimed.ensures.any_pages (λ p. claims_on p newer) front first disk done held).stays in
     let there : HasPage (geometry_of mid) entry.id.page = subst (λ (k : Geometry). HasPage k entry.id.page) (sym c.fetch_claimed.ensures.volume.geometry) c.requires.there in
     let yes = c.if-not-keep_claim.false in
-    let can = subst (λ (bytes : ℕ). IsSomeAnd (frame_of mid entry.id.page) (λ f. CanKeep f.page.slots entry.id.slot bytes)) c.image_len.ensures (c.keep_claim.ensures.kept.0 yes) in
+    let can = subst (λ (bytes : ℕ). IsSomeAnd (frame_of mid entry.id.page) (λ f. CanKeep (geometry_of mid).version f.page.slots entry.id.slot bytes)) c.image_len.ensures (c.keep_claim.ensures.kept.0 yes) in
     let here = subst (λ (bytes : ℕ). frame_of new entry.id.page ≡ option_map (reclaimed (raised bytes) entry.id.slot) (frame_of mid entry.id.page)) c.image_len.ensures (c.keep_claim.ensures.here yes) in
     record {
       named = tt;

@@ -14,7 +14,7 @@ use Rattle.shore_txn.specs.UndoEntries.{claims_on}
 use Rattle.shore_txn.specs.declared.txn.Txn.{Txn}
 use Rattle.shore_txn.specs.declared.undo.UndoEntry.{UndoEntry}
 use Rattle.shore_restart.specs.declared.errors.RestartError.{RestartError}
-use Rattle.shore_restart.specs.GivenBack.{AreOfPage, CanKeepOn, CannotKeepOn, Keeps, StandsSoFar, StandsWith}
+use Rattle.shore_restart.specs.GivenBack.{AreOfPage, CanKeepOn, CannotKeep, CannotKeepOn, Keeps, StandsSoFar, StandsWith}
 use Rattle.shore_restart.specs.Held.{IsHeldSoFar, StaysHeldSoFar}
 use Rattle.shore_restart.proofs.ClaimsAll.{all_flat, all_so_far, flat, flat_here, keeps_none, none_so_far, some_at}
 use Rattle.shore_restart.proofs.ClaimsKept.{keeps_then, so_far_left}
@@ -143,9 +143,10 @@ returns-in_err-keep_changes-clause-bad g c front disk s stands low =
     let st = subst (λ (k : ℕ). StandsSoFar (kept_in c.args.txns.now) (λ p. claims_on p (flat (drop k rs))) stands.slots front first.stands.0 c.loop-index.heap first.later) place first.stands.1 in
     let durable = first.same.durable in
     if_err c.from_residual.result c.from_residual.ensures.1 (λ error same n is.
-    c.in_err-keep_changes.ensures.bad (flat (take j rs)) (flat (drop (j + 1) rs)) stands.slots front first.stands.0 first.later at.order
+    subst (λ (k : Geometry). CannotKeep k.version c.args.txns.now stands.slots n) so.volume.geometry
+    (c.in_err-keep_changes.ensures.bad (flat (take j rs)) (flat (drop (j + 1) rs)) stands.slots front first.stands.0 first.later at.order
     (λ e among. subst (λ (k : Geometry). HasPage k e.id.page) (sym so.volume.geometry) (c.requires.there e (among_newer ts (flat (take j rs)) c.changes.result.now (flat (drop (j + 1) rs)) e at.order among))) st (omega (arith, durable, low)) n
-    (sym same ∙ is))
+    (sym same ∙ is)))
 
 pub returns-in_err-keep_changes-clause-device : goal.returns-in_err-keep_changes-clause-device
 returns-in_err-keep_changes-clause-device g c front disk s stands long low =

@@ -525,8 +525,9 @@ returns-in_err-undo_all-clause-bad g c log_front front anchor disk s of_anchor f
     let log_is = redone.1 in
     if_err c.from_residual-in_err-undo_all.result c.from_residual-in_err-undo_all.ensures.1 (λ error same n is. inr (
       ((found_as (λ g cut kept. AreMeantAnchored g cut c.args.checkpoint kept) (geometry_of c.args.heap.now) c.geometry.result.now (cut_of_log c.args.log.now) c.cut_off-cut.result (records_of_log c.args.log.now) c.in_ok-kept.kept.now c.geometry.ensures c.cut_off-cut.ensures c.in_ok-kept.ensures.found (c.in_ok-tables.ensures.anchored)), (found_as (λ g cut kept. CanHold g.max_locks (doubts_left (padded cut kept))) (geometry_of c.args.heap.now) c.geometry-2.result.now (cut_of_log c.args.log.now) c.cut_off-cut.result (records_of_log c.args.log.now) c.in_ok-kept.kept.now c.geometry-2.ensures c.cut_off-cut.ensures c.in_ok-kept.ensures.found (c.in_ok-locks.ensures.hold))),
-      subst (λ (l : List LogRecord). IsMisfit l n) log_is
-          (misfit_turn come.0.log n (c.in_err-undo_all.ensures.bad log_front front anchor come.1.disk come.0 come.1.ready n (sym same ∙ is))),
+      subst (λ (l : List LogRecord). IsMisfit (geometry_of c.args.heap.now).version l n) log_is
+          (subst (λ (g : Geometry). IsMisfit g.version come.0.log n) c.redo.ensures.volume.geometry
+          (misfit_turn (geometry_of c.redo.new.heap).version come.0.log n (c.in_err-undo_all.ensures.bad log_front front anchor come.1.disk come.0 come.1.ready n (sym same ∙ is)))),
     ))
 
 pub returns-in_err-undo_all-clause-meant : goal.returns-in_err-undo_all-clause-meant
@@ -566,7 +567,7 @@ keep_claims-requires g c =
     let back = back_by (log_seen c.args.log.now) (padded c.cut_off-cut.result c.in_ok-kept.kept.now) c.in_ok-txns.txns c.set_room.new.self (seen_by (cut_of_log c.args.log.now) c.cut_off-cut.result (records_of_log c.args.log.now) c.in_ok-kept.kept.now c.cut_off-cut.ensures c.in_ok-kept.ensures.found) c.set_room.ensures.txns c.in_ok-txns.ensures.back in
     record {
       there = λ e among. subst (λ (g : Geometry). HasPage g e.id.page) (sym (c.undo_all.ensures.volume.geometry ∙ c.redo.ensures.volume.geometry))
-          (entry_there (log_seen c.args.log.now) c.set_room.new.self (are_told (log_seen c.args.log.now) c.set_room.new.self back) (geometry_of c.args.heap.now) (in_seen (geometry_of c.args.heap.now) (cut_of_log c.args.log.now) (records_of_log c.args.log.now) (found_as (AreMeantKept) (geometry_of c.args.heap.now) c.geometry.result.now (cut_of_log c.args.log.now) c.cut_off-cut.result (records_of_log c.args.log.now) c.in_ok-kept.kept.now c.geometry.ensures c.cut_off-cut.ensures c.in_ok-kept.ensures.found (c.in_ok-tables.ensures.meant))) e among);
+          (entry_there (geometry_of c.args.heap.now).version (log_seen c.args.log.now) c.set_room.new.self (are_told (log_seen c.args.log.now) c.set_room.new.self back) (geometry_of c.args.heap.now) (in_seen (geometry_of c.args.heap.now) (cut_of_log c.args.log.now) (records_of_log c.args.log.now) (found_as (AreMeantKept) (geometry_of c.args.heap.now) c.geometry.result.now (cut_of_log c.args.log.now) c.cut_off-cut.result (records_of_log c.args.log.now) c.in_ok-kept.kept.now c.geometry.ensures c.cut_off-cut.ensures c.in_ok-kept.ensures.found (c.in_ok-tables.ensures.meant))) e among);
     }
 
 pub returns-in_err-keep_claims-clause-moves : goal.returns-in_err-keep_claims-clause-moves
@@ -598,14 +599,17 @@ returns-in_err-keep_claims-clause-bad g c log_front front anchor disk s of_ancho
     let grown : gone_on come.0.log (log_seen c.args.log.now) (log_seen log) ≡ undone.0.0.log =
     ap (λ (n : ℕ). gone_on come.0.log (log_seen c.args.log.now) (padded n (records_of_log log))) same_cut
     ∙ gone_whole come.0.log undone.0.0.log (cut_of_log c.args.log.now) (records_of_log c.args.log.now) (records_of_log log) was.ended.cuts.0 was.records (ap (λ (n : ℕ). drop n undone.0.0.log) (sym same_cut) ∙ at.records) turns in
-    let fit = subst (λ (l : List LogRecord). TurnsFit s.log l) grown (subst (λ (l : List LogRecord). TurnsFit l (gone_on come.0.log (log_seen c.args.log.now) (log_seen log))) log_is
-    (c.in_ok-undo_all.ensures.fits log_front front anchor come.1.disk come.0 come.1.ready)) in
+    let fit = subst (λ (l : List LogRecord). TurnsFit (geometry_of c.undo_all.new.heap).version s.log l) grown
+    (subst (λ (l : List LogRecord). TurnsFit (geometry_of c.undo_all.new.heap).version l (gone_on come.0.log (log_seen c.args.log.now) (log_seen log))) log_is
+    (subst (λ (g : Geometry). TurnsFit g.version come.0.log (gone_on come.0.log (log_seen c.args.log.now) (log_seen log))) (sym c.undo_all.ensures.volume.geometry)
+    (c.in_ok-undo_all.ensures.fits log_front front anchor come.1.disk come.0 come.1.ready))) in
     let quiet = whole_quiet (cut_of_log log) (records_of_log log) undone.0.0.log at.ended at.records c.in_ok-undo_all.ensures.done in
     if_err c.from_residual-in_err-keep_claims.result c.from_residual-in_err-keep_claims.ensures.1 (λ error same n is. inr (
       ((found_as (λ g cut kept. AreMeantAnchored g cut c.args.checkpoint kept) (geometry_of c.args.heap.now) c.geometry.result.now (cut_of_log c.args.log.now) c.cut_off-cut.result (records_of_log c.args.log.now) c.in_ok-kept.kept.now c.geometry.ensures c.cut_off-cut.ensures c.in_ok-kept.ensures.found (c.in_ok-tables.ensures.anchored)), (found_as (λ g cut kept. CanHold g.max_locks (doubts_left (padded cut kept))) (geometry_of c.args.heap.now) c.geometry-2.result.now (cut_of_log c.args.log.now) c.cut_off-cut.result (records_of_log c.args.log.now) c.in_ok-kept.kept.now c.geometry-2.ensures c.cut_off-cut.ensures c.in_ok-kept.ensures.found (c.in_ok-locks.ensures.hold))),
-      misfit_behind front undone.0.1.disk c.undo_all.new.heap undone.0.0 undone.0.1.ready.stands undone.0.1.ready.redone s.log (log_seen c.args.log.now) (geometry_of c.undo_all.new.heap)
+      subst (λ (g : Geometry). IsMisfit g.version s.log n) (c.undo_all.ensures.volume.geometry ∙ c.redo.ensures.volume.geometry)
+          (misfit_behind front undone.0.1.disk c.undo_all.new.heap undone.0.0 undone.0.1.ready.stands undone.0.1.ready.redone s.log (log_seen c.args.log.now) (geometry_of c.undo_all.new.heap)
           (cut_of_log log) (records_of_log log) c.set_room.new.self n undone.2 fit quiet at.ended at.records c.in_ok-undo_all.ensures.undo.meant c.in_ok-undo_all.ensures.undone back refl
-          (c.in_err-keep_claims.ensures.bad front undone.0.1.disk undone.0.0 undone.0.1.ready.stands low.1 n (sym same ∙ is)),
+          (c.in_err-keep_claims.ensures.bad front undone.0.1.disk undone.0.0 undone.0.1.ready.stands low.1 n (sym same ∙ is))),
     ))
 
 pub returns-in_err-keep_claims-clause-meant : goal.returns-in_err-keep_claims-clause-meant
@@ -638,7 +642,7 @@ returns-in_err-keep_claims-clause-bad_number g c =
     let told = are_told (log_seen c.args.log.now) c.set_room.new.self back in
     if_err c.from_residual-in_err-keep_claims.result c.from_residual-in_err-keep_claims.ensures.1 (λ error same n is.
     let among = c.in_err-keep_claims.ensures.bad_number n (sym same ∙ is) in
-    (entry_behind (log_seen c.args.log.now) c.set_room.new.self told (cut_of_log c.args.log.now) (records_of_log c.args.log.now) refl n among, (entry_within (log_seen c.args.log.now) c.set_room.new.self told n among).1))
+    (entry_behind (geometry_of c.args.heap.now).version (log_seen c.args.log.now) c.set_room.new.self told (cut_of_log c.args.log.now) (records_of_log c.args.log.now) refl n among, (entry_within (geometry_of c.args.heap.now).version (log_seen c.args.log.now) c.set_room.new.self told n among).1))
 
 -- ---- who failed
 
@@ -778,7 +782,7 @@ returns-in_err-keep_claims-clause-any_pages g c front first disk held =
     let back = back_by (log_seen c.args.log.now) (padded c.cut_off-cut.result c.in_ok-kept.kept.now) c.in_ok-txns.txns c.set_room.new.self (seen_by (cut_of_log c.args.log.now) c.cut_off-cut.result (records_of_log c.args.log.now) c.in_ok-kept.kept.now c.cut_off-cut.ensures c.in_ok-kept.ensures.found) c.set_room.ensures.txns c.in_ok-txns.ensures.back in
     let told = are_told (log_seen c.args.log.now) c.set_room.new.self back in
     if_err c.from_residual-in_err-keep_claims.result c.from_residual-in_err-keep_claims.ensures.1 (λ error same f page.
-    fault_wider (geometry_of c.args.heap.now) (AreOfPage (all_changes (txns_in c.set_room.new.self))) (MayRead (cut_of_log c.args.log.now) c.args.checkpoint (records_of_log c.args.log.now)) disk (length (log_seen c.args.log.now)) f (λ p on. inr (inr (entry_in_doubt (log_seen c.args.log.now) c.set_room.new.self told p on)))
+    fault_wider (geometry_of c.args.heap.now) (AreOfPage (all_changes (txns_in c.set_room.new.self))) (MayRead (cut_of_log c.args.log.now) c.args.checkpoint (records_of_log c.args.log.now)) disk (length (log_seen c.args.log.now)) f (λ p on. inr (inr (entry_in_doubt (geometry_of c.args.heap.now).version (log_seen c.args.log.now) c.set_room.new.self told p on)))
     (fault_back (geometry_of c.args.heap.now) (geometry_of c.undo_all.new.heap) (AreOfPage (all_changes (txns_in c.set_room.new.self))) disk undone.left (length (log_seen c.args.log.now)) (length (log_seen c.undo_all.new.log)) f (c.undo_all.ensures.volume.geometry ∙ c.redo.ensures.volume.geometry) undone.bad (named f (sym same ∙ page))))
 
 -- ---- .. and which record is named
@@ -822,7 +826,7 @@ returns-in_err-keep_claims-clause-any_bad g c front first disk held =
     let told = still_told (log_seen c.args.log.now) turns.0 later c.set_room.new.self (in_order_undone (log_seen c.args.log.now) turns.0 later turns.1) (are_told (log_seen c.args.log.now) c.set_room.new.self back) in
     if_err c.from_residual-in_err-keep_claims.result c.from_residual-in_err-keep_claims.ensures.1 (λ error same n is.
     let lacks = subst (λ (g : Geometry). CannotKeepOn g c.set_room.new.self first (gone_on (due_seen c.in_ok-tables.tables.redo c.cut_off-cut.result c.in_ok-kept.kept.now) (log_seen c.args.log.now) (log_seen c.undo_all.new.log)) n) (c.undo_all.ensures.volume.geometry ∙ c.redo.ensures.volume.geometry) (c.in_err-keep_claims.ensures.any_bad front first undone.left (gone_on (due_seen c.in_ok-tables.tables.redo c.cut_off-cut.result c.in_ok-kept.kept.now) (log_seen c.args.log.now) (log_seen c.undo_all.new.log)) kept_there n (sym same ∙ is)) in
-    inr (((found_as (λ g cut kept. AreMeantAnchored g cut c.args.checkpoint kept) (geometry_of c.args.heap.now) c.geometry.result.now (cut_of_log c.args.log.now) c.cut_off-cut.result (records_of_log c.args.log.now) c.in_ok-kept.kept.now c.geometry.ensures c.cut_off-cut.ensures c.in_ok-kept.ensures.found (c.in_ok-tables.ensures.anchored)), (found_as (λ g cut kept. CanHold g.max_locks (doubts_left (padded cut kept))) (geometry_of c.args.heap.now) c.geometry-2.result.now (cut_of_log c.args.log.now) c.cut_off-cut.result (records_of_log c.args.log.now) c.in_ok-kept.kept.now c.geometry-2.ensures c.cut_off-cut.ensures c.in_ok-kept.ensures.found (c.in_ok-locks.ensures.hold))), subst (λ (due : List LogRecord). IsMisfitOn (geometry_of c.args.heap.now) first (log_seen c.args.log.now) due n) (due_by (cut_of_log c.args.log.now) c.cut_off-cut.result c.args.checkpoint (records_of_log c.args.log.now) c.in_ok-kept.kept.now c.in_ok-tables.tables.redo c.cut_off-cut.ensures c.in_ok-kept.ensures.found c.in_ok-tables.ensures.tables.redo) (inr (later, turns, fit, inr (c.in_ok-undo_all.ensures.done, unkept_on later c.set_room.new.self told (geometry_of c.args.heap.now) first (gone_on (due_seen c.in_ok-tables.tables.redo c.cut_off-cut.result c.in_ok-kept.kept.now) (log_seen c.args.log.now) (log_seen c.undo_all.new.log)) n lacks)))))
+    inr (((found_as (λ g cut kept. AreMeantAnchored g cut c.args.checkpoint kept) (geometry_of c.args.heap.now) c.geometry.result.now (cut_of_log c.args.log.now) c.cut_off-cut.result (records_of_log c.args.log.now) c.in_ok-kept.kept.now c.geometry.ensures c.cut_off-cut.ensures c.in_ok-kept.ensures.found (c.in_ok-tables.ensures.anchored)), (found_as (λ g cut kept. CanHold g.max_locks (doubts_left (padded cut kept))) (geometry_of c.args.heap.now) c.geometry-2.result.now (cut_of_log c.args.log.now) c.cut_off-cut.result (records_of_log c.args.log.now) c.in_ok-kept.kept.now c.geometry-2.ensures c.cut_off-cut.ensures c.in_ok-kept.ensures.found (c.in_ok-locks.ensures.hold))), subst (λ (due : List LogRecord). IsMisfitOn (geometry_of c.args.heap.now) first (log_seen c.args.log.now) due n) (due_by (cut_of_log c.args.log.now) c.cut_off-cut.result c.args.checkpoint (records_of_log c.args.log.now) c.in_ok-kept.kept.now c.in_ok-tables.tables.redo c.cut_off-cut.ensures c.in_ok-kept.ensures.found c.in_ok-tables.ensures.tables.redo) (inr (later, turns, fit, inr (c.in_ok-undo_all.ensures.done, unkept_on (geometry_of c.args.heap.now).version later c.set_room.new.self told (geometry_of c.args.heap.now) first (gone_on (due_seen c.in_ok-tables.tables.redo c.cut_off-cut.result c.in_ok-kept.kept.now) (log_seen c.args.log.now) (log_seen c.undo_all.new.log)) n lacks)))))
 
 pub returns-clause-any_fit : goal.returns-clause-any_fit
 returns-clause-any_fit g c front first disk held =
@@ -844,4 +848,4 @@ returns-clause-any_fit g c front first disk held =
     let told = still_told (log_seen c.args.log.now) turns.0 later c.set_room.new.self (in_order_undone (log_seen c.args.log.now) turns.0 later turns.1) (are_told (log_seen c.args.log.now) c.set_room.new.self back) in
     let can = subst (λ (g : Geometry). CanKeepOn g c.set_room.new.self first (gone_on (due_seen c.in_ok-tables.tables.redo c.cut_off-cut.result c.in_ok-kept.kept.now) (log_seen c.args.log.now) later)) (c.undo_all.ensures.volume.geometry ∙ c.redo.ensures.volume.geometry) (c.in_ok-keep_claims.ensures.any_fit front first undone.left (gone_on (due_seen c.in_ok-tables.tables.redo c.cut_off-cut.result c.in_ok-kept.kept.now) (log_seen c.args.log.now) later) kept_there) in
     subst (λ (due : List LogRecord). NoneMisfitsOn (geometry_of c.args.heap.now) first (log_seen c.args.log.now) due later) (due_by (cut_of_log c.args.log.now) c.cut_off-cut.result c.args.checkpoint (records_of_log c.args.log.now) c.in_ok-kept.kept.now c.in_ok-tables.tables.redo c.cut_off-cut.ensures c.in_ok-kept.ensures.found c.in_ok-tables.ensures.tables.redo)
-    (record { fit = c.in_ok-redone.ensures.any_fit front first disk before; undo_fits = fit; kept = kept_on later c.set_room.new.self told (geometry_of c.args.heap.now) first (gone_on (due_seen c.in_ok-tables.tables.redo c.cut_off-cut.result c.in_ok-kept.kept.now) (log_seen c.args.log.now) later) can })
+    (record { fit = c.in_ok-redone.ensures.any_fit front first disk before; undo_fits = fit; kept = kept_on (geometry_of c.args.heap.now).version later c.set_room.new.self told (geometry_of c.args.heap.now) first (gone_on (due_seen c.in_ok-tables.tables.redo c.cut_off-cut.result c.in_ok-kept.kept.now) (log_seen c.args.log.now) later) can })

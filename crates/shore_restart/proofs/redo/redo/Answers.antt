@@ -166,7 +166,9 @@ returns-in_err-redo_record-clause-bad g c front disk s stands to_redo =
     let now = c.loop-index.invariant.now front disk s stands to_redo in
     let of = one_of table cut kept s to_redo i r at now.later now.log_is now.durable now.redone now.right in
     if_err c.from_residual.result c.from_residual.ensures.1 (λ error same n is.
-    subst (λ (l : List LogRecord). DoesNotFit l n) now.log_is (c.in_err-redo_record.ensures.bad front now.left now.later now.stands of.next of.number of.last of.all n (sym same ∙ is)))
+    subst (λ (l : List LogRecord). DoesNotFit (geometry_of c.args.heap.now).version l n) now.log_is
+    (subst (λ (g : Geometry). DoesNotFit g.version now.later.log n) c.loop-index.invariant.volume.geometry
+    (c.in_err-redo_record.ensures.bad front now.left now.later now.stands of.next of.number of.last of.all n (sym same ∙ is))))
 
 pub returns-in_err-redo_record-clause-device : goal.returns-in_err-redo_record-clause-device
 returns-in_err-redo_record-clause-device g c front disk s stands to_redo =

@@ -2,7 +2,7 @@ use Rattle.std.proofs.Common.{◌≡◌, ◌≤◌, ◌<◌, ◌+◌, ◌++◌, 
 use Rattle.std.specs.Prelude.{IsSomeAnd, slice_get}
 use Rattle.std.proofs.lemmas.Bool.{le-ltb, lt-ltb}
 use Rattle.shore_page.specs.Room.{Fits}
-use Rattle.shore_heap.specs.Heaps.{frame_of}
+use Rattle.shore_heap.specs.Heaps.{frame_of, geometry_of}
 use Rattle.shore_dwrite.proofs.Moves.{if_err}
 use Rattle.shore_model.specs.declared.log_records.LogRecord.{LogRecord}
 use Rattle.shore_types.specs.Layout.{HasPage}
@@ -12,6 +12,7 @@ use Rattle.shore_restart.specs.declared.errors.RestartError.{RestartError}
 use Rattle.shore_restart.specs.declared.errors.RestartError.TheVariants.{BadRecord}
 use Rattle.shore_types.specs.Images.{image_len}
 use Rattle.shore_restart.specs.AnyPages.{FindsNoRoom, IsOnPage}
+use Rattle.shore_restart.specs.Errors.{DoesNotFit}
 use Rattle.shore_restart.specs.Standing.{Redoes}
 use Rattle.shore_restart.proofs.PageErrors.{err_with}
 use Rattle.shore_restart.proofs.ReadPages.{on_page}
@@ -61,12 +62,13 @@ returns-then-not-fits-clause-bad g c front disk s r stands next says number last
     let number_is_this : c.number.inside.0 ≡ c.args.number = c.number.view_is in
     let lt : c.number-found.result < c.args.number = omega (arith, c.if-found-number.false, found_is, number_is_this) in
     let same : c.args.number ≡ n = cc in
-    does_not_fit front old mid s r f c.args.id c.args.image.now c.number-found.result n (sym same ∙ number) next says stood_there there c.number-found.ensures (omega (arith, lt, page, number))
+    subst (λ (g : Geometry). DoesNotFit g.version s.log n) c.fetch.ensures.volume.geometry
+    (does_not_fit front old mid s r f c.args.id c.args.image.now c.number-found.result n (sym same ∙ number) next says stood_there there c.number-found.ensures (omega (arith, lt, page, number))
     (λ fits.
-    let yes = c.fits.ensures.framed.1 (subst (λ (b : ℕ). IsSomeAnd (frame_of mid c.args.id.page) (λ f. Fits f.page.slots c.args.id.slot b)) (sym c.bytes_in.ensures) fits) in
+    let yes = c.fits.ensures.framed.1 (subst (λ (b : ℕ). IsSomeAnd (frame_of mid c.args.id.page) (λ f. Fits (geometry_of mid).version f.page.slots c.args.id.slot b)) (sym c.bytes_in.ensures) fits) in
     let no : c.fits.result ≡ false = c.if-not-fits.true in
     let clash : true ≡ false = sym yes ∙ no in
-    cc)
+    cc))
 
 pub returns-clause-redone : goal.returns-clause-redone
 returns-clause-redone g c front disk s r stands next says number last durable =
@@ -141,7 +143,7 @@ returns-then-not-fits-clause-any_bad g c front first disk done payload held says
     subst (λ (g : Geometry). FindsNoRoom g first done n payload) c.fetch.ensures.volume.geometry
     (finds_none_there front first s.left mid done c.args.last n payload c.args.id c.args.image.now s.held there says below
     (λ fits.
-    let yes = c.fits.ensures.framed.1 (subst (λ (b : ℕ). IsSomeAnd (frame_of mid c.args.id.page) (λ f. Fits f.page.slots c.args.id.slot b)) (sym c.bytes_in.ensures) fits) in
+    let yes = c.fits.ensures.framed.1 (subst (λ (b : ℕ). IsSomeAnd (frame_of mid c.args.id.page) (λ f. Fits (geometry_of mid).version f.page.slots c.args.id.slot b)) (sym c.bytes_in.ensures) fits) in
     let no : c.fits.result ≡ false = c.if-not-fits.true in
     let clash : true ≡ false = sym yes ∙ no in
     cc))
@@ -154,7 +156,7 @@ returns-then-found-number-clause-any_fit g c front first disk done payload held 
     let found_is : c.found.inside.0 ≡ c.number-found.result = c.found.view_is in
     let number_is_this : c.number.inside.0 ≡ c.args.number = c.number.view_is in
     let ge : c.args.number ≤ c.number-found.result = omega (arith, c.if-found-number.true, found_is, number_is_this) in
-    let fits = some_then (λ f. c.number-found.result ≡ f.page.number) (λ f. f.page.number < c.args.number → Fits f.page.slots c.args.id.slot (image_len c.args.image.now)) (frame_of mid c.args.id.page)
+    let fits = some_then (λ f. c.number-found.result ≡ f.page.number) (λ f. f.page.number < c.args.number → Fits (geometry_of mid).version f.page.slots c.args.id.slot (image_len c.args.image.now)) (frame_of mid c.args.id.page)
     (λ f at low. absurd (omega (arith, ge, at, low))) c.number-found.ensures in
     subst (λ (g : Geometry). FindsNoRoom g first done c.args.number payload → ⊥) c.fetch.ensures.volume.geometry
     (finds_some_there front first s.left mid done c.args.last c.args.number payload c.args.id c.args.image.now s.held there says fits)
@@ -164,8 +166,8 @@ returns-clause-any_fit g c front first disk done payload held says =
     let mid = c.fetch.new.heap in
     let s = fetch_done front first disk c.args.heap.now mid done c.args.last c.args.last _ (c.in_ok-fetch.ensures.any_pages front first disk done held (omega arith)) in
     let there = subst (λ (g : Geometry). HasPage g c.args.id.page) (sym c.fetch.ensures.volume.geometry) c.requires in
-    let room = subst (λ (b : ℕ). IsSomeAnd (frame_of mid c.args.id.page) (λ f. Fits f.page.slots c.args.id.slot b)) c.bytes_in.ensures (c.fits.ensures.framed.0 c.if-not-fits.false) in
-    let fits = some_then (λ f. Fits f.page.slots c.args.id.slot (image_len c.args.image.now)) (λ f. f.page.number < c.args.number → Fits f.page.slots c.args.id.slot (image_len c.args.image.now))
+    let room = subst (λ (b : ℕ). IsSomeAnd (frame_of mid c.args.id.page) (λ f. Fits (geometry_of mid).version f.page.slots c.args.id.slot b)) c.bytes_in.ensures (c.fits.ensures.framed.0 c.if-not-fits.false) in
+    let fits = some_then (λ f. Fits (geometry_of mid).version f.page.slots c.args.id.slot (image_len c.args.image.now)) (λ f. f.page.number < c.args.number → Fits (geometry_of mid).version f.page.slots c.args.id.slot (image_len c.args.image.now))
     (frame_of mid c.args.id.page) (λ f at low. at) room in
     subst (λ (g : Geometry). FindsNoRoom g first done c.args.number payload → ⊥) c.fetch.ensures.volume.geometry
     (finds_some_there front first s.left mid done c.args.last c.args.number payload c.args.id c.args.image.now s.held there says fits)

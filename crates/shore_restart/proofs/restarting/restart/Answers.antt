@@ -84,7 +84,7 @@ returns-in-Ok-clause-restarts g c log_front front anchor disk s of_anchor found 
           lawful m.undone quiet rest.redone rest.stands noted.3 (geometry_of c.args.heap).max_locks c.in-Ok.ensures.doubts next (omega (arith, begins, behind)) found.found leaves tables.0.txns tables.1.txns
           (λ st log durable running control shows. c.over.ensures.state front left st (ap length log ∙ sym (c.last-last.ensures ∙ last_is log_front anchor new m.later rest.at_rest))
           (durable ∙ rest.at_rest.durable ∙ sym c.durable.ensures ∙ sym c.number-durable.ensures) running control shows) (c.over.ensures.over left) in
-          (rest.redone, quiet, rest.durable, rest.at_rest, left, subst (λ (n : ℕ). OpensIn n anchor.checkpoint c.over.result front left s.log (stream_bytes_of new) ready) (sym same) opens);
+          (rest.redone, quiet, rest.durable, rest.at_rest, left, subst (λ (n : ℕ). OpensIn (geometry_of c.args.heap).version n anchor.checkpoint c.over.result front left s.log (stream_bytes_of new) ready) (sym same) opens);
     }
 
 pub returns-in-Err-clause-restarts : goal.returns-in-Err-clause-restarts

@@ -1,4 +1,5 @@
 use Rattle.std.proofs.Common.{refl, subst, ◌++◌, ◌∷◌, [], ◌+◌, length, arith, sym, ap, ◌∙◌, rules}
+use Rattle.shore_heap.specs.Heaps.{geometry_of}
 use Rattle.shore_restart.specs.Standing.{log_seen}
 use Rattle.std.specs.Prelude.{IsSome}
 use Rattle.shore_model.specs.declared.log_records.Payload.{Payload}
@@ -23,12 +24,12 @@ returns-in-Compensation-clause-bad g c log_front front anchor disk s ready =
 
 pub returns-in-Compensation-clause-fits : goal.returns-in-Compensation-clause-fits
 returns-in-Compensation-clause-fits g c log_front front anchor disk s t ready is =
-    ok_then c.put_back.result (c.put_back.ensures.fits log_front front anchor disk s ready) (image_fits s.log c.args.payload.now c.in-Compensation.id c.in-Compensation.after (ap image_in c.in-Compensation.is))
+    ok_then c.put_back.result (c.put_back.ensures.fits log_front front anchor disk s ready) (image_fits (geometry_of c.args.heap.now).version s.log c.args.payload.now c.in-Compensation.id c.in-Compensation.after (ap image_in c.in-Compensation.is))
 
 pub returns-in-End-clause-fits : goal.returns-in-End-clause-fits
 returns-in-End-clause-fits g c log_front front anchor disk s t ready is =
     let none : IsNoCompensation c.args.payload.now = search rules in
-    on_ok c.reserve.result (none_fits s.log c.args.payload.now (ap image_in is ∙ undo_without (unanswered t s.log) c.args.payload.now is none))
+    on_ok c.reserve.result (none_fits (geometry_of c.args.heap.now).version s.log c.args.payload.now (ap image_in is ∙ undo_without (unanswered t s.log) c.args.payload.now is none))
 
 pub returns-in-End-clause-appends : goal.returns-in-End-clause-appends
 returns-in-End-clause-appends g c log_front front anchor disk s t ready is number =

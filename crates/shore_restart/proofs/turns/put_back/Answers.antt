@@ -7,7 +7,7 @@ use Rattle.shore_model.specs.declared.log_records.LogRecord.{LogRecord}
 use Rattle.shore_page.specs.Room.{Fits}
 use Rattle.shore_types.specs.Images.{image_len}
 use Rattle.laws_runs.specs.SlotCounts.{slots_left}
-use Rattle.shore_heap.specs.Heaps.{frame_of}
+use Rattle.shore_heap.specs.Heaps.{frame_of, geometry_of}
 use Rattle.laws_lives.specs.Recovery.{RecoveryState}
 use Rattle.shore_restart.specs.declared.errors.RestartError.{RestartError}
 use Rattle.shore_restart.specs.declared.errors.RestartError.TheVariants.{BadRecord}
@@ -40,9 +40,10 @@ returns-then-not-fits-clause-bad g c log_front front anchor disk s ready n is =
     let there = subst (λ (g : Geometry). HasPage g id.page) (sym c.bring.ensures.volume.geometry) c.requires.there in (
       cc,
       λ fits.
-          let left = subst (λ (log : List LogRecord). Fits (slots_left log id.page) id.slot (image_len c.args.image.now)) (sym m.done.0.0) fits in
+          let left = subst (λ (log : List LogRecord). Fits (geometry_of mid).version (slots_left log id.page) id.slot (image_len c.args.image.now)) (sym m.done.0.0)
+          (subst (λ (g : Geometry). Fits g.version (slots_left s.log id.page) id.slot (image_len c.args.image.now)) (sym c.bring.ensures.volume.geometry) fits) in
           let framed = fits_whole front m.done.1 mid m.later id (image_len c.args.image.now) m.done.2.stands m.done.2.redone there c.in_ok-bring.ensures.held left in
-          let yes = c.fits.ensures.framed.1 (subst (λ (b : ℕ). IsSomeAnd (frame_of mid id.page) (λ f. Fits f.page.slots id.slot b)) (sym c.bytes_in.ensures) framed) in
+          let yes = c.fits.ensures.framed.1 (subst (λ (b : ℕ). IsSomeAnd (frame_of mid id.page) (λ f. Fits (geometry_of mid).version f.page.slots id.slot b)) (sym c.bytes_in.ensures) framed) in
           let no : c.fits.result ≡ false = c.if-not-fits.true in
           let clash : true ≡ false = sym yes ∙ no in
           cc,
@@ -54,9 +55,10 @@ returns-clause-fits g c log_front front anchor disk s ready =
     let id = c.args.id in
     let m = c.in_ok-bring.ensures.moves log_front front anchor disk s ready in
     let there = subst (λ (g : Geometry). HasPage g id.page) (sym c.bring.ensures.volume.geometry) c.requires.there in
-    let framed = subst (λ (b : ℕ). IsSomeAnd (frame_of mid id.page) (λ f. Fits f.page.slots id.slot b)) c.bytes_in.ensures (c.fits.ensures.framed.0 c.if-not-fits.false) in
-    subst (λ (log : List LogRecord). Fits (slots_left log id.page) id.slot (image_len c.args.image.now)) m.done.0.0
-    (fits_left front m.done.1 mid m.later id (image_len c.args.image.now) m.done.2.stands m.done.2.redone there framed)
+    let framed = subst (λ (b : ℕ). IsSomeAnd (frame_of mid id.page) (λ f. Fits (geometry_of mid).version f.page.slots id.slot b)) c.bytes_in.ensures (c.fits.ensures.framed.0 c.if-not-fits.false) in
+    subst (λ (g : Geometry). Fits g.version (slots_left s.log id.page) id.slot (image_len c.args.image.now)) c.bring.ensures.volume.geometry
+    (subst (λ (log : List LogRecord). Fits (geometry_of mid).version (slots_left log id.page) id.slot (image_len c.args.image.now)) m.done.0.0
+    (fits_left front m.done.1 mid m.later id (image_len c.args.image.now) m.done.2.stands m.done.2.redone there framed))
 
 pub returns-in_err-reserve-clause-appends : goal.returns-in_err-reserve-clause-appends
 returns-in_err-reserve-clause-appends g c log_front front anchor disk s r ready says number =
@@ -128,7 +130,7 @@ returns-then-not-fits-clause-any_bad g c front first disk due payload long held 
       subst (λ (g : Geometry). FindsNoRoom g first due (last + 1) payload) c.bring.ensures.volume.geometry
           (finds_none_there front first s.left mid due last (last + 1) payload id c.args.image.now s.held there says below
           (λ fits.
-          let yes = c.fits.ensures.framed.1 (subst (λ (b : ℕ). IsSomeAnd (frame_of mid id.page) (λ f. Fits f.page.slots id.slot b)) (sym c.bytes_in.ensures) fits) in
+          let yes = c.fits.ensures.framed.1 (subst (λ (b : ℕ). IsSomeAnd (frame_of mid id.page) (λ f. Fits (geometry_of mid).version f.page.slots id.slot b)) (sym c.bytes_in.ensures) fits) in
           let no : c.fits.result ≡ false = c.if-not-fits.true in
           let clash : true ≡ false = sym yes ∙ no in
           cc)),
@@ -141,8 +143,8 @@ returns-clause-any_fit g c front first disk due payload long held says =
     let id = c.args.id in
     let s = (held_counted _ front first disk c.args.heap.now c.bring.new.heap due (length due) (length (log_seen c.args.log.now)) long (c.in_ok-bring.ensures.any_pages front first disk due) held).stays in
     let there = subst (λ (g : Geometry). HasPage g id.page) (sym c.bring.ensures.volume.geometry) c.requires.there in
-    let room = subst (λ (b : ℕ). IsSomeAnd (frame_of mid id.page) (λ f. Fits f.page.slots id.slot b)) c.bytes_in.ensures (c.fits.ensures.framed.0 c.if-not-fits.false) in
-    let fits = some_then (λ f. Fits f.page.slots id.slot (image_len c.args.image.now)) (λ f. f.page.number < last + 1 → Fits f.page.slots id.slot (image_len c.args.image.now)) (frame_of mid id.page)
+    let room = subst (λ (b : ℕ). IsSomeAnd (frame_of mid id.page) (λ f. Fits (geometry_of mid).version f.page.slots id.slot b)) c.bytes_in.ensures (c.fits.ensures.framed.0 c.if-not-fits.false) in
+    let fits = some_then (λ f. Fits (geometry_of mid).version f.page.slots id.slot (image_len c.args.image.now)) (λ f. f.page.number < last + 1 → Fits (geometry_of mid).version f.page.slots id.slot (image_len c.args.image.now)) (frame_of mid id.page)
     (λ f at low. at) room in
     subst (λ (g : Geometry). FindsNoRoom g first due (last + 1) payload → ⊥) c.bring.ensures.volume.geometry
     (finds_some_there front first s.left mid due last (last + 1) payload id c.args.image.now s.held there says fits)

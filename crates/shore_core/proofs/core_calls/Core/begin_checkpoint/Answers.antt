@@ -65,7 +65,7 @@ returns-in-Ok-clause-roomy g c running tail place groups holds front disk before
     (b.0, b.1, b.2, b.3)
 
 pub returns-in-Err-clause-aside : goal.returns-in-Err-clause-aside
-returns-in-Err-clause-aside g c keeps = subst (λ (x : Stage). KeepsFor x (told_of c.try_begin.new.self)) (sym c.requires) (omega (arith), omega (arith))
+returns-in-Err-clause-aside g c keeps kept = subst (λ (x : Stage). KeepsFor x (told_of c.try_begin.new.self)) (sym c.requires) (c.in-Err.ensures.none_kept ∙ kept)
 
 pub returns-in-Ok-clause-aside : goal.returns-in-Ok-clause-aside
-returns-in-Ok-clause-aside g c keeps = c.in-Ok.ensures.aside keeps
+returns-in-Ok-clause-aside g c keeps kept = c.in-Ok.ensures.aside keeps

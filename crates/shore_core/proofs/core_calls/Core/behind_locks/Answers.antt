@@ -1,7 +1,9 @@
-use Rattle.std.proofs.Common.{inl, inr, sym, ap, subst, refl}
+use Rattle.std.proofs.Common.{inl, inr, sym, ap, subst, refl, arith}
 use Rattle.shore_types.specs.declared.locking.Granule.TheVariants as granule
 use Rattle.shore_types.specs.declared.locking.Mode.TheVariants as mode
+use Rattle.shore_types.specs.Versions.{record_limit-most}
 use Rattle.shore_model.specs.declared.calls.Call.{Call}
+use Rattle.laws_calls.specs.CallSteps.{MayAsk}
 use Rattle.shore_path.specs.Acquires.{IsReached}
 use Rattle.laws_locks.specs.CallLocks.{lock_asked_by}
 use Rattle.shore_core.specs.Cores.{geometry_of, locks_of}
@@ -10,6 +12,16 @@ use Rattle.shore_core.proofs.Coming.{comes_same}
 use Rattle.shore_core.proofs.Lookups.{lock_answer}
 use Rattle.shore_core.proofs.Serving.{call_still}
 use Rattle.shore_core.proofs.core_calls.Core.behind_locks.Goals as goal
+
+pub insert-requires-clause-short : goal.insert-requires-clause-short
+insert-requires-clause-short g c =
+    let short = (subst (λ (it : Call). MayAsk (geometry_of c.args.self.now) it) c.in-Insert.is c.requires.may).0 in
+    omega (arith, short, record_limit-most (geometry_of c.args.self.now).version)
+
+pub update-requires-clause-short : goal.update-requires-clause-short
+update-requires-clause-short g c =
+    let short = (subst (λ (it : Call). MayAsk (geometry_of c.args.self.now) it) c.in-Update.is c.requires.may).0 in
+    omega (arith, short, record_limit-most (geometry_of c.args.self.now).version)
 
 pub returns-in-Insert-clause-served : goal.returns-in-Insert-clause-served
 returns-in-Insert-clause-served g c running front disk before s store is safe over a its number =

@@ -29,7 +29,7 @@ use Rattle.shore_sessions.specs.Controls.{txns_in}
 use Rattle.shore_sessions.specs.Standing.{IsLogged, changed}
 use Rattle.shore_core.specs.Cores.{control_of, durable_of, first_of, geometry_of, has_failed, txns_of, waiting_of}
 use Rattle.shore_core.specs.Parts.{HasParts}
-use Rattle.shore_core.proofs.Changed.{changes_none, claim_told, costs_are, earlier_changed, earlier_same, grown, grows, held_still, image_short, pages_changed, same_geometry, second_and, some_is}
+use Rattle.shore_core.proofs.Changed.{changes_none, claim_told, costs_are, earlier_changed, earlier_same, grown, grows, held_still, image_short, len_short, pages_changed, same_geometry, second_and, some_is}
 use Rattle.shore_core.proofs.Coming.{comes_appended, comes_same, over_as, pages_told}
 use Rattle.shore_core.proofs.Safe.{alone_in}
 use Rattle.shore_core.proofs.Tables.{each_among, has_no_room, has_room, next_is, parts_logged, parts_moved, some_and}
@@ -37,6 +37,7 @@ use Rattle.shore_core.proofs.Taking.{framed_is, image_shown, true_false}
 use Rattle.shore_core.proofs.Serving.{device_alone, nothing_called}
 use Rattle.shore_sessions.proofs.ControlSteps.{own_number}
 use Rattle.shore_core.proofs.Keeping.{both}
+use Rattle.shore_types.specs.Versions.{record_limit-most}
 use Rattle.shore_core.proofs.core_calls.Core.change.Goals as goal
 
 pub returns-then-not-admits-clause-changed : goal.returns-then-not-admits-clause-changed
@@ -45,9 +46,9 @@ returns-then-not-admits-clause-changed g c running front disk before s store is 
     let id = c.args.id in
     let works = is.beside.parts.failed_is ∙ running in
     let shows = is.pages works in
-    let slots = framed_is (λ l. (image_at_slot l id.slot ≡ c.args.before) × Fits l id.slot (image_len c.args.after)) (frame_of old.heap id.page) (disk (page_number (geometry_of old) id.page)) id.page (kept_in (txns_of old) id.page) (page_slots s id.page)
+    let slots = framed_is (geometry_of c.args.self.now).version (λ l. (image_at_slot l id.slot ≡ c.args.before) × Fits (geometry_of c.args.self.now).version l id.slot (image_len c.args.after)) (frame_of old.heap id.page) (disk (page_number (geometry_of old) id.page)) id.page (kept_in (txns_of old) id.page) (page_slots s id.page)
     (shows.pages id.page c.requires.there.0) c.requires.found in
-    let found : get s.sessions.records id ≡ c.args.before = sym (image_shown s.sessions.records s.sessions.active s.counts safe.roomy.pages id) ∙ slots.0 in
+    let found : get s.sessions.records id ≡ c.args.before = sym (image_shown (geometry_of c.args.self.now).version s.sessions.records s.sessions.active s.counts safe.roomy.pages id) ∙ slots.0 in
     let cost = costs_are s.sessions.records id c.args.before c.args.after c.change_cost-logged.result c.compensation_cost-undo.result
     (c.change_cost-logged.ensures.cost id c.args.before c.args.after (sym c.len_of.ensures) (sym c.len_of-2.ensures)) (c.compensation_cost-undo.ensures.cost id c.args.before 0 (sym c.len_of-3.ensures)) found in (
       inr (
@@ -72,7 +73,7 @@ pub returns-in_err-reserve_entry-clause-changed : goal.returns-in_err-reserve_en
 returns-in_err-reserve_entry-clause-changed g c running front disk before s store is safe over a of locked =
     let old = c.args.self.now in
     let new = c.reserve_entry.new.self in
-    changes_none _ front before s store a c.args.id c.args.after c.from_residual.result c.from_residual.ensures.1
+    changes_none (geometry_of c.args.self.now).version _ front before s store a c.args.id c.args.after c.from_residual.result c.from_residual.ensures.1
     (comes_same _ front disk before s store (record {
       beside = record {
         first = is.beside.first;
@@ -80,6 +81,11 @@ returns-in_err-reserve_entry-clause-changed g c running front disk before s stor
       };
       pages = λ works. pages_told old.heap (txns_of old) (txns_in c.reserve_entry.new.self) front disk (page_slots s) c.reserve_entry.ensures.claims (is.pages works);
     }) (over_as old _ disk s s store refl refl refl refl over))
+
+pub change_cost-logged-requires-clause-after : goal.change_cost-logged-requires-clause-after
+change_cost-logged-requires-clause-after g c =
+    len_short c.args.after c.len_of-2.result c.len_of-2.ensures
+    (omega (arith, (some_and _ (frame_of c.args.self.now.heap c.args.id.page) c.requires.found).2.1.most, record_limit-most (geometry_of c.args.self.now).version))
 
 pub push-requires-clause-text : goal.push-requires-clause-text
 push-requires-clause-text g c =
@@ -91,7 +97,7 @@ push-requires-clause-text g c =
       payload_fits = record {
         rid = record { store = omega arith; page = omega arith; slot = omega (arith, c.requires.there.1) };
         old = image_short c.args.before c.requires.before;
-        new = image_short c.args.after (some_and _ (frame_of old.heap c.args.id.page) c.requires.found).2.1.most;
+        new = image_short c.args.after (omega (arith, (some_and _ (frame_of old.heap c.args.id.page) c.requires.found).2.1.most, record_limit-most (geometry_of c.args.self.now).version));
         some = c.requires.some;
       };
     }
@@ -130,8 +136,8 @@ change-requires-clause-fits g c =
     let id = c.args.id in
     let image = c.args.after in
     let payload : c.change_record-record.result.payload ≡ Change id c.args.before image = ap (λ (r : LogRecord). r.payload) c.change_record-record.ensures in
-    subst (λ (i : Image). IsSomeAnd (frame_of c.args.self.now.heap id.page) (λ f. Fits f.page.slots id.slot (image_len i))) (sym (c.after_of.ensures id c.args.before image payload))
-    (second_and (λ f. image_at_slot f.page.slots id.slot ≡ c.args.before) (λ f. Fits f.page.slots id.slot (image_len image)) (frame_of c.args.self.now.heap id.page) c.requires.found)
+    subst (λ (i : Image). IsSomeAnd (frame_of c.args.self.now.heap id.page) (λ f. Fits (geometry_of c.args.self.now).version f.page.slots id.slot (image_len i))) (sym (c.after_of.ensures id c.args.before image payload))
+    (second_and (λ f. image_at_slot f.page.slots id.slot ≡ c.args.before) (λ f. Fits (geometry_of c.args.self.now).version f.page.slots id.slot (image_len image)) (frame_of c.args.self.now.heap id.page) c.requires.found)
 
 pub note_change-requires-clause-short : goal.note_change-requires-clause-short
 note_change-requires-clause-short g c =
@@ -169,9 +175,9 @@ returns-clause-changed g c running front disk before s store is safe over a of l
     let image = c.args.after in
     let works = is.beside.parts.failed_is ∙ running in
     let shows = is.pages works in
-    let slots = framed_is (λ l. (image_at_slot l id.slot ≡ c.args.before) × Fits l id.slot (image_len image)) (frame_of old.heap id.page) (disk (page_number (geometry_of old) id.page)) id.page (kept_in (txns_of old) id.page) (page_slots s id.page)
+    let slots = framed_is (geometry_of c.args.self.now).version (λ l. (image_at_slot l id.slot ≡ c.args.before) × Fits (geometry_of c.args.self.now).version l id.slot (image_len image)) (frame_of old.heap id.page) (disk (page_number (geometry_of old) id.page)) id.page (kept_in (txns_of old) id.page) (page_slots s id.page)
     (shows.pages id.page c.requires.there.0) c.requires.found in
-    let found : get s.sessions.records id ≡ c.args.before = sym (image_shown s.sessions.records s.sessions.active s.counts safe.roomy.pages id) ∙ slots.0 in
+    let found : get s.sessions.records id ≡ c.args.before = sym (image_shown (geometry_of c.args.self.now).version s.sessions.records s.sessions.active s.counts safe.roomy.pages id) ∙ slots.0 in
     let payload : c.change_record-record.result.payload ≡ Change id c.args.before image = ap (λ (r : LogRecord). r.payload) c.change_record-record.ensures in
     let given : c.before_of.result ≡ c.args.before = c.before_of.ensures id c.args.before image payload in
     let before_is = given ∙ sym found in
@@ -193,14 +199,14 @@ returns-clause-changed g c running front disk before s store is safe over a of l
     let number : c.in-Ok.lsn ≡ 1 + length s.log = c.in-Ok.ensures.number ∙ sym (next_is old.control (waiting_of old) (durable_of old) (has_failed old) before s is.beside.parts (first_of old) is.beside.first 0) in
     let alone = alone_in (geometry_of old) s safe a.txn id (subst (λ (t : Table). IsReached t.requests a.txn (Record id) EX) (sym stands.locks) locked) in
     let later = changed s a id image (grown s.counts id) in
-    let has = c.note_change.ensures.stands s a image (grown s.counts id) (c.reserve_entry.ensures.stands s stands) (of.0.0, at_seat) number before_is
+    let has = c.note_change.ensures.stands (geometry_of c.args.self.now).version s a image (grown s.counts id) (c.reserve_entry.ensures.stands s stands) (of.0.0, at_seat) number before_is
     (logged ∙ ap (λ (b : Image). cost_of (Change id b image)) (sym given)) safe.roomy.pages alone (c.claim-claim.ensures (kept_in (txns_of old)) front disk (page_slots s) shows) in
     let parts = parts_logged old.control new (waiting_of old) (durable_of old) (has_failed old) before s later r is.beside.parts has refl refl refl in
     let image_is = c.after_of.ensures id c.args.before image payload in
     let made = subst (λ (i : Image). Shows (kept_in (txns_of old)) c.change.new.self front disk (with_slots (page_slots s) id.page (λ l. with_image l id.slot i))) image_is (c.change.ensures.shows (kept_in (txns_of old)) front disk (page_slots s) shows) in
     let held = held_still _ c.change.new.self old.heap id.page c.change.ensures.device c.change.ensures.held c.requires.found in
-    let told = claim_told c.change.new.self (txns_of old) (txns_in new) id.page front disk (page_slots later) held (λ p other. c.note_change.ensures.elsewhere p other ∙ c.reserve_entry.ensures.claims p)
-    (pages_changed c.change.new.self (kept_in (txns_of old)) front disk s a id image (grown s.counts id) safe.roomy.pages of.0.0 alone slots.1 (grows s.counts id) made) in
+    let told = claim_told (geometry_of c.args.self.now).version c.change.new.self (txns_of old) (txns_in new) id.page front disk (page_slots later) held (λ p other. c.note_change.ensures.elsewhere p other ∙ c.reserve_entry.ensures.claims p)
+    (pages_changed (geometry_of c.args.self.now).version c.change.new.self (kept_in (txns_of old)) front disk s a id image (grown s.counts id) safe.roomy.pages of.0.0 alone slots.1 (grows s.counts id) made) in
     let number_is : c.in-Ok.lsn ≡ length store.store.log + 1 = omega (arith, number, ap length over.kept.stored.log) in
     let frames = subst (λ n. IsMade old.heap c.change.new.self n id image) number_is (subst (λ (i : Image). IsMade old.heap c.change.new.self c.in-Ok.lsn id i) image_is c.change.ensures.frames) in (
       grown s.counts id,

@@ -169,7 +169,7 @@ returns-in-None-clause-asked_for g c named at = inl refl
 -- ---- what is kept aside for it
 
 pub returns-in-Resting-clause-aside : goal.returns-in-Resting-clause-aside
-returns-in-Resting-clause-aside g c keeps kept = c.begin_checkpoint.ensures.aside keeps
+returns-in-Resting-clause-aside g c keeps kept = c.begin_checkpoint.ensures.aside keeps (subst (λ (x : Stage). KeepsFor x (told_of c.args.self.now)) (sym c.replace.ensures.value ∙ c.in-Resting.is) kept)
 
 pub returns-in-Begun-clause-aside : goal.returns-in-Begun-clause-aside
 returns-in-Begun-clause-aside g c keeps kept = c.end_checkpoint.ensures.aside (subst (λ (x : Stage). KeepsFor x (told_of c.args.self.now)) (sym c.replace.ensures.value ∙ c.in-Begun.is) kept)
@@ -178,10 +178,10 @@ pub returns-in-Ended-clause-aside : goal.returns-in-Ended-clause-aside
 returns-in-Ended-clause-aside g c keeps kept = c.name_checkpoint.ensures.aside (subst (λ (x : Stage). KeepsFor x (told_of c.args.self.now)) (sym c.replace.ensures.value ∙ c.in-Ended.is) kept)
 
 pub returns-in-Some-clause-aside : goal.returns-in-Some-clause-aside
-returns-in-Some-clause-aside g c keeps kept = (omega (arith), omega (arith))
+returns-in-Some-clause-aside g c keeps kept = subst (λ (x : Stage). KeepsFor x (told_of c.args.self.now)) (sym c.replace.ensures.value ∙ c.in-Named.is) kept
 
 pub returns-in-None-clause-aside : goal.returns-in-None-clause-aside
-returns-in-None-clause-aside g c keeps kept = (omega (arith), omega (arith))
+returns-in-None-clause-aside g c keeps kept = subst (λ (x : Stage). KeepsFor x (told_of c.args.self.now)) (sym c.replace.ensures.value ∙ c.in-Named.is) kept
 
 pub returns-in-Resting-clause-idle : goal.returns-in-Resting-clause-idle
 returns-in-Resting-clause-idle g c kept begun = absurd (begun (sym c.replace.ensures.value ∙ c.in-Resting.is))

@@ -1,4 +1,4 @@
-use Rattle.std.proofs.Common.{is_some, ◌≡◌, ◌+◌, ◌<◌, ◌++◌, ◌∷◌, [], List, take, length, length-append, Err, inl, inr, refl, sym, ap, subst, ◌∙◌, arith}
+use Rattle.std.proofs.Common.{is_some, ◌≡◌, ◌+◌, ◌<◌, ◌++◌, ◌∷◌, [], List, take, length, length-append, Err, inl, inr, refl, sym, ap, subst, ◌∙◌, arith, map}
 use Rattle.std.proofs.lemmas.List.{take_more}
 use Rattle.shore_types.specs.declared.faults.Fault.TheVariants as fault
 use Rattle.shore_model.specs.declared.calls.Answer.TheVariants.{Committed}
@@ -23,7 +23,7 @@ use Rattle.shore_sessions.specs.Standing.{IsLogged}
 use Rattle.shore_sessions.specs.declared.control.Control.{Control}
 use Rattle.shore_core.specs.Stores.{append_to}
 use Rattle.shore_core.proofs.Works.{noted_without}
-use Rattle.shore_core.specs.Cores.{control_of, durable_of, first_of, has_failed, txns_of, waiting_of}
+use Rattle.shore_core.specs.Cores.{control_of, durable_of, first_of, has_failed, txns_of, waiting_of, geometry_of}
 use Rattle.shore_core.specs.Parts.{HasParts}
 use Rattle.shore_core.proofs.Changed.{same_geometry}
 use Rattle.shore_core.proofs.Coming.{comes_appended, pages_same}
@@ -34,6 +34,11 @@ use Rattle.shore_core.proofs.Tables.{each_among, next_is, parts_logged}
 use Rattle.shore_core.proofs.Taking.{replied_as}
 use Rattle.shore_core.proofs.Serving.{as_aside, call_alone, call_still, device_alone, not_open_aside, refused_still}
 use Rattle.shore_core.proofs.Keeping.{both}
+use Rattle.shore_types.specs.declared.layout.Geometry.{Geometry}
+use Rattle.shore_pool.specs.Pages.{SamePages}
+use Rattle.shore_heap.specs.Contents.{FitIn}
+use Rattle.shore_page.specs.Slots.{settled}
+use Rattle.shore_page.specs.Text as texts
 use Rattle.shore_core.proofs.core_calls.Core.commit.Goals as goal
 
 pub returns-in_err-txn-clause-replied : goal.returns-in_err-txn-clause-replied
@@ -44,7 +49,7 @@ returns-in_err-txn-clause-replied g c ready front disk before s store is safe ov
 pub loop-change-init : goal.loop-change-init
 loop-change-init g c =
     let at = frame_at c.args.self.now.heap in
-    (refl, refl, refl, refl, refl, λ k. refl, λ disk. pages_stay at at disk (λ k. refl), λ K stay front disk S fit shows. none_released (λ p. is_some (frame_of c.args.self.now.heap p)) K stay S c.args.self.now.heap front disk shows, λ k. refl)
+    (refl, refl, refl, refl, refl, λ k. refl, λ disk. pages_stay (geometry_of c.args.self.now).version at at disk (λ k. refl), λ K stay front disk S fit shows. none_released (λ p. is_some (frame_of c.args.self.now.heap p)) K stay S c.args.self.now.heap front disk shows, λ k. refl)
 
 pub loop-change-preserved : goal.loop-change-preserved
 loop-change-preserved g c =
@@ -57,6 +62,7 @@ loop-change-preserved g c =
     let new = c.release.new.self in
     let longer : take (i + 1) items ≡ take i items ++ e ∷ [] =
     take_more items i e c.loop-change-test.true ∙ ap (λ (e : UndoEntry). take i items ++ e ∷ []) (sym c.change-item.is) in
+    let geometry = same_geometry mid initial inv.4 in
     let was = framed_as initial mid e.id.page inv.4 inv.5 in
     let held = framed_as initial new e.id.page (c.release.ensures.device ∙ inv.4) (λ k. c.release.ensures.held k ∙ inv.5 k) in (
       inv.0,
@@ -65,9 +71,9 @@ loop-change-preserved g c =
       inv.3,
       c.release.ensures.device ∙ inv.4,
       λ k. c.release.ensures.held k ∙ inv.5 k,
-      λ disk. pages_on (frame_at initial) (frame_at mid) (frame_at new) disk disk disk (inv.6 disk) (c.release.ensures.same disk),
-      λ K stay front disk S fit shows. released_more (λ p. is_some (frame_of initial p)) K stay S mid new front disk (take i items) (take (i + 1) items) e longer fit was held
-          (λ L T. c.release.ensures.shows L front disk T) (λ L M T. c.release.ensures.told L M front disk T) (inv.7 K stay front disk S fit shows),
+      λ disk. pages_on (geometry_of c.args.self.now).version (frame_at initial) (frame_at mid) (frame_at new) disk disk disk (inv.6 disk) (subst (λ (it : Geometry). SamePages it.version (frame_at mid) disk (frame_at new) disk) geometry (c.release.ensures.same disk)),
+      λ K stay front disk S fit shows. released_more (λ p. is_some (frame_of initial p)) K stay S (geometry_of c.args.self.now).version mid new front disk (take i items) (take (i + 1) items) e longer fit was held
+          (λ L T. c.release.ensures.shows L front disk T) (λ L M T shows none others fit. c.release.ensures.told L M front disk T shows none others (subst (λ (it : Geometry). FitIn it.version (M e.id.page) (map settled (texts.images_of (T e.id.page)))) (sym geometry) fit)) (inv.7 K stay front disk S fit shows),
       λ k. c.release.ensures.dirt k ∙ inv.8 k,
     )
 
@@ -137,10 +143,10 @@ returns-clause-replied g c ready front disk before s store is safe over waits_no
     let older = table.txns_in (txns_of old) in
     let those = table.txns_in (txns_in c.commit-changes.new.self) in
     let all : take c.loop-change.change-index c.deref-change-items.result.now ≡ es = take-whole c.deref-change-items.result.now c.loop-change.change-index c.loop-change-test.false ∙ c.deref-change-items.ensures.value in
-    let fit = stays_fit s a es older those undone safe.roomy.pages its.0.0 was.txns.active out commit.claims in
+    let fit = stays_fit (geometry_of c.args.self.now).version s a es older those undone safe.roomy.pages its.0.0 was.txns.active out commit.claims in
     let left = subst (ShowsLeft (λ p. is_some (frame_of old.heap p)) (kept_in (txns_of old)) (kept_in (txns_in c.commit-changes.new.self)) (page_slots s) new.heap front disk) all
     (inv.7 (kept_in (txns_of old)) (kept_in (txns_in c.commit-changes.new.self)) front disk (page_slots s) fit (is.pages works)) in
-    let shows = all_released s a es older those undone safe.roomy.pages its.0.0 was.txns.active out commit.claims new.heap (λ p. is_some (frame_of old.heap p)) front disk left in
+    let shows = all_released (geometry_of c.args.self.now).version s a es older those undone safe.roomy.pages its.0.0 was.txns.active out commit.claims new.heap (λ p. is_some (frame_of old.heap p)) front disk left in
     let pages = noted_without old.heap disk store r (over.pages works) over.kept.recoverable over.kept.redone refl in
     record {
       later = later;

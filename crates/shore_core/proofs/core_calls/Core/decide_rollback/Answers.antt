@@ -97,7 +97,7 @@ returns-clause-decides g c running front disk before s store is safe over global
       inl (a, can, refl, refl),
       (its_list a (undo_rolled a.undo a.undo.images Whole) s.sessions.active can.0, c.txn-own.ensures.number),
       comes_logged old _ front disk before s later store is over refl c.push.ensures.first refl refl c.note_rollback.ensures.claims
-          (λ p. marked_slots s.sessions.records s.sessions.active s.counts safe.roomy.pages a can.0 _ refl p (s.counts p)) r added refl
+          (λ p. marked_slots _ s.sessions.records s.sessions.active s.counts safe.roomy.pages a can.0 _ refl p (s.counts p)) r added refl
           (c.note_rollback.ensures.stands s a global stands (can.0, c.txn-own.ensures.number) can number) refl refl refl,
     )
 

@@ -1,4 +1,4 @@
-use Rattle.std.proofs.Common.{inr, None, IsSome, refl, sym, subst, ◌∙◌, inl}
+use Rattle.std.proofs.Common.{inr, None, IsSome, refl, sym, subst, ◌∙◌, inl, ◌<◌}
 use Rattle.shore_types.specs.declared.locking.Granule.TheVariants.{Record}
 use Rattle.shore_types.specs.declared.locking.Mode.TheVariants.{EX}
 use Rattle.shore_model.specs.declared.calls.Call.TheVariants as call
@@ -13,6 +13,9 @@ use Rattle.shore_core.proofs.Coming.{comes_then}
 use Rattle.shore_core.proofs.Refusing.{delete_fault, delete_unlogged, gone_fits, map_some}
 use Rattle.shore_core.proofs.Taking.{served_as}
 use Rattle.shore_core.proofs.Serving.{as_aside, call_then, refused_as, refused_then}
+use Rattle.laws_calls.specs.StateChanges.{MayChange}
+use Rattle.shore_types.specs.declared.layout.Geometry.{Geometry}
+use Rattle.shore_types.specs.Versions.{slot_limit}
 use Rattle.shore_core.proofs.core_calls.Core.delete.Goals as goal
 
 pub returns-in_err-find-clause-served : goal.returns-in_err-find-clause-served
@@ -27,7 +30,7 @@ change-requires-clause-own g c = subst (λ k. IsOfCaller c.args.seat.now (txns_i
 
 pub change-requires-clause-found : goal.change-requires-clause-found
 change-requires-clause-found g c =
-    map_some _ _ (frame_of c.find.new.self.heap c.args.id.page) (λ f h. (h, gone_fits f.page.slots c.args.id.slot c.in_ok-find.field-0 c.requires.there.1 h)) c.in_ok-find.ensures.framed
+    map_some _ _ (frame_of c.find.new.self.heap c.args.id.page) (λ f h. (h, gone_fits (geometry_of c.find.new.self).version f.page.slots c.args.id.slot c.in_ok-find.field-0 (subst (λ (it : Geometry). c.args.id.slot < slot_limit it.version) (sym c.in_ok-find.ensures.reads.volume.geometry) c.requires.there.1) h)) c.in_ok-find.ensures.framed
 
 pub returns-in_err-change-clause-served : goal.returns-in_err-change-clause-served
 returns-in_err-change-clause-served g c running front disk before s store is safe over a of locked =
@@ -50,7 +53,7 @@ returns-clause-served g c running front disk before s store is safe over a of lo
     (subst (λ it. IsReached (locks_in it).requests a.txn (Record c.args.id) EX) (sym reads.control) locked) in
     record {
       later = changed s a c.args.id None h.0;
-      serves = (there, refl, (h.0, h.1, refl));
+      serves = (there, refl, (h.0, subst (λ (it : Geometry). MayChange it.version s c.args.id None h.0) c.in_ok-find.ensures.reads.volume.geometry h.1, refl));
       comes = comes_then c.find.new.self c.change.new.self front before s (changed s a c.args.id None h.0) store comes h.2;
     }
 

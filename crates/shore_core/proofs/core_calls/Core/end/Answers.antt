@@ -52,7 +52,7 @@ returns-then-eq-clause-ended g c running front disk before s store is safe over 
     let logged = each_among (IsLogged s.log) (table.txns_in (txns_of old)) stands.txns.each own c.txn-own.ensures.among in
     let nothing : previous_of a.txn s.log ≡ 0 =
     ap (λ (b : SessionTxn). previous_of b.txn s.log) same ∙ sym logged.last ∙ sym c.last-previous.ensures ∙ eqb-true c.last-previous.result 0 (sym c.eq.ensures ∙ c.if-eq.true) in
-    ended_unlogged old _ front disk before s store is over safe.roomy.pages a of.0.0 empty refl refl refl refl c.end_abort.ensures.claims refl nothing (c.end_abort.ensures.stands s a stands of number_is)
+    ended_unlogged (geometry_of c.args.self.now).version old _ front disk before s store is over safe.roomy.pages a of.0.0 empty refl refl refl refl c.end_abort.ensures.claims refl nothing (c.end_abort.ensures.stands s a stands of number_is)
 
 pub end_abort-requires-in-Ok-clause-empty : goal.end_abort-requires-in-Ok-clause-empty
 end_abort-requires-in-Ok-clause-empty g c a among is =
@@ -82,7 +82,7 @@ returns-in-Ok-clause-ended g c running front disk before s store is safe over a 
     let last : c.last-previous.result ≡ previous_of a.txn s.log = c.last-previous.ensures ∙ logged.last ∙ ap (λ (b : SessionTxn). previous_of b.txn s.log) (sym same) in
     let number : c.id-txn.result ≡ a.txn = c.id-txn.ensures.number ∙ ap (λ (b : SessionTxn). b.txn) (sym same) in
     let r : LogRecord = record { txn = c.id-txn.result; previous = c.last-previous.result; payload = End } in
-    ended_logged old _ front disk before s store is over safe.roomy.pages a of.0.0 empty refl c.push.ensures.first refl refl c.end_abort-in-Ok.ensures.claims r
+    ended_logged (geometry_of c.args.self.now).version old _ front disk before s store is over safe.roomy.pages a of.0.0 empty refl c.push.ensures.first refl refl c.end_abort-in-Ok.ensures.claims r
     (ap (λ n. record { txn = n; previous = c.last-previous.result; payload = End }) number ∙ ap (λ n. record { txn = a.txn; previous = n; payload = End }) last)
     c.in-Ok.ensures.added
     (λ none. zero_differs c.last-previous.result (last ∙ none) (sym c.eq.ensures ∙ c.if-eq.false))
@@ -149,7 +149,7 @@ returns-in-Ok-clause-resolves g c running front disk before s store is safe over
     let last : c.last-previous.result ≡ previous_of a.txn s.log = c.last-previous.ensures ∙ logged.last ∙ ap (λ (b : SessionTxn). previous_of b.txn s.log) (sym same) in
     let number : c.id-txn.result ≡ a.txn = c.id-txn.ensures.number ∙ ap (λ (b : SessionTxn). b.txn) (sym same) in
     let r : LogRecord = record { txn = c.id-txn.result; previous = c.last-previous.result; payload = End } in
-    done_logged old _ front disk before s store is over safe.roomy.pages a at.0 empty refl c.push.ensures.first refl refl c.end_abort-in-Ok.ensures.claims (resolved_by_rollback a global) r
+    done_logged (geometry_of c.args.self.now).version old _ front disk before s store is over safe.roomy.pages a at.0 empty refl c.push.ensures.first refl refl c.end_abort-in-Ok.ensures.claims (resolved_by_rollback a global) r
     (ap (λ n. record { txn = n; previous = c.last-previous.result; payload = End }) number ∙ ap (λ n. record { txn = a.txn; previous = n; payload = End }) last)
     c.in-Ok.ensures.added
     (c.end_abort-in-Ok.ensures.resolves s a (resolved_by_rollback a global) stands (is.beside.parts.failed_is ∙ running) at rolls.1 refl refl)

@@ -1,12 +1,17 @@
-use Rattle.std.proofs.Common.{IsOk, ◌≡◌, ◌+◌, ◌++◌, ◌∷◌, [], inl, inr, length, length-append, refl, sym, ap, subst, ◌∙◌, arith}
+use Rattle.std.proofs.Common.{IsOk, ℕ, ◌≡◌, ◌+◌, ◌-◌, ◌*◌, ◌++◌, ◌∷◌, [], inl, inr, length, length-append, refl, sym, ap, subst, ◌∙◌, arith}
 use Rattle.shore_frames.proofs.LoggedLemmas.{AreNumbered-test}
 use Rattle.laws_lives.specs.Views.{IsAmong}
 use Rattle.laws_checkpoints.specs.Checkpoints.{end_payload, of_checkpoint}
 use Rattle.laws_checkpoints.specs.CheckpointedStores.{EndLogged}
 use Rattle.laws_runs.specs.CheckpointSteps.{awaited, owed_to}
 use Rattle.shore_check.proofs.Costs.{end_is}
+use Rattle.shore_types.specs.declared.layout.TheConstants.{FRAME_SHARE}
+use Rattle.shore_logrec.specs.Text.{text}
+use Rattle.laws_checkpoints.specs.RingRooms.{ANCHOR_COST}
+use Rattle.shore_log.specs.Told.{aside_for}
+use Rattle.shore_log.specs.declared.tail.Aside.{Aside}
 use Rattle.shore_log.specs.declared.tail.Told.{Told}
-use Rattle.shore_core.specs.Cores.{control_of, durable_of, first_of, has_failed, waiting_of}
+use Rattle.shore_core.specs.Cores.{control_of, durable_of, first_of, has_failed, told_of, waiting_of}
 use Rattle.shore_core.proofs.CheckpointSteps.{holds_owed, logged_step, same_step}
 use Rattle.shore_core.proofs.Tables.{next_is}
 use Rattle.shore_core.proofs.Taking.{true_false}
@@ -85,22 +90,28 @@ returns-in-Ok-clause-step g c running front disk before s store is safe over may
 -- ---- what is kept aside
 
 pub returns-then-not-holds-clause-aside : goal.returns-then-not-holds-clause-aside
-returns-then-not-holds-clause-aside g c keeps = (keeps.0, omega (arith, keeps.1, c.refused.ensures.cost, c.end-end.ensures.cost.0))
+returns-then-not-holds-clause-aside g c keeps =
+    let cost : c.args.begun.end_cost ≡ c.refused.result.end_cost = omega (arith, c.refused.ensures.cost, c.end-end.ensures.cost.0) in
+    keeps ∙ ap (λ (n : ℕ). aside_for 2 (n + ANCHOR_COST - FRAME_SHARE * 2)) cost
 
 pub returns-in-Err-clause-idle : goal.returns-in-Err-clause-idle
-returns-in-Err-clause-idle g c keeps is = let clash = subst IsOk c.in-Err.is (c.push_kept.ensures.idle (omega (arith, keeps.0), omega (arith, keeps.1, c.end-end.ensures.cost.1))) in absurd cc
+returns-in-Err-clause-idle g c keeps is =
+    let clash = subst IsOk c.in-Err.is (c.push_kept.ensures.idle (omega (arith, ap (λ (a : Aside). a.records) keeps), omega (arith, ap (λ (a : Aside). a.bytes) keeps, c.end-end.ensures.cost.1))) in absurd cc
 
 pub returns-in-Err-clause-aside : goal.returns-in-Err-clause-aside
-returns-in-Err-clause-aside g c keeps = let clash = subst IsOk c.in-Err.is (c.push_kept.ensures.idle (omega (arith, keeps.0), omega (arith, keeps.1, c.end-end.ensures.cost.1))) in absurd cc
+returns-in-Err-clause-aside g c keeps =
+    let clash = subst IsOk c.in-Err.is (c.push_kept.ensures.idle (omega (arith, ap (λ (a : Aside). a.records) keeps), omega (arith, ap (λ (a : Aside). a.bytes) keeps, c.end-end.ensures.cost.1))) in absurd cc
 
 pub returns-in-Err-clause-told : goal.returns-in-Err-clause-told
-returns-in-Err-clause-told g c = (ap (λ (t : Told). t.entries) c.push_kept.ensures.told, ap (λ (t : Told). t.texts) c.push_kept.ensures.told)
+returns-in-Err-clause-told g c = (ap (λ (t : Told). t.entries) c.in-Err.ensures.none_taken, ap (λ (t : Told). t.texts) c.in-Err.ensures.none_taken)
 
 pub returns-in-Ok-clause-told : goal.returns-in-Ok-clause-told
-returns-in-Ok-clause-told g c = (ap (λ (t : Told). t.entries) c.push_kept.ensures.told, ap (λ (t : Told). t.texts) c.push_kept.ensures.told)
+returns-in-Ok-clause-told g c = (ap (λ (t : Told). t.entries) c.in-Ok.ensures.told, ap (λ (t : Told). t.texts) c.in-Ok.ensures.told)
 
 pub returns-in-Ok-clause-aside : goal.returns-in-Ok-clause-aside
 returns-in-Ok-clause-aside g c keeps =
-    let records = ap (λ (t : Told). t.aside.records) c.push_kept.ensures.told in
-    let bytes = ap (λ (t : Told). t.aside.bytes) c.push_kept.ensures.told in
-    (omega (arith, keeps.0, records), omega (arith, keeps.1, bytes, c.end-end.ensures.cost.1))
+    let old = (told_of c.args.self.now).aside in
+    let len = length (text c.end-end.result.0) in
+    let records : old.records - 1 ≡ 1 = omega (arith, ap (λ (a : Aside). a.records) keeps) in
+    let bytes : old.bytes - len ≡ ANCHOR_COST - FRAME_SHARE = omega (arith, ap (λ (a : Aside). a.bytes) keeps, c.end-end.ensures.cost.1) in
+    ap (λ (t : Told). t.aside) c.in-Ok.ensures.told ∙ (λ i. aside_for (records i) (bytes i))

@@ -4,7 +4,7 @@ use Rattle.shore_types.specs.declared.faults.Fault.TheVariants as fault
 use Rattle.laws_calls.specs.CallSteps.{RefusesRead}
 use Rattle.laws_calls.specs.States.{page_slots}
 use Rattle.shore_txn.specs.Transactions.{kept_in}
-use Rattle.shore_core.specs.Cores.{txns_of}
+use Rattle.shore_core.specs.Cores.{txns_of, geometry_of}
 use Rattle.shore_core.proofs.Coming.{stays_as}
 use Rattle.shore_core.proofs.Taking.{image_shown, read_fault}
 use Rattle.shore_core.proofs.Serving.{aside_as, nothing_called, serves_as, serves_then}
@@ -20,14 +20,14 @@ pub returns-in_ok-copied-in-Some-clause-found : goal.returns-in_ok-copied-in-Som
 returns-in_ok-copied-in-Some-clause-found g c running front disk before s store is safe over =
     let comes = c.in_ok-fetch.ensures.stays front disk before s store is safe over in
     let shows = comes.is_in.pages (is.beside.parts.failed_is ∙ running) in
-    sym (image_shown s.sessions.records s.sessions.active s.counts safe.roomy.pages c.args.id) ∙ sym (c.in-Some.ensures.shown (kept_in (txns_of c.fetch.new.self)) front comes.left (page_slots s) shows)
+    sym (image_shown (geometry_of c.args.self.now).version s.sessions.records s.sessions.active s.counts safe.roomy.pages c.args.id) ∙ sym (c.in-Some.ensures.shown (kept_in (txns_of c.fetch.new.self)) front comes.left (page_slots s) shows)
     ∙ ap Some (sym c.in_ok-copied-in-Some.ensures)
 
 pub returns-in-None-clause-refused : goal.returns-in-None-clause-refused
 returns-in-None-clause-refused g c running front disk before s store is safe over =
     let comes = c.in_ok-fetch.ensures.stays front disk before s store is safe over in
     let shows = comes.is_in.pages (is.beside.parts.failed_is ∙ running) in
-    inr (sym (image_shown s.sessions.records s.sessions.active s.counts safe.roomy.pages c.args.id) ∙ sym (c.in-None.ensures.shown (kept_in (txns_of c.fetch.new.self)) front comes.left (page_slots s) shows))
+    inr (sym (image_shown (geometry_of c.args.self.now).version s.sessions.records s.sessions.active s.counts safe.roomy.pages c.args.id) ∙ sym (c.in-None.ensures.shown (kept_in (txns_of c.fetch.new.self)) front comes.left (page_slots s) shows))
 
 pub returns-in_err-fetch-clause-stays : goal.returns-in_err-fetch-clause-stays
 returns-in_err-fetch-clause-stays g c front disk before s store is safe over =

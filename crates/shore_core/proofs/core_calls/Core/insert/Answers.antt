@@ -15,7 +15,7 @@ use Rattle.shore_page.specs.Slots.{image_at_slot}
 use Rattle.shore_heap.specs.Heaps as heaps
 use Rattle.shore_heap.specs.Heaps.{frame_of}
 use Rattle.shore_txn.specs.Transactions.{IsSeatIn}
-use Rattle.laws_calls.specs.StateChanges.{after_refusal}
+use Rattle.laws_calls.specs.StateChanges.{MayChange, after_refusal}
 use Rattle.laws_calls.specs.CallSteps.{behind_place, place_outcome, with_requests}
 use Rattle.shore_sessions.specs.Controls.{locks_in, txns_in}
 use Rattle.shore_sessions.specs.Standing.{HasControl, changed}
@@ -28,6 +28,7 @@ use Rattle.shore_core.proofs.Refusing.{map_some}
 use Rattle.shore_core.proofs.Safe.{comes_locked, locks_keep, never_waits, place_reached, safe_behind_place}
 use Rattle.shore_core.proofs.Taking.{served_as}
 use Rattle.shore_core.proofs.Serving.{as_aside, call_then, locks_call_nothing, no_call_then, refused_as, refused_then}
+use Rattle.shore_types.specs.declared.layout.Geometry.{Geometry}
 use Rattle.shore_core.proofs.core_calls.Core.insert.Goals as goal
 
 pub returns-in_err-place-clause-served : goal.returns-in_err-place-clause-served
@@ -80,8 +81,9 @@ pub change-requires-clause-found : goal.change-requires-clause-found
 change-requires-clause-found g c =
     let id = c.in_ok-place.place in
     let len = ap length c.as_slice.ensures in
-    subst (λ h. IsSomeAnd (frame_of h id.page) (λ f. (image_at_slot f.page.slots id.slot ≡ None) × Fits f.page.slots id.slot (length c.args.bytes))) (sym c.in_ok-lock_place.ensures.only.heap)
-    (map_some _ _ (frame_of c.find_place.new.self.heap id.page) (λ f h. (h.empty, subst (Fits f.page.slots id.slot) len h.fits)) c.in_ok-place.ensures.framed)
+    subst (λ h. IsSomeAnd (frame_of h id.page) (λ f. (image_at_slot f.page.slots id.slot ≡ None) × Fits (heaps.geometry_of h).version f.page.slots id.slot (length c.args.bytes))) (sym c.in_ok-lock_place.ensures.only.heap)
+    (subst (λ (it : Geometry). IsSomeAnd (frame_of c.find_place.new.self.heap id.page) (λ f. (image_at_slot f.page.slots id.slot ≡ None) × Fits it.version f.page.slots id.slot (length c.args.bytes))) (sym c.in_ok-place.ensures.reads.volume.geometry)
+    (map_some _ _ (frame_of c.find_place.new.self.heap id.page) (λ f h. (h.empty, subst (Fits (geometry_of c.args.self.now).version f.page.slots id.slot) len h.fits)) c.in_ok-place.ensures.framed))
 
 pub change-requires-clause-seated : goal.change-requires-clause-seated
 change-requires-clause-seated g c = subst (IsSeatIn c.args.seat.now) (sym (c.in_ok-lock_place.ensures.only.txns ∙ ap txns_in c.in_ok-place.ensures.reads.control)) c.requires.seated
@@ -130,7 +132,7 @@ returns-clause-served g c running front disk before s plain is safe over a of nu
     let later = changed (behind_place s a id) a id (Some c.args.bytes) h.0 in
     record {
       later = later;
-      serves = (id, (of_place, done), refl, (h.0, h.1, refl));
+      serves = (id, (of_place, done), refl, (h.0, subst (λ (it : Geometry). MayChange it.version (behind_place s a id) id (Some c.args.bytes) h.0) ((locks_keep mid locked same).volume.geometry ∙ reads.volume.geometry) h.1, refl));
       comes = comes_then locked c.change.new.self front before (behind_place s a id) later plain there h.2;
     }
 

@@ -1,4 +1,4 @@
-use Rattle.std.proofs.Common.{◌≡◌, IsSomeAnd, IsTrue, is_some, inl, inr, false, ◌+◌, ◌++◌, ◌∷◌, [], length, length-append, refl, sym, ap, subst, ◌∙◌, arith}
+use Rattle.std.proofs.Common.{◌≡◌, IsSomeAnd, IsTrue, is_some, inl, inr, false, ◌+◌, ◌++◌, ◌∷◌, [], length, length-append, refl, sym, ap, subst, ◌∙◌, arith, ℕ, List}
 use Rattle.shore_dwrite.specs.Volumes.{page_number}
 use Rattle.shore_types.specs.Images.{Image, image_len}
 use Rattle.shore_types.specs.Layout.{HasPage}
@@ -36,6 +36,8 @@ use Rattle.shore_core.proofs.Undoing.{earlier_undone, next_cost, next_earlier, n
 use Rattle.shore_core.proofs.Serving.{device_alone, nothing_called}
 use Rattle.shore_core.proofs.Callers.{at_becomes}
 use Rattle.shore_core.proofs.Keeping.{both}
+use Rattle.shore_types.specs.declared.layout.Geometry.{Geometry}
+use Rattle.shore_pool.specs.Pages.{SamePages}
 use Rattle.shore_core.proofs.core_calls.Core.log_undo.Goals as goal
 
 pub push-requires-clause-text : goal.push-requires-clause-text
@@ -84,10 +86,10 @@ change-requires-clause-there g c =
 pub change-requires-clause-fits : goal.change-requires-clause-fits
 change-requires-clause-fits g c =
     let same = next_undone (txns_of c.args.self.now) c.args.seat.now.txn c.args.undo.id c.args.undo.bytes c.args.undo.cost c.args.undo.logged c.requires.next (txns_in c.note_compensation-undone.new.self) _ _ _ c.note_compensation-undone.ensures.undone in
-    subst (λ (i : Image). IsSomeAnd (frame_of c.args.self.now.heap c.note_compensation-undone.result.id.page) (λ f. Fits f.page.slots c.note_compensation-undone.result.id.slot (image_len i))) (sym c.bytes_of.ensures)
-    (subst (λ (x : Rid × Image). IsSomeAnd (frame_of c.args.self.now.heap x.0.page) (λ f. Fits f.page.slots x.0.slot (image_len x.1))) same
-    (subst (λ n. IsSomeAnd (frame_of c.args.self.now.heap c.requires.next.entry.id.page) (λ f. Fits f.page.slots c.requires.next.entry.id.slot n)) c.requires.next.bytes_is
-    (subst (λ (r : Rid). IsSomeAnd (frame_of c.args.self.now.heap r.page) (λ f. Fits f.page.slots r.slot c.args.undo.bytes)) c.requires.next.id_is c.requires.fits)))
+    subst (λ (i : Image). IsSomeAnd (frame_of c.args.self.now.heap c.note_compensation-undone.result.id.page) (λ f. Fits (geometry_of c.args.self.now).version f.page.slots c.note_compensation-undone.result.id.slot (image_len i))) (sym c.bytes_of.ensures)
+    (subst (λ (x : Rid × Image). IsSomeAnd (frame_of c.args.self.now.heap x.0.page) (λ f. Fits (geometry_of c.args.self.now).version f.page.slots x.0.slot (image_len x.1))) same
+    (subst (λ n. IsSomeAnd (frame_of c.args.self.now.heap c.requires.next.entry.id.page) (λ f. Fits (geometry_of c.args.self.now).version f.page.slots c.requires.next.entry.id.slot n)) c.requires.next.bytes_is
+    (subst (λ (r : Rid). IsSomeAnd (frame_of c.args.self.now.heap r.page) (λ f. Fits (geometry_of c.args.self.now).version f.page.slots r.slot c.args.undo.bytes)) c.requires.next.id_is c.requires.fits)))
 
 pub release_to-requires-clause-there : goal.release_to-requires-clause-there
 release_to-requires-clause-there g c =
@@ -146,9 +148,9 @@ returns-clause-put_back g c running front disk before s store is safe over a kep
     let shown = subst (λ n. Shows K c.release_to.new.self front disk (with_slots (with_slots (page_slots s) undone.id.page (λ l. with_image l undone.id.slot undone.before)) undone.id.page (λ l. with_change (lowered n) l undone.id.slot))) claim_is
     (subst (λ (i : Image). Shows K c.release_to.new.self front disk (with_slots (with_slots (page_slots s) undone.id.page (λ l. with_image l undone.id.slot i)) undone.id.page (λ l. with_change (lowered c.from.result) l undone.id.slot))) image_is lowered_there) in
     let at_e = subst (λ (x : Rid × Image). Shows K c.release_to.new.self front disk (with_slots (with_slots (page_slots s) x.0.page (λ l. with_image l x.0.slot x.1)) x.0.page (λ l. with_change (lowered (claim_before kept x)) l x.0.slot))) same shown in
-    let pages = pages_undone c.release_to.new.self K front disk s a kept e c.args.rollback safe.roomy.pages of.0 images at_e in
+    let pages = pages_undone (geometry_of c.args.self.now).version c.release_to.new.self K front disk s a kept e c.args.rollback safe.roomy.pages of.0 images at_e in
     let held = held_still _ c.release_to.new.self old.heap c.args.undo.id.page (c.release_to.ensures.device ∙ c.change.ensures.device) (λ k. c.release_to.ensures.held k ∙ c.change.ensures.held k) c.requires.fits in
-    let told = claim_told c.release_to.new.self (txns_of old) (txns_in new) undone.id.page front disk (page_slots later)
+    let told = claim_told (geometry_of c.args.self.now).version c.release_to.new.self (txns_of old) (txns_in new) undone.id.page front disk (page_slots later)
     (subst (λ (x : Rid). IsTrue (is_some (frame_of c.release_to.new.self x.page))) (id_is ∙ sym (ap (λ (x : Rid × Image). x.0) same)) held) c.note_compensation-undone.ensures.elsewhere pages in
     let number_is : c.in-Ok.lsn ≡ length store.store.log + 1 = omega (arith, number, ap length over.kept.stored.log) in
     let frames = subst (λ (x : Rid × Image). IsMade old.heap c.change.new.self (length store.store.log + 1) x.0 x.1) same
@@ -171,7 +173,8 @@ returns-clause-rewinds g c =
     let old = c.args.self.now in
     rewinds_changed old _ c.change.new.self c.note_compensation-undone.result.id.page c.in-Ok.lsn c.note_compensation-undone.result.id.slot _ c.change.ensures.frames.0 c.change.ensures.frames.1
     (same_geometry c.release_to.new.self old.heap (c.release_to.ensures.device ∙ c.change.ensures.device)) (omega (arith, c.in-Ok.ensures.number, old.forced))
-    c.change.ensures.untouched c.release_to.ensures.untouched c.release_to.ensures.same
+    c.change.ensures.untouched c.release_to.ensures.untouched
+    (subst (λ (it : Geometry). (disk : ℕ → List ℕ) → SamePages it.version (frame_at c.change.new.self) disk (frame_at c.release_to.new.self) disk) (same_geometry c.change.new.self old.heap c.change.ensures.device) c.release_to.ensures.same)
 
 pub returns-clause-longer : goal.returns-clause-longer
 returns-clause-longer g c =

@@ -1,4 +1,4 @@
-use Rattle.std.proofs.Common.{IsOk, ◌≡◌, ◌+◌, ◌++◌, ◌∷◌, [], inl, inr, length, length-append, refl, sym, ap, subst, ◌∙◌, arith}
+use Rattle.std.proofs.Common.{IsOk, ◌≡◌, ◌+◌, ◌-◌, ◌++◌, ◌∷◌, [], inl, inr, length, length-append, refl, sym, ap, subst, ◌∙◌, arith}
 use Rattle.laws_lives.specs.Views.{IsAmong}
 use Rattle.shore_model.specs.declared.log_records.Payload.TheVariants as payload
 use Rattle.laws_checkpoints.specs.Checkpoints.{cut_point, of_checkpoint}
@@ -10,8 +10,11 @@ use Rattle.shore_check.specs.declared.stage.Mark.{Mark}
 use Rattle.shore_check.specs.Stages.{IsNamed}
 use Rattle.shore_core.specs.Checkpointing.{with_store}
 use Rattle.shore_check.proofs.Costs.{anchor_is}
+use Rattle.shore_logrec.specs.Text.{text}
+use Rattle.shore_log.specs.Told.{aside_for}
+use Rattle.shore_log.specs.declared.tail.Aside.{Aside}
 use Rattle.shore_log.specs.declared.tail.Told.{Told}
-use Rattle.shore_core.specs.Cores.{control_of, durable_of, first_of, has_failed, waiting_of}
+use Rattle.shore_core.specs.Cores.{control_of, durable_of, first_of, has_failed, told_of, waiting_of}
 use Rattle.shore_core.proofs.CheckpointSteps.{holds_owed, logged_step, same_step}
 use Rattle.shore_core.proofs.Tables.{next_is}
 use Rattle.shore_core.proofs.Taking.{true_false}
@@ -87,16 +90,23 @@ returns-clause-step g c running front disk before s store is safe over may =
 -- ---- what is kept aside
 
 pub returns-in-Err-clause-idle : goal.returns-in-Err-clause-idle
-returns-in-Err-clause-idle g c keeps is = let clash = subst IsOk c.in-Err.is (c.push_kept.ensures.idle (omega (arith, keeps.0), omega (arith, keeps.1, c.in-Some.ensures.cost))) in absurd cc
+returns-in-Err-clause-idle g c keeps is =
+    let clash = subst IsOk c.in-Err.is (c.push_kept.ensures.idle (omega (arith, ap (λ (a : Aside). a.records) keeps), omega (arith, ap (λ (a : Aside). a.bytes) keeps, c.in-Some.ensures.cost))) in absurd cc
 
 pub returns-in-Err-clause-aside : goal.returns-in-Err-clause-aside
-returns-in-Err-clause-aside g c keeps = let clash = subst IsOk c.in-Err.is (c.push_kept.ensures.idle (omega (arith, keeps.0), omega (arith, keeps.1, c.in-Some.ensures.cost))) in absurd cc
+returns-in-Err-clause-aside g c keeps =
+    let clash = subst IsOk c.in-Err.is (c.push_kept.ensures.idle (omega (arith, ap (λ (a : Aside). a.records) keeps), omega (arith, ap (λ (a : Aside). a.bytes) keeps, c.in-Some.ensures.cost))) in absurd cc
 
 pub returns-in-Err-clause-told : goal.returns-in-Err-clause-told
-returns-in-Err-clause-told g c = (ap (λ (t : Told). t.entries) c.push_kept.ensures.told, ap (λ (t : Told). t.texts) c.push_kept.ensures.told)
+returns-in-Err-clause-told g c = (ap (λ (t : Told). t.entries) c.in-Err.ensures.none_taken, ap (λ (t : Told). t.texts) c.in-Err.ensures.none_taken)
 
 pub returns-clause-told : goal.returns-clause-told
-returns-clause-told g c = (ap (λ (t : Told). t.entries) c.push_kept.ensures.told, ap (λ (t : Told). t.texts) c.push_kept.ensures.told)
+returns-clause-told g c = (ap (λ (t : Told). t.entries) c.in-Ok.ensures.told, ap (λ (t : Told). t.texts) c.in-Ok.ensures.told)
 
 pub returns-clause-aside : goal.returns-clause-aside
-returns-clause-aside g c keeps = (omega (arith), omega (arith))
+returns-clause-aside g c keeps =
+    let old = (told_of c.args.self.now).aside in
+    let len = length (text c.in-Some.record) in
+    let records : old.records - 1 ≡ 0 = omega (arith, ap (λ (a : Aside). a.records) keeps) in
+    let bytes : old.bytes - len ≡ 0 = omega (arith, ap (λ (a : Aside). a.bytes) keeps, c.in-Some.ensures.cost) in
+    ap (λ (t : Told). t.aside) c.in-Ok.ensures.told ∙ (λ i. aside_for (records i) (bytes i))

@@ -11,7 +11,7 @@ use Rattle.shore_model.specs.declared.step.Wait.TheVariants.{Durable}
 use Rattle.shore_model.specs.Logs.{previous_of}
 use Rattle.shore_logrec.specs.Text.{GranuleFits, cost_of}
 use Rattle.laws_lives.specs.Views.{IsAmong}
-use Rattle.laws_calls.specs.Prepares.{granules_in_ex, prepared}
+use Rattle.laws_calls.specs.Prepares.{granules_in_ex, prepared, IsGlobalId}
 use Rattle.laws_calls.specs.States.{HasRoomFor, State}
 use Rattle.shore_txn.specs.Transactions.{AtSeat, IsSeatIn, kept_in, room_in}
 use Rattle.shore_txn.specs.Transactions as table
@@ -31,7 +31,13 @@ use Rattle.shore_core.proofs.Serving.{as_aside, call_still, not_open_aside, refu
 use Rattle.shore_core.proofs.Tables.{each_among, has_no_room, has_room, next_is}
 use Rattle.shore_core.proofs.Taking.{replied_as, true_false}
 use Rattle.shore_core.proofs.Keeping.{both}
+use Rattle.shore_types.specs.Versions.{global_limit-most}
+use Rattle.shore_types.specs.declared.layout.Geometry.{Geometry}
 use Rattle.shore_core.proofs.core_calls.Core.prepare.Goals as goal
+
+pub prepare_cost-cost-requires-clause-global : goal.prepare_cost-cost-requires-clause-global
+prepare_cost-cost-requires-clause-global g c =
+    omega (arith, c.in_ok-check_global.ensures.is.1, ap (λ (xs : List ℕ). length xs) c.as_slice-2.ensures, global_limit-most c.geometry.result.now.version)
 
 pub returns-in_err-own-clause-replied : goal.returns-in_err-own-clause-replied
 returns-in_err-own-clause-replied g c running front disk before s store is safe over idle =
@@ -43,14 +49,14 @@ returns-in_err-check_global-clause-replied g c running front disk before s store
     let bad = c.in_err-check_global.ensures.bad in
     prepare_refused c.args.self.now front before s store c.args.seat.now.session (as_session_txn c.in_ok-own.own.now) c.args.global (is.beside.parts.failed_is ∙ running) idle
     (c.in_ok-own.ensures.of_session s is.beside.parts.stands) c.in_ok-own.ensures.whole disk is over c.from_residual-in_err-check_global.result fault.BadGlobalId
-    (subst (λ (x : Fault). IsErrAnd c.from_residual-in_err-check_global.result (λ e. e ≡ x)) bad.0 c.from_residual-in_err-check_global.ensures.1) (inl (refl, bad.1)) refl
+    (subst (λ (x : Fault). IsErrAnd c.from_residual-in_err-check_global.result (λ e. e ≡ x)) bad.0 c.from_residual-in_err-check_global.ensures.1) (inl (refl, subst (λ (it : Geometry). IsGlobalId it.version c.args.global → ⊥) c.geometry.ensures bad.1)) refl
 
 pub returns-then-uses-clause-replied : goal.returns-then-uses-clause-replied
 returns-then-uses-clause-replied g c running front disk before s store is safe over idle =
     let works = is.beside.parts.failed_is ∙ running in
     prepare_refused c.args.self.now front before s store c.args.seat.now.session (as_session_txn c.in_ok-own.own.now) c.args.global works idle
     (c.in_ok-own.ensures.of_session s is.beside.parts.stands) c.in_ok-own.ensures.whole disk is over (Err fault.GlobalIdInUse) fault.GlobalIdInUse refl
-    (inr (inl (refl, c.in_ok-check_global.ensures.is, λ unused. c.uses.ensures.used c.if-uses.true s is.beside.parts.stands works unused))) refl
+    (inr (inl (refl, subst (λ (it : Geometry). IsGlobalId it.version c.args.global) c.geometry.ensures c.in_ok-check_global.ensures.is, λ unused. c.uses.ensures.used c.if-uses.true s is.beside.parts.stands works unused))) refl
 
 pub returns-in_err-granules-clause-replied : goal.returns-in_err-granules-clause-replied
 returns-in_err-granules-clause-replied g c running front disk before s store is safe over idle =
@@ -70,7 +76,7 @@ returns-then-not-admits-clause-replied g c running front disk before s store is 
     (c.in_ok-own.ensures.of_session s stands) c.in_ok-own.ensures.whole disk is over (Err fault.LogFull) fault.LogFull refl
     (inr (inr (
       refl,
-      c.in_ok-check_global.ensures.is,
+      subst (λ (it : Geometry). IsGlobalId it.version c.args.global) c.geometry.ensures c.in_ok-check_global.ensures.is,
       c.uses.ensures.unused c.if-uses.false s stands works,
       λ may. has_no_room (control_of old) (waiting_of old) (durable_of old) (has_failed old) before s is.beside.parts (first_of old) is.beside.first (c.prepare_cost-cost.result + ENDING_COST)
           (λ h. true_false (sym (c.admits.ensures.1 h) ∙ c.if-not-admits.true)) (subst (λ n. HasRoomFor s (n + ENDING_COST)) (sym cost) may),
@@ -112,7 +118,7 @@ push-requires-clause-text g c =
       previous_fits = omega (arith, c.last-previous.ensures, earlier, c.args.self.now.numbers);
       payload_fits = record {
         some = c.in_ok-check_global.ensures.is.0;
-        short = c.in_ok-check_global.ensures.is.1;
+        short = omega (arith, c.in_ok-check_global.ensures.is.1, global_limit-most c.geometry.result.now.version);
         few = c.in_ok-granules.ensures.few;
         granules_fit = subst (All GranuleFits) c.as_slice.ensures c.granules_fit.ensures;
         rising = c.in_ok-granules.ensures.order;
@@ -207,7 +213,7 @@ returns-clause-replied g c running front disk before s store is safe over idle =
     record {
       later = later;
       replies = prepare_steps (geometry_of old) s session a global works idle of c.in_ok-own.ensures.whole (Waits (Durable c.in-Ok.number)) later (
-        c.in_ok-check_global.ensures.is,
+        subst (λ (it : Geometry). IsGlobalId it.version c.args.global) c.geometry.ensures c.in_ok-check_global.ensures.is,
         c.uses.ensures.unused c.if-uses.false s stands works,
         subst (λ n. HasRoomFor s (n + ENDING_COST)) (cost ∙ ap (λ (gs : List Granule). cost_of (Prepare global gs)) listed) room,
         ap Durable number,

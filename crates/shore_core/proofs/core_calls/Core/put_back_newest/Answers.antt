@@ -66,9 +66,9 @@ returns-then-not-fits-clause-put_back g c running front disk before s store is s
     let long : image_len e.1 ≡ undo.bytes = ap (λ (x : Rid × Image). image_len x.1) (sym same) ∙ sym next.bytes_is in
     let comes = c.in_ok-reach.ensures.stays front disk before s store is safe over in
     let shows = comes.is_in.pages (is.beside.parts.failed_is ∙ running) in
-    let fits : Fits (page_slots s undo.id.page) undo.id.slot undo.bytes =
-    subst (λ (r : Rid). Fits (page_slots s r.page) r.slot undo.bytes) at (subst (Fits (page_slots s e.0.page) e.0.slot) long (newest_fits (geometry_of old) s safe a of.0 kept e images)) in
-    absurd (true_false (sym ((c.fits.ensures.shown (kept_in (txns_of c.reach.new.self)) front comes.left (page_slots s) shows).1 fits) ∙ c.if-not-fits.true))
+    let fits : Fits (geometry_of c.args.self.now).version (page_slots s undo.id.page) undo.id.slot undo.bytes =
+    subst (λ (r : Rid). Fits (geometry_of c.args.self.now).version (page_slots s r.page) r.slot undo.bytes) at (subst (Fits (geometry_of c.args.self.now).version (page_slots s e.0.page) e.0.slot) long (newest_fits (geometry_of old) s safe a of.0 kept e images)) in
+    absurd (true_false (sym ((c.fits.ensures.shown (kept_in (txns_of c.reach.new.self)) front comes.left (page_slots s) shows).1 (subst (λ (it : Geometry). Fits it.version (page_slots s undo.id.page) undo.id.slot undo.bytes) (sym c.in_ok-reach.ensures.reads.volume.geometry) fits)) ∙ c.if-not-fits.true))
 
 pub returns-then-not-fits-clause-serves : goal.returns-then-not-fits-clause-serves
 returns-then-not-fits-clause-serves g c = serves_then _ _ _ _ c.reach.new.self _ _ _ c.in_ok-reach.ensures.serves (nothing_called _ _ refl refl refl refl) tt

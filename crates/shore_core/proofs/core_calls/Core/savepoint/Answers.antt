@@ -75,7 +75,7 @@ returns-clause-replied g c running front disk before s store is safe over idle =
       later = later;
       replies = inr (inr (inr (inr (inr (inl (is.beside.parts.failed_is ∙ running, idle, (a, its, inr (inl (c.in_ok-own.ensures.whole, inr (inr (inr (inl (refl, (few, ap Saved set.0, refl))))))))))))));
       comes = comes_moved old _ front disk before s later store refl refl refl refl refl c.savepoint.ensures.claims set.1 refl refl refl
-          (λ p. marked_slots s.sessions.records s.sessions.active s.counts safe.roomy.pages a its.0.0 _ refl p (s.counts p)) is over;
+          (λ p. marked_slots _ s.sessions.records s.sessions.active s.counts safe.roomy.pages a its.0.0 _ refl p (s.counts p)) is over;
     }
 
 pub returns-in_err-own-clause-serves : goal.returns-in_err-own-clause-serves

@@ -16,6 +16,8 @@ use Rattle.shore_core.proofs.Coming.{comes_then}
 use Rattle.shore_core.proofs.Refusing.{both_some, map_some, update_fault, update_unlogged}
 use Rattle.shore_core.proofs.Taking.{served_as, true_false}
 use Rattle.shore_core.proofs.Serving.{as_aside, call_then, nothing_called, refused_as, refused_then}
+use Rattle.laws_calls.specs.StateChanges.{MayChange}
+use Rattle.shore_types.specs.declared.layout.Geometry.{Geometry}
 use Rattle.shore_core.proofs.core_calls.Core.update.Goals as goal
 
 pub returns-in_err-find-clause-served : goal.returns-in_err-find-clause-served
@@ -37,7 +39,7 @@ returns-then-not-fits-clause-served g c running front disk before s store is saf
         inr (inl (
           refl,
           there,
-          λ fits. true_false (sym ((c.fits.ensures.shown (kept_in (txns_of c.find.new.self)) front comes.left (page_slots s) shows).1 (subst (Fits (page_slots s c.args.id.page) c.args.id.slot) (sym len) fits)) ∙ c.if-not-fits.true),
+          λ fits. true_false (sym ((c.fits.ensures.shown (kept_in (txns_of c.find.new.self)) front comes.left (page_slots s) shows).1 (subst (Fits (geometry_of c.find.new.self).version (page_slots s c.args.id.page) c.args.id.slot) (sym len) (subst (λ (it : Geometry). Fits it.version (page_slots s c.args.id.page) c.args.id.slot (length c.args.bytes)) (sym c.in_ok-find.ensures.reads.volume.geometry) fits))) ∙ c.if-not-fits.true),
         )),
         refl,
       );
@@ -50,7 +52,7 @@ change-requires-clause-own g c = subst (λ k. IsOfCaller c.args.seat.now (txns_i
 pub change-requires-clause-found : goal.change-requires-clause-found
 change-requires-clause-found g c =
     both_some _ _ (frame_of c.find.new.self.heap c.args.id.page) c.in_ok-find.ensures.framed
-    (map_some _ _ (frame_of c.find.new.self.heap c.args.id.page) (λ f h. subst (Fits f.page.slots c.args.id.slot) (ap length c.as_slice.ensures) h) (c.if-not-fits.ensures.framed.0 refl))
+    (map_some _ _ (frame_of c.find.new.self.heap c.args.id.page) (λ f h. subst (Fits (geometry_of c.find.new.self).version f.page.slots c.args.id.slot) (ap length c.as_slice.ensures) h) (c.if-not-fits.ensures.framed.0 refl))
 
 pub returns-in_err-change-clause-served : goal.returns-in_err-change-clause-served
 returns-in_err-change-clause-served g c running front disk before s store is safe over a of locked =
@@ -59,7 +61,7 @@ returns-in_err-change-clause-served g c running front disk before s store is saf
     let comes = c.in_ok-find.ensures.stays front disk before s store is safe over in
     let shows = comes.is_in.pages (is.beside.parts.failed_is ∙ running) in
     let there : Finds s c.args.id = subst IsSome (sym (c.in_ok-find.ensures.found running front disk before s store is safe over)) refl in
-    let fits : Fits (page_slots s c.args.id.page) c.args.id.slot (length c.args.bytes) = subst (Fits (page_slots s c.args.id.page) c.args.id.slot) (ap length c.as_slice.ensures) ((c.if-not-fits.ensures.shown (kept_in (txns_of c.find.new.self)) front comes.left (page_slots s) shows).0 refl) in
+    let fits : Fits (geometry_of c.args.self.now).version (page_slots s c.args.id.page) c.args.id.slot (length c.args.bytes) = subst (λ (it : Geometry). Fits it.version (page_slots s c.args.id.page) c.args.id.slot (length c.args.bytes)) reads.volume.geometry (subst (Fits (geometry_of c.find.new.self).version (page_slots s c.args.id.page) c.args.id.slot) (ap length c.as_slice.ensures) ((c.if-not-fits.ensures.shown (kept_in (txns_of c.find.new.self)) front comes.left (page_slots s) shows).0 refl)) in
     let h = c.in_err-change.ensures.changed (reads.failed ∙ running) front comes.left before s comes.after comes.is_in (subst (λ it. IsSafe it s) (sym reads.volume.geometry) safe) comes.over a of
     (subst (λ it. IsReached (locks_in it).requests a.txn (Record c.args.id) EX) (sym reads.control) locked) in
     served_as old c.change.new.self front before s store a (call.Update c.args.id c.args.bytes) c.from_residual-in_err-change.result _ c.from_residual-in_err-change.ensures.1
@@ -75,7 +77,7 @@ returns-clause-served g c running front disk before s store is safe over a of lo
     (subst (λ it. IsReached (locks_in it).requests a.txn (Record c.args.id) EX) (sym reads.control) locked) in
     record {
       later = changed s a c.args.id (Some c.args.bytes) h.0;
-      serves = (there, refl, (h.0, h.1, refl));
+      serves = (there, refl, (h.0, subst (λ (it : Geometry). MayChange it.version s c.args.id (Some c.args.bytes) h.0) reads.volume.geometry h.1, refl));
       comes = comes_then c.find.new.self c.change.new.self front before s (changed s a c.args.id (Some c.args.bytes) h.0) store comes h.2;
     }
 

@@ -33,7 +33,7 @@ returns-clause-replied g c asks running front disk before s store is safe over i
     let works = is.beside.parts.failed_is ∙ running in
     let a = as_session_txn c.in_ok-own.own.now in
     let its = c.in_ok-own.ensures.of_session s is.beside.parts.stands in
-    asked_calls old _ front before s store a _ c.args.seat.now.session c.args.call works idle its c.in_ok-own.ensures.whole
+    asked_calls old _ front before s store a _ safe.roomy.slots c.args.seat.now.session c.args.call works idle its c.in_ok-own.ensures.whole
     (c.take_locks.ensures.asked asks running front disk before s store is safe over a its (sym c.id-txn.ensures.number) c.in_ok-own.ensures.whole)
 
 pub returns-in_err-own-clause-serves : goal.returns-in_err-own-clause-serves

@@ -51,7 +51,7 @@ returns-in_default-clause-moves g c log_front front anchor disk s ready =
     moves_none log_front front anchor c.args.log.now c.args.heap.now s {A = Bool} (Ok false) disk (λ later. later.log ≡ gone_on s.log (log_seen c.args.log.now) (log_seen c.args.log.now)) ready (sym (gone_none s.log (log_seen c.args.log.now)))
 
 pub returns-in_default-clause-fits : goal.returns-in_default-clause-fits
-returns-in_default-clause-fits g c log_front front anchor disk s found ready all = subst (TurnsFit found) (sym (gone_none s.log (log_seen c.args.log.now))) all
+returns-in_default-clause-fits g c log_front front anchor disk s found ready all = subst (TurnsFit (geometry_of c.args.heap.now).version found) (sym (gone_none s.log (log_seen c.args.log.now))) all
 
 pub returns-in_default-clause-any_fit : goal.returns-in_default-clause-any_fit
 returns-in_default-clause-any_fit g c front first disk due long held all =
@@ -117,7 +117,7 @@ returns-in_err-append-clause-moves g c log_front front anchor disk s ready =
     subst (λ (result : Result Bool RestartError). RestartMoves result log_front front anchor c.args.log.now c.append.new.log c.args.heap.now c.append.new.heap s (λ later. later.log ≡ gone_on s.log log (log_seen c.append.new.log)))
     (sym (err_with c.from_residual-in_err-append.result e c.from_residual-in_err-append.ensures.1))
     (turn_stops log_front front anchor c.args.log.now c.args.heap.now s e e c.append.new.log c.append.new.heap (undo_record s.log r.txn) (λ later. later.log ≡ gone_on s.log log (log_seen c.append.new.log))
-    (c.in_err-append.ensures.appends log_front front anchor disk s r.txn ready (turn_says s.log r whole) number))
+    (c.in_err-append.ensures.appends log_front front anchor disk s r.txn ready (turn_says (geometry_of c.args.heap.now).version s.log r whole) number))
 
 pub returns-in_err-append-clause-bad : goal.returns-in_err-append-clause-bad
 returns-in_err-append-clause-bad g c log_front front anchor disk s ready =
@@ -132,7 +132,7 @@ returns-in_err-append-clause-bad g c log_front front anchor disk s ready =
     let bad = c.in_err-append.ensures.bad log_front front anchor disk s ready n (sym same ∙ is) in
     let whole = whole_turn cut kept s.log ready.at_rest.ended ready.at_rest.records r turn in
     let left = whole_unanswered cut kept s.log ready.at_rest.ended ready.at_rest.records r.txn turn.loser in
-    turn_cannot s.log r whole n (bad.0 ∙ c.next_change.ensures log r.txn c.requires.losers turn.loser turn.next ∙ sym (ap undo_next_of left)) bad.1)
+    turn_cannot (geometry_of c.args.heap.now).version s.log r whole n (bad.0 ∙ c.next_change.ensures log r.txn c.requires.losers turn.loser turn.next ∙ sym (ap undo_next_of left)) bad.1)
 
 pub returns-clause-fits : goal.returns-clause-fits
 returns-clause-fits g c log_front front anchor disk s found ready all =
@@ -147,8 +147,8 @@ returns-clause-fits g c log_front front anchor disk s found ready all =
     let same_cut = ap (λ t. t.first - 1) (c.take.ensures.frames.tail ∙ c.append.ensures.log.tail) in
     let taken = c.take.ensures.taken ∙ ap (λ (rs : List LogRecord). rs ++ r ∷ []) c.append.ensures.same in
     let grown = turn_later (geometry_of c.args.heap.now) cut kept bytes c.args.self.now c.requires r turn (cut_of_log c.take.new.self) (records_of_log c.take.new.self) same_cut taken in
-    let fits = c.in_ok-append.ensures.fits log_front front anchor disk s r.txn ready (turn_says s.log r whole) in
-    subst (TurnsFit found) (sym (gone_more s.log log (log_seen c.take.new.self) r grown)) (turns_fit_more found s.log r all fits)
+    let fits = c.in_ok-append.ensures.fits log_front front anchor disk s r.txn ready (turn_says (geometry_of c.args.heap.now).version s.log r whole) in
+    subst (TurnsFit (geometry_of c.args.heap.now).version found) (sym (gone_more s.log log (log_seen c.take.new.self) r grown)) (turns_fit_more (geometry_of c.args.heap.now).version found s.log r all fits)
 
 pub returns-in_err-append-clause-device : goal.returns-in_err-append-clause-device
 returns-in_err-append-clause-device g c log_front front anchor disk s ready =
@@ -226,7 +226,7 @@ returns-clause-moves g c log_front front anchor disk s ready =
     let grown = turn_later (geometry_of c.args.heap.now) cut kept bytes c.args.self.now c.requires r turn (cut_of_log c.take.new.self) (records_of_log c.take.new.self) same_cut taken in
     let rest = ready.at_rest in
     let number = ap (λ (n : ℕ). n + 1) (c.last.view_is ∙ c.last-last.ensures ∙ last_is log_front anchor c.args.log.now s rest) in
-    let a = c.in_ok-append.ensures.appends log_front front anchor disk s r.txn ready (turn_says s.log r whole) number in
+    let a = c.in_ok-append.ensures.appends log_front front anchor disk s r.txn ready (turn_says (geometry_of c.args.heap.now).version s.log r whole) number in
     let mine = undo_record s.log r.txn in
     let ends : EndsBehind (cut_of_log c.append.new.log) (a.later.log ++ mine ∷ []) = subst (λ (n : ℕ). EndsBehind n (a.later.log ++ mine ∷ [])) (sym (ap (λ t. t.first - 1) c.append.ensures.log.tail))
     (subst (λ (l : List LogRecord). EndsBehind cut (l ++ mine ∷ [])) (sym a.done.0) (ends_longer cut kept s.log rest.ended rest.records mine turn.loser)) in
@@ -279,7 +279,7 @@ returns-in_err-append-clause-any_pages g c front first disk due long held =
     held_err front first disk c.args.heap.now c.append.new.heap n (due ++ r ∷ []) (n + 1) (gone_on due log (log_seen c.append.new.log)) (length (log_seen c.append.new.log))
     c.from_residual-in_err-append.result c.in_err-append.field-0.0 c.from_residual-in_err-append.ensures.1
     (held_wider (IsOnPage r) (IsUndoneOnPage log) _ front first disk c.args.heap.now c.append.new.heap n (due ++ r ∷ []) (n + 1) (λ p on. (r.txn, turn.loser, turn.next, subst (λ (x : LogRecord). IsOnPage x p) turn.is on))
-    (c.in_err-append.ensures.any_pages front first disk due r r.txn long held refl (turn_says log r turn) number))
+    (c.in_err-append.ensures.any_pages front first disk due r r.txn long held refl (turn_says (geometry_of c.args.heap.now).version log r turn) number))
 
 pub returns-clause-any_pages : goal.returns-clause-any_pages
 returns-clause-any_pages g c front first disk due long held =
@@ -297,7 +297,7 @@ returns-clause-any_pages g c front first disk due long held =
     let later = log_seen c.take.new.self in
     let number = ap (λ (n : ℕ). n + 1) (c.last.view_is ∙ c.last-last.ensures ∙ sym (length_padded cut kept) ∙ sym long) in
     let one_more : n + 1 ≡ length later = ap (λ (n : ℕ). n + 1) long ∙ sym (one_longer log later r grown) in
-    let stays = (c.in_ok-append.ensures.any_pages front first disk due r r.txn long held refl (turn_says log r turn) number).stays in
+    let stays = (c.in_ok-append.ensures.any_pages front first disk due r r.txn long held refl (turn_says (geometry_of c.args.heap.now).version log r turn) number).stays in
     record {
       named = tt;
       stays = subst (λ (last : ℕ). StaysHeld front first disk c.args.heap.now c.append.new.heap n (gone_on due log later) last) one_more
@@ -339,7 +339,7 @@ returns-clause-any_fit g c front first disk due long held all =
     let taken = c.take.ensures.taken ∙ ap (λ (rs : List LogRecord). rs ++ r ∷ []) c.append.ensures.same in
     let grown = turn_later (geometry_of c.args.heap.now) cut kept bytes c.args.self.now c.requires r turn (cut_of_log c.take.new.self) (records_of_log c.take.new.self) same_cut taken in
     subst (AllFindRoom (geometry_of c.args.heap.now) first) (sym (gone_more due log (log_seen c.take.new.self) r grown))
-    (find_more (geometry_of c.args.heap.now) first due r all (c.in_ok-append.ensures.any_fit front first disk due r.txn long held (turn_says log r turn)))
+    (find_more (geometry_of c.args.heap.now) first due r all (c.in_ok-append.ensures.any_fit front first disk due r.txn long held (turn_says (geometry_of c.args.heap.now).version log r turn)))
 
 pub returns-in_err-logged-clause-log_device : goal.returns-in_err-logged-clause-log_device
 returns-in_err-logged-clause-log_device g c log_front quiet =

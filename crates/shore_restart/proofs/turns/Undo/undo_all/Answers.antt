@@ -12,7 +12,7 @@ use Rattle.shore_restart.proofs.LogTurns.{gone_none}
 use Rattle.shore_restart.proofs.WholeLogs.{whole_taken}
 use Rattle.laws_lives.specs.Undo.{HasNoLosers}
 use Rattle.shore_restart.specs.Standing.{log_faults, log_seen, stream_bytes_of}
-use Rattle.shore_restart.specs.Turns.{HasNoTurnRoom, IsUndoOf, IsUndoneSoFar, TurnsFit, gone_on}
+use Rattle.shore_restart.specs.Turns.{CannotUndo, HasNoTurnRoom, IsUndoOf, IsUndoneSoFar, TurnsFit, gone_on}
 use Rattle.shore_disk.specs.Cause.{HasCause}
 use Rattle.shore_restart.specs.Errors.{log_answer}
 use Rattle.shore_restart.proofs.Causes.{err_to, no_page_cause}
@@ -42,7 +42,7 @@ loop-init g c = record {
       let heap = c.args.heap.now in
       subst (λ (done : List LogRecord). StaysHeld front first disk heap heap (length due) done (length (log_seen c.args.log.now))) (sym (gone_none due (log_seen c.args.log.now)))
       (subst (λ (last : ℕ). StaysHeld front first disk heap heap (length due) due last) long (held_here front first disk heap due (length due) (length due) (omega arith) held));
-  fits = λ log_front front anchor disk s ready. subst (TurnsFit s.log) (sym (gone_none s.log (log_seen c.args.log.now))) (no_turns s.log);
+  fits = λ log_front front anchor disk s ready. subst (TurnsFit (geometry_of c.args.heap.now).version s.log) (sym (gone_none s.log (log_seen c.args.log.now))) (no_turns (geometry_of c.args.heap.now).version s.log);
   any_fit = λ front first disk due long held all. subst (AllFindRoom (geometry_of c.args.heap.now) first) (sym (gone_none due (log_seen c.args.log.now))) all;
   volume = record { geometry = refl; honest = refl; size = refl; frames = refl };
   log = record { tail = refl; anchors = refl; honest = refl; size = refl };
@@ -90,8 +90,11 @@ loop-preserved g c =
       fits = λ log_front front anchor disk s ready.
           let at = invariant.come log_front front anchor disk s ready in
           let come = at.0 in
-          subst (TurnsFit s.log) (ap (λ (l : List LogRecord). gone_on l now later) at.1 ∙ on s.log)
-          (c.in_ok-turn.ensures.fits log_front front anchor come.1.disk come.0 s.log come.1.ready (subst (TurnsFit s.log) (sym at.1) (invariant.fits log_front front anchor disk s ready)));
+          subst (TurnsFit (geometry_of c.args.heap.now).version s.log) (ap (λ (l : List LogRecord). gone_on l now later) at.1 ∙ on s.log)
+          (subst (λ (g : Geometry). TurnsFit g.version s.log (gone_on come.0.log now later)) invariant.volume.geometry
+          (c.in_ok-turn.ensures.fits log_front front anchor come.1.disk come.0 s.log come.1.ready
+          (subst (λ (g : Geometry). TurnsFit g.version s.log come.0.log) (sym invariant.volume.geometry)
+          (subst (TurnsFit (geometry_of c.args.heap.now).version s.log) (sym at.1) (invariant.fits log_front front anchor disk s ready)))));
       any_fit = λ front texts disk due long held all.
           let s = invariant.any_pages front texts disk due long held in
           let mid = gone_on due first now in
@@ -140,8 +143,9 @@ returns-in_err-turn-clause-bad g c log_front front anchor disk s ready =
     if_err c.from_residual.result c.from_residual.ensures.1 (λ error same n is. (
       come.0.log,
       at.2,
-      subst (TurnsFit s.log) (sym at.1) (c.loop.invariant.fits log_front front anchor disk s ready),
-      c.in_err-turn.ensures.bad log_front front anchor come.1.disk come.0 come.1.ready n (sym same ∙ is),
+      subst (TurnsFit (geometry_of c.args.heap.now).version s.log) (sym at.1) (c.loop.invariant.fits log_front front anchor disk s ready),
+      subst (λ (g : Geometry). CannotUndo g.version come.0.log n) c.loop.invariant.volume.geometry
+          (c.in_err-turn.ensures.bad log_front front anchor come.1.disk come.0 come.1.ready n (sym same ∙ is)),
     ))
 
 pub returns-in_err-turn-clause-device : goal.returns-in_err-turn-clause-device
@@ -228,7 +232,7 @@ returns-clause-fits g c log_front front anchor disk s ready =
     let now = log_seen c.loop.log in
     let last = c.in_ok-turn.ensures.done c.if-branch.false in
     let seen : log_seen c.force.new.log ≡ now = seen_same c.turn.new.log c.force.new.log c.force.ensures.log c.force.ensures.same ∙ seen_same c.loop.log c.turn.new.log c.turn.ensures.log last.0 in
-    on_ok c.force.result (subst (λ (l : List LogRecord). TurnsFit s.log (gone_on s.log first l)) (sym seen) (invariant.fits log_front front anchor disk s ready))
+    on_ok c.force.result (subst (λ (l : List LogRecord). TurnsFit (geometry_of c.args.heap.now).version s.log (gone_on s.log first l)) (sym seen) (invariant.fits log_front front anchor disk s ready))
 
 pub returns-clause-device : goal.returns-clause-device
 returns-clause-device g c log_front front anchor disk s ready = err_to c.force.result c.force.ensures.refused (λ error is f page. elim is [

@@ -23,7 +23,7 @@ invariant-loop g l = record {
   any_pages : (front : List ℕ) (first disk : ℕ → List ℕ) (due : List LogRecord) → length due ≡ length (log_seen l.initial.log) → IsHeld front first disk l.initial.heap due (length due)
       → StaysHeld front first disk l.initial.heap l.heap (length due) (gone_on due (log_seen l.initial.log) (log_seen l.log)) (length (log_seen l.log));
   fits : (log_front front : List ℕ) (anchor : Anchor) (disk : ℕ → List ℕ) (s : RecoveryState) → IsReady log_front front anchor disk l.initial.log l.initial.heap s
-      → TurnsFit s.log (gone_on s.log (log_seen l.initial.log) (log_seen l.log));
+      → TurnsFit (geometry_of l.initial.heap).version s.log (gone_on s.log (log_seen l.initial.log) (log_seen l.log));
   any_fit : (front : List ℕ) (first disk : ℕ → List ℕ) (due : List LogRecord) → length due ≡ length (log_seen l.initial.log) → IsHeld front first disk l.initial.heap due (length due)
       → AllFindRoom (geometry_of l.initial.heap) first due → AllFindRoom (geometry_of l.initial.heap) first (gone_on due (log_seen l.initial.log) (log_seen l.log));
   volume : SameVolume l.initial.heap l.heap;
