@@ -1,5 +1,8 @@
 //! What the values under both locks say together.
-ghost use Rattle.std.specs.Prelude.{◌≡◌, ◌≤◌, ◌<◌, ◌+◌, [], ◌++◌, false, true, length, ℕ, List};
+ghost use Rattle.std.specs.Prelude.{◌≡◌, ◌≤◌, ◌<◌, ◌+◌, [], ◌++◌, false, true, length, ℕ, IfErr, IsOk, List, OnOk};
+ghost use Rattle.shore_types.specs.declared.faults.Fault.TheVariants as Fault;
+ghost use Rattle.shore_check.specs.Stages.{bytes_to_log, records_to_log};
+ghost use Rattle.shore_log.specs.Told.{aside_for};
 ghost use Rattle.crossbeam_queue.specs.SegTies.{IsSegPassOf};
 ghost use Rattle.shore_core.specs.Cores.{durable_of, has_failed, heap_of, waiting_of};
 ghost use Rattle.shore_core.specs.Cores as cores;
@@ -15,9 +18,10 @@ use crate::names::Named;
 use crate::seat::Seat;
 use shore_core::Probe;
 use shore_disk::Disk;
+use shore_log::Tail;
 use shore_logrec::LogRecord;
 use shore_queue::{Numbers, QueuePass, QueueTail, handed_on};
-use shore_types::Lsn;
+use shore_types::{Fault, Lsn};
 use shore_words::Words;
 use std::marker::{Model, PhantomData};
 use std::sync::Wait;
@@ -85,4 +89,19 @@ pub fn meeting<N: Numbers, B: Named, R: Wait + Copy, L: Disk, V: Disk>(
         device_end: held.log.durable().number(),
         seen: Lsn(seen),
     }
+}
+
+/// Keeps room aside, in the log buffer of the log device, for all that the core's checkpoint under way still has to log. `Memory` if an allocation failed, never where it has nothing to log.
+pub fn keep_aside<N: Numbers, B: Named, T: Tail, L: Disk, V: Disk>(
+    core: &CoreHeld<B, T, V>,
+    held: &mut LogHeld<N, B, L>,
+) -> Result<(), Fault>
+    requires taken { held.old.waits ≡ [] }
+    requires texts { held.old.textless ≡ 0 }
+    ensures idle { records_to_log core.now.stage ≡ 0 → IsOk result }
+    ensures kept { OnOk result (held.new.aside ≡ aside_for (records_to_log core.now.stage) (bytes_to_log core.now.stage)) }
+    ensures same { held.new ≡ record held.old { aside = held.new.aside } }
+    ensures refused { IfErr result (λ fault. fault ≡ Fault.Memory) }
+{
+    held.keep_aside(core.stage.records_to_log(), core.stage.bytes_to_log())
 }

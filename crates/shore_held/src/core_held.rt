@@ -1,11 +1,9 @@
 //! What lies under the core's lock.
-ghost use Rattle.std.specs.Prelude.{◌≡◌, ◌≢◌, ◌⊎◌, ◌↔◌, ◌≤◌, ◌<◌, ◌+◌, ◌-◌, [], ◌∷◌, ◌++◌, length, ℕ, IfErr, IfNone, IfSome, IsTrue, OnOk, None, Some, false, slice_get, true};
+ghost use Rattle.std.specs.Prelude.{◌≡◌, ◌≢◌, ◌⊎◌, ◌↔◌, ◌≤◌, ◌<◌, ◌+◌, ◌-◌, [], ◌∷◌, ◌++◌, length, ℕ, IfNone, IfSome, IsTrue, None, Some, false, slice_get, true};
 ghost use Rattle.shore_types.specs.declared.faults.Fault.TheVariants as Fault;
 ghost use Rattle.shore_types.specs.declared.layout.TheConstants.{LOG_FRONT_BYTES};
 ghost use Rattle.shore_txn.specs.Transactions.{room_in};
-ghost use Rattle.shore_check.specs.Stages.{bytes_to_log, records_to_log};
 ghost use Rattle.shore_check.specs.declared.stage.Stage.TheVariants as Stage;
-ghost use Rattle.shore_log.specs.Told.{aside_for};
 ghost use Rattle.shore_model.specs.Calls.{IsServed};
 ghost use Rattle.shore_model.specs.declared.step.Step.TheVariants as Step;
 ghost use Rattle.shore_dwrite.specs.Syncs.{syncs_of};
@@ -24,7 +22,6 @@ ghost use Rattle.shore_held.specs.declared.asked.Asked.TheVariants as Asked;
 ghost use Rattle.shore_held.specs.declared.core_held.TheConstants.{ALL_PARTS};
 
 use crate::asked::Asked;
-use crate::log_held::LogHeld;
 use crate::names::Named;
 use crate::seat::Seat;
 use crate::tape::{Taped, note_on};
@@ -34,7 +31,6 @@ use shore_disk::Disk;
 use shore_log::{PlainTail, Tail};
 use shore_model::Call;
 use shore_pool::Amid;
-use shore_queue::Numbers;
 use shore_txn::LogRoom;
 use shore_types::{Fault, Lsn, SessionId};
 use shore_words::Words;
@@ -429,17 +425,6 @@ impl<B: Named, T: Tail, V: Disk> CoreHeld<B, T, V> {
         ensures { IsTrue result ↔ (self.now.stage ≡ Stage.Resting) }
     {
         matches!(self.stage, Stage::Resting)
-    }
-
-    /// Keeps room aside, in the log buffer of the log device, for all that its checkpoint under way has to log still. `Memory` if an allocation failed.
-    pub fn keep_aside<N: Numbers, L: Disk>(&self, held: &mut LogHeld<N, B, L>) -> Result<(), Fault>
-        requires taken { held.old.waits ≡ [] }
-        requires texts { held.old.textless ≡ 0 }
-        ensures kept { OnOk result (held.new.aside ≡ aside_for (records_to_log self.now.stage) (bytes_to_log self.now.stage)) }
-        ensures same { held.new ≡ record held.old { aside = held.new.aside } }
-        ensures refused { IfErr result (λ fault. fault ≡ Fault.Memory) }
-    {
-        held.keep_aside(self.stage.records_to_log(), self.stage.bytes_to_log())
     }
 
     /// A seat for one who looks.

@@ -13,7 +13,7 @@ mod seat;
 mod tape;
 
 pub use asked::Asked;
-pub use both::meeting;
+pub use both::{keep_aside, meeting};
 pub use checkpointing::checkpoint;
 pub use core_held::{ALL_PARTS, CoreHeld};
 pub use ends::Meeting;

@@ -1,5 +1,5 @@
 //! What lies under the log device's lock.
-ghost use Rattle.std.specs.Prelude.{◌≡◌, ◌≢◌, ◌⊎◌, ◌↔◌, ◌≤◌, ◌<◌, ◌+◌, ◌-◌, ◌^◌, [], ◌++◌, length, take, ℕ, List, IfErr, IsTrue, OnErr, OnOk, Ok, Err, false, true};
+ghost use Rattle.std.specs.Prelude.{◌≡◌, ◌≢◌, ◌⊎◌, ◌↔◌, ◌≤◌, ◌<◌, ◌+◌, ◌-◌, ◌^◌, [], ◌++◌, length, take, ℕ, List, IfErr, IsOk, IsTrue, OnErr, OnOk, Ok, Err, false, true};
 ghost use Rattle.std.specs.Arc.{arc_value};
 ghost use Rattle.crossbeam_queue.specs.SegTies.{IsSegPassOf};
 ghost use Rattle.shore_types.specs.declared.faults.Fault.TheVariants as Fault;
@@ -8,7 +8,7 @@ ghost use Rattle.shore_disk.specs.Cause.{HasCause};
 ghost use Rattle.shore_disk.specs.Device as devices;
 ghost use Rattle.shore_log.specs.PlainTails.{first_of, told_in, waiting_in};
 ghost use Rattle.shore_log.specs.Settled.{IsSpelled, KnowsRoom, cut_of_log, records_of_log, stable};
-ghost use Rattle.shore_log.specs.Told.{KeepsAside, aside_for};
+ghost use Rattle.shore_log.specs.Told.{aside_for};
 ghost use Rattle.shore_model.specs.declared.log_records.LogRecord.{LogRecord};
 ghost use Rattle.shore_queue.specs.Queues.{ends};
 ghost use Rattle.shore_words.specs.Words.{known, looker};
@@ -292,18 +292,19 @@ impl<N: Numbers, B: Named, L: Disk> LogHeld<N, B, L> {
         self.failed
     }
 
-    /// Keeps room aside for so many records with so many bytes of texts in all, in the log buffer that `into_log` hands out. `Memory` if an allocation failed. All else stays.
-    pub fn keep_aside(&mut self, records: usize, bytes: usize) -> Result<(), Fault>
-        requires few { (records < 2 ^ 30) × (bytes < 2 ^ 30) }
+    /// Keeps room aside for so many records with so many bytes of texts in all, in the log buffer that `into_log` hands out. `Memory` if an allocation failed, never for nothing. All else stays.
+    pub fn keep_aside(&mut self, count: usize, bytes: usize) -> Result<(), Fault>
+        requires few { (count < 2 ^ 30) × (bytes < 2 ^ 30) }
         requires taken { self.old.waits ≡ [] }
         requires texts { self.old.textless ≡ 0 }
-        ensures kept { OnOk result (self.new.aside ≡ aside_for records bytes) }
+        ensures idle { count ≡ 0 → bytes ≡ 0 → IsOk result }
+        ensures kept { OnOk result (self.new.aside ≡ aside_for count bytes) }
         ensures same { self.new ≡ record self.old { aside = self.new.aside } }
         ensures refused { IfErr result (λ fault. fault ≡ Fault.Memory) }
     {
         self.ready = false;
         self.log.tell_room(&mut self.next);
-        self.next.keep_aside(records, bytes)?;
+        self.next.keep_aside(count, bytes)?;
         self.ready = true;
         Ok(())
     }
@@ -317,7 +318,7 @@ impl<N: Numbers, B: Named, L: Disk> LogHeld<N, B, L> {
         ensures kept { (start : Beginning) → B.honest start → ∥ IsKept B.geometry B.log_bytes result.0 self.failed self.aim ∥₁ }
         ensures waits { (waiting_in result.1 ≡ self.waits) × (first_of result.1 ≡ cut_of_log result.0 + 1 + length (records_of_log result.0)) }
         ensures knows { self.waits ≡ [] → self.textless ≡ 0 → KnowsRoom result.0 (told_in result.1) }
-        ensures aside { KeepsAside (told_in result.1) self.aside.records self.aside.bytes }
+        ensures aside { self.waits ≡ [] → self.textless ≡ 0 → (told_in result.1).aside ≡ self.aside }
     {
         let LogHeld {
             log,

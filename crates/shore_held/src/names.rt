@@ -31,6 +31,7 @@ pub trait Named: Ledger + Queued {
 
 impl Named for Brand {
     ghost use Rattle.std.specs.Prelude.{[]};
+    ghost use Rattle.shore_types.specs.declared.versions.Version.TheVariants.{One};
     ghost use Rattle.shore_words.specs.Words.{no_words};
 
     ghost table = { no_words };
@@ -41,7 +42,7 @@ impl Named for Brand {
 
     ghost before = { [] };
 
-    ghost geometry = { record { pair = 0; max_locks = 0; stores = [] } };
+    ghost geometry = { record { version = One; pair = 0; max_locks = 0; stores = [] } };
 
     ghost log_bytes = { 0 };
 

@@ -21,7 +21,7 @@ use crate::session::Session;
 use crate::shared::Shared;
 use crate::turns::take_all;
 use shore_disk::Disk;
-use shore_held::{CoreHeld, LogHeld, Named, meeting};
+use shore_held::{CoreHeld, LogHeld, Named, keep_aside, meeting};
 use shore_log::Tail;
 use shore_queue::{Numbers, QueueTail};
 use shore_types::{Fault, Lsn};
@@ -204,6 +204,6 @@ fn end<N: Numbers, B: Named, R: Wait + Copy, L: Disk, V: Disk>(
     let mut reader = core.seat(words);
     meeting(words, core, held, &mut reader);
     core.learn(told);
-    core.keep_aside(held)?;
+    keep_aside(core, held)?;
     Ok(())
 }

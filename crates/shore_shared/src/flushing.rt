@@ -27,7 +27,7 @@ const FLUSHER_LEAVES: u64 = 3;
 pub(crate) struct Flushed {
     // More pages may be due.
     pub(crate) may_more: bool,
-    // All that was logged was durable as the last batch was begun, and nothing was refused: if no more may be due, no page that was due was left.
+    // Of a batch: all that was logged was durable as it was begun, and nothing was refused. If no more may be due then, no page that was due was left; of all batches it says that too.
     pub(crate) is_durable: bool,
     // A step was refused: a device has failed.
     pub(crate) is_refused: bool,

@@ -203,8 +203,8 @@ impl<N: Numbers, B: Named, R: Wait + Clock + Copy, L: Disk, V: Disk> Shared<
             gate.pass(Place::Sync(Role::Checkpointer));
             let (step, room) = self.checkpoint_step(rt, alloc);
             note_step(latest, &step, &room);
-            if lacks_memory(&step) {
-                // A begin is tried again.
+            if lacks_memory(&step) && !self.is_under_way(rt) {
+                // A begin is tried again. What is under way goes on by itself.
                 self.full.store(1, Ordering::SeqCst);
             }
             if !matches!(step, Step::Done(_)) || !self.is_under_way(rt) {

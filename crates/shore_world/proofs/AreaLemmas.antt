@@ -1,5 +1,6 @@
 -- A double-write area that shows pages is refused with nothing.
 use Rattle.std.proofs.Common.{◌≡◌, inl, inr, ℕ, zero, suc, ◌+◌, ◌-◌, ◌*◌, ◌<◌, ◌≤◌, Bool, List, [], ◌∷◌, All, length, slice_get, get_or, Some, nat_le, nat_lt, Result, Ok, Err, MatchResult, refl, sym, ap, subst, ◌∙◌, arith, drop, if◌then◌else◌}
+use Rattle.shore_types.specs.Versions.{page_bytes}
 use Rattle.std.proofs.lemmas.Bool.{and_from, eq-eqb, le-leb, lt-ltb}
 use Rattle.std.proofs.lemmas.List.Elements.{All-head, All-tail}
 use Rattle.std.proofs.lemmas.List.{ext_get_or}
@@ -55,7 +56,7 @@ table_passes g image numbers area =
 none_bad : (g : Geometry) (numbers bytes : List ℕ) (i : ℕ) → AreImages g numbers bytes → IsFirstBad g numbers bytes i → ⊥
 none_bad g [] bytes i are bad = bad
 none_bad g (k ∷ ks) bytes zero are bad = bad are.0
-none_bad g (k ∷ ks) bytes (suc i) are bad = none_bad g ks (drop 8192 bytes) i are.1 bad.1
+none_bad g (k ∷ ks) bytes (suc i) are bad = none_bad g ks (drop (page_bytes g.version) bytes) i are.1 bad.1
 
 passes_not : (r : Result Unit Fault) (f : Fault) → r ≡ Ok tt → r ≡ Err f → ⊥
 passes_not r f passes fails = subst (λ (r : Result Unit Fault). MatchResult r (λ _. ⊥) (λ _. Unit {0})) (sym fails ∙ passes) tt

@@ -11,6 +11,7 @@ use Rattle.shore_types.specs.Images.{Image, image_len}
 use Rattle.shore_types.specs.declared.ids.PageId.{PageId}
 use Rattle.shore_types.specs.declared.ids.Rid.{Rid}
 use Rattle.shore_types.specs.declared.layout.Geometry.{Geometry}
+use Rattle.shore_types.specs.declared.versions.Version.{Version}
 use Rattle.shore_model.specs.declared.log_records.LogRecord.{LogRecord}
 use Rattle.shore_model.specs.declared.unanswered_changes.UnansweredChange.{UnansweredChange}
 use Rattle.shore_model.specs.Logs.{image_of_record, unanswered}
@@ -47,10 +48,10 @@ all_among P [] each = tt
 all_among P (x ∷ xs) each = (each x (inl refl), all_among P xs (λ y there. each y (inr there)))
 
 -- claims fit that fit behind others
-fit_join : (xs ys : List (ℕ × ℕ)) (slots : List Slot) → FitIn xs (claimed_by ys slots) → FitIn ys slots → FitIn (xs ++ ys) slots
-fit_join [] ys slots first second = second
-fit_join (x ∷ xs) ys slots first second =
-    subst (λ (l : List Slot). (x.0 < length l) × Fits l x.0 x.1 × FitIn (xs ++ ys) slots) (sym (claimed_join xs ys slots)) (first.0, first.1, fit_join xs ys slots first.2 second)
+fit_join : (v : Version) (xs ys : List (ℕ × ℕ)) (slots : List Slot) → FitIn v xs (claimed_by ys slots) → FitIn v ys slots → FitIn v (xs ++ ys) slots
+fit_join v [] ys slots first second = second
+fit_join v (x ∷ xs) ys slots first second =
+    subst (λ (l : List Slot). (x.0 < length l) × Fits v l x.0 x.1 × FitIn v (xs ++ ys) slots) (sym (claimed_join xs ys slots)) (first.0, first.1, fit_join v xs ys slots first.2 second)
 
 -- ---- changes of those in doubt
 
@@ -102,11 +103,11 @@ module _ (g : Geometry) (stream_bytes : ℕ) (log : List LogRecord) (k : IsRoomy
   abbrev claimed : ℕ → Slot
   claimed i = claiming (undecided_at k.placed.records undos (rid_on p i))
 
-  all_claimed : Claimed k.placed.records undos (slot_count log)
+  all_claimed : Claimed g.version k.placed.records undos (slot_count log)
   all_claimed = some_claimed g log k.placed undos (doubts_told_once log once) (doubts_of_log log)
 
-  room : HasRoom (each_from claimed 0 count)
-  room = subst HasRoom (map_each claiming (λ i. undecided_at k.placed.records undos (rid_on p i)) 0 count) (all_claimed.room p)
+  room : HasRoom g.version (each_from claimed 0 count)
+  room = subst (HasRoom g.version) (map_each claiming (λ i. undecided_at k.placed.records undos (rid_on p i)) 0 count) (all_claimed.room p)
 
   -- a change of the page is within these claims
   abbrev IsWithin : UnansweredChange → Type 0
@@ -135,9 +136,9 @@ module _ (g : Geometry) (stream_bytes : ℕ) (log : List LogRecord) (k : IsRoomy
     abbrev slots : List Slot
     slots = each_from f 0 count
 
-    own_fits : FitIn (claim_of p c) slots
-    own_fits = elim (eq_by_cmp page_cmp p c.id.page) as (λ b. eq_by_cmp page_cmp p c.id.page ≡ b → FitIn (cond b ((c.id.slot, image_len c.before) ∷ []) []) slots) [
-      | true ↦ λ is. let fits = kept_fits p count claimed room (entry_of c) f within less (tells_apart exact_pages p c.id.page is) in (fits.0, fits.1, tt)
+    own_fits : FitIn g.version (claim_of p c) slots
+    own_fits = elim (eq_by_cmp page_cmp p c.id.page) as (λ b. eq_by_cmp page_cmp p c.id.page ≡ b → FitIn g.version (cond b ((c.id.slot, image_len c.before) ∷ []) []) slots) [
+      | true ↦ λ is. let fits = kept_fits g.version p count claimed room (entry_of c) f within less (tells_apart exact_pages p c.id.page is) in (fits.0, fits.1, tt)
       | false ↦ λ is. tt
     ] refl
 
@@ -152,17 +153,17 @@ module _ (g : Geometry) (stream_bytes : ℕ) (log : List LogRecord) (k : IsRoomy
     own_claimed = claimed_cases (eq_by_cmp page_cmp p c.id.page) ∙ one_each (λ i. raised (image_len i)) p count (entry_of c) f (λ same. (within same).0)
 
     still_less : (i : ℕ) → (raised_by i).claim ≤ (claimed i).claim
-    still_less = raised_less p count claimed room (entry_of c) f within less
+    still_less = raised_less g.version p count claimed room (entry_of c) f within less
 
-  all_fit : (cs : List UnansweredChange) (f : ℕ → Slot) → AllByRecursion IsWithin cs → ((i : ℕ) → (f i).claim ≤ (claimed i).claim) → FitIn (claims_of p cs) (each_from f 0 count)
+  all_fit : (cs : List UnansweredChange) (f : ℕ → Slot) → AllByRecursion IsWithin cs → ((i : ℕ) → (f i).claim ≤ (claimed i).claim) → FitIn g.version (claims_of p cs) (each_from f 0 count)
   all_fit [] f within less = tt
   all_fit (c ∷ cs) f within less =
-      fit_join (claims_of p cs) (claim_of p c) (each_from f 0 count)
-      (subst (FitIn (claims_of p cs)) (sym (own_claimed c f within.0 less)) (all_fit cs (raised_by c f within.0 less) within.1 (still_less c f within.0 less)))
+      fit_join g.version (claims_of p cs) (claim_of p c) (each_from f 0 count)
+      (subst (FitIn g.version (claims_of p cs)) (sym (own_claimed c f within.0 less)) (all_fit cs (raised_by c f within.0 less) within.1 (still_less c f within.0 less)))
       (own_fits c f within.0 less)
 
   -- any of those changes, one after another
-  pub changes_fit : (cs : List UnansweredChange) → ((c : UnansweredChange) → IsAmong c cs → IsAmong c (changes_in_doubt log)) → FitIn (claims_of p cs) (slots_left log p)
+  pub changes_fit : (cs : List UnansweredChange) → ((c : UnansweredChange) → IsAmong c cs → IsAmong c (changes_in_doubt log)) → FitIn g.version (claims_of p cs) (slots_left log p)
   changes_fit cs are =
       all_fit cs (λ i. settled (image_of_record log (rid_on p i))) (all_among IsWithin cs (λ c there. each_within c (are c there)))
       (λ i. let same = ap image_len (k.placed.shown (rid_on p i)) in least (image_len (image_of_record log (rid_on p i))) (image_len (get k.placed.records (rid_on p i))) (longest (befores_at (rid_on p i) undos)) same)
@@ -172,15 +173,15 @@ module _ (g : Geometry) (stream_bytes : ℕ) (log : List LogRecord) (k : IsRoomy
 
 -- so none is left that finds no room
 pub none_unkept : (g : Geometry) (stream_bytes : ℕ) (log : List LogRecord) → IsRoomyLog g stream_bytes log → EachOnce (map (λ (d : LoggedDoubt). d.txn) (doubts_left log)) → (n : ℕ)
-    → IsUnkept log n → ⊥
+    → IsUnkept g.version log n → ⊥
 none_unkept g stream_bytes log k once n unkept =
     let c = unkept.change in
     let p = c.id.page in
-    let fits : FitIn (claims_of p (unkept.kept ++ c ∷ [])) (slots_left log p) =
+    let fits : FitIn g.version (claims_of p (unkept.kept ++ c ∷ [])) (slots_left log p) =
     changes_fit g stream_bytes log k once p (unkept.kept ++ c ∷ []) (λ x there. subst (IsAmong x) (sym unkept.order) (some_more x unkept.kept unkept.later c there)) in
-    let last : FitIn (claim_of p c ++ claims_of p unkept.kept) (slots_left log p) = subst (λ l. FitIn l (slots_left log p)) (claims_push p unkept.kept c) fits in
-    let own : FitIn ((c.id.slot, image_len c.before) ∷ claims_of p unkept.kept) (slots_left log p) =
-    subst (λ (b : Bool). FitIn (cond b ((c.id.slot, image_len c.before) ∷ []) [] ++ claims_of p unkept.kept) (slots_left log p)) (same_page p) last in
+    let last : FitIn g.version (claim_of p c ++ claims_of p unkept.kept) (slots_left log p) = subst (λ l. FitIn g.version l (slots_left log p)) (claims_push p unkept.kept c) fits in
+    let own : FitIn g.version ((c.id.slot, image_len c.before) ∷ claims_of p unkept.kept) (slots_left log p) =
+    subst (λ (b : Bool). FitIn g.version (cond b ((c.id.slot, image_len c.before) ∷ []) [] ++ claims_of p unkept.kept) (slots_left log p)) (same_page p) last in
     unkept.no_room (own.0, own.1)
   where
     some_more : (x : UnansweredChange) (kept later : List UnansweredChange) (c : UnansweredChange) → IsAmong x (kept ++ c ∷ []) → IsAmong x (kept ++ c ∷ later)

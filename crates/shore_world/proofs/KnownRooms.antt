@@ -1,14 +1,12 @@
 -- A log buffer that was told the same knows still what the log device has room for, and what it keeps aside is enough as it was.
-use Rattle.std.proofs.Common.{◌≡◌, ◌≤◌, ◌+◌, length, sym, subst}
+use Rattle.std.proofs.Common.{◌≡◌, ◌+◌, ◌∙◌, length, sym, subst}
 use Rattle.std.specs.Prelude.{vec_capacity, vec_len}
-use Rattle.shore_check.specs.Stages.{bytes_to_log, records_to_log}
 use Rattle.shore_check.specs.declared.stage.Stage.{Stage}
 use Rattle.shore_core.specs.Checkpointing.{KeepsFor}
 use Rattle.shore_disk.specs.declared.device.Disk.{Ghosts}
 use Rattle.shore_log.specs.Settled.{KnowsRoom, waiting}
 use Rattle.shore_log.specs.Told.{Covers, SaysAlike}
 use Rattle.shore_log.specs.declared.device.LogDev.{LogDev}
-use Rattle.shore_log.specs.declared.tail.Aside.{Aside}
 use Rattle.shore_log.specs.declared.tail.Known.{Known}
 use Rattle.shore_log.specs.declared.tail.Told.{Told}
 
@@ -22,4 +20,4 @@ knows_alike log old new same knows = (
 )
 
 pub keeps_as : (stage : Stage) (old new : Told) → new.aside ≡ old.aside → KeepsFor stage old → KeepsFor stage new
-keeps_as stage old new same keeps = subst (λ (a : Aside). (records_to_log stage ≤ a.records) × (bytes_to_log stage ≤ a.bytes)) (sym same) keeps
+keeps_as stage old new same keeps = same ∙ keeps

@@ -1,5 +1,7 @@
 -- The labels at the fronts stay where the fronts do, and a world that was opened has them.
 use Rattle.std.proofs.Common.{◌≡◌, ◌-◌, ℕ, List, sym, subst, ◌∙◌, take, arith}
+use Rattle.shore_types.specs.declared.versions.Version.{Version}
+use Rattle.shore_types.specs.Versions.{least_log-least}
 use Rattle.shore_types.specs.declared.faults.Device.TheVariants.{Log, Volume}
 use Rattle.shore_types.specs.declared.layout.Geometry.{Geometry}
 use Rattle.shore_types.specs.declared.layout.TheConstants.{LOG_FRONT_BYTES}
@@ -22,8 +24,8 @@ log_front_stays g later bytes bytes_later front front_later geometry long same k
     (record { label = subst (λ (l : List ℕ). HoldsLabel Log bytes l (log_label g bytes)) (sym same) k.label; long = k.long })
 
 -- devices of which the streams are as long are as long themselves
-pub as_long : (bytes bytes_later : ℕ) → IsLogLength bytes → bytes_later - LOG_FRONT_BYTES ≡ bytes - LOG_FRONT_BYTES → bytes_later ≡ bytes
-as_long bytes bytes_later long same = let least = long.0 in let is = same in omega arith
+pub as_long : (v : Version) (bytes bytes_later : ℕ) → IsLogLength v bytes → bytes_later - LOG_FRONT_BYTES ≡ bytes - LOG_FRONT_BYTES → bytes_later ≡ bytes
+as_long v bytes bytes_later long same = let least = long.0 in let is = same in omega (arith, least_log-least v)
 
 module _ (g : Geometry) (anchor : Anchor) (rs : List LogRecord) (pages : LoggedPages) (log volume : DeviceHistory)
     (stood : StandsForBehind g (size log) (size volume) anchor rs pages (seen log) (seen volume)) where

@@ -2,6 +2,7 @@
 use Rattle.std.proofs.Common.{◌≡◌, ℕ, ◌-◌, List, [], refl, sym, ◌∙◌, ap, subst, take}
 use Rattle.shore_types.specs.declared.layout.Geometry.{Geometry}
 use Rattle.shore_types.specs.declared.layout.TheConstants.{LOG_FRONT_BYTES}
+use Rattle.shore_types.specs.Versions.{slot_limit}
 use Rattle.shore_disk.specs.Device.{DeviceHistory, seen, size}
 use Rattle.shore_disk.specs.declared.device.Disk.{Ghosts}
 use Rattle.shore_dwrite.specs.declared.places.TheConstants.{GATE_AT}
@@ -38,7 +39,7 @@ use Rattle.shore_world.proofs.LeftDoubts.{restored_behind}
 use Rattle.shore_world.proofs.StoredLemmas.{IsUpAt, up_safe}
 use Rattle.shore_world.proofs.StayLemmas.{came, no_losers, over_ready, redone, up_at}
 
-module _ {L V : Type 0} {G : Ghosts L} {H : Ghosts V} (g : Geometry) (o : Opening) (anchor : Anchor) (rs : List LogRecord) (pages : LoggedPages) (opening : IsOpeningOf rs o)
+module _ {L V : Type 0} {G : Ghosts L} {H : Ghosts V} (g : Geometry) (o : Opening) (anchor : Anchor) (rs : List LogRecord) (pages : LoggedPages) (opening : IsOpeningOf rs o) (sized : o.slots ≡ slot_limit g.version)
     (log volume : DeviceHistory) (stood : StandsForBehind g (size log) (size volume) anchor rs pages (seen log) (seen volume)) (w : World L V G H)
     (opens : HasOpened w g anchor log volume rs pages) where
   abbrev now : CheckpointedState
@@ -48,10 +49,10 @@ module _ {L V : Type 0} {G : Ghosts L} {H : Ghosts V} (g : Geometry) (o : Openin
   ring_bytes = size log - LOG_FRONT_BYTES
 
   over : IsOpenedOver o opens.opened.ready.store opens.opened.first
-  over = over_ready g (size log) (size volume) anchor rs pages log volume (refl, refl) stood w opens o opening
+  over = over_ready g (size log) (size volume) anchor rs pages log volume (refl, refl) stood w opens o opening sized
 
   up : IsUpAt g ring_bytes o rs (take 512 (take LOG_FRONT_BYTES (seen log))) (take GATE_AT (seen volume)) [] w now
-  up = up_at g (size log) (size volume) anchor rs pages log volume (refl, refl) stood w opens o opening
+  up = up_at g (size log) (size volume) anchor rs pages log volume (refl, refl) stood w opens o opening sized
 
   pub opened_manager : IsManagerOf w o [] []
   opened_manager = record {
@@ -63,7 +64,7 @@ module _ {L V : Type 0} {G : Ghosts L} {H : Ghosts V} (g : Geometry) (o : Openin
     now = now;
     at = opens.opened.at;
     log_labelled = log_front_stays g (geometry_in w) (size log) (size (history_in w)) (take LOG_FRONT_BYTES (seen log)) (take LOG_FRONT_BYTES (seen log)) up.geometry
-        (as_long (size log) (size (history_in w)) stood.front.long up.long) refl (found_log_front g anchor rs pages log volume stood);
+        (as_long g.version (size log) (size (history_in w)) stood.front.long up.long) refl (found_log_front g anchor rs pages log volume stood);
     volume_labelled = subst (λ (x : Geometry). IsVolumeFront x (take GATE_AT (seen volume))) (sym up.geometry) (found_volume_front g anchor rs pages log volume stood);
     limit = ap (λ (t : Table). t.limit) opens.opened.at.is_in.beside.parts.stands.locks ∙ opens.opened.doubts.locks.limit_is ∙ ap (λ (x : Geometry). x.max_locks) (sym up.geometry);
     waited = λ w there. absurd (subst (IsAmong w) over.waiting there);

@@ -97,7 +97,7 @@ module _ {L V : Type 0} {G : Ghosts L} {H : Ghosts V} (g : Geometry) (log_bytes 
     disk = up.disk;
     last = m;
     at = up.at;
-    log_labelled = log_front_stays g (geometry_in w) log_bytes (size (history_in w)) first_front up.log_front up.geometry (as_long log_bytes (size (history_in w)) of_log.long up.long) up.labelled of_log;
+    log_labelled = log_front_stays g (geometry_in w) log_bytes (size (history_in w)) first_front up.log_front up.geometry (as_long _ log_bytes (size (history_in w)) of_log.long up.long) up.labelled of_log;
     volume_labelled = subst (λ (x : Geometry). IsVolumeFront x front) (sym up.geometry) of_volume;
     under_way = subst (λ (x : Geometry × ℕ). IsAtCheckpoints x.0 x.1 o found es m) (λ i. (sym up.geometry i, sym up.long i)) up.under_way;
   }

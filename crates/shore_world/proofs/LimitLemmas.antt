@@ -100,7 +100,7 @@ module _ (g : Geometry) where
   inner_limit s a c step new (inr (inl (whole, inr (inl h)))) = goes_on_limit s a c step new h.1
   inner_limit s a c step new (inr (inl (whole, inr (inr (inl h))))) = commit_limit s a step new h.1
   inner_limit s a c step new (inr (inl (whole, inr (inr (inr (inl h)))))) = by_table (savepoint_table s a step new h.1).locks
-  inner_limit s a c step new (inr (inl (whole, inr (inr (inr (inr h)))))) = by_table (prepare_locks s a h.0 step new h.2)
+  inner_limit s a c step new (inr (inl (whole, inr (inr (inr (inr h)))))) = by_table (prepare_locks g.version s a h.0 step new h.2)
   inner_limit s a c step new (inr (inr (inl h))) = by_table (back_table s a h.0 step new h.3).locks
   inner_limit s a c step new (inr (inr (inr h))) = abort_limit s a step new h.1
 

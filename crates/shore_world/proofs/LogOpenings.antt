@@ -14,8 +14,8 @@ use Rattle.laws_lives.specs.LogTells.{records_committed}
 abbrev logged_doubt : List LogRecord → LoggedDoubt → InDoubt
 logged_doubt log d = record { txn = d.txn; global = d.global; writes = logged_writes log d.txn }
 
-abbrev pub logged_opening : List LogRecord → Opening
-logged_opening log = record { records = records_committed log; in_doubt = map (logged_doubt log) (doubts_in log) }
+abbrev pub logged_opening : ℕ → List LogRecord → Opening
+logged_opening slots log = record { slots = slots; records = records_committed log; in_doubt = map (logged_doubt log) (doubts_in log) }
 
 -- what it has logged it has written
 has_logged : (log : List LogRecord) (t : ℕ) → HasWritten log t (logged_writes log t)
@@ -29,8 +29,8 @@ pairs_same : (log : List LogRecord) (ds : List LoggedDoubt) → map (λ (d : InD
 pairs_same log [] = refl
 pairs_same log (d ∷ ds) = ap (λ (ps : List (ℕ × List ℕ)). (d.txn, d.global) ∷ ps) (pairs_same log ds)
 
-pub opening_logged : (log : List LogRecord) → IsOpeningOf log (logged_opening log)
-opening_logged log = record {
+pub opening_logged : (slots : ℕ) (log : List LogRecord) → IsOpeningOf log (logged_opening slots log)
+opening_logged slots log = record {
   records = refl;
   in_doubt = pairs_same log (doubts_in log);
   written = λ d among.

@@ -1,9 +1,10 @@
 -- Stays of the power on two devices, any number of them one after another, are stays over plain data.
-use Rattle.std.proofs.Common.{◌≡◌, ⊎_elim, ℕ, ◌-◌, List, [], ◌∷◌, ◌++◌, refl, sym, ap, subst, append_assoc, append-nil}
+use Rattle.std.proofs.Common.{◌≡◌, ⊎_elim, ℕ, ◌-◌, List, [], ◌∷◌, ◌++◌, refl, sym, ap, subst, ◌∙◌, append_assoc, append-nil}
 use Rattle.std.proofs.Math.Logic.{∥∥₁_map, ∥∥₁_elim, ∥∥₁_prop}
 use Rattle.std.specs.FinMap.{empty}
 use Rattle.shore_types.specs.declared.layout.Geometry.{Geometry}
 use Rattle.shore_types.specs.declared.layout.TheConstants.{LOG_FRONT_BYTES}
+use Rattle.shore_types.specs.Versions.{slot_limit}
 use Rattle.shore_disk.specs.Device.{DeviceHistory, may_leave, seen, size}
 use Rattle.shore_disk.specs.declared.device.Disk.{Ghosts}
 use Rattle.shore_disk.proofs.Moments.{seen_left}
@@ -11,7 +12,7 @@ use Rattle.shore_fronts.specs.Fronts.{first_anchor}
 use Rattle.shore_gate.specs.declared.anchors.Anchor.{Anchor}
 use Rattle.shore_model.specs.declared.histories.Opening.{Opening}
 use Rattle.shore_model.specs.declared.log_records.LogRecord.{LogRecord}
-use Rattle.shore_model.specs.Lives.{next_opening}
+use Rattle.shore_model.specs.Lives.{Span, next_opening}
 use Rattle.laws_lives.specs.Pages.{LoggedPages, empty_page}
 use Rattle.laws_lives.proofs.LifeSteps.{format_opens}
 use Rattle.laws_lives.specs.Doubts.{IsOpeningOf}
@@ -74,10 +75,10 @@ runs_behind_up (WasUp q ∷ over) r = ap (λ (l : List CheckpointedRun). q ∷ l
 
 -- the opening that stays leave is what the log says that they leave
 opens_behind : (g : Geometry) (bytes : ℕ) (over : List CheckpointedStay) (a : Anchored) (end : List LogRecord) (end_pages : LoggedPages) → MayBeOpenedBehind g bytes not_anchored [] (λ p. empty_page)
-    → AreCheckpointedStays g bytes (opening_with empty) not_anchored [] (λ p. empty_page) over a end end_pages → IsOpeningOf end (opening_behind (opening_with empty) [] over)
+    → AreCheckpointedStays g bytes (opening_with (slot_limit g.version) empty) not_anchored [] (λ p. empty_page) over a end end_pages → IsOpeningOf end (opening_behind (opening_with (slot_limit g.version) empty) [] over)
 opens_behind g bytes over a end end_pages may are =
-    subst (IsOpeningOf end) (sym (same_opening (opening_with empty) [] over))
-    (stays_leave g bytes (opening_with empty) not_anchored [] (λ p. empty_page) may format_opens over a end end_pages are).1
+    subst (IsOpeningOf end) (sym (same_opening (opening_with (slot_limit g.version) empty) [] over))
+    (stays_leave g bytes (opening_with (slot_limit g.version) empty) not_anchored [] (λ p. empty_page) may (format_opens (slot_limit g.version)) over a end end_pages are).1
 
 module _ {L V : Type 0} {G : Ghosts L} {H : Ghosts V} where
   tried_adds_none : (stays : List (Stay L V G H)) (runs : List CheckpointedRun) (log volume : DeviceHistory) → AreRunsOf stays runs → AreRunsOf (stays ++ Tried log volume ∷ []) runs
@@ -109,6 +110,15 @@ module _ {L V : Type 0} {G : Ghosts L} {H : Ghosts V} where
   threads_add_their_run (Shared u ∷ stays) [] t run are is = absurd are
   threads_add_their_run (Shared u ∷ stays) (r ∷ runs) t run are is = (are.0, threads_add_their_run stays runs t run are.1 is)
 
+-- each open finds the bound of slots of the first
+after_sized : (o : Opening) (spans : List Span) → (opening_after o spans).slots ≡ o.slots
+after_sized o [] = refl
+after_sized o (span ∷ spans) = after_sized (next_opening o span) spans
+
+behind_sized : (slots : ℕ) (over : List CheckpointedStay) → (opening_behind (opening_with slots empty) [] over).slots ≡ slots
+behind_sized slots over =
+    ap (λ (o : Opening). o.slots) (same_opening (opening_with slots empty) [] over) ∙ after_sized (opening_with slots empty) (spans_of_stays [] over)
+
 module _ {L V : Type 0} {G : Ghosts L} {H : Ghosts V} (g : Geometry) (log_bytes volume_bytes : ℕ) where
   -- ---- any number of stays, from a format
 
@@ -119,7 +129,7 @@ module _ {L V : Type 0} {G : Ghosts L} {H : Ghosts V} (g : Geometry) (log_bytes 
     pub anchor : Anchor
     pub last : List LogRecord
     pub last_pages : LoggedPages
-    pub are : AreCheckpointedStays g (log_bytes - LOG_FRONT_BYTES) (opening_with empty) not_anchored [] (λ p. empty_page) over (anchored_by anchor) last last_pages
+    pub are : AreCheckpointedStays g (log_bytes - LOG_FRONT_BYTES) (opening_with (slot_limit g.version) empty) not_anchored [] (λ p. empty_page) over (anchored_by anchor) last last_pages
     pub of : AreRunsOf stays (runs_among over)
     pub stands : StandsForBehind g log_bytes volume_bytes anchor last last_pages log_left volume_left
 
@@ -178,7 +188,7 @@ module _ {L V : Type 0} {G : Ghosts L} {H : Ghosts V} (g : Geometry) (log_bytes 
               anchor = so_far.anchor;
               last = after;
               last_pages = one.cut.pages;
-              are = stays_on g (log_bytes - LOG_FRONT_BYTES) (opening_with empty) not_anchored [] (λ p. empty_page) so_far.over (CutOff one.cut ∷ []) (anchored_by so_far.anchor) so_far.last
+              are = stays_on g (log_bytes - LOG_FRONT_BYTES) (opening_with (slot_limit g.version) empty) not_anchored [] (λ p. empty_page) so_far.over (CutOff one.cut ∷ []) (anchored_by so_far.anchor) so_far.last
                   so_far.last_pages (anchored_by so_far.anchor) after one.cut.pages so_far.are (one.is_cut, (refl, refl, refl));
               of = subst (AreRunsOf (before ++ Tried log volume ∷ [])) (sym (runs_behind_cut so_far.over one.cut))
                   (tried_adds_none before (runs_among so_far.over) log volume so_far.of);
@@ -189,9 +199,10 @@ module _ {L V : Type 0} {G : Ghosts L} {H : Ghosts V} (g : Geometry) (log_bytes 
       → AreFound log_bytes volume_bytes left m.log m.volume → IsManager m → EachHasStayed (before ++ Up m ∷ []) (AreLeft m.ended)
   manager_has before left has m found is c d crash =
       ∥∥₁_elim (as_read before left has m.log m.volume found) ∥∥₁_prop (λ so_far.
-      let o = opening_behind (opening_with empty) [] so_far.over in
+      let o = opening_behind (opening_with (slot_limit g.version) empty) [] so_far.over in
       let opening = opens_behind g (log_bytes - LOG_FRONT_BYTES) so_far.over (anchored_by so_far.anchor) so_far.last so_far.last_pages so_far.opened so_far.are in
-      ∥∥₁_map (stayed g log_bytes volume_bytes o so_far.anchor so_far.last so_far.last_pages m opening found.lengths so_far.stands is c d crash) (λ one.
+      let sized = behind_sized (slot_limit g.version) so_far.over in
+      ∥∥₁_map (stayed g log_bytes volume_bytes o so_far.anchor so_far.last so_far.last_pages m opening sized found.lengths so_far.stands is c d crash) (λ one.
       let after = left_by_up one.run in
       record {
         opened = so_far.opened;
@@ -199,7 +210,7 @@ module _ {L V : Type 0} {G : Ghosts L} {H : Ghosts V} (g : Geometry) (log_bytes 
         anchor = one.behind;
         last = after;
         last_pages = one.run.pages;
-        are = stays_on g (log_bytes - LOG_FRONT_BYTES) (opening_with empty) not_anchored [] (λ p. empty_page) so_far.over (WasUp one.run ∷ []) (anchored_by so_far.anchor) so_far.last
+        are = stays_on g (log_bytes - LOG_FRONT_BYTES) (opening_with (slot_limit g.version) empty) not_anchored [] (λ p. empty_page) so_far.over (WasUp one.run ∷ []) (anchored_by so_far.anchor) so_far.last
             so_far.last_pages (anchored_by one.behind) after one.run.pages so_far.are (one.up, (sym one.same, refl, refl));
         of = subst (AreRunsOf (before ++ Up m ∷ [])) (sym (runs_behind_up so_far.over one.run))
             (manager_adds_its_run before (runs_among so_far.over) m one.run so_far.of one.of);
@@ -210,9 +221,10 @@ module _ {L V : Type 0} {G : Ghosts L} {H : Ghosts V} (g : Geometry) (log_bytes 
       → AreFound log_bytes volume_bytes left t.log t.volume → IsInThreads t → EachHasStayed (before ++ Shared t ∷ []) (AreLeftInThreads t)
   threads_have before left has t found is c d crash =
       ∥∥₁_elim (as_read before left has t.log t.volume found) ∥∥₁_prop (λ so_far.
-      let o = opening_behind (opening_with empty) [] so_far.over in
+      let o = opening_behind (opening_with (slot_limit g.version) empty) [] so_far.over in
       let opening = opens_behind g (log_bytes - LOG_FRONT_BYTES) so_far.over (anchored_by so_far.anchor) so_far.last so_far.last_pages so_far.opened so_far.are in
-      ∥∥₁_map (stayed_in_threads g log_bytes volume_bytes o so_far.anchor so_far.last so_far.last_pages t opening found.lengths so_far.stands is c d crash) (λ one.
+      let sized = behind_sized (slot_limit g.version) so_far.over in
+      ∥∥₁_map (stayed_in_threads g log_bytes volume_bytes o so_far.anchor so_far.last so_far.last_pages t opening sized found.lengths so_far.stands is c d crash) (λ one.
       let after = left_by_up one.run in
       record {
         opened = so_far.opened;
@@ -220,7 +232,7 @@ module _ {L V : Type 0} {G : Ghosts L} {H : Ghosts V} (g : Geometry) (log_bytes 
         anchor = one.behind;
         last = after;
         last_pages = one.run.pages;
-        are = stays_on g (log_bytes - LOG_FRONT_BYTES) (opening_with empty) not_anchored [] (λ p. empty_page) so_far.over (WasUp one.run ∷ []) (anchored_by so_far.anchor) so_far.last
+        are = stays_on g (log_bytes - LOG_FRONT_BYTES) (opening_with (slot_limit g.version) empty) not_anchored [] (λ p. empty_page) so_far.over (WasUp one.run ∷ []) (anchored_by so_far.anchor) so_far.last
             so_far.last_pages (anchored_by one.behind) after one.run.pages so_far.are (one.up, (sym one.same, refl, refl));
         of = subst (AreRunsOf (before ++ Shared t ∷ [])) (sym (runs_behind_up so_far.over one.run))
             (threads_add_their_run before (runs_among so_far.over) t one.run so_far.of one.of);
@@ -258,27 +270,30 @@ module _ {L V : Type 0} {G : Ghosts L} {H : Ghosts V} (g : Geometry) (log_bytes 
     (stayed : HaveStayed g log_bytes volume_bytes stays log_left volume_left) where
   -- the opening that they have come to
   abbrev pub last_opening : Opening
-  last_opening = opening_after (opening_with empty) (spans_of_stays [] stayed.over)
+  last_opening = opening_after (opening_with (slot_limit g.version) empty) (spans_of_stays [] stayed.over)
+
+  pub last_sized : last_opening.slots ≡ slot_limit g.version
+  last_sized = after_sized (opening_with (slot_limit g.version) empty) (spans_of_stays [] stayed.over)
 
   pub is_last_opening : IsOpeningOf stayed.last last_opening
   is_last_opening =
-      (stays_leave g (log_bytes - LOG_FRONT_BYTES) (opening_with empty) not_anchored [] (λ p. empty_page) stayed.opened format_opens stayed.over (anchored_by stayed.anchor) stayed.last
+      (stays_leave g (log_bytes - LOG_FRONT_BYTES) (opening_with (slot_limit g.version) empty) not_anchored [] (λ p. empty_page) stayed.opened (format_opens (slot_limit g.version)) stayed.over (anchored_by stayed.anchor) stayed.last
       stayed.last_pages stayed.are).1
 
   pub have_lived : HaveLived g (log_bytes - LOG_FRONT_BYTES) stays last_opening (anchored_by stayed.anchor) stayed.last stayed.last_pages
   have_lived =
       let live =
-      stays_live g (log_bytes - LOG_FRONT_BYTES) (opening_with empty) not_anchored [] (λ p. empty_page) stayed.opened format_opens stayed.over (anchored_by stayed.anchor) stayed.last
+      stays_live g (log_bytes - LOG_FRONT_BYTES) (opening_with (slot_limit g.version) empty) not_anchored [] (λ p. empty_page) stayed.opened (format_opens (slot_limit g.version)) stayed.over (anchored_by stayed.anchor) stayed.last
       stayed.last_pages stayed.are in
       record {
         over = stayed.over;
         of = stayed.of;
         are = stayed.are;
         life = live.0;
-        in_order = stays_in_order g (log_bytes - LOG_FRONT_BYTES) (opening_with empty) not_anchored [] (λ p. empty_page) stayed.opened format_opens stayed.over (anchored_by stayed.anchor)
+        in_order = stays_in_order g (log_bytes - LOG_FRONT_BYTES) (opening_with (slot_limit g.version) empty) not_anchored [] (λ p. empty_page) stayed.opened (format_opens (slot_limit g.version)) stayed.over (anchored_by stayed.anchor)
             stayed.last stayed.last_pages stayed.are;
         opening = is_last_opening;
         shown = live.1;
-        fixed = stays_fixed g (log_bytes - LOG_FRONT_BYTES) (opening_with empty) not_anchored [] (λ p. empty_page) stayed.opened format_opens stayed.over (anchored_by stayed.anchor)
+        fixed = stays_fixed g (log_bytes - LOG_FRONT_BYTES) (opening_with (slot_limit g.version) empty) not_anchored [] (λ p. empty_page) stayed.opened (format_opens (slot_limit g.version)) stayed.over (anchored_by stayed.anchor)
             stayed.last stayed.last_pages stayed.are;
       }

@@ -108,7 +108,7 @@ module _ (g : Geometry) (log_bytes volume_bytes : ℕ) (anchor : Anchor) (rs : L
   pub shown_at : (h : Geometry) → h ≡ g → Shows h volume_image texts
   shown_at = shown_by g anchor (kept_behind anchor rs) rs pages volume_image logged
 
-  pub texts_at : (h : Geometry) → h ≡ g → (p : PageId) → HasPage h p → IsPageText (texts (page_number h p)) p (pages p).number (told_images rs pages p)
+  pub texts_at : (h : Geometry) → h ≡ g → (p : PageId) → HasPage h p → IsPageText h.version (texts (page_number h p)) p (pages p).number (told_images rs pages p)
   texts_at = texts_told g anchor (kept_behind anchor rs) rs pages volume_image logged
 
   pub replay_at : (h : Geometry) → h ≡ g → (mid now : DeviceHistory) → LeavesOnly mid now (ShowsBehind h front texts) → LeavesOnly mid now (ShowsBehind g front texts)

@@ -1,5 +1,6 @@
 -- The world that an open answers, by what its restart has left.
 use Rattle.std.proofs.Common.{◌≡◌, inl, ◌<◌, ◌≤◌, ◌-◌, ◌++◌, ◌∷◌, ℕ, List, [], Option, None, Some, length, take, drop, map, refl, sym, ap, subst, ◌∙◌, arith}
+use Rattle.shore_types.specs.Versions.{slot_limit}
 use Rattle.std.specs.Prelude.{IfSome}
 use Rattle.std.specs.List.{AllByRecursion}
 use Rattle.std.proofs.lemmas.List.{drop-append-le, take-append-drop}
@@ -7,6 +8,7 @@ use Rattle.std.proofs.lemmas.List.Elements.{All-from_recursion}
 use Rattle.shore_types.specs.declared.ids.PageId.{PageId}
 use Rattle.shore_types.specs.declared.layout.Geometry.{Geometry}
 use Rattle.shore_types.specs.declared.layout.TheConstants.{LOG_FRONT_BYTES}
+use Rattle.shore_types.specs.declared.versions.Version.{Version}
 use Rattle.shore_disk.specs.Device.{size}
 use Rattle.shore_disk.specs.declared.device.Disk.{Ghosts}
 use Rattle.shore_gate.specs.declared.anchors.Anchor.{Anchor}
@@ -108,10 +110,11 @@ seen_left anchor log_front log s rest =
 
 -- ---- a core that opens so does still, once its log buffer has learned something
 
-pub opens_learned : {T V : Type 0} {G : tail.Ghosts T} {H : Ghosts V} (old new : Core T V G H) → KeepsAllButRoom old new → (cut checkpoint : ℕ) (front : List ℕ) (disk : ℕ → List ℕ)
-    (found : List LogRecord) (stream_bytes : ℕ) (ready : CheckpointedStore) → OpensIn cut checkpoint old front disk found stream_bytes ready → OpensIn cut checkpoint new front disk found stream_bytes ready
-opens_learned old new same cut checkpoint front disk found stream_bytes ready o = record {
+pub opens_learned : (v : Version) {T V : Type 0} {G : tail.Ghosts T} {H : Ghosts V} (old new : Core T V G H) → KeepsAllButRoom old new → (cut checkpoint : ℕ) (front : List ℕ) (disk : ℕ → List ℕ)
+    (found : List LogRecord) (stream_bytes : ℕ) (ready : CheckpointedStore) → OpensIn v cut checkpoint old front disk found stream_bytes ready → OpensIn v cut checkpoint new front disk found stream_bytes ready
+opens_learned v old new same cut checkpoint front disk found stream_bytes ready o = record {
   first = o.first;
+  slots = o.slots;
   opened = o.opened;
   counts = o.counts;
   stream = o.stream;
@@ -148,9 +151,10 @@ module _ (g : Geometry) (ring_bytes : ℕ) (anchor : Anchor) (rs : List LogRecor
     there : IsOpeningOf ready.store.log o
     there = undone_opening o rs its.turns ready.store.log its.undone opening
 
-    pub opened_from : (stream_bytes : ℕ) → first.stream_bytes ≡ stream_bytes → ((p : PageId) → first.counts p ≡ slot_count ready.store.log p) → HasLocksInBounds g first
+    pub opened_from : (stream_bytes : ℕ) → first.stream_bytes ≡ stream_bytes → ((p : PageId) → first.counts p ≡ slot_count ready.store.log p) → HasLocksInBounds g first → o.slots ≡ slot_limit g.version
         → IsOpenedBehind g stream_bytes (anchored_by anchor) ready.store.log first
-    opened_from stream_bytes long counts locks = record {
+    opened_from stream_bytes long counts locks sized = record {
+      slots = opens.sessions.slots ∙ sized;
       log = sym opens.stored.log;
       as_long = long;
       records = λ id. opens.sessions.records id ∙ redone_whole ready.store went.in_order.recoverable redone id.page id.slot;
@@ -174,12 +178,12 @@ module _ (g : Geometry) (ring_bytes : ℕ) (anchor : Anchor) (rs : List LogRecor
     moment_in = record { log = history_in w; volume = volume_history_in w; store = ready.store }
 
     module _ (rest : IsAtRest log_front anchor w.log ready.store) (anchor_is : anchor_in w ≡ anchor) (left : ℕ → List ℕ)
-        (opens : OpensIn (cut_of_log w.log) anchor.checkpoint w.core front left rs (size (history_in w) - LOG_FRONT_BYTES) ready) where
+        (opens : OpensIn g.version (cut_of_log w.log) anchor.checkpoint w.core front left rs (size (history_in w) - LOG_FRONT_BYTES) ready) where
       cut_is : cut_of_log w.log ≡ cut
       cut_is = ap (λ n. n - 1) rest.settled.holds.first
 
-      over : IsOpenedOver (logged_opening rs) ready.store opens.first
-      over = opens.opened (logged_opening rs) (opening_logged rs)
+      over : IsOpenedOver (logged_opening (slot_limit g.version) rs) ready.store opens.first
+      over = opens.opened (logged_opening (slot_limit g.version) rs) (opening_logged (slot_limit g.version) rs) refl
 
       before_is : before_in w opens.first ≡ ready.store.log
       before_is =
@@ -214,11 +218,11 @@ module _ (g : Geometry) (ring_bytes : ℕ) (anchor : Anchor) (rs : List LogRecor
               anchored = went.anchored ∙ ap anchored_by (sym anchor_is);
             };
             over = opens.opened;
-            from = opened_from opens.first (logged_opening rs) (opening_logged rs) over redone
+            from = opened_from opens.first (logged_opening (slot_limit g.version) rs) (opening_logged (slot_limit g.version) rs) over redone
                 (subst (λ n. IsNextKept (drop n rs) (end_among anchor.checkpoint rs) opens.first.sessions.next_txn) cut_is opens.next)
                 (log_limit (size (history_in w) - LOG_FRONT_BYTES) cut ready.store.log)
                 (opens.stream ∙ ap (λ n. log_limit (size (history_in w) - LOG_FRONT_BYTES) n ready.store.log) cut_is) opens.counts
                 (locks_in_bounds g rs roomy.placed.inside (log_kept anchor rs) (left_behind rs may.opened.lawful pages cut (cut_found g ring_bytes anchor rs pages may))
-                (locks_of w.core) doubts.locks opens.first opens.is_in.beside.parts.stands.locks roomy.locks);
+                (locks_of w.core) doubts.locks opens.first opens.is_in.beside.parts.stands.locks roomy.locks) refl;
             doubts = doubts;
           }

@@ -170,7 +170,7 @@ module _ {L V : Type 0} {G : Ghosts L} {H : Ghosts V} (w : World L V G H) (o : O
         now = ran.last;
         at = ran.up.at;
         log_labelled = log_front_stays (geometry_in w) (geometry_in new) (size (history_in w)) (size (history_in new)) k.log_front ran.up.log_front ran.up.geometry
-            (as_long (size (history_in w)) (size (history_in new)) k.log_labelled.long ran.up.long) ran.up.labelled k.log_labelled;
+            (as_long _ (size (history_in w)) (size (history_in new)) k.log_labelled.long ran.up.long) ran.up.labelled k.log_labelled;
         volume_labelled = subst (λ (g : Geometry). IsVolumeFront g k.front) (sym ran.up.geometry) k.volume_labelled;
         limit = moves_limit (geometry_in w) k.now ran.last ran.plain ran.made ran.stored ∙ k.limit ∙ ap (λ (g : Geometry). g.max_locks) (sym ran.up.geometry);
         under_way = subst (λ (g : Geometry). IsAtCheckpoints g (stream_bytes_in new) o k.found (es ++ ran.made) ran.last) (sym ran.up.geometry)

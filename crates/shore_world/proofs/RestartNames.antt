@@ -43,14 +43,14 @@ held_empty front disk heap dev last same none rests settled = record {
   holds = record {
     settled = rests_at (heaps.amid_of heap) (heaps.device_of heap) front disk (pools.batch_of (heaps.pool_of heap)) (pools.batch_texts_of (heaps.pool_of heap)) rests
         (subst (λ d. settled_device.IsSettled d front disk) (sym same) settled);
-    held = held_none (heaps.amid_of heap) (heaps.frame_at heap) (pools.batch_of (heaps.pool_of heap)) (pools.batch_texts_of (heaps.pool_of heap)) rests;
+    held = held_none _ (heaps.amid_of heap) (heaps.frame_at heap) (pools.batch_of (heaps.pool_of heap)) (pools.batch_texts_of (heaps.pool_of heap)) rests;
     written = λ k f there clean. absurd (no_frame k f there);
   };
   low = λ k f there. absurd (no_frame k f there);
   settled = λ k f there. absurd (no_frame k f there);
   made = λ p page there is. record {
     was = page;
-    read = subst (λ (o : Option Frame). IsPage o (disk (page_number (heaps.geometry_of heap) p)) p page.number page.images) (none (page_number (heaps.geometry_of heap) p)) is;
+    read = subst (λ (o : Option Frame). IsPage (heaps.geometry_of heap).version o (disk (page_number (heaps.geometry_of heap) p)) p page.number page.images) (none (page_number (heaps.geometry_of heap) p)) is;
     redone = refl;
   };
 }
@@ -83,7 +83,7 @@ pub named_for : (g : Geometry) (anchor : Anchor) (kept : List LogRecord) (volume
 named_for g anchor kept volume texts n shows (inl refused) bad = inl refused
 named_for g anchor kept volume texts n shows (inr (taken, misfit)) bad = inr (taken, (texts, shows, misfit), λ rs pages logged. misfits rs (bad rs pages logged))
   where
-    misfits : (rs : List LogRecord) → IsBadRecord g (cut_behind anchor) anchor.checkpoint kept rs n → IsMisfit rs n
+    misfits : (rs : List LogRecord) → IsBadRecord g (cut_behind anchor) anchor.checkpoint kept rs n → IsMisfit g.version rs n
     misfits rs (inl refused) = absurd (taken_or_refused g (cut_behind anchor) anchor.checkpoint kept n taken refused)
     misfits rs (inr (also, its)) = its
 
@@ -138,7 +138,7 @@ module _ (g : Geometry) (counting : Anchors) (kept : List LogRecord) (stream_byt
       (taken_of (error.Page h) told (λ is. cc) (λ is. cc) (λ n is. cc)).1,
       pages,
       shows,
-      (id, there, read, on_page h refl ∙ is, subst (λ n. HasNoPage (pages (page_number g id)) id n) (length_padded cut kept) none),
+      (id, there, read, on_page h refl ∙ is, subst (λ n. HasNoPage g.version (pages (page_number g id)) id n) (length_padded cut kept) none),
     ))
   ]
   names (error.Log h) f isnt told force memory anchor record_of on_page on_log = absurd (isnt (inl (on_log h refl ∙ force h refl)))

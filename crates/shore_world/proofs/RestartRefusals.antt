@@ -77,7 +77,7 @@ module _ (g : Geometry) (ring_bytes : ℕ) (anchor : Anchor) (rs : List LogRecor
   once_so_far so_far lawful = subst (λ (ds : List LoggedDoubt). EachOnce (map (λ (d : LoggedDoubt). d.txn) ds)) (sym (left_of_lawful so_far lawful)) (doubts_once so_far lawful)
 
   -- each record means what it has to, and fits its page, as does what its undo brings back, and what the rollback of one in doubt may
-  none_misfits : (n : ℕ) → IsMisfit rs n → ⊥
+  none_misfits : (n : ℕ) → IsMisfit g.version rs n → ⊥
   none_misfits n (inl (some, (r, at, misfit))) = misfit (each_fits g limit (length rs) rs may.opened.roomy (n - 1) r at)
   none_misfits n (inr (so_far, undone, fit, inl (t, loser, next, is, misfit))) = misfit (undo_fits g limit so_far t (whole_roomy g limit (length rs) so_far (roomy_so_far so_far undone)) loser)
   none_misfits n (inr (so_far, undone, fit, inr (ended, unkept))) =

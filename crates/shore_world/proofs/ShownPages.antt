@@ -71,17 +71,17 @@ module _ (g : Geometry) (anchor : Anchor) (kept rs : List LogRecord) (pages : Lo
   abbrev pub store_found : RecoveryState
   store_found = (found_behind (anchored_by anchor) rs pages).store
 
-  texts_are : (p : PageId) → HasPage g p → IsPageText (texts_shown (page_number g p)) p (pages p).number (told_images rs pages p)
+  texts_are : (p : PageId) → HasPage g p → IsPageText g.version (texts_shown (page_number g p)) p (pages p).number (told_images rs pages p)
   texts_are p has =
       let is = logged.shown.2.each p has in
-      subst (IsPageText (texts_shown (page_number g p)) p (pages p).number) (told_as rs pages p is.images is.has) is.text
+      subst (IsPageText g.version (texts_shown (page_number g p)) p (pages p).number) (told_as rs pages p is.images is.has) is.text
 
   -- by the geometry that the fronts told
   pub shown_by : (h : Geometry) → h ≡ g → Shows h image texts_shown
   shown_by h same = subst (λ (x : Geometry). Shows x image texts_shown) (sym same) logged.shown.1.1
 
-  pub texts_told : (h : Geometry) → h ≡ g → (p : PageId) → HasPage h p → IsPageText (texts_shown (page_number h p)) p (pages p).number (told_images rs pages p)
-  texts_told h same = subst (λ (x : Geometry). (p : PageId) → HasPage x p → IsPageText (texts_shown (page_number x p)) p (pages p).number (told_images rs pages p)) (sym same) texts_are
+  pub texts_told : (h : Geometry) → h ≡ g → (p : PageId) → HasPage h p → IsPageText h.version (texts_shown (page_number h p)) p (pages p).number (told_images rs pages p)
+  texts_told h same = subst (λ (x : Geometry). (p : PageId) → HasPage x p → IsPageText x.version (texts_shown (page_number x p)) p (pages p).number (told_images rs pages p)) (sym same) texts_are
 
   recoverable : IsRecoverable store_found
   recoverable = record { durable = omega arith; redone = logged.inside; volume = logged.as_of; ahead = λ p. (logged.as_of p).within; in_place = logged.redo }

@@ -8,6 +8,7 @@ use Rattle.std.proofs.lemmas.List.Elements.{recursion_from_All}
 use Rattle.shore_types.specs.declared.faults.Device.TheVariants.{Log}
 use Rattle.shore_types.specs.declared.layout.Geometry.{Geometry}
 use Rattle.shore_types.specs.declared.layout.TheConstants.{LOG_FRONT_BYTES}
+use Rattle.shore_types.specs.Versions.{least_log-least, slot_limit}
 use Rattle.shore_disk.specs.Device.{DeviceHistory, seen, size}
 use Rattle.shore_disk.specs.declared.device.Disk.{Ghosts}
 use Rattle.shore_dwrite.specs.declared.places.TheConstants.{GATE_AT}
@@ -39,7 +40,7 @@ use Rattle.shore_world.specs.Crashes.{AreLeft}
 use Rattle.shore_world.specs.Events.{IsServedEvent}
 use Rattle.shore_world.specs.Exchanges.{AreLast, told_in}
 use Rattle.shore_world.specs.EventMoves.{OfCheckpoint, OfManager, moves_among}
-use Rattle.shore_world.specs.Worlds.{history_in}
+use Rattle.shore_world.specs.Worlds.{geometry_in, history_in}
 use Rattle.laws_threads.proofs.Pairs.{whole_pair}
 use Rattle.laws_threads.specs.Amid.{IsAlike, IsLeftThen, IsMoment, entries_of_asks, told_and_asked}
 use Rattle.laws_calls.specs.Events.{ManagerEvent}
@@ -137,8 +138,8 @@ module _ {L V : Type 0} {G : Ghosts L} {H : Ghosts V} (g : Geometry) (log_bytes 
     pub no_losers : HasNoLosers ready.store.log
     no_losers = subst (λ (s : RecoveryState). HasNoLosers s.log) (sym opened.store) opened.no_losers
 
-    pub over_ready : (o : Opening) → IsOpeningOf rs o → IsOpenedOver o ready.store opened.first
-    over_ready o opening = subst (λ (s : RecoveryState). IsOpenedOver o s opened.first) (sym opened.store) (opened.over o opening)
+    pub over_ready : (o : Opening) → IsOpeningOf rs o → o.slots ≡ slot_limit g.version → IsOpenedOver o ready.store opened.first
+    over_ready o opening sized = subst (λ (s : RecoveryState). IsOpenedOver o s opened.first) (sym opened.store) (opened.over o opening sized)
 
     pub from : IsOpenedBehind g (log_limit (log_bytes - LOG_FRONT_BYTES) (cut_of (anchored_by anchor)) ready.store.log) (anchored_by anchor) ready.store.log opened.first
     from =
@@ -148,8 +149,8 @@ module _ {L V : Type 0} {G : Ghosts L} {H : Ghosts V} (g : Geometry) (log_bytes 
     pub came : HasRestarted (found_behind (anchored_by anchor) rs pages) opened.works ready
     came = restarted g (log_bytes - LOG_FRONT_BYTES) (anchored_by anchor) rs pages stood.opened opened.works ready opened.restarts
 
-    pub up_at : (o : Opening) → IsOpeningOf rs o → IsUpAt g (log_bytes - LOG_FRONT_BYTES) o rs (take 512 log_front) front [] w first
-    up_at o opening = record {
+    pub up_at : (o : Opening) → IsOpeningOf rs o → o.slots ≡ slot_limit g.version → IsUpAt g (log_bytes - LOG_FRONT_BYTES) o rs (take 512 log_front) front [] w first
+    up_at o opening sized = record {
       log_front = log_front;
       labelled = refl;
       disk = opened.disk;
@@ -157,12 +158,12 @@ module _ {L V : Type 0} {G : Ghosts L} {H : Ghosts V} (g : Geometry) (log_bytes 
       geometry = opened.geometry;
       long = ap (λ (h : DeviceHistory). size h - LOG_FRONT_BYTES) opened.histories.0 ∙ as_long;
       under_way = open_goes g (log_bytes - LOG_FRONT_BYTES) (anchored_by anchor) rs pages stood.opened opened.works ready opened.restarts o opening opened.first redone no_losers
-          (over_ready o opening) from;
+          (over_ready o opening sized) from;
     }
 
   -- no call waits in a world that was opened
   pub none_waiting : {w : World L V G H} {anchor : Anchor} {log volume : DeviceHistory} {rs : List LogRecord} {pages : LoggedPages} (opens : HasOpened w g anchor log volume rs pages) → AreLast [] opens.opened.first
-  none_waiting {rs = rs} opens w there = absurd (subst (IsAmong w) (opens.opened.over (logged_opening rs) (opening_logged rs)).waiting there)
+  none_waiting {rs = rs} opens w there = absurd (subst (IsAmong w) (opens.opened.over (logged_opening (slot_limit g.version) rs) (opening_logged (slot_limit g.version) rs) refl).waiting there)
 
   -- ---- one manager
 
@@ -176,7 +177,7 @@ module _ {L V : Type 0} {G : Ghosts L} {H : Ghosts V} (g : Geometry) (log_bytes 
     pub stands : StandsForBehind g log_bytes volume_bytes behind (left_by_up run) run.pages log_left volume_left
     pub never_full : NoForceIsFullIn m.legs
 
-  module _ (o : Opening) (anchor : Anchor) (rs : List LogRecord) (pages : LoggedPages) (m : Manager L V G H) (opening : IsOpeningOf rs o)
+  module _ (o : Opening) (anchor : Anchor) (rs : List LogRecord) (pages : LoggedPages) (m : Manager L V G H) (opening : IsOpeningOf rs o) (sized : o.slots ≡ slot_limit g.version)
       (lengths : (size m.log ≡ log_bytes) × (size m.volume ≡ volume_bytes)) (stood : StandsForBehind g log_bytes volume_bytes anchor rs pages (seen m.log) (seen m.volume))
       (is : IsManager m) where
     pub opens : HasOpened m.opened g anchor m.log m.volume rs pages
@@ -192,7 +193,7 @@ module _ {L V : Type 0} {G : Ghosts L} {H : Ghosts V} (g : Geometry) (log_bytes 
     m_first = first anchor rs pages m.log m.volume lengths stood m.opened opens
 
     m_up : IsUpAt g (log_bytes - LOG_FRONT_BYTES) o rs m_label m_volume_front [] m.opened m_first
-    m_up = up_at anchor rs pages m.log m.volume lengths stood m.opened opens o opening
+    m_up = up_at anchor rs pages m.log m.volume lengths stood m.opened opens o opening sized
 
     m_log_front : IsLogFront g log_bytes (log_front anchor rs pages m.log m.volume lengths stood m.opened opens)
     m_log_front = log_front_at g log_bytes volume_bytes anchor rs pages m.log m.volume lengths stood
@@ -256,7 +257,7 @@ module _ {L V : Type 0} {G : Ghosts L} {H : Ghosts V} (g : Geometry) (log_bytes 
           restarts = opens.opened.restarts;
           redone = redone anchor rs pages m.log m.volume lengths stood m.opened opens;
           no_losers = no_losers anchor rs pages m.log m.volume lengths stood m.opened opens;
-          opens = over_ready anchor rs pages m.log m.volume lengths stood m.opened opens o opening;
+          opens = over_ready anchor rs pages m.log m.volume lengths stood m.opened opens o opening sized;
           from = from anchor rs pages m.log m.volume lengths stood m.opened opens;
           moves = ran.stored;
           lost = lost.lost;
@@ -281,7 +282,7 @@ module _ {L V : Type 0} {G : Ghosts L} {H : Ghosts V} (g : Geometry) (log_bytes 
     pub same : run.anchor ≡ anchored_by behind
     pub stands : StandsForBehind g log_bytes volume_bytes behind (left_by_up run) run.pages log_left volume_left
 
-  module _ (o : Opening) (anchor : Anchor) (rs : List LogRecord) (pages : LoggedPages) (t : Threads L V G H) (opening : IsOpeningOf rs o)
+  module _ (o : Opening) (anchor : Anchor) (rs : List LogRecord) (pages : LoggedPages) (t : Threads L V G H) (opening : IsOpeningOf rs o) (sized : o.slots ≡ slot_limit g.version)
       (lengths : (size t.log ≡ log_bytes) × (size t.volume ≡ volume_bytes)) (stood : StandsForBehind g log_bytes volume_bytes anchor rs pages (seen t.log) (seen t.volume))
       (is : IsInThreads t) where
     pub t_opens : HasOpened t.opened g anchor t.log t.volume rs pages
@@ -297,7 +298,7 @@ module _ {L V : Type 0} {G : Ghosts L} {H : Ghosts V} (g : Geometry) (log_bytes 
     t_first = first anchor rs pages t.log t.volume lengths stood t.opened t_opens
 
     t_up : IsUpAt g (log_bytes - LOG_FRONT_BYTES) o rs t_label t_front [] t.opened t_first
-    t_up = up_at anchor rs pages t.log t.volume lengths stood t.opened t_opens o opening
+    t_up = up_at anchor rs pages t.log t.volume lengths stood t.opened t_opens o opening sized
 
     abbrev pub RanToThreads : Type 0
     RanToThreads = HasRun g (log_bytes - LOG_FRONT_BYTES) o rs t_label t_front [] t_first (moves_of_legs t.legs) t.handed
@@ -330,7 +331,7 @@ module _ {L V : Type 0} {G : Ghosts L} {H : Ghosts V} (g : Geometry) (log_bytes 
       log_long =
           let here = (led.left log_left volume_left crash).2.has.long.0 in
           let there = stood.front.long.0 in
-          omega (arith, t_ran.up.long, here, there)
+          omega (arith, t_ran.up.long, here, there, least_log-least (geometry_in t.handed).version, least_log-least g.version)
 
       amid_left : IsLeftThen g log_bytes t_front led.ready led.new amid_anchor t.stable log_left volume_left
       amid_left = subst (λ (x : Geometry × ℕ). IsLeftThen x.0 x.1 t_front led.ready led.new amid_anchor t.stable log_left volume_left) (λ i. (t_ran.up.geometry i, log_long i))
@@ -382,7 +383,7 @@ module _ {L V : Type 0} {G : Ghosts L} {H : Ghosts V} (g : Geometry) (log_bytes 
               restarts = t_opens.opened.restarts;
               redone = redone anchor rs pages t.log t.volume lengths stood t.opened t_opens;
               no_losers = no_losers anchor rs pages t.log t.volume lengths stood t.opened t_opens;
-              opens = over_ready anchor rs pages t.log t.volume lengths stood t.opened t_opens o opening;
+              opens = over_ready anchor rs pages t.log t.volume lengths stood t.opened t_opens o opening sized;
               from = from anchor rs pages t.log t.volume lengths stood t.opened t_opens;
               moves = all_join g t_first (t_ran.plain ++ led.plain) led.ready (t_ran.made ++ led.made) pair.0 pair.1 amid_made so_far pair.2.lead;
               lost = pair.4.3;

@@ -36,7 +36,7 @@ module _ {T V : Type 0} {G : tail.Ghosts T} {H : Ghosts V} (old new : Core T V G
   same_shows : (K : ClaimsOfPages) (front : List ℕ) (disk : ℕ → List ℕ) (S : PageId → List Slot) → Shows K (heap_of old) front disk S → Shows K (heap_of new) front disk S
   same_shows K front disk S h = record {
     holds = subst (λ (p : Pool V H). PoolHolds p front disk) (sym pool) h.holds;
-    pages = subst (λ (p : Pool V H). (id : PageId) → HasPage (pools.geometry_of p) id → HasSlots (pools.frame_of p id) (disk (page_number (pools.geometry_of p) id)) id (K id) (S id)) (sym pool) h.pages;
+    pages = subst (λ (p : Pool V H). (id : PageId) → HasPage (pools.geometry_of p) id → HasSlots (pools.geometry_of p).version (pools.frame_of p id) (disk (page_number (pools.geometry_of p) id)) id (K id) (S id)) (sym pool) h.pages;
     bounds = subst (λ (p : Pool V H). AreBounds (pools.geometry_of p) (bounds_of (heap_of new)) S) (sym pool)
         (subst (λ (b : List (List ℕ)). AreBounds (pools.geometry_of (pool_of (heap_of old))) b S) (sym bounds) h.bounds);
   }

@@ -10,7 +10,7 @@ use Rattle.shore_gate.specs.Label.{HoldsLabel}
 -- the front of a log device of this length
 pub record IsLogFront (g : Geometry) (log_bytes : ℕ) (front : List ℕ) : Type 0 where
   pub label : HoldsLabel Log log_bytes (take 512 front) (log_label g log_bytes)
-  pub long : IsLogLength log_bytes
+  pub long : IsLogLength g.version log_bytes
 
 -- the front of a volume, before its double-write area
 pub record IsVolumeFront (g : Geometry) (front : List ℕ) : Type 0 where

@@ -3,6 +3,7 @@ use Rattle.std.specs.Prelude.{◌≡◌, ℕ, List, []}
 use Rattle.std.specs.FinMap.{empty}
 use Rattle.shore_types.specs.declared.ids.Rid.{Rid}
 use Rattle.shore_types.specs.declared.layout.Geometry.{Geometry}
+use Rattle.shore_types.specs.Versions.{slot_limit}
 use Rattle.shore_disk.specs.declared.device.Disk.{Ghosts}
 use Rattle.shore_model.specs.declared.histories.Opening.{Opening}
 use Rattle.shore_model.specs.declared.log_records.LogRecord.{LogRecord}
@@ -25,16 +26,16 @@ pub record HaveLived {L V : Type 0} {G : Ghosts L} {H : Ghosts V} (g : Geometry)
   pub over : List CheckpointedStay
   pub of : AreRunsOf stays (runs_among over)
   -- one on what the one before it left, behind the anchor that it left
-  pub are : AreCheckpointedStays g ring_bytes (opening_with empty) not_anchored [] (λ p. empty_page) over anchored rs pages
+  pub are : AreCheckpointedStays g ring_bytes (opening_with (slot_limit g.version) empty) not_anchored [] (λ p. empty_page) over anchored rs pages
   -- From the empty store each run is a sound history from what its open found, and what was kept of its decisions is a prefix with every acknowledged one:
   -- the next open finds the records that these leave, run alone in the order of their commits, and in doubt those that are prepared by them and not decided
   -- further. So does the last open, and the log tells it.
-  pub life : IsLife (opening_with empty) (spans_of_stays [] over) o
+  pub life : IsLife (opening_with (slot_limit g.version) empty) (spans_of_stays [] over) o
   -- .. and each run has one serial order, that of turns: with any of those in doubt at their prepares
-  pub in_order : AreInOrder (opening_with empty) (spans_of_stays [] over)
+  pub in_order : AreInOrder (opening_with (slot_limit g.version) empty) (spans_of_stays [] over)
   pub opening : IsOpeningOf rs o
   -- each open on the way showed the records of the life so far, and the log that it found, what was cut off with it, is a prefix of every later one
-  pub shown : StaysShow (opening_with empty) [] over
+  pub shown : StaysShow (opening_with (slot_limit g.version) empty) [] over
   pub fixed : AreFixed (logs_found [] over) rs
 
 -- whatever dump the world answers, of whatever store, it has these records

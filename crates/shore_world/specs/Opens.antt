@@ -4,6 +4,7 @@ use Rattle.std.specs.Prelude.{◌≡◌, ◌⊎◌, ◌-◌, List, [], ◌∷◌
 use Rattle.shore_types.specs.declared.faults.Fault.{Fault}
 use Rattle.shore_types.specs.declared.layout.Geometry.{Geometry}
 use Rattle.shore_types.specs.declared.layout.TheConstants.{LOG_FRONT_BYTES}
+use Rattle.shore_types.specs.Versions.{slot_limit}
 use Rattle.shore_disk.specs.Device.{DeviceHistory, may_leave, seen, size}
 use Rattle.shore_disk.specs.declared.device.Disk.{Ghosts}
 use Rattle.shore_gate.specs.declared.anchors.Anchor.{Anchor}
@@ -88,7 +89,7 @@ pub record IsOpenedAt {L V : Type 0} {G : Ghosts L} {H : Ghosts V} (w : World L 
   pub restarts : RestartsBehind (found_behind (anchored_by anchor) found pages) works ready
   pub store : ready.store ≡ last.store
   pub at : IsAt w log_front front disk first ready
-  pub over : (o : Opening) → IsOpeningOf found o → IsOpenedOver o last.store first
+  pub over : (o : Opening) → IsOpeningOf found o → o.slots ≡ slot_limit g.version → IsOpenedOver o last.store first
   pub from : IsOpenedBehind g (log_limit (size last.log - LOG_FRONT_BYTES) (cut_of (anchored_by anchor)) last.store.log) (anchored_by anchor) last.store.log first
   pub doubts : HasDoubtsBack g.max_locks (log_kept anchor found) (control_of w.core)
 

@@ -62,7 +62,7 @@ IsMisfitShown g anchor kept volume n =
 abbrev pub IsNamedFor : Geometry → Anchor → List LogRecord → DeviceHistory → ℕ → Type 0
 IsNamedFor g anchor kept volume n = IsRefusedBy g (cut_behind anchor) anchor.checkpoint kept n
     ⊎ (IsTaken g (cut_behind anchor) anchor.checkpoint kept × IsMisfitShown g anchor kept volume n
-    × ((rs : List LogRecord) (pages : LoggedPages) → ShowsLogged g anchor kept rs pages (seen volume) → IsMisfit rs n))
+    × ((rs : List LogRecord) (pages : LoggedPages) → ShowsLogged g anchor kept rs pages (seen volume) → IsMisfit g.version rs n))
 
 -- by such a record of the log: its frame is at the offset, on the log device as it is handed back
 abbrev pub NamesRecord : Geometry → Anchor → List LogRecord → DeviceHistory → DeviceHistory → Fault → Type 0
@@ -80,7 +80,7 @@ NamesAnchor g counting kept stream_bytes fault = (fault ≡ Damaged Log (offset_
 -- by a page: a restart may work on what is kept, and read the page, and what the volume shows as that is no text of it with a number up to the log's last
 abbrev pub NamesPage : Geometry → Anchor → List LogRecord → DeviceHistory → Fault → Type 0
 NamesPage g anchor kept volume fault = IsTaken g (cut_behind anchor) anchor.checkpoint kept × (pages : ℕ → List ℕ) × Shows g (seen volume) pages
-    × ((id : PageId) × HasPage g id × MayRead (cut_behind anchor) anchor.checkpoint kept id × (fault ≡ Damaged Volume (page_offset (page_number g id))) × HasNoPage (pages (page_number g id)) id (cut_behind anchor + length kept))
+    × ((id : PageId) × HasPage g id × MayRead (cut_behind anchor) anchor.checkpoint kept id × (fault ≡ Damaged Volume (page_offset g.version (page_number g id))) × HasNoPage g.version (pages (page_number g id)) id (cut_behind anchor + length kept))
 
 -- From the anchor's tail on the frames give a log, and no restart may be handed it with what the volume shows: the devices stand for no log and pages behind the anchor.
 -- It is told by a record, by the anchor or by a page.

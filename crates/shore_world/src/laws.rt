@@ -4,6 +4,7 @@ ghost use Rattle.shore_types.specs.declared.faults.Fault.{Fault};
 ghost use Rattle.shore_types.specs.declared.ids.Rid.{Rid};
 ghost use Rattle.shore_types.specs.declared.layout.Geometry.{Geometry};
 ghost use Rattle.shore_types.specs.declared.layout.TheConstants.{LOG_FRONT_BYTES};
+ghost use Rattle.shore_types.specs.Versions.{slot_limit};
 ghost use Rattle.shore_disk.specs.Device.{DeviceHistory, Stands, may_leave, seen, size};
 ghost use Rattle.shore_gate.specs.declared.anchors.Anchor.{Anchor};
 ghost use Rattle.shore_model.specs.declared.histories.Entry.{Entry};
@@ -81,7 +82,7 @@ pub fn committed_work_survives_every_crash<L: Disk, V: Disk>()
 /// A world that was opened is a manager that has made no entry, whatever its pair has been through: it need only stand for a log and pages. So the laws of `promises` speak of what is opened behind
 /// threads, too. It begins with what that log tells, dumps show it, and those in doubt by it are in doubt.
 pub fn opened_worlds_are_managers<L: Disk, V: Disk>()
-    ensures { (g : Geometry) (anchor : Anchor) (rs : List LogRecord) (pages : LoggedPages) (o : Opening) (log volume : DeviceHistory) (w : World L V L.Disk V.Disk) → IsOpeningOf rs o →
+    ensures { (g : Geometry) (anchor : Anchor) (rs : List LogRecord) (pages : LoggedPages) (o : Opening) (log volume : DeviceHistory) (w : World L V L.Disk V.Disk) → IsOpeningOf rs o → o.slots ≡ slot_limit g.version →
         StandsForBehind g (size log) (size volume) anchor rs pages (seen log) (seen volume) → HasOpened w g anchor log volume rs pages →
         ((k : IsManagerOf w o [] []) × HasInDoubt w o rs k.now.state) × DumpsShow w (records_told rs) × (records_told rs ≡ shown (history_from o []) [])
         × Harmony (held_by_all (requests_in w)) × WellRooted (held_by_all (requests_in w)) }
@@ -114,7 +115,7 @@ pub fn pairs_are_found_again<L: Disk, V: Disk>()
 /// A manager on a pair that stands for a log and pages is a stay of the power over plain data, and no force of it is refused by `LogFull`.
 pub fn runs_stay_in_bounds<L: Disk, V: Disk>()
     ensures { (g : Geometry) (o : Opening) (anchor : Anchor) (rs : List LogRecord) (pages : LoggedPages) (manager : Manager L V L.Disk V.Disk) →
-        StandsForBehind g (size manager.log) (size manager.volume) anchor rs pages (seen manager.log) (seen manager.volume) → IsOpeningOf rs o → IsManager manager →
+        StandsForBehind g (size manager.log) (size manager.volume) anchor rs pages (seen manager.log) (seen manager.volume) → IsOpeningOf rs o → o.slots ≡ slot_limit g.version → IsManager manager →
         ∥ ((run : CheckpointedRun) × IsRunOf manager run × IsCheckpointedUp g (size manager.log - LOG_FRONT_BYTES) o (anchored_by anchor) rs pages run)
         × NoForceIsFullIn manager.legs ∥₁ }
 {}

@@ -52,7 +52,7 @@ pub fn open_volume<D: Disk>(
         → OnOk result ((pages : ℕ → List ℕ) × Shows geometry image pages) }
     ensures shows { IsTrue (D.is_honest volume) → (image : List ℕ) (texts : ℕ → List ℕ) (number : PageId → ℕ) (images : PageId → List Image)
         → Stands (D.history volume) image → Shows geometry image texts
-        → ((id : PageId) → HasPage geometry id → IsPageText (texts (page_number geometry id)) id (number id) (images id))
+        → ((id : PageId) → HasPage geometry id → IsPageText geometry.version (texts (page_number geometry id)) id (number id) (images id))
         → IfOk result (λ heap. heaps.Shows unclaimed heap (take GATE_AT image) texts (λ id. map settled (images id))) }
     ensures held { IsTrue (D.is_honest volume) → (image : List ℕ) (texts : ℕ → List ℕ) → Stands (D.history volume) image → Shows geometry image texts
         → IfOk result (λ heap. (last : ℕ) → IsHeld (take GATE_AT image) texts texts heap [] last) }

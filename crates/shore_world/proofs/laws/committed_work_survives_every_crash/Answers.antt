@@ -1,7 +1,7 @@
 use Rattle.std.proofs.Math.Logic.{∥∥₁_map}
 use Rattle.shore_disk.proofs.Moments.{seen_left}
 use Rattle.shore_disk.specs.Device.{seen}
-use Rattle.shore_world.proofs.ManyStays.{have_lived, have_stayed, is_last_opening, last_opening}
+use Rattle.shore_world.proofs.ManyStays.{have_lived, have_stayed, is_last_opening, last_opening, last_sized}
 use Rattle.shore_world.proofs.StayLemmas.{at_its_lengths}
 use Rattle.shore_world.proofs.LastOpens.{opened_in_harmony, opened_shows, opened_so, opening_shown}
 use Rattle.shore_world.proofs.laws.committed_work_survives_every_crash.Goals as goal
@@ -25,15 +25,16 @@ returns-clause-shown c d g log_bytes volume_bytes stays log volume w are opens =
     let opened = opens stayed.anchor stayed.last stayed.last_pages stood in
     let o = last_opening g log_bytes volume_bytes stays (seen log) (seen volume) stayed in
     let opening = is_last_opening g log_bytes volume_bytes stays (seen log) (seen volume) stayed in
-    let harmony = opened_in_harmony g o stayed.anchor stayed.last stayed.last_pages opening log volume stood w opened in (
+    let sized = last_sized g log_bytes volume_bytes stays (seen log) (seen volume) stayed in
+    let harmony = opened_in_harmony g o stayed.anchor stayed.last stayed.last_pages opening sized log volume stood w opened in (
       stayed.anchor,
       stayed.last,
       stayed.last_pages,
       o,
       have_lived g log_bytes volume_bytes stays (seen log) (seen volume) stayed,
-      opened_so g o stayed.anchor stayed.last stayed.last_pages opening log volume stood w opened,
-      opened_shows g o stayed.anchor stayed.last stayed.last_pages opening log volume stood w opened,
-      opening_shown g o stayed.anchor stayed.last stayed.last_pages opening log volume stood w opened,
+      opened_so g o stayed.anchor stayed.last stayed.last_pages opening sized log volume stood w opened,
+      opened_shows g o stayed.anchor stayed.last stayed.last_pages opening sized log volume stood w opened,
+      opening_shown g o stayed.anchor stayed.last stayed.last_pages opening sized log volume stood w opened,
       harmony.0,
       harmony.1,
     ))

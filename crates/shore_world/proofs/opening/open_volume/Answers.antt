@@ -53,7 +53,7 @@ returns-in-Ok-clause-shows g c honest image texts number images stands shows eac
     let same = c.new-pages.ensures.device in
     let geometry = c.new-pages.ensures.geometry in
     c.in-Ok.ensures.shows _ texts number images (c.in_default.ensures.replayed _ texts (stable_on c.args.volume c.new-pages.result _ same geometry honest image texts stands shows))
-    (subst (λ (x : Geometry). (id : PageId) → HasPage x id → IsPageText (texts (page_number x id)) id (number id) (images id)) (sym (c.replay.ensures.geometry ∙ geometry)) each)
+    (subst (λ (x : Geometry). (id : PageId) → HasPage x id → IsPageText x.version (texts (page_number x id)) id (number id) (images id)) (sym (c.replay.ensures.geometry ∙ geometry)) each)
 
 pub returns-in-Ok-clause-held : goal.returns-in-Ok-clause-held
 returns-in-Ok-clause-held g c honest image texts stands shows last =

@@ -1,4 +1,4 @@
-use Rattle.std.proofs.Common.{true≢false, ◌≡◌, ◌-◌, ◌++◌, List, ap, refl, sym, subst, ◌∙◌}
+use Rattle.std.proofs.Common.{true≢false, IsOk, arith, ◌≡◌, ◌-◌, ◌++◌, List, ap, refl, sym, subst, ◌∙◌}
 use Rattle.shore_log.specs.PlainTails.{told_in, waiting_in}
 use Rattle.shore_log.specs.Settled.{cut_of_log, records_of_log, stable}
 use Rattle.shore_log.specs.Told.{aside_for}
@@ -94,3 +94,7 @@ returns-clause-same g c =
 
 pub returns-clause-kept : goal.returns-clause-kept
 returns-clause-kept g c = c.in_ok-keep_aside.ensures.kept refl
+
+pub returns-in_err-keep_aside-clause-idle : goal.returns-in_err-keep_aside-clause-idle
+returns-in_err-keep_aside-clause-idle g c none empty =
+    let clash = subst IsOk c.in_err-keep_aside.was (c.keep_aside.ensures.idle (omega (arith, none), omega (arith, empty))) in absurd cc

@@ -1,5 +1,6 @@
 use Rattle.std.proofs.Common.{◌≡◌, ◌≤◌, ◌+◌, ◌++◌, ℕ, [], All, List, IsTrue, length, append-nil, length-append, sym, ap, subst, ◌∙◌, arith}
 use Rattle.std.proofs.Math.Logic.{∥∥₁_elim, ∥∥₁_map₂, ∥∥₁_prop}
+use Rattle.shore_check.specs.Stages.{bytes_to_log, records_to_log}
 use Rattle.shore_check.specs.declared.stage.Stage.{Stage}
 use Rattle.shore_disk.specs.Device.{size}
 use Rattle.shore_gate.specs.declared.anchors.Anchors.{Anchors}
@@ -7,7 +8,7 @@ use Rattle.shore_heap.specs.Heaps as heaps
 use Rattle.laws_images.specs.StandsBehind.{anchored_by}
 use Rattle.shore_log.specs.PlainTails.{told_in, waiting_in}
 use Rattle.shore_log.specs.Settled.{KnowsRoom, cut_of_log, records_of_log}
-use Rattle.shore_log.specs.declared.tail.Aside.{Aside}
+use Rattle.shore_log.specs.Told.{aside_for}
 use Rattle.shore_log.specs.declared.tail.PlainTail.{PlainTail}
 use Rattle.shore_model.specs.declared.log_records.LogRecord.{LogRecord}
 use Rattle.shore_sessions.specs.Controls.{txns_in}
@@ -38,10 +39,11 @@ from_parts-requires-clause-knows g c =
 pub from_parts-requires-clause-aside : goal.from_parts-requires-clause-aside
 from_parts-requires-clause-aside g c =
     let stage = c.into_core-core.ensures.core.1 ∙ c.gathered-calls.ensures.core.1 ∙ c.none-none.ensures.same.0 in
-    let told = told_in c.into_log-log.result.1 in
-    let aside = ap (λ (x : LogState). x.aside) c.gathered-calls.ensures.same ∙ c.in_default.ensures.aside in
+    let same = c.gathered-calls.ensures.same in
+    let aside = ap (λ (x : LogState). x.aside) same ∙ c.in_default.ensures.aside in
     subst (λ (t : PlainTail). KeepsFor c.into_core-core.result.1 (told_in t)) (sym c.with_tail-core.ensures.tail)
-    (subst (λ (x : Stage). KeepsFor x told) (sym stage) (subst (λ (a : Aside). (a.records ≤ told.aside.records) × (a.bytes ≤ told.aside.bytes)) aside c.into_log-log.ensures.aside))
+    (c.into_log-log.ensures.aside (ap (λ (x : LogState). x.waits) same ∙ c.in_default.ensures.taken) (ap (λ (x : LogState). x.textless) same ∙ c.in_default.ensures.texts)
+    ∙ aside ∙ ap (λ (x : Stage). aside_for (records_to_log x) (bytes_to_log x)) (sym stage))
 
 pub with_tail-core-requires : goal.with_tail-core-requires
 with_tail-core-requires g c =

@@ -10,6 +10,7 @@ use Rattle.shore_check.specs.declared.stage.Stage.{Stage}
 use Rattle.shore_frames.specs.declared.reading.FrameAt.{FrameAt}
 use Rattle.shore_log.specs.Settled.{IsLeftByMove, cut_of_log, next_anchor, records_of_log, stable}
 use Rattle.shore_log.specs.declared.device.LogDev.{LogDev}
+use Rattle.shore_log.specs.declared.tail.Told.{Told}
 use Rattle.shore_core.specs.declared.checkpointing.CheckpointStep.{CheckpointStep}
 use Rattle.shore_core.specs.declared.checkpointing.CheckpointStep.TheVariants.{Made, Move}
 use Rattle.shore_core.specs.Checkpointing.{IsFullFor, IsRoomyFor, KeepsFor}
@@ -47,6 +48,7 @@ invariant_of-self-in-Ok g c =
     let k = c.moved.ensures in
     let a = c.move_anchor.ensures in
     let lost = c.in-Ok.ensures.lost in
+    let asked = m.asked c.in-Move.mark refl in
     let fewer = length-drop (cut_of_log log - cut_of_log old.log) (records_of_log old.log) in
     record {
       numbers = omega (arith, k.first, m.first, old.numbers, ap length lost.records, fewer, lost.rises, lost.last, length-stable old.log, old.log.forced_inside);
@@ -55,7 +57,25 @@ invariant_of-self-in-Ok g c =
       knows = knows_as log (told_of c.checkpoint_step-made.new.self) (told_of c.moved.new.self) k.told
           (knows_alike log (told_of old.core) (told_of c.checkpoint_step-made.new.self) m.told (a.knows (told_of old.core) old.knows));
       spelled = a.spelled old.spelled;
-      aside = subst (λ (x : Stage). KeepsFor x (told_of c.moved.new.self)) (sym k.resting) (omega (arith), omega (arith));
+      aside = subst (λ (x : Stage). KeepsFor x (told_of c.moved.new.self)) (sym k.resting)
+          (ap (λ (t : Told). t.aside) (k.told ∙ ap told_of asked.0) ∙ subst (λ (x : Stage). KeepsFor x (told_of old.core)) asked.2.1 old.aside);
+    }
+
+pub invariant_of-self-in-Err-1 : goal.invariant_of-self-in-Err-1
+invariant_of-self-in-Err-1 g c =
+    let old = c.args.self.now in
+    let log = c.move_anchor.new.self in
+    let m = c.in-Move.ensures in
+    let a = c.in-Err.ensures in
+    let cut = ap (λ (t : FrameAt). t.first - 1) a.not_moved.1 in
+    let forced : stable log ≡ stable old.log = ap (λ n. take n (records_of_log log)) a.same.1 ∙ ap (take old.log.forced) a.same.0 in
+    record {
+      numbers = omega (arith, m.first, old.numbers, cut, ap length a.same.0);
+      durable_agrees = omega (arith, m.durable, old.durable_agrees, cut, ap length forced);
+      ring = omega (arith, old.ring, m.ring, c.move_anchor.ensures.size);
+      knows = knows_alike log (told_of old.core) (told_of c.checkpoint_step-made.new.self) m.told (c.move_anchor.ensures.knows (told_of old.core) old.knows);
+      spelled = c.move_anchor.ensures.spelled old.spelled;
+      aside = m.aside refl old.aside;
     }
 
 pub returns-in-Made-clause-moves : goal.returns-in-Made-clause-moves

@@ -23,6 +23,20 @@ use Rattle.shore_world.proofs.UnchangedLemmas.{unchanged_parts}
 use Rattle.shore_world.proofs.WorldLemmas.{failed_runs, force_moves, none_more, nothing_done, opening_gate, same_list, some_stands, unmoved}
 use Rattle.shore_world.proofs.world.World.force_open.Goals as goal
 
+pub invariant_of-self : goal.invariant_of-self
+invariant_of-self g c =
+    let old = c.args.self.now in
+    let o = c.open_staged.ensures in
+    let cut = ap (λ (f : FrameAt). f.first - 1) o.tail.0 in
+    record {
+      numbers = omega (arith, old.numbers, cut, ap length o.same);
+      durable_agrees = omega (arith, old.durable_agrees, cut, ap length c.in-Err.ensures.unforced);
+      ring = omega (arith, old.ring, o.size);
+      knows = o.knows (told_of old.core) old.knows;
+      spelled = o.spelled old.spelled;
+      aside = old.aside;
+    }
+
 pub invariant_of-self-2 : goal.invariant_of-self-2
 invariant_of-self-2 g c =
     let old = c.args.self.now in

@@ -1,4 +1,5 @@
 use Rattle.std.proofs.Common.{◌≡◌, ◌-◌, inl, inr, ℕ, List, Err, Ok, arith, IsTrue, length, take, refl, sym, ◌∙◌, ap, subst}
+use Rattle.shore_types.specs.Versions.{least_log-least}
 use Rattle.shore_types.specs.Layout.{LocksInLimits}
 use Rattle.shore_types.specs.declared.faults.Device.TheVariants.{Log as DeviceLog}
 use Rattle.shore_types.specs.declared.faults.Fault.TheVariants.{Damaged}
@@ -31,6 +32,7 @@ use Rattle.shore_restart.specs.Reports.{IsReportOf}
 use Rattle.shore_restart.specs.Room.{LeavesRoom}
 use Rattle.shore_restart.specs.Standing.{log_seen, stream_bytes_of}
 use Rattle.shore_restart.specs.Turns.{IsUndoneSoFar, LacksRoom}
+use Rattle.shore_restart.specs.Opened.{OpensIn}
 use Rattle.shore_world.specs.OpenedVolumes as volumes
 use Rattle.shore_world.specs.Opens.{log_kept}
 use Rattle.shore_world.specs.Refusals.{cut_behind}
@@ -61,7 +63,7 @@ invariant_of-result g c =
       ring = omega (arith, e.ring, log.as_long, ap (λ (t : Control). (room_in (txns_in t)).stream_bytes) same.control);
       knows = c.learn_room.ensures.knows e.waiting (e.spelled c.in-Ok-open.ensures.none_waits.0);
       spelled = e.spelled c.in-Ok-open.ensures.none_waits.0;
-      aside = (omega (arith), omega (arith));
+      aside = c.learn_room.ensures.aside e.waiting (e.spelled c.in-Ok-open.ensures.none_waits.0);
     }
 
 pub returns-in-Ok-restart-clause-fronts : goal.returns-in-Ok-restart-clause-fronts
@@ -103,7 +105,7 @@ returns-in-Err-open-clause-refused g c of_log of_volume =
           bad.0,
           bad.1,
           subst (λ (i : List ℕ). IsBadAt anchor.tail anchor.tail_place i bad.0) same
-              (c.in-Err-open.ensures.damaged later (omega (arith, c.in-Ok.ensures.long.0.0, c.read_fronts.ensures.size.0)) (omega (arith, c.in-Ok.ensures.long.0.1, c.read_fronts.ensures.size.0))
+              (c.in-Err-open.ensures.damaged later (omega (arith, c.in-Ok.ensures.long.0.0, c.read_fronts.ensures.size.0, least_log-least c.in-Ok.fronts.geometry.version)) (omega (arith, c.in-Ok.ensures.long.0.1, c.read_fronts.ensures.size.0))
               (c.in-Ok.ensures.counts of_log).limits bad.0 bad.1),
         ),
       ))
@@ -246,7 +248,8 @@ returns-in-Ok-restart-clause-along g c of_log of_volume geometry anchor rs pages
     record {
       way = way;
       opened = opened_at geometry (size log - 4096) anchor rs pages stood.opened went.works went.ready went.behind _ (take 4096 log_image) (take 4096 volume_image) opens.3
-          (ap (λ (a : Anchors). a.anchor) anchors) opens.4 (opens_learned c.in-Ok-restart.core c.learn_room.new.self same _ _ _ _ _ _ _ opens.5)
+          (ap (λ (a : Anchors). a.anchor) anchors) opens.4 (opens_learned geometry.version c.in-Ok-restart.core c.learn_room.new.self same _ _ _ _ _ _ _
+          (subst (λ (x : Geometry). OpensIn x.version (cut_of_log c.restart.new.log) anchor.checkpoint c.in-Ok-restart.core (take 4096 volume_image) opens.4 rs (stream_bytes_of c.restart.new.log) went.ready) heap_at opens.5))
           (ap heaps.geometry_of same.heap ∙ c.in-Ok-restart.ensures.volume.geometry ∙ heap_at) opens.0 opens.1
           (anchored_same dev c.restart.new.log c.restart.ensures.log.anchors (take 4096 log_image) (c.in-Ok-open.ensures.anchored log_later log_image log_held (c.in-Ok.ensures.counts of_log))) refl
           (subst (λ (t : Control). HasDoubtsBack geometry.max_locks (log_kept anchor rs) t) (sym same.control)
