@@ -6,7 +6,7 @@ mod transfers;
 use anyhow::{Error, Result};
 use shore_disk::{FileDisk, FilePlaces};
 use shore_shared::serve;
-use shore_types::{Geometry, Sequence};
+use shore_types::{Geometry, Sequence, Version};
 use shore_world::{World, format, volume_bytes};
 use transfers::{CLIENTS, Task};
 
@@ -14,6 +14,7 @@ use transfers::{CLIENTS, Task};
 fn make(rt: &HostRuntime) -> Result<(FileDisk, FileDisk)> {
     let stores = Sequence::from_vec(Vec::from_slice(rt.alloc(), &[16u32])?);
     let geometry = Geometry {
+        version: Version::One,
         pair: 1,
         max_locks: 1_024,
         stores,

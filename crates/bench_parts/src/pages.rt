@@ -1,14 +1,15 @@
 //! What a page costs.
 use crate::host::Host;
 use shore_page::Page;
-use shore_types::layout::{MAX_SLOTS, PAGE_BYTES};
-use shore_types::{PageId, StoreId};
+use shore_types::{PageId, StoreId, Version};
 use std::alloc::{AllocError, Global};
 
 const ID: PageId = PageId {
     store: StoreId(0),
     page: 0,
 };
+
+const VERSION: Version = Version::One;
 
 const RECORD: [u8; 100] = [0xaa; 100];
 
@@ -30,8 +31,8 @@ pub enum Work {
 }
 
 pub fn filled(alloc: Global) -> Result<Page, AllocError> {
-    let mut page = Page::new(alloc, ID)?;
-    for slot in 0..MAX_SLOTS {
+    let mut page = Page::new(alloc, VERSION, ID)?;
+    for slot in 0..VERSION.slot_limit() {
         if !put(&mut page, slot, &RECORD) {
             break;
         }
@@ -60,21 +61,19 @@ fn bytes_of(page: &Page) -> usize {
 }
 
 /// One round, on a page that is full and on its text. It answers a number that hangs on what was done.
-fn round(
-    alloc: Global,
-    work: Work,
-    page: &mut Page,
-    text: &mut [u8; PAGE_BYTES],
-) -> Result<usize, AllocError> {
+fn round(alloc: Global, work: Work, page: &mut Page, text: &mut [u8]) -> Result<usize, AllocError> {
     match work {
-        Work::New => Ok(Page::new(alloc, ID)?.free_bytes()),
+        Work::New => Ok(Page::new(alloc, VERSION, ID)?.free_bytes()),
         Work::Fill => Ok(filled(alloc)?.free_bytes()),
         Work::Get => Ok(bytes_of(page)),
         Work::Write => {
+            if text.len() != page.version().page_bytes() {
+                return Ok(0);
+            }
             page.to_bytes(text);
-            Ok(usize::from(text[24]))
+            Ok(text.get(24).map_or(0, |byte| usize::from(*byte)))
         }
-        Work::Read => match Page::from_bytes(alloc, ID, text)? {
+        Work::Read => match Page::from_bytes(alloc, VERSION, ID, text)? {
             Some(page) => Ok(page.free_bytes()),
             None => Ok(0),
         },
@@ -89,8 +88,7 @@ fn round(
 /// The nanoseconds of a round, and the sum of them all. A round for which there is no memory counts nothing.
 pub fn measured(host: &Host, work: Work, rounds: u64) -> Result<(u64, u64), AllocError> {
     let mut page = filled(host.alloc())?;
-    let mut text = [0u8; PAGE_BYTES];
-    page.to_bytes(&mut text);
+    let mut text = page.text().to_vec(host.alloc())?;
     let start = host.nanos();
     let mut sum = 0u64;
     for _ in 0..rounds {

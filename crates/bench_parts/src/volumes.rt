@@ -1,16 +1,17 @@
 //! What a batch of pages costs, and the read of a page.
 ghost use Rattle.std.specs.Prelude.{◌≡◌, [], ◌∷◌, length, IfOk};
-ghost use Rattle.shore_dwrite.specs.Images.{numbers_of, texts_of};
+ghost use Rattle.shore_dwrite.specs.Images.{numbers_of, texts_of, version_of};
 ghost use Rattle.shore_dwrite.specs.Settled.{geometry_of};
 ghost use Rattle.shore_dwrite.specs.Shown.{IsBatch};
 ghost use Rattle.shore_types.specs.declared.layout.Geometry.{Geometry};
+ghost use Rattle.shore_types.specs.declared.versions.Version.TheVariants as Version;
 
 use crate::host::Host;
 use crate::layout::{page_id, volume};
 use shore_disk::MemDisk;
 use shore_dwrite::{PageDev, PageImages};
 use shore_page::Page;
-use shore_types::Lsn;
+use shore_types::{Lsn, Version};
 use std::alloc::{AllocError, Global};
 
 /// The pages of the volume, all of which make one batch.
@@ -28,16 +29,18 @@ pub enum Work {
 }
 
 fn empty_page(alloc: Global, page: u32) -> Result<Page, AllocError>
-    ensures { IfOk result (λ made. made.id ≡ record { store = 0; page = page }) }
+    ensures id { IfOk result (λ made. made.id ≡ record { store = 0; page = page }) }
+    ensures version { IfOk result (λ made. made.version ≡ Version.One) }
 {
-    Page::new(alloc, page_id(page))
+    Page::new(alloc, Version::One, page_id(page))
 }
 
 /// All pages, with no record.
 fn all_pages(alloc: Global) -> Result<PageImages, AllocError>
-    ensures { (g : Geometry) → g.stores ≡ 32 ∷ [] → IfOk result (λ images. IsBatch g (numbers_of images) (texts_of images)) }
+    ensures batch { (g : Geometry) → g.stores ≡ 32 ∷ [] → g.version ≡ Version.One → IfOk result (λ images. IsBatch g (numbers_of images) (texts_of images)) }
+    ensures version { IfOk result (λ images. version_of images ≡ Version.One) }
 {
-    let mut images = PageImages::new(alloc)?;
+    let mut images = PageImages::new(alloc, Version::One)?;
     for page in 0..PAGES {
         images.push(page, empty_page(alloc, page)?.text())?;
     }
@@ -54,6 +57,7 @@ fn round_of(
     round: u64,
 ) -> u64
     requires stores { (geometry_of dev.old).stores ≡ 32 ∷ [] }
+    requires version { version_of images.now ≡ (geometry_of dev.old).version }
     requires batch { IsBatch (geometry_of dev.old) (numbers_of images.now) (texts_of images.now) }
     requires whole { length copy.old ≡ length (texts_of images.now) }
     ensures geometry { geometry_of dev.new ≡ geometry_of dev.old }
@@ -92,6 +96,7 @@ fn timed(
     rounds: u64,
 ) -> (u64, u64)
     requires stores { (geometry_of dev.old).stores ≡ 32 ∷ [] }
+    requires version { version_of images.now ≡ (geometry_of dev.old).version }
     requires batch { IsBatch (geometry_of dev.old) (numbers_of images.now) (texts_of images.now) }
     requires whole { length copy.old ≡ length (texts_of images.now) }
 {

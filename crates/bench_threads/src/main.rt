@@ -11,7 +11,7 @@ use anyhow::{Error, Result};
 use bench_parts::host::Host;
 use serving::{Took, run};
 use shore_disk::{FilePlaces, open_files};
-use shore_types::{Geometry, Sequence};
+use shore_types::{Geometry, Sequence, Version};
 use shore_world::{World, format, volume_bytes};
 use std::env;
 use std::sync::Wait;
@@ -46,6 +46,7 @@ fn log_bytes(work: Work) -> u64 {
 fn make(rt: &HostRuntime, log: &str, volume: &str, log_bytes: u64) -> Result<()> {
     let stores = Vec::from_elem(rt.alloc(), 16u32, STORES)?;
     let geometry = Geometry {
+        version: Version::One,
         pair: 1,
         max_locks: 4_096,
         stores: Sequence::from_vec(stores),

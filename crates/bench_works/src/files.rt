@@ -8,7 +8,7 @@ mod works;
 use bench_parts::host::Host;
 use bench_parts::named;
 use plan::{Plan, WORKS, Work};
-use shore_types::layout::MAX_RECORD_BYTES;
+use shore_types::Version;
 use std::io;
 use std::process::ExitCode;
 use works::perform;
@@ -35,7 +35,7 @@ fn read(name: &str, size: &str, count: Option<&str>) -> Option<(Work, usize, u64
         Some(word) => number(word)?,
         None => by_default,
     };
-    if size > MAX_RECORD_BYTES as u64 {
+    if size > Version::One.record_limit() as u64 {
         return None;
     }
     Some((work, size as usize, count))

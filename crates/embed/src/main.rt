@@ -6,7 +6,7 @@ ghost use Rattle.shore_model.specs.Calls.{IsServed};
 use anyhow::{Error, Result};
 use shore_disk::{FileDisk, FilePlaces, open_files};
 use shore_model::{Answer, Call};
-use shore_types::{Fault, Geometry, Sequence, SessionId, StoreId};
+use shore_types::{Fault, Geometry, Sequence, SessionId, StoreId, Version};
 use shore_world::{Event, Step, World, format, volume_bytes};
 
 const LOG: &str = "embed.log";
@@ -21,6 +21,7 @@ type Manager = World<FileDisk, FileDisk>;
 fn make(rt: &HostRuntime) -> Result<()> {
     let stores = Vec::from_slice(rt.alloc(), &[16u32])?;
     let geometry = Geometry {
+        version: Version::One,
         pair: 1,
         max_locks: 1_024,
         stores: Sequence::from_vec(stores),

@@ -262,10 +262,16 @@ impl Manager {
                 }
             }
         }
+        self.let_others_on(alloc, out)?;
+        Ok(Progress::Done)
+    }
+
+    // Calls that wait are tried again, if a manager is open.
+    fn let_others_on<W: Write>(&mut self, alloc: Global, out: &mut W) -> io::Result<()> {
         if let Access::Open(opened) = &mut self.access {
             go_round(alloc, &mut opened.world, &mut opened.waiting, out)?;
         }
-        Ok(Progress::Done)
+        Ok(())
     }
 
     // The world is a manager for threads, and then a world again. No call waits meanwhile: the table has no transaction.

@@ -1,7 +1,7 @@
 //! Threads that count a record up together, each with a session of its own: the world is a manager for threads meanwhile.
 ghost use Rattle.std.specs.Prelude.{◌≡◌, ◌≢◌, ◌⊎◌, ◌↔◌, ◌≤◌, ℕ, List, Err, IfErr, IfOk, IfSome, IsTrue, OnOk, Some, false, length, slice_get};
 ghost use Rattle.shore_types.specs.Layout.{HasPage, HasSlot, HasStore};
-ghost use Rattle.shore_types.specs.declared.layout.TheConstants.{MAX_SLOTS};
+ghost use Rattle.shore_types.specs.Versions.{slot_limit};
 ghost use Rattle.shore_types.specs.declared.faults.Fault.TheVariants as Fault;
 ghost use Rattle.shore_world.specs.Counts.{transactions_in};
 ghost use Rattle.shore_world.specs.Worlds.{failed_in};
@@ -14,7 +14,6 @@ use crate::devices::ScriptDisk;
 use crate::manager::ScriptWorld;
 use shore_script::Counting;
 use shore_shared::{Left as LeftOf, serve};
-use shore_types::layout::MAX_SLOTS;
 use shore_types::{Fault, Geometry, Pairs, Rid};
 use std::alloc::Global;
 use std::sync::Wait;
@@ -75,7 +74,7 @@ fn length_in(pairs: &Pairs, id: &Rid) -> Option<usize>
 fn check_record(geometry: &Geometry, id: &Rid) -> Result<(), Fault>
     ensures there { OnOk result (HasSlot geometry.now id.now) }
     ensures lacks { IfErr result (λ f. ((f ≡ Fault.NoStore) × ¬ HasStore geometry.now id.now.page.store) ⊎ ((f ≡ Fault.NoPage) × HasStore geometry.now id.now.page.store × ¬ HasPage geometry.now id.now.page)
-        ⊎ ((f ≡ Fault.NoRecord) × HasPage geometry.now id.now.page × (MAX_SLOTS ≤ id.now.slot))) }
+        ⊎ ((f ≡ Fault.NoRecord) × HasPage geometry.now id.now.page × (slot_limit geometry.now.version ≤ id.now.slot))) }
 {
     if !geometry.has_store(id.page.store) {
         return Err(Fault::NoStore);
@@ -83,7 +82,7 @@ fn check_record(geometry: &Geometry, id: &Rid) -> Result<(), Fault>
     if !geometry.has_page(id.page) {
         return Err(Fault::NoPage);
     }
-    if id.slot >= MAX_SLOTS {
+    if id.slot >= geometry.version.slot_limit() {
         return Err(Fault::NoRecord);
     }
     Ok(())

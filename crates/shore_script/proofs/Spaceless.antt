@@ -16,7 +16,7 @@ use Rattle.shore_script.specs.declared.command.Command.{Command}
 use Rattle.shore_script.specs.declared.command.Command.TheVariants as command
 use Rattle.shore_script.specs.Bytes.{IsPairs, SpellsBytes}
 use Rattle.shore_script.specs.Ids.{IsCount, IsGranule, IsNumber, IsRecord}
-use Rattle.shore_script.specs.Words.{AskCall, AskCrash, AskPlain, HasOne, HasThree, HasTwo, IsAlone, outcome_word, pick_word}
+use Rattle.shore_script.specs.Words.{AskCall, AskCrash, AskPlain, HasOne, HasThree, HasTwo, IsAlone, outcome_word}
 use Rattle.shore_script.proofs.Cuts.{Lacks, Lacks-append, Lacks-cons}
 use Rattle.shore_script.proofs.Digits.{decimal-Lacks}
 use Rattle.shore_script.proofs.Hexes.{encoded-lacks}
@@ -126,11 +126,6 @@ device-lacks device.Volume word h = subst (Lacks 32) (sym h) refl
 word-lacks : (wanted : List ℕ) → Lacks 32 wanted → (word : List ℕ) → word ≡ wanted → Lacks 32 word
 word-lacks wanted lacks word h = subst (Lacks 32) (sym h) lacks
 
-pick-lacks : (p : Pick) (word : List ℕ) → word ≡ pick_word p → Lacks 32 word
-pick-lacks pick.Old word h = subst (Lacks 32) (sym h) refl
-pick-lacks pick.New word h = subst (Lacks 32) (sym h) refl
-pick-lacks pick.Noise word h = subst (Lacks 32) (sym h) refl
-
 -- ---- all words
 
 pub AskCall-spaceless : (words : List (List ℕ)) (x : Call) → AskCall words x → AreSpaceless words
@@ -153,7 +148,10 @@ AskCall-spaceless words call.InDoubt h = alone-spaceless words (codes "indoubt")
 
 AskCrash-four : (words : List (List ℕ)) (p : Option Pick) → AskCrash words p → AreFour words
 AskCrash-four words None h = alone-four words (codes "crash") h refl
-AskCrash-four words (Some p) h = one-four words (codes "crash") _ h refl (pick-lacks p)
+AskCrash-four words (Some pick.Old) h = one-four words (codes "crash") _ h refl (word-lacks (codes "old") refl)
+AskCrash-four words (Some pick.New) h = one-four words (codes "crash") _ h refl (word-lacks (codes "new") refl)
+AskCrash-four words (Some pick.Noise) h = one-four words (codes "crash") _ h refl (word-lacks (codes "noise") refl)
+AskCrash-four words (Some (pick.Mixed bits)) h = two-four words (codes "crash") _ _ h refl (word-lacks (codes "mixed") refl) (number-lacks (2 ^ 64) (omega arith) bits)
 
 pub AskPlain-four : (words : List (List ℕ)) (x : Command) → AskPlain words x → AreFour words
 AskPlain-four words (command.Ask session call) h = absurd h
@@ -204,7 +202,10 @@ three-letter first (second ∷ third ∷ fourth ∷ fifth ∷ words) word P Q R 
 
 crash-letter : (first : List ℕ) (others : List (List ℕ)) (p : Option Pick) → AskCrash (first ∷ others) p → 97 ≤ get_or first 0 0
 crash-letter first others None h = alone-letter first others (codes "crash") h (omega arith)
-crash-letter first others (Some p) h = one-letter first others (codes "crash") _ h (omega arith)
+crash-letter first others (Some pick.Old) h = one-letter first others (codes "crash") _ h (omega arith)
+crash-letter first others (Some pick.New) h = one-letter first others (codes "crash") _ h (omega arith)
+crash-letter first others (Some pick.Noise) h = one-letter first others (codes "crash") _ h (omega arith)
+crash-letter first others (Some (pick.Mixed bits)) h = two-letter first others (codes "crash") _ _ h (omega arith)
 
 pub AskPlain-letter : (first : List ℕ) (others : List (List ℕ)) (x : Command) → AskPlain (first ∷ others) x → 97 ≤ get_or first 0 0
 AskPlain-letter first others (command.Ask session call) h = absurd h

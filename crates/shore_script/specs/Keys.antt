@@ -6,6 +6,9 @@ use Rattle.toml.specs.View.{items_of}
 use Rattle.shore_types.specs.Config.{key_of}
 use Rattle.shore_types.specs.declared.config.Setting.{Setting}
 use Rattle.shore_types.specs.declared.config.Setting.TheVariants as setting
+use Rattle.shore_types.specs.declared.versions.Version.{Version}
+use Rattle.shore_types.specs.declared.versions.Version.TheVariants.{One}
+use Rattle.shore_types.specs.Versions.{number_of}
 use Rattle.shore_script.specs.declared.settings.Devices.{Devices}
 use Rattle.shore_script.specs.declared.settings.Devices.TheVariants as devices
 use Rattle.shore_script.specs.declared.settings.Settings.{Settings}
@@ -31,6 +34,11 @@ IsFlag None None = Unit {0}
 IsFlag None (Some flag) = ⊥
 IsFlag (Some value) None = ⊥
 IsFlag (Some value) (Some flag) = value ≡ boolean flag
+
+-- the number of the version is written, or none, which is the first version's
+abbrev pub IsVersion : Option Data → Version → Type 0
+IsVersion None version = version ≡ One
+IsVersion (Some value) version = value ≡ whole (number_of version)
 
 -- a wrong line ends the run unless the text says otherwise
 abbrev pub AreWrongLines : Option Data → WrongLines → Type 0
@@ -79,6 +87,7 @@ pub record AreWritten (table : Members) (settings : Settings) : Type 0 where
   pub log_bytes : IsNumberOr DEFAULT_LOG_BYTES (written table setting.LogBytes) settings.log_bytes
   pub stores : AreStores (written table setting.Stores) settings.geometry.stores
   pub max_locks : IsNumberOr DEFAULT_MAX_LOCKS (written table setting.MaxLocks) settings.geometry.max_locks
+  pub version : IsVersion (written table setting.Version) settings.geometry.version
   pub pool : IsNumberOr DEFAULT_POOL_FRAMES (written table setting.Pool) settings.pool
   pub wrong_lines : AreWrongLines (written table setting.WrongLines) settings.wrong_lines
   pub unused_path : IsUnusedPath table settings.devices settings.unused_path

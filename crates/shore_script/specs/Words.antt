@@ -71,15 +71,13 @@ AskCall words (call.Prepare global) = HasOne words (codes "prepare") (λ word. I
 AskCall words (call.Resolve global outcome) = HasTwo words (codes "resolve") (λ word. IsPairs word global) (λ word. word ≡ outcome_word outcome)
 AskCall words call.InDoubt = IsAlone words (codes "indoubt")
 
-abbrev pub pick_word : Pick → List ℕ
-pick_word pick.Old = codes "old"
-pick_word pick.New = codes "new"
-pick_word pick.Noise = codes "noise"
-
--- a crash may pick an image
+-- a crash may pick an image: by a word, or by a word and a number whose bits say which writes stand
 abbrev pub AskCrash : List (List ℕ) → Option Pick → Type 0
 AskCrash words None = IsAlone words (codes "crash")
-AskCrash words (Some pick) = HasOne words (codes "crash") (λ word. word ≡ pick_word pick)
+AskCrash words (Some pick.Old) = HasOne words (codes "crash") (λ word. word ≡ codes "old")
+AskCrash words (Some pick.New) = HasOne words (codes "crash") (λ word. word ≡ codes "new")
+AskCrash words (Some pick.Noise) = HasOne words (codes "crash") (λ word. word ≡ codes "noise")
+AskCrash words (Some (pick.Mixed bits)) = HasTwo words (codes "crash") (λ word. word ≡ codes "mixed") (λ word. IsNumber (2 ^ 64) word bits)
 
 -- the words ask for what is no call
 abbrev pub AskPlain : List (List ℕ) → Command → Type 0

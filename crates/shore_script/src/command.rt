@@ -4,7 +4,7 @@ ghost use Rattle.shore_model.specs.Calls.{IsServed};
 ghost use Rattle.shore_script.specs.Commands.{IsServedCommand};
 ghost use Rattle.shore_script.specs.Lines.{AsksIn, InWords, IsCallOf, IsLineOf, TextAsks};
 ghost use Rattle.shore_script.specs.Reading.{Reads};
-ghost use Rattle.shore_script.specs.Words.{AskCall, AskPlain, outcome_word, pick_word};
+ghost use Rattle.shore_script.specs.Words.{AskCall, AskPlain, outcome_word};
 ghost use Rattle.shore_types.specs.Names.{device_name};
 
 use crate::counting::Counting;
@@ -125,7 +125,7 @@ fn plain_command(text: &str) -> Option<Command>
         Some((word, rest)) => match rest.split_once(' ') {
             Some((first, others)) => match others.split_once(' ') {
                 Some((second, third)) => command_with_three(word, first, second, third),
-                None => fuse_command(word, first, others),
+                None => command_with_two(word, first, others),
             },
             None => command_with_one(word, rest),
         },
@@ -154,7 +154,7 @@ fn command_with_one(word: &str, object: &str) -> Option<Command>
     ensures asks { Reads (AskPlain (word.now ∷ object.now ∷ [])) result }
 {
     match word {
-        "crash" => Some(Command::Crash(Some(pick_of(object)?))),
+        "crash" => crash_of(object),
         "checkpoint" => half_of_checkpoint(object),
         "durable" => Some(Command::Durable(words::ticket(object)?)),
         _ => None,
@@ -172,7 +172,18 @@ fn half_of_checkpoint(word: &str) -> Option<Command>
     }
 }
 
+fn command_with_two(word: &str, object: &str, number: &str) -> Option<Command>
+    ensures served { IfSome result IsServedCommand }
+    ensures asks { Reads (AskPlain (word.now ∷ object.now ∷ number.now ∷ [])) result }
+{
+    match word {
+        "crash" => mixed_crash(object, number),
+        _ => fuse_command(word, object, number),
+    }
+}
+
 fn fuse_command(word: &str, device: &str, calls: &str) -> Option<Command>
+    requires { word.now ≢ codes "crash" }
     ensures served { IfSome result IsServedCommand }
     ensures asks { Reads (AskPlain (word.now ∷ device.now ∷ calls.now ∷ [])) result }
 {
@@ -183,6 +194,16 @@ fn fuse_command(word: &str, device: &str, calls: &str) -> Option<Command>
     match word {
         "fuse" => Some(Command::Fuse(fuse)),
         "nextfuse" => Some(Command::NextFuse(fuse)),
+        _ => None,
+    }
+}
+
+fn mixed_crash(word: &str, bits: &str) -> Option<Command>
+    ensures served { IfSome result IsServedCommand }
+    ensures asks { Reads (AskPlain (codes "crash" ∷ word.now ∷ bits.now ∷ [])) result }
+{
+    match word {
+        "mixed" => Some(Command::Crash(Some(Pick::Mixed(words::number(bits)?)))),
         _ => None,
     }
 }
@@ -211,13 +232,14 @@ fn device_of(word: &str) -> Option<Device>
     }
 }
 
-fn pick_of(word: &str) -> Option<Pick>
-    ensures { Reads (λ pick. word.now ≡ pick_word pick) result }
+fn crash_of(word: &str) -> Option<Command>
+    ensures served { IfSome result IsServedCommand }
+    ensures asks { Reads (AskPlain (codes "crash" ∷ word.now ∷ [])) result }
 {
     match word {
-        "old" => Some(Pick::Old),
-        "new" => Some(Pick::New),
-        "noise" => Some(Pick::Noise),
+        "old" => Some(Command::Crash(Some(Pick::Old))),
+        "new" => Some(Command::Crash(Some(Pick::New))),
+        "noise" => Some(Command::Crash(Some(Pick::Noise))),
         _ => None,
     }
 }

@@ -5,11 +5,11 @@ ghost use Rattle.toml.specs.Data.{boolean, string};
 ghost use Rattle.toml.specs.View.{table_view, view};
 ghost use Rattle.shore_types.specs.Layout.{IsInLimits};
 ghost use Rattle.shore_types.specs.declared.config.Setting.TheVariants as setting;
-ghost use Rattle.shore_script.specs.Keys.{AreDevices, AreSettingsOf, AreStores, AreWritten, AreWrongLines, IsFlag, IsNumberOr, IsPath, IsUnusedPath, NamesFiles, NamesMemory, whole, written};
+ghost use Rattle.shore_script.specs.Keys.{AreDevices, AreSettingsOf, AreStores, AreWritten, AreWrongLines, IsFlag, IsNumberOr, IsPath, IsUnusedPath, IsVersion, NamesFiles, NamesMemory, whole, written};
 ghost use Rattle.shore_script.specs.Limits.{AreInLimits, IsFrameCount};
 
-use shore_types::layout::{MAX_LOG_BYTES, MAX_POOL_FRAMES, MIN_LOG_BYTES, MIN_POOL_FRAMES};
-use shore_types::{ConfigPlace, Fault, Geometry, Sequence, Setting, Text};
+use shore_types::layout::{MAX_LOG_BYTES, MAX_POOL_FRAMES, MIN_POOL_FRAMES};
+use shore_types::{ConfigPlace, Fault, Geometry, Sequence, Setting, Text, Version};
 use std::alloc::{AllocError, Global};
 use toml::{Table, Value};
 
@@ -56,7 +56,7 @@ pub enum WrongLines {
 pub struct Settings {
     /// Memory, or two files.
     pub devices: Devices,
-    /// The pair's number, stores and lock nodes.
+    /// The pair's version, number, stores and lock nodes.
     pub geometry: Geometry,
     /// The length of the log device.
     pub log_bytes: u64,
@@ -94,11 +94,17 @@ fn settings_of(alloc: Global, table: &Table) -> Result<Settings, Fault>
     let devices = devices_of(alloc, table)?;
     let pair = number_or(table, Setting::Pair, DEFAULT_PAIR)?;
     let log_bytes = number_or(table, Setting::LogBytes, DEFAULT_LOG_BYTES)?;
-    if log_bytes < MIN_LOG_BYTES || log_bytes > MAX_LOG_BYTES {
+    // It comes behind these, and says how short a log may be: where it is wrong, as short as any.
+    let named = version_of(table);
+    let version = named.unwrap_or(Version::One);
+    if log_bytes < version.least_log() || log_bytes > MAX_LOG_BYTES {
         return Err(refused(Setting::LogBytes));
     }
-    let geometry = geometry_of(alloc, table, pair)?;
+    let geometry = geometry_of(alloc, table, version, pair)?;
     let pool = pool_of(table)?;
+    if named.is_none() {
+        return Err(refused(Setting::Version));
+    }
     let wrong_lines = wrong_lines_of(table)?;
     let unused_path = unused_path_of(table, &devices);
     Ok(Settings {
@@ -111,14 +117,16 @@ fn settings_of(alloc: Global, table: &Table) -> Result<Settings, Fault>
     })
 }
 
-fn geometry_of(alloc: Global, table: &Table, pair: u64) -> Result<Geometry, Fault>
+fn geometry_of(alloc: Global, table: &Table, version: Version, pair: u64) -> Result<Geometry, Fault>
     ensures limits { IfOk result IsInLimits }
+    ensures version { IfOk result (λ geometry. geometry.version ≡ version) }
     ensures pair { IfOk result (λ geometry. geometry.pair ≡ pair) }
     ensures stores { IfOk result (λ geometry. AreStores (written (table_view table.now) setting.Stores) geometry.stores) }
     ensures max_locks { IfOk result (λ geometry. IsNumberOr DEFAULT_MAX_LOCKS (written (table_view table.now) setting.MaxLocks) geometry.max_locks) }
 {
     let max_locks = short_number_or(table, Setting::MaxLocks, DEFAULT_MAX_LOCKS);
     let geometry = Geometry {
+        version,
         pair,
         max_locks: max_locks.unwrap_or(0),
         stores: stores_of(alloc, table)?,
@@ -138,6 +146,16 @@ fn pool_of(table: &Table) -> Result<u32, Fault>
         return Err(refused(Setting::Pool));
     }
     Ok(frames)
+}
+
+// The version that is named, the first by default; None if no version is.
+fn version_of(table: &Table) -> Option<Version>
+    ensures { IfSome result (IsVersion (written (table_view table.now) setting.Version)) }
+{
+    match value_of(table, Setting::Version) {
+        None => Some(Version::One),
+        Some(value) => Version::of(u16::try_from(number_in(value)?).ok()?),
+    }
 }
 
 fn wrong_lines_of(table: &Table) -> Result<WrongLines, Fault>
@@ -168,7 +186,7 @@ fn unused_path_of(table: &Table, devices: &Devices) -> Option<Setting>
     None
 }
 
-const KNOWN: [Setting; 10] = [
+const KNOWN: [Setting; 11] = [
     Setting::Devices,
     Setting::Format,
     Setting::LogPath,
@@ -178,6 +196,7 @@ const KNOWN: [Setting; 10] = [
     Setting::Stores,
     Setting::MaxLocks,
     Setting::Pool,
+    Setting::Version,
     Setting::WrongLines,
 ];
 

@@ -14,7 +14,7 @@ use filling::Fill;
 use kinds::Kinds;
 use shore_disk::{FileDisk, FilePlaces, open_files};
 use shore_shared::{Job, Left, serve};
-use shore_types::{Fault, Geometry, Sequence, StoreId};
+use shore_types::{Fault, Geometry, Sequence, StoreId, Version};
 use shore_world::{World, format, volume_bytes};
 use std::env;
 use std::sync::Wait;
@@ -45,6 +45,7 @@ fn open(rt: &HostRuntime, folder: &str) -> Result<Manager> {
 fn format_files(rt: &HostRuntime, folder: &str, log_bytes: u64) -> Result<()> {
     let stores = Vec::from_elem(rt.alloc(), 1u32, 1 + MOST_CLIENTS)?;
     let geometry = Geometry {
+        version: Version::One,
         pair: 1,
         max_locks: 4_096,
         stores: Sequence::from_vec(stores),

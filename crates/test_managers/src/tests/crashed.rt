@@ -347,7 +347,7 @@ fn each_call_fails_alone(rt: HostRuntime) -> Result<(), Fail> {
         met = met.saturating_add(more);
     }
     println!(rt; "each call fails alone: {met} failures met")?;
-    if met != 160 {
+    if met != 192 {
         return Err(Fail::new(format_args!("another number of failures is wanted")));
     }
     Ok(())

@@ -3,8 +3,7 @@ use super::life::{FRAMES, PAGES, add_one, bytes_of, devices, insert, manager, nu
 use shore_disk::{FuseDisk, MemDisk, Pick};
 use shore_model::Call;
 use shore_shared::{Client, Job, serve};
-use shore_types::layout::{MAX_RECORD_BYTES, MIN_LOG_BYTES};
-use shore_types::{Fault, PageId, Rid, Sequence, StoreId};
+use shore_types::{Fault, PageId, Rid, Sequence, StoreId, Version};
 use shore_world::World;
 use std::alloc::{AllocError, Global};
 use std::sync::Wait;
@@ -42,7 +41,11 @@ impl Job for Make {
     fn work<C: Client>(&self, alloc: Global, _number: usize, client: &mut C) -> Result<(), Fault> {
         insert(alloc, client)?;
         for _ in 0..LARGE_RECORDS {
-            let bytes = Sequence::from_vec(Vec::from_elem(alloc, 0u8, MAX_RECORD_BYTES)?);
+            let bytes = Sequence::from_vec(Vec::from_elem(
+                alloc,
+                0u8,
+                Version::One.record_limit(),
+            )?);
             client.call(Call::Begin)?;
             client.call(Call::Insert(StoreId(0), bytes))?;
             client.commit_durable()?;
@@ -102,7 +105,7 @@ fn begun<R: Threads + Wait + Clock + Sync + Send + Copy>(
     rt: R,
     alloc: Global,
 ) -> Result<(MemDisk, MemDisk), Fault> {
-    let (log, volume) = devices(alloc, MIN_LOG_BYTES as usize)?;
+    let (log, volume) = devices(alloc, Version::One.least_log() as usize)?;
     let world = manager(alloc, log, volume)?;
     let (left, served) = serve(rt, alloc, world, 1, &[Make]);
     let devices = left.into_devices();
@@ -118,6 +121,9 @@ enum Loss {
     // One byte is as it was written, the next one as it was before, and so on.
     Mixed,
 }
+
+// Every other write stands, the first among those.
+const EVERY_OTHER: Pick = Pick::Mixed(0x5555_5555_5555_5555);
 
 // What a device is after it has lost power.
 fn lost(alloc: Global, disk: MemDisk, loss: Loss) -> Result<MemDisk, AllocError> {
@@ -375,6 +381,14 @@ fn crash_in_threads_of_the_log_leaves_noise(rt: HostRuntime) -> Result<(), Fail>
 }
 
 #[test]
+fn crash_in_threads_of_the_log_mixes_writes(rt: HostRuntime) -> Result<(), Fail> {
+    tell(
+        &rt,
+        lives_shown(rt, rt.alloc(), true, Loss::Each(EVERY_OTHER))?,
+    )
+}
+
+#[test]
 fn crash_in_threads_of_the_log_mixes_bytes(rt: HostRuntime) -> Result<(), Fail> {
     tell(&rt, lives_shown(rt, rt.alloc(), true, Loss::Mixed)?)
 }
@@ -400,6 +414,14 @@ fn crash_in_threads_of_the_volume_leaves_noise(rt: HostRuntime) -> Result<(), Fa
     tell(
         &rt,
         lives_shown(rt, rt.alloc(), false, Loss::Each(Pick::Noise))?,
+    )
+}
+
+#[test]
+fn crash_in_threads_of_the_volume_mixes_writes(rt: HostRuntime) -> Result<(), Fail> {
+    tell(
+        &rt,
+        lives_shown(rt, rt.alloc(), false, Loss::Each(EVERY_OTHER))?,
     )
 }
 

@@ -15,7 +15,7 @@ use shore_queue::{Numbers, QueueTail};
 use shore_shared::{
     Client, Gate, Job, Named, Opened, Queued, Seat, Serves, Session, Shared, Taped, in_threads,
 };
-use shore_types::{Bytes, Fault, Geometry, PageId, Rid, Sequence, StoreId};
+use shore_types::{Bytes, Fault, Geometry, PageId, Rid, Sequence, StoreId, Version};
 use shore_world::{World, format, volume_bytes};
 use std::alloc::Global;
 use std::marker::Brand;
@@ -39,6 +39,7 @@ pub(super) const MOST_NAPS: u32 = 20_000;
 /// Both devices of a manager, formatted: a log of so many bytes, and a store of these pages.
 pub(super) fn devices(alloc: Global, log_bytes: usize) -> Result<(MemDisk, MemDisk), Fault> {
     let geometry = Geometry {
+        version: Version::One,
         pair: 1,
         max_locks: 4_096,
         stores: Sequence::from_vec(Vec::from_elem(alloc, PAGES, 1)?),

@@ -23,7 +23,7 @@ returns-in-None-split_once-2-clause-asks c =
     let cut = cuts_at 32 text c.split_once.result c.split_once.ensures.cases (omega arith) parts.word parts.rest parts.is in
     let again = cuts_at 32 parts.rest.now c.split_once-in-Some.result c.split_once-in-Some.ensures.cases (omega arith) more.first more.others more.is in
     let lacks = lacks_at 32 more.others.now c.split_once-in-Some-split_once.result c.split_once-in-Some-split_once.ensures.cases (omega arith) c.in-None-split_once-2.is in
-    three_of_plain text parts.word.now parts.rest.now more.first.now more.others.now cut.0 cut.1 again.0 again.1 lacks c.fuse_command.result c.fuse_command.ensures.asks
+    three_of_plain text parts.word.now parts.rest.now more.first.now more.others.now cut.0 cut.1 again.0 again.1 lacks c.command_with_two.result c.command_with_two.ensures.asks
 
 pub returns-in-None-split_once-clause-asks : goal.returns-in-None-split_once-clause-asks
 returns-in-None-split_once-clause-asks c =

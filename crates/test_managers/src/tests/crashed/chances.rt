@@ -43,11 +43,21 @@ impl Chance {
     }
 
     pub(super) fn pick(&mut self) -> Pick {
-        match self.below(3) {
+        match self.below(4) {
             0 => Pick::Old,
             1 => Pick::New,
-            _ => Pick::Noise,
+            2 => Pick::Noise,
+            _ => Pick::Mixed(self.bits()),
         }
+    }
+
+    // Which of the last 64 writes stand.
+    fn bits(&mut self) -> u64 {
+        let mut bits = 0;
+        for _ in 0..4 {
+            bits = bits << 16 | u64::from(self.below(1 << 16));
+        }
+        bits
     }
 
     /// A fuse that most opens with losers blow.

@@ -92,11 +92,11 @@ fn check_each(rt: &HostRuntime, name: &str, turns: &[Turn], wanted: u64) -> Resu
 
 #[test]
 fn each_call_of_checkpoints_fails_alone(rt: HostRuntime) -> Result<(), Fail> {
-    check_each(&rt, "each call of checkpoints", &TWO_CHECKPOINTS, 260)
+    check_each(&rt, "each call of checkpoints", &TWO_CHECKPOINTS, 312)
 }
 
 #[test]
 fn each_call_over_a_ring_fails_alone(rt: HostRuntime) -> Result<(), Fail> {
     let turns = ring_turned(rt.alloc())?;
-    check_each(&rt, "each call over a ring", &turns, 1030)
+    check_each(&rt, "each call over a ring", &turns, 1236)
 }

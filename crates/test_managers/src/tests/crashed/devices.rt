@@ -36,13 +36,17 @@ pub(super) enum Loss {
 }
 
 /// The ways in which both devices lose power.
-pub(super) const LOSSES: [Loss; 5] = [
+pub(super) const LOSSES: [Loss; 6] = [
     Loss::Each(Pick::Old),
     Loss::Each(Pick::New),
     Loss::Each(Pick::Noise),
+    Loss::Each(EVERY_OTHER),
     Loss::Mixed(1),
     Loss::Mixed(SECTOR),
 ];
+
+/// Of the writes of each device every other one stands, the first of them among those.
+pub(super) const EVERY_OTHER: Pick = Pick::Mixed(0x5555_5555_5555_5555);
 
 const SECTOR: usize = 512;
 

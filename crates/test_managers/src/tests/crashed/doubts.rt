@@ -5,7 +5,7 @@ use super::trouble::{Trouble, require, require_all};
 use shore_model::rid_map::overlaid;
 use shore_model::{Answer, Call, InDoubt, LogRecord, Opening, Payload, Request, RidMap};
 use shore_modes::sup;
-use shore_types::{GlobalId, Granule, Mode, Sequence, SessionId, TxnId};
+use shore_types::{GlobalId, Granule, Mode, Sequence, SessionId, TxnId, Version};
 use shore_world::{Event, Step};
 use slow_histories::decisions::in_doubt;
 use slow_logs::recovered_records::logged_writes;
@@ -39,6 +39,7 @@ pub(super) fn opening_of(alloc: Global, found: &[LogRecord]) -> Result<Opening, 
         }
     }
     Ok(Opening {
+        slots: Version::One.slot_limit(),
         records,
         in_doubt: doubts,
     })

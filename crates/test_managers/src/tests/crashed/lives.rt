@@ -6,7 +6,7 @@ use super::short_histories::ShortHistory;
 use super::trouble::{Trouble, require};
 use shore_disk::MemDisk;
 use shore_model::{LogRecord, Opening, RidMap};
-use shore_types::{Bytes, Geometry, Lsn, Sequence, SessionId};
+use shore_types::{Bytes, Geometry, Lsn, Sequence, SessionId, Version};
 use shore_world::format;
 use slow_histories::decisions::acknowledged;
 use std::alloc::Global;
@@ -38,6 +38,7 @@ pub(super) fn formatted(alloc: Global) -> Result<Pair, Trouble> {
 /// Such a pair with stores of so many pages, ten in all.
 pub(super) fn formatted_of(alloc: Global, stores: &[u32]) -> Result<Pair, Trouble> {
     let geometry = Geometry {
+        version: Version::One,
         pair: 1,
         max_locks: 1024,
         stores: Sequence::from_vec(Vec::from_slice(alloc, stores)?),
@@ -47,6 +48,7 @@ pub(super) fn formatted_of(alloc: Global, stores: &[u32]) -> Result<Pair, Troubl
         return Err(Trouble("the format was refused"));
     }
     let opening = Opening {
+        slots: Version::One.slot_limit(),
         records: RidMap::new(alloc),
         in_doubt: Sequence::new(alloc),
     };

@@ -180,7 +180,7 @@ fn flushed_loser_is_undone(rt: HostRuntime) -> Result<(), Fail> {
         "flushed_loser_is_undone",
         &FLUSHED_LOSER_IS_UNDONE,
         false,
-        (72, 730, 110),
+        (86, 870, 132),
     )
 }
 
@@ -191,7 +191,7 @@ fn rollback_to_a_savepoint(rt: HostRuntime) -> Result<(), Fail> {
         "rollback_to_a_savepoint",
         &ROLLBACK_TO_A_SAVEPOINT,
         false,
-        (27, 108, 65),
+        (32, 128, 78),
     )
 }
 
@@ -202,7 +202,7 @@ fn prepared_survives_crash(rt: HostRuntime) -> Result<(), Fail> {
         "prepared_survives_crash",
         &PREPARED_SURVIVES_CRASH,
         false,
-        (47, 188, 85),
+        (56, 224, 102),
     )
 }
 
@@ -213,7 +213,7 @@ fn prepared_change_is_aborted(rt: HostRuntime) -> Result<(), Fail> {
         "prepared_change_is_aborted",
         &PREPARED_CHANGE_IS_ABORTED,
         false,
-        (92, 486, 130),
+        (110, 582, 156),
     )
 }
 
@@ -224,13 +224,13 @@ fn crashes_in_restart(rt: HostRuntime) -> Result<(), Fail> {
         "crashes_in_restart",
         &CRASHES_IN_RESTART,
         true,
-        (27, 765, 65),
+        (32, 920, 78),
     )
 }
 
 #[test]
 fn torn_page(rt: HostRuntime) -> Result<(), Fail> {
-    check_stops(&rt, "torn_page", &TORN_PAGE, true, (72, 1600, 110))
+    check_stops(&rt, "torn_page", &TORN_PAGE, true, (86, 1916, 132))
 }
 
 #[test]
@@ -240,17 +240,17 @@ fn checkpoint_in_two_halves(rt: HostRuntime) -> Result<(), Fail> {
         "checkpoint_in_two_halves",
         &CHECKPOINT_IN_TWO_HALVES,
         false,
-        (142, 686, 185),
+        (170, 822, 222),
     )
 }
 
 #[test]
 fn lazy_commit(rt: HostRuntime) -> Result<(), Fail> {
-    check_stops(&rt, "lazy_commit", &LAZY_COMMIT, false, (27, 108, 65))
+    check_stops(&rt, "lazy_commit", &LAZY_COMMIT, false, (32, 128, 78))
 }
 
 #[test]
 fn log_fills_and_wraps(rt: HostRuntime) -> Result<(), Fail> {
     let turns = log_filled_often(rt.alloc())?;
-    check_stops(&rt, "log_fills_and_wraps", &turns, false, (547, 2660, 605))
+    check_stops(&rt, "log_fills_and_wraps", &turns, false, (656, 3192, 726))
 }

@@ -4,7 +4,7 @@ use super::logs::play;
 use super::words::Words;
 use shore_analysis::{NotAnalysed, Tables, analyse};
 use shore_model::{LogRecord, Payload};
-use shore_types::{Geometry, Granule, Lsn, PageId, Rid, Sequence, StoreId, TxnId};
+use shore_types::{Geometry, Granule, Lsn, PageId, Rid, Sequence, StoreId, TxnId, Version};
 use std::alloc::{AllocError, Global};
 
 // The volume has the `geometry` below. A line without a colon adds records, parted by `;`. `run:` begins anew. `gives:` has the
@@ -170,6 +170,7 @@ pub(super) fn is_refused_as(
 /// Store 0 has two pages, store 1 has one.
 pub(super) fn geometry(alloc: Global) -> Result<Geometry, AllocError> {
     Ok(Geometry {
+        version: Version::One,
         pair: 1,
         max_locks: 16,
         stores: Sequence::from_vec(vec![in alloc; 2u32, 1]?),

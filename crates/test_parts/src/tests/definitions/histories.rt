@@ -2,7 +2,7 @@
 use super::steps::{Step, add, is_remark};
 use super::words::Words;
 use shore_model::{Decision, Entry, InDoubt, Opening, RidMap};
-use shore_types::{GlobalId, Sequence, TxnId};
+use shore_types::{GlobalId, Sequence, TxnId, Version};
 use slow_histories::decisions::{in_doubt, is_kept};
 use slow_histories::replays::shown_records;
 use slow_histories::sessions::is_history;
@@ -260,6 +260,7 @@ struct Run {
 fn new_run(alloc: Global) -> Run {
     Run {
         opening: Opening {
+            slots: Version::One.slot_limit(),
             records: RidMap::new(alloc),
             in_doubt: Sequence::new(alloc),
         },
