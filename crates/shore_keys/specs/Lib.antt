@@ -1,0 +1,16 @@
+pub mod Calls
+pub mod Cuts
+pub mod Edges
+pub mod Exchanges
+pub mod Halves
+pub mod Homes
+pub mod Joined
+pub mod Makes
+pub mod Maps
+pub mod Nexts
+pub mod Nodes
+pub mod Orders
+pub mod Ranges
+pub mod Splits
+pub mod Steps
+pub mod Trees
