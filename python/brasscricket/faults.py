@@ -41,14 +41,14 @@ class NoPage(Fault):
 
 class NoRecord(Fault):
     number = 6
-    cause = "no record is at the id, or the slot is 2,042 or more"
+    cause = "no record is at the id, or the slot is 2,042 or more (of version 2: 4,090)"
     after = ""
     advice = "name one that is there (`dump` lists them)"
 
 
 class TooLong(Fault):
     number = 7
-    cause = "the record has more than 4,000 bytes"
+    cause = "the record has more than 4,000 bytes (of version 2: 12,000)"
     after = ""
     advice = "split it"
 
@@ -125,9 +125,9 @@ class IsPrepared(Fault):
 
 class BadGlobalId(Fault):
     number = 18
-    cause = "the global id is empty, or has more than 64 bytes"
+    cause = "the global id is empty, or has more than 64 bytes (of version 2: 255)"
     after = ""
-    advice = "give one of 1 to 64 bytes"
+    advice = "give a shorter one, of a byte at least"
 
 
 class GlobalIdInUse(Fault):
@@ -181,7 +181,7 @@ class Damaged(Broken):
 
 class WrongVersion(Fault):
     number = 26
-    cause = "the label is of another version of the formats"
+    cause = "the label is of a version of the formats other than 1 and 2"
     after = ""
     advice = "use the program of that version"
 
@@ -209,7 +209,7 @@ class NotFormatted(Fault):
 
 class WrongPair(Fault):
     number = 30
-    cause = "the labels of the two devices differ in pair number, lock nodes or stores"
+    cause = "the labels of the two devices differ in version, pair number, lock nodes or stores"
     after = ""
     advice = "open the right pair"
 

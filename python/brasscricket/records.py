@@ -6,10 +6,10 @@ from typing import NamedTuple, Union
 
 from .faults import BadGlobalId, TooLong
 
-#: A record has no more bytes than this.
-LONGEST_RECORD = 4000
-#: The name of a prepared transaction has one byte at least, and no more than this.
-LONGEST_NAME = 64
+#: A record has no more bytes than this in files of any version; the program refuses more than 4,000 in those of version 1.
+LONGEST_RECORD = 12_000
+#: The name of a prepared transaction has one byte at least, and no more than this in files of any version; in those of version 1 no more than 64.
+LONGEST_NAME = 255
 
 # Numbers of stores and pages, and of slots, are below these.
 MOST_PAGES, MOST_SLOTS = 1 << 32, 1 << 16

@@ -116,7 +116,7 @@ class Transaction:
     def prepare(self, name: Bytes) -> None:
         """
         From now on the transaction can be lost no more, through crashes too. It keeps its locks and waits for `Store.resolve` by this
-        name, of 1 to 64 bytes.
+        name, of 1 to 64 bytes, or to 255 in files of version 2.
         """
         self._ask(f"prepare {text_of_name(name)}")
         self._is_over = self._is_prepared = True

@@ -3,7 +3,7 @@ of docs/DEFINITIONS.md, and takes nothing from the code of the program.
 """
 import collections
 
-from formats import CHANGE, CHECKPOINT_BEGIN, CHECKPOINT_END, COMMIT, COMPENSATION, END, MOST_SLOTS, MOST_TXNS, PREPARE, PREPARED, ROLLBACK_DECIDED
+from formats import CHANGE, CHECKPOINT_BEGIN, CHECKPOINT_END, COMMIT, COMPENSATION, END, MOST_TXNS, PREPARE, PREPARED, ROLLBACK_DECIDED
 
 # The numbers of transactions end before this one.
 LAST_TXN = 2**62
@@ -12,8 +12,8 @@ LAST_TXN = 2**62
 class Analysis:
     """The records of a log from its tail on, each with the offset of its frame. Those of an undo may be noted behind them."""
 
-    def __init__(self, stores, places, tail, records):
-        self.stores, self.places, self.tail, self.records = stores, places, tail, records
+    def __init__(self, stores, places, sizes, tail, records):
+        self.stores, self.places, self.sizes, self.tail, self.records = stores, places, sizes, tail, records
         # The last record of each transaction, -1 once it has ended, and its Changes that no Compensation has answered.
         self.last, self.unanswered = {}, collections.defaultdict(list)
         # The number of the Prepare of each transaction that has one, those that have a RollbackDecided, and those whose first record here names one that is cut off.
@@ -46,7 +46,11 @@ class Analysis:
     def has(self, granule):
         """Whether the volume has a granule."""
         level, store, index, slot = granule
-        return level == 0 or store < len(self.stores) and (level == 1 or index < self.stores[store] and (level == 2 or slot < MOST_SLOTS))
+        return level == 0 or store < len(self.stores) and (level == 1 or index < self.stores[store] and (level == 2 or slot < self.sizes.slots))
+
+    def has_sizes(self, read):
+        """Whether the images and the global id of a record are no longer than the version allows."""
+        return all(len(it or b"") <= self.sizes.record for it in (read.before, read.after)) and len(read.name or b"") <= self.sizes.name
 
     def is_covered(self, at, granules):
         """Whether a record is one of these granules, or lies in one."""
@@ -54,6 +58,8 @@ class Analysis:
 
     def is_meant(self, number, read):
         """Whether a record means what it has to, behind those that were noted."""
+        if not self.has_sizes(read):
+            return False
         if read.kind >= CHECKPOINT_BEGIN:
             return not read.table or self.is_table(number, read.table)
         last = self.last.get(read.txn, 0)

@@ -1,4 +1,4 @@
-"""The formats of the two files of a pair, as docs/DEFINITIONS.md has them under "Bytes": made for tools/check-formats, and read as an open reads them. What it makes of them is in
+"""The formats of the two files of a pair, as docs/DEFINITIONS.md has them under "Bytes", in each version: made for tools/check-formats, and read as an open reads them. What it makes of them is in
 tools/lib/opening.py.
 
 Nothing here comes from the code of the program, nor from what it wrote.
@@ -9,13 +9,21 @@ import struct
 OPEN, SHUT = b"\xa5", b"\x00"
 LETTERS = {"log": b"\x4c", "volume": b"\x56"}
 ANCHORS_AT, STREAM_AT = (1_024, 2_048), 4_096
-GATE_AT, TABLE_AT, IMAGES_AT, PAGES_AT = 4_096, 4_100, 8_192, 270_336
-PAGE, MOST_SLOTS, MOST_OF_A_BATCH, MOST_OF_A_FRAME, LONGEST_FRAME = 8_192, 2_042, 32, 65_536, 65_549
+GATE_AT, TABLE_AT, IMAGES_AT = 4_096, 4_100, 8_192
+MOST_OF_A_BATCH, MOST_OF_A_FRAME, LONGEST_FRAME = 32, 65_536, 65_549
+# What a version gives: the bytes of a page and its most slots, the most bytes of a record and of a global id, the fewest of a log, and where the pages begin.
+Sizes = collections.namedtuple("Sizes", "page slots record name least_log pages_at")
+VERSIONS = {1: Sizes(8_192, 2_042, 4_000, 64, 135_168, 270_336), 2: Sizes(16_384, 4_090, 12_000, 255, 266_240, 532_480)}
+OF_A_PAGE = {it.page: it for it in VERSIONS.values()}
+# A record's text knows no version: these are the most of any.
+MOST_OF_AN_IMAGE, MOST_OF_A_NAME = 12_000, 255
 CHANGE, COMPENSATION, COMMIT, END, PREPARE, ROLLBACK_DECIDED, CHECKPOINT_BEGIN, CHECKPOINT_END, ANCHOR = 1, 2, 3, 4, 5, 6, 7, 8, 9
 ACTIVE, PREPARED, ROLLING_BACK = 1, 2, 3
-MOST_OF_A_NAME, MOST_GRANULES, MOST_TXNS, MOST_DIRTY, LAST_OPENED = 64, 4_096, 256, 1_024, 2**46 + 2**32
+MOST_GRANULES, MOST_TXNS, MOST_DIRTY, LAST_OPENED = 4_096, 256, 1_024, 2**46 + 2**32
 
-Geometry = collections.namedtuple("Geometry", "pair log_bytes locks stores")
+Geometry = collections.namedtuple("Geometry", "pair log_bytes locks stores version", defaults=[1])
+# What a label says of its pair.
+Label = collections.namedtuple("Label", "pair locks stores version")
 Record = collections.namedtuple("Record", "kind txn previous at before after following name granules table named", defaults=[None] * 4)
 # What a CheckpointEnd has, with an entry for each transaction and for each dirty page.
 Table = collections.namedtuple("Table", "begin next txns dirty")
@@ -38,7 +46,7 @@ def number(size, value):
 
 
 def label(device, length, geometry):
-    fields = LETTERS[device] + number(2, 1) + number(4, PAGE) + number(8, geometry.pair) + number(8, length) + number(4, geometry.locks)
+    fields = LETTERS[device] + number(2, geometry.version) + number(4, VERSIONS[geometry.version].page) + number(8, geometry.pair) + number(8, length) + number(4, geometry.locks)
     stores = b"".join(number(4, pages) for pages in [len(geometry.stores), *geometry.stores])
     return (OPEN + fields + stores).ljust(512, b"\0")
 
@@ -139,14 +147,15 @@ def turned_log_file(geometry, *groups, anchors=(anchor(),)):
     return log
 
 
-def page(place, last=0, entries=(), pieces=()):
+def page(place, last=0, entries=(), pieces=(), version=1):
     """A page: the number of its last change, for each slot where its record is and how long, and what stands at some offsets."""
-    content = bytearray(PAGE)
+    size = VERSIONS[version].page
+    content = bytearray(size)
     for offset, piece in pieces:
         content[offset : offset + len(piece)] = piece
-    content[:24] = struct.pack("<IIQHHI", *place, last, len(entries), PAGE - 4 * len(entries), 0)
+    content[:24] = struct.pack("<IIQHHI", *place, last, len(entries), size - 4 * len(entries), 0)
     for slot, entry in enumerate(entries):
-        content[PAGE - 4 * (slot + 1) : PAGE - 4 * slot] = struct.pack("<HH", *entry)
+        content[size - 4 * (slot + 1) : size - 4 * slot] = struct.pack("<HH", *entry)
     return bytes(content)
 
 
@@ -156,11 +165,11 @@ def places_of(stores):
 
 def volume_file(geometry, pages=(), numbers=(), images=(), gate=SHUT, label_of=None):
     """The volume with these pages, by their numbers; the others are empty. The table has these numbers, and the area these images."""
-    places, pages = places_of(geometry.stores), dict(pages)
-    content = label("volume", PAGES_AT + PAGE * len(places), label_of or geometry).ljust(GATE_AT, b"\0") + gate + bytes(3)
+    places, pages, sizes = places_of(geometry.stores), dict(pages), VERSIONS[geometry.version]
+    content = label("volume", sizes.pages_at + sizes.page * len(places), label_of or geometry).ljust(GATE_AT, b"\0") + gate + bytes(3)
     content += b"".join(number(4, it) for it in [len(numbers), *numbers] if numbers)
-    content = (content.ljust(IMAGES_AT, b"\0") + b"".join(images)).ljust(PAGES_AT, b"\0")
-    return content + b"".join(pages.get(at) or page(place) for at, place in enumerate(places))
+    content = (content.ljust(IMAGES_AT, b"\0") + b"".join(images)).ljust(sizes.pages_at, b"\0")
+    return content + b"".join(pages.get(at) or page(place, version=geometry.version) for at, place in enumerate(places))
 
 
 # What is read.
@@ -195,18 +204,20 @@ def read_label(device, content):
     head, size = content[:512], len(content)
     if size < 4_096 or head[:2] != OPEN + LETTERS[device]:
         raise Refused("29 NotFormatted")
-    if field(head, 2, 2) != 1:
+    version = field(head, 2, 2)
+    if version not in VERSIONS:
         raise Refused("26 WrongVersion")
+    sizes = VERSIONS[version]
     pair, length, locks, count = field(head, 8, 8), field(head, 16, 8), field(head, 24, 4), field(head, 28, 4)
-    may_be_long = device == "volume" or 135_168 <= size <= 1_073_741_824
-    fields = [(4, field(head, 4, 4) == PAGE), (16, length == size and may_be_long), (24, 16 <= locks <= 4_096), (28, 1 <= count <= 64)]
+    may_be_long = device == "volume" or sizes.least_log <= size <= 1_073_741_824
+    fields = [(4, field(head, 4, 4) == sizes.page), (16, length == size and may_be_long), (24, 16 <= locks <= 4_096), (28, 1 <= count <= 64)]
     stores = [field(head, 32 + 4 * it, 4) for it in range(min(count, 64))]
     fields += [(32 + 4 * it, pages > 0 and sum(stores[: it + 1]) <= 65_536) for it, pages in enumerate(stores)]
-    fields += [(32 + 4 * count, not any(head[32 + 4 * count :])), (16, device == "log" or size == PAGES_AT + PAGE * sum(stores))]
+    fields += [(32 + 4 * count, not any(head[32 + 4 * count :])), (16, device == "log" or size == sizes.pages_at + sizes.page * sum(stores))]
     for offset, is_right in fields:
         if not is_right:
             raise damaged(device, offset)
-    return pair, locks, stores
+    return Label(pair, locks, stores, version)
 
 
 def anchor_in(log, at):
@@ -249,7 +260,7 @@ class Text:
         tag = self.number(1)
         content = self.take(self.number(2)) if tag else None
         demand(tag <= 1, f"the first byte of an image is {tag:#04x}")
-        demand(len(content or b"") <= 4_000, f"an image has {len(content or b'')} bytes")
+        demand(len(content or b"") <= MOST_OF_AN_IMAGE, f"an image has {len(content or b'')} bytes")
         return content
 
     def granule(self):
@@ -345,17 +356,18 @@ def read_frames(log, counts):
 
 
 def read_entries(content, place, last):
-    """Where the record of each slot is and how long; of bytes that are a text of the page with a number up to the last one."""
+    """Where the record of each slot is and how long; of bytes that are a text of the page with a number up to the last one. How many they are tells the version."""
+    sizes = OF_A_PAGE[len(content)]
     store, index, lsn, count, table, zero = struct.unpack("<IIQHHI", content[:24])
     demand((store, index) == place, f"it names the page {store}.{index}")
     demand(zero == 0, "its bytes 20 to 23 are not zero")
     demand(lsn <= last, f"its number is {lsn}, and the log ends at {last}")
-    demand(count <= MOST_SLOTS, f"it has {count} slots")
-    demand(table == PAGE - 4 * count, f"its slot table begins at {table}, for {count} slots")
-    entries = [struct.unpack_from("<HH", content, PAGE - 4 * (slot + 1)) for slot in range(count)]
+    demand(count <= sizes.slots, f"it has {count} slots")
+    demand(table == sizes.page - 4 * count, f"its slot table begins at {table}, for {count} slots")
+    entries = [struct.unpack_from("<HH", content, sizes.page - 4 * (slot + 1)) for slot in range(count)]
     behind = 24
     for offset, length in sorted(it for it in entries if it != (0, 0)):
-        demand(length <= 4_000, f"a record at {offset} has {length} bytes")
+        demand(length <= sizes.record, f"a record at {offset} has {length} bytes")
         demand(offset >= (behind if length else 24), f"a record at {offset} begins before {behind if length else 24}")
         demand(offset + length <= table, f"a record at {offset} ends at {offset + length}, and the slot table begins at {table}")
         behind = max(behind, offset + length)

@@ -4,9 +4,12 @@ from formats import COMMIT, END, OPEN, ROLLBACK_DECIDED, Geometry, anchor, chang
 # Bytes worked by hand, on which what is made above is tried first.
 TWO_STORES = Geometry(7, 135_168, 1_024, [2, 3])
 MANY_STORES = Geometry(0x0807060504030201, 0x030201, 4_095, [258, *[1] * 63])
+OF_VERSION_2 = Geometry(7, 266_240, 1_024, [1, 2], 2)
 BY_HAND = [
     (label("log", 135_168, TWO_STORES)[:44], "a54c010000200000 0700000000000000 0010020000000000 0004000002000000 0200000003000000 00000000"),
     (label("volume", 311_296, TWO_STORES)[:44], "a556010000200000 0700000000000000 00c0040000000000 0004000002000000 0200000003000000 00000000"),
+    (label("log", 266_240, OF_VERSION_2)[:44], "a54c020000400000 0700000000000000 0010040000000000 0004000002000000 0100000002000000 00000000"),
+    (label("volume", 581_632, OF_VERSION_2)[:44], "a556020000400000 0700000000000000 00e0080000000000 0004000002000000 0100000002000000 00000000"),
     (label("log", 0x030201, MANY_STORES)[:40], "a54c010000200000 0102030405060708 0102030000000000 ff0f000040000000 0201000001000000"),
     (anchor(), "a500000000000000 0100000000000000 0000000000000000 0100000000000000 0000000000000000"),
     (anchor(2, 5, 3, 70), "a500000000000000 0200000000000000 0500000000000000 0300000000000000 4600000000000000"),
@@ -27,7 +30,10 @@ BY_HAND = [
     (page((0, 0))[:24], "00000000 00000000 0000000000000000 0000 0020 00000000"),
     (page((3, 2), 7, [(24, 1), (25, 2)], [(24, b"\xaa\xbb\xcc")])[:28], "03000000 02000000 0700000000000000 0200 f81f 00000000 aabbcc 00"),
     (page((3, 2), 7, [(24, 1), (25, 2)])[-12:], "00000000 19000200 18000100"),
+    (page((3, 2), 7, [(24, 1), (25, 2)], [(24, b"\xaa\xbb\xcc")], 2)[:28], "03000000 02000000 0700000000000000 0200 f83f 00000000 aabbcc 00"),
+    (page((3, 2), 7, [(24, 1), (25, 2)], version=2)[16_372:], "00000000 19000200 18000100"),
     (volume_file(TWO_STORES, numbers=[1, 4], gate=OPEN)[4_096:4_116], "a5000000 02000000 01000000 04000000 00000000"),
+    (volume_file(OF_VERSION_2)[532_480 + 16_384 :][:24], "01000000 00000000 0000000000000000 0000 0040 00000000"),
 ]
 
 # What is written, worked by hand: scripts with their answers, the records of each frame, and pages with their records where they have to be.
@@ -209,6 +215,22 @@ BATCHES = "".join(["1 begin -> 1: began 1\n", *(f"1 insert {it} aa -> 1: at {it}
 BATCHES_FRAME = [*(change(1, it, f"{it}.0.0", None, b"\xaa") for it in range(33)), record(COMMIT, 1, 33)]
 BATCHES_PAGES = [page((it, 0), it + 1, [(24, 1)], [(24, b"\xaa")]) for it in range(33)]
 
+# The longest record and the longest global id of version 2, beside a record of no bytes.
+LONGER = f"""1 begin -> 1: began 1
+1 insert 0 ee*12000 -> 1: at 0.0.0
+1 insert 0 - -> 1: at 0.0.1
+1 commit -> 1: committed
+2 begin -> 2: began 2
+2 insert 1 bb -> 2: at 1.0.0
+2 prepare {"67" * 255} -> 2: prepared
+flush -> flushed 2
+"""
+LONGER_FRAMES = [
+    [change(1, 0, "0.0.0", None, b"\xee" * 12_000), change(1, 1, "0.0.1", None, b""), record(COMMIT, 1, 2)],
+    [change(2, 0, "1.0.0", None, b"\xbb"), prepare(2, 4, b"g" * 255, ["1.0.0"])],
+]
+LONGER_PAGES = [page((0, 0), 2, [(24, 12_000), (12_024, 0)], [(24, b"\xee" * 12_000)], 2), page((1, 0), 4, [(24, 1)], [(24, b"\xbb")], 2)]
+
 
 def filled(last):
     """Sixteen full records, and one more, whose length decides whether the Commit is in their frame."""
@@ -235,4 +257,6 @@ WRITTEN = [
     ("33 pages", MANY, BATCHES, [BATCHES_FRAME], dict(enumerate(BATCHES_PAGES)), [32], [BATCHES_PAGES[32], *BATCHES_PAGES[1:32]]),
     ("a frame as long as may be", LONG, FITS, [FITS_CHANGES + FITS_COMMIT], {}, [], []),
     ("a byte more than a frame has", LONG, PARTS, [PARTS_CHANGES, PARTS_COMMIT], {}, [], []),
+    ("a pair of version 2 made anew", OF_VERSION_2, "", [], {}, [], []),
+    ("the longest of version 2", OF_VERSION_2, LONGER, LONGER_FRAMES, {0: LONGER_PAGES[0], 1: LONGER_PAGES[1]}, [0, 1], LONGER_PAGES),
 ]

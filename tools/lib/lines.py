@@ -35,7 +35,8 @@ WORDS = {
     "THREADS": (lambda it: is_number(it, 16) and it != "0", "a number from 1 to 16"),
     "TIMES": (lambda it: is_number(it, 1_000) and it != "0", "a number from 1 to 1000"),
     "DEVICE": (lambda it: it in ("log", "volume"), "log or volume"),
-    "PICK": (lambda it: it in ("old", "new", "noise"), "old, new or noise"),
+    "mixed": (lambda it: it == "mixed", "mixed, with a number behind it"),
+    "PICK": (lambda it: it in ("old", "new", "noise"), "old, new or noise, or mixed and a number"),
     "HALF": (lambda it: it in ("begin", "end"), "begin or end"),
 }
 
@@ -71,6 +72,7 @@ OTHERS = [
     ("checkpoint", "an open reads the log from here on, but for what transactions and pages still need"),
     ("checkpoint HALF", "begins a checkpoint, or ends it, with other lines between"),
     ("crash", "the power is lost, and the pair is opened again"),
+    ("crash mixed N", "the same; the unsynced write i of a device, from 0 on, stands if bit i mod 64 of N is set; in memory alone"),
     ("crash PICK", "the same, with unsynced bytes as before, as written, or noise; in memory alone"),
     ("fuse DEVICE N", "N more writes and syncs pass, then the device fails; in memory alone"),
     ("nextfuse DEVICE N", "the same, from the next crash on; in memory alone"),

@@ -54,6 +54,28 @@ def logs_by_hand():
     yield "an end with no change", [[record(END, 1, 0), record(COMMIT, 2, 0)]]
 
 
+def longest_by_hand(sizes):
+    """Logs with images, global ids and slots as long and as high as some version allows, and a byte or a slot more; and a page that is filled, and a byte more."""
+    insert = change(1, 0, "0.0.0", None, b"\xaa")
+    for length in [4_000, 4_001, 12_000, 12_001]:
+        image = b"\xee" * length
+        yield f"an image after of {length} bytes", [[change(1, 0, "0.0.0", None, image), record(COMMIT, 1, 1)]]
+        yield f"an image before of {length} bytes", [[change(1, 0, "0.0.0", image, None), record(COMMIT, 1, 1)]]
+        yield f"a Compensation of {length} bytes", [[change(1, 0, "0.0.0", image, None), compensation(1, 1, "0.0.0", image, 0), record(END, 1, 2)]]
+        yield f"an image of {length} bytes of one to undo", [[change(1, 0, "0.0.0", image, None)]]
+    for length in [1, 64, 65, 255]:
+        yield f"a global id of {length} bytes", [[insert, prepare(1, 1, b"g" * length, ["0.0.0"])]]
+    for slot in [2_041, 2_042, 4_089, 4_090]:
+        yield f"slot {slot}", [[change(1, 0, f"0.0.{slot}", None, b""), record(COMMIT, 1, 1)]]
+        yield f"a granule of slot {slot}", [[prepare(1, 0, b"g", [f"0.0.{slot}"])]]
+    full = (sizes.page - 24) // (sizes.record + 4)
+    rest = sizes.page - 24 - full * (sizes.record + 4) - 4
+    for length in [rest, rest + 1]:
+        lengths = [*[sizes.record] * full, length]
+        inserts = [change(1, it, f"0.0.{it}", None, b"\xee" * size) for it, size in enumerate(lengths)]
+        yield f"records of {lengths} bytes", [[*inserts, record(COMMIT, 1, len(inserts))]]
+
+
 def prepares_by_hand():
     """Prepares as no run leaves them, and records behind them that may not follow."""
     insert = change(1, 0, "0.0.0", None, b"\xaa")

@@ -5,8 +5,8 @@ import collections
 import itertools
 
 from analysis import Analysis
-from formats import CHECKPOINT_BEGIN, COMPENSATION, END, GATE_AT, IMAGES_AT, LAST_OPENED, LONGEST_FRAME, MOST_OF_A_BATCH, MOST_OF_A_FRAME, OPEN, PAGE, PAGES_AT, SHUT, STREAM_AT
-from formats import TABLE_AT, NoText, Record, Refused, byte_of, compensation, damaged, field, frame, laid_at, places_of, read_anchors, read_entries, read_frames, read_label, read_page
+from formats import CHECKPOINT_BEGIN, COMPENSATION, END, GATE_AT, IMAGES_AT, LAST_OPENED, LONGEST_FRAME, MOST_OF_A_BATCH, MOST_OF_A_FRAME, OPEN, SHUT, STREAM_AT
+from formats import TABLE_AT, VERSIONS, NoText, Record, Refused, byte_of, compensation, damaged, field, frame, laid_at, places_of, read_anchors, read_entries, read_frames, read_label, read_page
 from formats import record
 
 
@@ -32,12 +32,12 @@ class Opening:
         of_log = read_label("log", self.log)
         if of_log != read_label("volume", self.volume):
             raise Refused("30 WrongPair")
-        _, self.most_locks, self.stores = of_log
+        self.most_locks, self.stores, self.sizes = of_log.locks, of_log.stores, VERSIONS[of_log.version]
         self.places = places_of(self.stores)
         self.anchor_at, self.counts = read_anchors(self.log)
         self.records, self.end = read_frames(self.log, self.counts)
         self.replay()
-        self.told = Analysis(self.stores, self.places, self.counts.tail, self.records)
+        self.told = Analysis(self.stores, self.places, self.sizes, self.counts.tail, self.records)
         table = self.checkpoint()
         unmeant = self.told.first_unmeant(self.counts.checkpoint)
         if unmeant:
@@ -98,11 +98,16 @@ class Opening:
             least = entry + 1
         after = bytearray(self.volume)
         for index, entry in enumerate(table[1 : count + 1]):
-            text = self.volume[IMAGES_AT + PAGE * index : IMAGES_AT + PAGE * (index + 1)]
-            self.judge_page(IMAGES_AT + PAGE * index, text, self.places[entry], 2**64)
-            after[PAGES_AT + PAGE * entry : PAGES_AT + PAGE * (entry + 1)] = text
+            image_at = IMAGES_AT + self.sizes.page * index
+            text = self.volume[image_at : image_at + self.sizes.page]
+            self.judge_page(image_at, text, self.places[entry], 2**64)
+            after[self.offset_of(entry) : self.offset_of(entry + 1)] = text
         after[GATE_AT : GATE_AT + 1] = SHUT
         self.volume = bytes(after)
+
+    def offset_of(self, entry):
+        """Where the page of this number begins on the volume."""
+        return self.sizes.pages_at + self.sizes.page * entry
 
     def judge_page(self, offset, content, place, last):
         """The bytes at this offset of the volume have to be a text of the page."""
@@ -142,7 +147,7 @@ class Opening:
             slots = self.page(read.at)[1]
             least = [max(len(it or b""), claims[*read.at[:2], slot]) for slot, it in enumerate(slots)]
             slot, wanted = read.at[2], len(read.before or b"")
-            if slot >= len(slots) or wanted - least[slot] > PAGE - 24 - 4 * len(slots) - sum(least):
+            if slot >= len(slots) or wanted - least[slot] > self.sizes.page - 24 - 4 * len(slots) - sum(least):
                 raise damaged("log", at, f"what record {number_of_change} put away has no room on its page")
             claims[read.at] = max(claims[read.at], wanted)
 
@@ -158,8 +163,8 @@ class Opening:
     def page(self, at):
         """The number and the slots of a page, as it is in memory."""
         if at[:2] not in self.shown:
-            offset = PAGES_AT + PAGE * self.places.index(at[:2])
-            content = self.volume[offset : offset + PAGE]
+            offset = self.offset_of(self.places.index(at[:2]))
+            content = self.volume[offset : offset + self.sizes.page]
             self.judge_page(offset, content, at[:2], self.last())
             self.shown[at[:2]] = [field(self.volume, offset + 8, 8), read_page(content, at[:2], self.last())]
         return self.shown[at[:2]]
@@ -170,7 +175,7 @@ class Opening:
         slots, slot = shown[1], read.at[2]
         after = slots + [None] * (slot + 1 - len(slots))
         took = len(after[slot] or b"")
-        free = PAGE - 24 - 4 * len(after) - sum(len(it or b"") for it in after)
+        free = self.sizes.page - 24 - 4 * len(after) - sum(len(it or b"") for it in after)
         if max(len(read.after or b"") - took, 0) > free:
             raise damaged("log", at, f"record {count} has no room on its page")
         after[slot] = read.after
