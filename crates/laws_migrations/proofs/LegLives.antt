@@ -2,10 +2,8 @@
 use Rattle.std.proofs.Common.{◌≡◌, ◌≤◌, ℕ, List, [], ◌∷◌, refl, sym, ap, subst, ◌∙◌, map, arith}
 use Rattle.std.specs.Prelude.{unwrap_or}
 use Rattle.std.specs.FinMap.{get}
-use Rattle.shore_types.specs.Versions.{number_of, slot_limit}
+use Rattle.shore_types.specs.Versions.{slot_limit}
 use Rattle.shore_types.specs.declared.layout.Geometry.{Geometry}
-use Rattle.shore_types.specs.declared.versions.Version.{Version}
-use Rattle.shore_types.specs.declared.versions.Version.TheVariants.{One, Two}
 use Rattle.shore_model.specs.declared.histories.InDoubt.{InDoubt}
 use Rattle.shore_model.specs.declared.histories.Opening.{Opening}
 use Rattle.shore_model.specs.declared.log_records.LogRecord.{LogRecord}
@@ -26,6 +24,7 @@ use Rattle.laws_runs.proofs.Prefixes.{whole_placed}
 use Rattle.laws_runs.specs.CheckpointSteps.{log_limit}
 use Rattle.laws_runs.specs.RoomyLogs.{IsPlacedLog}
 use Rattle.laws_migrations.proofs.MigratedRooms.{roomy}
+use Rattle.laws_migrations.proofs.Versions.{slots_rise}
 use Rattle.laws_checkpoints.specs.StoresInOrder.{IsInOrder}
 use Rattle.laws_runs.specs.CheckpointedStates.{MayBeOpenedBehind, found_behind}
 use Rattle.laws_runs.specs.CheckpointedStays.{CheckpointedStay, spans_of_stays}
@@ -59,14 +58,6 @@ says_itself slots log = record {
 }
 
 -- ---- slots
-
--- a higher version has as many slots at least
-slots_rise : (v w : Version) → number_of v ≤ number_of w → slot_limit v ≤ slot_limit w
-unfolding number_of slot_limit
-slots_rise One One h = omega arith
-slots_rise One Two h = omega arith
-slots_rise Two One h = absurd (omega (arith, h))
-slots_rise Two Two h = omega arith
 
 slots_after : (o : Opening) (spans : List Span) → (opening_after o spans).slots ≡ o.slots
 slots_after o [] = refl

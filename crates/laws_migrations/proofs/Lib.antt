@@ -1,3 +1,5 @@
+pub mod Versions
+pub mod Writers
 pub mod Writing
 pub mod Inserting
 pub mod Migrating

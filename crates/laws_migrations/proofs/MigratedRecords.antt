@@ -10,15 +10,13 @@ use Rattle.std.proofs.lemmas.Option.{slice_get_within}
 use Rattle.shore_types.specs.Ids.{rid_cmp}
 use Rattle.shore_types.specs.Images.{image_len}
 use Rattle.shore_types.specs.Layout.{HasGranule, HasPage, HasSlot}
-use Rattle.shore_types.specs.Versions.{global_limit, number_of, record_limit, slot_limit}
+use Rattle.shore_types.specs.Versions.{global_limit, record_limit}
 use Rattle.shore_types.specs.declared.ids.PageId.{PageId}
 use Rattle.shore_types.specs.declared.ids.Rid.{Rid}
 use Rattle.shore_types.specs.declared.layout.Geometry.{Geometry}
 use Rattle.shore_types.specs.declared.layout.TheConstants.{LAST_TXN}
 use Rattle.shore_types.specs.declared.locking.Granule.{Granule}
 use Rattle.shore_types.specs.declared.locking.Granule.TheVariants.{Page, Record, Store, Volume}
-use Rattle.shore_types.specs.declared.versions.Version.{Version}
-use Rattle.shore_types.specs.declared.versions.Version.TheVariants.{One, Two}
 use Rattle.shore_model.specs.declared.log_records.LogRecord.{LogRecord}
 use Rattle.shore_model.specs.declared.log_records.LogTxn.{LogTxn}
 use Rattle.shore_model.specs.declared.log_records.Payload.{Payload}
@@ -51,24 +49,10 @@ use Rattle.laws_migrations.proofs.Inserting.{all_inserted, all_other, first, sec
 use Rattle.laws_migrations.proofs.LoggedChanges.{TakesNoMore}
 use Rattle.laws_migrations.proofs.OldClaims.{changed_lies, claim, committed_claimed, committed_inside, stands_claimed}
 use Rattle.laws_migrations.proofs.Reading.{each_of, migratable}
-use Rattle.laws_migrations.proofs.UndoneClaims.{records_rise}
+use Rattle.laws_migrations.proofs.Versions.{globals_rise, records_rise, slots_rise}
 use Rattle.laws_migrations.proofs.Writing.{other_id}
 
 -- ---- what a geometry has that another may move into
-
-slots_more : (v w : Version) → number_of v ≤ number_of w → slot_limit v ≤ slot_limit w
-unfolding number_of slot_limit
-slots_more One One h = omega arith
-slots_more One Two h = omega arith
-slots_more Two One h = absurd (omega (arith, h))
-slots_more Two Two h = omega arith
-
-globals_more : (v w : Version) → number_of v ≤ number_of w → global_limit v ≤ global_limit w
-unfolding number_of global_limit
-globals_more One One h = omega arith
-globals_more One Two h = omega arith
-globals_more Two One h = absurd (omega (arith, h))
-globals_more Two Two h = omega arith
 
 has_place : {A : Type 0} (xs : List A) (k : ℕ) → k < length xs → (x : A) × (slice_get xs k ≡ Some x)
 has_place [] k less = absurd (omega (arith, less))
@@ -92,7 +76,7 @@ module _ (g h : Geometry) (into : MayMoveInto g h) where
   has_page p has_it = more_pages p (slice_get g.stores p.store) (slice_get h.stores p.store) (λ pages is. into.stores p.store pages is) has_it
 
   pub has_slot : (id : Rid) → HasSlot g id → HasSlot h id
-  has_slot id has_it = let more = slots_more g.version h.version into.version in (has_page id.page has_it.0, let less = has_it.1 in omega (arith, less, more))
+  has_slot id has_it = let more = slots_rise g.version h.version into.version in (has_page id.page has_it.0, let less = has_it.1 in omega (arith, less, more))
 
   pub has_granule : (x : Granule) → HasGranule g x → HasGranule h x
   has_granule Volume has_it = tt
@@ -200,7 +184,7 @@ module _ (g h : Geometry) (into : MayMoveInto g h) (old : List LogRecord) (lawfu
       let below = (migratable old lawful t doubts read d m).below in
       let found = (among_filter (λ (e : LoggedDoubt). is_in_doubt e.txn old) (as_logged d) (filter_map doubt_of old) (subst (IsAmong (as_logged d)) read.listed (among_map as_logged d doubts m))).0 in
       let said = doubt_in_bounds g (as_logged d) old (recursion_from_All (IsInBounds g) old k.inside) found in
-      let more = globals_more g.version h.version into.version in (
+      let more = globals_rise g.version h.version into.version in (
         λ w there previous.
             let own = each_of (λ (w : Written). (has (changes_id w.id) d.txn old ≡ true) × (w.before ≡ image_committed old w.id) × (w.after ≡ image_of_record old w.id)) d.writes w its.each there in
             movable_change d.txn previous w (omega (arith, below, low)) (changed_lies g old lawful no_losers k w.id d.txn own.0)

@@ -21,13 +21,14 @@ use Rattle.laws_lives.proofs.LawfulPrepares.{one_passing, prepared_is_one}
 use Rattle.laws_lives.proofs.Lists.{among_map, mapped_one, recursion-at, recursion-weaker}
 use Rattle.laws_lives.proofs.OneMore.{id_itself, same_id}
 use Rattle.laws_lives.proofs.UndoEnds.{writers_in_doubt}
-use Rattle.laws_lives.proofs.Writers.{one_writer_at_most, same_or_not}
+use Rattle.laws_lives.proofs.Writers.{one_writer_at_most}
 use Rattle.laws_lives.proofs.WritersTold.{doubt_not_over}
 use Rattle.laws_migrations.proofs.DoubtsThere.{doubt_there}
 use Rattle.laws_migrations.specs.MigratedLogs.{AreApart, EachApart, IsElsewhere, IsMigratable, IsRead, IsReadOf, MigratedDoubt, Written, as_logged, migrated_work, with_records}
 use Rattle.laws_migrations.proofs.Writing.{elsewhere_same, image_over}
 use Rattle.laws_migrations.proofs.Migrating.{HasDoubts, images_over, migrated}
 use Rattle.laws_migrations.proofs.Inserting.{has_inserted}
+use Rattle.laws_migrations.proofs.Writers.{one_writer}
 
 -- ---- among the ids
 
@@ -85,13 +86,6 @@ module _ (old : List LogRecord) (lawful : Lawful old) (t : ℕ) (doubts : List M
 
   -- ---- two of them
 
-  one_writer : (id : Rid) (u v : ℕ) → has (changes_id id) u old ≡ true → is_over u old ≡ false → has (changes_id id) v old ≡ true → is_over v old ≡ false → HasOneWriterAtMost old id → u ≡ v
-  one_writer id u v a b c d (inl none) = absurd (true≢false (sym (none.over u a) ∙ b))
-  one_writer id u v a b c d (inr w) = ⊎_elim
-      (λ same. ⊎_elim (λ also. same ∙ sym also) (λ other. absurd (true≢false (sym (w.1.others v other c) ∙ d))) (same_or_not v w.0))
-      (λ other. absurd (true≢false (sym (w.1.others u other a) ∙ b)))
-      (same_or_not u w.0)
-
   changed : (d : MigratedDoubt) (a : IsAmong d doubts) (w : Written) → IsAmong w d.writes → has (changes_id w.id) d.txn old ≡ true
   changed d a w b = (each_of (λ w. (has (changes_id w.id) d.txn old ≡ true) × (w.before ≡ image_committed old w.id) × (w.after ≡ image_of_record old w.id)) d.writes w (own d a).each b).0
 
@@ -101,7 +95,7 @@ module _ (old : List LogRecord) (lawful : Lawful old) (t : ℕ) (doubts : List M
       one_id : (w : Written) → IsAmong w e.writes → (vs : List Written) → ((v : Written) → IsAmong v vs → IsAmong v d.writes) → IsElsewhere w.id vs
       one_id w c [] into = tt
       one_id w c (v ∷ vs) into = (
-        (λ same. other (one_writer w.id d.txn e.txn (ap (λ id. has (changes_id id) d.txn old) (sym same) ∙ changed d a v (into v (inl refl))) (not_over d a) (changed e b w c) (not_over e b) (one_writer_at_most old lawful w.id))),
+        (λ same. other (one_writer old w.id d.txn e.txn (ap (λ id. has (changes_id id) d.txn old) (sym same) ∙ changed d a v (into v (inl refl))) (not_over d a) (changed e b w c) (not_over e b) (one_writer_at_most old lawful w.id))),
         one_id w c vs (λ x later. into x (inr later)),
       )
 

@@ -4,18 +4,17 @@ use Rattle.std.specs.Prelude.{All, reverse, unwrap_or}
 use Rattle.std.specs.FinMap.{empty, get, get-empty}
 use Rattle.std.specs.List.{AllByRecursion}
 use Rattle.std.specs.Ordering.{eq_by_cmp}
-use Rattle.std.proofs.lemmas.Bool.{cases_Bool, true≢false}
+use Rattle.std.proofs.lemmas.Bool.{cases_Bool}
 use Rattle.std.proofs.lemmas.List.{reverse-append, reverse-reverse}
 use Rattle.std.proofs.lemmas.List.Elements.{All-cons, All-nil, All-from_recursion}
 use Rattle.std.proofs.lemmas.List.Sums.{sum_by-cons}
 use Rattle.shore_types.specs.Ids.{rid_cmp}
 use Rattle.shore_types.specs.Images.{Image, image_len}
-use Rattle.shore_types.specs.Versions.{number_of, page_bytes, page_room, record_limit}
+use Rattle.shore_types.specs.Versions.{number_of}
 use Rattle.shore_types.specs.declared.ids.PageId.{PageId}
 use Rattle.shore_types.specs.declared.ids.Rid.{Rid}
 use Rattle.shore_types.specs.declared.layout.Geometry.{Geometry}
 use Rattle.shore_types.specs.declared.versions.Version.{Version}
-use Rattle.shore_types.specs.declared.versions.Version.TheVariants.{One, Two}
 use Rattle.shore_model.specs.declared.log_records.LogRecord.{LogRecord}
 use Rattle.shore_model.specs.declared.unanswered_changes.UnansweredChange.{UnansweredChange}
 use Rattle.shore_model.specs.Logs.{Lawful, has, image_of_record, is_over, last_images, unanswered}
@@ -29,10 +28,10 @@ use Rattle.laws_lives.specs.Doubts.{undo_in}
 use Rattle.laws_lives.specs.LogTells.{MatchesUndo}
 use Rattle.laws_lives.specs.Sessions.{EachOnce, SessionTxn, txns_of}
 use Rattle.laws_lives.specs.Views.{IsAmong}
-use Rattle.laws_lives.specs.Writers.{HasOneWriterAtMost, changes_id}
+use Rattle.laws_lives.specs.Writers.{changes_id}
 use Rattle.laws_lives.proofs.Lists.{mapped_one, recursion-push, recursion-weaker}
 use Rattle.laws_lives.proofs.OneMore.{same_id}
-use Rattle.laws_lives.proofs.Writers.{one_writer_at_most, same_or_not}
+use Rattle.laws_lives.proofs.Writers.{one_writer_at_most}
 use Rattle.laws_lives.proofs.WritersTold.{doubt_not_over}
 use Rattle.laws_room.proofs.Fetching.{longest_append, most_claim}
 use Rattle.laws_room.proofs.Leaving.{map_each}
@@ -41,6 +40,8 @@ use Rattle.laws_room.specs.Claims.{NoOthers, SlotCounts, before_of, befores_at, 
 use Rattle.laws_runs.specs.RoomyLogs.{AreUndecided, IsPlacedLog, IsUndecided}
 use Rattle.laws_runs.specs.SlotCounts.{slot_count}
 use Rattle.laws_migrations.proofs.LoggedChanges.{AllTakeNoMore, each_reserved, none_or_slot, slot_there, slots_within, stands_within}
+use Rattle.laws_migrations.proofs.Versions.{records_rise, rooms_rise}
+use Rattle.laws_migrations.proofs.Writers.{one_writer}
 
 -- ---- lists
 
@@ -55,22 +56,6 @@ each_mapped P f (x ∷ xs) h = (h.0, each_mapped P f xs h.1)
 pub each_among : {A : Type 0} (P : A → Type 0) (xs : List A) → ((x : A) → IsAmong x xs → P x) → AllByRecursion P xs
 each_among P [] h = tt
 each_among P (x ∷ xs) h = (h x (inl refl), each_among P xs (λ y later. h y (inr later)))
-
--- ---- versions
-
-pub records_rise : (v w : Version) → number_of v ≤ number_of w → record_limit v ≤ record_limit w
-unfolding number_of record_limit
-records_rise One One h = omega arith
-records_rise One Two h = omega arith
-records_rise Two One h = absurd (omega (arith, h))
-records_rise Two Two h = omega arith
-
-pub rooms_rise : (v w : Version) → number_of v ≤ number_of w → page_room v ≤ page_room w
-unfolding number_of page_bytes
-rooms_rise One One h = omega arith
-rooms_rise One Two h = omega arith
-rooms_rise Two One h = absurd (omega (arith, h))
-rooms_rise Two Two h = omega arith
 
 -- ---- what claims come to
 
@@ -199,18 +184,11 @@ module _ (old_records : Records) (old_undos : List SessionTxn) (counts : SlotCou
 
     -- ---- whose they are
 
-    one_writer : (id : Rid) (u v : ℕ) → has (changes_id id) u log ≡ true → is_over u log ≡ false → has (changes_id id) v log ≡ true → is_over v log ≡ false → HasOneWriterAtMost log id → u ≡ v
-    one_writer id u v a b c d (inl none) = absurd (true≢false (sym (none.over u a) ∙ b))
-    one_writer id u v a b c d (inr w) = ⊎_elim
-        (λ same. ⊎_elim (λ also. same ∙ sym also) (λ other. absurd (true≢false (sym (w.1.others v other c) ∙ d))) (same_or_not v w.0))
-        (λ other. absurd (true≢false (sym (w.1.others u other a) ∙ b)))
-        (same_or_not u w.0)
-
     nobody_else : (t u : ℕ) → IsAmong t ts → IsAmong u ts → u ≢ t → (id : Rid) → has (changes_id id) t log ≡ true → befores_in id (undo_in log u).images ≡ []
     nobody_else t u m k other id changed =
         none_comes_back id (undo_in log u).images
         (recursion-weaker (IsOwnImage u) (λ e. e.0 ≢ id)
-        (λ e own same. other (one_writer id u t (ap (λ q. has (changes_id q) u log) (sym same) ∙ own.1) (runs u (are.each u k)) changed (runs t (are.each t m)) (one_writer_at_most log lawful id)))
+        (λ e own same. other (one_writer log id u t (ap (λ q. has (changes_id q) u log) (sym same) ∙ own.1) (runs u (are.each u k)) changed (runs t (are.each t m)) (one_writer_at_most log lawful id)))
         (undo_in log u).images (own_images u))
 
     owned : (t : ℕ) → IsAmong t ts → AllByRecursion (λ e. NoOthers undos t e.0) (undo_in log t).images

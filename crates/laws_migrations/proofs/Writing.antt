@@ -1,9 +1,9 @@
 -- The Changes of one transaction, one after another, each at another id.
-use Rattle.std.proofs.Common.{◌≡◌, ◌≢◌, ◌<◌, ◌++◌, ℕ, List, [], ◌∷◌, Bool, true, false, cond, Some, refl, sym, ap, ◌∙◌, arith}
-use Rattle.std.specs.Prelude.{◌==◌, ◌&&◌, ◌||◌, not}
+use Rattle.std.proofs.Common.{◌≡◌, ◌≢◌, ◌<◌, ◌++◌, ℕ, List, [], ◌∷◌, true, false, cond, Some, refl, sym, ap, ◌∙◌, arith}
+use Rattle.std.specs.Prelude.{◌==◌, ◌&&◌, not}
 use Rattle.std.specs.List.{AllByRecursion}
 use Rattle.std.specs.Ordering.{eq_by_cmp}
-use Rattle.std.proofs.lemmas.Bool.{eq-eqb, ne_eqb}
+use Rattle.std.proofs.lemmas.Bool.{and_from, eq-eqb, ne_eqb, or_left, or_right}
 use Rattle.std.proofs.lemmas.List.Elements.{All-from_recursion, recursion_from_All}
 use Rattle.shore_types.specs.Ids.{rid_cmp}
 use Rattle.shore_types.specs.Images.{Image}
@@ -34,15 +34,6 @@ other_id q id ne = never_true (eq_by_cmp rid_cmp q id) (λ e. ne (same_id q id e
 abbrev pub IsFreeFor : List LogRecord → ℕ → Rid → Type 0
 IsFreeFor log t id = (u : ℕ) → (u ≡ t → ⊥) → has (changes_id id) u log ≡ true → is_over u log ≡ true
 
-both_or : (a b c : Bool) → a ≡ true → b ≡ true → ((a && b) || c) ≡ true
-both_or true true c e f = refl
-both_or true false c e f = cc
-both_or false b c e f = cc
-
-or_second : (a b : Bool) → b ≡ true → (a || b) ≡ true
-or_second true b e = refl
-or_second false b e = e
-
 names_change : (id : Rid) (r : LogRecord) → id_in r.payload ≡ Some id → changes_id id r.payload ≡ true
 names_change id r e = ap (is_this_id id) e ∙ id_itself id
 
@@ -53,8 +44,8 @@ nobody_else log t id free = All-from_recursion (LeavesFree log t id) log (each l
     each [] h = tt
     each (r ∷ rs) h = (
       λ names other. free r.txn other
-          (h r.txn (both_or (r.txn == r.txn) (changes_id id r.payload) (has (changes_id id) r.txn rs) (eq-eqb r.txn r.txn refl) (names_change id r names))),
-      each rs (λ u e. h u (or_second ((r.txn == u) && changes_id id r.payload) (has (changes_id id) u rs) e)),
+          (h r.txn (or_left ((r.txn == r.txn) && changes_id id r.payload) (has (changes_id id) r.txn rs) (and_from (r.txn == r.txn) (changes_id id r.payload) (eq-eqb r.txn r.txn refl) (names_change id r names)))),
+      each rs (λ u e. h u (or_right ((r.txn == u) && changes_id id r.payload) (has (changes_id id) u rs) e)),
     )
 
 -- ---- one Change
